@@ -1,0 +1,3 @@
+pub mod BodyLemmas
+pub mod FieldsLemmas
+pub mod LineLemmas
