@@ -1,9 +1,9 @@
 -- A body ends at one place only, and reading line by line finds it.
-use Rattle.std.proofs.Common.{◌≡◌, ◌≢◌, ◌≤◌, ◌-◌, ℕ, List, [], ◌∷◌, ◌++◌, length, ◌+◌, take, refl, sym, ap, subst, ◌∙◌, arith, append_assoc, length-append}
+use Rattle.std.proofs.Common.{◌≡◌, ◌≢◌, ◌≤◌, ◌-◌, ℕ, List, [], ◌∷◌, ◌++◌, length, ◌+◌, take, refl, sym, ap, ◌∙◌, arith, append_assoc, length-append}
 use Rattle.std.proofs.lemmas.List.{append-nil, take_at, append_cancel_left}
 use Rattle.std.specs.List.{flat_map, AllByRecursion}
 use Rattle.pop3_wire.specs.Line.{crlf, IsLine, ended}
-use Rattle.pop3_wire.specs.Body.{dot, IsContent, unstuffed, kept, body_of, text_of, Body, HasNoBody}
+use Rattle.pop3_wire.specs.Body.{dot, IsContent, kept, body_of, text_of, Body, HasNoBody}
 use Rattle.pop3_wire.proofs.LineLemmas.{first_line_same, cons_same}
 
 -- the bytes begin with these lines of a body, which stand for the text, and the rest follows
