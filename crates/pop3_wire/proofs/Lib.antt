@@ -2,3 +2,4 @@ pub mod BodyLemmas
 pub mod FieldsLemmas
 pub mod LineLemmas
 pub mod LineReaderLemmas
+pub mod UnstuffingLemmas

@@ -5,3 +5,4 @@ pub mod Link
 pub mod Place
 pub mod Reply
 pub mod Script
+pub mod Unstuffing

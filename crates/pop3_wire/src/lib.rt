@@ -10,6 +10,7 @@ mod line_reader;
 mod reply;
 mod script_wire;
 mod stream_wire;
+mod unstuffer;
 mod wire;
 
 pub use body::unstuff;
@@ -19,4 +20,5 @@ pub use line_reader::{LineFault, LineReader};
 pub use reply::{Status, read_status};
 pub use script_wire::ScriptWire;
 pub use stream_wire::StreamWire;
+pub use unstuffer::{Fed, Given, Spot, Unstuffer};
 pub use wire::{Wire, WireDown};
