@@ -3,3 +3,4 @@ pub mod FieldsLemmas
 pub mod LineLemmas
 pub mod LineReaderLemmas
 pub mod UnstuffingLemmas
+pub mod BodiesLemmas

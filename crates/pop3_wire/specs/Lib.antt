@@ -1,3 +1,4 @@
+pub mod Bodies
 pub mod Body
 pub mod Fields
 pub mod Line

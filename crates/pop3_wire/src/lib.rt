@@ -3,6 +3,7 @@
 #![tactic(auto)]
 
 mod body;
+mod body_reader;
 mod fault;
 mod fields;
 mod line;
@@ -13,7 +14,8 @@ mod stream_wire;
 mod unstuffer;
 mod wire;
 
-pub use body::unstuff;
+pub use body::{unstuff, without_dot};
+pub use body_reader::{BodyFault, read_body};
 pub use fault::WireFault;
 pub use fields::{is_legal_id, read_scan, read_stat, read_uid};
 pub use line_reader::{LineFault, LineReader};
