@@ -1,2 +1,4 @@
+pub mod CommandLine
 pub mod Commands
+pub mod Fields
 pub mod Line

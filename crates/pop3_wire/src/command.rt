@@ -51,7 +51,7 @@ fn are_plain(bytes: &[u8]) -> bool
 }
 
 /// Whether bytes may stand as the argument of USER or PASS.
-fn can_be_argument(bytes: &[u8]) -> bool
+pub fn can_be_argument(bytes: &[u8]) -> bool
     ensures { result ≡ is_argument bytes.now }
 {
     !bytes.is_empty() && bytes.len() <= 500 && are_plain(bytes)

@@ -1,0 +1,3 @@
+pub mod CommandLineLemmas
+pub mod CommandRoundTrip
+pub mod FieldsLemmas
