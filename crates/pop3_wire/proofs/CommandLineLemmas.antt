@@ -55,18 +55,3 @@ pub more_than_two : (word other : List ℕ) (words : List (List ℕ)) → words 
 unfolding two_numbers
 more_than_two word other [] h = absurd (h refl)
 more_than_two word other (third ∷ more) h = refl
-
--- a number is within its limit
-pub number_within : (limit : ℕ) (field : List ℕ) (n : ℕ) → ◌≡◌ {A = Result ℕ WireFault} (Ok n) (number limit field) → n ≤ limit
-unfolding number
-number_within limit field n h =
-    elim (cases_Bool (is_numeral field && nat_le (digits_value 10 field) limit)) [
-      | inl p ↦
-          let e : ◌≡◌ {A = Result ℕ WireFault} (Ok n) (Ok (digits_value 10 field)) = h ∙ cond-true _ _ _ p in
-          let same : n ≡ digits_value 10 field = cc in
-          let few : digits_value 10 field ≤ limit = leb-true (digits_value 10 field) limit (and_parts (is_numeral field) (nat_le (digits_value 10 field) limit) p).1 in
-          omega arith
-      | inr p ↦
-          let e : ◌≡◌ {A = Result ℕ WireFault} (Ok n) (Err BadNumber) = h ∙ cond-false _ _ _ p in
-          cc
-    ]

@@ -73,7 +73,7 @@ read_number n few =
     let value : digits_value 10 (decimal n) ≡ n = (decimal_is_IsNumeral n (omega arith)).1 in
     let fits : digits_value 10 (decimal n) ≤ 4294967295 = omega arith in
     let good : (is_numeral (decimal n) && nat_le (digits_value 10 (decimal n)) 4294967295) ≡ true =
-        and_from _ _ (and_from _ _ (and_from _ _ (lt-ltb 0 (length (decimal n)) some) (le-leb (length (decimal n)) 20 (omega arith))) (digits_of_decimal n few)) (le-leb _ _ fits) in
+    and_from _ _ (and_from _ _ (and_from _ _ (lt-ltb 0 (length (decimal n)) some) (le-leb (length (decimal n)) 20 (omega arith))) (digits_of_decimal n few)) (le-leb _ _ fits) in
     cond-true _ _ _ (le-leb (length (decimal n)) 10 short) ∙ cond-true _ _ _ good ∙ ap (λ (v : ℕ). Ok v) value
 
 -- a line that ends in no space is left as it is
@@ -81,9 +81,9 @@ kept_end : (front ds : List ℕ) → Word ds → 0 < length ds → trimmed (fron
 kept_end front ds none some =
     let size : length (front ++ ds) ≡ length front + length ds = length-append front ds in
     let last : get_or (front ++ ds) (length (front ++ ds) - 1) 0 ≡ get_or ds (length ds - 1) 0 =
-        get_or-append_right front ds (length front) (length (front ++ ds) - 1) 0 refl (omega arith) ∙ ap (λ (k : ℕ). get_or ds k 0) (omega arith) in
+    get_or-append_right front ds (length front) (length (front ++ ds) - 1) 0 refl (omega arith) ∙ ap (λ (k : ℕ). get_or ds k 0) (omega arith) in
     let no : suffix_len is_space (front ++ ds) ≡ length (front ++ ds) - length (front ++ ds) =
-        suffix_len_is is_space (front ++ ds) (length (front ++ ds)) 0 (omega arith) (λ k low high. absurd (omega arith)) (λ h. rw last (none (length ds - 1) 0 (omega arith))) in
+    suffix_len_is is_space (front ++ ds) (length (front ++ ds)) 0 (omega arith) (λ k low high. absurd (omega arith)) (λ h. rw last (none (length ds - 1) 0 (omega arith))) in
     take_all (length (front ++ ds) - suffix_len is_space (front ++ ds)) (front ++ ds) (omega arith)
 
 -- a keyword and a word
@@ -119,7 +119,7 @@ numbered front n word short few =
     let digits : length (decimal n) ≤ 10 = few_digits n few in
     short_line (front ++ 32 ∷ decimal n) (omega arith)
     ∙ ap (λ (words : List (List ℕ)). command_by (keyword_of (before_first is_space (front ++ 32 ∷ decimal n))) (rest_of (front ++ 32 ∷ decimal n)) words)
-        (arguments_one front (decimal n) (word_by front word) (number_word n few) (some_digit n few))
+    (arguments_one front (decimal n) (word_by front word) (number_word n few) (some_digit n few))
 
 -- a keyword and two numbers
 numbered_twice : (front : List ℕ) (n k : ℕ) → list_all (λ x. not (is_space x)) front ≡ true → length front ≤ 4 → n < 2 ^ 32 → k < 2 ^ 32
@@ -132,7 +132,7 @@ numbered_twice front n k word short few less line is =
     let more : length (decimal k) ≤ 10 = few_digits k less in
     short_line line (omega arith)
     ∙ ap (λ (words : List (List ℕ)). command_by (keyword_of (before_first is_space line)) (rest_of line) words)
-        (ap arguments is ∙ arguments_two front (decimal n) (decimal k) (word_by front word) (number_word n few) (number_word k less) (some_digit k less))
+    (ap arguments is ∙ arguments_two front (decimal n) (decimal k) (word_by front word) (number_word n few) (number_word k less) (some_digit k less))
 
 -- the argument of USER or PASS
 text_kept : (text : List ℕ) → is_argument text ≡ true → text_argument text ≡ Ok text

@@ -1,3 +1,6 @@
+pub mod BodyLemmas
 pub mod CommandLineLemmas
 pub mod CommandRoundTrip
 pub mod FieldsLemmas
+pub mod LineLemmas
+pub mod StuffLemmas

@@ -1,5 +1,5 @@
 -- Fields and numerals of reply lines (RFC 1939, sections 5 and 7), which stand apart by spaces.
-use Rattle.std.specs.Prelude.{◌==◌, ◌&&◌, not, nat_lt, nat_le, ℕ, Bool, List, length, drop, take_while, if◌then◌else◌, Result, Ok, Err}
+use Rattle.std.specs.Prelude.{◌==◌, ◌&&◌, not, nat_lt, nat_le, ℕ, Bool, List, length, drop, take, take_while, if◌then◌else◌, Result, Ok, Err}
 use Rattle.std.specs.List.{prefix_len, list_all}
 use Rattle.std.specs.Char.{is_ascii_digit}
 use Rattle.std.specs.Str.Parse.{digits_value}
@@ -41,14 +41,20 @@ number_limit = 4294967295
 abbrev pub size_limit : ℕ
 size_limit = 18446744073709551615
 
+-- a message number, and what follows its field
+abbrev pub message_number : List ℕ → Result (ℕ × List ℕ) WireFault
+message_number line = do
+  field ← next_field line
+  n ← number number_limit (take_while is_in_field field)
+  Ok (n, past is_in_field field)
+
 -- a number and a size: what follows the size doesn't matter where it begins with no digit
 unfoldable pub number_and_size : List ℕ → Result (ℕ × ℕ) WireFault
 number_and_size line = do
-  first ← next_field line
-  n ← number number_limit (take_while is_in_field first)
-  second ← next_field (past is_in_field first)
-  size ← number size_limit (take_while is_ascii_digit second)
-  Ok (n, size)
+  first ← message_number line
+  field ← next_field first.1
+  size ← number size_limit (take_while is_ascii_digit field)
+  Ok (first.0, size)
 
 -- a character of an id
 abbrev pub is_id_byte : ℕ → Bool
@@ -68,9 +74,8 @@ nothing_more id bytes = if length (past is_space bytes) == 0 then Ok id else Err
 -- a number and an id, after which only spaces may follow
 unfoldable pub number_and_id : List ℕ → Result (ℕ × List ℕ) WireFault
 number_and_id line = do
-  first ← next_field line
-  n ← number number_limit (take_while is_in_field first)
-  second ← next_field (past is_in_field first)
-  id ← legal_id (take_while is_in_field second)
-  whole ← nothing_more id (past is_in_field second)
-  Ok (n, whole)
+  first ← message_number line
+  field ← next_field first.1
+  id ← legal_id (take_while is_in_field field)
+  whole ← nothing_more id (past is_in_field field)
+  Ok (first.0, whole)

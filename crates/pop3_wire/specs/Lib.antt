@@ -1,4 +1,10 @@
+pub mod Body
 pub mod CommandLine
 pub mod Commands
 pub mod Fields
 pub mod Line
+pub mod Link
+pub mod Reply
+pub mod Script
+pub mod Stuffed
+pub mod World

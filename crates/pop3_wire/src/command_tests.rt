@@ -1,11 +1,10 @@
 //! Vectors of command lines, with ample memory.
 
-use std::test::Fail;
-
 use crate::bytes::Bytes;
 use crate::command::{Command, command_bytes};
 use crate::command_line::read_command;
 use crate::fault::WireFault;
+use std::test::Fail;
 
 /// The line of a command that can be sent, or its fault.
 fn shown(rt: &HostRuntime, line: &str) -> Result<String, Fail> {
@@ -20,9 +19,17 @@ fn shown(rt: &HostRuntime, line: &str) -> Result<String, Fail> {
 
 #[test]
 fn commands_are_written(rt: HostRuntime) -> Result<(), Fail> {
-    assert_eq!(rt; command_bytes(rt.alloc(), &Command::Retr(3))?.as_slice(), b"RETR 3\r\n".as_slice());
+    assert_eq!(rt;
+        command_bytes(rt.alloc(), &Command::Retr(3))?.as_slice(),
+        b"RETR 3\r\n".as_slice()
+    );
     let name = Bytes::from_vec(b"a\rb".to_vec(rt.alloc())?);
-    assert!(rt; matches!(command_bytes(rt.alloc(), &Command::User(name)), Err(WireFault::BadArgument)));
+    assert!(rt;
+        matches!(
+            command_bytes(rt.alloc(), &Command::User(name)),
+            Err(WireFault::BadArgument)
+        )
+    );
     Ok(())
 }
 

@@ -3,7 +3,7 @@ ghost use Rattle.std.specs.Prelude.{◌≡◌, ◌≤◌, ◌^◌, ◌<◌, ◌�
 ghost use Rattle.std.specs.Char.{is_ascii_digit};
 ghost use Rattle.std.specs.List.{prefix_len, list_all};
 ghost use Rattle.std.specs.Str.Parse.{digits_value};
-ghost use Rattle.pop3_wire.specs.Fields.{is_space, is_in_field, is_id_byte, is_numeral, is_legal_id, past, number, next_field, legal_id, number_and_size, number_and_id};
+ghost use Rattle.pop3_wire.specs.Fields.{is_space, is_in_field, is_id_byte, is_numeral, is_legal_id, past, number, next_field, legal_id, nothing_more, message_number, number_and_size, number_and_id};
 
 use crate::fault::WireFault;
 
@@ -73,7 +73,8 @@ fn digits_value(field: &[u8]) -> u128
 /// The number that a field stands for, where it isn't above the limit.
 #[tactic(auto, unfolding(crate::specs::Fields::number))]
 pub fn number(limit: u64, field: &[u8]) -> Result<u64, WireFault>
-    ensures { result ≡ number limit field.now }
+    ensures value { result ≡ number limit field.now }
+    ensures within { IfOk result (λ n. n ≤ limit) }
 {
     if !is_numeral(field) {
         return Err(WireFault::BadNumber);
@@ -113,4 +114,78 @@ pub fn is_legal_id(id: &[u8]) -> bool
         return false;
     }
     are_id_bytes(id)
+}
+
+/// What a field of an id holds.
+#[tactic(auto, unfolding(crate::specs::Fields::legal_id))]
+fn legal_id(field: &[u8]) -> Result<&[u8], WireFault>
+    ensures ok { IfOk result (λ id. legal_id field.now ≡ Ok id.now) }
+    ensures err { IfErr result (λ e. legal_id field.now ≡ Err e) }
+{
+    if !is_legal_id(field) {
+        return Err(WireFault::BadField);
+    }
+    Ok(field)
+}
+
+/// An id, where nothing but spaces follows it.
+#[tactic(auto, unfolding(crate::specs::Fields::nothing_more))]
+fn nothing_more<'a>(id: &'a [u8], bytes: &[u8]) -> Result<&'a [u8], WireFault>
+    ensures ok { IfOk result (λ whole. nothing_more id.now bytes.now ≡ Ok whole.now) }
+    ensures err { IfErr result (λ e. nothing_more id.now bytes.now ≡ Err e) }
+{
+    if !past_spaces(bytes).is_empty() {
+        return Err(WireFault::BadField);
+    }
+    Ok(id)
+}
+
+/// A message number in front, and what follows its field.
+fn message_number(line: &[u8]) -> Result<(u32, &[u8]), WireFault>
+    ensures ok { IfOk result (λ read. message_number line.now ≡ Ok (read.0, read.1.now)) }
+    ensures err { IfErr result (λ e. message_number line.now ≡ Err e) }
+{
+    let first = next_field(line)?;
+    let length = field_length(first);
+    let n = number(u64::from(u32::MAX), &first[..length])?;
+    Ok((n as u32, &first[length..]))
+}
+
+/// The count and the total of STAT, from the rest of its first line: `nn mm` (RFC 1939, section 5).
+/// What follows `mm` is ignored where it begins with a character that isn't a digit. BadField where
+/// a field is missing; BadNumber where it isn't 1 to 20 digits, the count is above 4,294,967,295 or
+/// the total is above 18,446,744,073,709,551,615. The first faulty field decides.
+pub fn read_stat(rest: &[u8]) -> Result<(u32, u64), WireFault>
+    ensures { result ≡ number_and_size rest.now }
+{
+    read_scan(rest)
+}
+
+/// The number and the size of a scan listing, a row of LIST: `number size` (RFC 1939, section 5).
+/// Its faults are those of `read_stat`.
+#[tactic(auto, unfolding(crate::specs::Fields::number_and_size))]
+pub fn read_scan(line: &[u8]) -> Result<(u32, u64), WireFault>
+    ensures { result ≡ number_and_size line.now }
+{
+    let (n, rest) = message_number(line)?;
+    let second = next_field(rest)?;
+    let size = number(u64::MAX, &second[..leading_digits(second)])?;
+    Ok((n, size))
+}
+
+/// The number and the unique-id of a row of UIDL: `number id` (RFC 1939, section 7), after which
+/// only spaces may follow. BadField where a field is missing, the id isn't legal or more follows;
+/// BadNumber where the number isn't 1 to 20 digits or is above 4,294,967,295. The first faulty
+/// field decides.
+#[tactic(auto, unfolding(crate::specs::Fields::number_and_id))]
+pub fn read_uid(line: &[u8]) -> Result<(u32, &[u8]), WireFault>
+    ensures ok { IfOk result (λ read. number_and_id line.now ≡ Ok (read.0, read.1.now)) }
+    ensures err { IfErr result (λ e. number_and_id line.now ≡ Err e) }
+{
+    let (n, rest) = message_number(line)?;
+    let second = next_field(rest)?;
+    let length = field_length(second);
+    let id = legal_id(&second[..length])?;
+    let whole = nothing_more(id, &second[length..])?;
+    Ok((n, whole))
 }
