@@ -3,4 +3,5 @@ pub mod CommandLineLemmas
 pub mod CommandRoundTrip
 pub mod FieldsLemmas
 pub mod LineLemmas
+pub mod LineReaderLemmas
 pub mod StuffLemmas

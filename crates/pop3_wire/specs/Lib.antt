@@ -4,6 +4,7 @@ pub mod Commands
 pub mod Fields
 pub mod Line
 pub mod Link
+pub mod Place
 pub mod Reply
 pub mod Script
 pub mod Stuffed

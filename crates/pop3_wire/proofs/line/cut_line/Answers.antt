@@ -1,4 +1,4 @@
-use Rattle.std.proofs.Common.{◌++◌, ◌+◌, take, drop, ap, sym, ◌∙◌, List, ℕ}
+use Rattle.std.proofs.Common.{◌++◌, ◌+◌, take, ap, sym, ◌∙◌, List, ℕ}
 use Rattle.std.proofs.lemmas.List.{take_rest}
 use Rattle.pop3_wire.specs.Line.{crlf}
 use Rattle.pop3_wire.proofs.LineLemmas.{IsLine-nowhere, line_found}
