@@ -1,5 +1,5 @@
 -- A maildrop: what is known of it, and what each call does to it.
-use Rattle.std.specs.Prelude.{◌≡◌, ◌≢◌, ◌⊎◌, ℕ, ◌+◌, ◌-◌, ◌^◌, min, List, [], ◌∷◌, map, length, Option, Some, None, Result, Ok, Err, Vec, slice_get, slice_set}
+use Rattle.std.specs.Prelude.{◌≡◌, ◌⊎◌, ℕ, ◌+◌, ◌-◌, ◌^◌, min, List, [], ◌∷◌, map, Option, Some, None, Result, Ok, Err, Vec, slice_get, slice_set}
 use Rattle.std.specs.List.{Contains}
 use Rattle.pop3_wire.specs.World.{Message}
 use Rattle.pop3_server.specs.declared.maildrops.DropFault.{DropFault}

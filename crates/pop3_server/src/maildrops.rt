@@ -1,6 +1,6 @@
 //! Maildrops: messages that a server lists, gives and removes (RFC 1939, section 4).
-ghost use Rattle.std.specs.Prelude.{◌≡◌, ℕ, ◌≤◌, IfOk, IfErr, map, vec_len};
-ghost use Rattle.pop3_wire.specs.Field.{IsLegalId};
+ghost use Rattle.std.specs.Prelude.{◌≡◌, ℕ, ◌≤◌, IsTrue, IfOk, IfErr, map, vec_len};
+ghost use Rattle.pop3_wire.specs.Fields.{is_legal_id};
 ghost use Rattle.pop3_server.specs.Maildrop.{Mail, Listed, counted, AreDistinct, HasPlace, Lists, Gives, Removes, Tallies};
 
 use pop3_wire::Bytes;
@@ -56,21 +56,21 @@ pub struct Entry {
 }
 
 impl Model for Entry {
-    ghost use Rattle.std.specs.Prelude.{◌≤◌};
-    ghost use Rattle.pop3_wire.specs.Field.{IsLegalId};
+    ghost use Rattle.std.specs.Prelude.{◌≤◌, IsTrue};
+    ghost use Rattle.pop3_wire.specs.Fields.{is_legal_id};
     ghost use Rattle.pop3_server.specs.Maildrop.{Listed};
 
     ghost Value = { Listed };
 
     ghost view = { λ e. record { uid = e.uid; size = e.size } };
 
-    ghost invariant = { λ e. IsLegalId e.uid × (e.size ≤ 134217728) };
+    ghost invariant = { λ e. IsTrue (is_legal_id e.uid) × (e.size ≤ 134217728) };
 }
 
 impl Entry {
     /// The entry of this id and size. `is_legal_id` tests the one condition.
     pub fn new(uid: Bytes, size: u64) -> Entry
-        requires legal { IsLegalId uid }
+        requires legal { IsTrue (is_legal_id uid) }
         requires within { size ≤ MAX_SIZE }
         ensures { result ≡ record { uid = uid; size = size } }
     {
@@ -80,7 +80,7 @@ impl Entry {
     /// The unique id.
     pub fn uid(&self) -> &[u8]
         ensures value { result.now ≡ self.now.uid }
-        ensures legal { IsLegalId result.now }
+        ensures legal { IsTrue (is_legal_id result.now) }
     {
         self.uid.as_slice()
     }
