@@ -1,0 +1,4 @@
+pub mod BodyLemmas
+pub mod FieldsLemmas
+pub mod LineLemmas
+pub mod LineReaderLemmas

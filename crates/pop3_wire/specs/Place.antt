@@ -1,0 +1,60 @@
+-- A link and what of its octets wait to be used, and what reading on gains.
+use Rattle.std.specs.Prelude.{◌≡◌, ◌+◌, ◌<◌, ◌≤◌, ◌==◌, ◌||◌, ℕ, true, List, ◌++◌, length, take, drop, Result, Ok, Err}
+use Rattle.pop3_wire.specs.Line.{crlf, IsLine}
+use Rattle.pop3_wire.specs.Link.{Link}
+use Rattle.pop3_wire.specs.declared.line_reader.LineFault.{LineFault}
+use Rattle.pop3_wire.specs.declared.line_reader.LineFault.TheVariants.{Ended, Failed, TooLong}
+
+-- a link, and the octets that it gave and nobody has used yet
+pub record Place : Type 0 where
+  pub link : Link
+  pub waiting : List ℕ
+
+abbrev pub at : Link → List ℕ → Place
+at link waiting = record { link = link; waiting = waiting }
+
+-- one more piece was got; an empty one says that nothing comes any more
+abbrev pub GotPiece : Link → List ℕ → Link → Type 0
+GotPiece old piece new = new ≡ record old { got = old.got ++ piece; ended = old.ended || length piece == 0 }
+
+-- a call was refused, and nothing else changed
+abbrev pub WasRefused : Link → Link → Type 0
+WasRefused old new = new ≡ record old { failures = old.failures + 1 }
+
+-- nothing was sent, and what was got waits behind what waited
+pub record Gains (old new : Place) (gained : List ℕ) : Type 0 where
+  pub got : new.link.got ≡ old.link.got ++ gained
+  pub waiting : new.waiting ≡ old.waiting ++ gained
+  pub sent : new.link.sent ≡ old.link.sent
+
+-- no call was refused, and none answered 0
+pub record GoesOn (old new : Link) : Type 0 where
+  pub ended : new.ended ≡ old.ended
+  pub failures : new.failures ≡ old.failures
+
+-- the first n bytes are a line, and its CR LF ends within the limit
+pub record HasLine (limit : ℕ) (bytes : List ℕ) (n : ℕ) : Type 0 where
+  pub line : IsLine (take n bytes)
+  pub within : n + 2 ≤ limit
+  pub whole : bytes ≡ take n bytes ++ (crlf ++ drop (n + 2) bytes)
+
+-- no line ends within the limit
+pub record HasNoLine (limit : ℕ) (bytes : List ℕ) : Type 0 where
+  pub none : IsLine (take limit bytes)
+
+-- whether reading a line ended in a refused call
+abbrev pub refusal_of : Result ℕ LineFault → Result (Unit {0}) LineFault
+refusal_of (Ok n) = Ok tt
+refusal_of (Err Ended) = Ok tt
+refusal_of (Err Failed) = Err Failed
+refusal_of (Err TooLong) = Ok tt
+
+-- a line waits, or why none does: nothing comes any more, a call was refused, or the limit is reached
+abbrev pub ReadsLine : ℕ → Place → Result ℕ LineFault → Place → Type 0
+ReadsLine limit old (Ok n) new = HasLine limit new.waiting n × GoesOn old.link new.link
+ReadsLine limit old (Err Ended) new = HasNoLine limit new.waiting × (length new.waiting < limit)
+    × (new.link.ended ≡ true) × (new.link.failures ≡ old.link.failures)
+ReadsLine limit old (Err Failed) new = HasNoLine limit new.waiting × (length new.waiting < limit)
+    × (new.link.ended ≡ old.link.ended) × (new.link.failures ≡ old.link.failures + 1)
+ReadsLine limit old (Err TooLong) new = HasNoLine limit new.waiting × (limit ≤ length new.waiting)
+    × GoesOn old.link new.link

@@ -1,0 +1,48 @@
+//! Why a line of the protocol can't be read or written.
+use std::alloc::{AllocError, AllocFailed};
+use thiserror::Error;
+
+/// Why a line can't be read or written.
+#[derive(Clone, Copy, Debug, PartialEq, Eq, Error)]
+pub enum WireFault {
+    /// A first line begins with neither `+OK` nor `-ERR`.
+    #[error("no status")]
+    BadStatus,
+    /// A numeral isn't 1 to 20 digits, or its value is above the limit of its field.
+    #[error("bad number")]
+    BadNumber,
+    /// A field is missing, or an id isn't legal.
+    #[error("bad field")]
+    BadField,
+    /// The line is too long for a command, or its keyword is unknown.
+    #[error("bad command")]
+    BadCommand,
+    /// A command has another count of arguments, or its argument can't be sent.
+    #[error("bad argument")]
+    BadArgument,
+    /// A growth was refused.
+    #[error("out of memory")]
+    NoMemory,
+}
+
+impl From<AllocError> for WireFault {
+    ghost use Rattle.std.specs.Prelude.{◌≡◌};
+    ghost use Rattle.pop3_wire.specs.declared.fault.WireFault.TheVariants.{NoMemory};
+
+    ghost from_gives = { λ _ e. e ≡ NoMemory };
+
+    fn from(_error: AllocError) -> WireFault {
+        WireFault::NoMemory
+    }
+}
+
+impl<T: Drop> From<AllocFailed<T>> for WireFault {
+    ghost use Rattle.std.specs.Prelude.{◌≡◌};
+    ghost use Rattle.pop3_wire.specs.declared.fault.WireFault.TheVariants.{NoMemory};
+
+    ghost from_gives = { λ _ e. e ≡ NoMemory };
+
+    fn from(_error: AllocFailed<T>) -> WireFault {
+        WireFault::NoMemory
+    }
+}

@@ -1,0 +1,191 @@
+//! Fields of reply lines, which stand apart by one or more spaces (RFC 1939, sections 5 and 7).
+ghost use Rattle.std.specs.Prelude.{◌≡◌, ◌≤◌, ◌^◌, ◌<◌, ◌↔◌, ℕ, IsTrue, IfOk, IfErr, Ok, Err, length, take_while};
+ghost use Rattle.std.specs.Char.{is_ascii_digit};
+ghost use Rattle.std.specs.List.{prefix_len, list_all};
+ghost use Rattle.std.specs.Str.Parse.{digits_value};
+ghost use Rattle.pop3_wire.specs.Fields.{is_space, is_in_field, is_id_byte, is_numeral, is_legal_id, past, number, next_field, legal_id, nothing_more, message_number, number_and_size, number_and_id};
+
+use crate::fault::WireFault;
+
+/// How many spaces the bytes begin with.
+fn leading_spaces(bytes: &[u8]) -> usize
+    ensures value { result ≡ prefix_len is_space bytes.now }
+    ensures fits { result ≤ length bytes.now }
+{
+    bytes.iter().take_while(|byte| **byte == b' ').count()
+}
+
+/// How long the field is that the bytes begin with.
+fn field_length(bytes: &[u8]) -> usize
+    ensures value { result ≡ prefix_len is_in_field bytes.now }
+    ensures fits { result ≤ length bytes.now }
+{
+    bytes.iter().take_while(|byte| **byte != b' ').count()
+}
+
+/// How many digits the bytes begin with.
+fn leading_digits(bytes: &[u8]) -> usize
+    ensures value { result ≡ prefix_len is_ascii_digit bytes.now }
+    ensures fits { result ≤ length bytes.now }
+{
+    bytes
+        .iter()
+        .take_while(|byte| byte.is_ascii_digit())
+        .count()
+}
+
+/// What follows the spaces in front.
+fn past_spaces(bytes: &[u8]) -> &[u8]
+    ensures { result.now ≡ past is_space bytes.now }
+{
+    &bytes[leading_spaces(bytes)..]
+}
+
+/// Whether all bytes are digits.
+fn are_digits(bytes: &[u8]) -> bool
+    ensures { result ≡ list_all is_ascii_digit bytes.now }
+{
+    bytes.iter().all(|byte| byte.is_ascii_digit())
+}
+
+/// Whether a field is a numeral: 1 to 20 digits.
+fn is_numeral(field: &[u8]) -> bool
+    ensures { result ≡ is_numeral field.now }
+{
+    if field.is_empty() || field.len() > 20 {
+        return false;
+    }
+    are_digits(field)
+}
+
+/// The number that a numeral stands for.
+fn digits_value(field: &[u8]) -> u128
+    requires { IsTrue (is_numeral field.now) }
+    ensures { result ≡ digits_value 10 field.now }
+{
+    let mut value = 0u128;
+    for byte in field {
+        value = value * 10 + u128::from(*byte - b'0');
+    }
+    value
+}
+
+/// The number that a field stands for, where it isn't above the limit.
+#[tactic(auto, unfolding(crate::specs::Fields::number))]
+fn number(limit: u64, field: &[u8]) -> Result<u64, WireFault>
+    ensures value { result ≡ number limit field.now }
+    ensures within { IfOk result (λ n. n ≤ limit) }
+{
+    if !is_numeral(field) {
+        return Err(WireFault::BadNumber);
+    }
+    let value = digits_value(field);
+    if value > u128::from(limit) {
+        return Err(WireFault::BadNumber);
+    }
+    Ok(value as u64)
+}
+
+/// The bytes from the next field on.
+#[tactic(auto, unfolding(crate::specs::Fields::next_field))]
+fn next_field(bytes: &[u8]) -> Result<&[u8], WireFault>
+    ensures ok { IfOk result (λ rest. next_field bytes.now ≡ Ok rest.now) }
+    ensures err { IfErr result (λ e. next_field bytes.now ≡ Err e) }
+{
+    let rest = past_spaces(bytes);
+    if rest.is_empty() {
+        return Err(WireFault::BadField);
+    }
+    Ok(rest)
+}
+
+/// Whether all bytes are characters of an id.
+fn are_id_bytes(bytes: &[u8]) -> bool
+    ensures { result ≡ list_all is_id_byte bytes.now }
+{
+    bytes.iter().all(|byte| 33 <= *byte && *byte <= 126)
+}
+
+/// Whether an id is legal: 1 to 70 characters of 0x21 to 0x7E (RFC 1939, section 7).
+pub fn is_legal_id(id: &[u8]) -> bool
+    ensures { result ≡ is_legal_id id.now }
+{
+    if id.is_empty() || id.len() > 70 {
+        return false;
+    }
+    are_id_bytes(id)
+}
+
+/// What a field of an id holds.
+#[tactic(auto, unfolding(crate::specs::Fields::legal_id))]
+fn legal_id(field: &[u8]) -> Result<&[u8], WireFault>
+    ensures ok { IfOk result (λ id. legal_id field.now ≡ Ok id.now) }
+    ensures err { IfErr result (λ e. legal_id field.now ≡ Err e) }
+{
+    if !is_legal_id(field) {
+        return Err(WireFault::BadField);
+    }
+    Ok(field)
+}
+
+/// An id, where nothing but spaces follows it.
+#[tactic(auto, unfolding(crate::specs::Fields::nothing_more))]
+fn nothing_more<'a>(id: &'a [u8], bytes: &[u8]) -> Result<&'a [u8], WireFault>
+    ensures ok { IfOk result (λ whole. nothing_more id.now bytes.now ≡ Ok whole.now) }
+    ensures err { IfErr result (λ e. nothing_more id.now bytes.now ≡ Err e) }
+{
+    if !past_spaces(bytes).is_empty() {
+        return Err(WireFault::BadField);
+    }
+    Ok(id)
+}
+
+/// A message number in front, and what follows its field.
+fn message_number(line: &[u8]) -> Result<(u32, &[u8]), WireFault>
+    ensures ok { IfOk result (λ read. message_number line.now ≡ Ok (read.0, read.1.now)) }
+    ensures err { IfErr result (λ e. message_number line.now ≡ Err e) }
+{
+    let first = next_field(line)?;
+    let length = field_length(first);
+    let n = number(u64::from(u32::MAX), &first[..length])?;
+    Ok((n as u32, &first[length..]))
+}
+
+/// The count and the total of STAT, from the rest of its first line: `nn mm` (RFC 1939, section 5).
+/// What follows `mm` is ignored where it begins with a character that isn't a digit. BadField where
+/// a field is missing; BadNumber where it isn't 1 to 20 digits, the count is above 4,294,967,295 or
+/// the total is above 18,446,744,073,709,551,615. The first faulty field decides.
+pub fn read_stat(rest: &[u8]) -> Result<(u32, u64), WireFault>
+    ensures { result ≡ number_and_size rest.now }
+{
+    read_scan(rest)
+}
+
+/// The number and the size of a scan listing, a row of LIST: `number size` (RFC 1939, section 5).
+/// Its faults are those of `read_stat`.
+#[tactic(auto, unfolding(crate::specs::Fields::number_and_size))]
+pub fn read_scan(line: &[u8]) -> Result<(u32, u64), WireFault>
+    ensures { result ≡ number_and_size line.now }
+{
+    let (n, rest) = message_number(line)?;
+    let second = next_field(rest)?;
+    let size = number(u64::MAX, &second[..leading_digits(second)])?;
+    Ok((n, size))
+}
+
+/// The number and the unique-id of a row of UIDL: `number id` (RFC 1939, section 7), after which
+/// only spaces may follow. BadField where a field is missing, the id isn't legal or more follows;
+/// BadNumber where the number isn't 1 to 20 digits or is above 4,294,967,295. The first faulty
+/// field decides.
+#[tactic(auto, unfolding(crate::specs::Fields::number_and_id))]
+pub fn read_uid(line: &[u8]) -> Result<(u32, &[u8]), WireFault>
+    ensures ok { IfOk result (λ read. number_and_id line.now ≡ Ok (read.0, read.1.now)) }
+    ensures err { IfErr result (λ e. number_and_id line.now ≡ Err e) }
+{
+    let (n, rest) = message_number(line)?;
+    let second = next_field(rest)?;
+    let length = field_length(second);
+    let id = legal_id(&second[..length])?;
+    let whole = nothing_more(id, &second[length..])?;
+    Ok((n, whole))
+}

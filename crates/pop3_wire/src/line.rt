@@ -1,0 +1,16 @@
+//! Lines, which end at the pair CR LF and nowhere else (RFC 1939, section 3).
+ghost use Rattle.std.specs.Prelude.{◌≡◌, ◌++◌, IfSome, IfNone};
+ghost use Rattle.pop3_wire.specs.Line.{crlf, IsLine};
+
+use memchr::memmem;
+
+/// The line that the bytes begin with, and what follows its CR LF. None where no line ends.
+pub fn cut_line(bytes: &[u8]) -> Option<(&[u8], &[u8])>
+    ensures found {
+        IfSome result (λ cut. IsLine cut.0.now × (bytes.now ≡ cut.0.now ++ (crlf ++ cut.1.now)))
+    }
+    ensures none { IfNone result (IsLine bytes.now) }
+{
+    let length = memmem::find(bytes, b"\r\n")?;
+    Some((&bytes[..length], &bytes[length + 2..]))
+}

@@ -1,0 +1,157 @@
+//! A reader of lines over any link: the replies that a client gets, and the commands that a server
+//! gets.
+ghost use Rattle.std.specs.Prelude.{◌≡◌, ◌≤◌, ◌<◌, ◌+◌, ◌-◌, ℕ, List, [], ◌++◌, length, take, drop, IfOk, IfErr, OnErr, IfSome, IfNone};
+ghost use Rattle.pop3_wire.specs.Link.{Tallies};
+ghost use Rattle.pop3_wire.specs.Place.{at, GotPiece, WasRefused, Gains, HasLine, HasNoLine, ReadsLine, refusal_of};
+
+use std::marker::Model;
+use thiserror::Error;
+
+use crate::line::cut_line;
+use crate::wire::{Wire, WireDown};
+
+/// Why no line waits.
+#[derive(Clone, Copy, Debug, PartialEq, Eq, Error)]
+pub enum LineFault {
+    /// The link gave 0 octets: nothing comes any more.
+    #[error("the link has ended")]
+    Ended,
+    /// The link refused a `recv`.
+    #[error("the link failed")]
+    Failed,
+    /// As many octets as the limit hold no whole line.
+    #[error("the line is too long")]
+    TooLong,
+}
+
+/// What a link gave and nobody has used yet: at most 4,096 octets. It takes no memory.
+///
+/// Nothing is asked of the link that isn't needed: while a whole line waits, no `recv` is made.
+pub struct LineReader {
+    bytes: [u8; 4096],
+    start: usize,
+    end: usize,
+    // so many of the waiting octets are known to hold no line end
+    searched: usize,
+}
+
+impl Model for LineReader {
+    ghost Value = { List ℕ };
+
+    ghost view = { λ r. take (r.end - r.start) (drop r.start r.bytes) };
+
+    ghost invariant = { λ r. (r.start ≤ r.end) × (r.end ≤ 4096) × (r.searched ≤ r.end - r.start)
+        × HasNoLine r.searched (take (r.end - r.start) (drop r.start r.bytes)) };
+}
+
+/// Moves a part of the bytes to their front.
+fn move_to_front(bytes: &mut [u8], start: usize, end: usize)
+    requires low { start ≤ end }
+    requires high { end ≤ length bytes.old }
+    ensures { take (end - start) bytes.new ≡ take (end - start) (drop start bytes.old) }
+{
+    bytes.copy_within(start..end, 0);
+}
+
+impl LineReader {
+    /// A reader for which nothing waits.
+    pub fn new() -> LineReader
+        ensures { result ≡ [] }
+    {
+        LineReader {
+            bytes: [0; 4096],
+            start: 0,
+            end: 0,
+            searched: 0,
+        }
+    }
+
+    /// What waits to be used.
+    pub fn waiting(&self) -> &[u8]
+        ensures value { result.now ≡ self.now }
+        ensures short { length result.now ≤ 4096 }
+    {
+        &self.bytes[self.start..self.end]
+    }
+
+    /// Drops the first `n` octets that wait, as used.
+    pub fn skip(&mut self, n: usize)
+        requires { n ≤ length self.old }
+        ensures { self.new ≡ drop n self.old }
+    {
+        self.start += n;
+        self.searched = self.searched.saturating_sub(n);
+    }
+
+    /// Takes what the link gives next, in one `recv`, and says how many octets that were. They wait
+    /// behind those that wait.
+    pub fn fill<W: Wire>(&mut self, wire: &mut W) -> Result<usize, WireDown>
+        requires { length self.old < 4096 }
+        ensures counted { Tallies (W.seen wire.old).failures result (W.seen wire.new).failures }
+        ensures ok {
+            IfOk result (λ n. (piece : List ℕ) × (length piece ≡ n) × (self.new ≡ self.old ++ piece)
+                × (W.sound wire.new → W.sound wire.old × W.leads_to wire.old wire.new
+                    × GotPiece (W.seen wire.old) piece (W.seen wire.new)))
+        }
+        ensures err {
+            OnErr result ((self.new ≡ self.old)
+                × (W.sound wire.new → W.sound wire.old × W.leads_to wire.old wire.new
+                    × WasRefused (W.seen wire.old) (W.seen wire.new)))
+        }
+    {
+        move_to_front(&mut self.bytes, self.start, self.end);
+        self.end -= self.start;
+        self.start = 0;
+        let n = wire.recv(&mut self.bytes[self.end..])?;
+        self.end += n;
+        Ok(n)
+    }
+
+    /// How long the line is that waits, if one ends within the limit. The search goes on where the
+    /// last one ended.
+    fn line_end(&mut self, limit: usize) -> Option<usize>
+        ensures same { self.new ≡ self.old }
+        ensures found { IfSome result (HasLine limit self.old) }
+        ensures none { IfNone result (HasNoLine limit self.old) }
+    {
+        let until = limit.min(self.waiting().len());
+        let from = self.searched.min(until).saturating_sub(1);
+        if let Some((line, _)) = cut_line(&self.waiting()[from..until]) {
+            return Some(from + line.len());
+        }
+        self.searched = self.searched.max(until);
+        None
+    }
+
+    /// Takes from the link until a line waits that ends within `limit` octets, its CR LF included,
+    /// and says how long it is without its CR LF. The line still waits then.
+    pub fn line<W: Wire>(&mut self, wire: &mut W, limit: usize) -> Result<usize, LineFault>
+        requires { limit ≤ 4096 }
+        ensures counted {
+            Tallies (W.seen wire.old).failures (refusal_of result) (W.seen wire.new).failures
+        }
+        ensures found { IfOk result (HasLine limit self.new) }
+        ensures gained { (gained : List ℕ) × (self.new ≡ self.old ++ gained) }
+        ensures read {
+            W.sound wire.new → W.sound wire.old × W.leads_to wire.old wire.new
+                × ((gained : List ℕ) × Gains (at (W.seen wire.old) self.old) (at (W.seen wire.new) self.new) gained)
+                × ReadsLine limit (at (W.seen wire.old) self.old) result (at (W.seen wire.new) self.new)
+        }
+    {
+        loop {
+            if let Some(length) = self.line_end(limit) {
+                return Ok(length);
+            }
+            if self.waiting().len() >= limit {
+                return Err(LineFault::TooLong);
+            }
+            let n = match self.fill(wire) {
+                Ok(n) => n,
+                Err(_) => return Err(LineFault::Failed),
+            };
+            if n == 0 {
+                return Err(LineFault::Ended);
+            }
+        }
+    }
+}

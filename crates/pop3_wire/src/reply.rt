@@ -1,0 +1,42 @@
+//! First lines of replies (RFC 1939, section 3).
+ghost use Rattle.std.specs.Prelude.{◌≡◌, ℕ, List, IfOk, IfErr};
+ghost use Rattle.pop3_wire.specs.Reply.{IsFirstLine, without_space};
+
+use crate::fault::WireFault;
+
+/// What a reply says of the command before it.
+#[derive(Clone, Copy, Debug, PartialEq, Eq)]
+pub enum Status {
+    /// `+OK`
+    Positive,
+    /// `-ERR`
+    Negative,
+}
+
+/// What follows a status indicator, without the space between the two.
+fn without_space(after: &[u8]) -> &[u8]
+    ensures { result.now ≡ without_space after.now }
+{
+    match after {
+        [b' ', rest @ ..] => rest,
+        _ => after,
+    }
+}
+
+/// The status and the rest of a first line, which is handed over without its CR LF. BadStatus where
+/// it begins with neither `+OK` nor `-ERR`, in upper case. One space in front of the rest is dropped.
+pub fn read_status(line: &[u8]) -> Result<(Status, &[u8]), WireFault>
+    ensures ok { IfOk result (λ read. IsFirstLine line.now read.0 read.1.now) }
+    ensures err {
+        IfErr result (λ e. (e ≡ WireFault.BadStatus)
+            × ((status : Status) (rest : List ℕ) → IsFirstLine line.now status rest → ⊥))
+    }
+{
+    if let Some(after) = line.strip_prefix(b"+OK".as_slice()) {
+        return Ok((Status::Positive, without_space(after)));
+    }
+    match line.strip_prefix(b"-ERR".as_slice()) {
+        Some(after) => Ok((Status::Negative, without_space(after))),
+        None => Err(WireFault::BadStatus),
+    }
+}

@@ -1,0 +1,119 @@
+//! A link in memory whose replies were written beforehand.
+ghost use Rattle.std.specs.Prelude.{◌≡◌, ◌≤◌, ◌<◌, ◌-◌, ◌^◌, ◌++◌, ℕ, List, [], false, length, take, min, IsOk, IfOk};
+ghost use Rattle.pop3_wire.specs.Link.{greatest_count, Tallies, Sends, Receives};
+ghost use Rattle.pop3_wire.specs.Script.{Script};
+ghost use Rattle.std.proofs.Common.{refl, ◌∙◌};
+
+use std::alloc::Global;
+use std::marker::Model;
+
+use crate::wire::{Wire, WireDown};
+
+/// A link that gives replies written beforehand, in pieces of a bounded length, and keeps what it is
+/// sent. Below the greatest failure count it refuses only for want of memory, in `send`.
+#[derive(Drop)]
+pub struct ScriptWire {
+    replies: Vec<u8>,
+    given: usize,
+    cut: usize,
+    ended: bool,
+    sent: Vec<u8>,
+    failures: u64,
+}
+
+impl Model for ScriptWire {
+    ghost Value = { Script };
+
+    ghost view = { λ w. record {
+        replies = w.replies.items;
+        link = record {
+            sent = w.sent.items;
+            got = take w.given w.replies.items;
+            ended = w.ended;
+            failures = w.failures
+        }
+    } };
+
+    ghost invariant = { λ w. (w.given ≤ length w.replies.items) × (0 < w.cut) };
+}
+
+impl ScriptWire {
+    /// A link that will give these replies, at most `cut` octets at once, and was sent nothing yet.
+    pub fn new(alloc: Global, replies: Vec<u8>, cut: usize) -> ScriptWire
+        requires { 0 < cut }
+        ensures {
+            result ≡ record {
+                replies = replies.items;
+                link = record { sent = []; got = []; ended = false; failures = 0 }
+            }
+        }
+    {
+        ScriptWire {
+            replies,
+            given: 0,
+            cut,
+            ended: false,
+            sent: Vec::new(alloc),
+            failures: 0,
+        }
+    }
+
+    /// What was sent so far.
+    pub fn sent(&self) -> &[u8]
+        ensures { result.now ≡ self.now.link.sent }
+    {
+        self.sent.as_slice()
+    }
+}
+
+impl Wire for ScriptWire {
+    ghost seen = { λ w. w.link };
+
+    ghost sound = { λ w. w.link.failures < greatest_count };
+
+    ghost leads_to = { λ u v. v.replies ≡ u.replies };
+
+    fn send(&mut self, bytes: &[u8]) -> Result<(), WireDown> {
+        if self.failures == u64::MAX {
+            return Err(WireDown);
+        }
+        if self.sent.extend_from_slice(bytes).is_err() {
+            self.failures += 1;
+            return Err(WireDown);
+        }
+        Ok(())
+    }
+
+    fn recv(&mut self, buf: &mut [u8]) -> Result<usize, WireDown>
+        requires { 0 < length buf.old }
+        ensures within { IfOk result (λ n. n ≤ length buf.new) }
+        ensures counted { Tallies self.old.link.failures result self.new.link.failures }
+        ensures got {
+            (self.new.link.failures < greatest_count) → (self.old.link.failures < greatest_count)
+                × (self.new.replies ≡ self.old.replies)
+                × Receives self.old.link result buf.new self.new.link
+        }
+        // Below the greatest count it refuses nothing, and answers 0 only where all was given.
+        ensures gives { self.old.link.failures < greatest_count → IsOk result }
+        ensures ends { IfOk result (λ n. n ≡ 0 → self.new.link.got ≡ self.new.replies) }
+        ensures front { (rest : List ℕ) × (self.new.replies ≡ self.new.link.got ++ rest) }
+    {
+        if self.failures == u64::MAX {
+            return Err(WireDown);
+        }
+        let rest = &self.replies[self.given..];
+        let n = rest.len().min(self.cut).min(buf.len());
+        buf[..n].copy_from_slice(&rest[..n]);
+        self.given += n;
+        self.ended = self.ended || n == 0;
+        Ok(n)
+    }
+
+    fn failures(&self) -> u64 {
+        self.failures
+    }
+
+    ghost leads_same = { λ _. refl };
+
+    ghost leads_on = { λ _ _ _ p q. q ∙ p };
+}

@@ -1,0 +1,54 @@
+//! The link that carries a conversation.
+ghost use Rattle.std.specs.Prelude.{◌≡◌, ◌≤◌, ◌<◌, length, IfOk};
+ghost use Rattle.pop3_wire.specs.Link.{Link, Sends, Receives, Tallies};
+
+use thiserror::Error;
+
+/// A call of a link was refused.
+#[derive(Clone, Copy, Debug, PartialEq, Eq, Error)]
+#[error("the link is down")]
+pub struct WireDown;
+
+/// A link that takes octets and gives octets, in order.
+///
+/// Its failure count rises by one exactly where a call is refused; at its greatest value,
+/// 18,446,744,073,709,551,615, it stays, and every call is refused. Everything else that a clause
+/// says of the octets stands under the premise `sound`: nothing is known of a real socket.
+pub trait Wire {
+    // What is known of the link.
+    ghost seen: { Self → Link };
+
+    // The premise: so far the link did what this trait says, and its failure count hasn't reached
+    // its greatest value. It is known backwards: what is sound after a call was so before it.
+    ghost sound: { Self → Type 0 };
+
+    // What each call keeps, which a link may have of its own.
+    ghost leads_to: { Self → Self → Type 0 };
+
+    /// Sends the bytes, all of them, before it answers. A refused call has sent a prefix of them.
+    fn send(&mut self, bytes: &[u8]) -> Result<(), WireDown>
+        ensures counted { Tallies (seen self.old).failures result (seen self.new).failures }
+        ensures sent {
+            sound self.new → sound self.old × leads_to self.old self.new
+                × Sends (seen self.old) bytes.now result (seen self.new)
+        };
+
+    /// Puts into the buffer what comes next, at least one octet, and answers how many; 0 says that
+    /// nothing comes any more. It may wait.
+    fn recv(&mut self, buf: &mut [u8]) -> Result<usize, WireDown>
+        requires { 0 < length buf.old }
+        ensures within { IfOk result (λ n. n ≤ length buf.new) }
+        ensures counted { Tallies (seen self.old).failures result (seen self.new).failures }
+        ensures got {
+            sound self.new → sound self.old × leads_to self.old self.new
+                × Receives (seen self.old) result buf.new (seen self.new)
+        };
+
+    /// How many calls were refused.
+    fn failures(&self) -> u64
+        ensures { result ≡ (seen self.now).failures };
+
+    // `leads_to` is reflexive and transitive.
+    ghost leads_same: { (w : Self) → leads_to w w };
+    ghost leads_on: { (u v w : Self) → leads_to u v → leads_to v w → leads_to u w };
+}
