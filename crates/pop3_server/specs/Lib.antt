@@ -1,0 +1,3 @@
+pub mod Maildrop
+pub mod ServerMachine
+pub mod Size
