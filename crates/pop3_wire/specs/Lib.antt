@@ -2,6 +2,7 @@ pub mod Body
 pub mod CommandLine
 pub mod Commands
 pub mod Fields
+pub mod Honest
 pub mod Line
 pub mod Link
 pub mod Place
