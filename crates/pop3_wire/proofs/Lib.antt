@@ -6,3 +6,4 @@ pub mod HonestRows
 pub mod LineLemmas
 pub mod LineReaderLemmas
 pub mod StuffLemmas
+pub mod UnstuffingLemmas
