@@ -1,0 +1,2 @@
+pub mod SizeLemmas
+pub mod SlotLemmas

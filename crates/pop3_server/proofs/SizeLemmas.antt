@@ -1,0 +1,68 @@
+-- The size of a text by what its bytes add.
+use Rattle.std.proofs.Common.{◌≡◌, ◌==◌, ℕ, ◌+◌, Bool, true, false, not, List, [], ◌∷◌, ◌++◌, length, refl, sym, ◌∙◌, ap, arith, if◌then◌else◌}
+use Rattle.std.specs.List.{flat_map, sum_by}
+use Rattle.std.proofs.lemmas.List.Sums.{sum_by-cons, sum_by-append}
+use Rattle.pop3_wire.specs.Line.{ended}
+use Rattle.std.specs.List.{onto_first}
+use Rattle.pop3_wire.specs.Stuffed.{lines_of_text}
+use Rattle.pop3_server.specs.declared.size.SizeCount.{SizeCount}
+use Rattle.pop3_server.specs.Size.{size_of, weight, ends_open, capped, Counts}
+
+-- these are the lines of a text that isn't empty
+record Some (lines : List (List ℕ)) : Type 0 where
+  first : List ℕ
+  more : List (List ℕ)
+  is : lines ≡ first ∷ more
+
+some_onto : (byte : ℕ) (lines : List (List ℕ)) → Some (onto_first byte lines)
+some_onto byte [] = record { first = _; more = _; is = refl }
+some_onto byte (line ∷ lines) = record { first = _; more = _; is = refl }
+
+some_if : (at_end : Bool) (byte : ℕ) (lines : List (List ℕ)) → Some (if at_end then [] ∷ lines else onto_first byte lines)
+some_if true byte lines = record { first = []; more = lines; is = refl }
+some_if false byte lines = some_onto byte lines
+
+some_lines : (byte : ℕ) (rest : List ℕ) → Some (lines_of_text (byte ∷ rest))
+some_lines byte rest = some_if (byte == 10) byte (lines_of_text rest)
+
+-- a byte in front of some lines adds one octet, and an end of a line two
+size_more : (at_end : Bool) (byte : ℕ) (line : List ℕ) (lines : List (List ℕ))
+    → length (flat_map ended (if at_end then [] ∷ (line ∷ lines) else onto_first byte (line ∷ lines))) ≡ (if at_end then 2 else 1) + length (flat_map ended (line ∷ lines))
+size_more true byte line lines = omega arith
+size_more false byte line lines = omega arith
+
+size_one : (at_end : Bool) (byte : ℕ) → length (flat_map ended (if at_end then [] ∷ [] else onto_first byte [])) ≡ (if at_end then 2 else 1) + (if not at_end then 2 else 0)
+size_one true byte = refl
+size_one false byte = refl
+
+pub size_of-weights : (text : List ℕ) → size_of text ≡ sum_by weight text + (if ends_open text then 2 else 0)
+size_of-weights [] = refl
+size_of-weights (byte ∷ []) = size_one (byte == 10) byte ∙ omega (arith, sum_by-cons weight byte [])
+size_of-weights (byte ∷ other ∷ rest) =
+    let some : Some (lines_of_text (other ∷ rest)) = some_lines other rest in
+    let more : length (flat_map ended (if byte == 10 then [] ∷ lines_of_text (other ∷ rest) else onto_first byte (lines_of_text (other ∷ rest)))) ≡ weight byte + size_of (other ∷ rest) = rw some.is (size_more (byte == 10) byte some.first some.more) in
+    more ∙ ap (λ n. weight byte + n) (size_of-weights (other ∷ rest)) ∙ omega (arith, sum_by-cons weight byte (other ∷ rest))
+
+-- one more byte behind a text
+pub ends_open-push : (text : List ℕ) (byte : ℕ) → ends_open (text ++ byte ∷ []) ≡ not (byte == 10)
+ends_open-push [] byte = refl
+ends_open-push (first ∷ []) byte = refl
+ends_open-push (first ∷ second ∷ rest) byte = ends_open-push (second ∷ rest) byte
+
+-- one more byte was counted
+pub Counts-push : (count next : SizeCount) (text : List ℕ) (byte : ℕ) → Counts count text → next.octets ≡ capped (count.octets + weight byte) → next.in_line ≡ not (byte == 10) → Counts next (text ++ byte ∷ [])
+Counts-push count next text byte h octets in_line = record {
+  octets = omega (arith, octets, h.octets, sum_by-append weight text (byte ∷ []), sum_by-cons weight byte []);
+  in_line = in_line ∙ sym (ends_open-push text byte);
+}
+
+-- the size of what was counted, where the last line is open and where it isn't
+pub size-open : (count : SizeCount) (text : List ℕ) → Counts count text → count.in_line ≡ true → capped (count.octets + 2) ≡ capped (size_of text)
+size-open count text h more = let open_text : ends_open text ≡ true = sym h.in_line ∙ more in
+    let e = size_of-weights text in
+    let e2 : size_of text ≡ sum_by weight text + 2 = rw open_text at e in omega (arith, h.octets, e2)
+
+pub size-closed : (count : SizeCount) (text : List ℕ) → Counts count text → count.in_line ≡ false → count.octets ≡ capped (size_of text)
+size-closed count text h closed = let closed_text : ends_open text ≡ false = sym h.in_line ∙ closed in
+    let e = size_of-weights text in
+    let e2 : size_of text ≡ sum_by weight text + 0 = rw closed_text at e in omega (arith, h.octets, e2)

@@ -1,0 +1,112 @@
+-- The messages that stand at the places of a maildrop.
+use Rattle.std.proofs.Common.{◌≡◌, ℕ, zero, suc, ◌+◌, ◌<◌, ◌≤◌, List, [], ◌∷◌, ◌++◌, map, take, length, get_or, Option, Some, None, slice_set, refl, sym, ◌∙◌, ap, subst, arith, inl, inr, is_some}
+use Rattle.std.specs.List.{Contains, filter}
+use Rattle.std.proofs.lemmas.List.{take_more, append-nil, map-append, length-append}
+use Rattle.std.proofs.lemmas.List.Elements.{Contains-push_cases, Contains-append_left, Contains-append_right, Contains-append_cases}
+use Rattle.pop3_wire.specs.World.{Message}
+use Rattle.pop3_server.specs.Maildrop.{Listed, there, ids, entry_of, AreDistinct}
+
+-- ---- places in order
+
+pub there-append : (xs ys : List (Option Message)) → there (xs ++ ys) ≡ there xs ++ there ys
+there-append [] ys = refl
+there-append (None ∷ xs) ys = there-append xs ys
+there-append (Some m ∷ xs) ys = ap (λ l. m ∷ l) (there-append xs ys)
+
+take_slot : (slots : List (Option Message)) (i : ℕ) (slot : Option Message) → i < length slots → slot ≡ get_or slots i slot → there (take (i + 1) slots) ≡ there (take i slots) ++ there (slot ∷ [])
+take_slot slots i slot fits is =
+    ap there (take_more slots i slot fits) ∙ there-append (take i slots) (get_or slots i slot ∷ []) ∙ ap (λ s. there (take i slots) ++ there (s ∷ [])) (sym is)
+
+pub there_none : (slots : List (Option Message)) (i : ℕ) (slot : Option Message) → i < length slots → slot ≡ get_or slots i slot → slot ≡ None → there (take (i + 1) slots) ≡ there (take i slots)
+there_none slots i slot fits is none = take_slot slots i slot fits is ∙ ap (λ s. there (take i slots) ++ there (s ∷ [])) none ∙ append-nil (there (take i slots))
+
+pub there_some : (slots : List (Option Message)) (i : ℕ) (slot : Option Message) (m : Message) → i < length slots → slot ≡ get_or slots i slot → slot ≡ Some m → there (take (i + 1) slots) ≡ there (take i slots) ++ m ∷ []
+there_some slots i slot m fits is some = take_slot slots i slot fits is ∙ ap (λ s. there (take i slots) ++ there (s ∷ [])) some
+
+pub there_map : (ms : List Message) → there (map (λ m. Some m) ms) ≡ ms
+there_map [] = refl
+there_map (m ∷ ms) = ap (λ l. m ∷ l) (there_map ms)
+
+pub filter_there : (slots : List (Option Message)) → filter is_some slots ≡ map (λ m. Some m) (there slots)
+filter_there [] = refl
+filter_there (None ∷ slots) = filter_there slots
+filter_there (Some m ∷ slots) = ap (λ l. Some m ∷ l) (filter_there slots)
+
+-- ---- ids that stand once
+
+no_in_nil : (uid : List ℕ) → Contains [] uid → ⊥
+no_in_nil uid h = omega (arith, h.1)
+
+pub ids-push : (slots : List (Option Message)) (m : Message) → ids (slots ++ Some m ∷ []) ≡ ids slots ++ m.uid ∷ []
+ids-push slots m = ap (map (λ (x : Message). x.uid)) (there-append slots (Some m ∷ [])) ∙ map-append (λ (x : Message). x.uid) (there slots) (m ∷ [])
+
+pub AreDistinct-push : (uids : List (List ℕ)) (uid : List ℕ) → AreDistinct uids → (Contains uids uid → ⊥) → AreDistinct (uids ++ uid ∷ [])
+AreDistinct-push [] uid distinct absent = (λ h. no_in_nil uid h, tt)
+AreDistinct-push (first ∷ uids) uid distinct absent = (
+  λ h. elim (Contains-push_cases uids uid first h) [ inl old ↦ distinct.0 old | inr same ↦ absent (0, omega arith, sym same) ],
+  AreDistinct-push uids uid distinct.1 (λ h. absent (Contains-append_right (first ∷ []) uids uid h)),
+)
+
+-- a removal leaves no new id
+left_ids : (slots : List (Option Message)) (i : ℕ) (uid : List ℕ) → Contains (ids (slice_set slots i None)) uid → Contains (ids slots) uid
+left_ids [] i uid h = h
+left_ids (None ∷ slots) zero uid h = h
+left_ids (Some m ∷ slots) zero uid h = Contains-append_right (m.uid ∷ []) (ids slots) uid h
+left_ids (None ∷ slots) (suc i) uid h = left_ids slots i uid h
+left_ids (Some m ∷ slots) (suc i) uid h =
+    elim (Contains-append_cases (m.uid ∷ []) (ids (slice_set slots i None)) uid h) [
+      | inl first ↦ Contains-append_left (m.uid ∷ []) (ids slots) uid first
+      | inr later ↦ Contains-append_right (m.uid ∷ []) (ids slots) uid (left_ids slots i uid later)
+    ]
+
+pub AreDistinct-removed : (slots : List (Option Message)) (i : ℕ) → AreDistinct (ids slots) → AreDistinct (ids (slice_set slots i None))
+AreDistinct-removed [] i distinct = distinct
+AreDistinct-removed (None ∷ slots) zero distinct = distinct
+AreDistinct-removed (Some m ∷ slots) zero distinct = distinct.1
+AreDistinct-removed (None ∷ slots) (suc i) distinct = AreDistinct-removed slots i distinct
+AreDistinct-removed (Some m ∷ slots) (suc i) distinct =
+    (λ h. distinct.0 (left_ids slots i m.uid h), AreDistinct-removed slots i distinct.1)
+
+pub count-removed : (slots : List (Option Message)) (i : ℕ) → length (there (slice_set slots i None)) ≤ length (there slots)
+count-removed [] i = omega arith
+count-removed (None ∷ slots) zero = omega arith
+count-removed (Some m ∷ slots) zero = omega arith
+count-removed (None ∷ slots) (suc i) = count-removed slots i
+count-removed (Some m ∷ slots) (suc i) = let h = count-removed slots i in omega (arith, h)
+
+pub count-take : (slots : List (Option Message)) → length (there slots) ≤ length slots
+count-take [] = omega arith
+count-take (None ∷ slots) = let h = count-take slots in omega (arith, h)
+count-take (Some m ∷ slots) = let h = count-take slots in omega (arith, h)
+
+-- the ids of a listing are those of the messages
+pub ids-listed : (ms : List Message) → map (λ (e : Listed). e.uid) (map entry_of ms) ≡ map (λ (m : Message). m.uid) ms
+ids-listed [] = refl
+ids-listed (m ∷ ms) = ap (λ l. m.uid ∷ l) (ids-listed ms)
+
+-- the message at a place is there
+pub Contains-slot : (slots : List (Option Message)) (i : ℕ) (slot : Option Message) (m : Message) → i < length slots → slot ≡ get_or slots i slot → slot ≡ Some m → Contains (ids slots) m.uid
+Contains-slot [] i slot m fits is some = absurd (omega arith)
+Contains-slot (x ∷ slots) zero slot m fits is some =
+    subst (λ (o : Option Message). Contains (ids (o ∷ slots)) m.uid) (sym (sym is ∙ some)) (0, omega arith, refl)
+Contains-slot (None ∷ slots) (suc i) slot m fits is some = Contains-slot slots i slot m (omega arith) is some
+Contains-slot (Some other ∷ slots) (suc i) slot m fits is some =
+    Contains-append_right (other.uid ∷ []) (ids slots) m.uid (Contains-slot slots i slot m (omega arith) is some)
+
+-- one more place, and still no such id
+pub absent_none : (slots : List (Option Message)) (i : ℕ) (slot : Option Message) (uid : List ℕ) → i < length slots → slot ≡ get_or slots i slot → slot ≡ None → (Contains (ids (take i slots)) uid → ⊥) → Contains (ids (take (i + 1) slots)) uid → ⊥
+absent_none slots i slot uid fits is none absent h =
+    absent (subst (λ ms. Contains (map (λ (x : Message). x.uid) ms) uid) (there_none slots i slot fits is none) h)
+
+pub absent_some : (slots : List (Option Message)) (i : ℕ) (slot : Option Message) (m : Message) (uid : List ℕ) → i < length slots → slot ≡ get_or slots i slot → slot ≡ Some m → (m.uid ≡ uid → ⊥) → (Contains (ids (take i slots)) uid → ⊥) → Contains (ids (take (i + 1) slots)) uid → ⊥
+absent_some slots i slot m uid fits is some other absent h =
+    let more : ids (take (i + 1) slots) ≡ ids (take i slots) ++ m.uid ∷ [] = ap (map (λ (x : Message). x.uid)) (there_some slots i slot m fits is some) ∙ map-append (λ (x : Message). x.uid) (there (take i slots)) (m ∷ []) in
+    elim (Contains-push_cases (ids (take i slots)) m.uid uid (subst (λ us. Contains us uid) more h)) [ inl old ↦ absent old | inr same ↦ other same ]
+
+-- a message was put behind the others
+pub count-push : (slots : List (Option Message)) (m : Message) → length (there (slots ++ Some m ∷ [])) ≡ length (there slots) + 1
+count-push slots m = ap length (there-append slots (Some m ∷ [])) ∙ length-append (there slots) (m ∷ [])
+
+-- the messages that are there, in new places
+pub ids_map : (ms : List Message) → ids (map (λ m. Some m) ms) ≡ map (λ (x : Message). x.uid) ms
+ids_map ms = ap (map (λ (x : Message). x.uid)) (there_map ms)

@@ -1,0 +1,16 @@
+use Rattle.std.proofs.Common.{◌≡◌, ◌<◌, length, sym, ap, arith, subst}
+use Rattle.std.specs.List.{Contains}
+use Rattle.pop3_server.specs.Maildrop.{Mail, there, ids, AreDistinct}
+use Rattle.pop3_server.proofs.SlotLemmas.{ids-push, count-push, AreDistinct-push}
+use Rattle.pop3_server.proofs.memory_drop.MemoryDrop.push.Goals as goal
+
+pub invariant_of-self-2 : goal.invariant_of-self-2
+invariant_of-self-2 c =
+    let slots = c.self.inside.slots.items in
+    let kept = c.in_ok-kept.kept in
+    let same : kept.uid ≡ c.args.uid.now = ap (λ m. m.uid) c.in_ok-kept.ensures in
+    let slots_are : slots ≡ c.args.self.now.slots = ap (λ (m : Mail). m.slots) c.self.view_is in
+    let absent : Contains (ids slots) kept.uid → ⊥ =
+    λ h. c.requires.absent (subst (λ u. Contains (ids c.args.self.now.slots) u) same (subst (λ s. Contains (ids s) kept.uid) slots_are h)) in
+    let room : length (there slots) < 100000 = subst (λ s. length (there s) < 100000) (sym slots_are) c.requires.room in
+    rw c.in_ok-push.ensures.items (subst AreDistinct (sym (ids-push slots kept)) (AreDistinct-push (ids slots) kept.uid c.self.invariant.0 absent), let more = count-push slots kept in omega (arith, more, room))

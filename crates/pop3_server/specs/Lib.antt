@@ -1,0 +1,5 @@
+pub mod HonestServer
+pub mod Maildrop
+pub mod Run
+pub mod ServerMachine
+pub mod Size

@@ -1,0 +1,86 @@
+-- A maildrop: what is known of it, and what each call does to it.
+use Rattle.std.specs.Prelude.{◌≡◌, ◌⊎◌, ℕ, ◌+◌, ◌-◌, ◌^◌, min, List, [], ◌∷◌, map, Option, Some, None, Result, Ok, Err, Vec, slice_get, slice_set}
+use Rattle.std.specs.List.{Contains}
+use Rattle.pop3_wire.specs.World.{Message}
+use Rattle.pop3_server.specs.declared.maildrops.DropFault.{DropFault}
+use Rattle.pop3_server.specs.declared.maildrops.DropFault.TheVariants.{Refused, NoMemory}
+
+-- what a listing says of a message
+pub record Listed : Type 0 where
+  pub uid : List ℕ
+  pub size : ℕ
+
+-- the messages by their places in the last listing, none where one was removed; how many calls were
+-- refused; and how often a removal was asked for
+pub record Mail : Type 0 where
+  pub slots : List (Option Message)
+  pub refused : ℕ
+  pub removals : ℕ
+
+-- one more, as far as a count goes
+abbrev pub counted : ℕ → ℕ
+counted count = min (count + 1) (2 ^ 64 - 1)
+
+-- the messages that are there
+abbrev pub there : List (Option Message) → List Message
+there [] = []
+there (None ∷ slots) = there slots
+there (Some message ∷ slots) = message ∷ there slots
+
+-- their ids
+abbrev pub ids : List (Option Message) → List (List ℕ)
+ids slots = map (λ (message : Message). message.uid) (there slots)
+
+-- what a listing says of this message
+abbrev pub entry_of : Message → Listed
+entry_of message = record { uid = message.uid; size = message.size }
+
+-- no id stands twice
+abbrev pub AreDistinct : List (List ℕ) → Type 0
+AreDistinct [] = Unit {0}
+AreDistinct (uid ∷ uids) = (Contains uids uid → ⊥) × AreDistinct uids
+
+-- a message stands at this place
+abbrev pub HasPlace : Mail → ℕ → Type 0
+HasPlace mail i = (message : Message) × (slice_get mail.slots i ≡ Some (Some message))
+
+-- a call was refused, and nothing else changed
+abbrev pub refusing : Mail → Mail
+refusing old = record old { refused = old.refused + 1 }
+
+-- a removal was asked for, and nothing else changed
+abbrev pub asked : Mail → Mail
+asked old = record old { removals = counted old.removals }
+
+-- a removal was asked for, and the message at the place is gone
+abbrev pub removed : Mail → ℕ → Mail
+removed old i = record old { slots = slice_set old.slots i None; removals = counted old.removals }
+
+-- a call that only reads gave nothing, and no message changed
+abbrev pub Denies : Mail → DropFault → Mail → Type 0
+Denies old Refused new = new ≡ refusing old
+Denies old NoMemory new = new ≡ old
+
+-- the messages that are there were listed, and have these places from now on
+abbrev pub Lists : {Z : Type 0} → Mail → Result (Vec Listed Z) DropFault → Mail → Type 0
+Lists old (Ok entries) new =
+    (new ≡ record old { slots = map Some (there old.slots) }) × (entries.items ≡ map entry_of (there old.slots))
+Lists old (Err fault) new = Denies old fault new
+
+-- the text of the message at a place was given
+abbrev pub Gives : {Z : Type 0} → Mail → ℕ → Result (Vec ℕ Z) DropFault → Mail → Type 0
+Gives old i (Ok text) new =
+    (new ≡ old) × ((message : Message) × (slice_get old.slots i ≡ Some (Some message)) × (text.items ≡ message.text))
+Gives old i (Err fault) new = Denies old fault new
+
+-- the message at a place was removed; after a refusal it may be there or not
+abbrev pub Removes : Mail → ℕ → Result (Unit {0}) DropFault → Mail → Type 0
+Removes old i (Ok done) new = new ≡ removed old i
+Removes old i (Err Refused) new = (new ≡ refusing (asked old)) ⊎ (new ≡ refusing (removed old i))
+Removes old i (Err NoMemory) new = ⊥
+
+-- a refusal is counted, as far as the count goes, and nothing else is
+abbrev pub Tallies : {T : Type 0} → Mail → Result T DropFault → Mail → Type 0
+Tallies old (Ok done) new = new.refused ≡ old.refused
+Tallies old (Err Refused) new = new.refused ≡ counted old.refused
+Tallies old (Err NoMemory) new = new.refused ≡ old.refused

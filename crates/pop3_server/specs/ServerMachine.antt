@@ -1,0 +1,249 @@
+-- The server as a machine: a state and a line, the answer and the next state (RFC 1939, sections 4 to 7).
+use Rattle.std.specs.Prelude.{◌≡◌, ◌⊎◌, ◌==◌, ℕ, zero, suc, ◌+◌, ◌-◌, ◌^◌, min, Bool, true, false, not, ◌&&◌, List, [], ◌∷◌, ◌++◌, map, length, Option, Some, None, Result, Ok, Err, slice_get, codes, bytes_eq, if◌then◌else◌}
+use Rattle.std.specs.List.{count_by, sum_by}
+use Rattle.std.specs.Fmt.{decimal}
+use Rattle.pop3_wire.specs.declared.command.Command.{Command}
+use Rattle.pop3_wire.specs.declared.command.Command.TheVariants.{User, Pass, Stat, UidlAll, UidlOne, ListAll, ListOne, Retr, Dele, Rset, Noop, Top, Quit}
+use Rattle.pop3_wire.specs.declared.fault.WireFault.{WireFault}
+use Rattle.pop3_wire.specs.Line.{crlf, ended}
+use Rattle.pop3_wire.specs.Body.{dot}
+use Rattle.pop3_wire.specs.Stuffed.{lines_of_text, stuffed_lines}
+use Rattle.pop3_wire.specs.World.{Message}
+use Rattle.pop3_server.specs.declared.state.Row.{Row}
+use Rattle.pop3_server.specs.declared.state.State.{State}
+use Rattle.pop3_server.specs.declared.state.State.TheVariants.{Authorization, Transaction, Closed}
+use Rattle.pop3_server.specs.Maildrop.{Listed, Mail, there, entry_of, HasPlace, refusing, asked, removed}
+
+-- ---- the rows: the messages as PASS found them, and their marks
+
+abbrev pub is_left : Row → Bool
+is_left row = not row.marked
+
+-- how many messages aren't marked, and their octets
+abbrev pub left_count : List Row → ℕ
+left_count rows = count_by is_left rows
+
+abbrev pub left_size : Row → ℕ
+left_size row = if row.marked then 0 else row.entry.size
+
+abbrev pub left_total : List Row → ℕ
+left_total rows = sum_by left_size rows
+
+abbrev pub unless_marked : Option Row → Option Row
+unless_marked None = None
+unless_marked (Some row) = if row.marked then None else Some row
+
+-- the row of a message number, counted from 1, if there is one that isn't marked
+abbrev pub row_at : List Row → ℕ → Option Row
+row_at rows k = if k == 0 then None else unless_marked (slice_get rows (k - 1))
+
+abbrev pub marked : Row → Row
+marked row = record row { marked = true }
+
+abbrev pub unmarked : Row → Row
+unmarked row = record row { marked = false }
+
+-- the row at a place is marked
+abbrev pub mark_at : List Row → ℕ → List Row
+mark_at [] i = []
+mark_at (row ∷ rows) zero = marked row ∷ rows
+mark_at (row ∷ rows) (suc i) = row ∷ mark_at rows i
+
+abbrev pub row_of_entry : Listed → Row
+row_of_entry entry = record { entry = entry; marked = false }
+
+abbrev pub row_of : Message → Row
+row_of message = row_of_entry (entry_of message)
+
+-- ---- the answers
+
+-- one line
+abbrev pub said : List ℕ → List ℕ
+said text = text ++ crlf
+
+abbrev pub greeting : List ℕ
+greeting = said (codes "+OK popd ready")
+
+-- a message's line in a listing, behind its number
+abbrev pub scan_line : ℕ → Row → List ℕ
+scan_line k row = decimal k ++ codes " " ++ decimal row.entry.size
+
+abbrev pub uid_line : ℕ → Row → List ℕ
+uid_line k row = decimal k ++ codes " " ++ row.entry.uid
+
+-- the lines of the rows that aren't marked, numbered from k on
+abbrev pub lines_from : (ℕ → Row → List ℕ) → ℕ → List Row → List ℕ
+lines_from line k [] = []
+lines_from line k (row ∷ rows) = (if row.marked then [] else said (line k row)) ++ lines_from line (k + 1) rows
+
+abbrev pub listed : (ℕ → Row → List ℕ) → List Row → List ℕ
+listed line rows = codes "+OK" ++ crlf ++ lines_from line 1 rows ++ ended dot
+
+-- the answer about one message
+abbrev pub of_row : (Row → List ℕ) → Option Row → List ℕ
+of_row line None = said (codes "-ERR no such message")
+of_row line (Some row) = line row
+
+-- the lines of a text up to and including its first empty one, and n more
+abbrev pub top_from : Bool → ℕ → List (List ℕ) → List (List ℕ)
+top_from in_head n [] = []
+top_from true n (line ∷ lines) = line ∷ top_from (not (length line == 0)) n lines
+top_from false zero (line ∷ lines) = []
+top_from false (suc n) (line ∷ lines) = line ∷ top_from false n lines
+
+abbrev pub top_lines : ℕ → List (List ℕ) → List (List ℕ)
+top_lines n lines = top_from true n lines
+
+-- a text as a body, all of it or its top
+abbrev pub text_body : Option ℕ → List ℕ → List ℕ
+text_body None text = stuffed_lines (lines_of_text text)
+text_body (Some n) text = stuffed_lines (top_lines n (lines_of_text text))
+
+-- ---- the table: what a state and a command ask for
+
+pub data Deed : Type 0 where
+  -- this answer, and this next state; the maildrop isn't asked
+  Say : List ℕ → State → Deed
+  -- the maildrop is listed
+  Open : Deed
+  -- the text at a place is given behind a first line, all of it or its top
+  Give : List Row → ℕ → List ℕ → Option ℕ → Deed
+  -- the marked messages are removed
+  Leave : List Row → Deed
+
+abbrev pub in_authorization : List ℕ → List ℕ → Option (List ℕ) → Command → Deed
+in_authorization user pass kept (User name) = Say (said (codes "+OK send PASS")) (Authorization (Some name))
+in_authorization user pass None (Pass word) = Say (said (codes "-ERR USER first")) (Authorization None)
+in_authorization user pass (Some name) (Pass word) =
+    if bytes_eq name user && bytes_eq word pass then Open else Say (said (codes "-ERR refused")) (Authorization None)
+in_authorization user pass kept Quit = Say (said (codes "+OK bye")) Closed
+in_authorization user pass kept command = Say (said (codes "-ERR not now")) (Authorization kept)
+
+abbrev pub give : List Row → ℕ → Option Row → (Row → List ℕ) → Option ℕ → Deed
+give rows k None line top = Say (said (codes "-ERR no such message")) (Transaction rows)
+give rows k (Some row) line top = Give rows (k - 1) (said (line row)) top
+
+abbrev pub octets_line : Row → List ℕ
+octets_line row = codes "+OK " ++ decimal row.entry.size ++ codes " octets"
+
+abbrev pub dele : List Row → ℕ → Option Row → Deed
+dele rows k None = Say (said (codes "-ERR no such message")) (Transaction rows)
+dele rows k (Some row) = Say (said (codes "+OK marked")) (Transaction (mark_at rows (k - 1)))
+
+abbrev pub in_transaction : List Row → Command → Deed
+in_transaction rows (User name) = Say (said (codes "-ERR not now")) (Transaction rows)
+in_transaction rows (Pass word) = Say (said (codes "-ERR not now")) (Transaction rows)
+in_transaction rows Stat =
+    Say (said (codes "+OK " ++ decimal (left_count rows) ++ codes " " ++ decimal (left_total rows))) (Transaction rows)
+in_transaction rows ListAll = Say (listed scan_line rows) (Transaction rows)
+in_transaction rows UidlAll = Say (listed uid_line rows) (Transaction rows)
+in_transaction rows (ListOne k) =
+    Say (of_row (λ row. said (codes "+OK " ++ scan_line k row)) (row_at rows k)) (Transaction rows)
+in_transaction rows (UidlOne k) =
+    Say (of_row (λ row. said (codes "+OK " ++ uid_line k row)) (row_at rows k)) (Transaction rows)
+in_transaction rows (Retr k) = give rows k (row_at rows k) octets_line None
+in_transaction rows (Top k n) = give rows k (row_at rows k) (λ row. codes "+OK") (Some n)
+in_transaction rows (Dele k) = dele rows k (row_at rows k)
+in_transaction rows Rset = Say (said (codes "+OK")) (Transaction (map unmarked rows))
+in_transaction rows Noop = Say (said (codes "+OK")) (Transaction rows)
+in_transaction rows Quit = Leave rows
+
+-- what a line asks for, by the command that it stands for or its fault; a closed server isn't asked
+abbrev pub deed : List ℕ → List ℕ → State → Result Command WireFault → Deed
+deed user pass state (Err fault) = Say (said (codes "-ERR bad command")) state
+deed user pass (Authorization kept) (Ok command) = in_authorization user pass kept command
+deed user pass (Transaction rows) (Ok command) = in_transaction rows command
+deed user pass Closed (Ok command) = Say [] Closed
+
+-- ---- what is done
+
+-- what follows of a maildrop's messages, under its premise
+abbrev pub Known : {D : Type 0} → (D → Type 0) → (D → Mail) → D → D → (Mail → Mail → Type 0) → Type 0
+Known sound mail old new Follows = sound new → sound old × Follows (mail old) (mail new)
+
+-- the removal of the message at a place was tried, and done or not
+abbrev pub Tries : Mail → ℕ → Bool → Mail → Type 0
+Tries old i true new = new ≡ removed old i
+Tries old i false new = (new ≡ refusing (asked old)) ⊎ (new ≡ refusing (removed old i))
+
+-- the marked messages from place i on were removed in order, each tried; the flag says whether all were
+pub data Empties : ℕ → List Row → Mail → Bool → Mail → Type 0 where
+  none : (i : ℕ) (old : Mail) → Empties i [] old true old
+  stays : (i : ℕ) (row : Row) (rows : List Row) (old : Mail) (all : Bool) (new : Mail)
+      → row.marked ≡ false → Empties (i + 1) rows old all new → Empties i (row ∷ rows) old all new
+  goes : (i : ℕ) (row : Row) (rows : List Row) (old mid : Mail) (done all : Bool) (new : Mail)
+      → row.marked ≡ true → Tries old i done mid → Empties (i + 1) rows mid all new → Empties i (row ∷ rows) old (done && all) new
+
+-- how many messages are marked
+abbrev pub marked_count : List Row → ℕ
+marked_count rows = count_by (λ (row : Row). row.marked) rows
+
+-- removals are asked for at QUIT alone, one for each marked message; so it is of every maildrop
+abbrev pub AsksRemovals : Mail → Deed → Mail → Type 0
+AsksRemovals old (Say bytes state) new = new.removals ≡ old.removals
+AsksRemovals old Open new = new.removals ≡ old.removals
+AsksRemovals old (Give rows i line top) new = new.removals ≡ old.removals
+AsksRemovals old (Leave rows) new = new.removals ≡ min (old.removals + marked_count rows) (2 ^ 64 - 1)
+
+-- the maildrop refused its listing, or there are as many rows as messages, nothing marked
+abbrev pub Opens : {D : Type 0} → (D → Type 0) → (D → Mail) → D → List ℕ → State → D → Type 0
+Opens sound mail old answer next new =
+    ((answer ≡ said (codes "-ERR maildrop unavailable")) × (next ≡ Authorization None)
+    × Known sound mail old new (λ before after. after ≡ refusing before))
+    ⊎ ((rows : List Row) × (answer ≡ said (codes "+OK " ++ decimal (length rows) ++ codes " messages"))
+    × (next ≡ Transaction rows)
+    × Known sound mail old new (λ before after. (after ≡ record before { slots = map Some (there before.slots) })
+    × (rows ≡ map row_of (there before.slots))))
+
+-- the text was refused, or stands in the answer
+abbrev pub GivesText : {D : Type 0} → (D → Type 0) → (D → Mail) → ℕ → List ℕ → Option ℕ → D → List ℕ → D → Type 0
+GivesText sound mail i line top old answer new =
+    ((answer ≡ said (codes "-ERR message unavailable"))
+    × Known sound mail old new (λ before after. after ≡ refusing before))
+    ⊎ ((text : List ℕ) × (answer ≡ line ++ text_body top text)
+    × Known sound mail old new (λ before after. (after ≡ before)
+    × ((message : Message) × (slice_get before.slots i ≡ Some (Some message)) × (text ≡ message.text))))
+
+-- the marked messages were removed, all of them or not
+abbrev pub Leaves : {D : Type 0} → (D → Type 0) → (D → Mail) → List Row → D → List ℕ → D → Type 0
+Leaves sound mail rows old answer new =
+    (all : Bool) × (answer ≡ said (if all then codes "+OK bye" else codes "-ERR some messages not removed"))
+    × Known sound mail old new (λ before after. Empties 0 rows before all after)
+
+abbrev pub Does : {D : Type 0} → (D → Type 0) → (D → Mail) → Deed → D → List ℕ → State → D → Type 0
+Does sound mail (Say bytes state) old answer next new = (answer ≡ bytes) × (next ≡ state) × (new ≡ old)
+Does sound mail Open old answer next new = Opens sound mail old answer next new
+Does sound mail (Give rows i line top) old answer next new =
+    (next ≡ Transaction rows) × GivesText sound mail i line top old answer new
+Does sound mail (Leave rows) old answer next new = (next ≡ Closed) × Leaves sound mail rows old answer new
+
+-- a deed was done: its answer, the next state, and the maildrop before and after
+pub record Answers {D : Type 0} (sound : D → Type 0) (mail : D → Mail) (asked_for : Deed) (old : D) (answer : List ℕ) (next : State) (new : D) : Type 0 where
+  pub removals : AsksRemovals (mail old) asked_for (mail new)
+  pub does : Does sound mail asked_for old answer next new
+
+-- nothing was answered for want of memory: no message changed and no count, whatever places there are
+pub record Unanswered {D : Type 0} (sound : D → Type 0) (mail : D → Mail) (old new : D) : Type 0 where
+  pub refused : (mail new).refused ≡ (mail old).refused
+  pub removals : (mail new).removals ≡ (mail old).removals
+  pub messages : Known sound mail old new (λ before after. there after.slots ≡ there before.slots)
+
+-- ---- a whole server
+
+abbrev pub is_open : State → Bool
+is_open (Authorization kept) = true
+is_open (Transaction rows) = true
+is_open Closed = false
+
+-- each row's message is there, while there are rows
+abbrev pub Tied : Type 0 → Mail → State → Type 0
+Tied sound mail (Authorization kept) = Unit {0}
+Tied sound mail (Transaction rows) = sound → (i : ℕ) (row : Row) → slice_get rows i ≡ Some row → HasPlace mail i
+Tied sound mail Closed = Unit {0}
+
+-- whom it lets in, where it stands, and its maildrop
+pub record Machine (D : Type 0) : Type 0 where
+  pub user : List ℕ
+  pub pass : List ℕ
+  pub state : State
+  pub drop : D

@@ -1,0 +1,11 @@
+//! A POP3 server as a machine of lines, over any maildrop (RFC 1939).
+#![tactic(auto)]
+
+mod maildrops;
+mod memory_drop;
+mod size;
+mod state;
+
+pub use maildrops::{DropFault, Entry, MAX_COUNT, MAX_SIZE, Maildrop};
+pub use memory_drop::MemoryDrop;
+pub use size::size_of;

@@ -1,0 +1,218 @@
+//! A maildrop in memory.
+ghost use Rattle.std.specs.Prelude.{◌≡◌, ◌≤◌, ◌<◌, ◌∷◌, [], ◌++◌, ◌↔◌, ◌==◌, IsTrue, IfOk, IfErr, OnErr, IsOk, map, length, vec_len, Some};
+ghost use Rattle.std.specs.List.{Contains};
+ghost use Rattle.pop3_wire.specs.Fields.{is_legal_id};
+ghost use Rattle.pop3_wire.specs.World.{Message};
+ghost use Rattle.pop3_server.specs.Size.{size_of};
+ghost use Rattle.pop3_server.specs.Maildrop.{Mail, Listed, counted, there, ids, entry_of, AreDistinct, HasPlace, Lists, Gives, Removes, Tallies};
+
+use crate::maildrops::{DropFault, Entry, MAX_COUNT, MAX_SIZE, Maildrop};
+use crate::size::size_of;
+use pop3_wire::Bytes;
+use std::alloc::{AllocError, Global};
+use std::marker::Model;
+
+/// A message, with the size of its text.
+#[derive(Drop)]
+struct Kept {
+    entry: Entry,
+    text: Vec<u8>,
+}
+
+impl Model for Kept {
+    ghost use Rattle.std.specs.Prelude.{◌≡◌};
+    ghost use Rattle.pop3_wire.specs.World.{Message};
+    ghost use Rattle.pop3_server.specs.Size.{size_of};
+
+    ghost Value = { Message };
+
+    ghost view = { λ k. record { uid = k.entry.uid; size = k.entry.size; text = k.text.items } };
+
+    ghost invariant = { λ k. k.entry.size ≡ size_of k.text.items };
+}
+
+impl Kept {
+    /// A message of this id and text.
+    fn new(alloc: Global, uid: &[u8], text: &[u8]) -> Result<Kept, AllocError>
+        requires legal { IsTrue (is_legal_id uid.now) }
+        requires within { size_of text.now ≤ MAX_SIZE }
+        ensures { IfOk result (λ kept. kept ≡ record { uid = uid.now; size = size_of text.now; text = text.now }) }
+    {
+        let size = size_of(text);
+        let uid = Bytes::from_vec(Vec::from_slice(alloc, uid)?);
+        let text = Vec::from_slice(alloc, text)?;
+        Ok(Kept {
+            entry: Entry::new(uid, size),
+            text,
+        })
+    }
+
+    /// What a listing says of it.
+    fn listed(&self, alloc: Global) -> Result<Entry, AllocError>
+        ensures { IfOk result (λ entry. entry ≡ entry_of self.now) }
+    {
+        let uid = Bytes::from_vec(Vec::from_slice(alloc, self.entry.uid())?);
+        Ok(Entry::new(uid, self.entry.size()))
+    }
+
+    /// Whether it has this id.
+    fn is(&self, uid: &[u8]) -> bool
+        ensures { IsTrue result ↔ (self.now.uid ≡ uid.now) }
+    {
+        self.entry.uid() == uid
+    }
+
+    /// Its text.
+    fn copied(&self, alloc: Global) -> Result<Vec<u8>, AllocError>
+        ensures { IfOk result (λ text. text.items ≡ self.now.text) }
+    {
+        Vec::from_slice(alloc, self.text.as_slice())
+    }
+}
+
+/// How many messages these places hold.
+fn count(slots: &[Option<Kept>]) -> usize
+    ensures value { result ≡ length (there slots.now) }
+    ensures within { result ≤ length slots.now }
+{
+    let mut count = 0;
+    for slot in slots {
+        match slot {
+            None => {}
+            Some(_) => count += 1,
+        }
+    }
+    count
+}
+
+/// What a listing says of the messages in these places.
+fn list(alloc: Global, slots: &[Option<Kept>]) -> Result<Vec<Entry>, AllocError>
+    ensures { IfOk result (λ entries. entries.items ≡ map entry_of (there slots.now)) }
+{
+    let mut entries = Vec::new(alloc);
+    for slot in slots {
+        match slot {
+            None => {}
+            Some(kept) => entries.push(kept.listed(alloc)?)?,
+        }
+    }
+    Ok(entries)
+}
+
+/// Whether one of the messages has this id.
+fn has_id(slots: &[Option<Kept>], uid: &[u8]) -> bool
+    ensures { IsTrue result ↔ Contains (ids slots.now) uid.now }
+{
+    for slot in slots {
+        match slot {
+            None => {}
+            Some(kept) => {
+                if kept.is(uid) {
+                    return true;
+                }
+            }
+        }
+    }
+    false
+}
+
+/// A maildrop in memory. It refuses nothing but for want of memory.
+#[derive(Drop)]
+pub struct MemoryDrop {
+    alloc: Global,
+    slots: Vec<Option<Kept>>,
+    removals: u64,
+}
+
+impl Model for MemoryDrop {
+    ghost use Rattle.std.specs.Prelude.{◌≤◌, length};
+    ghost use Rattle.pop3_server.specs.Maildrop.{Mail, there, ids, AreDistinct};
+
+    ghost Value = { Mail };
+
+    ghost view = { λ d. record { slots = d.slots.items; refused = 0; removals = d.removals } };
+
+    ghost invariant = { λ d. AreDistinct (ids d.slots.items) × (length (there d.slots.items) ≤ 100000) };
+}
+
+impl MemoryDrop {
+    /// A maildrop without messages.
+    pub fn new(alloc: Global) -> MemoryDrop
+        ensures { result ≡ record { slots = []; refused = 0; removals = 0 } }
+    {
+        MemoryDrop {
+            alloc,
+            slots: Vec::new(alloc),
+            removals: 0,
+        }
+    }
+
+    /// How many messages there are.
+    pub fn len(&self) -> usize
+        ensures value { result ≡ length (there self.now.slots) }
+        ensures within { result ≤ MAX_COUNT }
+    {
+        count(self.slots.as_slice())
+    }
+
+    /// Whether there is no message.
+    pub fn is_empty(&self) -> bool
+        ensures { IsTrue result ↔ (there self.now.slots ≡ []) }
+    {
+        self.len() == 0
+    }
+
+    /// Whether a message has this id.
+    pub fn contains(&self, uid: &[u8]) -> bool
+        ensures { IsTrue result ↔ Contains (ids self.now.slots) uid.now }
+    {
+        has_id(self.slots.as_slice(), uid)
+    }
+
+    /// Puts a message behind the others. The conditions are tested by `is_legal_id`, `contains`,
+    /// `size_of` and `len`. A text whose last line has no LF is served with that line ended.
+    pub fn push(&mut self, uid: &[u8], text: &[u8]) -> Result<(), AllocError>
+        requires legal { IsTrue (is_legal_id uid.now) }
+        requires absent { Contains (ids self.old.slots) uid.now → ⊥ }
+        requires within { size_of text.now ≤ MAX_SIZE }
+        requires room { length (there self.old.slots) < MAX_COUNT }
+        ensures ok { IfOk result (λ _. self.new ≡ record self.old {
+          slots = self.old.slots ++ Some (record { uid = uid.now; size = size_of text.now; text = text.now }) ∷ [];
+        }) }
+        ensures err { OnErr result (self.new ≡ self.old) }
+    {
+        let kept = Kept::new(self.alloc, uid, text)?;
+        self.slots.push(Some(kept))?;
+        Ok(())
+    }
+}
+
+impl Maildrop for MemoryDrop {
+    ghost mail = { λ d. d };
+
+    ghost sound = { λ d. Unit {0} };
+
+    fn entries(&mut self) -> Result<Vec<Entry>, DropFault> {
+        let entries = list(self.alloc, self.slots.as_slice())?;
+        self.slots.retain(|slot| slot.is_some());
+        Ok(entries)
+    }
+
+    fn text(&mut self, i: usize) -> Result<Vec<u8>, DropFault> {
+        match self.slots.get(i) {
+            Some(Some(kept)) => Ok(kept.copied(self.alloc)?),
+            _ => unreachable!(),
+        }
+    }
+
+    fn remove(&mut self, i: usize) -> Result<(), DropFault> {
+        self.slots[i] = None;
+        self.removals = self.removals.saturating_add(1);
+        Ok(())
+    }
+
+    fn failures(&self) -> u64 {
+        let _removals = self.removals;
+        0
+    }
+}

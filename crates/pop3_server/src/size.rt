@@ -1,0 +1,60 @@
+//! Sizes of texts, in octets as they go over the wire without stuffing: each line's end counts as
+//! two, and a last piece without LF is a line (RFC 1939, section 11).
+ghost use Rattle.std.specs.Prelude.{◌≡◌, ◌++◌, ℕ, List, [], Bool, true, false, ◌+◌, if◌then◌else◌};
+ghost use Rattle.pop3_server.specs.Size.{Counts, weight, size_of, capped};
+
+/// A count of a text that is read piece by piece.
+#[derive(Clone, Copy)]
+pub struct SizeCount {
+    octets: u64,
+    in_line: bool,
+}
+
+/// The octets that a byte of a text adds.
+fn weight_of(byte: u8) -> u64
+    ensures { result ≡ weight byte }
+{
+    if byte == b'\n' { 2 } else { 1 }
+}
+
+impl SizeCount {
+    /// The count of the empty text.
+    pub fn new() -> SizeCount
+        ensures { Counts result [] }
+    {
+        SizeCount {
+            octets: 0,
+            in_line: false,
+        }
+    }
+
+    /// Counts one more piece.
+    pub fn add(&mut self, piece: &[u8])
+        ensures { (before : List ℕ) → Counts self.old before → Counts self.new (before ++ piece.now) }
+    {
+        for byte in piece {
+            self.octets = self.octets.saturating_add(weight_of(*byte));
+            self.in_line = *byte != b'\n';
+        }
+    }
+
+    /// The size of what was counted.
+    pub fn size(&self) -> u64
+        ensures { (text : List ℕ) → Counts self.now text → result ≡ capped (size_of text) }
+    {
+        if self.in_line {
+            self.octets.saturating_add(2)
+        } else {
+            self.octets
+        }
+    }
+}
+
+/// The size of a text in octets, or the greatest number where it is above that.
+pub fn size_of(text: &[u8]) -> u64
+    ensures { result ≡ capped (size_of text.now) }
+{
+    let mut count = SizeCount::new();
+    count.add(text);
+    count.size()
+}
