@@ -17,8 +17,8 @@ pub fn without_dot(line: &[u8]) -> &[u8]
     }
 }
 
-/// Whether the line is the end mark.
-fn is_end_mark(line: &[u8]) -> bool
+/// Whether the line is the one that ends a body: a full stop alone.
+pub fn is_end_mark(line: &[u8]) -> bool
     ensures { IsTrue result ↔ (line.now ≡ dot) }
 {
     line == b".".as_slice()

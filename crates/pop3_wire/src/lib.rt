@@ -19,7 +19,7 @@ mod stuffing;
 mod unstuffer;
 mod wire;
 
-pub use body::{unstuff, without_dot};
+pub use body::{is_end_mark, unstuff, without_dot};
 pub use body_reader::{BodyFault, read_body};
 pub use bytes::Bytes;
 pub use command::{Command, command_bytes};

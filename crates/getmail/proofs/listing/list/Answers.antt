@@ -1,0 +1,13 @@
+use Rattle.pop3_wire.specs.Place.{at}
+use Rattle.getmail.specs.Conversation.{list}
+use Rattle.getmail.specs.Listing.{IsScanRow, scan_pairs}
+use Rattle.getmail.proofs.ListingLemmas.{lists_of}
+use Rattle.getmail.proofs.listing.list.Goals as goal
+
+pub returns-clause-lists : goal.returns-clause-lists
+returns-clause-lists g c sound =
+    let takes = c.scan_rows.ensures.takes sound in
+    let asks = c.in_default.ensures.asks takes.0 in
+    (asks.0, g.met.W.Wire.leads_on _ _ _ asks.1 takes.1,
+      lists_of list IsScanRow asks.2.0 (at (g.W.Wire.seen c.args.wire.now) c.args.reader.now) (at (g.W.Wire.seen c.ask.new.wire) c.ask.new.reader)
+        (at (g.W.Wire.seen c.scan_rows.new.wire) c.scan_rows.new.reader) (scan_pairs c.scan_rows.result) asks.2.1 tt takes.2)

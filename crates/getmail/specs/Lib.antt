@@ -1,0 +1,4 @@
+pub mod Conversation
+pub mod Fault
+pub mod First
+pub mod Listing

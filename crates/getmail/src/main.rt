@@ -1,0 +1,37 @@
+//! Fetches mail from a POP3 server. So far it rehearses: it holds the conversation of a small session
+//! with its standard input, and shows what it would send and store.
+#![tactic(auto)]
+
+mod fault;
+mod first;
+mod listing;
+mod rehearsal;
+mod talk;
+mod transcript;
+
+use std::env;
+use std::process::ExitCode;
+use std::string::String;
+use std::vec::Vec;
+
+use crate::rehearsal::rehearse;
+
+/// Whether the words after the program's name are the one word `--rehearse`.
+fn asks_to_rehearse(words: &[String]) -> bool {
+    words.len() == 2 && words[1].as_str() == "--rehearse"
+}
+
+fn main(rt: HostRuntime) -> ExitCode {
+    let words: Vec<String> = match env::args(&rt) {
+        Ok(words) => match words.collect(rt.alloc()) {
+            Ok(words) => words,
+            Err(_) => return ExitCode::from(2),
+        },
+        Err(_) => return ExitCode::from(2),
+    };
+    if !asks_to_rehearse(&words) {
+        let _ = rt.eprintln("getmail: usage: getmail --rehearse");
+        return ExitCode::from(2);
+    }
+    ExitCode::from(rehearse(rt.alloc(), rt.stdin(), rt.stdout()))
+}

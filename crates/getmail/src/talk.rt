@@ -1,0 +1,192 @@
+//! One turn of a conversation: a command is sent, and the first line of its reply is read
+//! (RFC 1939, section 3).
+ghost use Rattle.std.specs.Prelude.{◌≡◌, ◌≢◌, ◌≤◌, ◌+◌, ◌++◌, ◌⊎◌, ℕ, List, [], length, take, drop, IfOk, IfErr};
+ghost use Rattle.pop3_wire.specs.Link.{Tallies};
+ghost use Rattle.pop3_wire.specs.Place.{at, Gains, GoesOn, HasLine};
+ghost use Rattle.pop3_wire.specs.Reply.{IsFirstLine};
+ghost use Rattle.pop3_wire.specs.Fields.{number_and_size};
+ghost use Rattle.getmail.specs.Conversation.{Waits, Heard, Sent, Asks, Counts, Left, turn_of, greeting, stat, tail, refusal_of, TellsFew};
+
+use pop3_wire::{LineFault, LineReader, Status, Wire, read_stat, read_status};
+
+use crate::fault::{Asked, Fault};
+
+/// Takes from the link until a line of a reply waits, and says how long it is. It still waits then.
+pub fn next_line<W: Wire>(wire: &mut W, reader: &mut LineReader) -> Result<usize, Fault>
+    ensures counted {
+        Tallies (W.seen wire.old).failures (refusal_of result) (W.seen wire.new).failures
+    }
+    ensures line { IfOk result (HasLine 2048 reader.new) }
+    ensures waits {
+        W.sound wire.new → W.sound wire.old × W.leads_to wire.old wire.new
+            × ((gained : List ℕ) × Gains (at (W.seen wire.old) reader.old) (at (W.seen wire.new) reader.new) gained)
+            × Waits (at (W.seen wire.old) reader.old) result (at (W.seen wire.new) reader.new)
+    }
+{
+    match reader.line(wire, 2048) {
+        Ok(length) => Ok(length),
+        Err(LineFault::Ended) => Err(Fault::ConnectionEnded),
+        Err(LineFault::Failed) => Err(Fault::ReadFailed),
+        Err(LineFault::TooLong) => Err(Fault::ReplyTooLong),
+    }
+}
+
+/// Sends bytes.
+fn say<W: Wire>(wire: &mut W, bytes: &[u8]) -> Result<(), Fault>
+    ensures counted {
+        Tallies (W.seen wire.old).failures (refusal_of result) (W.seen wire.new).failures
+    }
+    ensures sent {
+        W.sound wire.new → W.sound wire.old × W.leads_to wire.old wire.new
+            × Sent bytes.now (W.seen wire.old) result (W.seen wire.new)
+    }
+{
+    match wire.send(bytes) {
+        Ok(()) => Ok(()),
+        Err(_) => Err(Fault::WriteFailed),
+    }
+}
+
+/// Waits for a positive first line, and says how long it is. It still waits then.
+fn hear<W: Wire>(wire: &mut W, reader: &mut LineReader, asked: Asked) -> Result<usize, Fault>
+    ensures counted {
+        Tallies (W.seen wire.old).failures (refusal_of result) (W.seen wire.new).failures
+    }
+    ensures line { IfOk result (HasLine 2048 reader.new) }
+    ensures positive {
+        IfOk result (λ n. (rest : List ℕ) × IsFirstLine (take n reader.new) Status.Positive rest)
+    }
+    ensures heard {
+        W.sound wire.new → W.sound wire.old × W.leads_to wire.old wire.new
+            × ((gained : List ℕ) × Gains (at (W.seen wire.old) reader.old) (at (W.seen wire.new) reader.new) gained)
+            × Heard asked (at (W.seen wire.old) reader.old) result (at (W.seen wire.new) reader.new)
+    }
+{
+    let length = match next_line(wire, reader) {
+        Ok(length) => length,
+        Err(fault) => return Err(fault),
+    };
+    match read_status(&reader.waiting()[..length]) {
+        Ok((Status::Positive, _)) => Ok(length),
+        Ok((Status::Negative, _)) => Err(Fault::Refused(asked)),
+        Err(_) => Err(Fault::BadReply),
+    }
+}
+
+/// Takes the greeting.
+pub fn greet<W: Wire>(wire: &mut W, reader: &mut LineReader) -> Result<(), Fault>
+    ensures counted {
+        Tallies (W.seen wire.old).failures (refusal_of result) (W.seen wire.new).failures
+    }
+    ensures asks {
+        W.sound wire.new → W.sound wire.old × W.leads_to wire.old wire.new
+            × Asks greeting (at (W.seen wire.old) reader.old) result (at (W.seen wire.new) reader.new)
+    }
+{
+    let length = match hear(wire, reader, Asked::Greeting) {
+        Ok(length) => length,
+        Err(fault) => return Err(fault),
+    };
+    reader.skip(length + 2);
+    Ok(())
+}
+
+/// Sends a command, and takes the first line of its reply.
+pub fn ask<W: Wire>(
+    wire: &mut W,
+    reader: &mut LineReader,
+    asked: Asked,
+    bytes: &[u8],
+) -> Result<(), Fault>
+    requires { asked ≢ Asked.Stat }
+    ensures counted {
+        Tallies (W.seen wire.old).failures (refusal_of result) (W.seen wire.new).failures
+    }
+    ensures asks {
+        W.sound wire.new → W.sound wire.old × W.leads_to wire.old wire.new
+            × Asks (turn_of asked bytes.now) (at (W.seen wire.old) reader.old) result (at (W.seen wire.new) reader.new)
+    }
+{
+    if let Err(fault) = say(wire, bytes) {
+        return Err(fault);
+    }
+    let length = match hear(wire, reader, asked) {
+        Ok(length) => length,
+        Err(fault) => return Err(fault),
+    };
+    reader.skip(length + 2);
+    Ok(())
+}
+
+/// The number of messages that a positive first line tells. BadReply where it tells none, TooMany
+/// where it is above 1.
+fn count_of(line: &[u8]) -> Result<u32, Fault>
+    requires { (rest : List ℕ) × IsFirstLine line.now Status.Positive rest }
+    ensures { TellsFew line.now result }
+{
+    let rest = match read_status(line) {
+        Ok((_, rest)) => rest,
+        Err(_) => return Err(Fault::BadReply),
+    };
+    let count = match read_stat(rest) {
+        Ok((count, _)) => count,
+        Err(_) => return Err(Fault::BadReply),
+    };
+    if count > 1 {
+        return Err(Fault::TooMany);
+    }
+    Ok(count)
+}
+
+/// Asks how many messages there are.
+pub fn stat<W: Wire>(wire: &mut W, reader: &mut LineReader) -> Result<u32, Fault>
+    ensures counted {
+        Tallies (W.seen wire.old).failures (refusal_of result) (W.seen wire.new).failures
+    }
+    ensures counts {
+        W.sound wire.new → W.sound wire.old × W.leads_to wire.old wire.new
+            × Counts stat (at (W.seen wire.old) reader.old) result (at (W.seen wire.new) reader.new)
+    }
+{
+    if let Err(fault) = say(wire, b"STAT\r\n") {
+        return Err(fault);
+    }
+    let length = match hear(wire, reader, Asked::Stat) {
+        Ok(length) => length,
+        Err(fault) => return Err(fault),
+    };
+    match count_of(&reader.waiting()[..length]) {
+        Ok(count) => {
+            reader.skip(length + 2);
+            Ok(count)
+        }
+        Err(fault) => Err(fault),
+    }
+}
+
+/// What is sent after a fault: QUIT where a command was refused, but for QUIT itself.
+fn tail_of(fault: Fault) -> &'static [u8]
+    ensures { result.now ≡ tail fault }
+{
+    match fault {
+        Fault::Refused(Asked::Quit) => b"",
+        Fault::Refused(_) => b"QUIT\r\n",
+        _ => b"",
+    }
+}
+
+/// Leaves after a fault: what follows it is sent, and one line of the reply to it is read.
+pub fn leave<W: Wire>(wire: &mut W, reader: &mut LineReader, fault: Fault)
+    ensures left {
+        W.sound wire.new → W.sound wire.old × W.leads_to wire.old wire.new
+            × Left fault (W.seen wire.old) (W.seen wire.new)
+    }
+{
+    let tail = tail_of(fault);
+    if tail.is_empty() {
+        return;
+    }
+    if say(wire, tail).is_ok() {
+        let _ = reader.line(wire, 2048);
+    }
+}

@@ -1,0 +1,49 @@
+//! What a rehearsal shows of the commands that it sends.
+use std::io;
+use std::io::Write;
+
+/// A writer that shows each command that is written to it on a line of its own, behind `C: `. The
+/// argument of PASS is shown as `*`. Each command has to come in one write.
+#[derive(Drop)]
+pub struct Transcript<W> {
+    writer: W,
+}
+
+/// Writes a command's line as it is shown.
+fn show<W: Write>(writer: &mut W, command: &[u8]) -> io::Result<()> {
+    writer.write_all(b"C: ")?;
+    if command.starts_with(b"PASS ") {
+        writer.write_all(b"PASS *")?;
+    } else {
+        writer.write_all(command)?;
+    }
+    writer.write_all(b"\n")
+}
+
+impl<W: Write> Transcript<W> {
+    /// Shows commands on a writer.
+    pub fn new(writer: W) -> Transcript<W> {
+        Transcript { writer }
+    }
+
+    /// The writer, given back.
+    pub fn into_inner(self) -> W {
+        let Transcript { writer } = self;
+        writer
+    }
+}
+
+impl<W: Write> Write for Transcript<W> {
+    fn write(&mut self, buf: &[u8]) -> io::Result<usize> {
+        let command = match buf.strip_suffix(b"\r\n".as_slice()) {
+            Some(command) => command,
+            None => buf,
+        };
+        show(&mut self.writer, command)?;
+        Ok(buf.len())
+    }
+
+    fn flush(&mut self) -> io::Result<()> {
+        self.writer.flush()
+    }
+}
