@@ -1,4 +1,7 @@
-"""What the benchmarks share: where the programs are, and the time and the memory of one run."""
+"""What the benchmarks share: where the programs are, and the time and the memory of one run.
+
+The modules of `tests/harness` can be imported once this one is.
+"""
 
 import os
 import sys
@@ -8,6 +11,8 @@ from pathlib import Path
 
 ROOT = Path(__file__).resolve().parents[1]
 MEBIBYTE = 1 << 20
+
+sys.path.insert(0, str(ROOT / "tests"))
 
 
 @dataclass(frozen=True)

@@ -52,7 +52,7 @@ class Dialogue:
 
     def read_line(self, end=b"\n"):
         """The next line of output, its end included."""
-        deadline = time.monotonic() + programs.SECONDS
+        deadline = time.monotonic() + programs.NEXT_OUTPUT_SECONDS
         while end not in self.waiting:
             if not self._take(deadline - time.monotonic()):
                 raise AssertionError(f"no whole line was written: {self.waiting!r}")
@@ -65,7 +65,7 @@ class Dialogue:
 
     def finish(self):
         """What the program writes from here to its end, and its exit status; its input stays as it is."""
-        deadline = time.monotonic() + programs.SECONDS
+        deadline = time.monotonic() + programs.NEXT_OUTPUT_SECONDS
         while self._take(deadline - time.monotonic()):
             pass
         status = self.process.wait(timeout=max(deadline - time.monotonic(), 0.001))

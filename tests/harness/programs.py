@@ -12,8 +12,10 @@ from pathlib import Path
 ROOT = Path(__file__).resolve().parents[2]
 NAMES = ("getmail", "popd")
 
-# No run of a program, and no wait for its next output, takes longer than this, whatever else the machine does.
+# Bounds on time, far above what is needed whatever else the machine does: on one run of a program or one connection,
+# and on the wait for the next output of a program that has all it needs for it.
 SECONDS = 60
+NEXT_OUTPUT_SECONDS = 15
 
 _placed: dict[str, Path] = {}
 

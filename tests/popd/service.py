@@ -10,9 +10,9 @@ import time
 from pathlib import Path
 from unittest import mock
 
-from harness import programs
+from harness import kernel, programs
+from harness.kernel import LOOPBACK
 
-ADDRESS = "127.0.0.1"
 PORT_TRIES = 10
 
 
@@ -49,7 +49,7 @@ class Client:
     """A POP3 client over a plain socket; every wait has a bound."""
 
     def __init__(self, port):
-        self.socket = socket.create_connection((ADDRESS, port), timeout=programs.SECONDS)
+        self.socket = socket.create_connection((LOOPBACK, port), timeout=programs.SECONDS)
         self.file = self.socket.makefile("rb")
 
     def __enter__(self):
@@ -113,9 +113,9 @@ class Service:
 
     def __enter__(self):
         for _ in range(PORT_TRIES):
-            self.port = free_port()
+            self.port = kernel.free_port()
             self.process = subprocess.Popen(
-                [programs.path_of("popd"), "--listen", f"{ADDRESS}:{self.port}", *self.words, "u", self.maildir.passfile,
+                [programs.path_of("popd"), "--listen", f"{LOOPBACK}:{self.port}", *self.words, "u", self.maildir.passfile,
                  self.maildir.folder], env=programs.environment(**self.environment), stdin=subprocess.DEVNULL,
                 stdout=subprocess.DEVNULL, stderr=subprocess.PIPE)
             if self.is_listening():
@@ -132,7 +132,7 @@ class Service:
         """Waits until the server listens; false where it ended first, as where its port was taken meanwhile."""
         deadline = time.monotonic() + programs.SECONDS
         while self.process.poll() is None and time.monotonic() < deadline:
-            if listens(self.port):
+            if kernel.listens(self.port):
                 return True
             time.sleep(0.005)
         return False
@@ -142,34 +142,19 @@ class Service:
 
     def library_client(self):
         """Python's own POP3 client, logged in."""
-        client = poplib.POP3(ADDRESS, self.port, timeout=programs.SECONDS)
+        client = poplib.POP3(LOOPBACK, self.port, timeout=programs.SECONDS)
         client.user("u")
         client.pass_("p")
         return client
 
     def peak_of_memory(self):
         """The most memory that the server has had so far, in octets."""
-        status = Path(f"/proc/{self.process.pid}/status").read_text()
-        return int(status.split("VmHWM:")[1].split()[0]) * 1024
+        return kernel.peak_of_memory(self.process.pid)
 
     def finish(self):
         """Waits until the server ends by itself; its status and what it told on standard error."""
         _, err = self.process.communicate(timeout=programs.SECONDS)
         return self.process.returncode, err
-
-
-def free_port():
-    """A port of loopback that nobody has now."""
-    with socket.socket() as probe:
-        probe.bind((ADDRESS, 0))
-        return probe.getsockname()[1]
-
-
-def listens(port):
-    """True where a socket of loopback listens on the port."""
-    wanted = f"0100007F:{port:04X}"
-    rows = (row.split() for row in Path("/proc/net/tcp").read_text().splitlines()[1:])
-    return any(row[1] == wanted and row[3] == "0A" for row in rows)
 
 
 def long_lines_allowed():

@@ -5,6 +5,8 @@ import poplib
 import unittest
 from contextlib import closing
 
+from harness import programs
+from harness.kernel import LOOPBACK
 from popd import expected
 from popd.service import Maildir, Service, long_lines_allowed
 
@@ -233,7 +235,7 @@ class Changes(unittest.TestCase):
 
     def test_python_refuses_a_wrong_password(self):
         with Service(self.maildir) as service, self.assertRaisesRegex(poplib.error_proto, "-ERR refused"):
-            client = poplib.POP3("127.0.0.1", service.port, timeout=60)
+            client = poplib.POP3(LOOPBACK, service.port, timeout=programs.SECONDS)
             with closing(client):
                 client.user("u")
                 client.pass_("q")

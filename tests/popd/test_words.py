@@ -7,7 +7,8 @@ import unittest
 from pathlib import Path
 
 from harness import programs
-from popd.service import ADDRESS, Maildir
+from harness.kernel import LOOPBACK
+from popd.service import Maildir
 
 WRONG_COUNT = programs.Run(2, b"", b"popd: wrong number of arguments\n")
 READY = b"+OK popd ready\r\n"
@@ -65,14 +66,14 @@ class Words(unittest.TestCase):
                     self.assertEqual(self.run_popd(*link, "u", name, "missing"), told(f"cannot read {name}"))
 
     def test_an_address_that_cannot_be_bound(self):
-        with socket.create_server((ADDRESS, 0)) as taken:
-            for address in ("nonsense", "", ":", f"{ADDRESS}:65536", f"{ADDRESS}:", f"{ADDRESS}:{taken.getsockname()[1]}",
+        with socket.create_server((LOOPBACK, 0)) as taken:
+            for address in ("nonsense", "", ":", f"{LOOPBACK}:65536", f"{LOOPBACK}:", f"{LOOPBACK}:{taken.getsockname()[1]}",
                             "192.0.2.1:0"):
                 with self.subTest(address):
                     self.assertEqual(self.run_popd("--listen", address, *self.served), told(f"cannot listen on {address}"))
 
     def test_no_connection_at_all(self):
-        run = self.run_popd("--listen", f"{ADDRESS}:0", "--connections", "0", *self.served)
+        run = self.run_popd("--listen", f"{LOOPBACK}:0", "--connections", "0", *self.served)
         self.assertEqual(run, programs.Run(0, b"", b""))
 
     def test_words_without_effect(self):
