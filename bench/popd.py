@@ -131,7 +131,8 @@ def print_speed(name, count, ours, theirs):
     """Prints both servers' speed, each from its best turn, and answers their ratio."""
     best = [min(fetches, key=lambda fetch: fetch.seconds) for fetches in (ours, theirs)]
     for server, fetch in zip(("popd", "prepared replies"), best):
-        print(f"  {name}, {server}: {count / fetch.seconds:.0f} messages/s, {fetch.octets / fetch.seconds / 1e6:.0f} MB/s")
+        print(f"  {name}, {server}: {count / fetch.seconds:.0f} messages/s, "
+              f"{fetch.octets / fetch.seconds / 1e6:.0f} MB/s")
     return best[1].seconds / best[0].seconds
 
 

@@ -154,8 +154,8 @@ def refused_conversations():
 def misunderstood_conversations():
     """Each first line in turn is none."""
     for place, name in enumerate(PLACES):
-        for line in ("", "ok", "+ok", "+Ok hi", "-err no", "-Err", " +OK", "+O", "+ OK", "-ER", "+", "\0+OK", "x" * 2046,
-                     "\n+OK", "\r+OK", ".", "..", "1 18"):
+        for line in ("", "ok", "+ok", "+Ok hi", "-err no", "-Err", " +OK", "+O", "+ OK", "-ER", "+", "\0+OK",
+                     "x" * 2046, "\n+OK", "\r+OK", ".", "..", "1 18"):
             yield cut(f"{name} answered by {line[:9]!r}", up_to(place, wire(line)), place, NOT_UNDERSTOOD)
 
 
@@ -168,7 +168,8 @@ def stat_conversations():
     for rest in ("", " ", " 1", " 1 ", "1", " x", " x 18", " 1 x", " 1x 18", " -1 18", " 1 -18", " +1 18", " 1 +18",
                  " 1,18", " 1\t18", "\t1 18", " 1 \t18", " 4294967296 18", " 1 18446744073709551616", " 0x1 18",
                  " 000000000000000000001 18", " 1 000000000000000000018", " 99999999999999999999 1",
-                 " 1 99999999999999999999", " 18446744073709551617 18", " 1 36893488147419103233", " \xb9 18", " 1\0 18"):
+                 " 1 99999999999999999999", " 18446744073709551617 18", " 1 36893488147419103233", " \xb9 18",
+                 " 1\0 18"):
         yield cut(f"STAT not understood: {rest!r}", up_to(STAT, wire("+OK" + rest)), STAT, NOT_UNDERSTOOD)
     for count in ("2", "3", "100000", "100001", "4294967295", "00000000000000000002"):
         yield cut(f"STAT counts {count}", up_to(STAT, wire(f"+OK {count} 10")), STAT, TOO_MANY)
@@ -208,7 +209,8 @@ def disagreeing_conversations():
             ("both of 2", ["2 a", "."], ["2 5", "."]), ("number 0", ["0 a", "."], ["1 5", "."]),
             ("size of number 0", ["1 a", "."], ["0 5", "."]),
             ("two ids", ["1 a", "2 b", "."], ["1 5", "."]), ("two sizes", ["1 a", "."], ["1 5", "2 6", "."]),
-            ("the same row twice", ["1 a", "1 a", "."], ["1 5", "."]), ("two rows of 1", ["1 a", "."], ["1 5", "1 6", "."]),
+            ("the same row twice", ["1 a", "1 a", "."], ["1 5", "."]),
+            ("two rows of 1", ["1 a", "."], ["1 5", "1 6", "."]),
             ("two of each", ["1 a", "2 b", "."], ["1 5", "2 6", "."]),
             ("the greatest number", ["4294967295 a", "."], ["1 5", "."])):
         given = up_to(UIDL, wire("+OK", *uids) + wire("+OK", *sizes))
@@ -216,8 +218,10 @@ def disagreeing_conversations():
     no_message = replies(STAT=wire("+OK 0 0"), **one)
     yield Conversation("listings of one message, none counted", no_message,
                        printed(COMMANDS[:LIST], f"cut {LISTINGS_DISAGREE}"), 1)
-    yield cut("an id too many, and LIST refused", up_to(UIDL, wire("+OK", "1 a", "2 b", ".", "-ERR", "+OK")), LIST, REFUSED)
-    yield cut("an id too many, and a bad size", up_to(UIDL, wire("+OK", "1 a", "2 b", ".", "+OK", "x")), LIST, BAD_LISTING)
+    yield cut("an id too many, and LIST refused", up_to(UIDL, wire("+OK", "1 a", "2 b", ".", "-ERR", "+OK")), LIST,
+              REFUSED)
+    yield cut("an id too many, and a bad size", up_to(UIDL, wire("+OK", "1 a", "2 b", ".", "+OK", "x")), LIST,
+              BAD_LISTING)
 
 
 def long_listing_conversations():
@@ -230,7 +234,8 @@ def long_listing_conversations():
         yield cut(f"{name} with half a row too many", up_to(place, full + b"1 "), place, ENDED_EARLY)
         yield cut(f"{name} with a long row too many", up_to(place, full + b"x" * LINE_LIMIT), place, TOO_LONG)
         yield cut(f"{name} with a bad row before the last", up_to(place, full[:-5] + wire("x") * 2), place, BAD_LISTING)
-    yield cut("UIDL with as many rows as may be", up_to(UIDL, wire("+OK") + wire("1 a") * ROW_LIMIT + wire(".") + REPLIES[LIST]),
+    yield cut("UIDL with as many rows as may be",
+              up_to(UIDL, wire("+OK") + wire("1 a") * ROW_LIMIT + wire(".") + REPLIES[LIST]),
               LIST, LISTINGS_DISAGREE)
     yield cut("LIST with as many rows as may be", up_to(LIST, wire("+OK") + wire("1 5") * ROW_LIMIT + wire(".")),
               LIST, LISTINGS_DISAGREE)
@@ -255,14 +260,16 @@ def long_line_conversations():
                 ("a CR as the last octet that may be", b"+OK" + b"x" * (LINE_LIMIT - 4) + b"\r"),
                 ("NULs", bytes(10_000)), ("line feeds", b"\n" * 10_000), ("CRs", b"\r" * 10_000)):
             yield cut(f"{name}: {what}", up_to(place, instead), place, TOO_LONG)
-        yield cut(f"{name}: one octet less than may be, and the end", up_to(place, b"+OK" + b"x" * (LINE_LIMIT - 4)), place,
-                  ENDED_EARLY)
+        yield cut(f"{name}: one octet less than may be, and the end", up_to(place, b"+OK" + b"x" * (LINE_LIMIT - 4)),
+                  place, ENDED_EARLY)
     long_size = padded("1 18", LINE_LIMIT)
     long_id = wire("1 a1" + " " * (LINE_LIMIT - 6))
     yield ended("a row of LIST of the greatest length", replies(LIST=wire("+OK") + long_size + wire(".")))
     yield ended("a row of UIDL of the greatest length", replies(UIDL=wire("+OK") + long_id + wire(".")))
-    yield cut("a row of LIST of one octet more", up_to(LIST, wire("+OK") + padded("1 18", LINE_LIMIT + 1)), LIST, TOO_LONG)
-    yield cut("a row of UIDL of one octet more", up_to(UIDL, wire("+OK", "1 a1" + " " * (LINE_LIMIT - 5))), UIDL, TOO_LONG)
+    yield cut("a row of LIST of one octet more", up_to(LIST, wire("+OK") + padded("1 18", LINE_LIMIT + 1)), LIST,
+              TOO_LONG)
+    yield cut("a row of UIDL of one octet more", up_to(UIDL, wire("+OK", "1 a1" + " " * (LINE_LIMIT - 5))), UIDL,
+              TOO_LONG)
 
 
 def short_conversations():

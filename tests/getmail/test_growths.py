@@ -1,4 +1,4 @@
-"""Want of memory: with each growth refused in turn, the answer is the conversation's own, or that memory was wanting."""
+"""Want of memory: with each growth refused in turn, the answer is the right one, or that memory was wanting."""
 
 import unittest
 

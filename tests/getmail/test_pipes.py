@@ -52,7 +52,8 @@ class OneReplyAtATime(unittest.TestCase):
             (known.QUIT, b"-ERR\r\n", known.REFUSED),
         )
         for place, reply, fault in faults:
-            with self.subTest(place=known.PLACES[place], reply=reply[:20]), Dialogue("getmail", "--rehearse") as program:
+            with self.subTest(place=known.PLACES[place], reply=reply[:20]), Dialogue("getmail",
+                                                                                     "--rehearse") as program:
                 wanted = known.cut("", b"", place, fault)
                 program.give(known.up_to(place, reply))
                 self.assertEqual(program.finish(), (wanted.printed, wanted.status))

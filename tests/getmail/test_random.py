@@ -9,9 +9,9 @@ import unittest
 from getmail import conversations, expected
 from harness import programs
 
-PIECES = (b"+OK", b"-ERR", b"\r\n", b"\r", b"\n", b".", b"..", b".\r\n", b"\r\n.\r\n", b" ", b"  ", b"0", b"1", b"2", b"18",
-          b"a1", b"1 a1\r\n", b"1 18\r\n", b"4294967295", b"4294967296", b"18446744073709551616", b"\0", b"\x7f", b"\xff",
-          b"x" * 70, b"x" * 2048, b"\r\n" * 50, b"+OK 0 0\r\n", b"+OK\r\n.\r\n", b"-ERR no\r\n")
+PIECES = (b"+OK", b"-ERR", b"\r\n", b"\r", b"\n", b".", b"..", b".\r\n", b"\r\n.\r\n", b" ", b"  ", b"0", b"1", b"2",
+          b"18", b"a1", b"1 a1\r\n", b"1 18\r\n", b"4294967295", b"4294967296", b"18446744073709551616", b"\0", b"\x7f",
+          b"\xff", b"x" * 70, b"x" * 2048, b"\r\n" * 50, b"+OK 0 0\r\n", b"+OK\r\n.\r\n", b"-ERR no\r\n")
 
 
 def changed(source, given):

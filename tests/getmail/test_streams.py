@@ -1,5 +1,6 @@
 """Standard input that never ends or can't be read, and standard output that is refused."""
 
+import contextlib
 import os
 import subprocess
 import tempfile
@@ -20,12 +21,11 @@ def run_on_pieces(pieces):
     killer = threading.Timer(programs.SECONDS, process.kill)
     killer.start()
     try:
-        for piece in pieces:
-            process.stdin.write(piece)
-        process.stdin.close()
-    except BrokenPipeError:
-        pass
-    try:
+        with contextlib.suppress(BrokenPipeError):
+            for piece in pieces:
+                process.stdin.write(piece)
+        with contextlib.suppress(BrokenPipeError):
+            process.stdin.close()
         out, err = process.stdout.read(), process.stderr.read()
         return programs.Run(process.wait(), out, err)
     finally:

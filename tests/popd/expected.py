@@ -114,14 +114,21 @@ class Machine:
         if keyword == b"STAT":
             return b"+OK %d %d\r\n" % (len(left), sum(self.messages[number - 1].size() for number in left))
         if keyword in (b"LIST", b"UIDL"):
-            shown = {b"LIST": lambda message: b"%d" % message.size(), b"UIDL": lambda message: message.uid}[keyword]
-            return b"+OK\r\n" + b"".join(b"%d %s\r\n" % (number, shown(self.messages[number - 1])) for number in left) + b".\r\n"
+            return self.listing(keyword, left)
         if keyword == b"QUIT":
             self.is_closed = True
             return b"+OK bye\r\n"
         if keyword == b"RSET":
             self.marked.clear()
         return b"-ERR not now\r\n" if keyword in (b"USER", b"PASS") else b"+OK\r\n"
+
+    def listing(self, keyword, left):
+        """The answer to LIST or UIDL without a number."""
+        rows = b""
+        for number in left:
+            message = self.messages[number - 1]
+            rows += b"%d %s\r\n" % (number, message.uid if keyword == b"UIDL" else b"%d" % message.size())
+        return b"+OK\r\n" + rows + b".\r\n"
 
     def on_message(self, keyword, number, message, more):
         if keyword == b"LIST":

@@ -115,7 +115,8 @@ class Service:
         for _ in range(PORT_TRIES):
             self.port = kernel.free_port()
             self.process = subprocess.Popen(
-                [programs.path_of("popd"), "--listen", f"{LOOPBACK}:{self.port}", *self.words, "u", self.maildir.passfile,
+                [programs.path_of("popd"), "--listen", f"{LOOPBACK}:{self.port}", *self.words, "u",
+                 self.maildir.passfile,
                  self.maildir.folder], env=programs.environment(**self.environment), stdin=subprocess.DEVNULL,
                 stdout=subprocess.DEVNULL, stderr=subprocess.PIPE)
             if self.is_listening():

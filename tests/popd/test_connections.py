@@ -104,7 +104,7 @@ class Memory(unittest.TestCase):
         self.addCleanup(self.maildir.holder.cleanup)
 
     def drive(self, service, piece):
-        """Sends as many whole pieces as one connection may send, reads all answers, and answers how many octets came."""
+        """Sends as much of the piece as one connection may, reads all answers, and answers how many octets came."""
         with service.client() as client:
             given = piece * (expected.INPUT_LIMIT // len(piece))
             given += b"x" * (expected.INPUT_LIMIT - len(given))
@@ -115,7 +115,8 @@ class Memory(unittest.TestCase):
         return got
 
     def test_sixteen_mebioctets_on_one_connection(self):
-        pieces = ((b"NOOP\r\n", 14), (b"x" * 65_536, 0), (b"USER " + b"n" * 500 + b"\r\n", 15), (b"x" * 600 + b"\r\n", 18),
+        pieces = ((b"NOOP\r\n", 14), (b"x" * 65_536, 0), (b"USER " + b"n" * 500 + b"\r\n", 15),
+                  (b"x" * 600 + b"\r\n", 18),
                   (b"\0" * 30 + b"\r\n", 18), (b"USER u\r\nPASS q\r\n", 15 + 14), (b"\n" * 4096, 0), (b"\r" * 4096, 0))
         with Service(self.maildir, "--connections", str(len(pieces) + 1)) as service:
             with service.client() as client:

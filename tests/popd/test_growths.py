@@ -79,8 +79,8 @@ class RefusedGrowths(unittest.TestCase):
 
     def two_connections(self, maildir, given, refusal):
         """What two clients got, and how the server ended; None where memory was wanting before it listened."""
-        run = programs.run("popd", "--listen", f"{LOOPBACK}:0", "--connections", "0", "u", maildir.passfile, maildir.folder,
-                           **refusal.environment())
+        run = programs.run("popd", "--listen", f"{LOOPBACK}:0", "--connections", "0", "u", maildir.passfile,
+                           maildir.folder, **refusal.environment())
         if run.status != 0:
             self.assertEqual(run, programs.Run(1, b"", NO_MEMORY), f"growth {refusal.number} refused")
             return None

@@ -168,8 +168,8 @@ class Changes(unittest.TestCase):
     def test_reset_takes_the_marks_back(self):
         with Service(self.maildir, "--connections", "1") as service, service.client() as client:
             client.log_in()
-            for command, answer in ((b"DELE 1", b"+OK marked\r\n"), (b"RSET", b"+OK\r\n"), (b"DELE 2", b"+OK marked\r\n"),
-                                    (b"QUIT", b"+OK bye\r\n")):
+            for command, answer in ((b"DELE 1", b"+OK marked\r\n"), (b"RSET", b"+OK\r\n"),
+                                    (b"DELE 2", b"+OK marked\r\n"), (b"QUIT", b"+OK bye\r\n")):
                 self.assertEqual(client.ask(command), answer)
             self.assertEqual(client.rest(), b"")
             service.finish()

@@ -8,9 +8,9 @@ from harness.dialogue import Dialogue
 from popd import expected, lines
 
 PIECES = (*(line.encode() + b"\r\n" for line in
-            ("USER u", "PASS p", "STAT", "LIST", "LIST 1", "UIDL", "UIDL 2", "RETR 1", "RETR 2", "TOP 1 0", "TOP 2 1", "DELE 1",
-             "DELE 2", "RSET", "NOOP", "RETR 3", "LIST 0", "noop", "XYZ", "USER v", "PASS q", "STAT ", "TOP 1 4294967295",
-             "DELE 4294967296", "")),
+            ("USER u", "PASS p", "STAT", "LIST", "LIST 1", "UIDL", "UIDL 2", "RETR 1", "RETR 2", "TOP 1 0", "TOP 2 1",
+             "DELE 1", "DELE 2", "RSET", "NOOP", "RETR 3", "LIST 0", "noop", "XYZ", "USER v", "PASS q", "STAT ",
+             "TOP 1 4294967295", "DELE 4294967296", "")),
           b"\r", b"\n", b"\0", b" ", b"\xff", b"RETR ", b"x" * 300, b"QUIT\r\n")
 
 
@@ -70,7 +70,8 @@ class Rehearsal(unittest.TestCase):
 
     def test_zeros_without_end(self):
         with open("/dev/zero", "rb") as zeros:
-            self.assertEqual(programs.run("popd", "--rehearse", given=zeros), programs.Run(0, b"+OK popd ready\r\n", b""))
+            self.assertEqual(programs.run("popd", "--rehearse", given=zeros),
+                             programs.Run(0, b"+OK popd ready\r\n", b""))
 
 
 class OneLineAtATime(unittest.TestCase):

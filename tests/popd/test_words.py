@@ -36,7 +36,8 @@ class Words(unittest.TestCase):
                     self.assertIn(word, run.out)
 
     def test_words_that_are_refused(self):
-        for words in (["--listens"], ["-x"], ["--connections", "x"], ["--connections", "-1"], ["--connections", "4294967296"],
+        for words in (["--listens"], ["-x"], ["--connections", "x"], ["--connections", "-1"],
+                      ["--connections", "4294967296"],
                       ["--connections", ""], ["--connections", "1.5"], ["--connections"], ["--listen"],
                       ["--connections", "1", "--connections", "1"], ["--listen", "a:1", "--listen", "a:1"],
                       ["--rehearse=1"], ["--rehearse", "--connections", "x"]):
@@ -48,7 +49,8 @@ class Words(unittest.TestCase):
                     self.assertNotEqual(run, WRONG_COUNT)
 
     def test_wrong_number_of_arguments(self):
-        for words in ([], ["u"], ["u", "missing"], [*self.served, "more"], ["--rehearse", "u"], ["--rehearse", *self.served],
+        for words in ([], ["u"], ["u", "missing"], [*self.served, "more"], ["--rehearse", "u"],
+                      ["--rehearse", *self.served],
                       ["--listen", "nonsense"], ["--listen", "nonsense", "u", "missing"], ["--connections", "0"], [""],
                       ["u", "missing", "missing", "missing"], ["--", "--rehearse"]):
             with self.subTest(words):
@@ -67,10 +69,11 @@ class Words(unittest.TestCase):
 
     def test_an_address_that_cannot_be_bound(self):
         with socket.create_server((LOOPBACK, 0)) as taken:
-            for address in ("nonsense", "", ":", f"{LOOPBACK}:65536", f"{LOOPBACK}:", f"{LOOPBACK}:{taken.getsockname()[1]}",
-                            "192.0.2.1:0"):
+            for address in ("nonsense", "", ":", f"{LOOPBACK}:65536", f"{LOOPBACK}:",
+                            f"{LOOPBACK}:{taken.getsockname()[1]}", "192.0.2.1:0"):
                 with self.subTest(address):
-                    self.assertEqual(self.run_popd("--listen", address, *self.served), told(f"cannot listen on {address}"))
+                    self.assertEqual(self.run_popd("--listen", address, *self.served),
+                                     told(f"cannot listen on {address}"))
 
     def test_no_connection_at_all(self):
         run = self.run_popd("--listen", f"{LOOPBACK}:0", "--connections", "0", *self.served)
@@ -89,19 +92,22 @@ class PasswordFile(unittest.TestCase):
 
     def log_in(self, content, password):
         with Maildir(content) as maildir:
-            run = programs.run("popd", "u", maildir.passfile, maildir.folder, given=b"USER u\r\nPASS " + password + b"\r\n")
+            run = programs.run("popd", "u", maildir.passfile, maildir.folder,
+                               given=b"USER u\r\nPASS " + password + b"\r\n")
         self.assertEqual((run.status, run.err), (0, b""))
         return run.out.splitlines()[-1]
 
     def test_passwords_that_are_right(self):
         for content, password in ((b"p\n", b"p"), (b"p", b"p"), (b"p\r\n", b"p"), (b"p\r", b"p"), (b"p\nq\n", b"p"),
-                                  (b"a b c\n", b"a b c"), (b" p \n", b" p "), (b"\xc3\xa4\n", b"\xc3\xa4"), (b"\xff\n", b"\xff"),
+                                  (b"a b c\n", b"a b c"), (b" p \n", b" p "), (b"\xc3\xa4\n", b"\xc3\xa4"),
+                                  (b"\xff\n", b"\xff"),
                                   (b"x" * 500 + b"\n", b"x" * 500), (b"p\r\nq\r\n", b"p"), (b"a\tb\n", b"a\tb")):
             with self.subTest(content):
                 self.assertEqual(self.log_in(content, password), b"+OK 0 messages")
 
     def test_passwords_that_are_wrong(self):
-        for content, password in ((b"p\n", b"q"), (b"p\n", b"p\\n"), (b"p\nq\n", b"q"), (b" p\n", b"p"), (b"p \n", b"p"),
+        for content, password in ((b"p\n", b"q"), (b"p\n", b"p\\n"), (b"p\nq\n", b"q"), (b" p\n", b"p"),
+                                  (b"p \n", b"p"),
                                   (b"\n", b"p"), (b"", b"p"), (b"\n", b" "), (b"\r\n", b"\t"), (b"\np\n", b"p"),
                                   (b"P\n", b"p"), (b"x" * 501 + b"\n", b"x" * 500)):
             with self.subTest(content):
