@@ -96,9 +96,11 @@ class Input(unittest.TestCase):
                 run = self.run_from(known.RETR, (b"+OK\r\n", *octets(known.BODY_LIMIT + PIECE, piece)))
                 self.check_cut(run, known.RETR, known.TEXT_TOO_LONG)
 
-    def test_a_message_that_ends_an_octet_before_it_is_too_long(self):
-        run = self.run_from(known.RETR, (b"+OK\r\n", *octets(known.BODY_LIMIT - 1)))
-        self.check_cut(run, known.RETR, known.ENDED_EARLY)
+    def test_a_message_that_ends_under_way(self):
+        """Before it is too long the end of input is the fault, and from there on its length."""
+        for length, fault in ((known.BODY_LIMIT - 1, known.ENDED_EARLY), (known.BODY_LIMIT, known.TEXT_TOO_LONG)):
+            with self.subTest(length):
+                self.check_cut(self.run_from(known.RETR, (b"+OK\r\n", *octets(length))), known.RETR, fault)
 
 
 class Output(unittest.TestCase):
