@@ -115,10 +115,11 @@ class Memory(unittest.TestCase):
         return got
 
     def test_sixteen_mebioctets_on_one_connection(self):
-        pieces = ((b"NOOP\r\n", 14), (b"x" * 65_536, 0), (b"USER " + b"n" * 500 + b"\r\n", 15),
-                  (b"x" * 600 + b"\r\n", 18),
-                  (b"\0" * 30 + b"\r\n", 18), (b"USER u\r\nPASS q\r\n", 15 + 14), (b"\n" * 4096, 0), (b"\r" * 4096, 0))
-        with Service(self.maildir, "--connections", str(len(pieces) + 1)) as service:
+        name, password = b"USER " + b"n" * 500 + b"\r\n", b"PASS " + b"q" * 500 + b"\r\n"
+        pieces = ((name, 15), (name + password, 15 + 14), (b"NOOP" + b" " * 100 + b"\r\n", 14),
+                  (b"x" * 600 + b"\r\n", 18), (b"\0" * 100 + b"\r\n", 18), (b"x" * 65_536, 0), (b"\n" * 4096, 0),
+                  (b"\r" * 4096, 0))
+        with Service(self.maildir, "--connections", str(len(pieces) + 2)) as service:
             with service.client() as client:
                 client.line()
             before = service.peak_of_memory()
@@ -126,8 +127,9 @@ class Memory(unittest.TestCase):
                 with self.subTest(piece[:16]):
                     octets = len(READY) + answer * (expected.INPUT_LIMIT // len(piece))
                     self.assertEqual(self.drive(service, piece), octets)
-                    if service.process.poll() is None:
-                        self.assertLess(service.peak_of_memory() - before, ROOM)
+                    self.assertLess(service.peak_of_memory() - before, ROOM)
+            with service.client() as client:
+                self.assertEqual(client.log_in(), b"+OK 0 messages\r\n")
             self.assertEqual(service.finish(), (0, b""))
 
     def test_a_client_that_reads_nothing(self):
