@@ -5,14 +5,15 @@ import unittest
 from getmail import conversations as known
 from harness import growths, programs
 
-WITHOUT_MEMORY = known.printed([], f"cut {known.NO_MEMORY}")
+# Where the words can't be had, the program has not begun to rehearse.
+NO_WORDS = programs.Run(2, b"", b"getmail: usage: getmail --rehearse\n")
 
 
-def commands_only(out, answer):
-    """True where `out` is some of the first lines of `answer`, each of them a command and whole."""
-    lines = out.splitlines(keepends=True)
-    return (answer.splitlines(keepends=True)[:len(lines)] == lines
-            and all(line.startswith(b"C: ") for line in lines))
+def cut_answers(answer):
+    """The outputs of a conversation that is cut for want of memory, after any number of its commands."""
+    commands = [line for line in answer.out.splitlines(keepends=True) if line.startswith(b"C: ")]
+    cut = known.printed([], f"cut {known.NO_MEMORY}")
+    return [b"".join(commands[:count]) + cut for count in range(len(commands) + 1)]
 
 
 class RefusedGrowths(unittest.TestCase):
@@ -29,14 +30,18 @@ class RefusedGrowths(unittest.TestCase):
 
     @staticmethod
     def kind_of(run, answer):
-        """How a run ended: with its own answer, cut for want of memory, or given up; None for anything else."""
+        """How a run ended: with its own answer, cut for want of memory, or given up; None for anything else.
+
+        A run that is given up, since memory was wanting outside the conversation, wrote the beginning of what it would
+        have written otherwise.
+        """
         if run == answer:
             return "its own"
-        if run.status != 1 or run.err:
-            return None
-        if run.out.endswith(WITHOUT_MEMORY) and commands_only(run.out[:-len(WITHOUT_MEMORY)], answer.out):
+        cuts = cut_answers(answer)
+        if run in [programs.Run(1, out, b"") for out in cuts]:
             return "cut"
-        return "given up" if commands_only(run.out, answer.out) else None
+        begun = any(out.startswith(run.out) for out in (answer.out, *cuts))
+        return "given up" if run == NO_WORDS or (begun and (run.status, run.err) == (1, b"")) else None
 
     def test_one_message(self):
         wanted = known.ended("", known.replies())
