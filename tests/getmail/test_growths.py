@@ -10,8 +10,12 @@ NO_WORDS = programs.Run(2, b"", b"getmail: usage: getmail --rehearse\n")
 
 
 def cut_answers(answer):
-    """The outputs of a conversation that is cut for want of memory, after any number of its commands."""
-    commands = [line for line in answer.out.splitlines(keepends=True) if line.startswith(b"C: ")]
+    """The outputs of a conversation that is cut for want of memory: after any number of its commands, QUIT apart.
+
+    QUIT needs no memory any more, planned or after a refusal.
+    """
+    lines = answer.out.splitlines(keepends=True)
+    commands = [line for line in lines if line.startswith(b"C: ") and line != b"C: QUIT\n"]
     cut = known.printed([], f"cut {known.NO_MEMORY}")
     return [b"".join(commands[:count]) + cut for count in range(len(commands) + 1)]
 
