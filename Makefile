@@ -1,0 +1,41 @@
+# getmail and popd: to build them, to try them out, to check them.
+#
+#   make            proves and builds the programs, and leaves them in bin/
+#   make rehearse   the same for getmail, which then runs on the recorded conversation in examples/
+#   make check      the gate: every proof, then every test; its last line is 'N passed, 0 failed'
+#   make test       builds the programs, then runs the tests from outside alone
+#   make bench      builds the programs, then prints their speed and memory as ratios; not in the gate
+
+SHELL := /bin/bash
+.SHELLFLAGS := -eu -o pipefail -c
+
+# The programs among the crates that crates.txt lists.
+crates := $(shell sed -e 's/\#.*//' -e 's/:.*//' crates.txt)
+programs := $(filter getmail popd,$(crates))
+
+.PHONY: all rehearse check test bench clean $(programs)
+.NOTPARALLEL:
+
+all: $(programs)
+
+# `rt run` builds a program once it is proved, and runs it: here on its recorded conversation,
+# with which it ends well, so that whatever fails is the proof, the build or the program.
+$(programs):
+	cd crates/$@ && rt run -- --rehearse < $(CURDIR)/examples/$@-rehearsal.txt > /dev/null
+	mkdir -p bin
+	install -m 755 crates/$@/out/$@ bin/$@
+
+rehearse: getmail
+	bin/getmail --rehearse < examples/getmail-rehearsal.txt
+
+check:
+	@tests/gate.sh
+
+test: all
+	python3 tests/run.py
+
+bench: all
+	@for program in $(programs); do python3 bench/$$program.py; done
+
+clean:
+	rm -rf bin

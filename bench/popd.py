@@ -1,0 +1,171 @@
+#!/usr/bin/env python3
+"""Benchmark of `popd`: a plain socket client fetches 2,000 messages of 2 KB and 20 of 5 MB, one command at a time.
+
+In the same run the same client fetches the same messages from `prepared_server.py`, fifty lines of Python that only
+write replies made before. For both: messages and octets a second and their ratio, the best of some turns taken one
+after the other; for `popd` the peak of memory too. To be reached: faster than that server on small messages, and
+memory of no more than the largest message and its reply together, beside what the server needs for an empty maildrop.
+"""
+
+import socket
+import subprocess
+import sys
+import tempfile
+import time
+from dataclasses import dataclass
+from pathlib import Path
+
+import measure
+from harness import kernel
+from harness.kernel import LOOPBACK
+
+TURNS = 5
+SECONDS = 60
+LETTER_LINE = b"A line of a common length, as a letter to somebody has them.\n"
+PREPARED_SERVER = Path(__file__).with_name("prepared_server.py")
+
+
+@dataclass(frozen=True)
+class Fetch:
+    """One connection in which every message was fetched: its time from the first RETR on, and what came."""
+
+    seconds: float
+    octets: int
+    memory: int
+
+
+class Client:
+    """A POP3 client that takes a reply as it comes and looks for nothing but its end."""
+
+    def __init__(self, port):
+        self.socket = socket.create_connection((LOOPBACK, port), timeout=SECONDS)
+        self.socket.setsockopt(socket.IPPROTO_TCP, socket.TCP_NODELAY, 1)
+
+    def reply(self, end):
+        """Reads up to `end`, which closes the reply, and answers how many octets came."""
+        count, last = 0, b""
+        while not last.endswith(end):
+            piece = self.socket.recv(measure.MEBIBYTE)
+            if not piece:
+                sys.exit("the server ended the connection")
+            count += len(piece)
+            last = (last + piece)[-len(end):]
+        return count
+
+    def log_in(self):
+        self.reply(b"\r\n")
+        for command in (b"USER u\r\n", b"PASS p\r\n"):
+            self.socket.sendall(command)
+            self.reply(b"\r\n")
+
+    def fetch(self, count):
+        """Fetches the messages 1 to `count`, each once the one before has come; how many octets came."""
+        octets = 0
+        for number in range(1, count + 1):
+            self.socket.sendall(b"RETR %d\r\n" % number)
+            octets += self.reply(b"\r\n.\r\n")
+        return octets
+
+
+def fetch_all(port, count, process):
+    """One connection to the server that listens on the port."""
+    client = Client(port)
+    client.log_in()
+    begun = time.perf_counter()
+    octets = client.fetch(count)
+    seconds = time.perf_counter() - begun
+    memory = kernel.peak_of_memory(process.pid)
+    client.socket.sendall(b"QUIT\r\n")
+    client.reply(b"\r\n")
+    client.socket.close()
+    process.wait(timeout=SECONDS)
+    return Fetch(seconds, octets, memory)
+
+
+def fetch_from_popd(maildir, count):
+    """Fetches all messages from `popd` over the Maildir."""
+    port = kernel.free_port()
+    words = [measure.program("popd"), "--listen", f"{LOOPBACK}:{port}", "--connections", "1", "u",
+             str(maildir.parent / "password"), str(maildir)]
+    with subprocess.Popen(words) as process:
+        wait_until(lambda: kernel.listens(port) or process.poll() is not None)
+        return fetch_all(port, count, process)
+
+
+def fetch_from_prepared(maildir, count):
+    """Fetches all messages from the server with prepared replies."""
+    port_file = maildir.parent / "port"
+    port_file.unlink(missing_ok=True)
+    paths = sorted((maildir / "new").iterdir())
+    with subprocess.Popen([sys.executable, PREPARED_SERVER, port_file, *paths]) as process:
+        wait_until(lambda: port_file.exists() and port_file.read_text().endswith("\n"))
+        return fetch_all(int(port_file.read_text()), count, process)
+
+
+def wait_until(holds):
+    deadline = time.monotonic() + SECONDS
+    while not holds():
+        if time.monotonic() > deadline:
+            sys.exit("a server did not begin to listen")
+        time.sleep(0.005)
+
+
+def make_maildir(folder, count, octets):
+    """A Maildir of `count` messages of about so many octets each."""
+    maildir = Path(folder) / f"Maildir-{count}"
+    for part in ("tmp", "new", "cur"):
+        (maildir / part).mkdir(parents=True)
+    (Path(folder) / "password").write_bytes(b"p\n")
+    for number in range(count):
+        (maildir / "new" / f"{number:06}").write_bytes(LETTER_LINE * (octets // len(LETTER_LINE)))
+    return maildir
+
+
+def fetch_in_turns(maildir, count):
+    """The fetches from `popd` and from the prepared server, some of each, taken one after the other."""
+    turns = [(fetch_from_popd(maildir, count), fetch_from_prepared(maildir, count)) for _ in range(TURNS)]
+    return tuple(zip(*turns))
+
+
+def print_speed(name, count, ours, theirs):
+    """Prints both servers' speed, each from its best turn, and answers their ratio."""
+    best = [min(fetches, key=lambda fetch: fetch.seconds) for fetches in (ours, theirs)]
+    for server, fetch in zip(("popd", "prepared replies"), best):
+        print(f"  {name}, {server}: {count / fetch.seconds:.0f} messages/s, "
+              f"{fetch.octets / fetch.seconds / 1e6:.0f} MB/s")
+    return best[1].seconds / best[0].seconds
+
+
+def measure_small(folder):
+    """Many small messages: what counts is the speed."""
+    name, count = "2,000 of 2 KB", 2000
+    ours, theirs = fetch_in_turns(make_maildir(folder, count, 2_000), count)
+    ratio = print_speed(name, count, ours, theirs)
+    peak = max(fetch.memory for fetch in ours)
+    print(f"  {name}: ratio {ratio:.2f} ({measure.verdict(ratio > 1)}), peak of memory {peak / 1e6:.1f} MB", flush=True)
+
+
+def measure_large(folder):
+    """A few large messages: what counts is the memory."""
+    name, count, octets = "20 of 5 MB", 20, 5_000_000
+    maildir = make_maildir(folder, count, octets)
+    empty = fetch_from_popd(make_maildir(folder, 0, 0), 0).memory
+    ours, theirs = fetch_in_turns(maildir, count)
+    ratio = print_speed(name, count, ours, theirs)
+    peak = max(fetch.memory for fetch in ours)
+    message_and_reply = (maildir / "new" / "000000").stat().st_size + ours[0].octets // count
+    multiple = (peak - empty) / message_and_reply
+    print(f"  {name}: ratio {ratio:.2f}, peak of memory {peak / 1e6:.1f} MB, beside an empty maildrop's "
+          f"{multiple:.2f} of a message and its reply ({measure.verdict(multiple <= 1)})", flush=True)
+
+
+def main():
+    print(f"popd --listen, one command at a time, best of {TURNS}; to be reached: ratio above 1 on small messages, "
+          "memory of the largest message and its reply")
+    with tempfile.TemporaryDirectory() as folder:
+        measure_small(folder)
+        measure_large(folder)
+
+
+if __name__ == "__main__":
+    main()

@@ -1,0 +1,128 @@
+"""What `getmail --rehearse` has to write for any standard input, said once more over the whole input.
+
+The rules are those that `conversations.py` names. Here they are applied to bytes that nobody has looked at, so that a
+random conversation has its exact answer too.
+"""
+
+import re
+
+from getmail import conversations as known
+
+STATUS = re.compile(rb"(\+OK|-ERR) ?(.*)", re.DOTALL)
+STAT_REST = re.compile(rb" *([0-9]{1,20}) +([0-9]{1,20})(?![0-9])")
+UIDL_ROW = re.compile(rb" *([0-9]{1,20}) +([\x21-\x7e]{1,70}) *")
+NUMBER_LIMIT = 2 ** 32
+SIZE_LIMIT = 2 ** 64
+
+
+class Cut(Exception):
+    """The fault that ends a conversation."""
+
+    def __init__(self, fault):
+        super().__init__(fault)
+        self.fault = fault
+
+
+class Input:
+    """The bytes that the server says, and the place up to which they are used."""
+
+    def __init__(self, given):
+        self.given = given
+        self.place = 0
+
+    def line(self):
+        """The next line without its end; cut where it is too long or not there."""
+        end = self.given.find(b"\r\n", self.place, self.place + known.LINE_LIMIT)
+        if end < 0:
+            whole = len(self.given) - self.place >= known.LINE_LIMIT
+            raise Cut(known.TOO_LONG if whole else known.ENDED_EARLY)
+        line = self.given[self.place:end]
+        self.place = end + 2
+        return line
+
+    def first_line(self):
+        """The rest of a positive first line."""
+        match = STATUS.fullmatch(self.line())
+        if not match:
+            raise Cut(known.NOT_UNDERSTOOD)
+        if match[1] == b"-ERR":
+            raise Cut(known.REFUSED)
+        return match[2]
+
+    def rows(self, read_row):
+        """The rows of a listing, each read when it is whole."""
+        rows = []
+        while (line := self.line()) != b".":
+            if len(rows) == known.ROW_LIMIT:
+                raise Cut(known.TOO_MANY)
+            rows.append(read_row(line[1:] if line.startswith(b".") else line))
+        return rows
+
+    def text(self):
+        """The text of a message."""
+        body = self.given[self.place:self.place + known.BODY_LIMIT]
+        mark = (b"\r\n" + body).find(b"\r\n.\r\n")
+        if mark < 0:
+            raise Cut(known.TEXT_TOO_LONG if len(body) == known.BODY_LIMIT else known.ENDED_EARLY)
+        self.place += mark + 3
+        lines = body[:mark].split(b"\r\n")[:-1]
+        return b"".join((line[1:] if line.startswith(b".") else line) + b"\n" for line in lines)
+
+
+def two_numbers(rest, fault):
+    """A number and a size, in the form of STAT's rest and of a row of LIST."""
+    match = STAT_REST.match(rest)
+    if not match or int(match[1]) >= NUMBER_LIMIT or int(match[2]) >= SIZE_LIMIT:
+        raise Cut(fault)
+    return int(match[1]), int(match[2])
+
+
+def size_row(row):
+    return two_numbers(row, known.BAD_LISTING)
+
+
+def uid_row(row):
+    match = UIDL_ROW.fullmatch(row)
+    if not match or int(match[1]) >= NUMBER_LIMIT:
+        raise Cut(known.BAD_LISTING)
+    return int(match[1]), match[2]
+
+
+def fetch(server, sent):
+    """The conversation: notes each command in `sent`, and answers the id and the text, or None."""
+    server.first_line()
+    for command in ("USER u", "PASS *", "STAT"):
+        sent.append(command)
+        rest = server.first_line()
+    count, _ = two_numbers(rest, known.NOT_UNDERSTOOD)
+    if count > 1:
+        raise Cut(known.TOO_MANY)
+    sent.append("UIDL")
+    server.first_line()
+    uids = server.rows(uid_row)
+    sent.append("LIST")
+    server.first_line()
+    sizes = server.rows(size_row)
+    if [number for number, _ in uids] != [1] * count or [number for number, _ in sizes] != [1] * count:
+        raise Cut(known.LISTINGS_DISAGREE)
+    stored = None
+    if count == 1:
+        sent.append("RETR 1")
+        server.first_line()
+        stored = uids[0][1], server.text()
+    sent.append("QUIT")
+    server.first_line()
+    return stored
+
+
+def answer(given):
+    """What is to be written to standard output, and the status."""
+    sent = []
+    try:
+        stored = fetch(Input(given), sent)
+    except Cut as cut:
+        if cut.fault == known.REFUSED and sent[-1:] != ["QUIT"]:
+            sent.append("QUIT")
+        return known.printed(sent, f"cut {cut.fault}"), 1
+    last = [b"stored %s %d" % (stored[0], len(stored[1]))] if stored else []
+    return known.printed(sent, *last, "ended"), 0

@@ -1,0 +1,68 @@
+"""Want of memory: with each growth refused in turn, the answer is the right one, or that memory was wanting."""
+
+import unittest
+
+from getmail import conversations as known
+from harness import growths, programs
+
+# Where the words can't be had, the program has not begun to rehearse.
+NO_WORDS = programs.Run(2, b"", b"getmail: usage: getmail --rehearse\n")
+
+
+def cut_answers(answer):
+    """The outputs of a conversation that is cut for want of memory: after any number of its commands, QUIT apart.
+
+    QUIT needs no memory any more, planned or after a refusal.
+    """
+    lines = answer.out.splitlines(keepends=True)
+    commands = [line for line in lines if line.startswith(b"C: ") and line != b"C: QUIT\n"]
+    cut = known.printed([], f"cut {known.NO_MEMORY}")
+    return [b"".join(commands[:count]) + cut for count in range(len(commands) + 1)]
+
+
+class RefusedGrowths(unittest.TestCase):
+    def check_each_growth(self, given, answer):
+        """Runs the conversation with each growth refused; how the runs ended, by number of the growth."""
+        kinds = []
+        for refusal in growths.refusals():
+            run = programs.run("getmail", "--rehearse", given=given, **refusal.environment())
+            kind = self.kind_of(run, answer)
+            self.assertTrue(kind, f"growth {refusal.number} refused: {run}")
+            kinds.append(kind)
+        self.assertEqual(kinds.pop(), "its own", "with nothing refused the answer has to be the conversation's")
+        return kinds
+
+    @staticmethod
+    def kind_of(run, answer):
+        """How a run ended: with its own answer, cut for want of memory, or given up; None for anything else.
+
+        A run that is given up, since memory was wanting outside the conversation, wrote the beginning of what it would
+        have written otherwise.
+        """
+        if run == answer:
+            return "its own"
+        cuts = cut_answers(answer)
+        if run in [programs.Run(1, out, b"") for out in cuts]:
+            return "cut"
+        begun = any(out.startswith(run.out) for out in (answer.out, *cuts))
+        return "given up" if run == NO_WORDS or (begun and (run.status, run.err) == (1, b"")) else None
+
+    def test_one_message(self):
+        wanted = known.ended("", known.replies())
+        kinds = self.check_each_growth(wanted.given, programs.Run(0, wanted.printed, b""))
+        self.assertIn("cut", kinds, "no refusal reached the conversation")
+
+    def test_a_longer_message(self):
+        lines = 5000
+        given = known.replies(RETR=known.wire("+OK") + b"z" * 70 + known.wire("", *["z" * 70] * (lines - 1), "."))
+        wanted = known.ended("", given, length=71 * lines)
+        kinds = self.check_each_growth(given, programs.Run(0, wanted.printed, b""))
+        self.assertIn("cut", kinds)
+
+    def test_a_cut_conversation(self):
+        for place, reply, fault in ((known.PASS, known.wire("-ERR", "+OK"), known.REFUSED),
+                                    (known.UIDL, known.wire("+OK", "x"), known.BAD_LISTING),
+                                    (known.RETR, known.wire("+OK", "x"), known.ENDED_EARLY)):
+            with self.subTest(known.PLACES[place]):
+                wanted = known.cut("", known.up_to(place, reply), place, fault)
+                self.check_each_growth(wanted.given, programs.Run(1, wanted.printed, b""))

@@ -1,0 +1,28 @@
+"""What the kernel tells of a running server, so that no connection is spent on finding it out."""
+
+import socket
+from pathlib import Path
+
+LOOPBACK = "127.0.0.1"
+_LOOPBACK_IN_TABLE = "0100007F"
+_LISTENING = "0A"
+
+
+def free_port():
+    """A port of loopback that nobody has now."""
+    with socket.socket() as probe:
+        probe.bind((LOOPBACK, 0))
+        return probe.getsockname()[1]
+
+
+def listens(port):
+    """True where a socket of loopback listens on the port."""
+    wanted = f"{_LOOPBACK_IN_TABLE}:{port:04X}"
+    rows = (row.split() for row in Path("/proc/net/tcp").read_text().splitlines()[1:])
+    return any(row[1] == wanted and row[3] == _LISTENING for row in rows)
+
+
+def peak_of_memory(process):
+    """The most memory that the running process of that number has had so far, in octets."""
+    status = Path(f"/proc/{process}/status").read_text()
+    return int(status.split("VmHWM:")[1].split()[0]) * 1024

@@ -1,0 +1,64 @@
+"""Where the built programs stand, and one run of one of them.
+
+A program is looked for where `rt` leaves it, `crates/NAME/out/NAME`, unless `place` named another file for it.
+"""
+
+import os
+import re
+import subprocess
+from dataclasses import dataclass
+from pathlib import Path
+
+ROOT = Path(__file__).resolve().parents[2]
+NAMES = ("getmail", "popd")
+
+# Bounds on time, far above what is needed whatever else the machine does: on one run of a program or one connection,
+# and on the wait for the next output of a program that has all it needs for it.
+SECONDS = 60
+NEXT_OUTPUT_SECONDS = 15
+
+_placed: dict[str, Path] = {}
+
+
+@dataclass(frozen=True)
+class Run:
+    """What one run of a program left: its exit status and all that it wrote."""
+
+    status: int
+    out: bytes
+    err: bytes
+
+
+def place(name, path):
+    """Makes the tests take the program `name` from the file `path`."""
+    _placed[name] = Path(path).resolve()
+
+
+def path_of(name):
+    """The file of the built program `name`."""
+    return _placed.get(name, ROOT / "crates" / name / "out" / name)
+
+
+def listed():
+    """The programs that crates.txt lists, so that are to be there, in the order of NAMES."""
+    text = re.sub(r"#.*", "", (ROOT / "crates.txt").read_text())
+    crates = {line.split(":")[0].split()[0] for line in text.splitlines() if line.strip()}
+    return [name for name in NAMES if name in crates or name in _placed]
+
+
+def environment(**changes):
+    """This process's environment with `changes`, without what a caller may have preloaded."""
+    kept = {key: value for key, value in os.environ.items() if key != "LD_PRELOAD"}
+    return {**kept, **changes}
+
+
+def run(name, *words, given=b"", out=subprocess.PIPE, **changes):
+    """Runs the program with the words given and answers what it left.
+
+    `given` is its whole standard input, as bytes or as an open file; `out` is where standard output goes, and
+    `changes` is put into its environment. A run that takes too long is killed and fails the test.
+    """
+    source = {"input": given} if isinstance(given, bytes) else {"stdin": given}
+    done = subprocess.run([path_of(name), *words], **source, stdout=out, stderr=subprocess.PIPE,
+                          env=environment(**changes), timeout=SECONDS)
+    return Run(done.returncode, done.stdout or b"", done.stderr)

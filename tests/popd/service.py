@@ -1,0 +1,163 @@
+"""A Maildir in a folder of its own, `popd` serving it over loopback, and a plain client that sees every octet."""
+
+import os
+import poplib
+import socket
+import struct
+import subprocess
+import tempfile
+import time
+from pathlib import Path
+from unittest import mock
+
+from harness import kernel, programs
+from harness.kernel import LOOPBACK
+
+PORT_TRIES = 10
+
+
+class Maildir:
+    """A Maildir with its password file beside it, removed with the `with` block."""
+
+    def __init__(self, password=b"p\n"):
+        self.holder = tempfile.TemporaryDirectory()
+        self.folder = Path(self.holder.name) / "Maildir"
+        for part in ("tmp", "new", "cur"):
+            (self.folder / part).mkdir(parents=True)
+        self.passfile = Path(self.holder.name) / "password"
+        self.passfile.write_bytes(password)
+
+    def __enter__(self):
+        return self
+
+    def __exit__(self, *_):
+        self.holder.cleanup()
+
+    def add(self, part, name, content):
+        """Puts a file into `new`, `cur` or `tmp`, and answers its path."""
+        path = os.path.join(os.fsencode(self.folder), part.encode(), os.fsencode(name))
+        with open(path, "wb") as file:
+            file.write(content)
+        return path
+
+    def names(self):
+        """The names in `new` and `cur`, with their part."""
+        return sorted((part, name) for part in ("new", "cur") for name in os.listdir(os.fsencode(self.folder / part)))
+
+
+class Client:
+    """A POP3 client over a plain socket; every wait has a bound."""
+
+    def __init__(self, port):
+        self.socket = socket.create_connection((LOOPBACK, port), timeout=programs.SECONDS)
+        self.file = self.socket.makefile("rb")
+
+    def __enter__(self):
+        return self
+
+    def __exit__(self, *_):
+        self.close()
+
+    def close(self):
+        """Ends the connection in order."""
+        self.file.close()
+        self.socket.close()
+
+    def reset(self):
+        """Ends the connection by a reset."""
+        self.socket.setsockopt(socket.SOL_SOCKET, socket.SO_LINGER, struct.pack("ii", 1, 0))
+        self.close()
+
+    def give(self, octets):
+        self.socket.sendall(octets)
+
+    def line(self):
+        """The next line of an answer, up to its LF."""
+        return self.file.readline()
+
+    def ask(self, command):
+        """Sends a command and answers the first line that comes."""
+        self.give(command + b"\r\n")
+        return self.line()
+
+    def ask_lines(self, command):
+        """Sends a command whose positive answer has a body, and answers all its octets."""
+        got = [self.ask(command)]
+        while got[0].startswith(b"+OK") and got[-1] != b".\r\n":
+            got.append(self.line())
+            if not got[-1]:
+                raise AssertionError(f"the connection ended in the answer to {command!r}: {got[-3:]}")
+        return b"".join(got)
+
+    def rest(self):
+        """All that comes until the server ends the connection."""
+        return self.file.read()
+
+    def log_in(self):
+        """Reads the greeting and logs in; the answer to PASS."""
+        if self.line() != b"+OK popd ready\r\n" or self.ask(b"USER u") != b"+OK send PASS\r\n":
+            raise AssertionError("no greeting, or USER was refused")
+        return self.ask(b"PASS p")
+
+
+class Service:
+    """`popd --listen` over a Maildir, with user `u`; killed with the `with` block where it still runs.
+
+    No connection is spent on finding out whether the server listens: the kernel's table of sockets tells.
+    """
+
+    def __init__(self, maildir, *words, **environment):
+        self.maildir = maildir
+        self.words = words
+        self.environment = environment
+
+    def __enter__(self):
+        for _ in range(PORT_TRIES):
+            self.port = kernel.free_port()
+            self.process = subprocess.Popen(
+                [programs.path_of("popd"), "--listen", f"{LOOPBACK}:{self.port}", *self.words, "u",
+                 self.maildir.passfile,
+                 self.maildir.folder], env=programs.environment(**self.environment), stdin=subprocess.DEVNULL,
+                stdout=subprocess.DEVNULL, stderr=subprocess.PIPE)
+            if self.is_listening():
+                return self
+            self.__exit__()
+        raise AssertionError(f"popd listens on none of {PORT_TRIES} ports")
+
+    def __exit__(self, *_):
+        self.process.kill()
+        self.process.wait()
+        self.process.stderr.close()
+
+    def is_listening(self):
+        """Waits until the server listens; false where it ended first, as where its port was taken meanwhile."""
+        deadline = time.monotonic() + programs.SECONDS
+        while self.process.poll() is None and time.monotonic() < deadline:
+            if kernel.listens(self.port):
+                return True
+            time.sleep(0.005)
+        return False
+
+    def client(self):
+        return Client(self.port)
+
+    def library_client(self):
+        """Python's own POP3 client, logged in."""
+        client = poplib.POP3(LOOPBACK, self.port, timeout=programs.SECONDS)
+        client.user("u")
+        client.pass_("p")
+        return client
+
+    def peak_of_memory(self):
+        """The most memory that the server has had so far, in octets."""
+        return kernel.peak_of_memory(self.process.pid)
+
+    def finish(self):
+        """Waits until the server ends by itself; its status and what it told on standard error."""
+        _, err = self.process.communicate(timeout=programs.SECONDS)
+        return self.process.returncode, err
+
+
+def long_lines_allowed():
+    """Lets Python's client take lines of any length, which it otherwise refuses past 2,048 octets."""
+    return mock.patch.object(poplib, "_MAXLINE", 1 << 24)

@@ -1,0 +1,150 @@
+"""Connections over loopback: one after the other, ended in any way, and clients that mean no good."""
+
+import socket
+import threading
+import unittest
+
+from harness import programs
+from popd import expected, lines
+from popd.service import Maildir, Service
+
+READY = b"+OK popd ready\r\n"
+ROOM = 1 << 20
+
+
+class Connections(unittest.TestCase):
+    def setUp(self):
+        self.maildir = Maildir()
+        self.addCleanup(self.maildir.holder.cleanup)
+        self.maildir.add("new", "a", b"one\n")
+
+    def check_good_client(self, service):
+        with service.client() as client:
+            self.assertEqual(client.log_in(), b"+OK 1 messages\r\n")
+            self.assertEqual(client.ask_lines(b"RETR 1"), b"+OK 5 octets\r\none\r\n.\r\n")
+            self.assertEqual(client.ask(b"QUIT"), b"+OK bye\r\n")
+            self.assertEqual(client.rest(), b"")
+
+    def test_each_connection_begins_anew(self):
+        with Service(self.maildir, "--connections", "3") as service:
+            for _ in range(3):
+                self.check_good_client(service)
+            self.assertEqual(service.finish(), (0, b""))
+
+    def test_as_many_connections_as_come(self):
+        with Service(self.maildir) as service:
+            for _ in range(20):
+                self.check_good_client(service)
+            self.assertIsNone(service.process.poll())
+
+    def test_a_second_client_waits_for_the_first(self):
+        with Service(self.maildir, "--connections", "2") as service, service.client() as first:
+            first.log_in()
+            with service.client() as second:
+                second.give(b"USER u\r\nPASS p\r\n")
+                self.assertEqual(first.ask(b"QUIT"), b"+OK bye\r\n")
+                self.assertEqual(second.line() + second.line() + second.line(),
+                                 READY + b"+OK send PASS\r\n+OK 1 messages\r\n")
+
+    def test_connections_that_end_early(self):
+        """The end of input is no fault: nothing is told, and the next client is served."""
+        with Service(self.maildir, "--connections", "10") as service:
+            for given in (b"", b"U", b"USER u\r\n", b"USER u\r\nPASS p\r\nDELE 1\r\nQUIT\r", b"\r\n"):
+                with self.subTest(given):
+                    with service.client() as client:
+                        client.give(given)
+                        client.socket.shutdown(socket.SHUT_WR)
+                        self.assertEqual(client.rest(), b"".join(expected.answers(given, self.machine())))
+                    self.check_good_client(service)
+            self.assertEqual(service.finish(), (0, b""))
+
+    def machine(self):
+        return expected.Machine(expected.messages_of(self.maildir.folder))
+
+    def test_a_reset_is_told_and_the_next_client_served(self):
+        with Service(self.maildir, "--connections", "2") as service:
+            client = service.client()
+            self.assertEqual(client.line(), READY)
+            client.reset()
+            self.check_good_client(service)
+            self.assertEqual(service.finish(), (0, b"popd: read failed\n"))
+
+    def test_a_reset_under_way_is_told_and_the_next_client_served(self):
+        """The client asks for more than the sockets hold, reads none of it and resets."""
+        self.maildir.add("new", "b", b"x" * 79 + b"\n" * 100_000)
+        with Service(self.maildir, "--connections", "2") as service:
+            client = service.client()
+            client.log_in()
+            client.give(b"RETR 2\r\n" * 500)
+            self.assertEqual(client.file.read(1), b"+")
+            client.reset()
+            with service.client() as next_client:
+                self.assertEqual(next_client.log_in(), b"+OK 2 messages\r\n")
+            status, err = service.finish()
+            self.assertEqual(status, 0)
+            self.assertIn(err, (b"popd: write failed\n", b"popd: read failed\n"))
+
+    def test_all_lines_at_once(self):
+        """A client that does not wait for the answers gets all of them, in order."""
+        for name, conversation in lines.CONVERSATIONS.items():
+            given = lines.given(conversation) + b"QUIT\r\n"
+            with self.subTest(name), Service(self.maildir, "--connections", "1") as service, service.client() as client:
+                self.maildir.add("new", "a", b"one\n")
+                answers = expected.answers(given, self.machine())
+                client.give(given)
+                self.assertEqual(client.rest(), b"".join(answers))
+                self.assertEqual(service.finish(), (0, b""))
+
+
+class Memory(unittest.TestCase):
+    """Memory does not grow with what a client sends that isn't logged in, however much it is."""
+
+    def setUp(self):
+        self.maildir = Maildir()
+        self.addCleanup(self.maildir.holder.cleanup)
+
+    def drive(self, service, piece):
+        """Sends as much of the piece as one connection may, reads all answers, and answers how many octets came."""
+        with service.client() as client:
+            given = piece * (expected.INPUT_LIMIT // len(piece))
+            given += b"x" * (expected.INPUT_LIMIT - len(given))
+            sender = threading.Thread(target=client.give, args=(given,), daemon=True)
+            sender.start()
+            got = sum(len(part) for part in iter(lambda: client.file.read1(1 << 20), b""))
+            sender.join(programs.SECONDS)
+        return got
+
+    def test_sixteen_mebioctets_on_one_connection(self):
+        name, password = b"USER " + b"n" * 500 + b"\r\n", b"PASS " + b"q" * 500 + b"\r\n"
+        pieces = ((name, 15), (name + password, 15 + 14), (b"NOOP" + b" " * 100 + b"\r\n", 14),
+                  (b"x" * 600 + b"\r\n", 18), (b"\0" * 100 + b"\r\n", 18), (b"x" * 65_536, 0), (b"\n" * 4096, 0),
+                  (b"\r" * 4096, 0))
+        with Service(self.maildir, "--connections", str(len(pieces) + 2)) as service:
+            with service.client() as client:
+                client.line()
+            before = service.peak_of_memory()
+            for piece, answer in pieces:
+                with self.subTest(piece[:16]):
+                    octets = len(READY) + answer * (expected.INPUT_LIMIT // len(piece))
+                    self.assertEqual(self.drive(service, piece), octets)
+                    self.assertLess(service.peak_of_memory() - before, ROOM)
+            with service.client() as client:
+                self.assertEqual(client.log_in(), b"+OK 0 messages\r\n")
+            self.assertEqual(service.finish(), (0, b""))
+
+    def test_a_client_that_reads_nothing(self):
+        """The server waits for it, and keeps none of what it sends in the meantime."""
+        with Service(self.maildir, "--connections", "2") as service:
+            client = service.client()
+            client.line()
+            before = service.peak_of_memory()
+            client.socket.settimeout(0.5)
+            with self.assertRaises(socket.timeout):
+                client.give(b"NOOP\r\n" * 4_000_000)
+            self.assertLess(service.peak_of_memory() - before, ROOM)
+            client.reset()
+            with service.client() as next_client:
+                self.assertEqual(next_client.log_in(), b"+OK 0 messages\r\n")
+            status, err = service.finish()
+            self.assertEqual(status, 0)
+            self.assertIn(err, (b"popd: write failed\n", b"popd: read failed\n"))

@@ -1,0 +1,270 @@
+"""A Maildir as mail software leaves it, served over loopback to Python's own POP3 client."""
+
+import os
+import poplib
+import unittest
+from contextlib import closing
+
+from harness import programs
+from harness.kernel import LOOPBACK
+from popd import expected
+from popd.service import Maildir, Service, long_lines_allowed
+
+FOX = "The quick brown fox jumps over the lazy dog"
+FOX_ID = b"d7a8fbb307d7809469ca9abcb0082e4f8d5651e46d3cdb762d02d0bf37c9e592"
+LETTER = b"From: Ada <ada@example.org>\nSubject: %s\n\nHello,\n.\n..\n.dot\n\nAda\n"
+
+FILES = (
+    ("cur", "1700000001.M1P1.host:2,S", LETTER % b"seen"),
+    ("new", "1700000002.M1P1.host", LETTER % b"new"),
+    ("cur", "1700000003.M1P1.host:2,", b"flags, but none set\n"),
+    ("cur", "1700000004.M1P1.host,S=20:2,RS", b"a size in the name\n"),
+    ("new", "1700000005.empty", b""),
+    ("new", "1700000006.open", b"a last line\nwithout its end"),
+    ("new", "1700000007.dot", b"."),
+    ("new", "1700000008.bytes", bytes(octet for octet in range(256) if octet != 10) + b"\n\xff\xfe\0\n"),
+    ("new", "1700000009.returns", b"a\r\nb\rc\r\r\n\r\n\r.\n.\r\n"),
+    ("cur", "1700000010.long:2,", b"x" * (1 << 20) + b"\n" + b"." * (1 << 20) + b"\n" + b"y" * (1 << 20)),
+    ("new", "1700000011.lines", b"\n" * 5000),
+    ("new", "1700000012.dots", b".\n" * 5000),
+    ("new", FOX, b"a name that is no id\n"),
+    ("cur", FOX[:-1] + ":2,S", b"another one\n"),
+    ("cur", ":2,S", b"no name before the flags\n"),
+    ("new", "n" * 70, b"the longest name that is an id\n"),
+    ("new", "n" * 71, b"one octet more\n"),
+    ("new", "B", b"in the order of octets\n"),
+    ("new", "a", b"in the order of octets\n"),
+    ("cur", "\u00e4", b"a name beyond ASCII\n"),
+    ("cur", "twice:2,S", b"the one in cur comes first\n"),
+    ("new", "twice", b"the one in new is not listed\n"),
+    ("cur", "two:2,S", b"nor is the later of two in cur\n"),
+    ("cur", "two:2,R", b"the earlier one is\n"),
+    ("cur", "~", b"the last octet that an id may have\n"),
+    ("cur", "tab\there", b"an octet that no id may have\n"),
+)
+NOT_LISTED = (
+    ("new", ".hidden", b"a name with a full stop before it\n"),
+    ("cur", ".hidden:2,S", b"the same in cur\n"),
+    ("tmp", "1700000013.under.way", b"not delivered yet\n"),
+    ("new", b"\xff\xfe", b"a name that is no text\n"),
+)
+
+
+def fill(maildir):
+    """Puts in all the files, and folders in place of files."""
+    for part, name, content in (*FILES, *NOT_LISTED):
+        maildir.add(part, name, content)
+    (maildir.folder / "new" / "folder").mkdir()
+    (maildir.folder / "cur" / "1700000000.folder:2,S").mkdir()
+
+
+class WholeMaildir(unittest.TestCase):
+    def setUp(self):
+        self.maildir = Maildir()
+        self.addCleanup(self.maildir.holder.cleanup)
+        fill(self.maildir)
+        self.messages = expected.messages_of(self.maildir.folder)
+
+    def test_what_is_listed(self):
+        """The listing that the other tests take as given has what the table of files says."""
+        uids = [message.uid for message in self.messages]
+        self.assertEqual(len(uids), len(FILES) - 2)
+        self.assertIn(FOX_ID, uids)
+        self.assertLess(uids.index(b"B"), uids.index(b"a"))
+        texts = {message.uid: message.text for message in self.messages}
+        self.assertEqual(texts[b"twice"], b"the one in cur comes first\n")
+        self.assertEqual(texts[b"two"], b"the earlier one is\n")
+
+    def test_every_message_byte_for_byte(self):
+        with Service(self.maildir, "--connections", "1") as service, long_lines_allowed():
+            client = service.library_client()
+            self.assertEqual(client.getwelcome(), b"+OK popd ready")
+            sizes = [message.size() for message in self.messages]
+            self.assertEqual(client.stat(), (len(self.messages), sum(sizes)))
+            self.assertEqual(client.list()[1], [b"%d %d" % row for row in enumerate(sizes, 1)])
+            self.assertEqual(client.uidl()[1], [b"%d %s" % (number, message.uid)
+                                                for number, message in enumerate(self.messages, 1)])
+            for number, message in enumerate(self.messages, 1):
+                with self.subTest(message.uid):
+                    self.assertEqual(client.list(number), b"+OK %d %d" % (number, message.size()))
+                    self.assertEqual(client.uidl(number), b"+OK %d %s" % (number, message.uid))
+                    first, lines, _ = client.retr(number)
+                    self.assertEqual((first, lines), (b"+OK %d octets" % message.size(), message.lines()))
+                    for count in (0, 1, 3, 100_000):
+                        self.assertEqual(client.top(number, count)[1], expected.top(message.lines(), count))
+            self.assertEqual(client.quit(), b"+OK bye")
+            self.assertEqual(service.finish(), (0, b""))
+
+    def test_answers_to_their_last_octet(self):
+        machine = expected.Machine(self.messages)
+        with Service(self.maildir) as service, service.client() as client:
+            client.log_in()
+            machine.answer(b"USER u"), machine.answer(b"PASS p")
+            for number in range(1, len(self.messages) + 1):
+                for command in (b"RETR %d" % number, b"TOP %d 2" % number):
+                    self.assertEqual(client.ask_lines(command), machine.answer(command))
+            for command in (b"LIST", b"UIDL"):
+                self.assertEqual(client.ask_lines(command), machine.answer(command))
+
+    def test_fetching_changes_no_file(self):
+        before = self.maildir.names()
+        with Service(self.maildir, "--connections", "1") as service, service.client() as client:
+            client.log_in()
+            for number in range(1, len(self.messages) + 1):
+                client.ask_lines(b"RETR %d" % number)
+            client.ask(b"QUIT")
+            service.finish()
+        self.assertEqual(self.maildir.names(), before)
+
+    def test_quit_removes_each_marked_file_and_no_other(self):
+        files = {path for path, _ in self.files()}
+        with Service(self.maildir, "--connections", "2") as service:
+            with closing(service.library_client()) as client:
+                for number in range(1, len(self.messages) + 1, 2):
+                    client.dele(number)
+                self.assertEqual(client.quit(), b"+OK bye")
+            removed = {message.path for message in self.messages[::2]}
+            self.assertEqual({path for path, _ in self.files()}, files - removed)
+            with closing(service.library_client()) as client, long_lines_allowed():
+                left = expected.messages_of(self.maildir.folder)
+                self.assertEqual([row.split()[1] for row in client.uidl()[1]], [message.uid for message in left])
+                for number, message in enumerate(left, 1):
+                    self.assertEqual(client.retr(number)[1], message.lines())
+                client.quit()
+            self.assertEqual(service.finish(), (0, b""))
+
+    def files(self):
+        for folder, _, names in os.walk(os.fsencode(self.maildir.folder)):
+            for name in names:
+                yield os.path.join(folder, name), folder
+
+
+class Changes(unittest.TestCase):
+    """What happens to files while a client is logged in, and what is left of a connection that ends early."""
+
+    def setUp(self):
+        self.maildir = Maildir()
+        self.addCleanup(self.maildir.holder.cleanup)
+        self.paths = [self.maildir.add("new", name, name.encode() + b"\n") for name in ("a", "b", "c")]
+
+    def names(self):
+        return [name for _, name in self.maildir.names()]
+
+    def test_marks_of_a_dropped_connection_are_forgotten(self):
+        endings = (lambda client: client.close(), lambda client: client.reset(), lambda client: client.give(b"QUI"),
+                   lambda client: client.give(b"QUIT\r"), lambda client: client.give(b"QUIT\n"))
+        with Service(self.maildir) as service:
+            for number, end in enumerate(endings):
+                with self.subTest(number):
+                    client = service.client()
+                    client.log_in()
+                    self.assertEqual(client.ask(b"DELE 1"), b"+OK marked\r\n")
+                    end(client)
+                    client.close()
+                    with service.client() as next_client:
+                        self.assertEqual(next_client.log_in(), b"+OK 3 messages\r\n")
+                    self.assertEqual(self.names(), [b"a", b"b", b"c"])
+
+    def test_reset_takes_the_marks_back(self):
+        with Service(self.maildir, "--connections", "1") as service, service.client() as client:
+            client.log_in()
+            for command, answer in ((b"DELE 1", b"+OK marked\r\n"), (b"RSET", b"+OK\r\n"),
+                                    (b"DELE 2", b"+OK marked\r\n"), (b"QUIT", b"+OK bye\r\n")):
+                self.assertEqual(client.ask(command), answer)
+            self.assertEqual(client.rest(), b"")
+            service.finish()
+        self.assertEqual(self.names(), [b"a", b"c"])
+
+    def test_a_file_that_vanished(self):
+        with Service(self.maildir) as service, service.client() as client:
+            client.log_in()
+            os.unlink(self.paths[0])
+            for command in (b"RETR 1", b"TOP 1 0", b"RETR 1"):
+                self.assertEqual(client.ask(command), b"-ERR message unavailable\r\n")
+            self.assertEqual(client.ask(b"LIST 1"), b"+OK 1 3\r\n")
+            self.assertEqual(client.ask_lines(b"RETR 2"), b"+OK 3 octets\r\nb\r\n.\r\n")
+            self.assertEqual(client.ask(b"STAT"), b"+OK 3 9\r\n")
+
+    def test_a_file_that_got_another_name(self):
+        with Service(self.maildir) as service, service.client() as client:
+            client.log_in()
+            os.rename(self.paths[1], self.maildir.folder / "cur" / "b:2,S")
+            self.assertEqual(client.ask(b"RETR 2"), b"-ERR message unavailable\r\n")
+            self.assertEqual(client.ask(b"DELE 2"), b"+OK marked\r\n")
+            self.assertEqual(client.ask(b"QUIT"), b"-ERR some messages not removed\r\n")
+        self.assertEqual(self.names(), [b"b:2,S", b"a", b"c"])
+
+    def test_every_removal_is_tried(self):
+        with Service(self.maildir, "--connections", "1") as service, service.client() as client:
+            client.log_in()
+            for number in (1, 2, 3):
+                client.ask(b"DELE %d" % number)
+            os.unlink(self.paths[1])
+            self.assertEqual(client.ask(b"QUIT"), b"-ERR some messages not removed\r\n")
+            self.assertEqual(client.rest(), b"")
+            self.assertEqual(service.finish(), (0, b""))
+        self.assertEqual(self.names(), [])
+
+    def test_a_message_that_comes_later_has_no_number(self):
+        with Service(self.maildir) as service:
+            with service.client() as client:
+                client.log_in()
+                self.maildir.add("new", "A", b"earlier in the order\n")
+                self.assertEqual(client.ask_lines(b"UIDL"), b"+OK\r\n1 a\r\n2 b\r\n3 c\r\n.\r\n")
+                self.assertEqual(client.ask(b"RETR 4"), b"-ERR no such message\r\n")
+            with service.client() as client:
+                client.log_in()
+                self.assertEqual(client.ask_lines(b"UIDL"), b"+OK\r\n1 A\r\n2 a\r\n3 b\r\n4 c\r\n.\r\n")
+
+    def test_a_folder_that_is_not_there(self):
+        for part in ("new", "cur"):
+            with self.subTest(part), Maildir() as maildir, Service(maildir) as service, service.client() as client:
+                (maildir.folder / part).rmdir()
+                self.assertEqual(client.log_in(), b"-ERR maildrop unavailable\r\n")
+                self.assertEqual(client.ask(b"PASS p"), b"-ERR USER first\r\n")
+                self.assertEqual(client.ask(b"STAT"), b"-ERR not now\r\n")
+                (maildir.folder / part).mkdir()
+                client.ask(b"USER u")
+                self.assertEqual(client.ask(b"PASS p"), b"+OK 0 messages\r\n")
+
+    def test_no_maildir_at_all(self):
+        with Maildir() as maildir:
+            maildir.folder = maildir.passfile
+            with Service(maildir) as service, service.client() as client:
+                self.assertEqual(client.log_in(), b"-ERR maildrop unavailable\r\n")
+
+    def test_python_refuses_a_wrong_password(self):
+        with Service(self.maildir) as service, self.assertRaisesRegex(poplib.error_proto, "-ERR refused"):
+            client = poplib.POP3(LOOPBACK, service.port, timeout=programs.SECONDS)
+            with closing(client):
+                client.user("u")
+                client.pass_("q")
+
+
+class GreatMaildirs(unittest.TestCase):
+    def test_messages_about_the_greatest_size(self):
+        """The size counts two octets for the one line's end; the files are holes, so they take no room on the disk."""
+        with Maildir() as maildir:
+            for name, octets in (("just", expected.SIZE_LIMIT - 2), ("over", expected.SIZE_LIMIT - 1),
+                                 ("twice:2,S", expected.SIZE_LIMIT - 1)):
+                os.truncate(maildir.add("cur", name, b""), octets)
+            maildir.add("new", "twice", b"listed in place of the larger one\n")
+            with Service(maildir) as service, service.client() as client:
+                self.assertEqual(client.log_in(), b"+OK 2 messages\r\n")
+                self.assertEqual(client.ask_lines(b"LIST"), b"+OK\r\n1 %d\r\n2 35\r\n.\r\n" % expected.SIZE_LIMIT)
+                self.assertEqual(client.ask_lines(b"UIDL"), b"+OK\r\n1 just\r\n2 twice\r\n.\r\n")
+                self.assertEqual(client.ask_lines(b"RETR 2"),
+                                 b"+OK 35 octets\r\nlisted in place of the larger one\r\n.\r\n")
+                self.assertEqual(client.ask(b"RETR 1"), b"+OK %d octets\r\n" % expected.SIZE_LIMIT)
+                body = client.file.read(expected.SIZE_LIMIT + 3)
+                self.assertEqual((body[-5:], body.count(0)), (b"\r\n.\r\n", expected.SIZE_LIMIT - 2))
+
+    def test_more_messages_than_are_listed(self):
+        with Maildir() as maildir:
+            for number in range(expected.COUNT_LIMIT + 2):
+                maildir.add("new", f"{number:06}", b"")
+            with Service(maildir) as service, service.client() as client:
+                self.assertEqual(client.log_in(), b"+OK %d messages\r\n" % expected.COUNT_LIMIT)
+                rows = client.ask_lines(b"UIDL").splitlines()
+                self.assertEqual((rows[1], rows[-2]), (b"1 000000", b"100000 099999"))
+                self.assertEqual(client.ask(b"RETR 100001"), b"-ERR no such message\r\n")

@@ -1,0 +1,156 @@
+"""The words of the command line, the password file and the link: each fault with its line and its status, in order."""
+
+import os
+import socket
+import tempfile
+import unittest
+from pathlib import Path
+
+from harness import programs
+from harness.kernel import LOOPBACK
+from popd.service import Maildir
+
+WRONG_COUNT = programs.Run(2, b"", b"popd: wrong number of arguments\n")
+READY = b"+OK popd ready\r\n"
+
+
+def told(line):
+    return programs.Run(1, b"", f"popd: {line}\n".encode())
+
+
+class Words(unittest.TestCase):
+    def setUp(self):
+        self.maildir = Maildir()
+        self.addCleanup(self.maildir.holder.cleanup)
+        self.served = ["u", str(self.maildir.passfile), str(self.maildir.folder)]
+
+    def run_popd(self, *words, given=b""):
+        return programs.run("popd", *words, given=given)
+
+    def test_help(self):
+        for words in (["--help"], ["--help", "a"], ["--rehearse", "--help"]):
+            with self.subTest(words):
+                run = self.run_popd(*words)
+                self.assertEqual((run.status, run.err), (0, b""))
+                for word in (b"--listen", b"--connections", b"--rehearse"):
+                    self.assertIn(word, run.out)
+
+    def test_words_that_are_refused(self):
+        for words in (["--listens"], ["-x"], ["--connections", "x"], ["--connections", "-1"],
+                      ["--connections", "4294967296"],
+                      ["--connections", ""], ["--connections", "1.5"], ["--connections"], ["--listen"],
+                      ["--connections", "1", "--connections", "1"], ["--listen", "a:1", "--listen", "a:1"],
+                      ["--rehearse=1"], ["--rehearse", "--connections", "x"]):
+            for more in ([], self.served, ["u", "missing", "missing"]):
+                with self.subTest(words=words, more=more):
+                    run = self.run_popd(*more, *words)
+                    self.assertEqual((run.status, run.out), (2, b""))
+                    self.assertNotEqual(run.err, b"")
+                    self.assertNotEqual(run, WRONG_COUNT)
+
+    def test_wrong_number_of_arguments(self):
+        for words in ([], ["u"], ["u", "missing"], [*self.served, "more"], ["--rehearse", "u"],
+                      ["--rehearse", *self.served],
+                      ["--listen", "nonsense"], ["--listen", "nonsense", "u", "missing"], ["--connections", "0"], [""],
+                      ["u", "missing", "missing", "missing"], ["--", "--rehearse"]):
+            with self.subTest(words):
+                self.assertEqual(self.run_popd(*words), WRONG_COUNT)
+
+    def test_words_that_are_no_text(self):
+        for words in ([b"\xff"], [*self.served[:2], b"\xff"]):
+            with self.subTest(words):
+                self.assertEqual(self.run_popd(*words), WRONG_COUNT)
+
+    def test_a_password_file_that_cannot_be_read(self):
+        for name in ("missing", "missing/missing", str(self.maildir.folder), "", "a b\tc"):
+            for link in ([], ["--listen", "nonsense"]):
+                with self.subTest(name=name, link=link):
+                    self.assertEqual(self.run_popd(*link, "u", name, "missing"), told(f"cannot read {name}"))
+
+    def test_an_address_that_cannot_be_bound(self):
+        with socket.create_server((LOOPBACK, 0)) as taken:
+            for address in ("nonsense", "", ":", f"{LOOPBACK}:65536", f"{LOOPBACK}:",
+                            f"{LOOPBACK}:{taken.getsockname()[1]}", "192.0.2.1:0"):
+                with self.subTest(address):
+                    self.assertEqual(self.run_popd("--listen", address, *self.served),
+                                     told(f"cannot listen on {address}"))
+
+    def test_no_connection_at_all(self):
+        run = self.run_popd("--listen", f"{LOOPBACK}:0", "--connections", "0", *self.served)
+        self.assertEqual(run, programs.Run(0, b"", b""))
+
+    def test_words_without_effect(self):
+        for words in (["--rehearse"], ["--rehearse", "--rehearse"], ["--rehearse", "--listen", "nonsense"],
+                      ["--rehearse", "--connections", "0"], ["--connections", "0", *self.served],
+                      ["--connections", "4294967295", *self.served], ["--", *self.served]):
+            with self.subTest(words):
+                self.assertEqual(self.run_popd(*words), programs.Run(0, READY, b""))
+
+
+class PasswordFile(unittest.TestCase):
+    """The password is what stands before the first LF, without a CR at its end."""
+
+    def log_in(self, content, password):
+        with Maildir(content) as maildir:
+            run = programs.run("popd", "u", maildir.passfile, maildir.folder,
+                               given=b"USER u\r\nPASS " + password + b"\r\n")
+        self.assertEqual((run.status, run.err), (0, b""))
+        return run.out.splitlines()[-1]
+
+    def test_passwords_that_are_right(self):
+        for content, password in ((b"p\n", b"p"), (b"p", b"p"), (b"p\r\n", b"p"), (b"p\r", b"p"), (b"p\nq\n", b"p"),
+                                  (b"a b c\n", b"a b c"), (b" p \n", b" p "), (b"\xc3\xa4\n", b"\xc3\xa4"),
+                                  (b"\xff\n", b"\xff"),
+                                  (b"x" * 500 + b"\n", b"x" * 500), (b"p\r\nq\r\n", b"p"), (b"a\tb\n", b"a\tb")):
+            with self.subTest(content):
+                self.assertEqual(self.log_in(content, password), b"+OK 0 messages")
+
+    def test_passwords_that_are_wrong(self):
+        for content, password in ((b"p\n", b"q"), (b"p\n", b"p\\n"), (b"p\nq\n", b"q"), (b" p\n", b"p"),
+                                  (b"p \n", b"p"),
+                                  (b"\n", b"p"), (b"", b"p"), (b"\n", b" "), (b"\r\n", b"\t"), (b"\np\n", b"p"),
+                                  (b"P\n", b"p"), (b"x" * 501 + b"\n", b"x" * 500)):
+            with self.subTest(content):
+                self.assertEqual(self.log_in(content, password), b"-ERR refused")
+
+    def test_no_password_is_empty(self):
+        self.assertEqual(self.log_in(b"\n", b""), b"-ERR bad command")
+
+
+class StandardStreams(unittest.TestCase):
+    def test_input_that_cannot_be_read(self):
+        with Maildir() as maildir:
+            folder = os.open(tempfile.gettempdir(), os.O_RDONLY)
+            self.addCleanup(os.close, folder)
+            for words in (["--rehearse"], ["u", maildir.passfile, maildir.folder]):
+                with self.subTest(words):
+                    run = programs.run("popd", *words, given=folder)
+                    self.assertEqual(run, programs.Run(1, READY, b"popd: read failed\n"))
+
+    def test_output_that_is_refused(self):
+        with Maildir() as maildir:
+            for words in (["--rehearse"], ["u", maildir.passfile, maildir.folder]):
+                with self.subTest(words), open("/dev/full", "wb") as full:
+                    run = programs.run("popd", *words, given=b"NOOP\r\n", out=full)
+                    self.assertEqual(run, told("write failed"))
+
+    def test_a_closed_pipe(self):
+        reader, writer = os.pipe()
+        os.close(reader)
+        self.addCleanup(os.close, writer)
+        self.assertEqual(programs.run("popd", "--rehearse", given=b"NOOP\r\n", out=writer), told("write failed"))
+
+    def test_a_maildir_over_standard_input_and_output(self):
+        with Maildir() as maildir:
+            path = maildir.add("new", "one", b"a\n.\nb")
+            run = programs.run("popd", "u", maildir.passfile, maildir.folder,
+                               given=b"USER u\r\nPASS p\r\nUIDL\r\nRETR 1\r\nDELE 1\r\nQUIT\r\n")
+            self.assertEqual(run, programs.Run(0, READY + b"+OK send PASS\r\n+OK 1 messages\r\n+OK\r\n1 one\r\n.\r\n"
+                                               b"+OK 9 octets\r\na\r\n..\r\nb\r\n.\r\n+OK marked\r\n+OK bye\r\n", b""))
+            self.assertFalse(Path(os.fsdecode(path)).exists())
+
+    def test_names_are_taken_as_written(self):
+        """No tilde and no variable is expanded."""
+        with Maildir() as maildir:
+            run = programs.run("popd", "u", "~/password", maildir.folder, HOME=maildir.holder.name)
+            self.assertEqual(run, told("cannot read ~/password"))

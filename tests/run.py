@@ -1,0 +1,63 @@
+#!/usr/bin/env python3
+"""Runs the tests from outside: those of each program that crates.txt lists, over the program as it was built last.
+
+A listed program that was not built is a failure; for one that is not listed yet a line says that its tests were left
+out. The status is 0 only where every test that was to run has passed.
+"""
+
+import argparse
+import sys
+import time
+import unittest
+from pathlib import Path
+
+TESTS = Path(__file__).resolve().parent
+sys.path.insert(0, str(TESTS))
+
+from harness import programs  # noqa: E402 (the path has to be there first)
+
+
+def read_words():
+    parser = argparse.ArgumentParser(description=__doc__.splitlines()[0])
+    parser.add_argument("--program", metavar="NAME=FILE", action="append", default=[],
+                        help="take the program NAME from FILE, listed or not")
+    parser.add_argument("-k", metavar="PATTERN", action="append", dest="patterns",
+                        help="only tests whose names fit the pattern or hold the word")
+    parser.add_argument("-v", "--verbose", action="store_true", help="print each test's name")
+    return parser.parse_args()
+
+
+def run_tests_of(name, words):
+    """Runs one program's tests, prints their summary, and answers whether all of them passed."""
+    path = programs.path_of(name)
+    if not path.is_file():
+        print(f"tests of {name}: it is listed in crates.txt, but {path} is not there; `make` builds it")
+        return False
+    loader = unittest.TestLoader()
+    if words.patterns:
+        loader.testNamePatterns = [word if "*" in word else f"*{word}*" for word in words.patterns]
+    suite = loader.discover(str(TESTS / name), top_level_dir=str(TESTS))
+    begun = time.monotonic()
+    result = unittest.TextTestRunner(sys.stdout, verbosity=2 if words.verbose else 0).run(suite)
+    passed = result.wasSuccessful() and not result.skipped and (result.testsRun > 0 or bool(words.patterns))
+    print(f"tests of {name}: {result.testsRun} run in {time.monotonic() - begun:.0f} s, "
+          f"{'all passed' if passed else 'NOT all passed'}", flush=True)
+    return passed
+
+
+def main():
+    words = read_words()
+    for pair in words.program:
+        programs.place(*pair.split("=", 1))
+    listed = programs.listed()
+    verdicts = []
+    for name in programs.NAMES:
+        if name in listed:
+            verdicts.append(run_tests_of(name, words))
+        else:
+            print(f"tests of {name}: left out, since crates.txt does not list it yet", flush=True)
+    return 0 if all(verdicts) else 1
+
+
+if __name__ == "__main__":
+    sys.exit(main())
