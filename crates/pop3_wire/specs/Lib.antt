@@ -1,7 +1,12 @@
 pub mod Body
+pub mod CommandLine
+pub mod Commands
 pub mod Fields
+pub mod Honest
 pub mod Line
 pub mod Link
 pub mod Place
 pub mod Reply
 pub mod Script
+pub mod Stuffed
+pub mod World

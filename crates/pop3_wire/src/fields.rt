@@ -16,7 +16,7 @@ fn leading_spaces(bytes: &[u8]) -> usize
 }
 
 /// How long the field is that the bytes begin with.
-fn field_length(bytes: &[u8]) -> usize
+pub fn field_length(bytes: &[u8]) -> usize
     ensures value { result ≡ prefix_len is_in_field bytes.now }
     ensures fits { result ≤ length bytes.now }
 {
@@ -72,7 +72,7 @@ fn digits_value(field: &[u8]) -> u128
 
 /// The number that a field stands for, where it isn't above the limit.
 #[tactic(auto, unfolding(crate::specs::Fields::number))]
-fn number(limit: u64, field: &[u8]) -> Result<u64, WireFault>
+pub fn number(limit: u64, field: &[u8]) -> Result<u64, WireFault>
     ensures value { result ≡ number limit field.now }
     ensures within { IfOk result (λ n. n ≤ limit) }
 {

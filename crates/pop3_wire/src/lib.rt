@@ -3,20 +3,36 @@
 #![tactic(auto)]
 
 mod body;
+mod bytes;
+mod command;
+mod command_line;
 mod fault;
 mod fields;
+mod keyword;
 mod line;
 mod line_reader;
 mod reply;
 mod script_wire;
 mod stream_wire;
+mod stuffing;
 mod wire;
 
 pub use body::unstuff;
+pub use bytes::Bytes;
+pub use command::{Command, command_bytes};
+pub use command_line::{read_as_written, read_command};
 pub use fault::WireFault;
 pub use fields::{is_legal_id, read_scan, read_stat, read_uid};
 pub use line_reader::{LineFault, LineReader};
 pub use reply::{Status, read_status};
 pub use script_wire::ScriptWire;
 pub use stream_wire::StreamWire;
+pub use stuffing::{
+    cut_text, only_one_body, put_body, put_line, stuff, stuffed_is_body, stuffed_is_read,
+};
 pub use wire::{Wire, WireDown};
+
+#[cfg(test)]
+mod command_tests;
+#[cfg(test)]
+mod stuffing_tests;

@@ -27,6 +27,7 @@ pub enum LineFault {
 /// What a link gave and nobody has used yet: at most 4,096 octets. It takes no memory.
 ///
 /// Nothing is asked of the link that isn't needed: while a whole line waits, no `recv` is made.
+#[derive(Drop)]
 pub struct LineReader {
     bytes: [u8; 4096],
     start: usize,

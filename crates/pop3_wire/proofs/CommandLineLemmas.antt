@@ -1,0 +1,57 @@
+-- Lines cut at spaces.
+use Rattle.std.proofs.Common.{ℕ, ◌+◌, ◌-◌, ◌<◌, ◌≤◌, ◌≡◌, ◌≢◌, true, false, List, [], ◌∷◌, length, take, drop, get_or, refl, sym, ap, ◌∙◌, inl, inr, arith, Result, Ok, Err}
+use Rattle.std.specs.List.{position_or_len, after_first, slice_split, count_by}
+use Rattle.std.proofs.lemmas.List.Sums.{fails_before_first, suffix_len_is}
+use Rattle.std.proofs.lemmas.List.Splits.{slice_split_none, slice_split_first, length-slice_split}
+use Rattle.std.proofs.lemmas.List.Elements.{All-from_get_or}
+use Rattle.std.proofs.lemmas.List.{drop_all}
+use Rattle.std.proofs.lemmas.Grind.{common_steps}
+use Rattle.pop3_wire.specs.Fields.{is_space, number, is_numeral}
+use Rattle.pop3_wire.specs.CommandLine.{trimmed, no_argument, one_number, number_or_none, two_numbers}
+use Rattle.pop3_wire.specs.declared.fault.WireFault.TheVariants.{BadArgument, BadNumber}
+use Rattle.pop3_wire.specs.declared.fault.WireFault.{WireFault}
+use Rattle.std.specs.Prelude.{nat_le, ◌&&◌}
+use Rattle.std.specs.Str.Parse.{digits_value}
+use Rattle.std.proofs.lemmas.Bool.{cases_Bool, cond-true, cond-false, and_parts, leb-true}
+
+-- a line without a space is one word
+pub one_word : (bytes : List ℕ) → position_or_len is_space bytes ≡ length bytes → slice_split is_space bytes ≡ bytes ∷ []
+one_word bytes h = slice_split_none is_space bytes (All-from_get_or (λ x. is_space x ≡ false) bytes 0 (λ k lt. fails_before_first is_space bytes k 0 (let e : k < position_or_len is_space bytes = rw h lt in e)))
+
+pub no_rest : (bytes : List ℕ) → position_or_len is_space bytes ≡ length bytes → after_first is_space bytes ≡ []
+no_rest bytes h = drop_all (position_or_len is_space bytes + 1) bytes (omega arith)
+
+-- otherwise the first word ends at the first space
+pub first_word : (bytes : List ℕ) (n : ℕ) → n ≡ position_or_len is_space bytes → n < length bytes → slice_split is_space bytes ≡ take n bytes ∷ slice_split is_space (drop (n + 1) bytes)
+first_word bytes n h lt = rw h (slice_split_first is_space bytes 0 (let e : position_or_len is_space bytes < length bytes = omega arith in e))
+
+pub to_end : (bytes : List ℕ) (n : ℕ) → take (length bytes - n) (drop n bytes) ≡ drop n bytes
+to_end bytes n = grind (arith, common_steps)
+
+-- the spaces at the end are counted down
+pub trimmed_at : (line : List ℕ) (n : ℕ) → n ≤ length line → ((k : ℕ) → n ≤ k → k < length line → is_space (get_or line k 0) ≡ true) → (0 < n → is_space (get_or line (n - 1) 0) ≡ false) → take n line ≡ trimmed line
+trimmed_at line n fits spaces stop = ap (λ k. take k line) (omega (arith, suffix_len_is is_space line n 0 fits spaces stop))
+
+-- a line that is cut has at least one part
+pub some_part : (rest : List ℕ) → slice_split is_space rest ≢ []
+some_part rest h = let e : length (slice_split is_space rest) ≡ 0 = ap length h in let l : 0 ≡ count_by is_space rest + 1 = sym e ∙ length-slice_split is_space rest in absurd (omega arith)
+
+pub more_than_none : (words : List (List ℕ)) → words ≢ [] → no_argument words ≡ Err BadArgument
+unfolding no_argument
+more_than_none [] h = absurd (h refl)
+more_than_none (word ∷ more) h = refl
+
+pub more_than_one : (word : List ℕ) (words : List (List ℕ)) → words ≢ [] → one_number (word ∷ words) ≡ Err BadArgument
+unfolding one_number
+more_than_one word [] h = absurd (h refl)
+more_than_one word (other ∷ more) h = refl
+
+pub more_than_one_or_none : (word : List ℕ) (words : List (List ℕ)) → words ≢ [] → number_or_none (word ∷ words) ≡ Err BadArgument
+unfolding number_or_none
+more_than_one_or_none word [] h = absurd (h refl)
+more_than_one_or_none word (other ∷ more) h = refl
+
+pub more_than_two : (word other : List ℕ) (words : List (List ℕ)) → words ≢ [] → two_numbers (word ∷ other ∷ words) ≡ Err BadArgument
+unfolding two_numbers
+more_than_two word other [] h = absurd (h refl)
+more_than_two word other (third ∷ more) h = refl

@@ -1,0 +1,136 @@
+-- Texts cut into lines, and the bodies of these.
+use Rattle.std.proofs.Common.{◌≡◌, ◌≢◌, ◌⊎◌, inl, inr, ℕ, zero, suc, ◌+◌, ◌-◌, ◌<◌, ◌≤◌, true, false, List, [], ◌∷◌, ◌++◌, length, take, drop, refl, sym, ap, subst, ◌∙◌, arith, append_assoc, map}
+use Rattle.std.specs.List.{flat_map, onto_first, position_or_len, AllByRecursion}
+use Rattle.std.proofs.lemmas.Bool.Decides.{eqb_tells}
+use Rattle.std.proofs.lemmas.Grind.{common_steps}
+use Rattle.pop3_wire.specs.Line.{crlf, IsLine, ended}
+use Rattle.pop3_wire.specs.Body.{dot, IsContent, unstuffed, kept, body_of, text_of, Body}
+use Rattle.pop3_wire.specs.Stuffed.{is_line_feed, lines_of_text, stuffed, sent_line, stuffed_lines, whole_text, StuffedIsBody, StuffedIsRead, OneBody}
+use Rattle.pop3_wire.proofs.BodyLemmas.{one_body}
+
+-- a text without LF is one line
+pub one_text_line : (text : List ℕ) → 0 < length text → position_or_len is_line_feed text ≡ length text → lines_of_text text ≡ text ∷ []
+one_text_line [] some h = absurd (omega arith)
+one_text_line (byte ∷ []) some h = elim (eqb_tells byte 10) [
+  | inl p ↦ absurd (let e = rw p.0 at h in omega arith)
+  | inr p ↦ rw p.0 refl
+]
+one_text_line (byte ∷ next ∷ rest) some h = elim (eqb_tells byte 10) [
+  | inl p ↦ absurd (let e = rw p.0 at h in omega arith)
+  | inr p ↦ let e = rw p.0 at h in rw (p.0, one_text_line (next ∷ rest) (omega arith) (omega arith)) refl
+]
+
+-- otherwise its first line ends at the first LF
+pub first_text_line : (text : List ℕ) (n : ℕ) → n ≡ position_or_len is_line_feed text → n < length text → lines_of_text text ≡ take n text ∷ lines_of_text (drop (n + 1) text)
+first_text_line [] n h some = absurd (omega arith)
+first_text_line (byte ∷ rest) zero h some = elim (eqb_tells byte 10) [
+  | inl p ↦ rw p.0 refl
+  | inr p ↦ absurd (let e = rw p.0 at h in omega arith)
+]
+first_text_line (byte ∷ rest) (suc n) h some = elim (eqb_tells byte 10) [
+  | inl p ↦ absurd (let e = rw p.0 at h in omega arith)
+  | inr p ↦
+      let e = rw p.0 at h in
+      let step : suc n + 1 ≡ suc (n + 1) = omega arith in
+      rw (p.0, step, first_text_line rest n (omega arith) (omega arith)) refl
+]
+
+-- ---- no LF stands in a line of a text
+
+NoLf : List ℕ → Type 0
+NoLf line = AllByRecursion (λ byte. byte ≢ 10) line
+
+all_onto_first : (byte : ℕ) (lines : List (List ℕ)) → byte ≢ 10 → AllByRecursion NoLf lines → AllByRecursion NoLf (onto_first byte lines)
+unfolding NoLf
+all_onto_first byte [] other all = ((other, tt), tt)
+all_onto_first byte (line ∷ lines) other all = ((other, all.0), all.1)
+
+text_lines : (text : List ℕ) → AllByRecursion NoLf (lines_of_text text)
+unfolding NoLf
+text_lines [] = tt
+text_lines (byte ∷ rest) = elim (eqb_tells byte 10) [
+  | inl p ↦ rw p.0 (tt, text_lines rest)
+  | inr p ↦ rw p.0 (all_onto_first byte (lines_of_text rest) p.1 (text_lines rest))
+]
+
+no_pair : (line : List ℕ) → NoLf line → IsLine line
+unfolding NoLf
+no_pair [] all [] rest e = cc
+no_pair [] all (b ∷ front) rest e = cc
+no_pair (byte ∷ []) all [] rest e = cc
+no_pair (byte ∷ next ∷ line) all [] rest e = all.1.0 (let same : next ≡ 10 = cc in same)
+no_pair (byte ∷ line) all (b ∷ front) rest e = no_pair line all.1 front rest (let same : line ≡ front ++ (crlf ++ rest) = cc in same)
+
+-- a stuffed line is a line of a body
+stuffed_content : (line : List ℕ) → NoLf line → IsContent (stuffed line)
+unfolding NoLf
+stuffed_content [] all = (no_pair [] tt, λ e. cc)
+stuffed_content (byte ∷ rest) all = elim (eqb_tells byte 46) [
+  | inl p ↦ rw p.0 (no_pair (46 ∷ byte ∷ rest) ((λ e. absurd (omega arith)), all), λ e. cc)
+  | inr p ↦ rw p.0 (no_pair (byte ∷ rest) all, λ e. p.1 (let same : byte ≡ 46 = cc in same))
+]
+
+stuffed_read : (line : List ℕ) → unstuffed (stuffed line) ≡ line
+stuffed_read [] = refl
+stuffed_read (byte ∷ rest) = elim (eqb_tells byte 46) [
+  | inl p ↦ rw p.0 refl
+  | inr p ↦ rw (p.0, p.0) refl
+]
+
+-- ---- what a writer sends is a body
+
+sent_as_body : (lines : List (List ℕ)) → flat_map sent_line lines ≡ flat_map ended (map stuffed lines)
+sent_as_body [] = refl
+sent_as_body (line ∷ lines) = ap (λ (b : List ℕ). sent_line line ++ b) (sent_as_body lines)
+
+all_content : (lines : List (List ℕ)) → AllByRecursion NoLf lines → AllByRecursion IsContent (map stuffed lines)
+all_content [] all = tt
+all_content (line ∷ lines) all = (stuffed_content line all.0, all_content lines all.1)
+
+-- a line of a text with its LF
+abbrev with_end : List ℕ → List ℕ
+with_end line = line ++ 10 ∷ []
+
+read_back : (lines : List (List ℕ)) → text_of (map stuffed lines) ≡ flat_map with_end lines
+read_back [] = refl
+read_back (line ∷ lines) = rw (stuffed_read line, read_back lines) refl
+
+some_onto_first : (byte : ℕ) (lines : List (List ℕ)) → onto_first byte lines ≢ []
+some_onto_first byte [] e = cc
+some_onto_first byte (line ∷ lines) e = cc
+
+some_line : (byte : ℕ) (rest : List ℕ) → lines_of_text (byte ∷ rest) ≢ []
+some_line byte rest = elim (eqb_tells byte 10) [
+  | inl p ↦ rw p.0 (λ e. cc)
+  | inr p ↦ rw p.0 (some_onto_first byte (lines_of_text rest))
+]
+
+onto_first_joined : (byte : ℕ) (lines : List (List ℕ)) → lines ≢ [] → flat_map with_end (onto_first byte lines) ≡ byte ∷ flat_map with_end lines
+onto_first_joined byte [] some = absurd (some refl)
+onto_first_joined byte (line ∷ lines) some = refl
+
+joined : (text : List ℕ) → flat_map with_end (lines_of_text text) ≡ whole_text text
+joined [] = refl
+joined (byte ∷ []) = elim (eqb_tells byte 10) [
+  | inl p ↦ rw p.0 (ap (λ b. b ∷ []) (sym p.1))
+  | inr p ↦ rw p.0 refl
+]
+joined (byte ∷ next ∷ rest) = elim (eqb_tells byte 10) [
+  | inl p ↦ rw (p.0, joined (next ∷ rest)) (ap (λ b. b ∷ whole_text (next ∷ rest)) (sym p.1))
+  | inr p ↦ rw p.0 (onto_first_joined byte (lines_of_text (next ∷ rest)) (some_line next rest) ∙ ap (λ l. byte ∷ l) (joined (next ∷ rest)))
+]
+
+pub stuffed_is_body : StuffedIsBody
+stuffed_is_body text = record {
+  lines = map stuffed (lines_of_text text);
+  content = all_content (lines_of_text text) (text_lines text);
+  whole = ap (λ (b : List ℕ). b ++ ended dot) (sent_as_body (lines_of_text text));
+  read = sym (read_back (lines_of_text text) ∙ joined text);
+}
+
+pub stuffed_is_read : StuffedIsRead
+stuffed_is_read text more body read rest is e =
+    one_body body (stuffed_lines (lines_of_text text)) read (whole_text text) rest more is (stuffed_is_body text) (sym e)
+
+pub only_one_body : OneBody
+only_one_body body other text read x y left right e = one_body body other text read x y left right e

@@ -1,0 +1,133 @@
+-- The command that a line asks for, or why it asks for none (RFC 1939, sections 3 and 5 to 7).
+use Rattle.std.specs.Prelude.{◌≡◌, ◌<◌, ◌^◌, true, ℕ, List, [], ◌∷◌, ◌-◌, if◌then◌else◌, nat_lt, nat_le, length, take, drop, codes, Option, Some, None, Result, Ok, Err}
+use Rattle.std.specs.List.{before_first, after_first, slice_split, suffix_len}
+use Rattle.std.specs.Str.{str_eq_ignore_ascii_case}
+use Rattle.pop3_wire.specs.declared.fault.WireFault.{WireFault}
+use Rattle.pop3_wire.specs.declared.fault.WireFault.TheVariants.{BadNumber, BadCommand, BadArgument}
+use Rattle.pop3_wire.specs.declared.command.Command.{Command}
+use Rattle.pop3_wire.specs.declared.command.Command.TheVariants.{User, Pass, Stat, UidlAll, UidlOne, ListAll, ListOne, Retr, Dele, Rset, Noop, Top, Quit}
+use Rattle.pop3_wire.specs.declared.keyword.Keyword.{Keyword}
+use Rattle.pop3_wire.specs.declared.keyword.Keyword.TheVariants as keyword
+use Rattle.pop3_wire.specs.Commands.{is_argument, can_be_sent, line_of}
+use Rattle.pop3_wire.specs.Fields.{◌>>=◌, is_space, number, number_limit}
+
+-- a keyword, in upper or lower case or both
+unfoldable pub keyword_of : List ℕ → Option Keyword
+keyword_of word =
+    if str_eq_ignore_ascii_case word (codes "USER") then Some keyword.User
+    else if str_eq_ignore_ascii_case word (codes "PASS") then Some keyword.Pass
+    else if str_eq_ignore_ascii_case word (codes "STAT") then Some keyword.Stat
+    else if str_eq_ignore_ascii_case word (codes "UIDL") then Some keyword.Uidl
+    else if str_eq_ignore_ascii_case word (codes "LIST") then Some keyword.List
+    else if str_eq_ignore_ascii_case word (codes "RETR") then Some keyword.Retr
+    else if str_eq_ignore_ascii_case word (codes "DELE") then Some keyword.Dele
+    else if str_eq_ignore_ascii_case word (codes "RSET") then Some keyword.Rset
+    else if str_eq_ignore_ascii_case word (codes "NOOP") then Some keyword.Noop
+    else if str_eq_ignore_ascii_case word (codes "TOP") then Some keyword.Top
+    else if str_eq_ignore_ascii_case word (codes "QUIT") then Some keyword.Quit
+    else None
+
+-- an argument of 1 to 10 digits whose value is below 2 ^ 32
+unfoldable pub argument_number : List ℕ → Result ℕ WireFault
+argument_number word = if nat_le (length word) 10 then number number_limit word else Err BadNumber
+
+-- a line without the spaces at its end
+abbrev pub trimmed : List ℕ → List ℕ
+trimmed line = take (length line - suffix_len is_space line) line
+
+-- what stands between the spaces behind the keyword
+unfoldable pub arguments : List ℕ → List (List ℕ)
+arguments line = drop 1 (slice_split is_space (trimmed line))
+
+-- all that stands behind the keyword's space, spaces included
+abbrev pub rest_of : List ℕ → List ℕ
+rest_of line = after_first is_space line
+
+-- the argument of USER or PASS
+unfoldable pub text_argument : List ℕ → Result (List ℕ) WireFault
+text_argument text = if is_argument text then Ok text else Err BadArgument
+
+-- no argument, one number, one number at most, and two numbers: the count of arguments is judged before their form
+unfoldable pub no_argument : List (List ℕ) → Result (Unit {0}) WireFault
+no_argument [] = Ok tt
+no_argument (word ∷ more) = Err BadArgument
+
+unfoldable pub one_number : List (List ℕ) → Result ℕ WireFault
+one_number [] = Err BadArgument
+one_number (word ∷ []) = argument_number word
+one_number (word ∷ other ∷ more) = Err BadArgument
+
+unfoldable pub number_or_none : List (List ℕ) → Result (Option ℕ) WireFault
+number_or_none [] = Ok None
+number_or_none (word ∷ []) = do
+  n ← argument_number word
+  Ok (Some n)
+number_or_none (word ∷ other ∷ more) = Err BadArgument
+
+unfoldable pub two_numbers : List (List ℕ) → Result (ℕ × ℕ) WireFault
+two_numbers [] = Err BadArgument
+two_numbers (word ∷ []) = Err BadArgument
+two_numbers (word ∷ other ∷ []) = do
+  n ← argument_number word
+  k ← argument_number other
+  Ok (n, k)
+two_numbers (word ∷ other ∷ third ∷ more) = Err BadArgument
+
+-- a command of one message, or of all
+abbrev pub one_or_all : (ℕ → Command) → Command → Option ℕ → Command
+one_or_all one all None = all
+one_or_all one all (Some n) = one n
+
+-- the command of a keyword, of all that stands behind its space, and of the arguments there
+unfoldable pub command_by : Option Keyword → List ℕ → List (List ℕ) → Result Command WireFault
+command_by None rest words = Err BadCommand
+command_by (Some keyword.User) rest words = do
+  name ← text_argument rest
+  Ok (User name)
+command_by (Some keyword.Pass) rest words = do
+  password ← text_argument rest
+  Ok (Pass password)
+command_by (Some keyword.Stat) rest words = do
+  done ← no_argument words
+  Ok Stat
+command_by (Some keyword.Uidl) rest words = do
+  which ← number_or_none words
+  Ok (one_or_all UidlOne UidlAll which)
+command_by (Some keyword.List) rest words = do
+  which ← number_or_none words
+  Ok (one_or_all ListOne ListAll which)
+command_by (Some keyword.Retr) rest words = do
+  n ← one_number words
+  Ok (Retr n)
+command_by (Some keyword.Dele) rest words = do
+  n ← one_number words
+  Ok (Dele n)
+command_by (Some keyword.Rset) rest words = do
+  done ← no_argument words
+  Ok Rset
+command_by (Some keyword.Noop) rest words = do
+  done ← no_argument words
+  Ok Noop
+command_by (Some keyword.Top) rest words = do
+  which ← two_numbers words
+  Ok (Top which.0 which.1)
+command_by (Some keyword.Quit) rest words = do
+  done ← no_argument words
+  Ok Quit
+
+-- the command that a line without its CR LF asks for, or its fault; the keyword is what stands before the first space
+unfoldable pub command_of : List ℕ → Result Command WireFault
+command_of line = if nat_lt 510 (length line) then Err BadCommand else command_by (keyword_of (before_first is_space line)) (rest_of line) (arguments line)
+
+-- the numbers of a command are below 2 ^ 32
+abbrev pub HasNumbers : Command → Type 0
+HasNumbers (UidlOne n) = n < 2 ^ 32
+HasNumbers (ListOne n) = n < 2 ^ 32
+HasNumbers (Retr n) = n < 2 ^ 32
+HasNumbers (Dele n) = n < 2 ^ 32
+HasNumbers (Top n k) = (n < 2 ^ 32) × (k < 2 ^ 32)
+HasNumbers _ = Unit {0}
+
+-- the line that asks for a command is read as that command
+abbrev pub ReadAsWritten : Type 0
+ReadAsWritten = (c : Command) → HasNumbers c → can_be_sent c ≡ true → command_of (line_of c) ≡ Ok c

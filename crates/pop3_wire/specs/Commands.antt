@@ -1,0 +1,36 @@
+-- The lines of commands (RFC 1939, sections 3 and 5 to 7).
+use Rattle.std.specs.Prelude.{ℕ, Bool, true, List, ◌++◌, ◌==◌, ◌&&◌, not, nat_lt, nat_le, length, codes}
+use Rattle.std.specs.List.{list_all}
+use Rattle.std.specs.Fmt.{decimal}
+use Rattle.pop3_wire.specs.declared.command.Command.{Command}
+use Rattle.pop3_wire.specs.declared.command.Command.TheVariants.{User, Pass, Stat, UidlAll, UidlOne, ListAll, ListOne, Retr, Dele, Rset, Noop, Top, Quit}
+
+-- neither CR, nor LF, nor NUL
+abbrev pub is_plain : ℕ → Bool
+is_plain byte = not (byte == 13) && not (byte == 10) && not (byte == 0)
+
+-- an argument of USER or PASS: 1 to 500 bytes, all of them plain
+abbrev pub is_argument : List ℕ → Bool
+is_argument bytes = nat_lt 0 (length bytes) && nat_le (length bytes) 500 && list_all is_plain bytes
+
+-- the command can be sent
+abbrev pub can_be_sent : Command → Bool
+can_be_sent (User name) = is_argument name
+can_be_sent (Pass password) = is_argument password
+can_be_sent _ = true
+
+-- the line that asks for a command, without its CR LF
+unfoldable pub line_of : Command → List ℕ
+line_of (User name) = codes "USER " ++ name
+line_of (Pass password) = codes "PASS " ++ password
+line_of Stat = codes "STAT"
+line_of UidlAll = codes "UIDL"
+line_of (UidlOne number) = codes "UIDL " ++ decimal number
+line_of ListAll = codes "LIST"
+line_of (ListOne number) = codes "LIST " ++ decimal number
+line_of (Retr number) = codes "RETR " ++ decimal number
+line_of (Dele number) = codes "DELE " ++ decimal number
+line_of Rset = codes "RSET"
+line_of Noop = codes "NOOP"
+line_of (Top number lines) = codes "TOP " ++ decimal number ++ codes " " ++ decimal lines
+line_of Quit = codes "QUIT"
