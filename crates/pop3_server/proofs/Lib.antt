@@ -1,2 +1,4 @@
+pub mod ReplyLemmas
+pub mod RowLemmas
 pub mod SizeLemmas
 pub mod SlotLemmas

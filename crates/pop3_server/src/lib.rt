@@ -1,11 +1,14 @@
 //! A POP3 server as a machine of lines, over any maildrop (RFC 1939).
 #![tactic(auto)]
 
+mod fault;
 mod maildrops;
 mod memory_drop;
+mod replies;
 mod size;
 mod state;
 
+pub use fault::ServerFault;
 pub use maildrops::{DropFault, Entry, MAX_COUNT, MAX_SIZE, Maildrop};
 pub use memory_drop::MemoryDrop;
 pub use size::size_of;
