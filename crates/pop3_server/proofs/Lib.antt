@@ -1,4 +1,5 @@
 pub mod ReplyLemmas
 pub mod RowLemmas
+pub mod ServeIntakeLemmas
 pub mod SizeLemmas
 pub mod SlotLemmas

@@ -2,6 +2,7 @@
 #![tactic(auto)]
 
 mod fault;
+mod intake;
 mod maildrops;
 mod memory_drop;
 mod replies;
