@@ -1,3 +1,5 @@
+pub mod LeaveLemmas
+pub mod OpenLemmas
 pub mod ReplyLemmas
 pub mod RowLemmas
 pub mod ServeIntakeLemmas

@@ -1,5 +1,5 @@
 -- The top of a text.
-use Rattle.std.proofs.Common.{◌≡◌, ℕ, zero, false, List, [], ◌∷◌, refl}
+use Rattle.std.proofs.Common.{◌≡◌, ℕ, false, List, [], ◌∷◌, refl}
 use Rattle.pop3_server.specs.ServerMachine.{top_from}
 
 -- no more lines are wanted

@@ -6,10 +6,13 @@ mod intake;
 mod maildrops;
 mod memory_drop;
 mod replies;
+mod servers;
+mod sessions;
 mod size;
 mod state;
 
 pub use fault::ServerFault;
 pub use maildrops::{DropFault, Entry, MAX_COUNT, MAX_SIZE, Maildrop};
 pub use memory_drop::MemoryDrop;
+pub use servers::{Answer, Server};
 pub use size::size_of;

@@ -5,13 +5,11 @@ ghost use Rattle.std.specs.List.{flat_map};
 ghost use Rattle.pop3_wire.specs.Stuffed.{lines_of_text, sent_line};
 ghost use Rattle.pop3_server.specs.ServerMachine.{said, scan_line, uid_line, listed, lines_from, left_count, left_total, octets_line, text_body, top_from};
 
-use std::alloc::Global;
-
-use pop3_wire::{cut_text, put_body, put_line};
-
 use crate::fault::ServerFault;
 use crate::maildrops::MAX_COUNT;
 use crate::state::{Row, left};
+use pop3_wire::{cut_text, put_body, put_line};
+use std::alloc::Global;
 
 /// One line.
 pub fn say(alloc: Global, text: &[u8]) -> Result<Vec<u8>, ServerFault>
@@ -34,10 +32,8 @@ pub fn say_count(alloc: Global, count: usize) -> Result<Vec<u8>, ServerFault>
 /// How many messages aren't marked, and their octets.
 pub fn say_left(alloc: Global, rows: &[Row]) -> Result<Vec<u8>, ServerFault>
     requires { length rows.now ≤ MAX_COUNT }
-    ensures ok {
-        IfOk result (λ reply. reply.items
-            ≡ said (codes "+OK " ++ decimal (left_count rows.now) ++ codes " " ++ decimal (left_total rows.now)))
-    }
+    ensures ok { IfOk result (λ reply. reply.items
+        ≡ said (codes "+OK " ++ decimal (left_count rows.now) ++ codes " " ++ decimal (left_total rows.now))) }
     ensures err { IfErr result (λ e. e ≡ ServerFault.NoMemory) }
 {
     let (count, total) = left(rows);
@@ -137,11 +133,9 @@ pub fn say_text(alloc: Global, row: &Row, text: &[u8]) -> Result<Vec<u8>, Server
 /// Puts the lines of a text up to and including its first empty one behind what stands there, and
 /// gives what follows them.
 fn put_head<'a>(reply: &mut Vec<u8>, text: &'a [u8]) -> Result<&'a [u8], ServerFault>
-    ensures ok {
-        IfOk result (λ rest. (n : ℕ)
-            → reply.new.items ++ flat_map sent_line (top_from false n (lines_of_text rest.now))
-            ≡ reply.old.items ++ flat_map sent_line (top_from true n (lines_of_text text.now)))
-    }
+    ensures ok { IfOk result (λ rest. (n : ℕ)
+        → reply.new.items ++ flat_map sent_line (top_from false n (lines_of_text rest.now))
+        ≡ reply.old.items ++ flat_map sent_line (top_from true n (lines_of_text text.now))) }
     ensures err { IfErr result (λ e. e ≡ ServerFault.NoMemory) }
 {
     let mut rest = text;
@@ -160,9 +154,7 @@ fn put_head<'a>(reply: &mut Vec<u8>, text: &'a [u8]) -> Result<&'a [u8], ServerF
 
 /// Puts so many lines of a text behind what stands there, or all that there are.
 fn put_lines(reply: &mut Vec<u8>, count: u32, text: &[u8]) -> Result<(), ServerFault>
-    ensures ok {
-        IfOk result (λ _. reply.new.items ≡ reply.old.items ++ flat_map sent_line (top_from false count (lines_of_text text.now)))
-    }
+    ensures ok { IfOk result (λ _. reply.new.items ≡ reply.old.items ++ flat_map sent_line (top_from false count (lines_of_text text.now))) }
     ensures err { IfErr result (λ e. e ≡ ServerFault.NoMemory) }
 {
     let mut rest = text;

@@ -3,12 +3,10 @@ ghost use Rattle.std.specs.Prelude.{◌≡◌, ◌≤◌, ◌<◌, ◌+◌, ◌-
 ghost use Rattle.pop3_server.specs.declared.state.Row.{Row};
 ghost use Rattle.pop3_server.specs.ServerMachine.{row_at, row_of_entry, mark_at, unmarked, left_count, left_total};
 
+use crate::maildrops::{Entry, MAX_COUNT, MAX_SIZE};
+use pop3_wire::Bytes;
 use std::alloc::{AllocError, Global};
 use std::marker::Model;
-
-use pop3_wire::Bytes;
-
-use crate::maildrops::{Entry, MAX_COUNT, MAX_SIZE};
 
 /// A message as PASS found it, and whether it is marked for removal.
 #[derive(Drop)]
@@ -61,11 +59,9 @@ impl Rows {
     /// The place of the row of this message number, counted from 1. None where there is no such
     /// message, or where it is marked.
     pub fn place(&self, number: u32) -> Option<usize>
-        ensures {
-            MatchOption result
-                (row_at self.now number ≡ None)
-                (λ i. (i ≡ number - 1) × (i < length self.now) × ((row : Row) × (slice_get self.now i ≡ Some row) × (row_at self.now number ≡ Some row)))
-        }
+        ensures { MatchOption result
+            (row_at self.now number ≡ None)
+            (λ i. (i ≡ number - 1) × (i < length self.now) × ((row : Row) × (slice_get self.now i ≡ Some row) × (row_at self.now number ≡ Some row))) }
     {
         if number == 0 {
             return None;
@@ -78,6 +74,14 @@ impl Rows {
             return None;
         }
         Some(i)
+    }
+
+    /// The row at a place.
+    pub fn row(&self, i: usize) -> &Row
+        requires { i < length self.now }
+        ensures { slice_get self.now i ≡ Some result.now }
+    {
+        &self.rows[i]
     }
 
     /// Marks the row at a place.

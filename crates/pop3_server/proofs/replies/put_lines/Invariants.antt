@@ -1,4 +1,4 @@
-use Rattle.std.proofs.Common.{◌≡◌, ◌++◌, length, false}
+use Rattle.std.proofs.Common.{◌≡◌, ◌++◌, false}
 use Rattle.std.specs.List.{flat_map}
 use Rattle.pop3_wire.specs.Stuffed.{lines_of_text, sent_line}
 use Rattle.pop3_server.specs.ServerMachine.{top_from}

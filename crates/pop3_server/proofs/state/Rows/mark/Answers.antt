@@ -1,4 +1,4 @@
-use Rattle.std.proofs.Common.{◌≡◌, ◌<◌, ◌∙◌, ap, sym, subst, length}
+use Rattle.std.proofs.Common.{◌<◌, ◌∙◌, ap, sym, subst, length}
 use Rattle.pop3_server.specs.ServerMachine.{mark_at}
 use Rattle.pop3_server.proofs.RowLemmas.{set_mark}
 use Rattle.pop3_server.proofs.state.Rows.mark.Goals as goal

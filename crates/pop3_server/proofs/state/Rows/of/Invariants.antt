@@ -1,4 +1,4 @@
-use Rattle.std.proofs.Common.{◌≡◌, ◌≤◌, map, length}
+use Rattle.std.proofs.Common.{◌≡◌, map}
 use Rattle.pop3_server.specs.ServerMachine.{row_of_entry}
 use Rattle.pop3_server.proofs.state.Rows.of.Given as goal
 
