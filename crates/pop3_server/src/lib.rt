@@ -7,6 +7,7 @@ mod maildrops;
 mod memory_drop;
 mod replies;
 mod servers;
+mod serving;
 mod sessions;
 mod size;
 mod state;
@@ -15,4 +16,8 @@ pub use fault::ServerFault;
 pub use maildrops::{DropFault, Entry, MAX_COUNT, MAX_SIZE, Maildrop};
 pub use memory_drop::MemoryDrop;
 pub use servers::{Answer, Server};
+pub use serving::serve;
 pub use size::size_of;
+
+#[cfg(test)]
+mod serving_tests;
