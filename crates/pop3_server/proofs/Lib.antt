@@ -1,3 +1,5 @@
+pub mod HonestLemmas
+pub mod HonestTurns
 pub mod LeaveLemmas
 pub mod OpenLemmas
 pub mod ReplyLemmas

@@ -2,6 +2,7 @@
 #![tactic(auto)]
 
 mod fault;
+mod honesty;
 mod intake;
 mod maildrops;
 mod memory_drop;
@@ -13,6 +14,7 @@ mod size;
 mod state;
 
 pub use fault::ServerFault;
+pub use honesty::conversations_are_honest;
 pub use maildrops::{DropFault, Entry, MAX_COUNT, MAX_SIZE, Maildrop};
 pub use memory_drop::MemoryDrop;
 pub use servers::{Answer, Server};
