@@ -1,3 +1,4 @@
+pub mod DigestLemmas
 pub mod LeaveLemmas
 pub mod OpenLemmas
 pub mod ReplyLemmas

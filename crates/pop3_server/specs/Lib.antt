@@ -1,3 +1,4 @@
+pub mod MaildirNames
 pub mod Maildrop
 pub mod ServerMachine
 pub mod Size

@@ -2,6 +2,8 @@
 #![tactic(auto)]
 
 mod fault;
+mod maildir_drop;
+mod maildir_names;
 mod maildrops;
 mod memory_drop;
 mod replies;
@@ -11,6 +13,7 @@ mod size;
 mod state;
 
 pub use fault::ServerFault;
+pub use maildir_drop::MaildirDrop;
 pub use maildrops::{DropFault, Entry, MAX_COUNT, MAX_SIZE, Maildrop};
 pub use memory_drop::MemoryDrop;
 pub use servers::{Answer, Server};
