@@ -1,4 +1,5 @@
 pub mod MaildirNames
 pub mod Maildrop
+pub mod Removal
 pub mod ServerMachine
 pub mod Size

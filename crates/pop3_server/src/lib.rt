@@ -2,6 +2,7 @@
 #![tactic(auto)]
 
 mod fault;
+mod laws;
 mod maildir_drop;
 mod maildir_names;
 mod maildrops;
@@ -13,8 +14,16 @@ mod size;
 mod state;
 
 pub use fault::ServerFault;
+pub use laws::quit_leaves_few;
 pub use maildir_drop::MaildirDrop;
 pub use maildrops::{DropFault, Entry, MAX_COUNT, MAX_SIZE, Maildrop};
 pub use memory_drop::MemoryDrop;
 pub use servers::{Answer, Server};
 pub use size::size_of;
+
+#[cfg(test)]
+mod maildir_tests;
+#[cfg(test)]
+mod memory_drop_tests;
+#[cfg(test)]
+mod servers_tests;
