@@ -4,5 +4,6 @@ pub mod OpenLemmas
 pub mod RemovalLemmas
 pub mod ReplyLemmas
 pub mod RowLemmas
+pub mod ServeIntakeLemmas
 pub mod SizeLemmas
 pub mod SlotLemmas

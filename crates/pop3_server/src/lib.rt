@@ -2,6 +2,7 @@
 #![tactic(auto)]
 
 mod fault;
+mod intake;
 mod laws;
 mod maildir_drop;
 mod maildir_names;

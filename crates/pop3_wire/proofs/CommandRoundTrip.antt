@@ -32,10 +32,10 @@ unfolding read_on
 own = numerals_by_fold _ (search rules) read_on (search rules)
 
 -- a number is written with digits alone
-digits_of_decimal : (n : ℕ) → n < 2 ^ 32 → list_all is_ascii_digit (decimal n) ≡ true
-digits_of_decimal n few = digits_decimal own n (omega arith)
+pub digits_of_decimal : (n : ℕ) → n < 2 ^ 64 → list_all is_ascii_digit (decimal n) ≡ true
+digits_of_decimal n few = digits_decimal own n few
 
-no_space : (d : ℕ) → is_ascii_digit d ≡ true → is_space d ≡ false
+pub no_space : (d : ℕ) → is_ascii_digit d ≡ true → is_space d ≡ false
 no_space d e = grind (arith, nat_tests)
 
 no_space_at : (ds : List ℕ) (k : ℕ) → list_all is_ascii_digit ds ≡ true → k < length ds → is_space (get_or ds k 0) ≡ false
@@ -56,7 +56,7 @@ word_by : (ds : List ℕ) → list_all (λ x. not (is_space x)) ds ≡ true → 
 word_by ds e = All-from_get_or (λ x. is_space x ≡ false) ds 0 (λ k lt. word_at ds k e lt)
 
 number_word : (n : ℕ) → n < 2 ^ 32 → Word (decimal n)
-number_word n few = All-from_get_or (λ x. is_space x ≡ false) (decimal n) 0 (λ k lt. no_space_at (decimal n) k (digits_of_decimal n few) lt)
+number_word n few = All-from_get_or (λ x. is_space x ≡ false) (decimal n) 0 (λ k lt. no_space_at (decimal n) k (digits_of_decimal n (omega arith)) lt)
 
 some_digit : (n : ℕ) → n < 2 ^ 32 → 0 < length (decimal n)
 some_digit n few = decimal_nonempty n (omega arith)
@@ -73,7 +73,7 @@ read_number n few =
     let value : digits_value 10 (decimal n) ≡ n = (decimal_is_IsNumeral n (omega arith)).1 in
     let fits : digits_value 10 (decimal n) ≤ 4294967295 = omega arith in
     let good : (is_numeral (decimal n) && nat_le (digits_value 10 (decimal n)) 4294967295) ≡ true =
-    and_from _ _ (and_from _ _ (and_from _ _ (lt-ltb 0 (length (decimal n)) some) (le-leb (length (decimal n)) 20 (omega arith))) (digits_of_decimal n few)) (le-leb _ _ fits) in
+    and_from _ _ (and_from _ _ (and_from _ _ (lt-ltb 0 (length (decimal n)) some) (le-leb (length (decimal n)) 20 (omega arith))) (digits_of_decimal n (omega arith))) (le-leb _ _ fits) in
     cond-true _ _ _ (le-leb (length (decimal n)) 10 short) ∙ cond-true _ _ _ good ∙ ap (λ (v : ℕ). Ok v) value
 
 -- a line that ends in no space is left as it is

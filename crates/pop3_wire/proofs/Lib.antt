@@ -2,6 +2,8 @@ pub mod BodyLemmas
 pub mod CommandLineLemmas
 pub mod CommandRoundTrip
 pub mod FieldsLemmas
+pub mod HonestRows
 pub mod LineLemmas
 pub mod LineReaderLemmas
 pub mod StuffLemmas
+pub mod UnstuffingLemmas

@@ -10,3 +10,4 @@ pub mod Reply
 pub mod Script
 pub mod Stuffed
 pub mod World
+pub mod Unstuffing

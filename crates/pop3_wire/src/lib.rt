@@ -15,6 +15,7 @@ mod reply;
 mod script_wire;
 mod stream_wire;
 mod stuffing;
+mod unstuffer;
 mod wire;
 
 pub use body::unstuff;
@@ -30,6 +31,7 @@ pub use stream_wire::StreamWire;
 pub use stuffing::{
     cut_text, only_one_body, put_body, put_line, stuff, stuffed_is_body, stuffed_is_read,
 };
+pub use unstuffer::{Fed, Given, Spot, Unstuffer};
 pub use wire::{Wire, WireDown};
 
 #[cfg(test)]

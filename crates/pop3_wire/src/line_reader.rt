@@ -100,17 +100,39 @@ impl LineReader {
                     × WasRefused (W.seen wire.old) (W.seen wire.new)))
         }
     {
+        self.fill_at_most(wire, 4096)
+    }
+
+    /// Takes what the link gives next, at most so many octets, in one `recv`, and says how many that
+    /// were. They wait behind those that wait.
+    pub fn fill_at_most<W: Wire>(&mut self, wire: &mut W, most: usize) -> Result<usize, WireDown>
+        requires room { length self.old < 4096 }
+        requires some { 0 < most }
+        ensures counted { Tallies (W.seen wire.old).failures result (W.seen wire.new).failures }
+        ensures within { IfOk result (λ n. n ≤ most) }
+        ensures ok {
+            IfOk result (λ n. (piece : List ℕ) × (length piece ≡ n) × (self.new ≡ self.old ++ piece)
+                × (W.sound wire.new → W.sound wire.old × W.leads_to wire.old wire.new
+                    × GotPiece (W.seen wire.old) piece (W.seen wire.new)))
+        }
+        ensures err {
+            OnErr result ((self.new ≡ self.old)
+                × (W.sound wire.new → W.sound wire.old × W.leads_to wire.old wire.new
+                    × WasRefused (W.seen wire.old) (W.seen wire.new)))
+        }
+    {
         move_to_front(&mut self.bytes, self.start, self.end);
         self.end -= self.start;
         self.start = 0;
-        let n = wire.recv(&mut self.bytes[self.end..])?;
+        let until = self.end + most.min(4096 - self.end);
+        let n = wire.recv(&mut self.bytes[self.end..until])?;
         self.end += n;
         Ok(n)
     }
 
     /// How long the line is that waits, if one ends within the limit. The search goes on where the
     /// last one ended.
-    fn line_end(&mut self, limit: usize) -> Option<usize>
+    pub fn line_end(&mut self, limit: usize) -> Option<usize>
         ensures same { self.new ≡ self.old }
         ensures found { IfSome result (HasLine limit self.old) }
         ensures none { IfNone result (HasNoLine limit self.old) }

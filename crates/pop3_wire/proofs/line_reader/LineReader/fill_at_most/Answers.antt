@@ -1,8 +1,8 @@
-use Rattle.std.proofs.Common.{◌≡◌, ◌≤◌, ◌-◌, ◌∙◌, ◌++◌, ◌==◌, ◌||◌, ℕ, List, length, take, ap, sym, arith, length-take-le}
+use Rattle.std.proofs.Common.{◌≡◌, ◌≤◌, ◌+◌, ◌-◌, ◌∙◌, ◌++◌, ◌==◌, ◌||◌, ℕ, List, length, take, ap, sym, arith, length-take-le}
 use Rattle.pop3_wire.specs.Link.{Link}
 use Rattle.pop3_wire.specs.Place.{GotPiece}
 use Rattle.pop3_wire.proofs.LineReaderLemmas.{window_fill}
-use Rattle.pop3_wire.proofs.line_reader.LineReader.fill.Goals as goal
+use Rattle.pop3_wire.proofs.line_reader.LineReader.fill_at_most.Goals as goal
 
 piece_got : (old new : Link) (n : ℕ) (buf : List ℕ) → length (take n buf) ≡ n
     → new ≡ record old { got = old.got ++ take n buf; ended = old.ended || n == 0 } → GotPiece old (take n buf) new
@@ -19,7 +19,7 @@ returns-clause-ok g c =
     let ordered : r.start ≤ r.end = c.self.invariant.0 in
     let high : r.end ≤ 4096 = c.self.invariant.1 in
     let whole : length c.move_to_front.new.bytes ≡ 4096 = omega arith in
-    let waits = window_fill (r.end - r.start) (4096 - (r.end - r.start)) n c.move_to_front.new.bytes buf (omega arith) within in
+    let waits = window_fill (r.end - r.start) ((r.end - r.start) + c.min.result - (r.end - r.start)) n c.move_to_front.new.bytes buf (omega arith) within in
     let moved = ap (λ (l : List ℕ). l ++ take n buf) (c.move_to_front.ensures ∙ c.self.view_is) in
     (take n buf, size, waits ∙ moved,
       λ sound. let got = c.in_ok-n.ensures.got sound in (got.0, got.1, piece_got _ _ n buf size got.2))

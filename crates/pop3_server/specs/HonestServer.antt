@@ -1,0 +1,56 @@
+-- Conversations of the server by the commands of a session are honest.
+use Rattle.std.specs.Prelude.{◌≡◌, ◌≤◌, ◌^◌, ◌<◌, ℕ, Bool, true, List, [], ◌∷◌, ◌++◌, map, length, None}
+use Rattle.std.specs.List.{flat_map, AllByRecursion}
+use Rattle.pop3_wire.specs.declared.command.Command.{Command}
+use Rattle.pop3_wire.specs.declared.command.Command.TheVariants.{User, Pass, Stat, UidlAll, UidlOne, ListAll, ListOne, Retr, Dele, Rset, Noop, Top, Quit}
+use Rattle.pop3_wire.specs.Line.{ended}
+use Rattle.pop3_wire.specs.Commands.{line_of, can_be_sent}
+use Rattle.pop3_wire.specs.CommandLine.{HasNumbers}
+use Rattle.pop3_wire.specs.World.{Message, IsMessage}
+use Rattle.pop3_wire.specs.Honest.{Honest}
+use Rattle.pop3_server.specs.declared.state.State.TheVariants.{Authorization}
+use Rattle.pop3_server.specs.Maildrop.{Mail, there}
+use Rattle.pop3_server.specs.ServerMachine.{Machine, greeting}
+use Rattle.pop3_server.specs.Run.{Run}
+
+-- what a session sends: the commands of its plan, and RSET
+abbrev pub IsOfSession : Command → Type 0
+IsOfSession (User name) = Unit {0}
+IsOfSession (Pass password) = Unit {0}
+IsOfSession Stat = Unit {0}
+IsOfSession UidlAll = Unit {0}
+IsOfSession (UidlOne number) = ⊥
+IsOfSession ListAll = Unit {0}
+IsOfSession (ListOne number) = ⊥
+IsOfSession (Retr number) = Unit {0}
+IsOfSession (Dele number) = Unit {0}
+IsOfSession Rset = Unit {0}
+IsOfSession Noop = Unit {0}
+IsOfSession (Top number lines) = ⊥
+IsOfSession Quit = Unit {0}
+
+-- a command of a session that can be sent
+pub record IsAsked (command : Command) : Type 0 where
+  pub of_session : IsOfSession command
+  pub numbers : HasNumbers command
+  pub sendable : can_be_sent command ≡ true
+
+-- a message of a world, of a size that a server lists
+pub record IsServed (message : Message) : Type 0 where
+  pub is_message : IsMessage message
+  pub within : message.size ≤ 134217728
+
+-- messages as a server lists them
+pub record AreServed (messages : List Message) : Type 0 where
+  pub served : AllByRecursion IsServed messages
+  pub few : length messages ≤ 100000
+
+abbrev pub lines_of : List Command → List (List ℕ)
+lines_of commands = map line_of commands
+
+-- a new server's greeting and its answers to these commands are an honest conversation over its maildrop's messages
+abbrev pub IsHonest : {D : Type 0} → (D → Type 0) → (D → Mail) → Type 0
+IsHonest {D} sound mail = (old new : Machine D) (commands : List Command) (answers : List ℕ)
+    → old.state ≡ Authorization None → AllByRecursion IsAsked commands → Run sound mail old (lines_of commands) answers new
+    → sound new.drop → AreServed (there (mail old.drop).slots)
+    → (marks : List Bool) × Honest (there (mail old.drop).slots) (flat_map ended (lines_of commands)) (greeting ++ answers) marks

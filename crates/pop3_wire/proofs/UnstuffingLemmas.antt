@@ -1,0 +1,202 @@
+-- What an octet does to a body that is read octet by octet.
+use Rattle.std.proofs.Common.{◌≡◌, ◌≢◌, ◌⊎◌, inl, inr, ℕ, List, [], ◌∷◌, ◌++◌, refl, sym, ap, subst, ◌∙◌, arith, append_assoc}
+use Rattle.std.proofs.lemmas.Bool.{ne_eqb}
+use Rattle.std.proofs.lemmas.List.{append-nil, same_from_push}
+use Rattle.std.specs.List.{flat_map, AllByRecursion}
+use Rattle.pop3_wire.specs.Line.{crlf, IsLine, ended}
+use Rattle.pop3_wire.specs.Body.{dot, IsContent, unstuffed, kept, body_of, text_of, Body, HasNoBody}
+use Rattle.pop3_wire.specs.declared.unstuffer.Spot.{Spot}
+use Rattle.pop3_wire.specs.declared.unstuffer.Spot.TheVariants.{Start, Dot, DotCr, Middle, Cr, Done}
+use Rattle.pop3_wire.specs.Unstuffing.{Partly, NoCr, InLine, AtCr, Reaches}
+use Rattle.pop3_wire.proofs.LineLemmas.{last_split, IsLine-nil, IsLine-back, IsLine-front}
+use Rattle.pop3_wire.proofs.BodyLemmas.{Reads, no_body, reads_more, IsLine-dot}
+
+-- one more octet keeps a line a line, unless it is LF behind CR
+IsLine-push : (part : List ℕ) (byte : ℕ) → IsLine part → (byte ≢ 10) ⊎ NoCr part → IsLine (part ++ byte ∷ [])
+IsLine-push part byte line apart front rest e = elim (last_split rest) [
+    inl none ↦
+      let whole : part ++ byte ∷ [] ≡ (front ++ 13 ∷ []) ++ 10 ∷ [] =
+          e ∙ ap (λ (r : List ℕ). front ++ (crlf ++ r)) none ∙ sym (append_assoc front (13 ∷ []) (10 ∷ [])) in
+      let same = same_from_push part (front ++ 13 ∷ []) byte 10 whole in
+      elim apart [ inl other ↦ other same.1 | inr none ↦ none front same.0 ]
+  | inr some ↦
+      let whole : part ++ byte ∷ [] ≡ (front ++ (crlf ++ some.0)) ++ some.1 ∷ [] =
+          e ∙ ap (λ (r : List ℕ). front ++ (crlf ++ r)) some.2 ∙ sym (append_assoc front (crlf ++ some.0) (some.1 ∷ [])) in
+      line front some.0 (same_from_push part (front ++ (crlf ++ some.0)) byte some.1 whole).0
+  ]
+
+NoCr-push : (part : List ℕ) (byte : ℕ) → byte ≢ 13 → NoCr (part ++ byte ∷ [])
+NoCr-push part byte other front e = other (same_from_push part front byte 13 e).1
+
+push-some : (part : List ℕ) (byte : ℕ) → (part ++ byte ∷ []) ≢ []
+push-some [] byte e = cc
+push-some (b ∷ part) byte e = cc
+
+unstuffed-push : (part : List ℕ) (byte : ℕ) → (part ≢ []) ⊎ (byte ≢ 46) → unstuffed (part ++ byte ∷ []) ≡ unstuffed part ++ byte ∷ []
+unstuffed-push [] byte some = elim some [
+    inl n ↦ absurd (n refl)
+  | inr other ↦ grind (arith, ne_eqb byte 46 other)
+  ]
+unstuffed-push (b ∷ part) byte some = grind arith
+
+-- one more octet of the line that is read
+one_more : (bytes text part shown shown' : List ℕ) (byte : ℕ) (given : List ℕ) → Partly bytes text part shown → IsLine (part ++ byte ∷ [])
+    → shown' ≡ shown ++ given → Partly (bytes ++ byte ∷ []) (text ++ given) (part ++ byte ∷ []) shown'
+one_more bytes text part shown shown' byte given partly line more =
+    record {
+      lines = partly.lines;
+      content = partly.content;
+      line = line;
+      whole = ap (λ (l : List ℕ). l ++ byte ∷ []) partly.whole ∙ append_assoc (flat_map ended partly.lines) part (byte ∷ []);
+      read = ap (λ (l : List ℕ). l ++ given) partly.read ∙ append_assoc (text_of partly.lines) shown given ∙ ap (λ (l : List ℕ). text_of partly.lines ++ l) (sym more);
+    }
+
+
+NoCr-nil : NoCr []
+NoCr-nil front e = push-some front 13 (sym e)
+
+cr_is_no_dot : (byte : ℕ) → byte ≡ 13 → byte ≢ 46
+cr_is_no_dot byte e f = absurd (omega arith)
+
+NoCr-dot : NoCr dot
+NoCr-dot front e =
+    cr_is_no_dot 13 refl (sym (same_from_push [] front 46 13 e).1)
+
+cr_is_not_lf : (byte : ℕ) → byte ≡ 13 → byte ≢ 10
+cr_is_not_lf byte e f = absurd (omega arith)
+
+pub start_cr : (bytes text : List ℕ) → Partly bytes text [] [] → AtCr (bytes ++ 13 ∷ []) (text ++ [])
+start_cr bytes text h =
+    record {
+      part = [];
+      other = λ e. cc;
+      partly = one_more bytes text [] [] [] 13 [] h (IsLine-push [] 13 IsLine-nil (inl (cr_is_not_lf 13 refl))) refl;
+    }
+
+pub start_other : (bytes text : List ℕ) (byte : ℕ) → byte ≢ 46 → byte ≢ 13 → Partly bytes text [] [] → InLine (bytes ++ byte ∷ []) (text ++ byte ∷ [])
+start_other bytes text byte no_dot no_cr h =
+    record {
+      part = byte ∷ [];
+      some = push-some [] byte;
+      other = λ e. no_dot (same_from_push [] [] byte 46 e).1;
+      no_cr = NoCr-push [] byte no_cr;
+      partly = one_more bytes text [] [] (unstuffed (byte ∷ [])) byte (byte ∷ []) h (IsLine-push [] byte IsLine-nil (inr NoCr-nil)) (unstuffed-push [] byte (inr no_dot));
+    }
+
+pub dot_cr : (bytes text : List ℕ) → Partly bytes text dot [] → Partly (bytes ++ 13 ∷ []) (text ++ []) (46 ∷ 13 ∷ []) []
+dot_cr bytes text h = one_more bytes text dot [] [] 13 [] h (IsLine-push dot 13 IsLine-dot (inl (cr_is_not_lf 13 refl))) refl
+
+pub dot_other : (bytes text : List ℕ) (byte : ℕ) → byte ≢ 13 → Partly bytes text dot [] → InLine (bytes ++ byte ∷ []) (text ++ byte ∷ [])
+dot_other bytes text byte no_cr h =
+    record {
+      part = 46 ∷ byte ∷ [];
+      some = push-some dot byte;
+      other = λ e. cc;
+      no_cr = NoCr-push dot byte no_cr;
+      partly = one_more bytes text dot [] (byte ∷ []) byte (byte ∷ []) h (IsLine-push dot byte IsLine-dot (inr NoCr-dot)) refl;
+    }
+
+pub dot_cr_cr : (bytes text : List ℕ) → Partly bytes text (46 ∷ 13 ∷ []) [] → AtCr (bytes ++ 13 ∷ []) (text ++ 13 ∷ [])
+dot_cr_cr bytes text h =
+    record {
+      part = 46 ∷ 13 ∷ [];
+      other = λ e. cc;
+      partly = one_more bytes text (46 ∷ 13 ∷ []) [] (13 ∷ []) 13 (13 ∷ []) h (IsLine-push (46 ∷ 13 ∷ []) 13 h.line (inl (cr_is_not_lf 13 refl))) refl;
+    }
+
+pub dot_cr_other : (bytes text : List ℕ) (byte : ℕ) → byte ≢ 10 → byte ≢ 13 → Partly bytes text (46 ∷ 13 ∷ []) [] → InLine (bytes ++ byte ∷ []) (text ++ 13 ∷ byte ∷ [])
+dot_cr_other bytes text byte no_lf no_cr h =
+    record {
+      part = 46 ∷ 13 ∷ byte ∷ [];
+      some = push-some (46 ∷ 13 ∷ []) byte;
+      other = λ e. cc;
+      no_cr = NoCr-push (46 ∷ 13 ∷ []) byte no_cr;
+      partly = one_more bytes text (46 ∷ 13 ∷ []) [] (13 ∷ byte ∷ []) byte (13 ∷ byte ∷ []) h (IsLine-push (46 ∷ 13 ∷ []) byte h.line (inl no_lf)) refl;
+    }
+
+pub middle_cr : (bytes text : List ℕ) → InLine bytes text → AtCr (bytes ++ 13 ∷ []) (text ++ [])
+middle_cr bytes text h =
+    record {
+      part = h.part;
+      other = h.other;
+      partly = one_more bytes text h.part (unstuffed h.part) (unstuffed h.part) 13 [] h.partly (IsLine-push h.part 13 h.partly.line (inl (cr_is_not_lf 13 refl))) (sym (append-nil (unstuffed h.part)));
+    }
+
+pub middle_other : (bytes text : List ℕ) (byte : ℕ) → byte ≢ 13 → InLine bytes text → InLine (bytes ++ byte ∷ []) (text ++ byte ∷ [])
+middle_other bytes text byte no_cr h =
+    record {
+      part = h.part ++ byte ∷ [];
+      some = push-some h.part byte;
+      other = λ e. h.some (same_from_push h.part [] byte 46 e).0;
+      no_cr = NoCr-push h.part byte no_cr;
+      partly = one_more bytes text h.part (unstuffed h.part) (unstuffed (h.part ++ byte ∷ [])) byte (byte ∷ []) h.partly (IsLine-push h.part byte h.partly.line (inr h.no_cr)) (unstuffed-push h.part byte (inl h.some));
+    }
+
+pub cr_lf : (bytes text : List ℕ) → AtCr bytes text → Partly (bytes ++ 10 ∷ []) (text ++ 10 ∷ []) [] []
+cr_lf bytes text h =
+    record {
+      lines = more.lines;
+      content = more.content;
+      line = IsLine-nil;
+      whole = more.whole;
+      read = ap (λ (t : List ℕ). t ++ 10 ∷ []) h.partly.read ∙ append_assoc (text_of h.partly.lines) (unstuffed h.part) (10 ∷ []) ∙ more.read ∙ sym (append-nil (text_of more.lines));
+    }
+  where
+    so_far : Reads (bytes ++ 10 ∷ []) (h.part ++ (crlf ++ [])) (text_of h.partly.lines)
+    so_far = record {
+      lines = h.partly.lines;
+      content = h.partly.content;
+      whole = ap (λ (b : List ℕ). b ++ 10 ∷ []) h.partly.whole ∙ append_assoc (flat_map ended h.partly.lines) (h.part ++ 13 ∷ []) (10 ∷ [])
+        ∙ ap (λ (b : List ℕ). flat_map ended h.partly.lines ++ b) (append_assoc h.part (13 ∷ []) (10 ∷ []));
+      read = refl;
+    }
+    more : Reads (bytes ++ 10 ∷ []) [] (text_of h.partly.lines ++ kept h.part)
+    more = reads_more (bytes ++ 10 ∷ []) (h.part ++ (crlf ++ [])) h.part [] (text_of h.partly.lines) so_far (IsLine-front h.part (13 ∷ []) h.partly.line) refl h.other
+
+pub cr_cr : (bytes text : List ℕ) → AtCr bytes text → AtCr (bytes ++ 13 ∷ []) (text ++ 13 ∷ [])
+cr_cr bytes text h =
+    record {
+      part = h.part ++ 13 ∷ [];
+      other = λ e. cr_is_no_dot 13 refl (same_from_push h.part [] 13 46 e).1;
+      partly = one_more bytes text (h.part ++ 13 ∷ []) (unstuffed h.part) (unstuffed (h.part ++ 13 ∷ [])) 13 (13 ∷ []) h.partly
+        (IsLine-push (h.part ++ 13 ∷ []) 13 h.partly.line (inl (cr_is_not_lf 13 refl))) (unstuffed-push h.part 13 (inr (cr_is_no_dot 13 refl)));
+    }
+
+pub cr_other : (bytes text : List ℕ) (byte : ℕ) → byte ≢ 10 → byte ≢ 13 → AtCr bytes text → InLine (bytes ++ byte ∷ []) (text ++ 13 ∷ byte ∷ [])
+cr_other bytes text byte no_lf no_cr h =
+    record {
+      part = (h.part ++ 13 ∷ []) ++ byte ∷ [];
+      some = push-some (h.part ++ 13 ∷ []) byte;
+      other = λ e. push-some h.part 13 (same_from_push (h.part ++ 13 ∷ []) [] byte 46 e).0;
+      no_cr = NoCr-push (h.part ++ 13 ∷ []) byte no_cr;
+      partly = one_more bytes text (h.part ++ 13 ∷ []) (unstuffed h.part) (unstuffed ((h.part ++ 13 ∷ []) ++ byte ∷ [])) byte (13 ∷ byte ∷ []) h.partly
+        (IsLine-push (h.part ++ 13 ∷ []) byte h.partly.line (inl no_lf)) shown;
+    }
+  where
+    shown : unstuffed ((h.part ++ 13 ∷ []) ++ byte ∷ []) ≡ unstuffed h.part ++ 13 ∷ byte ∷ []
+    shown = unstuffed-push (h.part ++ 13 ∷ []) byte (inl (push-some h.part 13))
+        ∙ ap (λ (t : List ℕ). t ++ byte ∷ []) (unstuffed-push h.part 13 (inr (cr_is_no_dot 13 refl))) ∙ append_assoc (unstuffed h.part) (13 ∷ []) (byte ∷ [])
+
+pub partly_none : Partly [] [] [] []
+partly_none = record { lines = []; content = tt; line = IsLine-nil; whole = refl; read = refl }
+
+partly_no_body : (bytes text part shown : List ℕ) → Partly bytes text part shown → HasNoBody bytes
+partly_no_body bytes text part shown h =
+    no_body bytes part (text_of h.lines) (record { lines = h.lines; content = h.content; whole = h.whole; read = refl }) h.line
+
+-- before the end no prefix is a body
+pub reached_no_body : (spot : Spot) (bytes text : List ℕ) → Reaches spot bytes text → spot ≢ Done → HasNoBody bytes
+reached_no_body Start bytes text h other = partly_no_body bytes text [] [] h
+reached_no_body Dot bytes text h other = partly_no_body bytes text dot [] h
+reached_no_body DotCr bytes text h other = partly_no_body bytes text (46 ∷ 13 ∷ []) [] h
+reached_no_body Middle bytes text h other = partly_no_body bytes text h.part (unstuffed h.part) h.partly
+reached_no_body Cr bytes text h other = partly_no_body bytes text (h.part ++ 13 ∷ []) (unstuffed h.part) h.partly
+reached_no_body Done bytes text h other = absurd (other refl)
+
+pub reached_body : (spot : Spot) (bytes text whole : List ℕ) → Reaches spot bytes text → Body bytes whole → spot ≡ Done
+reached_body Start bytes text whole h is = absurd (reached_no_body Start bytes text h (λ e. cc) bytes whole [] is (sym (append-nil bytes)))
+reached_body Dot bytes text whole h is = absurd (reached_no_body Dot bytes text h (λ e. cc) bytes whole [] is (sym (append-nil bytes)))
+reached_body DotCr bytes text whole h is = absurd (reached_no_body DotCr bytes text h (λ e. cc) bytes whole [] is (sym (append-nil bytes)))
+reached_body Middle bytes text whole h is = absurd (reached_no_body Middle bytes text h (λ e. cc) bytes whole [] is (sym (append-nil bytes)))
+reached_body Cr bytes text whole h is = absurd (reached_no_body Cr bytes text h (λ e. cc) bytes whole [] is (sym (append-nil bytes)))
+reached_body Done bytes text whole h is = refl

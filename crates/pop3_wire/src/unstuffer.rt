@@ -1,0 +1,190 @@
+//! Bodies that are read piece by piece, however the pieces fall (RFC 1939, section 3).
+ghost use Rattle.std.specs.Prelude.{◌≡◌, ◌≢◌, ◌≤◌, ◌<◌, ◌+◌, ◌++◌, ◌↔◌, ◌∷◌, ℕ, List, [], length, take, IsTrue};
+ghost use Rattle.pop3_wire.specs.Body.{Body, HasNoBody};
+ghost use Rattle.pop3_wire.specs.Unstuffing.{Reaches, held_back, bytes_given};
+
+use std::marker::Model;
+
+/// Where in a body the octets read so far lead.
+#[derive(Clone, Copy, Debug, PartialEq, Eq)]
+pub enum Spot {
+    /// At the start of a line.
+    Start,
+    /// Behind a full stop at the start of a line.
+    Dot,
+    /// Behind a full stop at the start of a line, and CR.
+    DotCr,
+    /// In a line, not behind CR.
+    Middle,
+    /// In a line, behind CR.
+    Cr,
+    /// Behind the end mark.
+    Done,
+}
+
+/// What an octet of a body gives to the text.
+#[derive(Clone, Copy, Debug, PartialEq, Eq)]
+pub enum Given {
+    /// Nothing yet.
+    Nothing,
+    /// One octet.
+    One(u8),
+    /// A CR that was held back, and an octet.
+    CrAnd(u8),
+}
+
+/// What became of a piece.
+#[derive(Clone, Copy, Debug, PartialEq, Eq)]
+pub struct Fed {
+    /// How many octets of the piece belong to the body.
+    pub used: usize,
+    /// How many octets of the text were put into the buffer.
+    pub put: usize,
+    /// Whether the body ended.
+    pub ended: bool,
+}
+
+/// What an octet does at a spot inside the body.
+fn step(spot: Spot, byte: u8) -> (Spot, Given)
+    requires { spot ≢ Spot.Done }
+    ensures reached {
+        (bytes text : List ℕ) → Reaches spot bytes text
+            → Reaches result.0 (bytes ++ byte ∷ []) (text ++ bytes_given result.1)
+    }
+    ensures few { length (bytes_given result.1) + held_back result.0 ≤ 1 + held_back spot }
+{
+    match spot {
+        Spot::Start => match byte {
+            b'.' => (Spot::Dot, Given::Nothing),
+            b'\r' => (Spot::Cr, Given::Nothing),
+            _ => (Spot::Middle, Given::One(byte)),
+        },
+        Spot::Dot => match byte {
+            b'\r' => (Spot::DotCr, Given::Nothing),
+            _ => (Spot::Middle, Given::One(byte)),
+        },
+        Spot::DotCr => match byte {
+            b'\n' => (Spot::Done, Given::Nothing),
+            b'\r' => (Spot::Cr, Given::One(byte)),
+            _ => (Spot::Middle, Given::CrAnd(byte)),
+        },
+        Spot::Middle => match byte {
+            b'\r' => (Spot::Cr, Given::Nothing),
+            _ => (Spot::Middle, Given::One(byte)),
+        },
+        Spot::Cr => match byte {
+            b'\n' => (Spot::Start, Given::One(byte)),
+            b'\r' => (Spot::Cr, Given::One(byte)),
+            _ => (Spot::Middle, Given::CrAnd(byte)),
+        },
+        Spot::Done => (Spot::Done, Given::Nothing),
+    }
+}
+
+/// Writes what an octet gave behind the first `put` octets, and says how many stand there now.
+fn write(out: &mut [u8], put: usize, given: Given) -> usize
+    requires { put + length (bytes_given given) ≤ length out.old }
+    ensures value { result ≡ put + length (bytes_given given) }
+    ensures kept { take result out.new ≡ take put out.old ++ bytes_given given }
+{
+    match given {
+        Given::Nothing => put,
+        Given::One(byte) => {
+            out[put] = byte;
+            put + 1
+        }
+        Given::CrAnd(byte) => {
+            out[put] = b'\r';
+            out[put + 1] = byte;
+            put + 2
+        }
+    }
+}
+
+/// Reads one body, piece by piece, into its text.
+pub struct Unstuffer {
+    spot: Spot,
+}
+
+impl Model for Unstuffer {
+    ghost use Rattle.pop3_wire.specs.declared.unstuffer.Spot.{Spot};
+
+    ghost Value = { Spot };
+
+    ghost view = { λ u. u.spot };
+}
+
+impl Unstuffer {
+    /// A reader of a body of which nothing was read yet.
+    pub fn new() -> Unstuffer
+        ensures { result ≡ Spot.Start }
+    {
+        Unstuffer { spot: Spot::Start }
+    }
+
+    /// Reads one more piece, and puts into the buffer what it adds to the text. A piece is used
+    /// whole, unless the body ends in it; once it has ended, nothing is used and nothing put.
+    pub fn feed(&mut self, piece: &[u8], out: &mut [u8]) -> Fed
+        requires { length piece.now < length out.old }
+        ensures fits { (result.used ≤ length piece.now) × (result.put ≤ length out.new) }
+        ensures whole { (self.new ≢ Spot.Done) → result.used ≡ length piece.now }
+        ensures reached {
+            (bytes text : List ℕ) → Reaches self.old bytes text
+                → Reaches self.new (bytes ++ take result.used piece.now) (text ++ take result.put out.new)
+        }
+        ensures ended { IsTrue result.ended ↔ (self.new ≡ Spot.Done) }
+        ensures after { self.old ≡ Spot.Done → (result.used ≡ 0) × (result.put ≡ 0) }
+    {
+        let mut spot = self.spot;
+        if spot == Spot::Done {
+            return Fed {
+                used: 0,
+                put: 0,
+                ended: true,
+            };
+        }
+        let mut put = 0;
+        for (i, byte) in piece.iter().enumerate() {
+            let (next, given) = step(spot, *byte);
+            put = write(out, put, given);
+            spot = next;
+            if spot == Spot::Done {
+                self.spot = spot;
+                return Fed {
+                    used: i + 1,
+                    put,
+                    ended: true,
+                };
+            }
+        }
+        self.spot = spot;
+        Fed {
+            used: piece.len(),
+            put,
+            ended: false,
+        }
+    }
+}
+
+/// At the start nothing was read, and nothing put.
+pub fn starts_empty()
+    ensures { Reaches Spot.Start [] [] }
+{
+}
+
+/// The octets read are a body exactly at the end, and then what was put is its text.
+pub fn ends_with_body()
+    ensures {
+        (spot : Spot) (bytes text : List ℕ) → Reaches spot bytes text
+            → (spot ≡ Spot.Done → Body bytes text) × ((whole : List ℕ) → Body bytes whole → spot ≡ Spot.Done)
+    }
+{
+}
+
+/// Before the end no prefix of the octets read is a body.
+pub fn holds_no_body()
+    ensures {
+        (spot : Spot) (bytes text : List ℕ) → Reaches spot bytes text → spot ≢ Spot.Done → HasNoBody bytes
+    }
+{
+}
