@@ -7,3 +7,4 @@ pub mod LineLemmas
 pub mod LineReaderLemmas
 pub mod StuffLemmas
 pub mod UnstuffingLemmas
+pub mod BodiesLemmas

@@ -1,14 +1,14 @@
 -- What an octet does to a body that is read octet by octet.
-use Rattle.std.proofs.Common.{◌≡◌, ◌≢◌, ◌⊎◌, inl, inr, ℕ, List, [], ◌∷◌, ◌++◌, refl, sym, ap, subst, ◌∙◌, arith, append_assoc}
+use Rattle.std.proofs.Common.{◌≡◌, ◌≢◌, ◌⊎◌, inl, inr, ℕ, List, [], ◌∷◌, ◌++◌, refl, sym, ap, ◌∙◌, arith, append_assoc}
 use Rattle.std.proofs.lemmas.Bool.{ne_eqb}
 use Rattle.std.proofs.lemmas.List.{append-nil, same_from_push}
-use Rattle.std.specs.List.{flat_map, AllByRecursion}
+use Rattle.std.specs.List.{flat_map}
 use Rattle.pop3_wire.specs.Line.{crlf, IsLine, ended}
-use Rattle.pop3_wire.specs.Body.{dot, IsContent, unstuffed, kept, body_of, text_of, Body, HasNoBody}
+use Rattle.pop3_wire.specs.Body.{dot, unstuffed, kept, text_of, Body, HasNoBody}
 use Rattle.pop3_wire.specs.declared.unstuffer.Spot.{Spot}
 use Rattle.pop3_wire.specs.declared.unstuffer.Spot.TheVariants.{Start, Dot, DotCr, Middle, Cr, Done}
 use Rattle.pop3_wire.specs.Unstuffing.{Partly, NoCr, InLine, AtCr, Reaches}
-use Rattle.pop3_wire.proofs.LineLemmas.{last_split, IsLine-nil, IsLine-back, IsLine-front}
+use Rattle.pop3_wire.proofs.LineLemmas.{last_split, IsLine-nil, IsLine-front}
 use Rattle.pop3_wire.proofs.BodyLemmas.{Reads, no_body, reads_more, IsLine-dot}
 
 -- one more octet keeps a line a line, unless it is LF behind CR

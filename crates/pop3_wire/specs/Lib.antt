@@ -1,3 +1,4 @@
+pub mod Bodies
 pub mod Body
 pub mod CommandLine
 pub mod Commands

@@ -7,8 +7,8 @@ use std::alloc::Global;
 use crate::fault::WireFault;
 use crate::line::cut_line;
 
-/// What a line of a body stands for: the line without its first full stop, where it has one.
-fn without_dot(line: &[u8]) -> &[u8]
+/// What a line of a body stands for: the line without its first full stop, where it begins with one.
+pub fn without_dot(line: &[u8]) -> &[u8]
     ensures { result.now ≡ unstuffed line.now }
 {
     match line {

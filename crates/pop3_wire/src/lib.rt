@@ -3,6 +3,7 @@
 #![tactic(auto)]
 
 mod body;
+mod body_reader;
 mod bytes;
 mod command;
 mod command_line;
@@ -18,7 +19,8 @@ mod stuffing;
 mod unstuffer;
 mod wire;
 
-pub use body::unstuff;
+pub use body::{unstuff, without_dot};
+pub use body_reader::{BodyFault, read_body};
 pub use bytes::Bytes;
 pub use command::{Command, command_bytes};
 pub use command_line::{read_as_written, read_command};

@@ -102,6 +102,7 @@ fn write(out: &mut [u8], put: usize, given: Given) -> usize
 }
 
 /// Reads one body, piece by piece, into its text.
+#[derive(Drop)]
 pub struct Unstuffer {
     spot: Spot,
 }
@@ -120,6 +121,13 @@ impl Unstuffer {
         ensures { result ≡ Spot.Start }
     {
         Unstuffer { spot: Spot::Start }
+    }
+
+    /// Whether the body has ended.
+    pub fn has_ended(&self) -> bool
+        ensures { IsTrue result ↔ (self.now ≡ Spot.Done) }
+    {
+        self.spot == Spot::Done
     }
 
     /// Reads one more piece, and puts into the buffer what it adds to the text. A piece is used

@@ -1,7 +1,6 @@
 use Rattle.std.proofs.Common.{◌≡◌, ◌++◌, ◌∷◌, [], ℕ, List, sym, subst, arith}
 use Rattle.pop3_wire.specs.declared.unstuffer.Spot.{Spot}
-use Rattle.pop3_wire.specs.Body.{dot}
-use Rattle.pop3_wire.specs.Unstuffing.{Partly, InLine, AtCr, Reaches}
+use Rattle.pop3_wire.specs.Unstuffing.{Partly, AtCr, Reaches}
 use Rattle.pop3_wire.proofs.UnstuffingLemmas.{start_cr, start_other, dot_cr, dot_other, dot_cr_cr, dot_cr_other, middle_cr, middle_other, cr_lf, cr_cr, cr_other}
 use Rattle.pop3_wire.proofs.unstuffer.step.Goals as goal
 

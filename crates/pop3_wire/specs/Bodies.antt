@@ -1,0 +1,50 @@
+-- Taking one body from a link.
+use Rattle.std.specs.Prelude.{◌≡◌, ◌+◌, ◌<◌, ◌≤◌, ℕ, true, List, [], ◌++◌, length, take, Result, Ok, Err, Vec}
+use Rattle.pop3_wire.specs.Body.{Body, HasNoBody}
+use Rattle.pop3_wire.specs.Link.{Link}
+use Rattle.pop3_wire.specs.Place.{Place, GoesOn}
+use Rattle.pop3_wire.specs.declared.body_reader.BodyFault.{BodyFault}
+use Rattle.pop3_wire.specs.declared.body_reader.BodyFault.TheVariants.{Ended, Failed, TooLong, NoMemory}
+
+-- nothing was sent, and these octets were got
+pub record Drew (old new : Link) (gained : List ℕ) : Type 0 where
+  pub got : new.got ≡ old.got ++ gained
+  pub sent : new.sent ≡ old.sent
+
+-- nothing came: the link has ended, or a call was refused
+abbrev pub DrawsNothing : BodyFault → Link → Link → Type 0
+DrawsNothing Ended old new = Drew old new [] × (new.ended ≡ true) × (new.failures ≡ old.failures)
+DrawsNothing Failed old new = Drew old new [] × (new.ended ≡ old.ended) × (new.failures ≡ old.failures + 1)
+DrawsNothing TooLong old new = ⊥
+DrawsNothing NoMemory old new = ⊥
+
+-- a body of this text was taken from what waited and was gained; the rest waits
+pub record TookBody (limit : ℕ) (old new : Place) (text gained : List ℕ) : Type 0 where
+  pub body : List ℕ
+  pub is : Body body text
+  pub within : length body ≤ limit
+  pub heard : old.waiting ++ gained ≡ body ++ new.waiting
+
+-- why there is no text, where these octets have come: nothing comes any more, a call was refused, the limit is reached, or memory is wanting
+abbrev pub BodyCause : ℕ → BodyFault → Link → Link → List ℕ → Type 0
+BodyCause limit Ended old new bytes = HasNoBody bytes × (length bytes < limit) × (new.ended ≡ true) × (new.failures ≡ old.failures)
+BodyCause limit Failed old new bytes = HasNoBody bytes × (length bytes < limit) × (new.ended ≡ old.ended) × (new.failures ≡ old.failures + 1)
+BodyCause limit TooLong old new bytes = HasNoBody (take limit bytes) × (limit ≤ length bytes) × GoesOn old new
+BodyCause limit NoMemory old new bytes = GoesOn old new
+
+abbrev pub ReadsBody : ℕ → Place → Result (List ℕ) BodyFault → Place → Type 0
+ReadsBody limit old (Ok text) new = (gained : List ℕ) × Drew old.link new.link gained × GoesOn old.link new.link × TookBody limit old new text gained
+ReadsBody limit old (Err fault) new = (gained : List ℕ) × Drew old.link new.link gained × BodyCause limit fault old.link new.link (old.waiting ++ gained)
+
+-- the items of a vector that a call gave
+abbrev pub items_of : {A Z E : Type 0} → Result (Vec A Z) E → Result (List A) E
+items_of (Ok v) = Ok v.items
+items_of (Err e) = Err e
+
+-- whether taking a body ended in a refused call
+abbrev pub refusal_of : {A : Type 0} → Result A BodyFault → Result (Unit {0}) BodyFault
+refusal_of (Ok text) = Ok tt
+refusal_of (Err Ended) = Ok tt
+refusal_of (Err Failed) = Err Failed
+refusal_of (Err TooLong) = Ok tt
+refusal_of (Err NoMemory) = Ok tt
