@@ -74,7 +74,7 @@ marked_length (b ∷ bs) (suc i) = let ih = marked_length bs i in omega arith
 -- the row at a place is that of an unmarked message, or there is none
 found_at : (ms : List Message) (bs : List Bool) (i : ℕ)
     → (unless_marked (slice_get (rows_with ms bs) i) ≡ None)
-      ⊎ ((m : Message) × (unless_marked (slice_get (rows_with ms bs) i) ≡ Some (row_with m false)) × (slice_get ms i ≡ Some m) × (slice_get bs i ≡ Some false))
+    ⊎ ((m : Message) × (unless_marked (slice_get (rows_with ms bs) i) ≡ Some (row_with m false)) × (slice_get ms i ≡ Some m) × (slice_get bs i ≡ Some false))
 found_at [] bs i = inl refl
 found_at (m ∷ ms) [] i = inl refl
 found_at (m ∷ ms) (true ∷ bs) zero = inl refl
@@ -84,12 +84,12 @@ found_at (m ∷ ms) (b ∷ bs) (suc i) = found_at ms bs i
 pub found : (ms : List Message) (bs : List Bool) (k : ℕ)
     → (row_at (rows_with ms bs) k ≡ None) ⊎ ((m : Message) × (row_at (rows_with ms bs) k ≡ Some (row_with m false)) × IsUnmarked ms bs k m)
 found ms bs k = elim (eqb_tells k 0) [
-    inl p ↦ inl (cond-true _ _ _ p.0)
+  | inl p ↦ inl (cond-true _ _ _ p.0)
   | inr p ↦ elim (found_at ms bs (k - 1)) [
-        inl none ↦ inl (cond-false _ _ _ p.0 ∙ none)
-      | inr some ↦ inr (some.0, cond-false _ _ _ p.0 ∙ some.1, record { counted = (let other : k ≢ 0 = p.1 in omega arith); there = some.2; unmarked = some.3 })
-      ]
+    | inl none ↦ inl (cond-false _ _ _ p.0 ∙ none)
+    | inr some ↦ inr (some.0, cond-false _ _ _ p.0 ∙ some.1, record { counted = (let other : k ≢ 0 = p.1 in omega arith); there = some.2; unmarked = some.3 })
   ]
+]
 
 pub served_at : (ms : List Message) (i : ℕ) (m : Message) → AllByRecursion IsServed ms → slice_get ms i ≡ Some m → IsServed m
 served_at [] i m all e = absurd cc
@@ -134,19 +134,19 @@ total_left (m ∷ ms) (false ∷ bs) all =
 
 pub ok_says : (after : List ℕ) → list_all is_no_lf after ≡ true → Says Positive (said (codes "+OK" ++ after)) (without_space after)
 ok_says after none = record {
-    line = codes "+OK" ++ after;
-    is_line = line_without_lf (codes "+OK" ++ after) none;
-    first = (after, refl, refl);
-    whole = refl;
-  }
+  line = codes "+OK" ++ after;
+  is_line = line_without_lf (codes "+OK" ++ after) none;
+  first = (after, refl, refl);
+  whole = refl;
+}
 
 err_says : (after : List ℕ) → list_all is_no_lf after ≡ true → Says Negative (said (codes "-ERR" ++ after)) (without_space after)
 err_says after none = record {
-    line = codes "-ERR" ++ after;
-    is_line = line_without_lf (codes "-ERR" ++ after) none;
-    first = (after, refl, refl);
-    whole = refl;
-  }
+  line = codes "-ERR" ++ after;
+  is_line = line_without_lf (codes "-ERR" ++ after) none;
+  first = (after, refl, refl);
+  whole = refl;
+}
 
 anything : (status : Status) (bytes rest : List ℕ) → Says status bytes rest → SaysAnything status bytes
 anything status bytes rest says = (rest, says)
@@ -190,12 +190,14 @@ digit_content : (k : ℕ) (rest : List ℕ) → k < 2 ^ 64 → list_all is_no_lf
 digit_content k rest fits none =
     let first = digit_first k fits in
     let begin : decimal k ++ rest ≡ first.0 ∷ (first.1 ++ rest) = ap (λ (l : List ℕ). l ++ rest) first.2 in
-    let other : first.0 ≢ 46 = (λ (e : first.0 ≡ 46). digit_no_stop first.0 first.3 e) in
-    ((line_without_lf (decimal k ++ rest) (no_lf_append (decimal k) rest (no_lf_decimal k fits) none), λ e. other (first_same first.0 46 (first.1 ++ rest) [] (sym begin ∙ e))),
-      ap unstuffed begin ∙ cond-false _ _ _ (ne_eqb first.0 46 other) ∙ sym begin)
+    let other : first.0 ≢ 46 = (λ (e : first.0 ≡ 46). digit_no_stop first.0 first.3 e) in (
+      (line_without_lf (decimal k ++ rest) (no_lf_append (decimal k) rest (no_lf_decimal k fits) none), λ e. other (first_same first.0 46 (first.1 ++ rest) [] (sym begin ∙ e))),
+      ap unstuffed begin ∙ cond-false _ _ _ (ne_eqb first.0 46 other) ∙ sym begin,
+    )
   where
     digit_no_stop : (d : ℕ) → is_ascii_digit d ≡ true → d ≡ 46 → ⊥
     digit_no_stop d e is = grind (arith, nat_tests)
+
     first_same : (a b : ℕ) (x y : List ℕ) → a ∷ x ≡ b ∷ y → a ≡ b
     first_same a b x y e = cc
 
@@ -221,8 +223,10 @@ pub lists_all : (line : ℕ → Row → List ℕ) (IsRow : ℕ × Message → Li
     → (first body : List ℕ) × (answer ≡ first ++ body) × SaysAnything Positive first × ListsAll IsRow ms bs body × (bs ≡ bs)
 lists_all line IsRow good ms bs answer served is =
     let few : length ms ≤ 100000 = served.few in
-    let rows = rows_content line IsRow good 1 ms bs (omega arith) served.served in
-    (said (codes "+OK"), lines_from line 1 (rows_with ms bs) ++ ended dot, is ∙ append_assoc (codes "+OK" ++ crlf) (lines_from line 1 (rows_with ms bs)) (ended dot),
+    let rows = rows_content line IsRow good 1 ms bs (omega arith) served.served in (
+      said (codes "+OK"),
+      lines_from line 1 (rows_with ms bs) ++ ended dot,
+      is ∙ append_assoc (codes "+OK" ++ crlf) (lines_from line 1 (rows_with ms bs)) (ended dot),
       granted (said (codes "+OK")) [] refl refl,
       record {
         lines = row_lines line 1 (rows_with ms bs);
@@ -231,4 +235,6 @@ lists_all line IsRow good ms bs answer served is =
         numbered = unmarked_from 1 ms bs;
         all = IsPermutation-refl (unmarked_from 1 ms bs);
         rows = rows.1;
-      }, refl)
+      },
+      refl,
+    )

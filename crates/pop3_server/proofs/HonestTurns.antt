@@ -52,27 +52,33 @@ says_no mail ms marks c old answer after state next new does none stands =
 says_yes : {D : Type 0} (mail : D → Mail) (ms : List Message) (marks after_marks : List Bool) (c : Command) (old : D) (answer after : List ℕ) (state next : State) (new : D)
     → (answer ≡ said (codes "+OK" ++ after)) × (next ≡ state) × (new ≡ old) → list_all is_no_lf after ≡ true
     → (SaysAnything Positive answer → Grants ms marks c answer after_marks) → Stands ms state (mail old) after_marks → Replied ms marks c answer next (mail new)
-says_yes mail ms marks after_marks c old answer after state next new does none grants stands =
-    (after_marks, inr (grants (granted answer after does.0 none)),
-      subst (λ (s : State). Stands ms s (mail new) after_marks) (sym does.1) (subst (λ d. Stands ms state (mail d) after_marks) (sym does.2) stands))
+says_yes mail ms marks after_marks c old answer after state next new does none grants stands = (
+  after_marks,
+  inr (grants (granted answer after does.0 none)),
+  subst (λ (s : State). Stands ms s (mail new) after_marks) (sym does.1) (subst (λ d. Stands ms state (mail d) after_marks) (sym does.2) stands),
+)
 
 -- ---- AUTHORIZATION
 
 opened : {D : Type 0} (sound : D → Type 0) (mail : D → Mail) (ms : List Message) (word : List ℕ) (old : D) (answer : List ℕ) (next : State) (new : D)
     → AreServed ms → there (mail old).slots ≡ ms → sound new → Opens sound mail old answer next new → Replied ms (no_marks ms) (Pass word) answer next (mail new)
 opened sound mail ms word old answer next new served same s (inl (is, state, known)) =
-    let drop = (known s).1 in
-    (no_marks ms, refused ms (no_marks ms) (Pass word) answer (codes " maildrop unavailable") is refl,
-      subst (λ (st : State). Stands ms st (mail new) (no_marks ms)) (sym state) (ap (λ (m : Mail). there m.slots) drop ∙ same, refl))
+    let drop = (known s).1 in (
+      no_marks ms,
+      refused ms (no_marks ms) (Pass word) answer (codes " maildrop unavailable") is refl,
+      subst (λ (st : State). Stands ms st (mail new) (no_marks ms)) (sym state) (ap (λ (m : Mail). there m.slots) drop ∙ same, refl),
+    )
 opened sound mail ms word old answer next new served same s (inr (rows, is, state, known)) =
     let drop = (known s).1 in
     let few : length ms ≤ 100000 = served.few in
     let count : length rows ≡ length ms = ap length (drop.1 ∙ ap (map row_of) same) ∙ map_length ms in
     let digits : list_all is_no_lf (decimal (length rows)) ≡ true = no_lf_decimal (length rows) (omega arith) in
-    let none : list_all is_no_lf ((32 ∷ decimal (length rows)) ++ codes " messages") ≡ true = no_lf_append (32 ∷ decimal (length rows)) (codes " messages") (no_lf_append (32 ∷ []) (decimal (length rows)) refl digits) refl in
-    (no_marks ms, inr (granted answer ((32 ∷ decimal (length rows)) ++ codes " messages") is none, refl),
+    let none : list_all is_no_lf ((32 ∷ decimal (length rows)) ++ codes " messages") ≡ true = no_lf_append (32 ∷ decimal (length rows)) (codes " messages") (no_lf_append (32 ∷ []) (decimal (length rows)) refl digits) refl in (
+      no_marks ms,
+      inr (granted answer ((32 ∷ decimal (length rows)) ++ codes " messages") is none, refl),
       subst (λ (st : State). Stands ms st (mail new) (no_marks ms)) (sym state)
-        (ap (λ (m : Mail). m.slots) drop.0 ∙ ap (map Some) same, fresh_length ms, drop.1 ∙ ap (map row_of) same ∙ fresh_rows ms))
+          (ap (λ (m : Mail). m.slots) drop.0 ∙ ap (map Some) same, fresh_length ms, drop.1 ∙ ap (map row_of) same ∙ fresh_rows ms),
+    )
   where
     map_length : (ms : List Message) → length (map row_of ms) ≡ length ms
     map_length [] = refl
@@ -125,9 +131,11 @@ gave : {D : Type 0} (sound : D → Type 0) (mail : D → Mail) (ms : List Messag
     → Does sound mail (Give (rows_with ms marks) (k - 1) (said (octets_line (row_with m false))) None) old answer next new → Replied ms marks (Retr k) answer next (mail new)
 unfolding InRows
 gave sound mail ms marks k m old answer next new served rows s at (state, inl (is, known)) =
-    let drop = (known s).1 in
-    (marks, refused ms marks (Retr k) answer (codes " message unavailable") is refl,
-      subst (λ (st : State). Stands ms st (mail new) marks) (sym state) (ap (λ (x : Mail). x.slots) drop ∙ rows.0, rows.1, refl))
+    let drop = (known s).1 in (
+      marks,
+      refused ms marks (Retr k) answer (codes " message unavailable") is refl,
+      subst (λ (st : State). Stands ms st (mail new) marks) (sym state) (ap (λ (x : Mail). x.slots) drop ∙ rows.0, rows.1, refl),
+    )
 gave sound mail ms marks k m old answer next new served rows s at (state, inr (text, is, known)) =
     let drop = (known s).1 in
     let message = served_at ms (k - 1) m served.served at.there in
@@ -136,10 +144,20 @@ gave sound mail ms marks k m old answer next new served rows s at (state, inr (t
     let size : m.size < 2 ^ 64 = (let w : m.size ≤ 134217728 = message.within in omega arith) in
     let none : list_all is_no_lf ((32 ∷ decimal m.size) ++ codes " octets") ≡ true = no_lf_append (32 ∷ decimal m.size) (codes " octets") (no_lf_append (32 ∷ []) (decimal m.size) refl (no_lf_decimal m.size size)) refl in
     let body : Body (stuffed_lines (lines_of_text text)) m.text = subst (λ (t : List ℕ). Body (stuffed_lines (lines_of_text t)) m.text) (sym words)
-        (subst (Body (stuffed_lines (lines_of_text m.text))) message.is_message.ended (stuffed_is_body m.text)) in
-    (marks, inr (said (octets_line (row_with m false)), stuffed_lines (lines_of_text text), m, is,
-        granted (said (octets_line (row_with m false))) ((32 ∷ decimal m.size) ++ codes " octets") refl none, at, body, refl),
-      subst (λ (st : State). Stands ms st (mail new) marks) (sym state) (ap (λ (x : Mail). x.slots) drop.0 ∙ rows.0, rows.1, refl))
+    (subst (Body (stuffed_lines (lines_of_text m.text))) message.is_message.ended (stuffed_is_body m.text)) in (
+      marks,
+      inr (
+        said (octets_line (row_with m false)),
+        stuffed_lines (lines_of_text text),
+        m,
+        is,
+        granted (said (octets_line (row_with m false))) ((32 ∷ decimal m.size) ++ codes " octets") refl none,
+        at,
+        body,
+        refl,
+      ),
+      subst (λ (st : State). Stands ms st (mail new) marks) (sym state) (ap (λ (x : Mail). x.slots) drop.0 ∙ rows.0, rows.1, refl),
+    )
 
 left : {D : Type 0} (sound : D → Type 0) (mail : D → Mail) (ms : List Message) (marks : List Bool) (rows : List Row) (old : D) (answer : List ℕ) (next : State) (new : D)
     → (next ≡ Closed) × Leaves sound mail rows old answer new → Replied ms marks Quit answer next (mail new)
@@ -166,16 +184,22 @@ stated sound mail ms marks old answer next new served rows does =
     let small : left_count (rows_with ms marks) ≤ 4294967295 = omega arith in
     let fits : left_total (rows_with ms marks) < 2 ^ 64 = omega arith in
     let none : list_all is_no_lf ((32 ∷ decimal (left_count (rows_with ms marks))) ++ (32 ∷ decimal (left_total (rows_with ms marks)))) ≡ true =
-        no_lf_append (32 ∷ decimal (left_count (rows_with ms marks))) (32 ∷ decimal (left_total (rows_with ms marks)))
-          (no_lf_append (32 ∷ []) (decimal (left_count (rows_with ms marks))) refl (no_lf_decimal (left_count (rows_with ms marks)) (omega arith)))
-          (no_lf_append (32 ∷ []) (decimal (left_total (rows_with ms marks))) refl (no_lf_decimal (left_total (rows_with ms marks)) fits)) in
+    no_lf_append (32 ∷ decimal (left_count (rows_with ms marks))) (32 ∷ decimal (left_total (rows_with ms marks)))
+    (no_lf_append (32 ∷ []) (decimal (left_count (rows_with ms marks))) refl (no_lf_decimal (left_count (rows_with ms marks)) (omega arith)))
+    (no_lf_append (32 ∷ []) (decimal (left_total (rows_with ms marks))) refl (no_lf_decimal (left_total (rows_with ms marks)) fits)) in
     let line : answer ≡ said (codes "+OK" ++ ((32 ∷ decimal (left_count (rows_with ms marks))) ++ (32 ∷ decimal (left_total (rows_with ms marks))))) =
-        does.0 ∙ ap (λ (l : List ℕ). said (codes "+OK" ++ (32 ∷ l))) (append_assoc (decimal (left_count (rows_with ms marks))) (32 ∷ []) (decimal (left_total (rows_with ms marks)))) in
-    (marks, inr (decimal (left_count (rows_with ms marks)) ++ (32 ∷ decimal (left_total (rows_with ms marks))), left_total (rows_with ms marks),
+    does.0 ∙ ap (λ (l : List ℕ). said (codes "+OK" ++ (32 ∷ l))) (append_assoc (decimal (left_count (rows_with ms marks))) (32 ∷ []) (decimal (left_total (rows_with ms marks)))) in (
+      marks,
+      inr (
+        decimal (left_count (rows_with ms marks)) ++ (32 ∷ decimal (left_total (rows_with ms marks))),
+        left_total (rows_with ms marks),
         subst (λ (b : List ℕ). Says Positive b (decimal (left_count (rows_with ms marks)) ++ (32 ∷ decimal (left_total (rows_with ms marks))))) (sym line)
-          (ok_says ((32 ∷ decimal (left_count (rows_with ms marks))) ++ (32 ∷ decimal (left_total (rows_with ms marks)))) none),
-        scan_read (left_count (rows_with ms marks)) (left_total (rows_with ms marks)) small fits ∙ ap (counted_with (left_total (rows_with ms marks))) count, refl),
-      subst (λ (st : State). Stands ms st (mail new) marks) (sym does.1) (subst (λ d. Stands ms (Transaction (rows_with ms marks)) (mail d) marks) (sym does.2) (stands_in ms marks (mail old) rows)))
+            (ok_says ((32 ∷ decimal (left_count (rows_with ms marks))) ++ (32 ∷ decimal (left_total (rows_with ms marks)))) none),
+        scan_read (left_count (rows_with ms marks)) (left_total (rows_with ms marks)) small fits ∙ ap (counted_with (left_total (rows_with ms marks))) count,
+        refl,
+      ),
+      subst (λ (st : State). Stands ms st (mail new) marks) (sym does.1) (subst (λ d. Stands ms (Transaction (rows_with ms marks)) (mail d) marks) (sym does.2) (stands_in ms marks (mail old) rows)),
+    )
 
 -- DELE of an unmarked message
 marked : {D : Type 0} (sound : D → Type 0) (mail : D → Mail) (ms : List Message) (marks : List Bool) (k : ℕ) (m : Message) (old : D) (answer : List ℕ) (next : State) (new : D)
@@ -184,7 +208,7 @@ marked : {D : Type 0} (sound : D → Type 0) (mail : D → Mail) (ms : List Mess
 unfolding InRows
 marked sound mail ms marks k m old answer next new rows at does =
     says_yes mail ms marks (slice_set marks (k - 1) true) (Dele k) old answer (codes " marked") (Transaction (mark_at (rows_with ms marks) (k - 1))) next new does refl
-        (λ says. (m, says, at, refl)) (rows.0, marked_length marks (k - 1) ∙ rows.1, marked_rows ms marks (k - 1))
+    (λ says. (m, says, at, refl)) (rows.0, marked_length marks (k - 1) ∙ rows.1, marked_rows ms marks (k - 1))
 
 -- RSET
 cleared : {D : Type 0} (sound : D → Type 0) (mail : D → Mail) (ms : List Message) (marks : List Bool) (old : D)
@@ -199,29 +223,33 @@ in_trans sound mail ms marks (User name) old answer next new served rows s asked
 in_trans sound mail ms marks (Pass word) old answer next new served rows s asked does =
     says_no mail ms marks (Pass word) old answer (codes " not now") (Transaction (rows_with ms marks)) next new does refl (stands_in ms marks (mail old) rows)
 in_trans sound mail ms marks Stat old answer next new served rows s asked does = stated sound mail ms marks old answer next new served rows does
-in_trans sound mail ms marks UidlAll old answer next new served rows s asked does =
-    (marks, inr (lists_all uid_line IsUidRow uid_rows ms marks answer served does.0),
-      subst (λ (st : State). Stands ms st (mail new) marks) (sym does.1) (subst (λ d. Stands ms (Transaction (rows_with ms marks)) (mail d) marks) (sym does.2) (stands_in ms marks (mail old) rows)))
+in_trans sound mail ms marks UidlAll old answer next new served rows s asked does = (
+  marks,
+  inr (lists_all uid_line IsUidRow uid_rows ms marks answer served does.0),
+  subst (λ (st : State). Stands ms st (mail new) marks) (sym does.1) (subst (λ d. Stands ms (Transaction (rows_with ms marks)) (mail d) marks) (sym does.2) (stands_in ms marks (mail old) rows)),
+)
 in_trans sound mail ms marks (UidlOne n) old answer next new served rows s asked does = absurd asked
-in_trans sound mail ms marks ListAll old answer next new served rows s asked does =
-    (marks, inr (lists_all scan_line IsScanRow scan_rows ms marks answer served does.0),
-      subst (λ (st : State). Stands ms st (mail new) marks) (sym does.1) (subst (λ d. Stands ms (Transaction (rows_with ms marks)) (mail d) marks) (sym does.2) (stands_in ms marks (mail old) rows)))
+in_trans sound mail ms marks ListAll old answer next new served rows s asked does = (
+  marks,
+  inr (lists_all scan_line IsScanRow scan_rows ms marks answer served does.0),
+  subst (λ (st : State). Stands ms st (mail new) marks) (sym does.1) (subst (λ d. Stands ms (Transaction (rows_with ms marks)) (mail d) marks) (sym does.2) (stands_in ms marks (mail old) rows)),
+)
 in_trans sound mail ms marks (ListOne n) old answer next new served rows s asked does = absurd asked
 in_trans sound mail ms marks (Retr k) old answer next new served rows s asked does = elim (found ms marks k) [
-    inl none ↦ says_no mail ms marks (Retr k) old answer (codes " no such message") (Transaction (rows_with ms marks)) next new
-        (subst (λ (r : Option Row). Does sound mail (give (rows_with ms marks) k r octets_line None) old answer next new) none does) refl (stands_in ms marks (mail old) rows)
+  | inl none ↦ says_no mail ms marks (Retr k) old answer (codes " no such message") (Transaction (rows_with ms marks)) next new
+      (subst (λ (r : Option Row). Does sound mail (give (rows_with ms marks) k r octets_line None) old answer next new) none does) refl (stands_in ms marks (mail old) rows)
   | inr some ↦ gave sound mail ms marks k some.0 old answer next new served rows s some.2
-        (subst (λ (r : Option Row). Does sound mail (give (rows_with ms marks) k r octets_line None) old answer next new) some.1 does)
-  ]
+      (subst (λ (r : Option Row). Does sound mail (give (rows_with ms marks) k r octets_line None) old answer next new) some.1 does)
+]
 in_trans sound mail ms marks (Dele k) old answer next new served rows s asked does = elim (found ms marks k) [
-    inl none ↦ says_no mail ms marks (Dele k) old answer (codes " no such message") (Transaction (rows_with ms marks)) next new
-        (subst (λ (r : Option Row). Does sound mail (dele (rows_with ms marks) k r) old answer next new) none does) refl (stands_in ms marks (mail old) rows)
+  | inl none ↦ says_no mail ms marks (Dele k) old answer (codes " no such message") (Transaction (rows_with ms marks)) next new
+      (subst (λ (r : Option Row). Does sound mail (dele (rows_with ms marks) k r) old answer next new) none does) refl (stands_in ms marks (mail old) rows)
   | inr some ↦ marked sound mail ms marks k some.0 old answer next new rows some.2
-        (subst (λ (r : Option Row). Does sound mail (dele (rows_with ms marks) k r) old answer next new) some.1 does)
-  ]
+      (subst (λ (r : Option Row). Does sound mail (dele (rows_with ms marks) k r) old answer next new) some.1 does)
+]
 in_trans sound mail ms marks Rset old answer next new served rows s asked does =
     says_yes mail ms marks (map (λ _. false) marks) Rset old answer [] (Transaction (map unmarked (rows_with ms marks))) next new does refl (λ says. (says, refl))
-        (cleared sound mail ms marks old rows)
+    (cleared sound mail ms marks old rows)
 in_trans sound mail ms marks Noop old answer next new served rows s asked does =
     says_yes mail ms marks marks Noop old answer [] (Transaction (rows_with ms marks)) next new does refl (λ says. (says, refl)) (stands_in ms marks (mail old) rows)
 in_trans sound mail ms marks (Top n k) old answer next new served rows s asked does = absurd asked
@@ -235,7 +263,7 @@ replied sound mail ms marks user pass (Authorization kept) c old answer next new
     subst (λ (bs : List Bool). Replied ms bs c answer next (mail new)) (sym stands.1) (in_auth sound mail ms user pass kept c old answer next new served stands.0 s asked does)
 replied sound mail ms marks user pass (Transaction rows) c old answer next new served opened stands s asked does =
     in_trans sound mail ms marks c old answer next new served (made_rows ms marks (mail old) stands.0 stands.1) s asked
-        (subst (λ (rs : List Row). Does sound mail (in_transaction rs c) old answer next new) stands.2 does)
+    (subst (λ (rs : List Row). Does sound mail (in_transaction rs c) old answer next new) stands.2 does)
 replied sound mail ms marks user pass Closed c old answer next new served opened stands s asked does = absurd (let e : false ≡ true = opened in cc)
 
 did_sound : {D : Type 0} (sound : D → Type 0) (mail : D → Mail) (asked : Deed) (old : D) (answer : List ℕ) (next : State) (new : D) → Does sound mail asked old answer next new → sound new → sound old
@@ -270,15 +298,17 @@ pub is_honest : {D : Type 0} (sound : D → Type 0) (mail : D → Mail) → IsHo
 is_honest sound mail old new commands answers state asked run s served =
     let ms = there (mail old.drop).slots in
     let stands = subst (λ (st : State). Stands (there (mail old.drop).slots) st (mail old.drop) (no_marks (there (mail old.drop).slots))) (sym state) (refl, refl) in
-    let all = all_replied sound mail (there (mail old.drop).slots) (no_marks (there (mail old.drop).slots)) commands old new answers served asked run s stands in
-    (all.0, record {
-      status = Positive;
-      hello = greeting;
-      greets = granted greeting (codes " popd ready") refl refl;
-      commands = commands;
-      asked = record { part = []; no_line = IsLine-nil; whole = flat_lines commands ∙ sym (append-nil (flat_map (λ c. ended (line_of c)) commands)) };
-      replies = answers;
-      replied = all.1;
-      later = [];
-      begins = sym (append-nil (greeting ++ answers));
-    })
+    let all = all_replied sound mail (there (mail old.drop).slots) (no_marks (there (mail old.drop).slots)) commands old new answers served asked run s stands in (
+      all.0,
+      record {
+        status = Positive;
+        hello = greeting;
+        greets = granted greeting (codes " popd ready") refl refl;
+        commands = commands;
+        asked = record { part = []; no_line = IsLine-nil; whole = flat_lines commands ∙ sym (append-nil (flat_map (λ c. ended (line_of c)) commands)) };
+        replies = answers;
+        replied = all.1;
+        later = [];
+        begins = sym (append-nil (greeting ++ answers));
+      },
+    )

@@ -47,26 +47,26 @@ split_take octets = take_one_more 511 octets
 pub drops_first : (before : Waiting) → HasNoLine 512 before.octets → 512 ≤ length before.octets
     → Dropping before (record { octets = drop 511 before.octets; left = before.left }) [] (take 511 before.octets)
 drops_first before none long = record {
-    takes = record {
-      octets = append-nil before.octets ∙ sym (take-append-drop 511 before.octets);
-      left = omega arith;
-    };
-    line = subst IsLine (split_take before.octets) none.none;
-    some = omega (arith, length-drop 511 before.octets);
-    long = omega (arith, length-take-le 511 before.octets (omega arith));
-  }
+  takes = record {
+    octets = append-nil before.octets ∙ sym (take-append-drop 511 before.octets);
+    left = omega arith;
+  };
+  line = subst IsLine (split_take before.octets) none.none;
+  some = omega (arith, length-drop 511 before.octets);
+  long = omega (arith, length-take-le 511 before.octets (omega arith));
+}
 
 pub drops_more : (before now : Waiting) (gained part : List ℕ) → Dropping before now gained part → HasNoLine 512 now.octets → 512 ≤ length now.octets
     → Dropping before (record { octets = drop 511 now.octets; left = now.left }) gained (part ++ take 511 now.octets)
 drops_more before now gained part d none long = record {
-    takes = record {
-      octets = d.takes.octets ∙ ap (λ (l : List ℕ). part ++ l) (sym (take-append-drop 511 now.octets)) ∙ sym (append_assoc part (take 511 now.octets) (drop 511 now.octets));
-      left = d.takes.left;
-    };
-    line = subst IsLine (ap (λ (l : List ℕ). part ++ l) (split_take now.octets) ∙ sym (append_assoc part (take 511 now.octets) (take 1 (drop 511 now.octets)))) (spliced part now.octets 512 d.line none.none);
-    some = omega (arith, length-drop 511 now.octets);
-    long = let far : 510 < length part = d.long in omega (arith, length-append part (take 511 now.octets));
-  }
+  takes = record {
+    octets = d.takes.octets ∙ ap (λ (l : List ℕ). part ++ l) (sym (take-append-drop 511 now.octets)) ∙ sym (append_assoc part (take 511 now.octets) (drop 511 now.octets));
+    left = d.takes.left;
+  };
+  line = subst IsLine (ap (λ (l : List ℕ). part ++ l) (split_take now.octets) ∙ sym (append_assoc part (take 511 now.octets) (take 1 (drop 511 now.octets)))) (spliced part now.octets 512 d.line none.none);
+  some = omega (arith, length-drop 511 now.octets);
+  long = let far : 510 < length part = d.long in omega (arith, length-append part (take 511 now.octets));
+}
 
 first_kept : (octets piece : List ℕ) → 0 < length octets → take 1 (octets ++ piece) ≡ take 1 octets
 first_kept [] piece some = absurd (omega arith)
@@ -75,24 +75,27 @@ first_kept (b ∷ octets) piece some = refl
 pub drops_on : (before now after : Waiting) (gained part piece : List ℕ) → Dropping before now gained part
     → after.octets ≡ now.octets ++ piece → length piece + after.left ≡ now.left → Dropping before after (gained ++ piece) part
 drops_on before now after gained part piece d octets left = record {
-    takes = record {
-      octets = sym (append_assoc before.octets gained piece) ∙ ap (λ (l : List ℕ). l ++ piece) d.takes.octets ∙ append_assoc part now.octets piece ∙ ap (λ (l : List ℕ). part ++ l) (sym octets);
-      left = let before_left : length gained + now.left ≡ before.left = d.takes.left in omega (arith, length-append gained piece, left);
-    };
-    line = subst IsLine (ap (λ (l : List ℕ). part ++ l) (sym (ap (take 1) octets ∙ first_kept now.octets piece d.some))) d.line;
-    some = let some : 0 < length now.octets = d.some in omega (arith, ap length octets, length-append now.octets piece);
-    long = d.long;
-  }
+  takes = record {
+    octets = sym (append_assoc before.octets gained piece) ∙ ap (λ (l : List ℕ). l ++ piece) d.takes.octets ∙ append_assoc part now.octets piece ∙ ap (λ (l : List ℕ). part ++ l) (sym octets);
+    left = let before_left : length gained + now.left ≡ before.left = d.takes.left in omega (arith, length-append gained piece, left);
+  };
+  line = subst IsLine (ap (λ (l : List ℕ). part ++ l) (sym (ap (take 1) octets ∙ first_kept now.octets piece d.some))) d.line;
+  some = let some : 0 < length now.octets = d.some in omega (arith, ap length octets, length-append now.octets piece);
+  long = d.long;
+}
 
 -- the line's end came
 pub dropped_line : (before now : Waiting) (gained part : List ℕ) (n : ℕ) → Dropping before now gained part → HasLine 512 now.octets n
     → Takes before (ended (part ++ take n now.octets)) (record { octets = drop (n + 2) now.octets; left = now.left }) gained
-      × IsLine (part ++ take n now.octets) × (510 < length (part ++ take n now.octets))
-dropped_line before now gained part n d has =
-    (record {
-      octets = d.takes.octets ∙ ap (λ (l : List ℕ). part ++ l) has.whole ∙ moved part (take n now.octets) (drop (n + 2) now.octets);
-      left = d.takes.left;
-    }, spliced part now.octets n d.line has.line, let far : 510 < length part = d.long in omega (arith, length-append part (take n now.octets)))
+    × IsLine (part ++ take n now.octets) × (510 < length (part ++ take n now.octets))
+dropped_line before now gained part n d has = (
+  record {
+    octets = d.takes.octets ∙ ap (λ (l : List ℕ). part ++ l) has.whole ∙ moved part (take n now.octets) (drop (n + 2) now.octets);
+    left = d.takes.left;
+  },
+  spliced part now.octets n d.line has.line,
+  let far : 510 < length part = d.long in omega (arith, length-append part (take n now.octets)),
+)
   where
     moved : (a b c : List ℕ) → a ++ (b ++ (crlf ++ c)) ≡ ((a ++ b) ++ crlf) ++ c
     moved a b c = simp append_assoc
@@ -106,9 +109,9 @@ dropped_end before now gained part d none short =
 -- a link took more after it took some
 pub took_on : (a b c : Link) (g h : List ℕ) → Took a b g → Took b c h → Took a c (g ++ h)
 took_on a b c g h first second = record {
-    got = second.got ∙ ap (λ (l : List ℕ). l ++ h) first.got ∙ append_assoc a.got g h;
-    sent = second.sent ∙ first.sent;
-  }
+  got = second.got ∙ ap (λ (l : List ℕ). l ++ h) first.got ∙ append_assoc a.got g h;
+  sent = second.sent ∙ first.sent;
+}
 
 pub took_none : (a : Link) → Took a a []
 took_none a = record { got = sym (append-nil a.got); sent = refl }
@@ -118,9 +121,9 @@ takes_none w = record { octets = append-nil w.octets; left = omega arith }
 
 pub takes_on : (a b c : Waiting) (dropped g h : List ℕ) → Takes a [] b g → Takes b dropped c h → Takes a dropped c (g ++ h)
 takes_on a b c dropped g h first second = record {
-    octets = sym (append_assoc a.octets g h) ∙ ap (λ (l : List ℕ). l ++ h) first.octets ∙ second.octets;
-    left = let one : length g + b.left ≡ a.left = first.left in let two : length h + c.left ≡ b.left = second.left in omega (arith, length-append g h);
-  }
+  octets = sym (append_assoc a.octets g h) ∙ ap (λ (l : List ℕ). l ++ h) first.octets ∙ second.octets;
+  left = let one : length g + b.left ≡ a.left = first.left in let two : length h + c.left ≡ b.left = second.left in omega (arith, length-append g h);
+}
 
 pub takes_piece : (a b c : Waiting) (g piece : List ℕ) → Takes a [] b g → c.octets ≡ b.octets ++ piece → length piece + c.left ≡ b.left → Takes a [] c (g ++ piece)
 takes_piece a b c g piece first octets left = takes_on a b c [] g piece first (record { octets = sym octets; left = left })

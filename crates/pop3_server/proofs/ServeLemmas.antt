@@ -55,33 +55,33 @@ flat_push (first ∷ lines) line = ap (λ (l : List ℕ). ended first ++ l) (fla
 pub progress_start : {D : Type 0} (sound : D → Type 0) (mail : D → Mail) (old server : Machine D) (before link : Link) (hello : List ℕ) → server ≡ old → hello ≡ greeting
     → link ≡ record before { sent = before.sent ++ hello } → Progress sound mail old before server link (record { octets = []; left = 16777216 })
 progress_start sound mail old server before link hello same is sends = record {
-    gained = [];
-    lines = [];
-    answers = [];
-    each = tt;
-    got = ap (λ (l : Link). l.got) sends ∙ sym (append-nil before.got);
-    heard = refl;
-    left = refl;
-    sent = ap (λ (l : Link). l.sent) sends ∙ ap (λ (l : List ℕ). before.sent ++ l) (is ∙ sym (append-nil greeting));
-    run = (refl, same);
-  }
+  gained = [];
+  lines = [];
+  answers = [];
+  each = tt;
+  got = ap (λ (l : Link). l.got) sends ∙ sym (append-nil before.got);
+  heard = refl;
+  left = refl;
+  sent = ap (λ (l : Link). l.sent) sends ∙ ap (λ (l : List ℕ). before.sent ++ l) (is ∙ sym (append-nil greeting));
+  run = (refl, same);
+}
 
 -- one more line came and was answered
 pub progress_line : {D : Type 0} (sound : D → Type 0) (mail : D → Mail) (old server next : Machine D) (before link taken sent : Link) (waiting after : Waiting) (g line answer : List ℕ)
     → Progress sound mail old before server link waiting → Took link taken g → waiting.octets ++ g ≡ ended line ++ after.octets → length g + after.left ≡ waiting.left → IsLine line
     → Turn sound mail server line answer next → sent ≡ record taken { sent = taken.sent ++ answer } → Progress sound mail old before next sent after
 progress_line sound mail old server next before link taken sent waiting after g line answer p took octets left is turn sends = record {
-    gained = p.gained ++ g;
-    lines = p.lines ++ line ∷ [];
-    answers = p.answers ++ answer;
-    each = all_push p.lines line p.each is;
-    got = ap (λ (l : Link). l.got) sends ∙ took.got ∙ ap (λ (l : List ℕ). l ++ g) p.got ∙ append_assoc before.got p.gained g;
-    heard = ap (λ (l : List ℕ). l ++ g) p.heard ∙ append_assoc (flat_map ended p.lines) waiting.octets g ∙ ap (λ (l : List ℕ). flat_map ended p.lines ++ l) octets
-        ∙ sym (append_assoc (flat_map ended p.lines) (ended line) after.octets) ∙ ap (λ (l : List ℕ). l ++ after.octets) (sym (flat_push p.lines line));
-    left = let start : length p.gained + waiting.left ≡ 16777216 = p.left in omega (arith, length-append p.gained g);
-    sent = ap (λ (l : Link). l.sent) sends ∙ ap (λ (l : List ℕ). l ++ answer) (took.sent ∙ p.sent) ∙ moved before.sent greeting p.answers answer;
-    run = run_on sound mail old server next p.lines (line ∷ []) p.answers answer p.run (run_one sound mail server next line answer turn);
-  }
+  gained = p.gained ++ g;
+  lines = p.lines ++ line ∷ [];
+  answers = p.answers ++ answer;
+  each = all_push p.lines line p.each is;
+  got = ap (λ (l : Link). l.got) sends ∙ took.got ∙ ap (λ (l : List ℕ). l ++ g) p.got ∙ append_assoc before.got p.gained g;
+  heard = ap (λ (l : List ℕ). l ++ g) p.heard ∙ append_assoc (flat_map ended p.lines) waiting.octets g ∙ ap (λ (l : List ℕ). flat_map ended p.lines ++ l) octets
+      ∙ sym (append_assoc (flat_map ended p.lines) (ended line) after.octets) ∙ ap (λ (l : List ℕ). l ++ after.octets) (sym (flat_push p.lines line));
+  left = let start : length p.gained + waiting.left ≡ 16777216 = p.left in omega (arith, length-append p.gained g);
+  sent = ap (λ (l : Link). l.sent) sends ∙ ap (λ (l : List ℕ). l ++ answer) (took.sent ∙ p.sent) ∙ moved before.sent greeting p.answers answer;
+  run = run_on sound mail old server next p.lines (line ∷ []) p.answers answer p.run (run_one sound mail server next line answer turn);
+}
   where
     moved : (a b c d : List ℕ) → (a ++ (b ++ c)) ++ d ≡ a ++ (b ++ (c ++ d))
     moved a b c d = simp append_assoc
@@ -197,34 +197,34 @@ served_unsent sound mail old server next before link taken sent waiting after g 
 -- the greeting found no memory, or went out in part
 pub served_unmade : {D : Type 0} (sound : D → Type 0) (mail : D → Mail) (old server : Machine D) (before : Link) → server ≡ old → Served sound mail old before (Err NoMemory) server before
 served_unmade sound mail old server before same = record {
-    gained = [];
-    got = sym (append-nil before.got);
-    bound = omega arith;
-    lines = [];
-    rest = [];
-    each = tt;
-    heard = refl;
-    out = [];
-    sent = sym (append-nil before.sent);
-    answered = inl (refl, refl, same);
-    ends = λ e. cc;
-  }
+  gained = [];
+  got = sym (append-nil before.got);
+  bound = omega arith;
+  lines = [];
+  rest = [];
+  each = tt;
+  heard = refl;
+  out = [];
+  sent = sym (append-nil before.sent);
+  answered = inl (refl, refl, same);
+  ends = λ e. cc;
+}
 
 pub served_ungreeted : {D : Type 0} (sound : D → Type 0) (mail : D → Mail) (old server : Machine D) (before link : Link) (hello front rest : List ℕ) (count : ℕ)
     → server ≡ old → hello ≡ greeting → hello ≡ front ++ rest → link ≡ record before { sent = before.sent ++ front; failures = count } → Served sound mail old before (Err WriteFailed) server link
 served_ungreeted sound mail old server before link hello front rest count same is part sends = record {
-    gained = [];
-    got = ap (λ (l : Link). l.got) sends ∙ sym (append-nil before.got);
-    bound = omega arith;
-    lines = [];
-    rest = [];
-    each = tt;
-    heard = refl;
-    out = front;
-    sent = ap (λ (l : Link). l.sent) sends;
-    answered = inl (rest, sym is ∙ part, refl, same);
-    ends = λ e. cc;
-  }
+  gained = [];
+  got = ap (λ (l : Link). l.got) sends ∙ sym (append-nil before.got);
+  bound = omega arith;
+  lines = [];
+  rest = [];
+  each = tt;
+  heard = refl;
+  out = front;
+  sent = ap (λ (l : Link). l.sent) sends;
+  answered = inl (rest, sym is ∙ part, refl, same);
+  ends = λ e. cc;
+}
 
 long_command : (line : List ℕ) → 510 < length line → command_of line ≡ Err BadCommand
 unfolding command_of
@@ -234,11 +234,11 @@ long_command line long = cond-true _ _ _ (lt-ltb 510 (length line) long)
 pub long_turn : {D : Type 0} (sound : D → Type 0) (mail : D → Mail) (server : Machine D) (line : List ℕ) → is_open server.state ≡ true → 510 < length line
     → Turn sound mail server line (said (codes "-ERR bad command")) server
 long_turn sound mail server line opened long = record {
-    was_open = opened;
-    user = refl;
-    pass = refl;
-    answers = rw (long_command line long) (record { removals = refl; does = (refl, refl, refl) });
-  }
+  was_open = opened;
+  user = refl;
+  pass = refl;
+  answers = rw (long_command line long) (record { removals = refl; does = (refl, refl, refl) });
+}
 
 -- nothing is removed while the session goes on
 pub open_removals : {D : Type 0} (sound : D → Type 0) (mail : D → Mail) (asked : Deed) (old : D) (answer : List ℕ) (next : State) (new : D)
@@ -252,18 +252,19 @@ open_removals sound mail (Leave rows) old answer next new a opened = absurd (let
 pub line_octets : (before mid after : Waiting) (g seen : List ℕ) (n : ℕ) → Takes before [] mid g → HasLine 512 mid.octets n → seen ≡ mid.octets
     → after ≡ record { octets = drop (n + 2) mid.octets; left = mid.left }
     → (before.octets ++ g ≡ ended (take n seen) ++ after.octets) × (length g + after.left ≡ before.left) × IsLine (take n seen)
-line_octets before mid after g seen n takes has same is =
-    (takes.octets ∙ has.whole ∙ sym (append_assoc (take n mid.octets) crlf (drop (n + 2) mid.octets))
-        ∙ ap (λ (l : List ℕ). ended (take n l) ++ drop (n + 2) mid.octets) (sym same) ∙ ap (λ (w : Waiting). ended (take n seen) ++ w.octets) (sym is),
-      ap (λ (w : Waiting). length g + w.left) is ∙ takes.left,
-      subst (λ (l : List ℕ). IsLine (take n l)) (sym same) has.line)
+line_octets before mid after g seen n takes has same is = (
+  takes.octets ∙ has.whole ∙ sym (append_assoc (take n mid.octets) crlf (drop (n + 2) mid.octets))
+      ∙ ap (λ (l : List ℕ). ended (take n l) ++ drop (n + 2) mid.octets) (sym same) ∙ ap (λ (w : Waiting). ended (take n seen) ++ w.octets) (sym is),
+  ap (λ (w : Waiting). length g + w.left) is ∙ takes.left,
+  subst (λ (l : List ℕ). IsLine (take n l)) (sym same) has.line,
+)
 
 pub turn_of : {D : Type 0} (sound : D → Type 0) (mail : D → Mail) (server next : Machine D) (line answer bytes : List ℕ) → is_open server.state ≡ true
     → (next.user ≡ server.user) × (next.pass ≡ server.pass) → Answers sound mail (deed server.user server.pass server.state (command_of line)) server.drop bytes next.state next.drop
     → answer ≡ bytes → Turn sound mail server line answer next
 turn_of sound mail server next line answer bytes opened who answers same = record {
-    was_open = opened;
-    user = who.0;
-    pass = who.1;
-    answers = subst (λ (b : List ℕ). Answers sound mail (deed server.user server.pass server.state (command_of line)) server.drop b next.state next.drop) (sym same) answers;
-  }
+  was_open = opened;
+  user = who.0;
+  pass = who.1;
+  answers = subst (λ (b : List ℕ). Answers sound mail (deed server.user server.pass server.state (command_of line)) server.drop b next.state next.drop) (sym same) answers;
+}

@@ -6,11 +6,9 @@ ghost use Rattle.pop3_server.specs.declared.intake.Heard.TheVariants.{LongLine};
 ghost use Rattle.pop3_server.specs.Got.{Waiting};
 ghost use Rattle.pop3_server.specs.Serving.{Took, Hears, TakesMore, Found};
 
-use std::marker::Model;
-
-use pop3_wire::{LineReader, Wire};
-
 use crate::fault::ServerFault;
+use pop3_wire::{LineReader, Wire};
+use std::marker::Model;
 
 /// How many octets a server reads of one connection; then it is as at the end of input.
 pub const MAX_OCTETS: usize = 16_777_216;
@@ -38,7 +36,7 @@ pub struct Intake {
 
 impl Model for Intake {
     ghost use Rattle.pop3_server.specs.declared.intake.Heard.TheVariants.{LongLine};
-ghost use Rattle.pop3_server.specs.Got.{Waiting};
+    ghost use Rattle.pop3_server.specs.Got.{Waiting};
 
     ghost Value = { Waiting };
 
@@ -85,13 +83,11 @@ impl Intake {
         requires { length self.old.octets < 512 }
         ensures counted { Tallies (W.seen wire.old).failures result (W.seen wire.new).failures }
         ensures err { IfErr result (λ e. e ≡ ServerFault.ReadFailed) }
-        ensures takes {
-            (piece : List ℕ) × (length piece + self.new.left ≡ self.old.left) × (self.new.octets ≡ self.old.octets ++ piece)
-                × (result ≡ Ok true → 0 < length piece)
-                × (result ≡ Ok false → length piece ≡ 0)
-                × (W.sound wire.new → W.sound wire.old × W.leads_to wire.old wire.new × Took (W.seen wire.old) (W.seen wire.new) piece
-                    × TakesMore result self.new.left (W.seen wire.new))
-        }
+        ensures takes { (piece : List ℕ) × (length piece + self.new.left ≡ self.old.left) × (self.new.octets ≡ self.old.octets ++ piece)
+            × (result ≡ Ok true → 0 < length piece)
+            × (result ≡ Ok false → length piece ≡ 0)
+            × (W.sound wire.new → W.sound wire.old × W.leads_to wire.old wire.new × Took (W.seen wire.old) (W.seen wire.new) piece
+            × TakesMore result self.new.left (W.seen wire.new)) }
     {
         if self.left == 0 {
             return Ok(false);
@@ -113,10 +109,8 @@ impl Intake {
         ensures err { IfErr result (λ e. e ≡ ServerFault.ReadFailed) }
         ensures found { IfOk result (λ heard. Found heard self.new) }
         ensures fewer { length self.new.octets + 2 * self.new.left < length self.old.octets + 2 * self.old.left }
-        ensures hears {
-            W.sound wire.new → W.sound wire.old × W.leads_to wire.old wire.new
-                × Hears (W.seen wire.old) self.old result (W.seen wire.new) self.new
-        }
+        ensures hears { W.sound wire.new → W.sound wire.old × W.leads_to wire.old wire.new
+            × Hears (W.seen wire.old) self.old result (W.seen wire.new) self.new }
     {
         self.skip(MAX_LINE - 1);
         loop {
@@ -145,13 +139,9 @@ impl Intake {
         ensures err { IfErr result (λ e. e ≡ ServerFault.ReadFailed) }
         ensures found { IfOk result (λ heard. Found heard self.new) }
         ensures fewer { length self.new.octets + 2 * self.new.left ≤ length self.old.octets + 2 * self.old.left }
-        ensures dropped {
-            result ≡ Ok LongLine → length self.new.octets + 2 * self.new.left < length self.old.octets + 2 * self.old.left
-        }
-        ensures hears {
-            W.sound wire.new → W.sound wire.old × W.leads_to wire.old wire.new
-                × Hears (W.seen wire.old) self.old result (W.seen wire.new) self.new
-        }
+        ensures dropped { result ≡ Ok LongLine → length self.new.octets + 2 * self.new.left < length self.old.octets + 2 * self.old.left }
+        ensures hears { W.sound wire.new → W.sound wire.old × W.leads_to wire.old wire.new
+            × Hears (W.seen wire.old) self.old result (W.seen wire.new) self.new }
     {
         loop {
             if let Some(length) = self.line_end() {

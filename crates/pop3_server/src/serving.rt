@@ -4,21 +4,18 @@ ghost use Rattle.pop3_wire.specs.Link.{Tallies, Sends};
 ghost use Rattle.pop3_server.specs.ServerMachine.{is_open};
 ghost use Rattle.pop3_server.specs.Serving.{Served, refusal_of};
 
-use pop3_wire::Wire;
-
 use crate::fault::ServerFault;
 use crate::intake::{Heard, Intake};
 use crate::maildrops::Maildrop;
 use crate::servers::Server;
+use pop3_wire::Wire;
 
 /// Sends bytes, all of them at once.
 fn send<W: Wire>(wire: &mut W, bytes: &[u8]) -> Result<(), ServerFault>
     ensures counted { Tallies (W.seen wire.old).failures result (W.seen wire.new).failures }
     ensures err { IfErr result (λ e. e ≡ ServerFault.WriteFailed) }
-    ensures sends {
-        W.sound wire.new → W.sound wire.old × W.leads_to wire.old wire.new
-            × Sends (W.seen wire.old) bytes.now result (W.seen wire.new)
-    }
+    ensures sends { W.sound wire.new → W.sound wire.old × W.leads_to wire.old wire.new
+        × Sends (W.seen wire.old) bytes.now result (W.seen wire.new) }
 {
     match wire.send(bytes) {
         Ok(()) => Ok(()),
@@ -36,17 +33,11 @@ fn send<W: Wire>(wire: &mut W, bytes: &[u8]) -> Result<(), ServerFault>
 /// that QUIT hadn't removed.
 pub fn serve<D: Maildrop, W: Wire>(server: &mut Server<D>, wire: &mut W) -> Result<(), ServerFault>
     requires { is_open server.old.state ≡ true }
-    ensures counted {
-        Tallies (W.seen wire.old).failures (refusal_of result) (W.seen wire.new).failures
-    }
-    ensures removals {
-        is_open server.new.state ≡ true
-            → (D.mail server.new.drop).removals ≡ (D.mail server.old.drop).removals
-    }
-    ensures served {
-        W.sound wire.new → W.sound wire.old × W.leads_to wire.old wire.new
-            × Served D.sound D.mail server.old (W.seen wire.old) result server.new (W.seen wire.new)
-    }
+    ensures counted { Tallies (W.seen wire.old).failures (refusal_of result) (W.seen wire.new).failures }
+    ensures removals { is_open server.new.state ≡ true
+        → (D.mail server.new.drop).removals ≡ (D.mail server.old.drop).removals }
+    ensures served { W.sound wire.new → W.sound wire.old × W.leads_to wire.old wire.new
+        × Served D.sound D.mail server.old (W.seen wire.old) result server.new (W.seen wire.new) }
 {
     let hello = match server.greeting() {
         Ok(hello) => hello,

@@ -6,8 +6,11 @@ use Rattle.pop3_server.proofs.intake.Intake.long_line.Goals as goal
 
 pub loop-length-init : goal.loop-length-init
 loop-length-init g c =
-    rw c.skip.ensures (refl, omega (arith, length-drop 511 c.args.self.now.octets, c.requires.long),
-        λ s. (s, g.met.W.Wire.leads_same c.args.wire.now, ([], take 511 c.args.self.now.octets, took_none _, drops_first c.args.self.now c.requires.none c.requires.long)))
+    rw c.skip.ensures (
+      refl,
+      omega (arith, length-drop 511 c.args.self.now.octets, c.requires.long),
+      λ s. (s, g.met.W.Wire.leads_same c.args.wire.now, ([], take 511 c.args.self.now.octets, took_none _, drops_first c.args.self.now c.requires.none c.requires.long)),
+    )
 
 pub returns-in-Some-clause-hears : goal.returns-in-Some-clause-hears
 returns-in-Some-clause-hears g c = λ s.
@@ -30,10 +33,13 @@ loop-length-preserved-then-waiting-ge-MAX_LINE g c =
     let less = drop_less c.line_end.new.self long in
     let same = c.line_end.ensures.same in
     let before : length c.line_end.new.self.octets + 2 * c.line_end.new.self.left < length c.args.self.now.octets + 2 * c.args.self.now.left = rw same c.loop-length.invariant.1 in
-    rw c.skip-then-waiting-ge-MAX_LINE.ensures (c.loop-length.invariant.0, omega (arith, less),
-        λ s. let inv = c.loop-length.invariant.2 s in
-            let d = still_dropping c.args.self.now c.loop-length.self c.line_end.new.self inv.2.0 inv.2.1 same inv.2.3 in
-            (inv.0, inv.1, (inv.2.0, inv.2.1 ++ take 511 c.line_end.new.self.octets, inv.2.2, drops_more c.args.self.now c.line_end.new.self inv.2.0 inv.2.1 d c.in_default.ensures.none long)))
+    rw c.skip-then-waiting-ge-MAX_LINE.ensures (
+      c.loop-length.invariant.0,
+      omega (arith, less),
+      λ s. let inv = c.loop-length.invariant.2 s in
+          let d = still_dropping c.args.self.now c.loop-length.self c.line_end.new.self inv.2.0 inv.2.1 same inv.2.3 in
+          (inv.0, inv.1, (inv.2.0, inv.2.1 ++ take 511 c.line_end.new.self.octets, inv.2.2, drops_more c.args.self.now c.line_end.new.self inv.2.0 inv.2.1 d c.in_default.ensures.none long)),
+    )
 
 pub returns-then-not-came-clause-hears : goal.returns-then-not-came-clause-hears
 returns-then-not-came-clause-hears g c = λ s.
@@ -55,10 +61,13 @@ loop-length-preserved g c =
     let some = takes.3 (ap Ok c.if-not-came.false) in
     let before : length c.line_end.new.self.octets + 2 * c.line_end.new.self.left < length c.args.self.now.octets + 2 * c.args.self.now.left = rw c.line_end.ensures.same c.loop-length.invariant.1 in
     let size : length c.more.new.self.octets ≡ length c.line_end.new.self.octets + length takes.0 = ap length takes.2 ∙ length-append c.line_end.new.self.octets takes.0 in
-    let left = takes.1 in
-    (c.in-Ok.ensures.counted ∙ c.loop-length.invariant.0, omega arith, λ s.
-        let more = takes.5 s in
-        let inv = c.loop-length.invariant.2 more.0 in
-        let d = still_dropping c.args.self.now c.loop-length.self c.line_end.new.self inv.2.0 inv.2.1 c.line_end.ensures.same inv.2.3 in
-        let on = drops_on c.args.self.now c.line_end.new.self c.more.new.self inv.2.0 inv.2.1 takes.0 d takes.2 takes.1 in
-        (inv.0, g.met.W.Wire.leads_on _ _ _ inv.1 more.1, (inv.2.0 ++ takes.0, inv.2.1, took_on _ _ _ inv.2.0 takes.0 inv.2.2 more.2, on)))
+    let left = takes.1 in (
+      c.in-Ok.ensures.counted ∙ c.loop-length.invariant.0,
+      omega arith,
+      λ s.
+          let more = takes.5 s in
+          let inv = c.loop-length.invariant.2 more.0 in
+          let d = still_dropping c.args.self.now c.loop-length.self c.line_end.new.self inv.2.0 inv.2.1 c.line_end.ensures.same inv.2.3 in
+          let on = drops_on c.args.self.now c.line_end.new.self c.more.new.self inv.2.0 inv.2.1 takes.0 d takes.2 takes.1 in
+          (inv.0, g.met.W.Wire.leads_on _ _ _ inv.1 more.1, (inv.2.0 ++ takes.0, inv.2.1, took_on _ _ _ inv.2.0 takes.0 inv.2.2 more.2, on)),
+    )

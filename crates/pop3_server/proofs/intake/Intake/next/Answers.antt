@@ -14,6 +14,15 @@ returns-then-not-came-clause-hears g c = λ s.
     let none = still_none c.line_end.new.self c.more.new.self takes.0 takes.2 nothing c.in_default.ensures.none in
     let line = all_waits c.more.new.self.octets none (still_short c.line_end.new.self c.more.new.self takes.0 takes.2 nothing short) in
     let why = rw c.if-not-came.true at more.3 in
-    let taken = subst (λ (w : Waiting). Takes c.args.self.now [] w inv.2.0) (sym c.line_end.ensures.same) inv.2.2 in
-    (inv.0, g.met.W.Wire.leads_on _ _ _ inv.1 more.1, (inv.2.0 ++ takes.0, [], took_on _ _ _ inv.2.0 takes.0 inv.2.1 more.2,
-        takes_piece c.args.self.now c.line_end.new.self c.more.new.self inv.2.0 takes.0 taken takes.2 takes.1, line, why))
+    let taken = subst (λ (w : Waiting). Takes c.args.self.now [] w inv.2.0) (sym c.line_end.ensures.same) inv.2.2 in (
+      inv.0,
+      g.met.W.Wire.leads_on _ _ _ inv.1 more.1,
+      (
+        inv.2.0 ++ takes.0,
+        [],
+        took_on _ _ _ inv.2.0 takes.0 inv.2.1 more.2,
+        takes_piece c.args.self.now c.line_end.new.self c.more.new.self inv.2.0 takes.0 taken takes.2 takes.1,
+        line,
+        why,
+      ),
+    )
