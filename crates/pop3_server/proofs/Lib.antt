@@ -1,2 +1,12 @@
+pub mod DigestLemmas
+pub mod HonestLemmas
+pub mod HonestTurns
+pub mod LeaveLemmas
+pub mod OpenLemmas
+pub mod RemovalLemmas
+pub mod ReplyLemmas
+pub mod RowLemmas
+pub mod ServeIntakeLemmas
+pub mod ServeLemmas
 pub mod SizeLemmas
 pub mod SlotLemmas

@@ -1,9 +1,8 @@
 -- The size of a text by what its bytes add.
 use Rattle.std.proofs.Common.{◌≡◌, ◌==◌, ℕ, ◌+◌, Bool, true, false, not, List, [], ◌∷◌, ◌++◌, length, refl, sym, ◌∙◌, ap, arith, if◌then◌else◌}
-use Rattle.std.specs.List.{flat_map, sum_by}
+use Rattle.std.specs.List.{flat_map, sum_by, onto_first}
 use Rattle.std.proofs.lemmas.List.Sums.{sum_by-cons, sum_by-append}
 use Rattle.pop3_wire.specs.Line.{ended}
-use Rattle.std.specs.List.{onto_first}
 use Rattle.pop3_wire.specs.Stuffed.{lines_of_text}
 use Rattle.pop3_server.specs.declared.size.SizeCount.{SizeCount}
 use Rattle.pop3_server.specs.Size.{size_of, weight, ends_open, capped, Counts}

@@ -1,5 +1,9 @@
+pub mod Got
 pub mod HonestServer
+pub mod MaildirNames
 pub mod Maildrop
+pub mod Removal
 pub mod Run
 pub mod ServerMachine
+pub mod Serving
 pub mod Size

@@ -80,7 +80,10 @@ Removes old i (Err Refused) new = (new ≡ refusing (asked old)) ⊎ (new ≡ re
 Removes old i (Err NoMemory) new = ⊥
 
 -- a refusal is counted, as far as the count goes, and nothing else is
+abbrev pub CountsFault : ℕ → DropFault → ℕ → Type 0
+CountsFault old Refused new = new ≡ counted old
+CountsFault old NoMemory new = new ≡ old
+
 abbrev pub Tallies : {T : Type 0} → Mail → Result T DropFault → Mail → Type 0
 Tallies old (Ok done) new = new.refused ≡ old.refused
-Tallies old (Err Refused) new = new.refused ≡ counted old.refused
-Tallies old (Err NoMemory) new = new.refused ≡ old.refused
+Tallies old (Err fault) new = CountsFault old.refused fault new.refused

@@ -1,5 +1,5 @@
 -- The server as a machine: a state and a line, the answer and the next state (RFC 1939, sections 4 to 7).
-use Rattle.std.specs.Prelude.{◌≡◌, ◌⊎◌, ◌==◌, ℕ, zero, suc, ◌+◌, ◌-◌, ◌^◌, min, Bool, true, false, not, ◌&&◌, List, [], ◌∷◌, ◌++◌, map, length, Option, Some, None, Result, Ok, Err, slice_get, codes, bytes_eq, if◌then◌else◌}
+use Rattle.std.specs.Prelude.{◌≡◌, ◌⊎◌, ◌==◌, ℕ, zero, suc, ◌+◌, ◌-◌, Bool, true, false, not, ◌&&◌, List, [], ◌∷◌, ◌++◌, map, length, Option, Some, None, Result, Ok, Err, slice_get, codes, bytes_eq, if◌then◌else◌}
 use Rattle.std.specs.List.{count_by, sum_by}
 use Rattle.std.specs.Fmt.{decimal}
 use Rattle.pop3_wire.specs.declared.command.Command.{Command}
@@ -12,7 +12,7 @@ use Rattle.pop3_wire.specs.World.{Message}
 use Rattle.pop3_server.specs.declared.state.Row.{Row}
 use Rattle.pop3_server.specs.declared.state.State.{State}
 use Rattle.pop3_server.specs.declared.state.State.TheVariants.{Authorization, Transaction, Closed}
-use Rattle.pop3_server.specs.Maildrop.{Listed, Mail, there, entry_of, HasPlace, refusing, asked, removed}
+use Rattle.pop3_server.specs.Maildrop.{Listed, Mail, there, entry_of, HasPlace, counted, refusing, asked, removed}
 
 -- ---- the rows: the messages as PASS found them, and their marks
 
@@ -174,16 +174,17 @@ pub data Empties : ℕ → List Row → Mail → Bool → Mail → Type 0 where
   goes : (i : ℕ) (row : Row) (rows : List Row) (old mid : Mail) (done all : Bool) (new : Mail)
       → row.marked ≡ true → Tries old i done mid → Empties (i + 1) rows mid all new → Empties i (row ∷ rows) old (done && all) new
 
--- how many messages are marked
-abbrev pub marked_count : List Row → ℕ
-marked_count rows = count_by (λ (row : Row). row.marked) rows
+-- a count of removals, with one more for each marked row
+abbrev pub with_marked : List Row → ℕ → ℕ
+with_marked [] count = count
+with_marked (row ∷ rows) count = with_marked rows (if row.marked then counted count else count)
 
 -- removals are asked for at QUIT alone, one for each marked message; so it is of every maildrop
 abbrev pub AsksRemovals : Mail → Deed → Mail → Type 0
 AsksRemovals old (Say bytes state) new = new.removals ≡ old.removals
 AsksRemovals old Open new = new.removals ≡ old.removals
 AsksRemovals old (Give rows i line top) new = new.removals ≡ old.removals
-AsksRemovals old (Leave rows) new = new.removals ≡ min (old.removals + marked_count rows) (2 ^ 64 - 1)
+AsksRemovals old (Leave rows) new = new.removals ≡ with_marked rows old.removals
 
 -- the maildrop refused its listing, or there are as many rows as messages, nothing marked
 abbrev pub Opens : {D : Type 0} → (D → Type 0) → (D → Mail) → D → List ℕ → State → D → Type 0
@@ -240,6 +241,11 @@ abbrev pub Tied : Type 0 → Mail → State → Type 0
 Tied sound mail (Authorization kept) = Unit {0}
 Tied sound mail (Transaction rows) = sound → (i : ℕ) (row : Row) → slice_get rows i ≡ Some row → HasPlace mail i
 Tied sound mail Closed = Unit {0}
+
+-- the state after an answer, where none means that it stays as it is
+abbrev pub next_of : State → Option State → State
+next_of state None = state
+next_of state (Some next) = next
 
 -- whom it lets in, where it stands, and its maildrop
 pub record Machine (D : Type 0) : Type 0 where

@@ -107,7 +107,7 @@ pub trait Maildrop {
     /// that in this list.
     fn entries(&mut self) -> Result<Vec<Entry>, DropFault>
         ensures within { IfOk result (λ entries. vec_len entries ≤ MAX_COUNT) }
-        ensures distinct { IfOk result (λ entries. AreDistinct (map (λ (e : Listed). e.uid) entries.items)) }
+        ensures distinct { sound self.new → IfOk result (λ entries. AreDistinct (map (λ (e : Listed). e.uid) entries.items)) }
         ensures tally { Tallies (mail self.old) result (mail self.new) }
         ensures removes_none { (mail self.new).removals ≡ (mail self.old).removals }
         ensures lists { sound self.new → sound self.old × Lists (mail self.old) result (mail self.new) };

@@ -169,6 +169,17 @@ impl MemoryDrop {
         has_id(self.slots.as_slice(), uid)
     }
 
+    /// Whether a message stands at this place: what `text` and `remove` ask for.
+    pub fn has_place(&self, i: usize) -> bool
+        ensures { IsTrue result ↔ HasPlace self.now i }
+    {
+        match self.slots.get(i) {
+            Some(Some(_)) => true,
+            Some(None) => false,
+            None => false,
+        }
+    }
+
     /// Puts a message behind the others. The conditions are tested by `is_legal_id`, `contains`,
     /// `size_of` and `len`. A text whose last line has no LF is served with that line ended.
     pub fn push(&mut self, uid: &[u8], text: &[u8]) -> Result<(), AllocError>

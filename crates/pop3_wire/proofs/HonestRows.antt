@@ -25,7 +25,7 @@ number_read limit n fits within =
     let some : 0 < length (decimal n) = decimal_nonempty n fits in
     let value : digits_value 10 (decimal n) ≡ n = (decimal_is_IsNumeral n fits).1 in
     let good : (is_numeral (decimal n) && nat_le (digits_value 10 (decimal n)) limit) ≡ true =
-        and_from _ _ (and_from _ _ (and_from _ _ (lt-ltb 0 (length (decimal n)) some) (le-leb (length (decimal n)) 20 short)) (digits_of_decimal n fits)) (le-leb _ _ (omega arith)) in
+    and_from _ _ (and_from _ _ (and_from _ _ (lt-ltb 0 (length (decimal n)) some) (le-leb (length (decimal n)) 20 short)) (digits_of_decimal n fits)) (le-leb _ _ (omega arith)) in
     cond-true _ _ _ good ∙ ap (λ (v : ℕ). Ok v) value
 
 -- the field in front
@@ -101,7 +101,7 @@ message_read k rest few =
     let first = starts is_in_field (decimal k) (decimal_nonempty k fits) (number_in_field k fits) in
     let begin : decimal k ++ 32 ∷ rest ≡ first.0 ∷ (first.1 ++ 32 ∷ rest) = ap (λ (l : List ℕ). l ++ 32 ∷ rest) first.2 in
     ap (λ (r : Result (List ℕ) WireFault). r >>= (λ field. number number_limit (take_while is_in_field field) >>= (λ n. both n (past is_in_field field))))
-        (next_at (decimal k ++ 32 ∷ rest) first.0 (first.1 ++ 32 ∷ rest) begin first.3)
+    (next_at (decimal k ++ 32 ∷ rest) first.0 (first.1 ++ 32 ∷ rest) begin first.3)
     ∙ ap (λ (field : List ℕ). number number_limit field >>= (λ n. both n (past is_in_field (decimal k ++ 32 ∷ rest)))) (field_taken (decimal k) rest (number_in_field k fits))
     ∙ ap (λ (r : Result ℕ WireFault). r >>= (λ n. both n (past is_in_field (decimal k ++ 32 ∷ rest)))) (number_read number_limit k fits few)
     ∙ ap (λ (l : List ℕ). both k l) (field_past (decimal k) rest (number_in_field k fits))
@@ -112,9 +112,9 @@ unfolding number_and_size
 scan_read k size few fits =
     let first = starts is_in_field (decimal size) (decimal_nonempty size fits) (number_in_field size fits) in
     ap (λ (r : Result (ℕ × List ℕ) WireFault). r >>= (λ first. next_field first.1 >>= (λ field. number size_limit (take_while is_ascii_digit field) >>= (λ size. both first.0 size))))
-        (message_read k (decimal size) few)
+    (message_read k (decimal size) few)
     ∙ ap (λ (r : Result (List ℕ) WireFault). r >>= (λ field. number size_limit (take_while is_ascii_digit field) >>= (λ size. both k size)))
-        (next_behind (decimal size) first.0 first.1 first.2 first.3)
+    (next_behind (decimal size) first.0 first.1 first.2 first.3)
     ∙ ap (λ (field : List ℕ). number size_limit field >>= (λ size. both k size)) (all_taken is_ascii_digit (decimal size) (digits_of_decimal size fits))
     ∙ ap (λ (r : Result ℕ WireFault). r >>= (λ size. both k size)) (number_read size_limit size fits (omega arith))
 
@@ -131,9 +131,9 @@ uid_read k uid few legal =
     let fields : list_all is_in_field uid ≡ true = all_pass is_id_byte is_in_field id_byte_in_field uid bytes.1 in
     let first = starts is_in_field uid bytes.0 fields in
     ap (λ (r : Result (ℕ × List ℕ) WireFault). r >>= (λ first. next_field first.1 >>= (λ field. legal_id (take_while is_in_field field) >>= (λ id. nothing_more id (past is_in_field field) >>= (λ whole. both first.0 whole)))))
-        (message_read k uid few)
+    (message_read k uid few)
     ∙ ap (λ (r : Result (List ℕ) WireFault). r >>= (λ field. legal_id (take_while is_in_field field) >>= (λ id. nothing_more id (past is_in_field field) >>= (λ whole. both k whole))))
-        (next_behind uid first.0 first.1 first.2 first.3)
+    (next_behind uid first.0 first.1 first.2 first.3)
     ∙ ap (λ (field : List ℕ). legal_id field >>= (λ id. nothing_more id (past is_in_field uid) >>= (λ whole. both k whole))) (all_taken is_in_field uid fields)
     ∙ ap (λ (r : Result (List ℕ) WireFault). r >>= (λ id. nothing_more id (past is_in_field uid) >>= (λ whole. both k whole))) (cond-true _ _ _ legal)
     ∙ ap (λ (rest : List ℕ). nothing_more uid rest >>= (λ whole. both k whole)) (all_past is_in_field uid fields)

@@ -19,7 +19,7 @@ entries_are : (c : goal.After-retain) → c.in_ok-entries.entries.items ≡ map 
 entries_are c = c.in_ok-entries.ensures ∙ ap (λ s. map entry_of (there s)) c.as_slice.ensures.value
 
 pub returns-clause-distinct : goal.returns-clause-distinct
-returns-clause-distinct c =
+returns-clause-distinct c = λ s.
     subst AreDistinct (sym (ap (map (λ (e : Listed). e.uid)) (entries_are c) ∙ ids-listed (there c.self.inside.slots.items))) c.self.invariant.0
 
 pub returns-clause-lists : goal.returns-clause-lists

@@ -1,0 +1,314 @@
+-- Each answer of the server to a command of a session is an honest reply, and so are all of them in order.
+use Rattle.std.proofs.Common.{◌≡◌, ◌≢◌, ◌⊎◌, inl, inr, ◌<◌, ◌≤◌, ◌+◌, ◌-◌, ◌*◌, ◌^◌, ℕ, Bool, true, false, cond, List, [], ◌∷◌, ◌++◌, map, length, refl, sym, ap, subst, ◌∙◌, arith, append_assoc, Option, Some, None, Result, Ok, Err}
+use Rattle.std.specs.Prelude.{codes, not, slice_get, slice_set, bytes_eq, ◌&&◌}
+use Rattle.std.specs.List.{flat_map, AllByRecursion, count_by, list_all}
+use Rattle.std.specs.Fmt.{decimal}
+use Rattle.std.proofs.lemmas.Bool.{cases_Bool, cond-true, cond-false}
+use Rattle.std.proofs.lemmas.List.{append-nil}
+use Rattle.std.proofs.lemmas.List.Sums.{count_by-le-length}
+use Rattle.pop3_wire.specs.declared.command.Command.{Command}
+use Rattle.pop3_wire.specs.declared.command.Command.TheVariants.{User, Pass, Stat, UidlAll, UidlOne, ListAll, ListOne, Retr, Dele, Rset, Noop, Top, Quit}
+use Rattle.pop3_wire.specs.declared.fault.WireFault.{WireFault}
+use Rattle.pop3_wire.specs.declared.reply.Status.TheVariants.{Positive, Negative}
+use Rattle.pop3_wire.specs.Line.{crlf, IsLine, ended}
+use Rattle.pop3_wire.specs.Body.{Body}
+use Rattle.pop3_wire.specs.Fields.{number_and_size}
+use Rattle.pop3_wire.specs.Commands.{line_of}
+use Rattle.pop3_wire.specs.CommandLine.{command_of}
+use Rattle.pop3_wire.specs.Stuffed.{lines_of_text, stuffed_lines, whole_text}
+use Rattle.pop3_wire.specs.World.{Message, IsMessage}
+use Rattle.pop3_wire.specs.Honest.{Says, SaysAnything, IsUnmarked, IsScanRow, IsUidRow, Grants, Reply, Replies, no_marks, Honest}
+use Rattle.pop3_wire.proofs.HonestRows.{scan_read, is_no_lf, no_lf_append, no_lf_decimal}
+use Rattle.pop3_wire.proofs.StuffLemmas.{stuffed_is_body}
+use Rattle.pop3_wire.proofs.LineLemmas.{IsLine-nil}
+use Rattle.pop3_wire.proofs.CommandRoundTrip.{round_trip}
+use Rattle.pop3_server.specs.declared.state.Row.{Row}
+use Rattle.pop3_server.specs.declared.state.State.{State}
+use Rattle.pop3_server.specs.declared.state.State.TheVariants.{Authorization, Transaction, Closed}
+use Rattle.pop3_server.specs.Maildrop.{Mail, there, refusing}
+use Rattle.pop3_server.specs.ServerMachine.{Machine, Deed, Say, Open, Give, Leave, Does, Opens, GivesText, Leaves, deed, is_open, said, left_count, left_total, row_at, mark_at, unmarked, row_of, scan_line, uid_line, octets_line, text_body, give, dele, in_authorization, in_transaction, greeting}
+use Rattle.pop3_server.specs.Run.{Run, Turn}
+use Rattle.pop3_server.specs.HonestServer.{IsOfSession, IsAsked, IsServed, AreServed, lines_of, IsHonest}
+use Rattle.pop3_server.proofs.SlotLemmas.{there_map}
+use Rattle.pop3_server.proofs.HonestLemmas.{row_with, rows_with, fresh_rows, fresh_length, cleared_rows, cleared_length, marked_rows, marked_length, found, served_at, text_at, counted_left, total_left, ok_says, granted, refused, scan_rows, uid_rows, lists_all}
+
+-- where the server stands with these messages, when these are marked
+abbrev pub Stands : List Message → State → Mail → List Bool → Type 0
+Stands ms (Authorization kept) mail marks = (there mail.slots ≡ ms) × (marks ≡ no_marks ms)
+Stands ms (Transaction rows) mail marks = (mail.slots ≡ map Some ms) × (length marks ≡ length ms) × (rows ≡ rows_with ms marks)
+Stands ms Closed mail marks = Unit {0}
+
+-- an honest reply, after which the server stands there
+abbrev pub Replied : List Message → List Bool → Command → List ℕ → State → Mail → Type 0
+Replied ms marks c answer next mail = (after : List Bool) × Reply ms marks c answer after × Stands ms next mail after
+
+-- a line that says no, and nothing changes
+says_no : {D : Type 0} (mail : D → Mail) (ms : List Message) (marks : List Bool) (c : Command) (old : D) (answer after : List ℕ) (state next : State) (new : D)
+    → (answer ≡ said (codes "-ERR" ++ after)) × (next ≡ state) × (new ≡ old) → list_all is_no_lf after ≡ true → Stands ms state (mail old) marks → Replied ms marks c answer next (mail new)
+says_no mail ms marks c old answer after state next new does none stands =
+    (marks, refused ms marks c answer after does.0 none, subst (λ (s : State). Stands ms s (mail new) marks) (sym does.1) (subst (λ d. Stands ms state (mail d) marks) (sym does.2) stands))
+
+-- a line that says yes, where that is all that is asked
+says_yes : {D : Type 0} (mail : D → Mail) (ms : List Message) (marks after_marks : List Bool) (c : Command) (old : D) (answer after : List ℕ) (state next : State) (new : D)
+    → (answer ≡ said (codes "+OK" ++ after)) × (next ≡ state) × (new ≡ old) → list_all is_no_lf after ≡ true
+    → (SaysAnything Positive answer → Grants ms marks c answer after_marks) → Stands ms state (mail old) after_marks → Replied ms marks c answer next (mail new)
+says_yes mail ms marks after_marks c old answer after state next new does none grants stands = (
+  after_marks,
+  inr (grants (granted answer after does.0 none)),
+  subst (λ (s : State). Stands ms s (mail new) after_marks) (sym does.1) (subst (λ d. Stands ms state (mail d) after_marks) (sym does.2) stands),
+)
+
+-- ---- AUTHORIZATION
+
+opened : {D : Type 0} (sound : D → Type 0) (mail : D → Mail) (ms : List Message) (word : List ℕ) (old : D) (answer : List ℕ) (next : State) (new : D)
+    → AreServed ms → there (mail old).slots ≡ ms → sound new → Opens sound mail old answer next new → Replied ms (no_marks ms) (Pass word) answer next (mail new)
+opened sound mail ms word old answer next new served same s (inl (is, state, known)) =
+    let drop = (known s).1 in (
+      no_marks ms,
+      refused ms (no_marks ms) (Pass word) answer (codes " maildrop unavailable") is refl,
+      subst (λ (st : State). Stands ms st (mail new) (no_marks ms)) (sym state) (ap (λ (m : Mail). there m.slots) drop ∙ same, refl),
+    )
+opened sound mail ms word old answer next new served same s (inr (rows, is, state, known)) =
+    let drop = (known s).1 in
+    let few : length ms ≤ 100000 = served.few in
+    let count : length rows ≡ length ms = ap length (drop.1 ∙ ap (map row_of) same) ∙ map_length ms in
+    let digits : list_all is_no_lf (decimal (length rows)) ≡ true = no_lf_decimal (length rows) (omega arith) in
+    let none : list_all is_no_lf ((32 ∷ decimal (length rows)) ++ codes " messages") ≡ true = no_lf_append (32 ∷ decimal (length rows)) (codes " messages") (no_lf_append (32 ∷ []) (decimal (length rows)) refl digits) refl in (
+      no_marks ms,
+      inr (granted answer ((32 ∷ decimal (length rows)) ++ codes " messages") is none, refl),
+      subst (λ (st : State). Stands ms st (mail new) (no_marks ms)) (sym state)
+          (ap (λ (m : Mail). m.slots) drop.0 ∙ ap (map Some) same, fresh_length ms, drop.1 ∙ ap (map row_of) same ∙ fresh_rows ms),
+    )
+  where
+    map_length : (ms : List Message) → length (map row_of ms) ≡ length ms
+    map_length [] = refl
+    map_length (m ∷ ms) = let ih = map_length ms in omega arith
+
+passed : {D : Type 0} (sound : D → Type 0) (mail : D → Mail) (ms : List Message) (word : List ℕ) (old : D) (answer : List ℕ) (next : State) (new : D)
+    → AreServed ms → there (mail old).slots ≡ ms → sound new → (right : Bool)
+    → Does sound mail (cond right Open (Say (said (codes "-ERR refused")) (Authorization None))) old answer next new → Replied ms (no_marks ms) (Pass word) answer next (mail new)
+passed sound mail ms word old answer next new served same s true does = opened sound mail ms word old answer next new served same s does
+passed sound mail ms word old answer next new served same s false does =
+    says_no mail ms (no_marks ms) (Pass word) old answer (codes " refused") (Authorization None) next new does refl (same, refl)
+
+in_auth : {D : Type 0} (sound : D → Type 0) (mail : D → Mail) (ms : List Message) (user pass : List ℕ) (kept : Option (List ℕ)) (c : Command) (old : D) (answer : List ℕ) (next : State) (new : D)
+    → AreServed ms → there (mail old).slots ≡ ms → sound new → IsOfSession c → Does sound mail (in_authorization user pass kept c) old answer next new → Replied ms (no_marks ms) c answer next (mail new)
+in_auth sound mail ms user pass kept (User name) old answer next new served same s asked does =
+    says_yes mail ms (no_marks ms) (no_marks ms) (User name) old answer (codes " send PASS") (Authorization (Some name)) next new does refl (λ says. (says, refl)) (same, refl)
+in_auth sound mail ms user pass None (Pass word) old answer next new served same s asked does =
+    says_no mail ms (no_marks ms) (Pass word) old answer (codes " USER first") (Authorization None) next new does refl (same, refl)
+in_auth sound mail ms user pass (Some name) (Pass word) old answer next new served same s asked does =
+    passed sound mail ms word old answer next new served same s (bytes_eq name user && bytes_eq word pass) does
+in_auth sound mail ms user pass kept Quit old answer next new served same s asked does =
+    says_yes mail ms (no_marks ms) (no_marks ms) Quit old answer (codes " bye") Closed next new does refl (λ says. (says, refl)) tt
+in_auth sound mail ms user pass kept Stat old answer next new served same s asked does = says_no mail ms (no_marks ms) Stat old answer (codes " not now") (Authorization kept) next new does refl (same, refl)
+in_auth sound mail ms user pass kept UidlAll old answer next new served same s asked does = says_no mail ms (no_marks ms) UidlAll old answer (codes " not now") (Authorization kept) next new does refl (same, refl)
+in_auth sound mail ms user pass kept (UidlOne n) old answer next new served same s asked does = absurd asked
+in_auth sound mail ms user pass kept ListAll old answer next new served same s asked does = says_no mail ms (no_marks ms) ListAll old answer (codes " not now") (Authorization kept) next new does refl (same, refl)
+in_auth sound mail ms user pass kept (ListOne n) old answer next new served same s asked does = absurd asked
+in_auth sound mail ms user pass kept (Retr n) old answer next new served same s asked does = says_no mail ms (no_marks ms) (Retr n) old answer (codes " not now") (Authorization kept) next new does refl (same, refl)
+in_auth sound mail ms user pass kept (Dele n) old answer next new served same s asked does = says_no mail ms (no_marks ms) (Dele n) old answer (codes " not now") (Authorization kept) next new does refl (same, refl)
+in_auth sound mail ms user pass kept Rset old answer next new served same s asked does = says_no mail ms (no_marks ms) Rset old answer (codes " not now") (Authorization kept) next new does refl (same, refl)
+in_auth sound mail ms user pass kept Noop old answer next new served same s asked does = says_no mail ms (no_marks ms) Noop old answer (codes " not now") (Authorization kept) next new does refl (same, refl)
+in_auth sound mail ms user pass kept (Top n k) old answer next new served same s asked does = absurd asked
+
+-- ---- TRANSACTION
+
+InRows : List Message → List Bool → Mail → Type 0
+InRows ms marks mail = (mail.slots ≡ map Some ms) × (length marks ≡ length ms)
+
+made_rows : (ms : List Message) (marks : List Bool) (mail : Mail) → mail.slots ≡ map Some ms → length marks ≡ length ms → InRows ms marks mail
+unfolding InRows
+made_rows ms marks mail a b = (a, b)
+
+stands_in : (ms : List Message) (marks : List Bool) (mail : Mail) → InRows ms marks mail → Stands ms (Transaction (rows_with ms marks)) mail marks
+unfolding InRows
+stands_in ms marks mail h = (h.0, h.1, refl)
+
+-- RETR of an unmarked message
+gave : {D : Type 0} (sound : D → Type 0) (mail : D → Mail) (ms : List Message) (marks : List Bool) (k : ℕ) (m : Message) (old : D) (answer : List ℕ) (next : State) (new : D)
+    → AreServed ms → InRows ms marks (mail old) → sound new → IsUnmarked ms marks k m
+    → Does sound mail (Give (rows_with ms marks) (k - 1) (said (octets_line (row_with m false))) None) old answer next new → Replied ms marks (Retr k) answer next (mail new)
+unfolding InRows
+gave sound mail ms marks k m old answer next new served rows s at (state, inl (is, known)) =
+    let drop = (known s).1 in (
+      marks,
+      refused ms marks (Retr k) answer (codes " message unavailable") is refl,
+      subst (λ (st : State). Stands ms st (mail new) marks) (sym state) (ap (λ (x : Mail). x.slots) drop ∙ rows.0, rows.1, refl),
+    )
+gave sound mail ms marks k m old answer next new served rows s at (state, inr (text, is, known)) =
+    let drop = (known s).1 in
+    let message = served_at ms (k - 1) m served.served at.there in
+    let same : drop.1.0 ≡ m = text_at ms (k - 1) m drop.1.0 at.there (subst (λ (slots : List (Option Message)). slice_get slots (k - 1) ≡ Some (Some drop.1.0)) rows.0 drop.1.1) in
+    let words : text ≡ m.text = drop.1.2 ∙ ap (λ (x : Message). x.text) same in
+    let size : m.size < 2 ^ 64 = (let w : m.size ≤ 134217728 = message.within in omega arith) in
+    let none : list_all is_no_lf ((32 ∷ decimal m.size) ++ codes " octets") ≡ true = no_lf_append (32 ∷ decimal m.size) (codes " octets") (no_lf_append (32 ∷ []) (decimal m.size) refl (no_lf_decimal m.size size)) refl in
+    let body : Body (stuffed_lines (lines_of_text text)) m.text = subst (λ (t : List ℕ). Body (stuffed_lines (lines_of_text t)) m.text) (sym words)
+    (subst (Body (stuffed_lines (lines_of_text m.text))) message.is_message.ended (stuffed_is_body m.text)) in (
+      marks,
+      inr (
+        said (octets_line (row_with m false)),
+        stuffed_lines (lines_of_text text),
+        m,
+        is,
+        granted (said (octets_line (row_with m false))) ((32 ∷ decimal m.size) ++ codes " octets") refl none,
+        at,
+        body,
+        refl,
+      ),
+      subst (λ (st : State). Stands ms st (mail new) marks) (sym state) (ap (λ (x : Mail). x.slots) drop.0 ∙ rows.0, rows.1, refl),
+    )
+
+left : {D : Type 0} (sound : D → Type 0) (mail : D → Mail) (ms : List Message) (marks : List Bool) (rows : List Row) (old : D) (answer : List ℕ) (next : State) (new : D)
+    → (next ≡ Closed) × Leaves sound mail rows old answer new → Replied ms marks Quit answer next (mail new)
+left sound mail ms marks rows old answer next new (state, (true, is, known)) =
+    (marks, inr (granted answer (codes " bye") is refl, refl), subst (λ (st : State). Stands ms st (mail new) marks) (sym state) tt)
+left sound mail ms marks rows old answer next new (state, (false, is, known)) =
+    (marks, refused ms marks Quit answer (codes " some messages not removed") is refl, subst (λ (st : State). Stands ms st (mail new) marks) (sym state) tt)
+
+abbrev counted_with : ℕ → ℕ → Result (ℕ × ℕ) WireFault
+counted_with total count = Ok (count, total)
+
+-- STAT
+stated : {D : Type 0} (sound : D → Type 0) (mail : D → Mail) (ms : List Message) (marks : List Bool) (old : D) (answer : List ℕ) (next : State) (new : D)
+    → AreServed ms → InRows ms marks (mail old) → Does sound mail (in_transaction (rows_with ms marks) Stat) old answer next new → Replied ms marks Stat answer next (mail new)
+unfolding InRows
+stated sound mail ms marks old answer next new served rows does =
+    let few : length ms ≤ 100000 = served.few in
+    let n : ℕ = left_count (rows_with ms marks) in
+    let t : ℕ = left_total (rows_with ms marks) in
+    let count : left_count (rows_with ms marks) ≡ count_by not marks = counted_left ms marks rows.1 in
+    let fewer : count_by not marks ≤ length marks = count_by-le-length not marks in
+    let same : length marks ≡ length ms = rows.1 in
+    let total : left_total (rows_with ms marks) ≤ 134217728 * length ms = total_left ms marks served.served in
+    let small : left_count (rows_with ms marks) ≤ 4294967295 = omega arith in
+    let fits : left_total (rows_with ms marks) < 2 ^ 64 = omega arith in
+    let none : list_all is_no_lf ((32 ∷ decimal (left_count (rows_with ms marks))) ++ (32 ∷ decimal (left_total (rows_with ms marks)))) ≡ true =
+    no_lf_append (32 ∷ decimal (left_count (rows_with ms marks))) (32 ∷ decimal (left_total (rows_with ms marks)))
+    (no_lf_append (32 ∷ []) (decimal (left_count (rows_with ms marks))) refl (no_lf_decimal (left_count (rows_with ms marks)) (omega arith)))
+    (no_lf_append (32 ∷ []) (decimal (left_total (rows_with ms marks))) refl (no_lf_decimal (left_total (rows_with ms marks)) fits)) in
+    let line : answer ≡ said (codes "+OK" ++ ((32 ∷ decimal (left_count (rows_with ms marks))) ++ (32 ∷ decimal (left_total (rows_with ms marks))))) =
+    does.0 ∙ ap (λ (l : List ℕ). said (codes "+OK" ++ (32 ∷ l))) (append_assoc (decimal (left_count (rows_with ms marks))) (32 ∷ []) (decimal (left_total (rows_with ms marks)))) in (
+      marks,
+      inr (
+        decimal (left_count (rows_with ms marks)) ++ (32 ∷ decimal (left_total (rows_with ms marks))),
+        left_total (rows_with ms marks),
+        subst (λ (b : List ℕ). Says Positive b (decimal (left_count (rows_with ms marks)) ++ (32 ∷ decimal (left_total (rows_with ms marks))))) (sym line)
+            (ok_says ((32 ∷ decimal (left_count (rows_with ms marks))) ++ (32 ∷ decimal (left_total (rows_with ms marks)))) none),
+        scan_read (left_count (rows_with ms marks)) (left_total (rows_with ms marks)) small fits ∙ ap (counted_with (left_total (rows_with ms marks))) count,
+        refl,
+      ),
+      subst (λ (st : State). Stands ms st (mail new) marks) (sym does.1) (subst (λ d. Stands ms (Transaction (rows_with ms marks)) (mail d) marks) (sym does.2) (stands_in ms marks (mail old) rows)),
+    )
+
+-- DELE of an unmarked message
+marked : {D : Type 0} (sound : D → Type 0) (mail : D → Mail) (ms : List Message) (marks : List Bool) (k : ℕ) (m : Message) (old : D) (answer : List ℕ) (next : State) (new : D)
+    → InRows ms marks (mail old) → IsUnmarked ms marks k m → Does sound mail (Say (said (codes "+OK marked")) (Transaction (mark_at (rows_with ms marks) (k - 1)))) old answer next new
+    → Replied ms marks (Dele k) answer next (mail new)
+unfolding InRows
+marked sound mail ms marks k m old answer next new rows at does =
+    says_yes mail ms marks (slice_set marks (k - 1) true) (Dele k) old answer (codes " marked") (Transaction (mark_at (rows_with ms marks) (k - 1))) next new does refl
+    (λ says. (m, says, at, refl)) (rows.0, marked_length marks (k - 1) ∙ rows.1, marked_rows ms marks (k - 1))
+
+-- RSET
+cleared : {D : Type 0} (sound : D → Type 0) (mail : D → Mail) (ms : List Message) (marks : List Bool) (old : D)
+    → InRows ms marks (mail old) → Stands ms (Transaction (map unmarked (rows_with ms marks))) (mail old) (map (λ _. false) marks)
+unfolding InRows
+cleared sound mail ms marks old rows = (rows.0, cleared_length marks ∙ rows.1, cleared_rows ms marks)
+
+in_trans : {D : Type 0} (sound : D → Type 0) (mail : D → Mail) (ms : List Message) (marks : List Bool) (c : Command) (old : D) (answer : List ℕ) (next : State) (new : D)
+    → AreServed ms → InRows ms marks (mail old) → sound new → IsOfSession c → Does sound mail (in_transaction (rows_with ms marks) c) old answer next new → Replied ms marks c answer next (mail new)
+in_trans sound mail ms marks (User name) old answer next new served rows s asked does =
+    says_no mail ms marks (User name) old answer (codes " not now") (Transaction (rows_with ms marks)) next new does refl (stands_in ms marks (mail old) rows)
+in_trans sound mail ms marks (Pass word) old answer next new served rows s asked does =
+    says_no mail ms marks (Pass word) old answer (codes " not now") (Transaction (rows_with ms marks)) next new does refl (stands_in ms marks (mail old) rows)
+in_trans sound mail ms marks Stat old answer next new served rows s asked does = stated sound mail ms marks old answer next new served rows does
+in_trans sound mail ms marks UidlAll old answer next new served rows s asked does = (
+  marks,
+  inr (lists_all uid_line IsUidRow uid_rows ms marks answer served does.0),
+  subst (λ (st : State). Stands ms st (mail new) marks) (sym does.1) (subst (λ d. Stands ms (Transaction (rows_with ms marks)) (mail d) marks) (sym does.2) (stands_in ms marks (mail old) rows)),
+)
+in_trans sound mail ms marks (UidlOne n) old answer next new served rows s asked does = absurd asked
+in_trans sound mail ms marks ListAll old answer next new served rows s asked does = (
+  marks,
+  inr (lists_all scan_line IsScanRow scan_rows ms marks answer served does.0),
+  subst (λ (st : State). Stands ms st (mail new) marks) (sym does.1) (subst (λ d. Stands ms (Transaction (rows_with ms marks)) (mail d) marks) (sym does.2) (stands_in ms marks (mail old) rows)),
+)
+in_trans sound mail ms marks (ListOne n) old answer next new served rows s asked does = absurd asked
+in_trans sound mail ms marks (Retr k) old answer next new served rows s asked does = elim (found ms marks k) [
+  | inl none ↦ says_no mail ms marks (Retr k) old answer (codes " no such message") (Transaction (rows_with ms marks)) next new
+      (subst (λ (r : Option Row). Does sound mail (give (rows_with ms marks) k r octets_line None) old answer next new) none does) refl (stands_in ms marks (mail old) rows)
+  | inr some ↦ gave sound mail ms marks k some.0 old answer next new served rows s some.2
+      (subst (λ (r : Option Row). Does sound mail (give (rows_with ms marks) k r octets_line None) old answer next new) some.1 does)
+]
+in_trans sound mail ms marks (Dele k) old answer next new served rows s asked does = elim (found ms marks k) [
+  | inl none ↦ says_no mail ms marks (Dele k) old answer (codes " no such message") (Transaction (rows_with ms marks)) next new
+      (subst (λ (r : Option Row). Does sound mail (dele (rows_with ms marks) k r) old answer next new) none does) refl (stands_in ms marks (mail old) rows)
+  | inr some ↦ marked sound mail ms marks k some.0 old answer next new rows some.2
+      (subst (λ (r : Option Row). Does sound mail (dele (rows_with ms marks) k r) old answer next new) some.1 does)
+]
+in_trans sound mail ms marks Rset old answer next new served rows s asked does =
+    says_yes mail ms marks (map (λ _. false) marks) Rset old answer [] (Transaction (map unmarked (rows_with ms marks))) next new does refl (λ says. (says, refl))
+    (cleared sound mail ms marks old rows)
+in_trans sound mail ms marks Noop old answer next new served rows s asked does =
+    says_yes mail ms marks marks Noop old answer [] (Transaction (rows_with ms marks)) next new does refl (λ says. (says, refl)) (stands_in ms marks (mail old) rows)
+in_trans sound mail ms marks (Top n k) old answer next new served rows s asked does = absurd asked
+in_trans sound mail ms marks Quit old answer next new served rows s asked does = left sound mail ms marks (rows_with ms marks) old answer next new does
+
+-- ---- all answers in order
+
+replied : {D : Type 0} (sound : D → Type 0) (mail : D → Mail) (ms : List Message) (marks : List Bool) (user pass : List ℕ) (state : State) (c : Command) (old : D) (answer : List ℕ) (next : State) (new : D)
+    → AreServed ms → is_open state ≡ true → Stands ms state (mail old) marks → sound new → IsOfSession c → Does sound mail (deed user pass state (Ok c)) old answer next new → Replied ms marks c answer next (mail new)
+replied sound mail ms marks user pass (Authorization kept) c old answer next new served opened stands s asked does =
+    subst (λ (bs : List Bool). Replied ms bs c answer next (mail new)) (sym stands.1) (in_auth sound mail ms user pass kept c old answer next new served stands.0 s asked does)
+replied sound mail ms marks user pass (Transaction rows) c old answer next new served opened stands s asked does =
+    in_trans sound mail ms marks c old answer next new served (made_rows ms marks (mail old) stands.0 stands.1) s asked
+    (subst (λ (rs : List Row). Does sound mail (in_transaction rs c) old answer next new) stands.2 does)
+replied sound mail ms marks user pass Closed c old answer next new served opened stands s asked does = absurd (let e : false ≡ true = opened in cc)
+
+did_sound : {D : Type 0} (sound : D → Type 0) (mail : D → Mail) (asked : Deed) (old : D) (answer : List ℕ) (next : State) (new : D) → Does sound mail asked old answer next new → sound new → sound old
+did_sound sound mail (Say bytes state) old answer next new does s = subst sound does.2 s
+did_sound sound mail Open old answer next new (inl (is, state, known)) s = (known s).0
+did_sound sound mail Open old answer next new (inr (rows, is, state, known)) s = (known s).0
+did_sound sound mail (Give rows i line top) old answer next new (state, inl (is, known)) s = (known s).0
+did_sound sound mail (Give rows i line top) old answer next new (state, inr (text, is, known)) s = (known s).0
+did_sound sound mail (Leave rows) old answer next new (state, (all, is, known)) s = (known s).0
+
+pub run_sound : {D : Type 0} (sound : D → Type 0) (mail : D → Mail) (old new : Machine D) (lines : List (List ℕ)) (answers : List ℕ) → Run sound mail old lines answers new → sound new.drop → sound old.drop
+run_sound sound mail old new [] answers (none, same) s = subst (λ (m : Machine _). sound m.drop) same s
+run_sound sound mail old new (line ∷ lines) answers (first, rest, next, is, turn, run) s =
+    did_sound sound mail _ old.drop first next.state next.drop turn.answers.does (run_sound sound mail next new lines rest run s)
+
+all_replied : {D : Type 0} (sound : D → Type 0) (mail : D → Mail) (ms : List Message) (marks : List Bool) (commands : List Command) (old new : Machine D) (answers : List ℕ)
+    → AreServed ms → AllByRecursion IsAsked commands → Run sound mail old (lines_of commands) answers new → sound new.drop → Stands ms old.state (mail old.drop) marks
+    → (last : List Bool) × Replies ms marks commands answers last
+all_replied sound mail ms marks [] old new answers served asked run s stands = (marks, (run.0, refl))
+all_replied sound mail ms marks (c ∷ commands) old new answers served asked (first, rest, next, is, turn, run) s stands =
+    let sound_next = run_sound sound mail next new (lines_of commands) rest run s in
+    let does = subst (λ (r : Result Command WireFault). Does sound mail (deed old.user old.pass old.state r) old.drop first next.state next.drop) (round_trip c asked.0.numbers asked.0.sendable) turn.answers.does in
+    let one = replied sound mail ms marks old.user old.pass old.state c old.drop first next.state next.drop served turn.was_open stands sound_next asked.0.of_session does in
+    let more = all_replied sound mail ms one.0 commands next new rest served asked.1 run s one.2 in
+    (more.0, (first, rest, one.0, is, one.1, more.1))
+
+flat_lines : (commands : List Command) → flat_map ended (lines_of commands) ≡ flat_map (λ c. ended (line_of c)) commands
+flat_lines [] = refl
+flat_lines (c ∷ commands) = ap (λ (l : List ℕ). ended (line_of c) ++ l) (flat_lines commands)
+
+pub is_honest : {D : Type 0} (sound : D → Type 0) (mail : D → Mail) → IsHonest sound mail
+is_honest sound mail old new commands answers state asked run s served =
+    let ms = there (mail old.drop).slots in
+    let stands = subst (λ (st : State). Stands (there (mail old.drop).slots) st (mail old.drop) (no_marks (there (mail old.drop).slots))) (sym state) (refl, refl) in
+    let all = all_replied sound mail (there (mail old.drop).slots) (no_marks (there (mail old.drop).slots)) commands old new answers served asked run s stands in (
+      all.0,
+      record {
+        status = Positive;
+        hello = greeting;
+        greets = granted greeting (codes " popd ready") refl refl;
+        commands = commands;
+        asked = record { part = []; no_line = IsLine-nil; whole = flat_lines commands ∙ sym (append-nil (flat_map (λ c. ended (line_of c)) commands)) };
+        replies = answers;
+        replied = all.1;
+        later = [];
+        begins = sym (append-nil (greeting ++ answers));
+      },
+    )

@@ -1,0 +1,158 @@
+-- Octets that are dropped in pieces and make one line.
+use Rattle.std.proofs.Common.{◌≡◌, ◌⊎◌, inl, inr, ◌<◌, ◌≤◌, ◌+◌, ◌-◌, ◌*◌, ℕ, zero, suc, true, List, [], ◌∷◌, ◌++◌, length, take, drop, refl, sym, ap, subst, ◌∙◌, arith, append_assoc, length-append, length-take-le, take-append-drop, Result, Ok, Err}
+use Rattle.std.proofs.lemmas.List.{take_all, append-nil, length-drop}
+use Rattle.pop3_wire.specs.Line.{crlf, IsLine, ended}
+use Rattle.pop3_wire.specs.Link.{Link}
+use Rattle.pop3_wire.specs.Place.{HasLine, HasNoLine}
+use Rattle.pop3_wire.proofs.LineLemmas.{IsLine-front, IsLine-back}
+use Rattle.pop3_server.specs.declared.fault.ServerFault.{ServerFault}
+use Rattle.pop3_server.specs.declared.fault.ServerFault.TheVariants.{ReadFailed}
+use Rattle.pop3_server.specs.declared.intake.Heard.{Heard}
+use Rattle.pop3_server.specs.declared.intake.Heard.TheVariants.{Line, LongLine, End}
+use Rattle.pop3_server.specs.Got.{Waiting}
+use Rattle.pop3_server.specs.Serving.{Took, Takes, Hears}
+
+-- two pieces that share an octet are a line if both are
+no_split : (part back : List ℕ) (b : ℕ) → IsLine (part ++ b ∷ []) → IsLine (b ∷ back) → (front rest : List ℕ) → part ++ b ∷ back ≡ front ++ (crlf ++ rest) → ⊥
+no_split [] back b first second front rest e = second front rest e
+no_split (p ∷ []) back b first second [] rest e = first [] [] (let same : p ∷ b ∷ [] ≡ 13 ∷ 10 ∷ [] = cc in same)
+no_split (p ∷ q ∷ ps) back b first second [] rest e = first [] (ps ++ b ∷ []) (let same : p ∷ q ∷ (ps ++ b ∷ []) ≡ 13 ∷ 10 ∷ (ps ++ b ∷ []) = cc in same)
+no_split (p ∷ ps) back b first second (f ∷ front) rest e =
+    no_split ps back b (IsLine-back (p ∷ []) (ps ++ b ∷ []) first) second front rest (let same : ps ++ b ∷ back ≡ front ++ (crlf ++ rest) = cc in same)
+
+splice : (part back : List ℕ) (b : ℕ) → IsLine (part ++ b ∷ []) → IsLine (b ∷ back) → IsLine (part ++ b ∷ back)
+splice part back b first second = λ front rest e. no_split part back b first second front rest e
+
+pub spliced : (part octets : List ℕ) (n : ℕ) → IsLine (part ++ take 1 octets) → IsLine (take n octets) → IsLine (part ++ take n octets)
+spliced part [] zero first second = first
+spliced part [] (suc n) first second = first
+spliced part (b ∷ octets) zero first second = IsLine-front (part ++ []) (b ∷ []) (subst IsLine (ap (λ (l : List ℕ). l ++ b ∷ []) (sym (append-nil part))) first)
+spliced part (b ∷ octets) (suc n) first second = splice part (take n octets) b first second
+
+-- the octets of a line that is dropped piece by piece, so far
+pub record Dropping (before : Waiting) (now : Waiting) (gained part : List ℕ) : Type 0 where
+  pub takes : Takes before part now gained
+  pub line : IsLine (part ++ take 1 now.octets)
+  pub some : 0 < length now.octets
+  pub long : 510 < length part
+
+take_one_more : (k : ℕ) (octets : List ℕ) → take (suc k) octets ≡ take k octets ++ take 1 (drop k octets)
+take_one_more zero octets = refl
+take_one_more (suc k) [] = refl
+take_one_more (suc k) (b ∷ octets) = ap (λ (l : List ℕ). b ∷ l) (take_one_more k octets)
+
+split_take : (octets : List ℕ) → take 512 octets ≡ take 511 octets ++ take 1 (drop 511 octets)
+split_take octets = take_one_more 511 octets
+
+pub drops_first : (before : Waiting) → HasNoLine 512 before.octets → 512 ≤ length before.octets
+    → Dropping before (record { octets = drop 511 before.octets; left = before.left }) [] (take 511 before.octets)
+drops_first before none long = record {
+  takes = record {
+    octets = append-nil before.octets ∙ sym (take-append-drop 511 before.octets);
+    left = omega arith;
+  };
+  line = subst IsLine (split_take before.octets) none.none;
+  some = omega (arith, length-drop 511 before.octets);
+  long = omega (arith, length-take-le 511 before.octets (omega arith));
+}
+
+pub drops_more : (before now : Waiting) (gained part : List ℕ) → Dropping before now gained part → HasNoLine 512 now.octets → 512 ≤ length now.octets
+    → Dropping before (record { octets = drop 511 now.octets; left = now.left }) gained (part ++ take 511 now.octets)
+drops_more before now gained part d none long = record {
+  takes = record {
+    octets = d.takes.octets ∙ ap (λ (l : List ℕ). part ++ l) (sym (take-append-drop 511 now.octets)) ∙ sym (append_assoc part (take 511 now.octets) (drop 511 now.octets));
+    left = d.takes.left;
+  };
+  line = subst IsLine (ap (λ (l : List ℕ). part ++ l) (split_take now.octets) ∙ sym (append_assoc part (take 511 now.octets) (take 1 (drop 511 now.octets)))) (spliced part now.octets 512 d.line none.none);
+  some = omega (arith, length-drop 511 now.octets);
+  long = let far : 510 < length part = d.long in omega (arith, length-append part (take 511 now.octets));
+}
+
+first_kept : (octets piece : List ℕ) → 0 < length octets → take 1 (octets ++ piece) ≡ take 1 octets
+first_kept [] piece some = absurd (omega arith)
+first_kept (b ∷ octets) piece some = refl
+
+pub drops_on : (before now after : Waiting) (gained part piece : List ℕ) → Dropping before now gained part
+    → after.octets ≡ now.octets ++ piece → length piece + after.left ≡ now.left → Dropping before after (gained ++ piece) part
+drops_on before now after gained part piece d octets left = record {
+  takes = record {
+    octets = sym (append_assoc before.octets gained piece) ∙ ap (λ (l : List ℕ). l ++ piece) d.takes.octets ∙ append_assoc part now.octets piece ∙ ap (λ (l : List ℕ). part ++ l) (sym octets);
+    left = let before_left : length gained + now.left ≡ before.left = d.takes.left in omega (arith, length-append gained piece, left);
+  };
+  line = subst IsLine (ap (λ (l : List ℕ). part ++ l) (sym (ap (take 1) octets ∙ first_kept now.octets piece d.some))) d.line;
+  some = let some : 0 < length now.octets = d.some in omega (arith, ap length octets, length-append now.octets piece);
+  long = d.long;
+}
+
+-- the line's end came
+pub dropped_line : (before now : Waiting) (gained part : List ℕ) (n : ℕ) → Dropping before now gained part → HasLine 512 now.octets n
+    → Takes before (ended (part ++ take n now.octets)) (record { octets = drop (n + 2) now.octets; left = now.left }) gained
+    × IsLine (part ++ take n now.octets) × (510 < length (part ++ take n now.octets))
+dropped_line before now gained part n d has = (
+  record {
+    octets = d.takes.octets ∙ ap (λ (l : List ℕ). part ++ l) has.whole ∙ moved part (take n now.octets) (drop (n + 2) now.octets);
+    left = d.takes.left;
+  },
+  spliced part now.octets n d.line has.line,
+  let far : 510 < length part = d.long in omega (arith, length-append part (take n now.octets)),
+)
+  where
+    moved : (a b c : List ℕ) → a ++ (b ++ (crlf ++ c)) ≡ ((a ++ b) ++ crlf) ++ c
+    moved a b c = simp append_assoc
+
+-- nothing more came
+pub dropped_end : (before now : Waiting) (gained part : List ℕ) → Dropping before now gained part → HasNoLine 512 now.octets → length now.octets < 512
+    → IsLine (part ++ now.octets)
+dropped_end before now gained part d none short =
+    subst IsLine (ap (λ (l : List ℕ). part ++ l) (take_all 512 now.octets (omega arith))) (spliced part now.octets 512 d.line none.none)
+
+-- a link took more after it took some
+pub took_on : (a b c : Link) (g h : List ℕ) → Took a b g → Took b c h → Took a c (g ++ h)
+took_on a b c g h first second = record {
+  got = second.got ∙ ap (λ (l : List ℕ). l ++ h) first.got ∙ append_assoc a.got g h;
+  sent = second.sent ∙ first.sent;
+}
+
+pub took_none : (a : Link) → Took a a []
+took_none a = record { got = sym (append-nil a.got); sent = refl }
+
+pub takes_none : (w : Waiting) → Takes w [] w []
+takes_none w = record { octets = append-nil w.octets; left = omega arith }
+
+pub takes_on : (a b c : Waiting) (dropped g h : List ℕ) → Takes a [] b g → Takes b dropped c h → Takes a dropped c (g ++ h)
+takes_on a b c dropped g h first second = record {
+  octets = sym (append_assoc a.octets g h) ∙ ap (λ (l : List ℕ). l ++ h) first.octets ∙ second.octets;
+  left = let one : length g + b.left ≡ a.left = first.left in let two : length h + c.left ≡ b.left = second.left in omega (arith, length-append g h);
+}
+
+pub takes_piece : (a b c : Waiting) (g piece : List ℕ) → Takes a [] b g → c.octets ≡ b.octets ++ piece → length piece + c.left ≡ b.left → Takes a [] c (g ++ piece)
+takes_piece a b c g piece first octets left = takes_on a b c [] g piece first (record { octets = sym octets; left = left })
+
+-- what is heard after some octets were taken
+pub hears_on : (l0 l1 l2 : Link) (a b c : Waiting) (g : List ℕ) (result : Result Heard ServerFault) → Took l0 l1 g → Takes a [] b g → Hears l1 b result l2 c → Hears l0 a result l2 c
+hears_on l0 l1 l2 a b c g (Ok (Line n)) took takes (h, t, s, line) = (g ++ h, took_on l0 l1 l2 g h took t, takes_on a b c [] g h takes s, line)
+hears_on l0 l1 l2 a b c g (Ok LongLine) took takes (h, line, t, s, is, long) = (g ++ h, line, took_on l0 l1 l2 g h took t, takes_on a b c (ended line) g h takes s, is, long)
+hears_on l0 l1 l2 a b c g (Ok End) took takes (h, rest, t, s, is, why) = (g ++ h, rest, took_on l0 l1 l2 g h took t, takes_on a b c rest g h takes s, is, why)
+hears_on l0 l1 l2 a b c g (Err fault) took takes (is, (h, dropped, t, s)) = (is, (g ++ h, dropped, took_on l0 l1 l2 g h took t, takes_on a b c dropped g h takes s))
+
+-- the same octets wait
+pub still_dropping : (before now then_ : Waiting) (gained part : List ℕ) → then_ ≡ now → Dropping before now gained part → Dropping before then_ gained part
+still_dropping before now then_ gained part same d = subst (λ (w : Waiting). Dropping before w gained part) (sym same) d
+
+-- what is dropped is used up
+pub drop_less : (now : Waiting) → 512 ≤ length now.octets → length (drop 511 now.octets) + 2 * now.left < length now.octets + 2 * now.left
+drop_less now long = omega (arith, length-drop 511 now.octets)
+
+-- nothing came
+same_octets : (now after : Waiting) (piece : List ℕ) → after.octets ≡ now.octets ++ piece → length piece ≡ 0 → after.octets ≡ now.octets
+same_octets now after [] is none = is ∙ append-nil now.octets
+same_octets now after (b ∷ piece) is none = absurd (omega arith)
+
+pub still_none : (now after : Waiting) (piece : List ℕ) → after.octets ≡ now.octets ++ piece → length piece ≡ 0 → HasNoLine 512 now.octets → HasNoLine 512 after.octets
+still_none now after piece is none no_line = subst (λ (l : List ℕ). HasNoLine 512 l) (sym (same_octets now after piece is none)) no_line
+
+pub still_short : (now after : Waiting) (piece : List ℕ) → after.octets ≡ now.octets ++ piece → length piece ≡ 0 → length now.octets < 512 → length after.octets < 512
+still_short now after piece is none short = omega (arith, ap length is, length-append now.octets piece)
+
+pub all_waits : (octets : List ℕ) → HasNoLine 512 octets → length octets < 512 → IsLine octets
+all_waits octets none short = subst IsLine (take_all 512 octets (omega arith)) none.none

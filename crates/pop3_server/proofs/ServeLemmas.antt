@@ -1,0 +1,270 @@
+-- How far a server has come that serves a link, and why it ends.
+use Rattle.std.proofs.Common.{◌≡◌, ◌⊎◌, inl, inr, ◌<◌, ◌≤◌, ◌+◌, ◌-◌, ◌*◌, ℕ, true, false, List, [], ◌∷◌, ◌++◌, length, take, drop, refl, sym, ap, subst, ◌∙◌, arith, append_assoc, length-append, Result, Ok, Err}
+use Rattle.std.specs.Prelude.{codes, not}
+use Rattle.std.specs.List.{flat_map, AllByRecursion}
+use Rattle.std.proofs.lemmas.Bool.{cond-true, lt-ltb}
+use Rattle.std.proofs.lemmas.List.{append-nil}
+use Rattle.pop3_wire.specs.declared.fault.WireFault.{WireFault}
+use Rattle.pop3_wire.specs.declared.fault.WireFault.TheVariants.{BadCommand}
+use Rattle.pop3_wire.specs.declared.command.Command.{Command}
+use Rattle.pop3_wire.specs.CommandLine.{command_of}
+use Rattle.pop3_wire.specs.Line.{crlf, IsLine, ended}
+use Rattle.pop3_wire.specs.Link.{Link, Sends}
+use Rattle.pop3_wire.specs.Place.{HasLine}
+use Rattle.pop3_server.specs.declared.fault.ServerFault.{ServerFault}
+use Rattle.pop3_server.specs.declared.fault.ServerFault.TheVariants.{ReadFailed, WriteFailed, NoMemory}
+use Rattle.pop3_server.specs.declared.state.State.{State}
+use Rattle.pop3_server.specs.Maildrop.{Mail}
+use Rattle.pop3_server.specs.ServerMachine.{Machine, Deed, Say, Open, Give, Leave, Answers, Unanswered, deed, greeting, said, is_open}
+use Rattle.pop3_server.specs.Run.{Run, Turn, SameServer}
+use Rattle.pop3_server.specs.Got.{Waiting}
+use Rattle.pop3_server.specs.Serving.{Took, Takes, AllSent, PartSent, Sent, Served}
+
+-- the greeting and the answers to all lines that were got whole went out
+pub record Progress {D : Type 0} (sound : D → Type 0) (mail : D → Mail) (old : Machine D) (before : Link) (server : Machine D) (link : Link) (waiting : Waiting) : Type 0 where
+  pub gained : List ℕ
+  pub lines : List (List ℕ)
+  pub answers : List ℕ
+  pub each : AllByRecursion IsLine lines
+  pub got : link.got ≡ before.got ++ gained
+  pub heard : gained ≡ flat_map ended lines ++ waiting.octets
+  pub left : length gained + waiting.left ≡ 16777216
+  pub sent : link.sent ≡ before.sent ++ (greeting ++ answers)
+  pub run : Run sound mail old lines answers server
+
+-- runs go on
+pub run_on : {D : Type 0} (sound : D → Type 0) (mail : D → Mail) (a b c : Machine D) (lines others : List (List ℕ)) (x y : List ℕ)
+    → Run sound mail a lines x b → Run sound mail b others y c → Run sound mail a (lines ++ others) (x ++ y) c
+run_on sound mail a b c [] others x y (none, same) second =
+    subst (λ (m : Machine _). Run sound mail m others (x ++ y) c) same (subst (λ (l : List ℕ). Run sound mail b others (l ++ y) c) (sym none) second)
+run_on sound mail a b c (line ∷ lines) others x y (first, rest, next, is, turn, run) second =
+    (first, rest ++ y, next, ap (λ (l : List ℕ). l ++ y) is ∙ append_assoc first rest y, turn, run_on sound mail next b c lines others rest y run second)
+
+pub run_one : {D : Type 0} (sound : D → Type 0) (mail : D → Mail) (a b : Machine D) (line answer : List ℕ) → Turn sound mail a line answer b → Run sound mail a (line ∷ []) answer b
+run_one sound mail a b line answer turn = (answer, [], b, sym (append-nil answer), turn, (refl, refl))
+
+all_push : (lines : List (List ℕ)) (line : List ℕ) → AllByRecursion IsLine lines → IsLine line → AllByRecursion IsLine (lines ++ line ∷ [])
+all_push [] line all is = (is, tt)
+all_push (first ∷ lines) line all is = (all.0, all_push lines line all.1 is)
+
+flat_push : (lines : List (List ℕ)) (line : List ℕ) → flat_map ended (lines ++ line ∷ []) ≡ flat_map ended lines ++ ended line
+flat_push [] line = append-nil (ended line)
+flat_push (first ∷ lines) line = ap (λ (l : List ℕ). ended first ++ l) (flat_push lines line) ∙ sym (append_assoc (ended first) (flat_map ended lines) (ended line))
+
+-- the greeting went out
+pub progress_start : {D : Type 0} (sound : D → Type 0) (mail : D → Mail) (old server : Machine D) (before link : Link) (hello : List ℕ) → server ≡ old → hello ≡ greeting
+    → link ≡ record before { sent = before.sent ++ hello } → Progress sound mail old before server link (record { octets = []; left = 16777216 })
+progress_start sound mail old server before link hello same is sends = record {
+  gained = [];
+  lines = [];
+  answers = [];
+  each = tt;
+  got = ap (λ (l : Link). l.got) sends ∙ sym (append-nil before.got);
+  heard = refl;
+  left = refl;
+  sent = ap (λ (l : Link). l.sent) sends ∙ ap (λ (l : List ℕ). before.sent ++ l) (is ∙ sym (append-nil greeting));
+  run = (refl, same);
+}
+
+-- one more line came and was answered
+pub progress_line : {D : Type 0} (sound : D → Type 0) (mail : D → Mail) (old server next : Machine D) (before link taken sent : Link) (waiting after : Waiting) (g line answer : List ℕ)
+    → Progress sound mail old before server link waiting → Took link taken g → waiting.octets ++ g ≡ ended line ++ after.octets → length g + after.left ≡ waiting.left → IsLine line
+    → Turn sound mail server line answer next → sent ≡ record taken { sent = taken.sent ++ answer } → Progress sound mail old before next sent after
+progress_line sound mail old server next before link taken sent waiting after g line answer p took octets left is turn sends = record {
+  gained = p.gained ++ g;
+  lines = p.lines ++ line ∷ [];
+  answers = p.answers ++ answer;
+  each = all_push p.lines line p.each is;
+  got = ap (λ (l : Link). l.got) sends ∙ took.got ∙ ap (λ (l : List ℕ). l ++ g) p.got ∙ append_assoc before.got p.gained g;
+  heard = ap (λ (l : List ℕ). l ++ g) p.heard ∙ append_assoc (flat_map ended p.lines) waiting.octets g ∙ ap (λ (l : List ℕ). flat_map ended p.lines ++ l) octets
+      ∙ sym (append_assoc (flat_map ended p.lines) (ended line) after.octets) ∙ ap (λ (l : List ℕ). l ++ after.octets) (sym (flat_push p.lines line));
+  left = let start : length p.gained + waiting.left ≡ 16777216 = p.left in omega (arith, length-append p.gained g);
+  sent = ap (λ (l : Link). l.sent) sends ∙ ap (λ (l : List ℕ). l ++ answer) (took.sent ∙ p.sent) ∙ moved before.sent greeting p.answers answer;
+  run = run_on sound mail old server next p.lines (line ∷ []) p.answers answer p.run (run_one sound mail server next line answer turn);
+}
+  where
+    moved : (a b c d : List ℕ) → (a ++ (b ++ c)) ++ d ≡ a ++ (b ++ (c ++ d))
+    moved a b c d = simp append_assoc
+
+pub all_sent : {D : Type 0} (sound : D → Type 0) (mail : D → Mail) (old server : Machine D) (before link : Link) (waiting : Waiting)
+    (p : Progress sound mail old before server link waiting) → AllSent sound mail old p.lines (greeting ++ p.answers) server
+all_sent sound mail old server before link waiting p = (p.answers, p.run, refl)
+
+-- a link that took more, within what may be taken
+within : {D : Type 0} (sound : D → Type 0) (mail : D → Mail) (old server : Machine D) (before link : Link) (waiting : Waiting) (g : List ℕ) (left : ℕ)
+    (p : Progress sound mail old before server link waiting) → length g + left ≡ waiting.left → length (p.gained ++ g) + left ≡ 16777216
+within sound mail old server before link waiting g left p more = let start : length p.gained + waiting.left ≡ 16777216 = p.left in omega (arith, length-append p.gained g)
+
+-- nothing went wrong, and no whole line is left
+pub served_end : {D : Type 0} (sound : D → Type 0) (mail : D → Mail) (old server : Machine D) (before link taken : Link) (waiting after : Waiting) (g dropped : List ℕ)
+    → Progress sound mail old before server link waiting → Took link taken g → Takes waiting dropped after g → IsLine (dropped ++ after.octets)
+    → (taken.ended ≡ true) ⊎ (after.left ≡ 0) → Served sound mail old before (Ok tt) server taken
+served_end sound mail old server before link taken waiting after g dropped p took takes is why =
+    let total = within sound mail old server before link waiting g after.left p takes.left in
+    record {
+      gained = p.gained ++ g;
+      got = took.got ∙ ap (λ (l : List ℕ). l ++ g) p.got ∙ append_assoc before.got p.gained g;
+      bound = omega arith;
+      lines = p.lines;
+      rest = waiting.octets ++ g;
+      each = p.each;
+      heard = ap (λ (l : List ℕ). l ++ g) p.heard ∙ append_assoc (flat_map ended p.lines) waiting.octets g;
+      out = greeting ++ p.answers;
+      sent = took.sent ∙ p.sent;
+      answered = (all_sent sound mail old server before link waiting p, inr (subst IsLine (sym takes.octets) is));
+      ends = λ _. inr (elim why [ inl over ↦ inl over | inr none ↦ inr (omega arith) ]);
+    }
+
+-- the link refused to give more
+pub served_unread : {D : Type 0} (sound : D → Type 0) (mail : D → Mail) (old server : Machine D) (before link taken : Link) (waiting after : Waiting) (g dropped : List ℕ)
+    → Progress sound mail old before server link waiting → Took link taken g → Takes waiting dropped after g → Served sound mail old before (Err ReadFailed) server taken
+served_unread sound mail old server before link taken waiting after g dropped p took takes =
+    let total = within sound mail old server before link waiting g after.left p takes.left in
+    record {
+      gained = p.gained ++ g;
+      got = took.got ∙ ap (λ (l : List ℕ). l ++ g) p.got ∙ append_assoc before.got p.gained g;
+      bound = omega arith;
+      lines = p.lines;
+      rest = waiting.octets ++ g;
+      each = p.each;
+      heard = ap (λ (l : List ℕ). l ++ g) p.heard ∙ append_assoc (flat_map ended p.lines) waiting.octets g;
+      out = greeting ++ p.answers;
+      sent = took.sent ∙ p.sent;
+      answered = all_sent sound mail old server before link waiting p;
+      ends = λ e. cc;
+    }
+
+-- the session is over
+pub served_closed : {D : Type 0} (sound : D → Type 0) (mail : D → Mail) (old server : Machine D) (before link : Link) (waiting : Waiting)
+    → Progress sound mail old before server link waiting → is_open server.state ≡ false → Served sound mail old before (Ok tt) server link
+served_closed sound mail old server before link waiting p closed =
+    let total : length p.gained + waiting.left ≡ 16777216 = p.left in
+    record {
+      gained = p.gained;
+      got = p.got;
+      bound = omega arith;
+      lines = p.lines;
+      rest = waiting.octets;
+      each = p.each;
+      heard = p.heard;
+      out = greeting ++ p.answers;
+      sent = p.sent;
+      answered = (all_sent sound mail old server before link waiting p, inl closed);
+      ends = λ _. inl closed;
+    }
+
+-- one more line came, and memory was wanting for its answer
+pub served_unanswered : {D : Type 0} (sound : D → Type 0) (mail : D → Mail) (old server next : Machine D) (before link taken : Link) (waiting after : Waiting) (g : List ℕ)
+    → Progress sound mail old before server link waiting → Took link taken g → Takes waiting [] after g → SameServer sound mail server next → Served sound mail old before (Err NoMemory) next taken
+served_unanswered sound mail old server next before link taken waiting after g p took takes same =
+    let total = within sound mail old server before link waiting g after.left p takes.left in
+    record {
+      gained = p.gained ++ g;
+      got = took.got ∙ ap (λ (l : List ℕ). l ++ g) p.got ∙ append_assoc before.got p.gained g;
+      bound = omega arith;
+      lines = p.lines;
+      rest = waiting.octets ++ g;
+      each = p.each;
+      heard = ap (λ (l : List ℕ). l ++ g) p.heard ∙ append_assoc (flat_map ended p.lines) waiting.octets g;
+      out = greeting ++ p.answers;
+      sent = took.sent ∙ p.sent;
+      answered = inr (server, all_sent sound mail old server before link waiting p, same);
+      ends = λ e. cc;
+    }
+
+-- one more line came, and its answer went out in part
+pub served_unsent : {D : Type 0} (sound : D → Type 0) (mail : D → Mail) (old server next : Machine D) (before link taken sent : Link) (waiting after : Waiting) (g line answer front rest : List ℕ) (count : ℕ)
+    → Progress sound mail old before server link waiting → Took link taken g → waiting.octets ++ g ≡ ended line ++ after.octets → length g + after.left ≡ waiting.left → IsLine line
+    → Turn sound mail server line answer next → answer ≡ front ++ rest → sent ≡ record taken { sent = taken.sent ++ front; failures = count }
+    → Served sound mail old before (Err WriteFailed) next sent
+served_unsent sound mail old server next before link taken sent waiting after g line answer front rest count p took octets left is turn part sends =
+    let total = within sound mail old server before link waiting g after.left p left in
+    record {
+      gained = p.gained ++ g;
+      got = ap (λ (l : Link). l.got) sends ∙ took.got ∙ ap (λ (l : List ℕ). l ++ g) p.got ∙ append_assoc before.got p.gained g;
+      bound = omega arith;
+      lines = p.lines ++ line ∷ [];
+      rest = after.octets;
+      each = all_push p.lines line p.each is;
+      heard = ap (λ (l : List ℕ). l ++ g) p.heard ∙ append_assoc (flat_map ended p.lines) waiting.octets g ∙ ap (λ (l : List ℕ). flat_map ended p.lines ++ l) octets
+          ∙ sym (append_assoc (flat_map ended p.lines) (ended line) after.octets) ∙ ap (λ (l : List ℕ). l ++ after.octets) (sym (flat_push p.lines line));
+      out = (greeting ++ p.answers) ++ front;
+      sent = ap (λ (l : Link). l.sent) sends ∙ ap (λ (l : List ℕ). l ++ front) (took.sent ∙ p.sent) ∙ append_assoc before.sent (greeting ++ p.answers) front;
+      answered = inr (p.lines, line, greeting ++ p.answers, answer, front, rest, server, refl, all_sent sound mail old server before link waiting p, turn, part, refl);
+      ends = λ e. cc;
+    }
+
+-- the greeting found no memory, or went out in part
+pub served_unmade : {D : Type 0} (sound : D → Type 0) (mail : D → Mail) (old server : Machine D) (before : Link) → server ≡ old → Served sound mail old before (Err NoMemory) server before
+served_unmade sound mail old server before same = record {
+  gained = [];
+  got = sym (append-nil before.got);
+  bound = omega arith;
+  lines = [];
+  rest = [];
+  each = tt;
+  heard = refl;
+  out = [];
+  sent = sym (append-nil before.sent);
+  answered = inl (refl, refl, same);
+  ends = λ e. cc;
+}
+
+pub served_ungreeted : {D : Type 0} (sound : D → Type 0) (mail : D → Mail) (old server : Machine D) (before link : Link) (hello front rest : List ℕ) (count : ℕ)
+    → server ≡ old → hello ≡ greeting → hello ≡ front ++ rest → link ≡ record before { sent = before.sent ++ front; failures = count } → Served sound mail old before (Err WriteFailed) server link
+served_ungreeted sound mail old server before link hello front rest count same is part sends = record {
+  gained = [];
+  got = ap (λ (l : Link). l.got) sends ∙ sym (append-nil before.got);
+  bound = omega arith;
+  lines = [];
+  rest = [];
+  each = tt;
+  heard = refl;
+  out = front;
+  sent = ap (λ (l : Link). l.sent) sends;
+  answered = inl (rest, sym is ∙ part, refl, same);
+  ends = λ e. cc;
+}
+
+long_command : (line : List ℕ) → 510 < length line → command_of line ≡ Err BadCommand
+unfolding command_of
+long_command line long = cond-true _ _ _ (lt-ltb 510 (length line) long)
+
+-- a line that is too long is no command, and changes nothing
+pub long_turn : {D : Type 0} (sound : D → Type 0) (mail : D → Mail) (server : Machine D) (line : List ℕ) → is_open server.state ≡ true → 510 < length line
+    → Turn sound mail server line (said (codes "-ERR bad command")) server
+long_turn sound mail server line opened long = record {
+  was_open = opened;
+  user = refl;
+  pass = refl;
+  answers = rw (long_command line long) (record { removals = refl; does = (refl, refl, refl) });
+}
+
+-- nothing is removed while the session goes on
+pub open_removals : {D : Type 0} (sound : D → Type 0) (mail : D → Mail) (asked : Deed) (old : D) (answer : List ℕ) (next : State) (new : D)
+    → Answers sound mail asked old answer next new → is_open next ≡ true → (mail new).removals ≡ (mail old).removals
+open_removals sound mail (Say bytes state) old answer next new a opened = a.removals
+open_removals sound mail Open old answer next new a opened = a.removals
+open_removals sound mail (Give rows i line top) old answer next new a opened = a.removals
+open_removals sound mail (Leave rows) old answer next new a opened = absurd (let e : false ≡ true = rw a.does.0 at opened in cc)
+
+-- the line that waits, and what is left behind it
+pub line_octets : (before mid after : Waiting) (g seen : List ℕ) (n : ℕ) → Takes before [] mid g → HasLine 512 mid.octets n → seen ≡ mid.octets
+    → after ≡ record { octets = drop (n + 2) mid.octets; left = mid.left }
+    → (before.octets ++ g ≡ ended (take n seen) ++ after.octets) × (length g + after.left ≡ before.left) × IsLine (take n seen)
+line_octets before mid after g seen n takes has same is = (
+  takes.octets ∙ has.whole ∙ sym (append_assoc (take n mid.octets) crlf (drop (n + 2) mid.octets))
+      ∙ ap (λ (l : List ℕ). ended (take n l) ++ drop (n + 2) mid.octets) (sym same) ∙ ap (λ (w : Waiting). ended (take n seen) ++ w.octets) (sym is),
+  ap (λ (w : Waiting). length g + w.left) is ∙ takes.left,
+  subst (λ (l : List ℕ). IsLine (take n l)) (sym same) has.line,
+)
+
+pub turn_of : {D : Type 0} (sound : D → Type 0) (mail : D → Mail) (server next : Machine D) (line answer bytes : List ℕ) → is_open server.state ≡ true
+    → (next.user ≡ server.user) × (next.pass ≡ server.pass) → Answers sound mail (deed server.user server.pass server.state (command_of line)) server.drop bytes next.state next.drop
+    → answer ≡ bytes → Turn sound mail server line answer next
+turn_of sound mail server next line answer bytes opened who answers same = record {
+  was_open = opened;
+  user = who.0;
+  pass = who.1;
+  answers = subst (λ (b : List ℕ). Answers sound mail (deed server.user server.pass server.state (command_of line)) server.drop b next.state next.drop) (sym same) answers;
+}

@@ -1,0 +1,7 @@
+-- What a server has got and not used yet.
+use Rattle.std.specs.Prelude.{ℕ, List}
+
+-- the octets that wait, and how many more may be taken
+pub record Waiting : Type 0 where
+  pub octets : List ℕ
+  pub left : ℕ

@@ -1,0 +1,17 @@
+-- The unique id of a file in a Maildir, by its name.
+use Rattle.std.specs.Prelude.{ℕ, ◌==◌, Bool, List, if◌then◌else◌}
+use Rattle.std.specs.List.{before_first}
+use Rattle.hex.specs.Hex.{encode_lower}
+use Rattle.sha2.specs.Sha256.{sha256}
+use Rattle.pop3_wire.specs.Fields.{is_legal_id}
+
+-- the name without its flags: what stands before the first colon
+abbrev pub is_colon : ℕ → Bool
+is_colon byte = byte == 58
+
+abbrev pub base_of : List ℕ → List ℕ
+base_of name = before_first is_colon name
+
+-- the base itself where it is a legal id, else its digest in lower-case hexadecimal
+abbrev pub id_of : List ℕ → List ℕ
+id_of base = if is_legal_id base then base else encode_lower (sha256 base)

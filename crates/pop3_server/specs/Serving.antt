@@ -1,0 +1,99 @@
+-- What serving a link does: lines are got, and their answers sent.
+use Rattle.std.specs.Prelude.{◌≡◌, ◌⊎◌, ◌≤◌, ◌<◌, ◌+◌, ℕ, Bool, true, false, List, [], ◌∷◌, ◌++◌, length, take, Result, Ok, Err}
+use Rattle.std.specs.List.{flat_map, AllByRecursion}
+use Rattle.pop3_wire.specs.declared.wire.WireDown.{WireDown}
+use Rattle.pop3_wire.specs.Line.{IsLine, ended}
+use Rattle.pop3_wire.specs.Link.{Link, Tallies}
+use Rattle.pop3_wire.specs.Place.{HasLine}
+use Rattle.pop3_server.specs.declared.fault.ServerFault.{ServerFault}
+use Rattle.pop3_server.specs.declared.fault.ServerFault.TheVariants.{ReadFailed, WriteFailed, NoMemory}
+use Rattle.pop3_server.specs.declared.intake.Heard.{Heard}
+use Rattle.pop3_server.specs.declared.intake.Heard.TheVariants.{Line, LongLine, End}
+use Rattle.pop3_server.specs.Maildrop.{Mail}
+use Rattle.pop3_server.specs.ServerMachine.{Machine, greeting, is_open}
+use Rattle.pop3_server.specs.Run.{Run, Turn, SameServer}
+use Rattle.pop3_server.specs.Got.{Waiting}
+
+-- ---- what comes in
+
+-- these octets were got, and nothing was sent
+pub record Took (old new : Link) (gained : List ℕ) : Type 0 where
+  pub got : new.got ≡ old.got ++ gained
+  pub sent : new.sent ≡ old.sent
+
+-- the octets got wait behind those that waited, but for a line that was dropped in front
+pub record Takes (before : Waiting) (dropped : List ℕ) (after : Waiting) (gained : List ℕ) : Type 0 where
+  pub octets : before.octets ++ gained ≡ dropped ++ after.octets
+  pub left : length gained + after.left ≡ before.left
+
+-- a line waits, one of more than 510 octets was dropped, or no whole line will come
+abbrev pub Hears : Link → Waiting → Result Heard ServerFault → Link → Waiting → Type 0
+Hears old before (Ok (Line n)) new after =
+    (gained : List ℕ) × Took old new gained × Takes before [] after gained × HasLine 512 after.octets n
+Hears old before (Ok LongLine) new after =
+    (gained line : List ℕ) × Took old new gained × Takes before (ended line) after gained × IsLine line × (510 < length line)
+Hears old before (Ok End) new after =
+    (gained rest : List ℕ) × Took old new gained × Takes before rest after gained × IsLine (rest ++ after.octets)
+    × ((new.ended ≡ true) ⊎ (after.left ≡ 0))
+Hears old before (Err fault) new after =
+    (fault ≡ ReadFailed) × ((gained dropped : List ℕ) × Took old new gained × Takes before dropped after gained)
+
+-- nothing more came because nothing comes any more, or because no more may be taken
+abbrev pub TakesMore : Result Bool ServerFault → ℕ → Link → Type 0
+TakesMore (Ok true) left link = Unit {0}
+TakesMore (Ok false) left link = (link.ended ≡ true) ⊎ (left ≡ 0)
+TakesMore (Err fault) left link = Unit {0}
+
+-- where a line waits, it does so whatever is known of the link
+abbrev pub Found : Heard → Waiting → Type 0
+Found (Line n) waiting = HasLine 512 waiting.octets n
+Found LongLine waiting = Unit {0}
+Found End waiting = Unit {0}
+
+-- ---- what is sent
+
+-- the greeting went out, and the answers to these lines
+abbrev pub AllSent : {D : Type 0} → (D → Type 0) → (D → Mail) → Machine D → List (List ℕ) → List ℕ → Machine D → Type 0
+AllSent sound mail old lines sent last = (answers : List ℕ) × Run sound mail old lines answers last × (sent ≡ greeting ++ answers)
+
+-- the greeting went out in part alone, or the greeting and all answers did but the last, of which a part did
+abbrev pub PartSent : {D : Type 0} → (D → Type 0) → (D → Mail) → Machine D → List (List ℕ) → List ℕ → Machine D → Type 0
+PartSent {D} sound mail old lines sent last =
+    ((rest : List ℕ) × (greeting ≡ sent ++ rest) × (lines ≡ []) × (last ≡ old))
+    ⊎ ((before : List (List ℕ)) × (line whole answer front rest : List ℕ) × (mid : Machine D)
+    × (lines ≡ before ++ line ∷ []) × AllSent sound mail old before whole mid × Turn sound mail mid line answer last
+    × (answer ≡ front ++ rest) × (sent ≡ whole ++ front))
+
+-- what went out for these lines, and which server is left, where this rest was got behind them
+abbrev pub Sent : {D : Type 0} → (D → Type 0) → (D → Mail) → Machine D → List (List ℕ) → List ℕ → List ℕ → Result (Unit {0}) ServerFault → Machine D → Type 0
+-- all was answered while the server was open
+Sent sound mail old lines rest sent (Ok done) new =
+    AllSent sound mail old lines sent new × ((is_open new.state ≡ false) ⊎ IsLine rest)
+Sent sound mail old lines rest sent (Err ReadFailed) new = AllSent sound mail old lines sent new
+Sent sound mail old lines rest sent (Err WriteFailed) new = PartSent sound mail old lines sent new
+-- memory was wanting for the greeting, or for one more answer
+Sent {D} sound mail old lines rest sent (Err NoMemory) new =
+    ((sent ≡ []) × (lines ≡ []) × (new ≡ old))
+    ⊎ ((last : Machine D) × AllSent sound mail old lines sent last × SameServer sound mail last new)
+
+-- the lines that were got were answered in order
+pub record Served {D : Type 0} (sound : D → Type 0) (mail : D → Mail) (old : Machine D) (before : Link) (result : Result (Unit {0}) ServerFault) (new : Machine D) (after : Link) : Type 0 where
+  pub gained : List ℕ
+  pub got : after.got ≡ before.got ++ gained
+  pub bound : length gained ≤ 16777216
+  pub lines : List (List ℕ)
+  pub rest : List ℕ
+  pub each : AllByRecursion IsLine lines
+  pub heard : gained ≡ flat_map ended lines ++ rest
+  pub out : List ℕ
+  pub sent : after.sent ≡ before.sent ++ out
+  pub answered : Sent sound mail old lines rest out result new
+  -- Ok only where the server is closed, nothing comes any more, or the bound is reached
+  pub ends : result ≡ Ok tt → (is_open new.state ≡ false) ⊎ ((after.ended ≡ true) ⊎ (length gained ≡ 16777216))
+
+-- a fault of the link is a refused call of it, and there is no other
+abbrev pub refusal_of : Result (Unit {0}) ServerFault → Result (Unit {0}) ServerFault
+refusal_of (Ok done) = Ok done
+refusal_of (Err ReadFailed) = Err ReadFailed
+refusal_of (Err WriteFailed) = Err WriteFailed
+refusal_of (Err NoMemory) = Ok tt

@@ -1,0 +1,39 @@
+//! Why a server stops.
+use std::alloc::{AllocError, AllocFailed};
+use thiserror::Error;
+
+/// Why a server stops.
+#[derive(Clone, Copy, Debug, PartialEq, Eq, Error)]
+pub enum ServerFault {
+    /// The link refused to read.
+    #[error("read failed")]
+    ReadFailed,
+    /// The link refused to write.
+    #[error("write failed")]
+    WriteFailed,
+    /// A growth was refused.
+    #[error("out of memory")]
+    NoMemory,
+}
+
+impl From<AllocError> for ServerFault {
+    ghost use Rattle.std.specs.Prelude.{◌≡◌};
+    ghost use Rattle.pop3_server.specs.declared.fault.ServerFault.TheVariants.{NoMemory};
+
+    ghost from_gives = { λ _ e. e ≡ NoMemory };
+
+    fn from(_error: AllocError) -> ServerFault {
+        ServerFault::NoMemory
+    }
+}
+
+impl<T: Drop> From<AllocFailed<T>> for ServerFault {
+    ghost use Rattle.std.specs.Prelude.{◌≡◌};
+    ghost use Rattle.pop3_server.specs.declared.fault.ServerFault.TheVariants.{NoMemory};
+
+    ghost from_gives = { λ _ e. e ≡ NoMemory };
+
+    fn from(_error: AllocFailed<T>) -> ServerFault {
+        ServerFault::NoMemory
+    }
+}

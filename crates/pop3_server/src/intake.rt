@@ -1,0 +1,162 @@
+//! The lines that a server gets, within its limits.
+ghost use Rattle.std.specs.Prelude.{◌≡◌, ◌≤◌, ◌<◌, ◌+◌, ◌-◌, ◌*◌, ◌++◌, ℕ, List, [], length, take, drop, true, false, IfOk, IfErr, IfSome, IfNone, Ok, Err};
+ghost use Rattle.pop3_wire.specs.Link.{Tallies};
+ghost use Rattle.pop3_wire.specs.Place.{HasLine, HasNoLine};
+ghost use Rattle.pop3_server.specs.declared.intake.Heard.TheVariants.{LongLine};
+ghost use Rattle.pop3_server.specs.Got.{Waiting};
+ghost use Rattle.pop3_server.specs.Serving.{Took, Hears, TakesMore, Found};
+
+use crate::fault::ServerFault;
+use pop3_wire::{LineReader, Wire};
+use std::marker::Model;
+
+/// How many octets a server reads of one connection; then it is as at the end of input.
+pub const MAX_OCTETS: usize = 16_777_216;
+
+/// How long a line may be, its CR LF included.
+pub const MAX_LINE: usize = 512;
+
+/// What came.
+#[derive(Clone, Copy)]
+pub enum Heard {
+    /// A line of so many octets waits, its CR LF not counted.
+    Line(usize),
+    /// A line longer than [`MAX_LINE`] was read to its CR LF and dropped.
+    LongLine,
+    /// No whole line will come.
+    End,
+}
+
+/// What a server has got and not used yet, and how much more it may take. It takes no memory.
+#[derive(Drop)]
+pub struct Intake {
+    reader: LineReader,
+    left: usize,
+}
+
+impl Model for Intake {
+    ghost use Rattle.pop3_server.specs.declared.intake.Heard.TheVariants.{LongLine};
+    ghost use Rattle.pop3_server.specs.Got.{Waiting};
+
+    ghost Value = { Waiting };
+
+    ghost view = { λ i. record { octets = i.reader; left = i.left } };
+}
+
+impl Intake {
+    /// Nothing was got yet.
+    pub fn new() -> Intake
+        ensures { result ≡ record { octets = []; left = 16777216 } }
+    {
+        Intake {
+            reader: LineReader::new(),
+            left: MAX_OCTETS,
+        }
+    }
+
+    /// What waits to be used.
+    pub fn waiting(&self) -> &[u8]
+        ensures { result.now ≡ self.now.octets }
+    {
+        self.reader.waiting()
+    }
+
+    /// Drops the first `n` octets that wait, as used.
+    pub fn skip(&mut self, n: usize)
+        requires { n ≤ length self.old.octets }
+        ensures { self.new ≡ record { octets = drop n self.old.octets; left = self.old.left } }
+    {
+        self.reader.skip(n);
+    }
+
+    /// How long the line is that waits, if one ends within [`MAX_LINE`].
+    fn line_end(&mut self) -> Option<usize>
+        ensures same { self.new ≡ self.old }
+        ensures found { IfSome result (HasLine 512 self.new.octets) }
+        ensures none { IfNone result (HasNoLine 512 self.new.octets) }
+    {
+        self.reader.line_end(MAX_LINE)
+    }
+
+    /// Takes what comes next, and says whether anything came.
+    fn more<W: Wire>(&mut self, wire: &mut W) -> Result<bool, ServerFault>
+        requires { length self.old.octets < 512 }
+        ensures counted { Tallies (W.seen wire.old).failures result (W.seen wire.new).failures }
+        ensures err { IfErr result (λ e. e ≡ ServerFault.ReadFailed) }
+        ensures takes { (piece : List ℕ) × (length piece + self.new.left ≡ self.old.left) × (self.new.octets ≡ self.old.octets ++ piece)
+            × (result ≡ Ok true → 0 < length piece)
+            × (result ≡ Ok false → length piece ≡ 0)
+            × (W.sound wire.new → W.sound wire.old × W.leads_to wire.old wire.new × Took (W.seen wire.old) (W.seen wire.new) piece
+            × TakesMore result self.new.left (W.seen wire.new)) }
+    {
+        if self.left == 0 {
+            return Ok(false);
+        }
+        match self.reader.fill_at_most(wire, self.left) {
+            Ok(n) => {
+                self.left -= n;
+                Ok(n != 0)
+            }
+            Err(_) => Err(ServerFault::ReadFailed),
+        }
+    }
+
+    /// Drops the rest of a line that is too long, and its CR LF.
+    fn long_line<W: Wire>(&mut self, wire: &mut W) -> Result<Heard, ServerFault>
+        requires none { HasNoLine 512 self.old.octets }
+        requires long { 512 ≤ length self.old.octets }
+        ensures counted { Tallies (W.seen wire.old).failures result (W.seen wire.new).failures }
+        ensures err { IfErr result (λ e. e ≡ ServerFault.ReadFailed) }
+        ensures found { IfOk result (λ heard. Found heard self.new) }
+        ensures fewer { length self.new.octets + 2 * self.new.left < length self.old.octets + 2 * self.old.left }
+        ensures hears { W.sound wire.new → W.sound wire.old × W.leads_to wire.old wire.new
+            × Hears (W.seen wire.old) self.old result (W.seen wire.new) self.new }
+    {
+        self.skip(MAX_LINE - 1);
+        loop {
+            if let Some(length) = self.line_end() {
+                self.skip(length + 2);
+                return Ok(Heard::LongLine);
+            }
+            if self.waiting().len() >= MAX_LINE {
+                self.skip(MAX_LINE - 1);
+                continue;
+            }
+            let came = match self.more(wire) {
+                Ok(came) => came,
+                Err(fault) => return Err(fault),
+            };
+            if !came {
+                return Ok(Heard::End);
+            }
+        }
+    }
+
+    /// Waits for the next line. A line longer than [`MAX_LINE`] is read to its CR LF and dropped.
+    /// No `recv` is made while a whole line waits. The only fault is ReadFailed.
+    pub fn next<W: Wire>(&mut self, wire: &mut W) -> Result<Heard, ServerFault>
+        ensures counted { Tallies (W.seen wire.old).failures result (W.seen wire.new).failures }
+        ensures err { IfErr result (λ e. e ≡ ServerFault.ReadFailed) }
+        ensures found { IfOk result (λ heard. Found heard self.new) }
+        ensures fewer { length self.new.octets + 2 * self.new.left ≤ length self.old.octets + 2 * self.old.left }
+        ensures dropped { result ≡ Ok LongLine → length self.new.octets + 2 * self.new.left < length self.old.octets + 2 * self.old.left }
+        ensures hears { W.sound wire.new → W.sound wire.old × W.leads_to wire.old wire.new
+            × Hears (W.seen wire.old) self.old result (W.seen wire.new) self.new }
+    {
+        loop {
+            if let Some(length) = self.line_end() {
+                return Ok(Heard::Line(length));
+            }
+            if self.waiting().len() >= MAX_LINE {
+                return self.long_line(wire);
+            }
+            let came = match self.more(wire) {
+                Ok(came) => came,
+                Err(fault) => return Err(fault),
+            };
+            if !came {
+                return Ok(Heard::End);
+            }
+        }
+    }
+}

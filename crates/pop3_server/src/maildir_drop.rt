@@ -1,0 +1,216 @@
+//! A Maildir in a real folder as a maildrop. Its files are listed as they lie in `cur` and `new`,
+//! those whose names begin with a full stop left out (the Maildir format: a name up to its first
+//! colon stays, and flags follow).
+ghost use Rattle.std.specs.Prelude.{◌≡◌, ◌≤◌, vec_len, IfOk, []};
+ghost use Rattle.pop3_server.specs.Maildrop.{CountsFault};
+
+use crate::maildir_names::{Folder, MailFile, base, unique_id};
+use crate::maildrops::{DropFault, Entry, MAX_COUNT, MAX_SIZE, Maildrop};
+use crate::size::SizeCount;
+use std::collections::BTreeSet;
+use std::fs;
+use std::io::{self, ErrorKind, Read};
+use std::rt::Files;
+
+/// A Maildir in a real folder. Nothing is known of what it holds.
+#[derive(Drop)]
+pub struct MaildirDrop<'a, R: Files + AllocGlobal + Clone + Drop> {
+    rt: &'a R,
+    path: String,
+    files: Vec<MailFile>,
+    refused: u64,
+    removals: u64,
+}
+
+/// The octets of a file, read in pieces.
+fn file_size<R: Files>(rt: &R, path: &str) -> io::Result<u64> {
+    let mut file = fs::open(rt, path)?;
+    let mut piece = [0u8; 16384];
+    let mut count = SizeCount::new();
+    for _ in 0..u64::MAX {
+        let n = file.read(&mut piece)?;
+        if n == 0 {
+            break;
+        }
+        count.add(&piece[..n]);
+    }
+    Ok(count.size())
+}
+
+/// The messages found in a Maildir, and where their files lie.
+#[derive(Drop)]
+struct Listing {
+    entries: Vec<Entry>,
+    files: Vec<MailFile>,
+}
+
+impl<'a, R: Files + AllocGlobal + Clone + Drop> MaildirDrop<'a, R> {
+    /// The maildrop of the Maildir at this path, which must have the folders `new` and `cur`.
+    pub fn at(rt: &'a R, path: String) -> MaildirDrop<'a, R>
+        ensures { ⟦<MaildirDrop<'a, R> as Maildrop>⟧.mail result ≡ record { slots = []; refused = 0; removals = 0 } }
+    {
+        MaildirDrop {
+            rt,
+            path,
+            files: Vec::new(rt.alloc()),
+            refused: 0,
+            removals: 0,
+        }
+    }
+
+    /// Where a file lies.
+    fn path_of(&self, file: &MailFile) -> io::Result<String> {
+        let path = self.path.as_str();
+        let folder = file.folder.name();
+        let name = file.name.as_str();
+        Ok(format!(in self.rt.alloc(); "{path}/{folder}/{name}")?)
+    }
+
+    /// Adds the regular files of a folder. A name that isn't UTF-8 is passed over.
+    fn find_in(&self, folder: Folder, found: &mut Vec<MailFile>) -> io::Result<()> {
+        let alloc = self.rt.alloc();
+        let path = self.path.as_str();
+        let name = folder.name();
+        let folder_path = format!(in alloc; "{path}/{name}")?;
+        for entry in fs::read_dir(self.rt, folder_path.as_str())? {
+            let entry = match entry {
+                Ok(entry) => entry,
+                Err(error) => {
+                    if error.kind() == ErrorKind::InvalidFilename {
+                        continue;
+                    }
+                    return Err(error);
+                }
+            };
+            let name = entry.file_name();
+            if name.starts_with('.') {
+                continue;
+            }
+            if !entry.file_type()?.is_file() {
+                continue;
+            }
+            found.push(MailFile {
+                base: Vec::from_slice(alloc, base(name.as_bytes()))?,
+                folder,
+                name: String::from_str(alloc, name)?,
+            })?;
+        }
+        Ok(())
+    }
+
+    /// All files, in the order in which their messages are listed.
+    fn find(&self) -> io::Result<Vec<MailFile>> {
+        let mut found = Vec::new(self.rt.alloc());
+        self.find_in(Folder::Cur, &mut found)?;
+        self.find_in(Folder::New, &mut found)?;
+        found.sort()?;
+        Ok(found)
+    }
+
+    /// The messages of these files: of several with one id the first, none past the limits.
+    fn list(&self, found: Vec<MailFile>) -> io::Result<Listing>
+        ensures { IfOk result (λ listing. vec_len listing.entries ≤ MAX_COUNT) }
+    {
+        let alloc = self.rt.alloc();
+        let mut seen: BTreeSet<Vec<u8>> = BTreeSet::new(alloc);
+        let mut entries = Vec::new(alloc);
+        let mut files = Vec::new(alloc);
+        for file in found {
+            if entries.len() >= MAX_COUNT {
+                break;
+            }
+            let uid = unique_id(alloc, file.base.as_slice())?;
+            if seen.contains(uid.as_slice()) {
+                continue;
+            }
+            let size = file_size(self.rt, self.path_of(&file)?.as_str())?;
+            if size > MAX_SIZE {
+                continue;
+            }
+            seen.insert(Vec::from_slice(alloc, uid.as_slice())?)?;
+            entries.push(Entry::new(uid, size))?;
+            files.push(file)?;
+        }
+        Ok(Listing { entries, files })
+    }
+
+    /// The bytes of the file at a place of the last listing.
+    fn read_file(&self, i: usize) -> io::Result<Vec<u8>> {
+        match self.files.get(i) {
+            Some(file) => fs::read(self.rt, self.path_of(file)?.as_str()),
+            None => Err(ErrorKind::NotFound.into()),
+        }
+    }
+
+    /// Removes the file at a place of the last listing.
+    fn remove_file(&self, i: usize) -> io::Result<()> {
+        match self.files.get(i) {
+            Some(file) => fs::remove_file(self.rt, self.path_of(file)?.as_str()),
+            None => Err(ErrorKind::NotFound.into()),
+        }
+    }
+
+    /// What a call answers after an error of the system: want of memory as such, anything else as a
+    /// refusal, which is counted.
+    fn refuse(&mut self, error: io::Error) -> DropFault
+        ensures others { self.new ≡ record self.old { refused = self.new.refused } }
+        ensures count { CountsFault self.old.refused result self.new.refused }
+    {
+        if error.kind() == ErrorKind::OutOfMemory {
+            return DropFault::NoMemory;
+        }
+        self.refused = self.refused.saturating_add(1);
+        DropFault::Refused
+    }
+}
+
+impl<'a, R: Files + AllocGlobal + Clone + Drop> Maildrop for MaildirDrop<'a, R> {
+    ghost mail = { λ d. record { slots = []; refused = d.refused; removals = d.removals } };
+
+    ghost sound = { λ _. ⊥ };
+
+    fn entries(&mut self) -> Result<Vec<Entry>, DropFault> {
+        if self.refused == u64::MAX {
+            return Err(DropFault::Refused);
+        }
+        let listed = match self.find() {
+            Ok(found) => self.list(found),
+            Err(error) => Err(error),
+        };
+        match listed {
+            Ok(Listing { entries, files }) => {
+                self.files = files;
+                Ok(entries)
+            }
+            Err(error) => Err(self.refuse(error)),
+        }
+    }
+
+    fn text(&mut self, i: usize) -> Result<Vec<u8>, DropFault> {
+        if self.refused == u64::MAX {
+            return Err(DropFault::Refused);
+        }
+        match self.read_file(i) {
+            Ok(text) => Ok(text),
+            Err(error) => Err(self.refuse(error)),
+        }
+    }
+
+    fn remove(&mut self, i: usize) -> Result<(), DropFault> {
+        self.removals = self.removals.saturating_add(1);
+        if self.refused == u64::MAX {
+            return Err(DropFault::Refused);
+        }
+        match self.remove_file(i) {
+            Ok(()) => Ok(()),
+            Err(_) => {
+                self.refused += 1;
+                Err(DropFault::Refused)
+            }
+        }
+    }
+
+    fn failures(&self) -> u64 {
+        self.refused
+    }
+}

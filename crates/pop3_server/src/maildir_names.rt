@@ -1,0 +1,87 @@
+//! Names of files in a Maildir: the part that stays, and the unique id that it stands for.
+ghost use Rattle.std.specs.Prelude.{◌≡◌, ◌≤◌, true, length, IsTrue, IfOk};
+ghost use Rattle.std.specs.List.{position_or_len, list_all};
+ghost use Rattle.pop3_wire.specs.Fields.{is_legal_id, is_id_byte};
+ghost use Rattle.pop3_server.specs.MaildirNames.{is_colon, base_of, id_of};
+ghost use Rattle.hex.specs.Hex.{encode_lower};
+ghost use Rattle.sha2.specs.Sha256.{sha256};
+
+use pop3_wire::{Bytes, is_legal_id};
+use sha2::{Digest, Sha256};
+use std::alloc::{AllocError, Global};
+
+/// A folder of a Maildir whose files are messages.
+#[derive(Clone, Copy, PartialEq, Eq, PartialOrd, Ord)]
+pub enum Folder {
+    Cur,
+    New,
+}
+
+impl Folder {
+    /// Its name.
+    pub fn name(self) -> &'static str {
+        match self {
+            Folder::Cur => "cur",
+            Folder::New => "new",
+        }
+    }
+}
+
+/// A file of a Maildir. Files are ordered by the bytes of their base, then `cur` before `new`, then
+/// by their whole name.
+#[derive(PartialEq, Eq, PartialOrd, Ord, Drop)]
+pub struct MailFile {
+    pub base: Vec<u8>,
+    pub folder: Folder,
+    pub name: String,
+}
+
+/// How many bytes stand before the first colon, or all where there is none.
+fn base_length(name: &[u8]) -> usize
+    ensures value { result ≡ position_or_len is_colon name.now }
+    ensures fits { result ≤ length name.now }
+{
+    name.iter().take_while(|byte| **byte != b':').count()
+}
+
+/// What stands before the first colon of a name, behind which flags stand.
+pub fn base(name: &[u8]) -> &[u8]
+    ensures { result.now ≡ base_of name.now }
+{
+    &name[..base_length(name)]
+}
+
+/// The 32 bytes of a digest in lower-case hexadecimal, which are characters of an id.
+fn hexadecimal(digest: &[u8]) -> [u8; 64]
+    requires { length digest.now ≡ 32 }
+    ensures value { result ≡ encode_lower digest.now }
+    ensures visible { list_all is_id_byte result ≡ true }
+{
+    let mut text = [0; 64];
+    let _ = hex::encode_to_slice(digest, &mut text);
+    text
+}
+
+/// The digest of a base in lower-case hexadecimal.
+fn digest(base: &[u8]) -> [u8; 64]
+    ensures value { result ≡ encode_lower (sha256 base.now) }
+    ensures visible { list_all is_id_byte result ≡ true }
+{
+    let mut hasher = Sha256::new();
+    hasher.update(base);
+    let digest = hasher.finalize();
+    hexadecimal(digest.as_slice())
+}
+
+/// The unique id of a base: the base itself where that is a legal id, else its SHA-256 in
+/// lower-case hexadecimal.
+pub fn unique_id(alloc: Global, base: &[u8]) -> Result<Bytes, AllocError>
+    ensures value { IfOk result (λ id. id ≡ id_of base.now) }
+    ensures legal { IfOk result (λ id. IsTrue (is_legal_id id)) }
+{
+    if is_legal_id(base) {
+        return Ok(Bytes::from_vec(Vec::from_slice(alloc, base)?));
+    }
+    let digest = digest(base);
+    Ok(Bytes::from_vec(Vec::from_slice(alloc, digest.as_slice())?))
+}
