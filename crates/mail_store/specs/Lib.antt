@@ -1,3 +1,4 @@
 pub mod Refusals
 pub mod Maildirs
 pub mod FlatFiles
+pub mod Fuses
