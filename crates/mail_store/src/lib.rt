@@ -4,15 +4,20 @@
 mod delivery;
 mod fault;
 mod flat_file;
+mod folder_maildir;
 mod fused;
+mod host_file;
 mod maildir;
 mod memory_file;
 mod memory_maildir;
+mod sync;
 
 pub use delivery::deliver;
 pub use fault::StoreFault;
 pub use flat_file::{Edges, FlatFile};
+pub use folder_maildir::FolderMaildir;
 pub use fused::Fused;
+pub use host_file::HostFile;
 pub use maildir::{Folder, MaildirDisk};
 pub use memory_file::MemoryFile;
 pub use memory_maildir::MemoryMaildir;
