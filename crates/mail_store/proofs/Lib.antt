@@ -1,2 +1,4 @@
 pub mod Deliveries
 pub mod FusedCalls
+pub mod NameLemmas
+pub mod HeldLemmas

@@ -3,15 +3,13 @@
 ghost use Rattle.std.specs.Prelude.{◌≡◌, ◌<◌, ◌+◌};
 ghost use Rattle.mail_store.specs.Refusals.{greatest_count};
 
-use std::fs;
-use std::fs::OpenFile;
-use std::io;
-use std::io::{ErrorKind, Write};
-use std::rt::Files;
-
 use super::fault::StoreFault;
 use super::maildir::{Folder, MaildirDisk};
 use super::sync::flush_folder;
+use std::fs::OpenFile;
+use std::io::{ErrorKind, Write};
+use std::rt::Files;
+use std::{fs, io};
 
 /// The file that is being written, and its name in `tmp`.
 #[derive(Drop)]

@@ -3,15 +3,13 @@
 ghost use Rattle.std.specs.Prelude.{◌≡◌, ◌<◌, ◌+◌};
 ghost use Rattle.mail_store.specs.Refusals.{greatest_count};
 
-use std::fs;
-use std::fs::{OpenFile, OpenOptions};
-use std::io;
-use std::io::{ErrorKind, Read, Seek, SeekFrom, Write};
-use std::rt::Files;
-
 use super::fault::StoreFault;
 use super::flat_file::{Edges, FlatFile};
 use super::sync::{flush_folder, folder_of};
+use std::fs::{OpenFile, OpenOptions};
+use std::io::{ErrorKind, Read, Seek, SeekFrom, Write};
+use std::rt::Files;
+use std::{fs, io};
 
 /// A file of the file system. Nothing is known of what the system does.
 ///

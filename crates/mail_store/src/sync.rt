@@ -1,10 +1,9 @@
 //! Flushing a folder, so that the names in it outlive a loss of power.
 
-use std::fs;
 use std::fs::OpenFile;
-use std::io;
 use std::io::ErrorKind;
 use std::rt::Files;
+use std::{fs, io};
 
 /// Flushes the names of a folder to the disk. A system that flushes no folders answers Ok.
 pub fn flush_folder<R: Files>(rt: &R, path: &str) -> io::Result<()> {
