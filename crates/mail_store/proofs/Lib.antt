@@ -2,3 +2,4 @@ pub mod Deliveries
 pub mod FusedCalls
 pub mod NameLemmas
 pub mod HeldLemmas
+pub mod MoveLemmas

@@ -109,6 +109,24 @@ Delivers old f (Err Refused) new = (new ≡ counted (dropped old)) ⊎ (new ≡ 
 Delivers old f (Err NotMbox) new = ⊥
 Delivers old f (Err NoMemory) new = ⊥
 
+-- a file of `new` stands in `cur` instead, behind the others, with a suffix behind its name, which
+-- no file of `cur` had
+pub record Takes (old : Maildir) (name suffix : List ℕ) (new : Maildir) : Type 0 where
+  pub front : List File
+  pub back : List File
+  pub content : List ℕ
+  pub was : old.in_new ≡ front ++ file name content ∷ back
+  pub free : Contains (names_of old.in_cur) (name ++ suffix) → ⊥
+  pub is : new ≡ record old { in_new = front ++ back; in_cur = old.in_cur ++ file (name ++ suffix) content ∷ [] }
+
+-- `move_to_cur`: the file was moved; `new` hasn't its name, or `cur` has the one that would result;
+-- or memory ran out
+abbrev pub Moves : {E : Type 0} → Maildir → List ℕ → List ℕ → Result Bool E → Maildir → Type 0
+Moves old name suffix (Ok true) new = Takes old name suffix new
+Moves old name suffix (Ok false) new =
+    (new ≡ old) × ((IsInNew old name → ⊥) ⊎ Contains (names_of old.in_cur) (name ++ suffix))
+Moves old name suffix (Err e) new = new ≡ old
+
 -- what is known of a Maildir of the file system: how many calls were refused, and nothing else
 abbrev pub unknown_maildir : ℕ → Maildir
 unknown_maildir refused = record {

@@ -1,6 +1,6 @@
 //! A Maildir in memory.
 
-ghost use Rattle.std.specs.Prelude.{map, IfOk, ◌≡◌};
+ghost use Rattle.std.specs.Prelude.{map, length, ◌<◌, ◌↔◌, Contains, HoldsAt, IsTrue, IfOk, IfSome, IfNone, ◌≡◌};
 ghost use Rattle.std.specs.String.{string_bytes};
 ghost use Rattle.mail_store.specs.Maildirs.{names_of, file_of};
 
@@ -35,9 +35,9 @@ impl Model for MemoryMaildir {
 }
 
 impl MemoryMaildir {
-    ghost use Rattle.std.specs.Prelude.{◌≡◌, ◌<◌, ◌+◌, [], None, map};
+    ghost use Rattle.std.specs.Prelude.{◌≡◌, ◌<◌, ◌+◌, [], None, map, slice_index};
     ghost use Rattle.mail_store.specs.Refusals.{greatest_count};
-    ghost use Rattle.mail_store.specs.Maildirs.{Maildir, File, file_of, files_in, all_there, counted, dropped};
+    ghost use Rattle.mail_store.specs.Maildirs.{Maildir, File, file_of, files_in, all_there, counted, Moves};
 
     /// A Maildir without files.
     pub fn new(alloc: Global) -> MemoryMaildir
@@ -63,6 +63,27 @@ impl MemoryMaildir {
         }
     }
 
+    /// Moves a file from `new` to `cur` and puts a suffix, which begins with a colon, behind its
+    /// name, as a reader does that has seen the message. False, with nothing changed, where no file
+    /// of `new` has the name, or a file of `cur` has the name that would result.
+    pub fn move_to_cur(&mut self, name: &str, suffix: &str) -> Result<bool, AllocError>
+        requires { slice_index suffix.now 0 ≡ 58 }
+        ensures { Moves self.old name.now suffix.now result self.new }
+    {
+        let mut moved = String::from_str(self.alloc, name)?;
+        moved.push_str(suffix)?;
+        if has_name(&self.in_cur, moved.as_str()) {
+            return Ok(false);
+        }
+        let Some(place) = place_of(&self.in_new, name) else {
+            return Ok(false);
+        };
+        self.in_cur.reserve(1)?;
+        let (_, content) = self.in_new.remove(place);
+        self.in_cur.push((moved, content)).unwrap();
+        Ok(true)
+    }
+
     fn refuse(&mut self) -> StoreFault
         requires { self.old.refused < greatest_count }
         ensures fault { result ≡ StoreFault.Refused }
@@ -71,6 +92,26 @@ impl MemoryMaildir {
         self.refused += 1;
         StoreFault::Refused
     }
+}
+
+/// The place of a file of this name, if there is one.
+fn place_of(files: &[(String, Vec<u8>)], name: &str) -> Option<usize>
+    ensures some { IfSome result (λ place. (place < length files.now) × HoldsAt (λ file. string_bytes file.0 ≡ name.now) files.now place) }
+    ensures none { IfNone result (Contains (names_of (map file_of files.now)) name.now → ⊥) }
+{
+    for (place, file) in files.iter().enumerate() {
+        if file.0.as_str() == name {
+            return Some(place);
+        }
+    }
+    None
+}
+
+/// Whether one of the files has this name.
+fn has_name(files: &[(String, Vec<u8>)], name: &str) -> bool
+    ensures { IsTrue result ↔ Contains (names_of (map file_of files.now)) name.now }
+{
+    place_of(files, name).is_some()
 }
 
 /// The names of some files.
