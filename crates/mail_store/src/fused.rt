@@ -37,6 +37,13 @@ impl<D> Fused<D> {
         }
     }
 
+    /// The device.
+    pub fn device(&self) -> &D
+        ensures { result.now ≡ device_of self.now }
+    {
+        &self.device
+    }
+
     /// Gives the device back.
     pub fn into_inner(self) -> D
         ensures { result ≡ device_of self }

@@ -35,9 +35,9 @@ impl Model for MemoryMaildir {
 }
 
 impl MemoryMaildir {
-    ghost use Rattle.std.specs.Prelude.{◌≡◌, ◌<◌, ◌+◌, [], None, map, slice_index};
+    ghost use Rattle.std.specs.Prelude.{◌≡◌, ◌<◌, ◌+◌, ◌↔◌, [], None, map, slice_index, Contains, IsTrue, IsSome};
     ghost use Rattle.mail_store.specs.Refusals.{greatest_count};
-    ghost use Rattle.mail_store.specs.Maildirs.{Maildir, File, file_of, files_in, all_there, counted, Moves};
+    ghost use Rattle.mail_store.specs.Maildirs.{Maildir, File, file_of, files_in, names_of, all_there, counted, Moves};
 
     /// A Maildir without files.
     pub fn new(alloc: Global) -> MemoryMaildir
@@ -61,6 +61,23 @@ impl MemoryMaildir {
             Folder::New => self.in_new.as_slice(),
             Folder::Cur => self.in_cur.as_slice(),
         }
+    }
+
+    /// Whether a file of the folder has this name.
+    pub fn has_file(&self, folder: Folder, name: &str) -> bool
+        ensures { IsTrue result ↔ Contains (names_of (files_in self.now folder)) name.now }
+    {
+        match folder {
+            Folder::New => has_name(&self.in_new, name),
+            Folder::Cur => has_name(&self.in_cur, name),
+        }
+    }
+
+    /// Whether a file is begun.
+    pub fn is_begun(&self) -> bool
+        ensures { IsTrue result ↔ IsSome self.now.begun }
+    {
+        self.begun.is_some()
     }
 
     /// Moves a file from `new` to `cur` and puts a suffix, which begins with a colon, behind its
