@@ -1,15 +1,16 @@
 -- What a set of bases says of the files whose names it came from.
-use Rattle.std.proofs.Common.{◌≡◌, ℕ, ◌+◌, ◌<◌, Bool, true, false, cond, List, [], ◌∷◌, ◌++◌, length, take, get_or, map, refl, sym, ap, ◌∙◌, inl, inr, String, string_bytes}
+use Rattle.std.proofs.Common.{◌≡◌, ℕ, ◌+◌, ◌<◌, Bool, true, false, cond, List, [], ◌∷◌, ◌++◌, length, take, get_or, map, refl, sym, ap, ◌∙◌, arith, inl, inr, String, string_bytes}
 use Rattle.std.specs.Prelude.{◌||◌, bytes_eq, IsPermutation, HoldsAt}
 use Rattle.std.specs.List.{list_any}
 use Rattle.std.proofs.lemmas.Bool.{cases_Bool, false_from_ne_true, true≢false}
-use Rattle.std.proofs.lemmas.List.{take_more, map-append}
-use Rattle.std.proofs.lemmas.List.Folds.{list_any-append}
+use Rattle.std.proofs.lemmas.List.{take_more, map-append, length-map, get_or-map}
+use Rattle.std.proofs.lemmas.List.Folds.{list_any-append, list_any_at}
 use Rattle.std.proofs.lemmas.List.Sorted.{list_any-IsPermutation}
 use Rattle.std.proofs.lemmas.Slice.Eq.{bytes_eq-Decides}
 use Rattle.fetch_rules.specs.Listing.{Item}
-use Rattle.mail_store.specs.Maildirs.{Maildir, File, name_in, names_of}
-use Rattle.mail_store.specs.Names.{base, name_of, names_id, is_held}
+use Rattle.mail_store.specs.Maildirs.{Maildir, File, file, name_in, names_of, IsInNew}
+use Rattle.mail_store.specs.Names.{base, name_of, names_id, is_held, IsAccountText}
+use Rattle.mail_store.proofs.NameLemmas.{base-name_of}
 use Rattle.mail_store.specs.Holdings.{flags_of}
 
 -- ---- one more name
@@ -91,3 +92,19 @@ flags_found {Z} account maildir items flags none some all new cur n s a in_new i
         ∙ ap (λ b. b || list_any (λ (name : String Z). test (string_bytes name)) cur) (names_tell test maildir.in_new new in_new)
         ∙ ap (λ b. list_any (λ (f : File). test f.name) maildir.in_new || b) (names_tell test maildir.in_cur cur in_cur)
         ∙ sym (list_any-append (λ (f : File). names_id account uid f.name) maildir.in_new maildir.in_cur)
+
+-- ---- names in `new`
+
+-- an id is held where a file of `new` has its name
+pub held_where_in_new : (account uid : List ℕ) (maildir : Maildir) → IsAccountText account → IsInNew maildir (name_of account uid)
+    → is_held account maildir uid ≡ true
+held_where_in_new account uid maildir a c =
+    let q = name_of account uid in
+    let test : File → Bool = λ f. names_id account uid f.name in
+    let nothing : File = file [] [] in
+    let inside : c.0 < length maildir.in_new = omega (arith, c.1, length-map maildir.in_new name_in) in
+    let named : (get_or maildir.in_new c.0 nothing).name ≡ q = sym (get_or-map name_in maildir.in_new c.0 nothing q inside) ∙ c.2 in
+    let found : test (get_or maildir.in_new c.0 nothing) ≡ true =
+    ap (names_id account uid) named ∙ (bytes_eq-Decides q (base q)).1 (sym (base-name_of account uid a)) in
+    list_any-append test maildir.in_new maildir.in_cur
+    ∙ ap (λ b. b || list_any test maildir.in_cur) (list_any_at test maildir.in_new c.0 nothing inside found)

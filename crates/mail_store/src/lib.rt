@@ -26,4 +26,9 @@ pub use host_file::HostFile;
 pub use maildir::{Folder, MaildirDisk};
 pub use memory_file::MemoryFile;
 pub use memory_maildir::MemoryMaildir;
-pub use names::{base, file_name, names_are_bases, names_differ, uid_of};
+pub use names::{
+    base, file_name, names_are_bases, names_differ, uid_of, unheld_ids_are_not_in_new,
+};
+
+#[cfg(test)]
+mod tests;

@@ -1,9 +1,10 @@
 //! The names of an account's files in a Maildir.
 
-ghost use Rattle.std.specs.Prelude.{◌≡◌, ℕ, ◌≢◌, ◌≤◌, List, ◌∷◌, ◌++◌, length, IfOk, IfSome, IfNone, MatchOption, string_bytes};
+ghost use Rattle.std.specs.Prelude.{◌≡◌, false, ℕ, ◌≢◌, ◌≤◌, List, ◌∷◌, ◌++◌, length, IfOk, IfSome, IfNone, MatchOption, string_bytes};
 ghost use Rattle.hex.specs.Hex.{encode_lower};
 ghost use Rattle.fetch_rules.specs.LegalId.{IsLegalId};
-ghost use Rattle.mail_store.specs.Names.{base, name_of, IsAccountText};
+ghost use Rattle.mail_store.specs.Names.{IsAccountText, base, is_held, name_of};
+ghost use Rattle.mail_store.specs.Maildirs.{Maildir, IsInNew};
 
 use super::account::AccountId;
 use fetch_rules::is_legal_id;
@@ -44,6 +45,12 @@ pub fn names_differ()
 /// The base of an id's name is the name: it holds no colon.
 pub fn names_are_bases()
     ensures { (account uid : List ℕ) → IsAccountText account → base (name_of account uid) ≡ name_of account uid }
+{}
+
+/// No file of `new` has the name of an id that isn't held, so a text may be delivered under it.
+pub fn unheld_ids_are_not_in_new()
+    ensures { (account uid : List ℕ) (maildir : Maildir) → IsAccountText account → is_held account maildir uid ≡ false
+        → IsInNew maildir (name_of account uid) → ⊥ }
 {}
 
 /// What stands behind `front` in bytes that begin with it.
