@@ -107,8 +107,9 @@ fn edges_of(bytes: &[u8]) -> Edges
 }
 
 impl FlatFile for MemoryFile {
-    ghost use Rattle.std.specs.Prelude.{◌<◌};
-    ghost use Rattle.mail_store.specs.Refusals.{greatest_count};
+    ghost use Rattle.std.specs.Prelude.{◌≡◌, ◌≢◌, ◌<◌, IfErr, IsOk};
+    ghost use Rattle.mail_store.specs.Refusals.{Tallies, IsDeviceFault, greatest_count};
+    ghost use Rattle.mail_store.specs.FlatFiles.{Measures, Cuts, HasBytes};
 
     ghost stored = { λ f. f };
 
@@ -127,7 +128,14 @@ impl FlatFile for MemoryFile {
         }
     }
 
-    fn edges(&mut self) -> Result<Edges, StoreFault> {
+    // It takes no memory, so below the greatest count it isn't refused.
+    fn edges(&mut self) -> Result<Edges, StoreFault>
+        ensures measures { self.new.refused < greatest_count → (self.old.refused < greatest_count)
+            × Measures self.old result self.new }
+        ensures fault { IfErr result IsDeviceFault }
+        ensures count { Tallies self.old.refused result self.new.refused }
+        ensures answers { self.old.refused < greatest_count → result ≢ Err StoreFault.Refused }
+    {
         if self.refused == u64::MAX {
             return Err(StoreFault::Refused);
         }
@@ -150,7 +158,15 @@ impl FlatFile for MemoryFile {
         }
     }
 
-    fn cut_to(&mut self, len: u64) -> Result<(), StoreFault> {
+    // It takes no memory, so below the greatest count it isn't refused.
+    fn cut_to(&mut self, len: u64) -> Result<(), StoreFault>
+        requires { self.old.refused < greatest_count → HasBytes self.old len }
+        ensures cuts { self.new.refused < greatest_count → (self.old.refused < greatest_count)
+            × Cuts self.old len result self.new }
+        ensures fault { IfErr result (λ e. e ≡ StoreFault.Refused) }
+        ensures count { Tallies self.old.refused result self.new.refused }
+        ensures answers { self.old.refused < greatest_count → IsOk result }
+    {
         if self.refused == u64::MAX {
             return Err(StoreFault::Refused);
         }
