@@ -1,0 +1,3 @@
+pub mod LegalId
+pub mod Listing
+pub mod Numbering

@@ -1,0 +1,110 @@
+-- What a set of bases says of the files whose names it came from.
+use Rattle.std.proofs.Common.{◌≡◌, ℕ, ◌+◌, ◌<◌, Bool, true, false, cond, List, [], ◌∷◌, ◌++◌, length, take, get_or, map, refl, sym, ap, ◌∙◌, arith, inl, inr, String, string_bytes}
+use Rattle.std.specs.Prelude.{◌||◌, bytes_eq, IsPermutation, HoldsAt}
+use Rattle.std.specs.List.{list_any}
+use Rattle.std.proofs.lemmas.Bool.{cases_Bool, false_from_ne_true, true≢false}
+use Rattle.std.proofs.lemmas.List.{take_more, map-append, length-map, get_or-map}
+use Rattle.std.proofs.lemmas.List.Folds.{list_any-append, list_any_at}
+use Rattle.std.proofs.lemmas.List.Sorted.{list_any-IsPermutation}
+use Rattle.std.proofs.lemmas.Slice.Eq.{bytes_eq-Decides}
+use Rattle.fetch_rules.specs.Listing.{Item}
+use Rattle.mail_store.specs.Maildirs.{Maildir, File, file, name_in, names_of, IsInNew}
+use Rattle.mail_store.specs.Names.{base, name_of, names_id, is_held, IsAccountText}
+use Rattle.mail_store.proofs.NameLemmas.{base-name_of}
+use Rattle.mail_store.specs.Holdings.{flags_of}
+
+-- ---- one more name
+
+bytes_eq-sym : (xs ys : List ℕ) → bytes_eq xs ys ≡ bytes_eq ys xs
+bytes_eq-sym xs ys =
+    elim (cases_Bool (bytes_eq ys xs)) [
+      | inl same ↦ (bytes_eq-Decides xs ys).1 (sym ((bytes_eq-Decides ys xs).0 same)) ∙ sym same
+      | inr apart ↦
+          false_from_ne_true (bytes_eq xs ys) (λ same. true≢false (sym ((bytes_eq-Decides ys xs).1 (sym ((bytes_eq-Decides xs ys).0 same))) ∙ apart))
+          ∙ sym apart
+    ]
+
+or_step : (e o l : Bool) → cond e true (o || l) ≡ (o || (l || e))
+or_step true true l = refl
+or_step true false true = refl
+or_step true false false = refl
+or_step false true l = refl
+or_step false false true = refl
+or_step false false false = refl
+
+-- a base was put into the set, and the names in front are one more
+pub one_more : (new old first last more : Bool) (key q : List ℕ) → new ≡ cond (bytes_eq key q) true old → old ≡ (first || last)
+    → more ≡ (last || bytes_eq q key) → new ≡ (first || more)
+one_more new old first last more key q n o m =
+    n ∙ ap (λ b. cond (bytes_eq key q) true b) o ∙ ap (λ e. cond e true (first || last)) (bytes_eq-sym key q)
+    ∙ or_step (bytes_eq q key) first last ∙ ap (λ b. first || b) (sym m)
+
+-- ---- one more flag
+
+no_item : Item
+no_item = record { uid = []; size = 0 }
+
+-- the flag of one more item was pushed
+pub flags_more : (f : List ℕ → Bool) (items : List Item) (i : ℕ) (flags new : List Bool) (uid : List ℕ) (flag : Bool)
+    → flags ≡ map (λ (item : Item). f item.uid) (take i items) → i < length items → HoldsAt (λ (item : Item). uid ≡ item.uid) items i
+    → flag ≡ f uid → new ≡ flags ++ flag ∷ [] → new ≡ map (λ (item : Item). f item.uid) (take (i + 1) items)
+flags_more f items i flags new uid flag before inside at is pushed =
+    let test : Item → Bool = λ item. f item.uid in
+    let item = get_or items i no_item in
+    pushed ∙ ap (λ xs. xs ++ flag ∷ []) before ∙ ap (λ b. map test (take i items) ++ b ∷ []) (is ∙ ap f (at no_item))
+    ∙ sym (map-append test (take i items) (item ∷ [])) ∙ ap (map test) (sym (take_more items i no_item inside))
+
+-- ---- all names and all items
+
+any_map : {A B : Type 0} (test : B → Bool) (f : A → B) (xs : List A) → list_any test (map f xs) ≡ list_any (λ x. test (f x)) xs
+any_map test f [] = refl
+any_map test f (x ∷ xs) = ap (λ b. test (f x) || b) (any_map test f xs)
+
+map_same : {A B : Type 0} (f g : A → B) (xs : List A) → ((x : A) → f x ≡ g x) → map f xs ≡ map g xs
+map_same f g [] same = refl
+map_same f g (x ∷ xs) same = ap (λ y. y ∷ map f xs) (same x) ∙ ap (λ ys. g x ∷ ys) (map_same f g xs same)
+
+-- a test of the names that a device gave, and of the files
+names_tell : {Z : Type 0} (test : List ℕ → Bool) (files : List File) (names : List (String Z))
+    → IsPermutation (names_of files) (map string_bytes names)
+    → list_any (λ name. test (string_bytes name)) names ≡ list_any (λ (f : File). test f.name) files
+names_tell test files names p =
+    sym (any_map test string_bytes names) ∙ sym (list_any-IsPermutation test (names_of files) (map string_bytes names) p)
+    ∙ any_map test name_in files
+
+-- a set of the bases of the names of both folders tells which items are held
+pub flags_found : {Z : Type 0} (account : List ℕ) (maildir : Maildir) (items : List Item) (flags : List Bool) (none some all : List ℕ → Bool)
+    (new cur : List (String Z)) → ((q : List ℕ) → none q ≡ false)
+    → ((q : List ℕ) → some q ≡ (none q || list_any (λ name. bytes_eq q (base (string_bytes name))) new))
+    → ((q : List ℕ) → all q ≡ (some q || list_any (λ name. bytes_eq q (base (string_bytes name))) cur))
+    → IsPermutation (names_of maildir.in_new) (map string_bytes new)
+    → IsPermutation (names_of maildir.in_cur) (map string_bytes cur)
+    → flags ≡ map (λ (item : Item). all (name_of account item.uid)) items → flags ≡ flags_of account maildir items
+flags_found {Z} account maildir items flags none some all new cur n s a in_new in_cur told =
+    told ∙ map_same (λ (item : Item). all (name_of account item.uid)) (λ (item : Item). is_held account maildir item.uid) items (λ item. held item.uid)
+  where
+    held : (uid : List ℕ) → all (name_of account uid) ≡ is_held account maildir uid
+    held uid =
+        let q = name_of account uid in
+        let test : List ℕ → Bool = λ name. bytes_eq q (base name) in
+        a q ∙ ap (λ b. b || list_any (λ (name : String Z). test (string_bytes name)) cur)
+        (s q ∙ ap (λ b. b || list_any (λ (name : String Z). test (string_bytes name)) new) (n q))
+        ∙ ap (λ b. b || list_any (λ (name : String Z). test (string_bytes name)) cur) (names_tell test maildir.in_new new in_new)
+        ∙ ap (λ b. list_any (λ (f : File). test f.name) maildir.in_new || b) (names_tell test maildir.in_cur cur in_cur)
+        ∙ sym (list_any-append (λ (f : File). names_id account uid f.name) maildir.in_new maildir.in_cur)
+
+-- ---- names in `new`
+
+-- an id is held where a file of `new` has its name
+pub held_where_in_new : (account uid : List ℕ) (maildir : Maildir) → IsAccountText account → IsInNew maildir (name_of account uid)
+    → is_held account maildir uid ≡ true
+held_where_in_new account uid maildir a c =
+    let q = name_of account uid in
+    let test : File → Bool = λ f. names_id account uid f.name in
+    let nothing : File = file [] [] in
+    let inside : c.0 < length maildir.in_new = omega (arith, c.1, length-map maildir.in_new name_in) in
+    let named : (get_or maildir.in_new c.0 nothing).name ≡ q = sym (get_or-map name_in maildir.in_new c.0 nothing q inside) ∙ c.2 in
+    let found : test (get_or maildir.in_new c.0 nothing) ≡ true =
+    ap (names_id account uid) named ∙ (bytes_eq-Decides q (base q)).1 (sym (base-name_of account uid a)) in
+    list_any-append test maildir.in_new maildir.in_cur
+    ∙ ap (λ b. b || list_any test maildir.in_cur) (list_any_at test maildir.in_new c.0 nothing inside found)

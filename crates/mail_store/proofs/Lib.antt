@@ -1,0 +1,5 @@
+pub mod Deliveries
+pub mod FusedCalls
+pub mod NameLemmas
+pub mod HeldLemmas
+pub mod MoveLemmas

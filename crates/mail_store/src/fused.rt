@@ -1,0 +1,308 @@
+//! A device that refuses every call after the first few.
+
+use super::fault::StoreFault;
+use super::flat_file::{Edges, FlatFile};
+use super::maildir::{Folder, MaildirDisk};
+
+/// A device that passes its first calls on to another one and then refuses every call, so that each
+/// place where a device can fail can be tried. It counts the refusals of both.
+#[derive(Drop)]
+pub struct Fused<D> {
+    device: D,
+    passes_left: u64,
+    takes_effect: bool,
+    refused: u64,
+}
+
+impl<D> Fused<D> {
+    ghost use Rattle.std.specs.Prelude.{◌≡◌, ◌+◌, ◌<◌, false};
+    ghost use Rattle.mail_store.specs.Refusals.{Tallies, greatest_count};
+    ghost use Rattle.mail_store.specs.Fuses.{device_of, passes_left, effect_is_due, refusals};
+
+    /// Passes `passes` calls that answer a `Result` on to the device, and refuses every later one.
+    /// Where `takes_effect` is true, the first call that it refuses itself takes effect
+    /// nevertheless: whole, if it is `settle` or `replace`, and on the first half of its bytes,
+    /// rounded down, if it is `append`.
+    pub fn new(device: D, passes: u64, takes_effect: bool) -> Fused<D>
+        ensures device { device_of result ≡ device }
+        ensures passes { passes_left result ≡ passes }
+        ensures effect { effect_is_due result ≡ takes_effect }
+        ensures refusals { refusals result ≡ 0 }
+    {
+        Fused {
+            device,
+            passes_left: passes,
+            takes_effect,
+            refused: 0,
+        }
+    }
+
+    /// The device.
+    pub fn device(&self) -> &D
+        ensures { result.now ≡ device_of self.now }
+    {
+        &self.device
+    }
+
+    /// Gives the device back.
+    pub fn into_inner(self) -> D
+        ensures { result ≡ device_of self }
+    {
+        let Fused {
+            device,
+            passes_left: _,
+            takes_effect: _,
+            refused: _,
+        } = self;
+        device
+    }
+
+    // Counts a refusal of the fuse's own, after which no other takes effect.
+    fn refuse(&mut self) -> StoreFault
+        requires { self.old.refused < greatest_count }
+        ensures fault { result ≡ StoreFault.Refused }
+        ensures counted { self.new ≡ record self.old { refused = self.old.refused + 1; takes_effect = false } }
+    {
+        self.takes_effect = false;
+        self.refused += 1;
+        StoreFault::Refused
+    }
+
+    // Counts what the device answered, where it refused.
+    fn tally<T>(&mut self, answer: Result<T, StoreFault>) -> Result<T, StoreFault>
+        requires { self.old.refused < greatest_count }
+        ensures answer { result ≡ answer }
+        ensures count { Tallies self.old.refused answer self.new.refused }
+        ensures others { self.new ≡ record self.old { refused = self.new.refused } }
+    {
+        match answer {
+            Err(StoreFault::Refused) => {
+                self.refused += 1;
+                Err(StoreFault::Refused)
+            }
+            other => other,
+        }
+    }
+}
+
+impl<D: MaildirDisk> MaildirDisk for Fused<D> {
+    ghost use Rattle.std.specs.Prelude.{◌≡◌, ◌<◌, IfErr, IsSome, Some, None};
+    ghost use Rattle.mail_store.specs.Refusals.{Tallies, IsDeviceFault, greatest_count};
+    ghost use Rattle.mail_store.specs.Maildirs.{File, IsInNew, Lists, Begins, Adds, Settles, dropped};
+    ghost use Rattle.mail_store.specs.Fuses.{device_of, passes_left, effect_is_due, refusals, fused_maildir, FusedKeeps, Burns, SettlesBehind};
+
+    ghost maildir = { λ f. fused_maildir D.maildir f };
+
+    ghost keeps_word = { λ f. FusedKeeps D.keeps_word f };
+
+    fn names(&mut self, folder: Folder) -> Result<Vec<String>, StoreFault>
+        ensures lists { FusedKeeps D.keeps_word self.new → FusedKeeps D.keeps_word self.old
+            × Lists (fused_maildir D.maildir self.old) folder result (fused_maildir D.maildir self.new) }
+        ensures fault { IfErr result IsDeviceFault }
+        ensures count { Tallies (refusals self.old) result (refusals self.new) }
+        ensures burns { refusals self.old < greatest_count → Burns (λ d. (D.maildir d).refused) self.old result self.new }
+    {
+        if self.refused == u64::MAX {
+            return Err(StoreFault::Refused);
+        }
+        if self.passes_left == 0 {
+            return Err(self.refuse());
+        }
+        self.passes_left -= 1;
+        let answer = self.device.names(folder);
+        self.tally(answer)
+    }
+
+    fn begin(&mut self, name: &str) -> Result<(), StoreFault>
+        requires { FusedKeeps D.keeps_word self.old → (D.maildir (device_of self.old)).begun ≡ None }
+        ensures begins { FusedKeeps D.keeps_word self.new → FusedKeeps D.keeps_word self.old
+            × Begins (fused_maildir D.maildir self.old) name.now result (fused_maildir D.maildir self.new) }
+        ensures fault { IfErr result IsDeviceFault }
+        ensures count { Tallies (refusals self.old) result (refusals self.new) }
+        ensures burns { refusals self.old < greatest_count → Burns (λ d. (D.maildir d).refused) self.old result self.new }
+    {
+        if self.refused == u64::MAX {
+            return Err(StoreFault::Refused);
+        }
+        if self.passes_left == 0 {
+            return Err(self.refuse());
+        }
+        self.passes_left -= 1;
+        let answer = self.device.begin(name);
+        self.tally(answer)
+    }
+
+    fn add(&mut self, bytes: &[u8]) -> Result<(), StoreFault>
+        requires { FusedKeeps D.keeps_word self.old → IsSome (D.maildir (device_of self.old)).begun }
+        ensures adds { FusedKeeps D.keeps_word self.new → FusedKeeps D.keeps_word self.old
+            × Adds (fused_maildir D.maildir self.old) bytes.now result (fused_maildir D.maildir self.new) }
+        ensures fault { IfErr result (λ e. e ≡ StoreFault.Refused) }
+        ensures count { Tallies (refusals self.old) result (refusals self.new) }
+        ensures burns { refusals self.old < greatest_count → Burns (λ d. (D.maildir d).refused) self.old result self.new }
+    {
+        if self.refused == u64::MAX {
+            return Err(StoreFault::Refused);
+        }
+        if self.passes_left == 0 {
+            return Err(self.refuse());
+        }
+        self.passes_left -= 1;
+        let answer = self.device.add(bytes);
+        self.tally(answer)
+    }
+
+    fn settle(&mut self) -> Result<(), StoreFault>
+        requires { FusedKeeps D.keeps_word self.old
+            → (f : File) × ((D.maildir (device_of self.old)).begun ≡ Some f)
+            × (IsInNew (D.maildir (device_of self.old)) f.name → ⊥) }
+        ensures settles { FusedKeeps D.keeps_word self.new → FusedKeeps D.keeps_word self.old
+            × Settles (fused_maildir D.maildir self.old) result (fused_maildir D.maildir self.new) }
+        ensures fault { IfErr result (λ e. e ≡ StoreFault.Refused) }
+        ensures count { Tallies (refusals self.old) result (refusals self.new) }
+        ensures burns { refusals self.old < greatest_count → Burns (λ d. (D.maildir d).refused) self.old result self.new }
+        ensures behind { passes_left self.old ≡ 0 → FusedKeeps D.keeps_word self.new
+            → SettlesBehind (effect_is_due self.old) (D.maildir (device_of self.old)) (D.maildir (device_of self.new)) }
+    {
+        if self.refused == u64::MAX {
+            return Err(StoreFault::Refused);
+        }
+        if self.passes_left > 0 {
+            self.passes_left -= 1;
+            let answer = self.device.settle();
+            return self.tally(answer);
+        }
+        if self.takes_effect {
+            let _ = self.device.settle();
+            return Err(self.refuse());
+        }
+        self.device.abandon();
+        Err(self.refuse())
+    }
+
+    fn abandon(&mut self) {
+        self.device.abandon();
+    }
+
+    fn failures(&self) -> u64 {
+        self.refused
+    }
+}
+
+impl<D: FlatFile> FlatFile for Fused<D> {
+    ghost use Rattle.std.specs.Prelude.{◌≡◌, ◌<◌, IfErr, IsSome};
+    ghost use Rattle.mail_store.specs.Refusals.{Tallies, IsDeviceFault, greatest_count};
+    ghost use Rattle.mail_store.specs.FlatFiles.{Loads, Measures, Appends, Cuts, Replaces, HasBytes};
+    ghost use Rattle.mail_store.specs.Fuses.{device_of, passes_left, effect_is_due, refusals, fused_file, FusedKeeps, Burns, AppendsBehind, ReplacesBehind};
+
+    ghost stored = { λ f. fused_file D.stored f };
+
+    ghost keeps_word = { λ f. FusedKeeps D.keeps_word f };
+
+    fn load(&mut self) -> Result<Vec<u8>, StoreFault>
+        ensures loads { FusedKeeps D.keeps_word self.new → FusedKeeps D.keeps_word self.old
+            × Loads (fused_file D.stored self.old) result (fused_file D.stored self.new) }
+        ensures fault { IfErr result IsDeviceFault }
+        ensures count { Tallies (refusals self.old) result (refusals self.new) }
+        ensures burns { refusals self.old < greatest_count → Burns (λ d. (D.stored d).refused) self.old result self.new }
+    {
+        if self.refused == u64::MAX {
+            return Err(StoreFault::Refused);
+        }
+        if self.passes_left == 0 {
+            return Err(self.refuse());
+        }
+        self.passes_left -= 1;
+        let answer = self.device.load();
+        self.tally(answer)
+    }
+
+    fn edges(&mut self) -> Result<Edges, StoreFault>
+        ensures measures { FusedKeeps D.keeps_word self.new → FusedKeeps D.keeps_word self.old
+            × Measures (fused_file D.stored self.old) result (fused_file D.stored self.new) }
+        ensures fault { IfErr result IsDeviceFault }
+        ensures count { Tallies (refusals self.old) result (refusals self.new) }
+        ensures burns { refusals self.old < greatest_count → Burns (λ d. (D.stored d).refused) self.old result self.new }
+    {
+        if self.refused == u64::MAX {
+            return Err(StoreFault::Refused);
+        }
+        if self.passes_left == 0 {
+            return Err(self.refuse());
+        }
+        self.passes_left -= 1;
+        let answer = self.device.edges();
+        self.tally(answer)
+    }
+
+    fn append(&mut self, bytes: &[u8]) -> Result<(), StoreFault>
+        requires { FusedKeeps D.keeps_word self.old → IsSome (D.stored (device_of self.old)).content }
+        ensures appends { FusedKeeps D.keeps_word self.new → FusedKeeps D.keeps_word self.old
+            × Appends (fused_file D.stored self.old) bytes.now result (fused_file D.stored self.new) }
+        ensures fault { IfErr result (λ e. e ≡ StoreFault.Refused) }
+        ensures count { Tallies (refusals self.old) result (refusals self.new) }
+        ensures burns { refusals self.old < greatest_count → Burns (λ d. (D.stored d).refused) self.old result self.new }
+        ensures behind { passes_left self.old ≡ 0 → FusedKeeps D.keeps_word self.new
+            → AppendsBehind (effect_is_due self.old) (D.stored (device_of self.old)) bytes.now (D.stored (device_of self.new)) }
+    {
+        if self.refused == u64::MAX {
+            return Err(StoreFault::Refused);
+        }
+        if self.passes_left > 0 {
+            self.passes_left -= 1;
+            let answer = self.device.append(bytes);
+            return self.tally(answer);
+        }
+        if self.takes_effect {
+            let _ = self.device.append(&bytes[..bytes.len() / 2]);
+            return Err(self.refuse());
+        }
+        Err(self.refuse())
+    }
+
+    fn cut_to(&mut self, len: u64) -> Result<(), StoreFault>
+        requires { FusedKeeps D.keeps_word self.old → HasBytes (D.stored (device_of self.old)) len }
+        ensures cuts { FusedKeeps D.keeps_word self.new → FusedKeeps D.keeps_word self.old
+            × Cuts (fused_file D.stored self.old) len result (fused_file D.stored self.new) }
+        ensures fault { IfErr result (λ e. e ≡ StoreFault.Refused) }
+        ensures count { Tallies (refusals self.old) result (refusals self.new) }
+        ensures burns { refusals self.old < greatest_count → Burns (λ d. (D.stored d).refused) self.old result self.new }
+    {
+        if self.refused == u64::MAX {
+            return Err(StoreFault::Refused);
+        }
+        if self.passes_left == 0 {
+            return Err(self.refuse());
+        }
+        self.passes_left -= 1;
+        let answer = self.device.cut_to(len);
+        self.tally(answer)
+    }
+
+    fn replace(&mut self, bytes: &[u8]) -> Result<(), StoreFault>
+        ensures replaces { FusedKeeps D.keeps_word self.new → FusedKeeps D.keeps_word self.old
+            × Replaces (fused_file D.stored self.old) bytes.now result (fused_file D.stored self.new) }
+        ensures fault { IfErr result (λ e. e ≡ StoreFault.Refused) }
+        ensures count { Tallies (refusals self.old) result (refusals self.new) }
+        ensures burns { refusals self.old < greatest_count → Burns (λ d. (D.stored d).refused) self.old result self.new }
+        ensures behind { passes_left self.old ≡ 0 → FusedKeeps D.keeps_word self.new
+            → ReplacesBehind (effect_is_due self.old) (D.stored (device_of self.old)) bytes.now (D.stored (device_of self.new)) }
+    {
+        if self.refused == u64::MAX {
+            return Err(StoreFault::Refused);
+        }
+        if self.passes_left > 0 {
+            self.passes_left -= 1;
+            let answer = self.device.replace(bytes);
+            return self.tally(answer);
+        }
+        if self.takes_effect {
+            let _ = self.device.replace(bytes);
+            return Err(self.refuse());
+        }
+        Err(self.refuse())
+    }
+
+    fn failures(&self) -> u64 {
+        self.refused
+    }
+}

@@ -1,0 +1,77 @@
+//! Devices that keep a Maildir (<https://cr.yp.to/proto/maildir.html>).
+
+use super::fault::StoreFault;
+
+/// A folder of a Maildir that readers look into.
+#[derive(Clone, Copy, Debug, PartialEq, Eq)]
+pub enum Folder {
+    /// Files that no reader has seen.
+    New,
+    /// Files that a reader has taken.
+    Cur,
+}
+
+/// A device that keeps a Maildir, and that can refuse any call.
+///
+/// A file is begun in `tmp`, written there by any number of `add`, and then settled: only then it
+/// stands in `new`, whole. No other call changes `new` or `cur`.
+pub trait MaildirDisk {
+    ghost use Rattle.std.specs.Prelude.{◌≡◌, IfErr, IsSome, Some, None};
+    ghost use Rattle.mail_store.specs.Refusals.{Tallies, IsDeviceFault};
+    ghost use Rattle.mail_store.specs.Maildirs.{Maildir, File, IsInNew, Lists, Begins, Adds, Settles, dropped};
+
+    // What is known of the Maildir.
+    ghost maildir: { Self → Maildir };
+
+    // The premise: so far the device did what this trait says, and its count is below its greatest
+    // value. Where it holds after a call it held before it.
+    ghost keeps_word: { Self → Type 0 };
+
+    /// The names of the files of a folder, each once, in any order. Missing where the folder isn't
+    /// there, else Refused.
+    fn names(&mut self, folder: Folder) -> Result<Vec<String>, StoreFault>
+        ensures lists { keeps_word self.new → keeps_word self.old
+            × Lists (maildir self.old) folder result (maildir self.new) }
+        ensures fault { IfErr result IsDeviceFault }
+        ensures count { Tallies (maildir self.old).refused result (maildir self.new).refused };
+
+    /// Begins an empty file of this name in `tmp`; an older file of that name there is emptied.
+    /// Missing where `tmp` isn't there, else Refused; after a fault none is begun. `abandon` makes
+    /// sure that none is begun.
+    fn begin(&mut self, name: &str) -> Result<(), StoreFault>
+        requires { keeps_word self.old → (maildir self.old).begun ≡ None }
+        ensures begins { keeps_word self.new → keeps_word self.old
+            × Begins (maildir self.old) name.now result (maildir self.new) }
+        ensures fault { IfErr result IsDeviceFault }
+        ensures count { Tallies (maildir self.old).refused result (maildir self.new).refused };
+
+    /// Puts bytes behind those of the file begun. The only fault is Refused: the file is then still
+    /// begun, with any bytes. A good `begin` makes sure that one is begun.
+    fn add(&mut self, bytes: &[u8]) -> Result<(), StoreFault>
+        requires { keeps_word self.old → IsSome (maildir self.old).begun }
+        ensures adds { keeps_word self.new → keeps_word self.old
+            × Adds (maildir self.old) bytes.now result (maildir self.new) }
+        ensures fault { IfErr result (λ e. e ≡ StoreFault.Refused) }
+        ensures count { Tallies (maildir self.old).refused result (maildir self.new).refused };
+
+    /// Puts the file begun into `new`. The only fault is Refused: the file is then not in `new`, or
+    /// in `new` and whole. Either way none is begun afterwards. `names` tells whether a name is in
+    /// `new`.
+    fn settle(&mut self) -> Result<(), StoreFault>
+        requires { keeps_word self.old
+            → (f : File) × ((maildir self.old).begun ≡ Some f) × (IsInNew (maildir self.old) f.name → ⊥) }
+        ensures settles { keeps_word self.new → keeps_word self.old
+            × Settles (maildir self.old) result (maildir self.new) }
+        ensures fault { IfErr result (λ e. e ≡ StoreFault.Refused) }
+        ensures count { Tallies (maildir self.old).refused result (maildir self.new).refused };
+
+    /// Gives up the file begun, if there is one.
+    fn abandon(&mut self)
+        ensures drops { keeps_word self.new → keeps_word self.old
+            × (maildir self.new ≡ dropped (maildir self.old)) }
+        ensures count { (maildir self.new).refused ≡ (maildir self.old).refused };
+
+    /// How many calls were refused.
+    fn failures(&self) -> u64
+        ensures { result ≡ (maildir self.now).refused };
+}
