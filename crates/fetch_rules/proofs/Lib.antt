@@ -1,2 +1,6 @@
+mod IdLemmas
 mod ListingLemmas
+mod MergeLemmas
+mod NewIdLemmas
 mod NumberingLemmas
+mod RecordLemmas

@@ -1,3 +1,4 @@
 pub mod LegalId
 pub mod Listing
 pub mod Numbering
+pub mod Record

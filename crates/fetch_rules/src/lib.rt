@@ -6,8 +6,10 @@
 pub mod legal_id;
 pub mod listing;
 mod numbering;
+pub mod seen;
 pub mod settings;
 
 pub use legal_id::is_legal_id;
 pub use listing::{Listing, ListingFault, MESSAGE_LIMIT, ScanRow, UidRow, have_legal_ids};
+pub use seen::Seen;
 pub use settings::{Dest, Settings};
