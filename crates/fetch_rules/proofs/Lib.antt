@@ -3,4 +3,6 @@ mod ListingLemmas
 mod MergeLemmas
 mod NewIdLemmas
 mod NumberingLemmas
+mod NumeralLemmas
+mod RecordFileLemmas
 mod RecordLemmas

@@ -5,9 +5,49 @@ ghost use Rattle.std.specs.Bool.{OnTrue, OnFalse};
 ghost use Rattle.fetch_rules.specs.LegalId.{IsLegalId};
 ghost use Rattle.fetch_rules.specs.Record.{IsRow, IsRecord, is_of, has_row, is_delivered, first_seen_of, marked, with_held, new_ids, undelivered, merged};
 
+mod fields;
+mod file;
+
 use crate::listing::Listing;
-use std::alloc::{AllocError, Global};
+use std::alloc::{AllocError, AllocFailed, Global};
 use std::marker::Model;
+use thiserror::Error;
+
+/// Why bytes are no record. Lines are counted from 1, and those past 4,294,967,295 give that number.
+#[derive(Clone, Copy, Debug, PartialEq, Eq, Error)]
+pub enum SeenFault {
+    /// The header's line is missing or another.
+    #[error("not a record of this version")]
+    BadHeader,
+    /// This line is no row.
+    #[error("line {0} is no row")]
+    BadRow(u32),
+    /// The row of this line repeats an id.
+    #[error("line {0} repeats an id")]
+    RepeatedId(u32),
+    #[error("out of memory")]
+    NoMemory,
+}
+
+impl From<AllocError> for SeenFault {
+    ghost use Rattle.fetch_rules.specs.declared.seen.SeenFault.TheVariants.{NoMemory};
+
+    ghost from_gives = { λ _ fault. fault ≡ NoMemory };
+
+    fn from(_error: AllocError) -> SeenFault {
+        SeenFault::NoMemory
+    }
+}
+
+impl<T: Drop> From<AllocFailed<T>> for SeenFault {
+    ghost use Rattle.fetch_rules.specs.declared.seen.SeenFault.TheVariants.{NoMemory};
+
+    ghost from_gives = { λ _ fault. fault ≡ NoMemory };
+
+    fn from(_error: AllocFailed<T>) -> SeenFault {
+        SeenFault::NoMemory
+    }
+}
 
 /// What is known of one message.
 #[derive(Drop)]
