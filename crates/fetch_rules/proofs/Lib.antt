@@ -4,5 +4,6 @@ mod MergeLemmas
 mod NewIdLemmas
 mod NumberingLemmas
 mod NumeralLemmas
+mod PlanLemmas
 mod RecordFileLemmas
 mod RecordLemmas
