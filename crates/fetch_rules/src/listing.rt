@@ -232,60 +232,10 @@ impl Listing {
         requires { i < length self.now }
         ensures { HoldsAt (λ item. result ≡ item.size) self.now i }
     {
-        let item = &self.items[i as usize];
-        item.size
+        let listed = &self.items[i as usize];
+        listed.size
     }
 }
 
 #[cfg(test)]
-mod tests {
-    use super::*;
-    use std::test::Fail;
-
-    fn uid_row(alloc: Global, number: u32, uid: &[u8]) -> Result<UidRow, AllocError> {
-        Ok(UidRow {
-            number,
-            uid: Vec::from_slice(alloc, uid)?,
-        })
-    }
-
-    #[test]
-    fn joins_rows_in_any_order(rt: HostRuntime) -> Result<(), Fail> {
-        let alloc = rt.alloc();
-        let uids = [uid_row(alloc, 2, b"b")?, uid_row(alloc, 1, b"a")?];
-        let sizes = [
-            ScanRow { number: 1, size: 5 },
-            ScanRow { number: 2, size: 6 },
-        ];
-        assert!(rt; have_legal_ids(&uids));
-        let listing = Listing::join(alloc, 2, &uids, &sizes)?;
-        assert_eq!(rt; listing.len(), 2);
-        assert!(rt; !listing.is_empty());
-        assert_eq!(rt; listing.uid(0), b"a".as_slice());
-        assert_eq!(rt; listing.size(0), 5);
-        assert_eq!(rt; listing.uid(1), b"b".as_slice());
-        assert_eq!(rt; listing.size(1), 6);
-        Ok(())
-    }
-
-    #[test]
-    fn refuses_rows_that_disagree(rt: HostRuntime) -> Result<(), Fail> {
-        let alloc = rt.alloc();
-        let uids = [uid_row(alloc, 1, b"a")?, uid_row(alloc, 3, b"b")?];
-        let sizes = [
-            ScanRow { number: 1, size: 5 },
-            ScanRow { number: 2, size: 5 },
-        ];
-        assert!(rt; have_legal_ids(&uids));
-        let joined = Listing::join(alloc, 2, &uids, &sizes);
-        assert_eq!(rt; joined.err(), Some(ListingFault::Disagree));
-        Ok(())
-    }
-
-    #[test]
-    fn refuses_too_many_before_it_looks_at_a_row(rt: HostRuntime) -> Result<(), Fail> {
-        let joined = Listing::join(rt.alloc(), 100_001, &[], &[]);
-        assert_eq!(rt; joined.err(), Some(ListingFault::TooMany));
-        Ok(())
-    }
-}
+pub(crate) mod tests;

@@ -212,3 +212,6 @@ impl Seen {
         Ok(added || marked)
     }
 }
+
+#[cfg(test)]
+mod tests;

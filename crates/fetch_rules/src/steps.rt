@@ -94,3 +94,6 @@ pub fn plan(
     }
     Ok(steps)
 }
+
+#[cfg(test)]
+mod tests;
