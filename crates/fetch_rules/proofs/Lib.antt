@@ -1,2 +1,9 @@
+mod IdLemmas
 mod ListingLemmas
+mod MergeLemmas
+mod NewIdLemmas
 mod NumberingLemmas
+mod NumeralLemmas
+mod PlanLemmas
+mod RecordFileLemmas
+mod RecordLemmas

@@ -6,8 +6,12 @@
 pub mod legal_id;
 pub mod listing;
 mod numbering;
+pub mod seen;
 pub mod settings;
+pub mod steps;
 
 pub use legal_id::is_legal_id;
 pub use listing::{Listing, ListingFault, MESSAGE_LIMIT, ScanRow, UidRow, have_legal_ids};
+pub use seen::{Seen, SeenFault};
 pub use settings::{Dest, Settings};
+pub use steps::{Step, plan};

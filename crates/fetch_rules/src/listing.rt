@@ -1,9 +1,10 @@
 //! The listing of a maildrop: what UIDL and LIST answer, joined by message number (RFC 1939,
 //! sections 5 and 7).
 
-ghost use Rattle.std.specs.Prelude.{◌≡◌, ◌↔◌, ◌<◌, ◌≤◌, [], length, map, All, HoldsAt, IfOk, IsTrue};
+ghost use Rattle.std.specs.Prelude.{◌≡◌, ◌↔◌, ◌<◌, ◌≤◌, [], length, map, ◌+◌, bytes_eq, All, HoldsAt, IfOk, IsTrue};
 ghost use Rattle.fetch_rules.specs.LegalId.{IsLegalId};
 ghost use Rattle.fetch_rules.specs.Listing.{AreAt};
+ghost use Rattle.fetch_rules.specs.Wanted.{has_item, is_first, is_last};
 
 use crate::legal_id::is_legal_id;
 use crate::numbering::places_in_order;
@@ -77,6 +78,20 @@ impl Model for Item {
     ghost view = { λ item. record { uid = item.uid.items; size = item.size } };
 
     ghost invariant = { λ item. IsLegalId item.uid.items };
+}
+
+impl Item {
+    fn is_of(&self, uid: &[u8]) -> bool
+        ensures { result ≡ bytes_eq uid.now self.now.uid }
+    {
+        uid == self.uid.as_slice()
+    }
+}
+
+fn has_item(items: &[Item], uid: &[u8]) -> bool
+    ensures { result ≡ has_item items.now uid.now }
+{
+    items.iter().any(|item| item.is_of(uid))
 }
 
 /// The messages of a maildrop, numbered from 1: each has a legal unique-id and its listed size.
@@ -194,65 +209,33 @@ impl Listing {
         &item.uid
     }
 
+    /// Whether no message before that of number `i + 1` has its unique-id. Searches them from the
+    /// front.
+    pub(crate) fn is_first(&self, i: u32) -> bool
+        requires { i < length self.now }
+        ensures { HoldsAt (λ item. result ≡ is_first self.now (i + 1, item)) self.now i }
+    {
+        !has_item(&self.items[..i as usize], self.uid(i))
+    }
+
+    /// Whether no message behind that of number `i + 1` has its unique-id. Searches them from the
+    /// front.
+    pub(crate) fn is_last(&self, i: u32) -> bool
+        requires { i < length self.now }
+        ensures { HoldsAt (λ item. result ≡ is_last self.now (i + 1, item)) self.now i }
+    {
+        !has_item(&self.items[i as usize + 1..], self.uid(i))
+    }
+
     /// The listed size, in octets, of the message of number `i + 1`.
     pub fn size(&self, i: u32) -> u64
         requires { i < length self.now }
         ensures { HoldsAt (λ item. result ≡ item.size) self.now i }
     {
-        let item = &self.items[i as usize];
-        item.size
+        let listed = &self.items[i as usize];
+        listed.size
     }
 }
 
 #[cfg(test)]
-mod tests {
-    use super::*;
-    use std::test::Fail;
-
-    fn uid_row(alloc: Global, number: u32, uid: &[u8]) -> Result<UidRow, AllocError> {
-        Ok(UidRow {
-            number,
-            uid: Vec::from_slice(alloc, uid)?,
-        })
-    }
-
-    #[test]
-    fn joins_rows_in_any_order(rt: HostRuntime) -> Result<(), Fail> {
-        let alloc = rt.alloc();
-        let uids = [uid_row(alloc, 2, b"b")?, uid_row(alloc, 1, b"a")?];
-        let sizes = [
-            ScanRow { number: 1, size: 5 },
-            ScanRow { number: 2, size: 6 },
-        ];
-        assert!(rt; have_legal_ids(&uids));
-        let listing = Listing::join(alloc, 2, &uids, &sizes)?;
-        assert_eq!(rt; listing.len(), 2);
-        assert!(rt; !listing.is_empty());
-        assert_eq!(rt; listing.uid(0), b"a".as_slice());
-        assert_eq!(rt; listing.size(0), 5);
-        assert_eq!(rt; listing.uid(1), b"b".as_slice());
-        assert_eq!(rt; listing.size(1), 6);
-        Ok(())
-    }
-
-    #[test]
-    fn refuses_rows_that_disagree(rt: HostRuntime) -> Result<(), Fail> {
-        let alloc = rt.alloc();
-        let uids = [uid_row(alloc, 1, b"a")?, uid_row(alloc, 3, b"b")?];
-        let sizes = [
-            ScanRow { number: 1, size: 5 },
-            ScanRow { number: 2, size: 5 },
-        ];
-        assert!(rt; have_legal_ids(&uids));
-        let joined = Listing::join(alloc, 2, &uids, &sizes);
-        assert_eq!(rt; joined.err(), Some(ListingFault::Disagree));
-        Ok(())
-    }
-
-    #[test]
-    fn refuses_too_many_before_it_looks_at_a_row(rt: HostRuntime) -> Result<(), Fail> {
-        let joined = Listing::join(rt.alloc(), 100_001, &[], &[]);
-        assert_eq!(rt; joined.err(), Some(ListingFault::TooMany));
-        Ok(())
-    }
-}
+pub(crate) mod tests;

@@ -1,0 +1,183 @@
+-- What a merge makes of the rows.
+use Rattle.std.proofs.Common.{◌≡◌, ◌≢◌, ◌⊎◌, ℕ, ◌<◌, ◌≤◌, ◌+◌, List, [], ◌∷◌, ◌++◌, Bool, true, false, cond, ◌&&◌, ◌||◌, length, get_or, take, map, refl, sym, ◌∙◌, ap, subst, inl, inr, arith}
+use Rattle.std.specs.Prelude.{bytes_eq, zip, count_by}
+use Rattle.std.specs.List.{list_any}
+use Rattle.std.specs.Bool.{OnTrue, OnFalse}
+use Rattle.std.proofs.lemmas.List.{take_more, take_all, map-append}
+use Rattle.std.proofs.lemmas.List.Folds.{list_any-append}
+use Rattle.std.proofs.lemmas.List.Sums.{sum_by-cons}
+use Rattle.std.proofs.lemmas.Slice.Zip.{length-zip, get_or-zip}
+use Rattle.fetch_rules.proofs.IdLemmas.{true_is_false}
+use Rattle.fetch_rules.proofs.RecordLemmas.{or_false, with_delivered-false}
+use Rattle.fetch_rules.specs.Listing.{Item}
+use Rattle.fetch_rules.specs.Record.{Row, IsRecord, is_of, with_delivered, marked, is_held, with_held, new_ids, undelivered, merged}
+
+-- a held item with this id
+abbrev pub stands_for : List ℕ → Item × Bool → Bool
+stands_for uid flagged = flagged.1 && bytes_eq flagged.0.uid uid
+
+-- the rows, with delivered set for the ids of these items where they are held
+abbrev pub with_flagged : List (Item × Bool) → List Row → List Row
+with_flagged flagged rows = map (λ row. with_delivered (list_any (stands_for row.uid) flagged) row) rows
+
+pub with_flagged-none : (rows : List Row) → rows ≡ with_flagged [] rows
+with_flagged-none [] = refl
+with_flagged-none (row ∷ rest) = ap (λ (first : Row). first ∷ rest) (sym (with_delivered-false row)) ∙ ap (λ (others : List Row). with_delivered false row ∷ others) (with_flagged-none rest)
+
+or_assoc : (a b c : Bool) → (a || b) || c ≡ a || (b || c)
+or_assoc true b c = refl
+or_assoc false b c = refl
+
+-- one more flagged item
+any_more : (uid : List ℕ) (flagged : List (Item × Bool)) (next : Item × Bool) → list_any (stands_for uid) (flagged ++ next ∷ []) ≡ list_any (stands_for uid) flagged || stands_for uid next
+any_more uid flagged next = list_any-append (stands_for uid) flagged (next ∷ []) ∙ ap (λ (b : Bool). list_any (stands_for uid) flagged || b) (or_false (stands_for uid next))
+
+pub with_flagged-held : (rows : List Row) (flagged : List (Item × Bool)) (item : Item) → marked (with_flagged flagged rows) item.uid ≡ with_flagged (flagged ++ (item, true) ∷ []) rows
+with_flagged-held [] flagged item = refl
+with_flagged-held (row ∷ rest) flagged item =
+    ap (λ (b : Bool). record row { delivered = b } ∷ marked (with_flagged flagged rest) item.uid)
+    (or_assoc row.delivered (list_any (stands_for row.uid) flagged) (bytes_eq item.uid row.uid) ∙ ap (λ (b : Bool). row.delivered || b) (sym (any_more row.uid flagged (item, true))))
+    ∙ ap (λ (others : List Row). with_delivered (list_any (stands_for row.uid) (flagged ++ (item, true) ∷ [])) row ∷ others) (with_flagged-held rest flagged item)
+
+pub with_flagged-free : (rows : List Row) (flagged : List (Item × Bool)) (item : Item) → with_flagged flagged rows ≡ with_flagged (flagged ++ (item, false) ∷ []) rows
+with_flagged-free [] flagged item = refl
+with_flagged-free (row ∷ rest) flagged item =
+    ap (λ (b : Bool). with_delivered b row ∷ with_flagged flagged rest) (sym (any_more row.uid flagged (item, false) ∙ or_false (list_any (stands_for row.uid) flagged)))
+    ∙ ap (λ (others : List Row). with_delivered (list_any (stands_for row.uid) (flagged ++ (item, false) ∷ [])) row ∷ others) (with_flagged-free rest flagged item)
+
+-- how many rows are delivered: a mark that changes a row makes them more
+abbrev pub delivered_count : List Row → ℕ
+delivered_count rows = count_by (λ row. row.delivered) rows
+
+delivered_cases : (before also : Bool) → ((before || also) ≡ before) ⊎ ((before ≡ false) × ((before || also) ≡ true))
+delivered_cases true also = inl refl
+delivered_cases false true = inr (refl, refl)
+delivered_cases false false = inl refl
+
+delivered_count-cons : (row : Row) (rest : List Row) (b : Bool) → row.delivered ≡ b → delivered_count (row ∷ rest) ≡ cond b 1 0 + delivered_count rest
+delivered_count-cons row rest b is = sum_by-cons (λ (r : Row). cond r.delivered 1 0) row rest ∙ ap (λ (d : Bool). cond d 1 0 + delivered_count rest) is
+
+pub marked_cases : (rows : List Row) (uid : List ℕ) → (marked rows uid ≡ rows) ⊎ (delivered_count rows < delivered_count (marked rows uid))
+marked_cases [] uid = inl refl
+marked_cases (row ∷ rest) uid = elim (delivered_cases row.delivered (is_of uid row)) [
+  | inl same ↦ elim (marked_cases rest uid) [
+    | inl none ↦ inl (ap (λ (b : Bool). record row { delivered = b } ∷ marked rest uid) same ∙ ap (λ (others : List Row). row ∷ others) none)
+    | inr more ↦ inr (omega (
+      arith,
+      more,
+      delivered_count-cons row rest row.delivered refl,
+      delivered_count-cons (with_delivered (is_of uid row) row) (marked rest uid) row.delivered same,
+    ))
+  ]
+  | inr (before, after) ↦ elim (marked_cases rest uid) [
+    | inl none ↦ inr (omega (
+      arith,
+      ap delivered_count none,
+      delivered_count-cons row rest false before,
+      delivered_count-cons (with_delivered (is_of uid row) row) (marked rest uid) true after,
+    ))
+    | inr more ↦ inr (omega (
+      arith,
+      more,
+      delivered_count-cons row rest false before,
+      delivered_count-cons (with_delivered (is_of uid row) row) (marked rest uid) true after,
+    ))
+  ]
+]
+
+-- a loop over the flagged items: the ids of these are marked
+pub record HasMarked (flagged : List (Item × Bool)) (before : List Row) (changed : Bool) (rows : List Row) : Type 0 where
+  pub rows_are : rows ≡ with_flagged flagged before
+  pub more : changed ≡ true → delivered_count before < delivered_count rows
+  pub same : changed ≡ false → rows ≡ before
+  pub good : IsRecord rows
+
+pub HasMarked-none : (before : List Row) → IsRecord before → HasMarked [] before false before
+HasMarked-none before good = record {
+  rows_are = with_flagged-none before;
+  more = λ e. absurd (true_is_false (sym e));
+  same = λ _. refl;
+  good = good;
+}
+
+pub HasMarked-free : (flagged : List (Item × Bool)) (before : List Row) (changed : Bool) (rows : List Row) (item : Item) → HasMarked flagged before changed rows → HasMarked (flagged ++ (item, false) ∷ []) before changed rows
+HasMarked-free flagged before changed rows item has = record {
+  rows_are = has.rows_are ∙ with_flagged-free before flagged item;
+  more = has.more;
+  same = has.same;
+  good = has.good;
+}
+
+pub HasMarked-held : (flagged : List (Item × Bool)) (before : List Row) (changed : Bool) (rows : List Row) (item : Item) (now_changed : Bool) (new : List Row)
+    → HasMarked flagged before changed rows → new ≡ marked rows item.uid → OnTrue now_changed (new ≢ rows) → OnFalse now_changed (new ≡ rows) → IsRecord new
+    → HasMarked (flagged ++ (item, true) ∷ []) before (changed || now_changed) new
+HasMarked-held flagged before changed rows item now_changed new has new_is differs agrees good = record {
+  rows_are = new_is ∙ ap (λ (xs : List Row). marked xs item.uid) has.rows_are ∙ with_flagged-held before flagged item;
+  more = more changed now_changed has.more has.same differs agrees;
+  same = same changed now_changed has.same agrees;
+  good = good;
+}
+  where
+    grown : new ≢ rows → delivered_count rows < delivered_count new
+    grown other = elim (marked_cases rows item.uid) [
+      | inl none ↦ absurd (other (new_is ∙ none))
+      | inr lt ↦ omega (arith, lt, ap delivered_count new_is)
+    ]
+
+    more : (a b : Bool) → (a ≡ true → delivered_count before < delivered_count rows) → (a ≡ false → rows ≡ before) → OnTrue b (new ≢ rows) → OnFalse b (new ≡ rows) → (a || b) ≡ true → delivered_count before < delivered_count new
+    more true true h s d e _ = omega (arith, h refl, grown d)
+    more true false h s d e _ = omega (arith, h refl, ap delivered_count e)
+    more false true h s d e _ = omega (arith, ap delivered_count (s refl), grown d)
+    more false false h s d e contrary = absurd (true_is_false (sym contrary))
+
+    same : (a b : Bool) → (a ≡ false → rows ≡ before) → OnFalse b (new ≡ rows) → (a || b) ≡ false → new ≡ before
+    same true b s e contrary = absurd (true_is_false contrary)
+    same false true s e contrary = absurd (true_is_false contrary)
+    same false false s e _ = e ∙ s refl
+
+-- the next flagged item
+pub flagged_more : (listing : List Item) (held : List Bool) (i : ℕ) (d : Item) (e : Bool) → length held ≡ length listing → i < length listing → take (i + 1) (zip listing held) ≡ take i (zip listing held) ++ (get_or listing i d, get_or held i e) ∷ []
+flagged_more listing held i d e same inside =
+    take_more (zip listing held) i (d, e) (omega (arith, length-zip listing held))
+    ∙ ap (λ (next : Item × Bool). take i (zip listing held) ++ next ∷ []) (get_or-zip listing held i (d, e) inside (omega arith))
+
+pub HasMarked-next_held : (listing : List Item) (held : List Bool) (i : ℕ) (uid : List ℕ) (before : List Row) (changed : Bool) (rows : List Row) (now_changed : Bool) (new : List Row)
+    → length held ≡ length listing → i < length listing → get_or held i false ≡ true → ((d : Item) → uid ≡ (get_or listing i d).uid)
+    → HasMarked (take i (zip listing held)) before changed rows → new ≡ marked rows uid → OnTrue now_changed (new ≢ rows) → OnFalse now_changed (new ≡ rows) → IsRecord new
+    → HasMarked (take (i + 1) (zip listing held)) before (changed || now_changed) new
+HasMarked-next_held listing held i uid before changed rows now_changed new same inside is at has new_is differs agrees good =
+    subst (λ (flagged : List (Item × Bool)). HasMarked flagged before (changed || now_changed) new)
+    (ap (λ (b : Bool). take i (zip listing held) ++ (get_or listing i nobody, b) ∷ []) (sym is) ∙ sym (flagged_more listing held i nobody false same inside))
+    (HasMarked-held _ before changed rows (get_or listing i nobody) now_changed new has (new_is ∙ ap (marked rows) (at nobody)) differs agrees good)
+  where
+    nobody : Item
+    nobody = record { uid = []; size = 0 }
+
+pub HasMarked-next_free : (listing : List Item) (held : List Bool) (i : ℕ) (before : List Row) (changed : Bool) (rows : List Row)
+    → length held ≡ length listing → i < length listing → get_or held i false ≡ false
+    → HasMarked (take i (zip listing held)) before changed rows → HasMarked (take (i + 1) (zip listing held)) before changed rows
+HasMarked-next_free listing held i before changed rows same inside is has =
+    subst (λ (flagged : List (Item × Bool)). HasMarked flagged before changed rows)
+    (ap (λ (b : Bool). take i (zip listing held) ++ (get_or listing i nobody, b) ∷ []) (sym is) ∙ sym (flagged_more listing held i nobody false same inside))
+    (HasMarked-free _ before changed rows (get_or listing i nobody) has)
+  where
+    nobody : Item
+    nobody = record { uid = []; size = 0 }
+
+pub HasMarked-all : (listing : List Item) (held : List Bool) (i : ℕ) (before : List Row) (changed : Bool) (rows : List Row) → length listing ≤ i
+    → HasMarked (take i (zip listing held)) before changed rows → rows ≡ with_held listing held before
+HasMarked-all listing held i before changed rows past has =
+    has.rows_are ∙ ap (λ (flagged : List (Item × Bool)). with_flagged flagged before) (take_all i (zip listing held) (omega (arith, length-zip listing held)))
+
+-- new rows of held ids are delivered
+pub with_held-undelivered : (listing : List Item) (held : List Bool) (now : ℕ) (ids : List (List ℕ))
+    → with_held listing held (map (undelivered now) ids) ≡ map (λ uid. record { uid = uid; first_seen = now; delivered = is_held listing held uid }) ids
+with_held-undelivered listing held now [] = refl
+with_held-undelivered listing held now (id ∷ ids) = ap (λ (others : List Row). record { uid = id; first_seen = now; delivered = is_held listing held id } ∷ others) (with_held-undelivered listing held now ids)
+
+pub merged_from_steps : (rows : List Row) (listing : List Item) (held : List Bool) (now : ℕ) (added longer new : List Row)
+    → added ≡ map (undelivered now) (new_ids rows listing) → longer ≡ rows ++ added → new ≡ with_held listing held longer → new ≡ merged rows listing held now
+merged_from_steps rows listing held now added longer new added_is longer_is new_is =
+    new_is ∙ ap (with_held listing held) (longer_is ∙ ap (λ (xs : List Row). rows ++ xs) added_is)
+    ∙ map-append (λ (row : Row). with_delivered (is_held listing held row.uid) row) rows (map (undelivered now) (new_ids rows listing))
+    ∙ ap (λ (xs : List Row). with_held listing held rows ++ xs) (with_held-undelivered listing held now (new_ids rows listing))

@@ -1,0 +1,203 @@
+-- The ids of a listing that have no row yet.
+use Rattle.std.proofs.Common.{◌≡◌, ◌≢◌, ℕ, ◌<◌, ◌+◌, List, [], ◌∷◌, ◌++◌, Bool, true, false, not, ◌||◌, length, get_or, take, map, refl, sym, ◌∙◌, ap, subst, append_assoc, inl, inr}
+use Rattle.std.specs.Prelude.{bytes_eq, filter, AllPairs, All}
+use Rattle.std.specs.List.{list_any}
+use Rattle.std.proofs.lemmas.Bool.{cases_Bool, cond-true, cond-false, or_left, or_right, or_from, or_parts, or_cases, not_from_true, not_from_false, false_from_ne_true}
+use Rattle.std.proofs.lemmas.List.{take_more, map-append, append-nil}
+use Rattle.std.proofs.lemmas.List.Elements.{filter-append, All-append}
+use Rattle.std.proofs.lemmas.List.Folds.{list_any-append, list_any_at}
+use Rattle.std.proofs.lemmas.List.Quantifiers.{all_pairs_push}
+use Rattle.fetch_rules.proofs.IdLemmas.{same_from_test, test_from_same, test_from_other, cases_id, true_is_false}
+use Rattle.fetch_rules.specs.Listing.{Item}
+use Rattle.fetch_rules.specs.Record.{Row, IsRow, IsRecord, is_of, has_row, distinct_ids, new_ids, undelivered}
+
+-- whether an id is among these
+abbrev pub is_among : List (List ℕ) → List ℕ → Bool
+is_among ids uid = list_any (bytes_eq uid) ids
+
+pub filter_keeps : {X : Type 0} (p : X → Bool) (x : X) (xs : List X) → p x ≡ true → filter p (x ∷ xs) ≡ x ∷ filter p xs
+filter_keeps p x xs hit = cond-true (p x) _ _ hit
+
+pub filter_leaves : {X : Type 0} (p : X → Bool) (x : X) (xs : List X) → p x ≡ false → filter p (x ∷ xs) ≡ filter p xs
+filter_leaves p x xs miss = cond-false (p x) _ _ miss
+
+-- a filter that an id passes doesn't take it away
+pub is_among-filter : (p : List ℕ → Bool) (uid : List ℕ) (ids : List (List ℕ)) → p uid ≡ true → is_among (filter p ids) uid ≡ is_among ids uid
+is_among-filter p uid [] passes = refl
+is_among-filter p uid (id ∷ ids) passes = elim (cases_Bool (p id)) [
+  | inl hit ↦ ap (λ (xs : List (List ℕ)). is_among xs uid) (filter_keeps p id ids hit) ∙ ap (λ (b : Bool). bytes_eq uid id || b) (is_among-filter p uid ids passes)
+  | inr miss ↦
+      ap (λ (xs : List (List ℕ)). is_among xs uid) (filter_leaves p id ids miss) ∙ is_among-filter p uid ids passes
+      ∙ ap (λ (b : Bool). b || is_among ids uid) (sym (test_from_other uid id (λ same. true_is_false (sym passes ∙ ap p same ∙ miss))))
+]
+
+pub is_among-distinct_ids : (uid : List ℕ) (ids : List (List ℕ)) → is_among (distinct_ids ids) uid ≡ is_among ids uid
+is_among-distinct_ids uid [] = refl
+is_among-distinct_ids uid (id ∷ ids) = elim (cases_id uid id) [
+  | inl same ↦ or_left _ _ (test_from_same uid id same) ∙ sym (or_left _ _ (test_from_same uid id same))
+  | inr other ↦ ap (λ (b : Bool). bytes_eq uid id || b)
+      (is_among-filter (λ o. not (bytes_eq id o)) uid (distinct_ids ids) (not_from_false _ (test_from_other id uid (λ same. other (sym same))))
+      ∙ is_among-distinct_ids uid ids)
+]
+
+-- one more id, which stood there before or didn't
+pub distinct_ids-push_new : (ids : List (List ℕ)) (uid : List ℕ) → is_among ids uid ≡ false → distinct_ids (ids ++ uid ∷ []) ≡ distinct_ids ids ++ uid ∷ []
+distinct_ids-push_new [] uid new = refl
+distinct_ids-push_new (id ∷ ids) uid new =
+    ap (λ (xs : List (List ℕ)). id ∷ filter (λ o. not (bytes_eq id o)) xs) (distinct_ids-push_new ids uid (or_parts _ _ new).1)
+    ∙ ap (λ (xs : List (List ℕ)). id ∷ xs)
+    (filter-append (λ o. not (bytes_eq id o)) (distinct_ids ids) (uid ∷ [])
+    ∙ ap (λ (xs : List (List ℕ)). filter (λ o. not (bytes_eq id o)) (distinct_ids ids) ++ xs)
+    (filter_keeps (λ o. not (bytes_eq id o)) uid [] (not_from_false _ (test_from_other id uid (λ same. other (sym same))))))
+  where
+    other : uid ≡ id → ⊥
+    other same = let hit : bytes_eq uid id ≡ true = test_from_same uid id same in let miss : bytes_eq uid id ≡ false = (or_parts _ _ new).0 in cc
+
+pub distinct_ids-push_old : (ids : List (List ℕ)) (uid : List ℕ) → is_among ids uid ≡ true → distinct_ids (ids ++ uid ∷ []) ≡ distinct_ids ids
+distinct_ids-push_old [] uid old = cc
+distinct_ids-push_old (id ∷ ids) uid old = elim (cases_Bool (is_among ids uid)) [
+  | inl inside ↦ ap (λ (xs : List (List ℕ)). id ∷ filter (λ o. not (bytes_eq id o)) xs) (distinct_ids-push_old ids uid inside)
+  | inr outside ↦
+      ap (λ (xs : List (List ℕ)). id ∷ filter (λ o. not (bytes_eq id o)) xs) (distinct_ids-push_new ids uid outside)
+      ∙ ap (λ (xs : List (List ℕ)). id ∷ xs)
+      (filter-append (λ o. not (bytes_eq id o)) (distinct_ids ids) (uid ∷ [])
+      ∙ ap (λ (xs : List (List ℕ)). filter (λ o. not (bytes_eq id o)) (distinct_ids ids) ++ xs)
+      (filter_leaves (λ o. not (bytes_eq id o)) uid [] (not_from_true _ (test_from_same id uid (sym (same outside)))))
+      ∙ append-nil _)
+]
+  where
+    same : is_among ids uid ≡ false → uid ≡ id
+    same outside = elim (or_cases (bytes_eq uid id) (is_among ids uid) old) [ inl hit ↦ same_from_test uid id hit | inr inside ↦ absurd (true_is_false (sym inside ∙ outside)) ]
+
+-- the ids of these that have no row
+abbrev pub new_of : List Row → List (List ℕ) → List (List ℕ)
+new_of rows ids = filter (λ uid. not (has_row rows uid)) (distinct_ids ids)
+
+pub has_row-undelivered : (now : ℕ) (ids : List (List ℕ)) (uid : List ℕ) → has_row (map (undelivered now) ids) uid ≡ is_among ids uid
+has_row-undelivered now [] uid = refl
+has_row-undelivered now (id ∷ ids) uid = ap (λ (b : Bool). bytes_eq uid id || b) (has_row-undelivered now ids uid)
+
+pub is_among-new_of : (rows : List Row) (ids : List (List ℕ)) (uid : List ℕ) → has_row rows uid ≡ false → is_among (new_of rows ids) uid ≡ is_among ids uid
+is_among-new_of rows ids uid none =
+    is_among-filter (λ id. not (has_row rows id)) uid (distinct_ids ids) (not_from_false _ none) ∙ is_among-distinct_ids uid ids
+
+pub new_of-push_row : (rows : List Row) (ids : List (List ℕ)) (uid : List ℕ) → has_row rows uid ≡ true → new_of rows (ids ++ uid ∷ []) ≡ new_of rows ids
+new_of-push_row rows ids uid has = elim (cases_Bool (is_among ids uid)) [
+  | inl old ↦ ap (filter (λ id. not (has_row rows id))) (distinct_ids-push_old ids uid old)
+  | inr new ↦ ap (filter (λ id. not (has_row rows id))) (distinct_ids-push_new ids uid new)
+      ∙ filter-append (λ id. not (has_row rows id)) (distinct_ids ids) (uid ∷ [])
+      ∙ ap (λ (xs : List (List ℕ)). new_of rows ids ++ xs) (filter_leaves (λ id. not (has_row rows id)) uid [] (not_from_true _ has))
+      ∙ append-nil _
+]
+
+pub new_of-push_old : (rows : List Row) (ids : List (List ℕ)) (uid : List ℕ) → is_among ids uid ≡ true → new_of rows (ids ++ uid ∷ []) ≡ new_of rows ids
+new_of-push_old rows ids uid old = ap (filter (λ id. not (has_row rows id))) (distinct_ids-push_old ids uid old)
+
+pub new_of-push_new : (rows : List Row) (ids : List (List ℕ)) (uid : List ℕ) → has_row rows uid ≡ false → is_among ids uid ≡ false → new_of rows (ids ++ uid ∷ []) ≡ new_of rows ids ++ uid ∷ []
+new_of-push_new rows ids uid none new =
+    ap (filter (λ id. not (has_row rows id))) (distinct_ids-push_new ids uid new)
+    ∙ filter-append (λ id. not (has_row rows id)) (distinct_ids ids) (uid ∷ [])
+    ∙ ap (λ (xs : List (List ℕ)). new_of rows ids ++ xs) (filter_keeps (λ id. not (has_row rows id)) uid [] (not_from_false _ none))
+
+-- the next item of a listing
+pub ids_more : (listing : List Item) (i : ℕ) (uid : List ℕ) → ((d : Item) → uid ≡ (get_or listing i d).uid) → i < length listing → map (λ (item : Item). item.uid) (take (i + 1) listing) ≡ map (λ (item : Item). item.uid) (take i listing) ++ uid ∷ []
+ids_more listing i uid at inside =
+    ap (map (λ (item : Item). item.uid)) (take_more listing i nobody inside)
+    ∙ map-append (λ (item : Item). item.uid) (take i listing) (get_or listing i nobody ∷ [])
+    ∙ ap (λ (id : List ℕ). map (λ (item : Item). item.uid) (take i listing) ++ id ∷ []) (sym (at nobody))
+  where
+    nobody : Item
+    nobody = record { uid = []; size = 0 }
+
+-- a loop over the items: the rows for the first i of them are made
+abbrev pub AreNew : List Row → List Item → ℕ → ℕ → List Row → Type 0
+AreNew rows listing now i added = added ≡ map (undelivered now) (new_ids rows (take i listing))
+
+pub AreNew-row : (rows : List Row) (listing : List Item) (now i : ℕ) (added : List Row) (uid : List ℕ) → AreNew rows listing now i added → ((d : Item) → uid ≡ (get_or listing i d).uid) → i < length listing → has_row rows uid ≡ true → AreNew rows listing now (i + 1) added
+AreNew-row rows listing now i added uid are at inside has =
+    are ∙ ap (map (undelivered now)) (sym (ap (new_of rows) (ids_more listing i uid at inside) ∙ new_of-push_row rows _ uid has))
+
+-- what was added has the id exactly where an earlier item does
+has_row-added : (rows : List Row) (listing : List Item) (now i : ℕ) (added : List Row) (uid : List ℕ) → AreNew rows listing now i added → has_row rows uid ≡ false → is_among (map (λ (item : Item). item.uid) (take i listing)) uid ≡ has_row added uid
+has_row-added rows listing now i added uid are none =
+    sym (is_among-new_of rows _ uid none) ∙ sym (has_row-undelivered now _ uid) ∙ ap (λ (xs : List Row). has_row xs uid) (sym are)
+
+pub AreNew-old : (rows : List Row) (listing : List Item) (now i : ℕ) (added : List Row) (uid : List ℕ) → AreNew rows listing now i added → ((d : Item) → uid ≡ (get_or listing i d).uid) → i < length listing → has_row rows uid ≡ false → has_row added uid ≡ true → AreNew rows listing now (i + 1) added
+AreNew-old rows listing now i added uid are at inside none has =
+    are ∙ ap (map (undelivered now)) (sym (ap (new_of rows) (ids_more listing i uid at inside) ∙ new_of-push_old rows _ uid (has_row-added rows listing now i added uid are none ∙ has)))
+
+pub AreNew-new : (rows : List Row) (listing : List Item) (now i : ℕ) (added : List Row) (uid : List ℕ) → AreNew rows listing now i added → ((d : Item) → uid ≡ (get_or listing i d).uid) → i < length listing → has_row rows uid ≡ false → has_row added uid ≡ false → AreNew rows listing now (i + 1) (added ++ undelivered now uid ∷ [])
+AreNew-new rows listing now i added uid are at inside none none_added =
+    ap (λ (xs : List Row). xs ++ undelivered now uid ∷ []) are
+    ∙ sym (map-append (undelivered now) (new_of rows (map (λ (item : Item). item.uid) (take i listing))) (uid ∷ []))
+    ∙ ap (map (undelivered now)) (sym (ap (new_of rows) (ids_more listing i uid at inside) ∙ new_of-push_new rows _ uid none (has_row-added rows listing now i added uid are none ∙ none_added)))
+
+-- ids that are apart: no id stands among those behind it
+abbrev pub AreApart : List (List ℕ) → Type 0
+AreApart [] = Unit {0}
+AreApart (id ∷ ids) = (is_among ids id ≡ false) × AreApart ids
+
+-- what passed a filter passes its test
+pub passes_filter : (p : List ℕ → Bool) (ids : List (List ℕ)) (uid : List ℕ) → is_among (filter p ids) uid ≡ true → p uid ≡ true
+passes_filter p [] uid there = cc
+passes_filter p (id ∷ ids) uid there = elim (cases_Bool (p id)) [
+  | inl hit ↦ elim (or_cases (bytes_eq uid id) (is_among (filter p ids) uid) (sym (ap (λ (xs : List (List ℕ)). is_among xs uid) (filter_keeps p id ids hit)) ∙ there)) [
+    | inl same ↦ ap p (same_from_test uid id same) ∙ hit
+    | inr further ↦ passes_filter p ids uid further
+  ]
+  | inr miss ↦ passes_filter p ids uid (sym (ap (λ (xs : List (List ℕ)). is_among xs uid) (filter_leaves p id ids miss)) ∙ there)
+]
+
+pub is_among-filter_false : (p : List ℕ → Bool) (ids : List (List ℕ)) (uid : List ℕ) → is_among ids uid ≡ false → is_among (filter p ids) uid ≡ false
+is_among-filter_false p [] uid none = refl
+is_among-filter_false p (id ∷ ids) uid none = elim (cases_Bool (p id)) [
+  | inl hit ↦ ap (λ (xs : List (List ℕ)). is_among xs uid) (filter_keeps p id ids hit) ∙ or_from _ _ (or_parts _ _ none).0 (is_among-filter_false p ids uid (or_parts _ _ none).1)
+  | inr miss ↦ ap (λ (xs : List (List ℕ)). is_among xs uid) (filter_leaves p id ids miss) ∙ is_among-filter_false p ids uid (or_parts _ _ none).1
+]
+
+pub AreApart-filter : (p : List ℕ → Bool) (ids : List (List ℕ)) → AreApart ids → AreApart (filter p ids)
+AreApart-filter p [] are = tt
+AreApart-filter p (id ∷ ids) are = elim (cases_Bool (p id)) [
+  | inl hit ↦ subst AreApart (sym (filter_keeps p id ids hit)) (is_among-filter_false p ids id are.0, AreApart-filter p ids are.1)
+  | inr miss ↦ subst AreApart (sym (filter_leaves p id ids miss)) (AreApart-filter p ids are.1)
+]
+
+pub AreApart-distinct_ids : (ids : List (List ℕ)) → AreApart (distinct_ids ids)
+AreApart-distinct_ids [] = tt
+AreApart-distinct_ids (id ∷ ids) = (
+  false_from_ne_true _ (λ there. true_is_false (sym (passes_filter (λ o. not (bytes_eq id o)) (distinct_ids ids) id there) ∙ not_from_true _ (test_from_same id id refl))),
+  AreApart-filter _ _ (AreApart-distinct_ids ids),
+)
+
+-- no row has an id of these
+abbrev pub HasNone : List Row → List (List ℕ) → Type 0
+HasNone rows ids = (uid : List ℕ) → is_among ids uid ≡ true → has_row rows uid ≡ false
+
+pub HasNone-new_of : (rows : List Row) (ids : List (List ℕ)) → HasNone rows (new_of rows ids)
+HasNone-new_of rows ids uid there = not_true (has_row rows uid) (passes_filter (λ id. not (has_row rows id)) (distinct_ids ids) uid there)
+  where
+    not_true : (b : Bool) → not b ≡ true → b ≡ false
+    not_true true e = sym e
+    not_true false e = refl
+
+-- rows for ids that have none keep the ids distinct
+pub distinct_rows : (now : ℕ) (rows : List Row) (ids : List (List ℕ)) → AllPairs (λ a b. a.uid ≢ b.uid) rows → AreApart ids → HasNone rows ids → AllPairs (λ a b. a.uid ≢ b.uid) (rows ++ map (undelivered now) ids)
+distinct_rows now rows [] distinct apart none = subst (AllPairs (λ a b. a.uid ≢ b.uid)) (sym (append-nil rows)) distinct
+distinct_rows now rows (id ∷ ids) distinct apart none =
+    subst (AllPairs (λ a b. a.uid ≢ b.uid)) (append_assoc rows (undelivered now id ∷ []) (map (undelivered now) ids))
+    (distinct_rows now (rows ++ undelivered now id ∷ []) ids
+    (all_pairs_push (λ (a b : Row). a.uid ≢ b.uid) rows (undelivered now id) distinct
+    (λ k d inside same. true_is_false (sym (list_any_at (is_of id) rows k d inside (test_from_same id (get_or rows k d).uid (sym same))) ∙ none id (or_left _ _ (test_from_same id id refl)))))
+    apart.1
+    (λ uid there. list_any-append (is_of uid) rows (undelivered now id ∷ [])
+    ∙ or_from _ _ (none uid (or_right _ _ there)) (or_from _ _ (test_from_other uid id (λ same. true_is_false (sym there ∙ ap (is_among ids) same ∙ apart.0))) refl)))
+
+pub IsRecord-more : (rows : List Row) (listing : List Item) (now : ℕ) (added : List Row) → IsRecord rows → All IsRow added → added ≡ map (undelivered now) (new_ids rows listing) → IsRecord (rows ++ added)
+IsRecord-more rows listing now added is good are = record {
+  each = All-append IsRow rows added is.each good;
+  distinct = subst (λ (xs : List Row). AllPairs (λ a b. a.uid ≢ b.uid) (rows ++ xs)) (sym are)
+      (distinct_rows now rows _ is.distinct (AreApart-filter (λ uid. not (has_row rows uid)) (distinct_ids ids) (AreApart-distinct_ids ids)) (HasNone-new_of rows ids));
+}
+  where
+    ids : List (List ℕ)
+    ids = map (λ (item : Item). item.uid) listing

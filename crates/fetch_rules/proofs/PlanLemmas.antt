@@ -1,0 +1,223 @@
+-- The plan item by item, with a count, is the plan by the wanted messages.
+use Rattle.std.proofs.Common.{◌≡◌, ℕ, zero, suc, ◌<◌, ◌≤◌, ◌+◌, List, [], ◌∷◌, ◌++◌, Bool, true, false, cond, ◌&&◌, ◌||◌, length, get_or, take, map, refl, sym, ◌∙◌, ap, subst, inl, inr, arith}
+use Rattle.std.specs.Prelude.{filter, zip, count_by, All, nat_lt, ◌==◌}
+use Rattle.std.specs.List.{enumerate_from}
+use Rattle.std.proofs.lemmas.Bool.{cases_Bool, cases_lt, cond-true, cond-false, lt-ltb, le-ltb, eq-eqb, ne_eqb, or_left, or_right, or_from, and_right}
+use Rattle.std.proofs.lemmas.List.{take_more, take_all, length-take, get_or-map, length-map}
+use Rattle.std.proofs.lemmas.List.Elements.{All-filter, All-take, All-weaker}
+use Rattle.std.proofs.lemmas.List.Folds.{list_any_none}
+use Rattle.std.proofs.lemmas.List.FromFn.{length-enumerate_from, get_or-enumerate_from}
+use Rattle.std.proofs.lemmas.List.Sums.{sum_by-cons, sum_by_more, count_by-le-length, length-filter}
+use Rattle.fetch_rules.specs.Listing.{Item}
+use Rattle.fetch_rules.specs.Record.{Row}
+use Rattle.fetch_rules.specs.Wanted.{numbered, is_candidate, at_most, wanted}
+use Rattle.fetch_rules.specs.Plan.{is_among, is_deleted, step_of, planned, retrieved}
+use Rattle.fetch_rules.specs.declared.settings.Settings.{Settings}
+use Rattle.fetch_rules.specs.declared.steps.Step.{Step}
+
+-- a message with its number
+abbrev pub Message : Type 0
+Message = ℕ × Item
+
+pub filter_keeps : {X : Type 0} (p : X → Bool) (x : X) (xs : List X) → p x ≡ true → filter p (x ∷ xs) ≡ x ∷ filter p xs
+filter_keeps p x xs hit = cond-true (p x) _ _ hit
+
+pub filter_leaves : {X : Type 0} (p : X → Bool) (x : X) (xs : List X) → p x ≡ false → filter p (x ∷ xs) ≡ filter p xs
+filter_leaves p x xs miss = cond-false (p x) _ _ miss
+
+-- the numbers go up
+pub numbers_above : (n : ℕ) (items : List Item) → All (λ message. n ≤ message.0) (enumerate_from n items)
+numbers_above n items = λ k d inside. subst (λ (m : Message). n ≤ m.0) (sym (get_or-enumerate_from n items k d (omega (arith, length-enumerate_from n items)))) (omega arith)
+
+-- no number below is among them
+pub none_below : (p : Message → Bool) (n m k : ℕ) (items : List Item) → k < n → is_among (take m (filter p (enumerate_from n items))) k ≡ false
+none_below p n m k items below = list_any_none (λ message. message.0 == k) _
+    (All-weaker (λ message. n ≤ message.0) (λ message. (message.0 == k) ≡ false) (λ message above. ne_eqb message.0 k (λ same. absurd (omega (arith, above, same)))) _
+    (All-take (λ message. n ≤ message.0) m _ (All-filter p (λ message. n ≤ message.0) _ (numbers_above n items))))
+
+-- fewer than m, one more on both sides
+lt_step : (c m c' : ℕ) → c' ≡ 1 + c → nat_lt c' (suc m) ≡ nat_lt c m
+lt_step c m c' is = elim (cases_lt c m) [
+  | inl below ↦ lt-ltb c' (suc m) (omega (arith, is, below)) ∙ sym (lt-ltb c m below)
+  | inr above ↦ le-ltb c' (suc m) (omega (arith, is, above)) ∙ sym (le-ltb c m above)
+]
+
+count_by-cons : (p : Message → Bool) (x : Message) (xs : List Message) (b : Bool) → p x ≡ b → count_by p (x ∷ xs) ≡ cond b 1 0 + count_by p xs
+count_by-cons p x xs b is = sum_by-cons (λ (m : Message). cond (p m) 1 0) x xs ∙ ap (λ (t : Bool). cond t 1 0 + count_by p xs) is
+
+-- of the first m that pass, the one at i is one exactly if it passes and fewer than m before it do
+pub is_among-take : (p : Message → Bool) (n m i k : ℕ) (items : List Item) (d : Message) → i < length items → k ≡ n + i
+    → is_among (take m (filter p (enumerate_from n items))) k ≡ p (get_or (enumerate_from n items) i d) && nat_lt (count_by p (take i (enumerate_from n items))) m
+is_among-take p n m i k [] d inside is = absurd (omega arith)
+is_among-take p n m zero k (item ∷ items) d inside is = elim (cases_Bool (p (n, item))) [
+  | inl hit ↦ ap (λ (ms : List Message). is_among (take m ms) k) (filter_keeps p (n, item) (enumerate_from (n + 1) items) hit) ∙ here m ∙ ap (λ (b : Bool). b && nat_lt 0 m) (sym hit)
+  | inr miss ↦ ap (λ (ms : List Message). is_among (take m ms) k) (filter_leaves p (n, item) (enumerate_from (n + 1) items) miss)
+      ∙ none_below p (n + 1) m k items (omega (arith, is)) ∙ ap (λ (b : Bool). b && nat_lt 0 m) (sym miss)
+]
+  where
+    here : (l : ℕ) → is_among (take l ((n, item) ∷ filter p (enumerate_from (n + 1) items))) k ≡ true && nat_lt 0 l
+    here zero = refl
+    here (suc l) = or_left _ _ (eq-eqb n k (omega (arith, is))) ∙ sym (lt-ltb 0 (suc l) (omega arith))
+is_among-take p n m (suc i) k (item ∷ items) d inside is = elim (cases_Bool (p (n, item))) [
+  | inl hit ↦ ap (λ (ms : List Message). is_among (take m ms) k) (filter_keeps p (n, item) (enumerate_from (n + 1) items) hit)
+      ∙ there m hit (λ l. is_among-take p (n + 1) l i k items d (omega arith) (omega (arith, is)))
+  | inr miss ↦ ap (λ (ms : List Message). is_among (take m ms) k) (filter_leaves p (n, item) (enumerate_from (n + 1) items) miss)
+      ∙ is_among-take p (n + 1) m i k items d (omega arith) (omega (arith, is))
+      ∙ ap (λ (c : ℕ). p (get_or (enumerate_from (n + 1) items) i d) && nat_lt c m) (omega (arith, count_by-cons p (n, item) (take i (enumerate_from (n + 1) items)) false miss))
+]
+  where
+    there : (l : ℕ) → p (n, item) ≡ true
+        → ((l' : ℕ) → is_among (take l' (filter p (enumerate_from (n + 1) items))) k ≡ p (get_or (enumerate_from (n + 1) items) i d) && nat_lt (count_by p (take i (enumerate_from (n + 1) items))) l')
+        → is_among (take l ((n, item) ∷ filter p (enumerate_from (n + 1) items))) k
+        ≡ p (get_or (enumerate_from (n + 1) items) i d) && nat_lt (count_by p ((n, item) ∷ take i (enumerate_from (n + 1) items))) l
+    there zero hit further = sym (and_right _ _ (le-ltb (count_by p ((n, item) ∷ take i (enumerate_from (n + 1) items))) 0 (omega arith)))
+    there (suc l) hit further =
+        ap (λ (b : Bool). b || is_among (take l (filter p (enumerate_from (n + 1) items))) k) (ne_eqb n k (λ same. absurd (omega (arith, is, same))))
+        ∙ further l
+        ∙ ap (λ (b : Bool). p (get_or (enumerate_from (n + 1) items) i d) && b) (sym (lt_step _ l _ (count_by-cons p (n, item) (take i (enumerate_from (n + 1) items)) true hit)))
+
+-- a number that isn't there makes no difference
+filter_skip : (messages : List Message) (n k : ℕ) (item : Item) (items : List Item) → n < k
+    → filter (λ message. is_among ((n, item) ∷ messages) message.0) (enumerate_from k items) ≡ filter (λ message. is_among messages message.0) (enumerate_from k items)
+filter_skip messages n k item [] below = refl
+filter_skip messages n k item (first ∷ items) below = elim (cases_Bool (is_among messages k)) [
+  | inl hit ↦ filter_keeps (λ (message : Message). is_among ((n, item) ∷ messages) message.0) (k, first) _ (or_right _ _ hit)
+      ∙ ap (λ (ms : List Message). (k, first) ∷ ms) (filter_skip messages n (k + 1) item items (omega (arith, below)))
+      ∙ sym (filter_keeps (λ (message : Message). is_among messages message.0) (k, first) _ hit)
+  | inr miss ↦ filter_leaves (λ (message : Message). is_among ((n, item) ∷ messages) message.0) (k, first) _ (or_from _ _ (ne_eqb n k (λ same. absurd (omega (arith, below, same)))) miss)
+      ∙ filter_skip messages n (k + 1) item items (omega (arith, below))
+      ∙ sym (filter_leaves (λ (message : Message). is_among messages message.0) (k, first) _ miss)
+]
+
+filter_nothing : (messages : List Message) → filter (λ _. false) messages ≡ []
+filter_nothing [] = refl
+filter_nothing (message ∷ messages) = filter_nothing messages
+
+-- the messages that are among the first m that pass are these
+pub filter_among : (p : Message → Bool) (n m : ℕ) (items : List Item) → filter (λ message. is_among (take m (filter p (enumerate_from n items))) message.0) (enumerate_from n items) ≡ take m (filter p (enumerate_from n items))
+filter_among p n zero items = filter_nothing (enumerate_from n items)
+filter_among p n (suc m) [] = refl
+filter_among p n (suc m) (item ∷ items) = elim (cases_Bool (p (n, item))) [
+  | inl hit ↦ subst (λ (ms : List Message). filter (λ message. is_among (take (suc m) ms) message.0) (enumerate_from n (item ∷ items)) ≡ take (suc m) ms)
+      (sym (filter_keeps p (n, item) (enumerate_from (n + 1) items) hit))
+      (filter_keeps (λ (message : Message). is_among ((n, item) ∷ take m (filter p (enumerate_from (n + 1) items))) message.0) (n, item) (enumerate_from (n + 1) items) (or_left _ _ (eq-eqb n n refl))
+      ∙ ap (λ (ms : List Message). (n, item) ∷ ms)
+      (filter_skip (take m (filter p (enumerate_from (n + 1) items))) n (n + 1) item items (omega arith) ∙ filter_among p (n + 1) m items))
+  | inr miss ↦ subst (λ (ms : List Message). filter (λ message. is_among (take (suc m) ms) message.0) (enumerate_from n (item ∷ items)) ≡ take (suc m) ms)
+      (sym (filter_leaves p (n, item) (enumerate_from (n + 1) items) miss))
+      (filter_leaves (λ (message : Message). is_among (take (suc m) (filter p (enumerate_from (n + 1) items))) message.0) (n, item) (enumerate_from (n + 1) items)
+      (none_below p (n + 1) (suc m) n items (omega arith))
+      ∙ filter_among p (n + 1) (suc m) items)
+]
+
+-- the same for a limit, where 0 sets none
+at_most_is : (limit n : ℕ) (messages : List Message) → length messages ≤ n → at_most limit messages ≡ take (cond (limit == 0) n limit) messages
+at_most_is limit n messages few = elim (cases_Bool (limit == 0)) [
+  | inl none ↦ cond-true (limit == 0) messages (take limit messages) none ∙ sym (take_all n messages few) ∙ ap (λ (m : ℕ). take m messages) (sym (cond-true (limit == 0) n limit none))
+  | inr some ↦ cond-false (limit == 0) messages (take limit messages) some ∙ ap (λ (m : ℕ). take m messages) (sym (cond-false (limit == 0) n limit some))
+]
+
+few_pass : (p : Message → Bool) (items : List Item) → length (filter p (numbered items)) ≤ length items
+few_pass p items = omega (arith, length-filter p (numbered items), count_by-le-length p (numbered items), length-enumerate_from 1 items)
+
+pub filter_at_most : (p : Message → Bool) (limit : ℕ) (items : List Item) → filter (λ message. is_among (at_most limit (filter p (numbered items))) message.0) (numbered items) ≡ at_most limit (filter p (numbered items))
+filter_at_most p limit items =
+    subst (λ (ms : List Message). filter (λ message. is_among ms message.0) (numbered items) ≡ ms)
+    (sym (at_most_is limit (length items) (filter p (numbered items)) (few_pass p items))) (filter_among p 1 (cond (limit == 0) (length items) limit) items)
+
+pub is_among-at_most : (p : Message → Bool) (limit i : ℕ) (items : List Item) (d : Message) → i < length items
+    → is_among (at_most limit (filter p (numbered items))) (i + 1) ≡ p (get_or (numbered items) i d) && (limit == 0 || nat_lt (count_by p (take i (numbered items))) limit)
+is_among-at_most p limit i items d inside =
+    ap (λ (ms : List Message). is_among ms (i + 1)) (at_most_is limit (length items) (filter p (numbered items)) (few_pass p items))
+    ∙ is_among-take p 1 (cond (limit == 0) (length items) limit) i (i + 1) items d inside (omega arith)
+    ∙ ap (λ (b : Bool). p (get_or (numbered items) i d) && b) (elim (cases_Bool (limit == 0)) [
+      | inl none ↦ ap (nat_lt (count_by p (take i (numbered items)))) (cond-true (limit == 0) (length items) limit none)
+          ∙ lt-ltb (count_by p (take i (numbered items))) (length items) few ∙ sym (or_left _ _ none)
+      | inr some ↦ ap (nat_lt (count_by p (take i (numbered items)))) (cond-false (limit == 0) (length items) limit some)
+          ∙ ap (λ (b : Bool). b || nat_lt (count_by p (take i (numbered items))) limit) (sym some)
+    ])
+  where
+    few : count_by p (take i (numbered items)) < length items
+    few = omega (arith, count_by-le-length p (take i (numbered items)), length-take i (numbered items))
+
+-- what steps fetch
+retrieved_steps : (f : Message → Step) (messages : List Message) → map (λ pair. pair.1) (filter (λ pair. pair.0.retrieve) (zip (map f messages) messages)) ≡ filter (λ message. (f message).retrieve) messages
+retrieved_steps f [] = refl
+retrieved_steps f (message ∷ messages) = elim (cases_Bool (f message).retrieve) [
+  | inl hit ↦ ap (map (λ (pair : Step × Message). pair.1)) (filter_keeps (λ (pair : Step × Message). pair.0.retrieve) (f message, message) (zip (map f messages) messages) hit)
+      ∙ ap (λ (ms : List Message). message ∷ ms) (retrieved_steps f messages) ∙ sym (filter_keeps (λ (m : Message). (f m).retrieve) message messages hit)
+  | inr miss ↦ ap (map (λ (pair : Step × Message). pair.1)) (filter_leaves (λ (pair : Step × Message). pair.0.retrieve) (f message, message) (zip (map f messages) messages) miss)
+      ∙ retrieved_steps f messages ∙ sym (filter_leaves (λ (m : Message). (f m).retrieve) message messages miss)
+]
+
+pub retrieved-planned : (settings : Settings) (rows : List Row) (listing : List Item) (now : ℕ) (steps : List Step) → steps ≡ planned settings rows listing now → retrieved steps listing ≡ wanted settings rows listing
+retrieved-planned settings rows listing now steps is =
+    ap (λ (ss : List Step). retrieved ss listing) is
+    ∙ retrieved_steps (step_of settings rows listing now) (numbered listing)
+    ∙ filter_at_most (is_candidate settings rows listing) settings.max_count listing
+
+-- a loop over the listing: the steps of the first i messages, and how many of them are candidates
+pub record HasPlanned (settings : Settings) (rows : List Row) (listing : List Item) (now i : ℕ) (steps : List Step) (count : ℕ) : Type 0 where
+  pub steps_are : steps ≡ take i (planned settings rows listing now)
+  pub count_is : count ≡ count_by (is_candidate settings rows listing) (take i (numbered listing))
+
+message_at : (listing : List Item) (i : ℕ) (d : Item) → i < length listing → get_or (numbered listing) i (0, d) ≡ (i + 1, get_or listing i d)
+message_at listing i d inside = get_or-enumerate_from 1 listing i (0, d) inside ∙ ap (λ (n : ℕ). (n, get_or listing i d)) (omega arith)
+
+pub HasPlanned-more : (settings : Settings) (rows : List Row) (listing : List Item) (now i : ℕ) (steps : List Step) (count : ℕ) (candidate fetched deleted : Bool) (next : ℕ)
+    → HasPlanned settings rows listing now i steps count → i < length listing
+    → ((d : Item) → candidate ≡ is_candidate settings rows listing (i + 1, get_or listing i d))
+    → fetched ≡ candidate && (settings.max_count == 0 || nat_lt count settings.max_count)
+    → ((d : Item) → deleted ≡ is_deleted settings rows listing now fetched (i + 1, get_or listing i d))
+    → next ≡ count + cond candidate 1 0
+    → HasPlanned settings rows listing now (i + 1) (steps ++ record { number = i + 1; retrieve = fetched; delete = deleted } ∷ []) next
+HasPlanned-more settings rows listing now i steps count candidate fetched deleted next has inside candidate_is fetched_is deleted_is next_is = record {
+  steps_are =
+      ap (λ (ss : List Step). ss ++ record { number = i + 1; retrieve = fetched; delete = deleted } ∷ []) has.steps_are
+      ∙ ap (λ (step : Step). take i (planned settings rows listing now) ++ step ∷ []) (step_is ∙ sym step_at)
+      ∙ sym (take_more (planned settings rows listing now) i (step_of settings rows listing now (0, nobody))
+      (omega (arith, length-map (numbered listing) (step_of settings rows listing now), length-enumerate_from 1 listing)));
+  count_is =
+      next_is ∙ ap (λ (c : ℕ). c + cond candidate 1 0) has.count_is
+      ∙ ap (λ (b : Bool). count_by (is_candidate settings rows listing) (take i (numbered listing)) + cond b 1 0)
+      (candidate_is nobody ∙ ap (is_candidate settings rows listing) (sym (message_at listing i nobody inside)))
+      ∙ sym (sum_by_more (λ (m : Message). cond (is_candidate settings rows listing m) 1 0) (numbered listing) i (0, nobody) (omega (arith, length-enumerate_from 1 listing)));
+}
+  where
+    nobody : Item
+    nobody = record { uid = []; size = 0 }
+
+    step_at : get_or (planned settings rows listing now) i (step_of settings rows listing now (0, nobody)) ≡ step_of settings rows listing now (i + 1, get_or listing i nobody)
+    step_at =
+        get_or-map (step_of settings rows listing now) (numbered listing) i (0, nobody) (step_of settings rows listing now (0, nobody)) (omega (arith, length-enumerate_from 1 listing))
+        ∙ ap (step_of settings rows listing now) (message_at listing i nobody inside)
+
+    fetched_among : fetched ≡ is_among (wanted settings rows listing) (i + 1)
+    fetched_among =
+        fetched_is
+        ∙ ap (λ (b : Bool). b && (settings.max_count == 0 || nat_lt count settings.max_count))
+        (candidate_is nobody ∙ ap (is_candidate settings rows listing) (sym (message_at listing i nobody inside)))
+        ∙ ap (λ (c : ℕ). is_candidate settings rows listing (get_or (numbered listing) i (0, nobody)) && (settings.max_count == 0 || nat_lt c settings.max_count)) has.count_is
+        ∙ sym (is_among-at_most (is_candidate settings rows listing) settings.max_count i listing (0, nobody) inside)
+
+    step_is : record { number = i + 1; retrieve = fetched; delete = deleted } ≡ step_of settings rows listing now (i + 1, get_or listing i nobody)
+    step_is =
+        ap (λ (b : Bool). record { number = i + 1; retrieve = fetched; delete = b }) (deleted_is nobody)
+        ∙ ap (λ (b : Bool). record { number = i + 1; retrieve = b; delete = is_deleted settings rows listing now b (i + 1, get_or listing i nobody) }) fetched_among
+
+pub HasPlanned-all : (settings : Settings) (rows : List Row) (listing : List Item) (now i : ℕ) (steps : List Step) (count : ℕ) → HasPlanned settings rows listing now i steps count → length listing ≤ i
+    → steps ≡ planned settings rows listing now
+HasPlanned-all settings rows listing now i steps count has past =
+    has.steps_are ∙ take_all i (planned settings rows listing now) (omega (arith, length-map (numbered listing) (step_of settings rows listing now), length-enumerate_from 1 listing))
+
+-- what the test for a fetch answers on its three ways
+pub fetched-no_limit : (candidate fetched below : Bool) (limit : ℕ) → candidate ≡ true → limit ≡ 0 → fetched ≡ true → fetched ≡ candidate && (limit == 0 || below)
+fetched-no_limit candidate fetched below limit is none yes_is =
+    yes_is ∙ sym (ap (λ (b : Bool). b && (limit == 0 || below)) is ∙ or_left _ _ (eq-eqb limit 0 none))
+
+pub fetched-limit : (candidate fetched below : Bool) (limit : ℕ) → candidate ≡ true → (limit ≡ 0 → ⊥) → fetched ≡ below → fetched ≡ candidate && (limit == 0 || below)
+fetched-limit candidate fetched below limit is some below_is =
+    below_is ∙ sym (ap (λ (b : Bool). b && (limit == 0 || below)) is ∙ ap (λ (b : Bool). b || below) (ne_eqb limit 0 some))
+
+pub fetched-other : (candidate fetched below : Bool) (limit : ℕ) → candidate ≡ false → fetched ≡ false → fetched ≡ candidate && (limit == 0 || below)
+fetched-other candidate fetched below limit is none = none ∙ sym (ap (λ (b : Bool). b && (limit == 0 || below)) is)

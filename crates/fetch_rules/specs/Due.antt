@@ -1,0 +1,8 @@
+-- Which messages are to be deleted for their age.
+use Rattle.std.specs.Prelude.{ℕ, ◌-◌, ◌*◌, Bool, not, ◌&&◌, ◌||◌, ◌==◌, nat_le}
+use Rattle.fetch_rules.specs.declared.settings.Settings.{Settings}
+
+-- all are to be deleted, or those first seen so many days ago, where 0 sets no age; a clock that
+-- went back makes no message older
+abbrev pub is_due : Settings → ℕ → ℕ → Bool
+is_due settings now since = settings.delete || (not (settings.delete_after == 0) && nat_le (86400 * settings.delete_after) (now - since))

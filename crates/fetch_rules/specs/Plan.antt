@@ -1,0 +1,36 @@
+-- What is done with each message of a listing.
+use Rattle.std.specs.Prelude.{ℕ, Bool, ◌&&◌, ◌||◌, ◌==◌, List, map, filter, zip, unwrap_or}
+use Rattle.std.specs.List.{list_any}
+use Rattle.fetch_rules.specs.Listing.{Item}
+use Rattle.fetch_rules.specs.Record.{Row, is_delivered, first_seen_of}
+use Rattle.fetch_rules.specs.Wanted.{numbered, is_first, is_last, wanted}
+use Rattle.fetch_rules.specs.Due.{is_due}
+use Rattle.fetch_rules.specs.declared.settings.Settings.{Settings}
+use Rattle.fetch_rules.specs.declared.steps.Step.{Step}
+
+-- whether a message of this number is among these
+abbrev pub is_among : List (ℕ × Item) → ℕ → Bool
+is_among messages number = list_any (λ message. message.0 == number) messages
+
+-- when the id was first seen: now, where it has no row
+abbrev pub seen_since : List Row → List ℕ → ℕ → ℕ
+seen_since rows uid now = unwrap_or (first_seen_of rows uid) now
+
+-- whether a message is deleted: it is due, it is known to be delivered or is fetched, and no other
+-- message has its id
+abbrev pub is_deleted : Settings → List Row → List Item → ℕ → Bool → ℕ × Item → Bool
+is_deleted settings rows listing now fetched message =
+    is_due settings now (seen_since rows message.1.uid now) && (is_delivered rows message.1.uid || fetched) && (is_first listing message && is_last listing message)
+
+abbrev pub step_of : Settings → List Row → List Item → ℕ → ℕ × Item → Step
+step_of settings rows listing now message =
+    let fetched = is_among (wanted settings rows listing) message.0 in
+    record { number = message.0; retrieve = fetched; delete = is_deleted settings rows listing now fetched message }
+
+-- the steps, one for each message, in order
+abbrev pub planned : Settings → List Row → List Item → ℕ → List Step
+planned settings rows listing now = map (step_of settings rows listing now) (numbered listing)
+
+-- the messages that steps fetch, in order
+abbrev pub retrieved : List Step → List Item → List (ℕ × Item)
+retrieved steps listing = map (λ pair. pair.1) (filter (λ pair. pair.0.retrieve) (zip steps (numbered listing)))

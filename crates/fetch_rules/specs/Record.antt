@@ -1,0 +1,75 @@
+-- The record: which messages of a maildrop were seen, since when, and whether they were delivered.
+-- A message is known by its unique-id (RFC 1939, section 7, UIDL).
+use Rattle.std.specs.Prelude.{◌≢◌, ℕ, ◌<◌, ◌^◌, Bool, false, ◌&&◌, ◌||◌, not, List, [], ◌∷◌, ◌++◌, Option, map, filter, find, zip, All, AllPairs, bytes_eq, option_map}
+use Rattle.std.specs.List.{list_any}
+use Rattle.fetch_rules.specs.LegalId.{IsLegalId}
+use Rattle.fetch_rules.specs.Listing.{Item}
+
+-- one message: its id, the second since 1970 at which it was first listed, and whether it was
+-- delivered
+pub record Row : Type 0 where
+  pub uid : List ℕ
+  pub first_seen : ℕ
+  pub delivered : Bool
+
+-- the id is legal, and the second is a number of 64 bits
+pub record IsRow (row : Row) : Type 0 where
+  pub legal : IsLegalId row.uid
+  pub fits : row.first_seen < 2 ^ 64
+
+-- rows with distinct ids
+pub record IsRecord (rows : List Row) : Type 0 where
+  pub each : All IsRow rows
+  pub distinct : AllPairs (λ a b. a.uid ≢ b.uid) rows
+
+-- whether a row is this id's
+abbrev pub is_of : List ℕ → Row → Bool
+is_of uid row = bytes_eq uid row.uid
+
+-- whether an id has a row
+abbrev pub has_row : List Row → List ℕ → Bool
+has_row rows uid = list_any (is_of uid) rows
+
+-- whether an id is recorded as delivered
+abbrev pub is_delivered : List Row → List ℕ → Bool
+is_delivered rows uid = list_any (λ row. is_of uid row && row.delivered) rows
+
+-- when an id was first seen
+abbrev pub first_seen_of : List Row → List ℕ → Option ℕ
+first_seen_of rows uid = option_map (λ row. row.first_seen) (find (is_of uid) rows)
+
+-- the row, delivered from now on where `also` says so
+abbrev pub with_delivered : Bool → Row → Row
+with_delivered also row = record row { delivered = row.delivered || also }
+
+-- the rows, with delivered set for this id
+abbrev pub marked : List Row → List ℕ → List Row
+marked rows uid = map (λ row. with_delivered (is_of uid row) row) rows
+
+-- the ids, each once, in order of first appearance
+abbrev pub distinct_ids : List (List ℕ) → List (List ℕ)
+distinct_ids [] = []
+distinct_ids (uid ∷ uids) = uid ∷ filter (λ other. not (bytes_eq uid other)) (distinct_ids uids)
+
+-- the ids of a listing that have no row, each once, in order of first appearance
+abbrev pub new_ids : List Row → List Item → List (List ℕ)
+new_ids rows listing = filter (λ uid. not (has_row rows uid)) (distinct_ids (map (λ item. item.uid) listing))
+
+-- the row of an id that was seen for the first time
+abbrev pub undelivered : ℕ → List ℕ → Row
+undelivered now uid = record { uid = uid; first_seen = now; delivered = false }
+
+-- whether an item with this id is held
+abbrev pub is_held : List Item → List Bool → List ℕ → Bool
+is_held listing held uid = list_any (λ flagged. flagged.1 && bytes_eq flagged.0.uid uid) (zip listing held)
+
+-- the rows, with delivered set for the ids that are held
+abbrev pub with_held : List Item → List Bool → List Row → List Row
+with_held listing held rows = map (λ row. with_delivered (is_held listing held row.uid) row) rows
+
+-- the rows, with delivered set for the ids that are held, followed by a row for each id of the
+-- listing that has none
+abbrev pub merged : List Row → List Item → List Bool → ℕ → List Row
+merged rows listing held now =
+    with_held listing held rows
+    ++ map (λ uid. record { uid = uid; first_seen = now; delivered = is_held listing held uid }) (new_ids rows listing)

@@ -1,0 +1,45 @@
+//! The fields of a line of the record's file.
+
+ghost use Rattle.std.specs.Prelude.{◌≡◌, ◌≢◌, ◌↔◌, ℕ, ◌<◌, ◌≤◌, ◌^◌, ◌∷◌, ◌++◌, length, slice_index, All, IsTrue, IfSome, IfNone};
+ghost use Rattle.std.specs.Fmt.{decimal};
+
+use std::str;
+
+/// What stands before the first separator, and what follows it.
+pub(super) fn cut_at(bytes: &[u8], separator: u8) -> Option<(&[u8], &[u8])>
+    ensures found { IfSome result (λ parts. bytes.now ≡ parts.0.now ++ separator ∷ parts.1.now) }
+    ensures first { IfSome result (λ parts. All (λ byte. byte ≢ separator) parts.0.now) }
+    ensures none { IfNone result (All (λ byte. byte ≢ separator) bytes.now) }
+{
+    let place = bytes.iter().position(|byte| *byte == separator)?;
+    Some((&bytes[..place], &bytes[place + 1..]))
+}
+
+/// Whether the bytes begin as a numeral without leading zeros does: with a digit, and 0 stands
+/// alone.
+fn begins_as_numeral(field: &[u8]) -> bool
+    ensures { IsTrue result ↔ ((0 < length field.now) × (48 ≤ slice_index field.now 0) × (slice_index field.now 0 ≤ 57) × (slice_index field.now 0 ≡ 48 → length field.now ≡ 1)) }
+{
+    match field {
+        [b'0'] => true,
+        [first, ..] => (b'1'..=b'9').contains(first),
+        [] => false,
+    }
+}
+
+/// The number of 64 bits that the field is in decimal, without leading zeros.
+pub(super) fn read_number(field: &[u8]) -> Option<u64>
+    ensures found { IfSome result (λ number. field.now ≡ decimal number) }
+    ensures none { IfNone result ((number : ℕ) → number < 2 ^ 64 → field.now ≢ decimal number) }
+{
+    if !begins_as_numeral(field) {
+        return None;
+    }
+    let Ok(text) = str::from_utf8(field) else {
+        return None;
+    };
+    match text.parse() {
+        Ok(number) => Some(number),
+        Err(_) => None,
+    }
+}

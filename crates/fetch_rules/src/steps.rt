@@ -1,0 +1,99 @@
+//! Which messages of a listing are fetched, and which are deleted.
+
+ghost use Rattle.std.specs.Prelude.{◌≡◌, ◌+◌, ◌<◌, length, HoldsAt, IfOk};
+ghost use Rattle.fetch_rules.specs.Wanted.{is_candidate, wanted};
+ghost use Rattle.fetch_rules.specs.Due.{is_due};
+ghost use Rattle.fetch_rules.specs.Plan.{is_deleted, planned, retrieved};
+
+use crate::listing::Listing;
+use crate::seen::Seen;
+use crate::settings::Settings;
+use std::alloc::{AllocError, Global};
+
+const SECONDS_PER_DAY: u64 = 86_400;
+
+/// What is done with the message of a number.
+#[derive(Clone, Copy, Debug, PartialEq, Eq)]
+pub struct Step {
+    /// The message's number in the listing, from 1.
+    pub number: u32,
+    /// Whether its text is fetched.
+    pub retrieve: bool,
+    /// Whether it is deleted, after it was fetched if it is.
+    pub delete: bool,
+}
+
+/// Whether what was first seen at a second is to be deleted now. A difference is 0 where the clock
+/// went back.
+fn is_due(settings: &Settings, now: u64, since: u64) -> bool
+    ensures { result ≡ is_due settings.now now since }
+{
+    let days = now.saturating_sub(since) / SECONDS_PER_DAY;
+    settings.delete || (settings.delete_after != 0 && settings.delete_after <= days)
+}
+
+/// Whether the message of number `i + 1` may be fetched.
+fn is_candidate(settings: &Settings, seen: &Seen, listing: &Listing, i: u32) -> bool
+    requires { i < length listing.now }
+    ensures { HoldsAt (λ item. result ≡ is_candidate settings.now seen.now listing.now (i + 1, item)) listing.now i }
+{
+    listing.is_first(i)
+        && (settings.max_size == 0 || listing.size(i) <= settings.max_size)
+        && (settings.read_all || !seen.is_delivered(listing.uid(i)))
+}
+
+/// Whether the message of number `i + 1` is deleted, where it is told whether it is fetched.
+fn is_deleted(
+    settings: &Settings,
+    seen: &Seen,
+    listing: &Listing,
+    now: u64,
+    fetched: bool,
+    i: u32,
+) -> bool
+    requires { i < length listing.now }
+    ensures { HoldsAt (λ item. result ≡ is_deleted settings.now seen.now listing.now now fetched (i + 1, item)) listing.now i }
+{
+    let uid = listing.uid(i);
+    let since = seen.first_seen(uid).unwrap_or(now);
+    is_due(settings, now, since)
+        && (seen.is_delivered(uid) || fetched)
+        && (listing.is_first(i) && listing.is_last(i))
+}
+
+/// One step for each message of the listing, in order.
+///
+/// A message is fetched where it is the first with its id, its size is at most `max_size`, and
+/// `read_all` is true or it isn't recorded as delivered; of these the first `max_count`. A 0 sets no
+/// limit. A message is deleted where it is recorded as delivered or is fetched, no other message has
+/// its id, and `delete` is true or it was first seen `delete_after` days ago or more, where 0 sets no
+/// age. An id without a row is not delivered, and is first seen now. `now` is in seconds since 1970.
+pub fn plan(
+    alloc: Global,
+    settings: &Settings,
+    seen: &Seen,
+    listing: &Listing,
+    now: u64,
+) -> Result<Vec<Step>, AllocError>
+    ensures steps { IfOk result (λ steps. steps.items ≡ planned settings.now seen.now listing.now now) }
+
+    // What is fetched is, in order, the wanted messages: the first `max_count` of the candidates.
+    ensures fetched { IfOk result (λ steps. retrieved steps.items listing.now ≡ wanted settings.now seen.now listing.now) }
+{
+    let mut steps = Vec::with_capacity(alloc, listing.len() as usize)?;
+    let mut candidates: u64 = 0;
+    for i in 0..listing.len() {
+        let candidate = is_candidate(settings, seen, listing, i);
+        let retrieve = candidate && (settings.max_count == 0 || candidates < settings.max_count);
+        steps.push(Step {
+            number: i + 1,
+            retrieve,
+            delete: is_deleted(settings, seen, listing, now, retrieve, i),
+        })?;
+        candidates += u64::from(candidate);
+    }
+    Ok(steps)
+}
+
+#[cfg(test)]
+mod tests;
