@@ -1,0 +1,3 @@
+pub mod RcFaultLemmas
+pub mod RcLineLemmas
+pub mod RcRowLemmas

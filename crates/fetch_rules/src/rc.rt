@@ -1,0 +1,7 @@
+//! The rc file: what it means, and how its faults and warnings are told.
+//!
+//! A file is judged line by line into rows; all answers are look-ups in these rows.
+
+pub mod fault;
+pub mod line;
+pub mod row;
