@@ -173,3 +173,12 @@ more_taken read k row new n text (Err Contradiction) same at_end h = λ lines.
 
 pub more_misplaced : (read : List ReadRow) → length read ≡ 0 → ends_in_key (rows_in read) ≡ false
 more_misplaced read none = ap ends_in_key (rows_in-none read none)
+
+-- before the first line, and after the last
+pub file_rows-start : (lines : List Line) → rows_from None false 1 lines ≡ file_rows [] 1 lines
+unfolding file_rows
+file_rows-start lines = refl
+
+pub file_rows-end : (rows : List Row) (n : ℕ) → file_rows rows n [] ≡ rows
+unfolding file_rows
+file_rows-end rows n = append-nil (continued rows []) ∙ continued-nil rows

@@ -1,5 +1,6 @@
 -- The rows of the program as values, and what it has read of a file.
-use Rattle.std.specs.Prelude.{◌≡◌, ℕ, ◌+◌, Bool, true, false, List, [], ◌∷◌, ◌++◌, map, Option, Some, None, Result, Ok, Err}
+use Rattle.std.specs.Prelude.{◌≡◌, ℕ, ◌+◌, Bool, true, false, List, [], ◌∷◌, ◌++◌, map, Option, Some, None, Result, Ok, Err, Vec}
+use Rattle.std.specs.declared.alloc.Global.{Global}
 use Rattle.std.specs.String.{string_bytes}
 use Rattle.fetch_rules.specs.RcLines.{Line}
 use Rattle.fetch_rules.specs.RcRows.{Row, section_row, key_row, bad_row, added, rows_from}
@@ -83,6 +84,6 @@ TakesLine old n line (Ok done) new = (lines : List Line) → file_rows (rows_in 
 TakesLine old n line (Err fault) new = (lines : List Line) → IsFaultOf (first_bad (file_rows (rows_in old) n (line ∷ lines))) fault
 
 -- the rows of the file, or its first bad line, or a growth was refused
-abbrev pub ReadsRows : List Row → Result (List ReadRow) RcFault → Type 0
-ReadsRows rows (Ok read) = rows ≡ rows_in read
+abbrev pub ReadsRows : List Row → Result (Vec ReadRow Global) RcFault → Type 0
+ReadsRows rows (Ok read) = rows ≡ rows_in read.items
 ReadsRows rows (Err fault) = IsFaultOf (first_bad rows) fault

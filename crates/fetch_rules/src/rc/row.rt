@@ -1,10 +1,10 @@
 //! The rows of an rc file: its section lines and its keys, each with its line number.
-ghost use Rattle.std.specs.Prelude.{◌≡◌, ◌∷◌, ◌++◌, IfErr, OnOk};
+ghost use Rattle.std.specs.Prelude.{◌≡◌, ◌≤◌, ◌∷◌, ◌++◌, length, IfErr, OnOk};
 ghost use Rattle.std.specs.String.{string_bytes};
 ghost use Rattle.fetch_rules.specs.RcLine.{line_of};
 ghost use Rattle.fetch_rules.specs.RcLines.{more, section, key};
-ghost use Rattle.fetch_rules.specs.RcMeaning.{first_bad, limit};
-ghost use Rattle.fetch_rules.specs.RcRow.{row_of, rows_in, AddsText, IsFaultOf, TakesLine};
+ghost use Rattle.fetch_rules.specs.RcMeaning.{limit};
+ghost use Rattle.fetch_rules.specs.RcRow.{row_of, AddsText, ReadsRows, TakesLine};
 ghost use Rattle.fetch_rules.specs.RcRows.{rows_of};
 
 use crate::rc::fault::RcFault;
@@ -109,4 +109,18 @@ fn add_more(rows: &mut Vec<Row<'_>>, number: u32, text: &str) -> Result<(), RcFa
         Some(row) => row.add_text(number, text),
         None => Err(RcFault::BadLine(number)),
     }
+}
+
+/// The rows of a file. The first line that is bad where it stands is refused as BadLine.
+pub(crate) fn read_rows<'a>(alloc: Global, bytes: &'a [u8]) -> Result<Vec<Row<'a>>, RcFault>
+    requires { length bytes.now ≤ limit }
+    ensures { ReadsRows (rows_of bytes.now) result }
+{
+    let mut rows = Vec::new(alloc);
+    let mut number = 0;
+    for line in bytes.lines() {
+        number += 1;
+        add_line(alloc, &mut rows, number, judge(line))?;
+    }
+    Ok(rows)
 }
