@@ -1,3 +1,4 @@
 pub mod RcFaultLemmas
 pub mod RcLineLemmas
 pub mod RcRowLemmas
+pub mod RcValueLemmas

@@ -5,8 +5,8 @@ use Rattle.std.specs.List.{list_all, list_any}
 use Rattle.std.specs.Str.{bytes_eq}
 use Rattle.std.specs.Str.Parse.{digits_value}
 use Rattle.fetch_rules.specs.Settings.{is_server, is_credential, is_maildir_path, is_mboxrd_path}
-use Rattle.fetch_rules.specs.declared.rc.fault.Key.{Key}
-use Rattle.fetch_rules.specs.declared.rc.fault.Key.TheVariants.{RetrieverKind, UseApop, Server, Port, Username, Password, DestinationKind, Path, ReadAll, Delete, DeleteAfter, MaxSize, MaxCount, Verbose}
+use Rattle.fetch_rules.specs.declared.rc.key.Key.{Key}
+use Rattle.fetch_rules.specs.declared.rc.key.Key.TheVariants.{RetrieverKind, UseApop, Server, Port, Username, Password, DestinationKind, Path, ReadAll, Delete, DeleteAfter, MaxSize, MaxCount, Verbose}
 use Rattle.fetch_rules.specs.declared.rc.fault.RcFault.{RcFault}
 use Rattle.fetch_rules.specs.declared.rc.fault.RcFault.TheVariants.{UnknownType, BadValue, Unsupported, BadPath}
 

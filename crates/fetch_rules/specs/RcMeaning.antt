@@ -7,10 +7,10 @@ use Rattle.std.specs.Str.Parse.{digits_value}
 use Rattle.fetch_rules.specs.RcKeys.{rule, value_fault, is_yes, retriever_keys, destination_keys, option_keys}
 use Rattle.fetch_rules.specs.RcRows.{Row, section_row, key_row, bad_row, rows_of}
 use Rattle.fetch_rules.specs.Settings.{Content, Destination, maildir, mboxrd}
-use Rattle.fetch_rules.specs.declared.rc.fault.Section.{Section}
-use Rattle.fetch_rules.specs.declared.rc.fault.Section.TheVariants.{Retriever, Destination as DestinationSection}
-use Rattle.fetch_rules.specs.declared.rc.fault.Key.{Key}
-use Rattle.fetch_rules.specs.declared.rc.fault.Key.TheVariants.{Server, Port, Username, Password, DestinationKind, Path, ReadAll, Delete, DeleteAfter, MaxSize, MaxCount, Verbose}
+use Rattle.fetch_rules.specs.declared.rc.key.Section.{Section}
+use Rattle.fetch_rules.specs.declared.rc.key.Section.TheVariants.{Retriever, Destination as DestinationSection}
+use Rattle.fetch_rules.specs.declared.rc.key.Key.{Key}
+use Rattle.fetch_rules.specs.declared.rc.key.Key.TheVariants.{Server, Port, Username, Password, DestinationKind, Path, ReadAll, Delete, DeleteAfter, MaxSize, MaxCount, Verbose}
 use Rattle.fetch_rules.specs.declared.rc.fault.RcFault.{RcFault}
 use Rattle.fetch_rules.specs.declared.rc.fault.RcFault.TheVariants.{TooLong, BadLine, MissingSection, MissingKey}
 

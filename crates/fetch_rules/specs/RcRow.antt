@@ -33,6 +33,11 @@ IsFaultOf meant BadPath = meant ≡ Some BadPath
 IsFaultOf meant Contradiction = meant ≡ Some Contradiction
 IsFaultOf meant NoMemory = Unit {0}
 
+-- the fault of a result
+abbrev pub fault_in : {T : Type 0} → Result T RcFault → Option RcFault
+fault_in (Ok value) = None
+fault_in (Err fault) = Some fault
+
 -- the row with this text behind its value, where it is a key's
 abbrev pub continued_row : Row → List ℕ → Row
 continued_row (section_row line name) text = section_row line name

@@ -3,5 +3,7 @@
 //! A file is judged line by line into rows; all answers are look-ups in these rows.
 
 pub mod fault;
-pub mod line;
-pub mod row;
+pub mod key;
+mod line;
+mod row;
+mod value;

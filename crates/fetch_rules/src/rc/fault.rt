@@ -1,51 +1,10 @@
-//! What can be wrong with an rc file, and the keys that it may hold.
+//! What can be wrong with an rc file.
 ghost use Rattle.std.specs.Prelude.{◌≡◌};
 ghost use Rattle.fetch_rules.specs.declared.rc.fault.RcFault.TheVariants.{NoMemory};
 
+use crate::rc::key::{Key, Section};
 use std::alloc::{AllocError, AllocFailed};
 use thiserror::Error;
-
-/// A section that an rc file must have.
-#[derive(Clone, Copy, Debug, PartialEq, Eq)]
-pub enum Section {
-    /// `[retriever]`
-    Retriever,
-    /// `[destination]`
-    Destination,
-}
-
-/// A key that has an effect, in the order in which keys are judged.
-#[derive(Clone, Copy, Debug, PartialEq, Eq)]
-pub enum Key {
-    /// `type` of `[retriever]`
-    RetrieverKind,
-    /// `use_apop` of `[retriever]`
-    UseApop,
-    /// `server` of `[retriever]`
-    Server,
-    /// `port` of `[retriever]`
-    Port,
-    /// `username` of `[retriever]`
-    Username,
-    /// `password` of `[retriever]`
-    Password,
-    /// `type` of `[destination]`
-    DestinationKind,
-    /// `path` of `[destination]`
-    Path,
-    /// `read_all` of `[options]`
-    ReadAll,
-    /// `delete` of `[options]`
-    Delete,
-    /// `delete_after` of `[options]`
-    DeleteAfter,
-    /// `max_message_size` of `[options]`
-    MaxSize,
-    /// `max_messages_per_session` of `[options]`
-    MaxCount,
-    /// `verbose` of `[options]`
-    Verbose,
-}
 
 /// Why an rc file, or a command line with it, gives no settings.
 #[derive(Clone, Copy, Debug, PartialEq, Eq, Error)]
