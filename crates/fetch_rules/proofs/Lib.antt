@@ -2,3 +2,4 @@ pub mod RcFaultLemmas
 pub mod RcLineLemmas
 pub mod RcRowLemmas
 pub mod RcValueLemmas
+pub mod RcAccountLemmas

@@ -1,7 +1,9 @@
+pub mod RcAccount
 pub mod RcKeys
 pub mod RcLine
 pub mod RcLines
 pub mod RcMeaning
+pub mod RcRead
 pub mod RcRow
 pub mod RcRows
 pub mod Settings

@@ -2,7 +2,9 @@
 //!
 //! A file is judged line by line into rows; all answers are look-ups in these rows.
 
+mod account;
 pub mod fault;
+mod form;
 pub mod key;
 mod line;
 mod row;
