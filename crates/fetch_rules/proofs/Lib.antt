@@ -3,3 +3,4 @@ pub mod RcLineLemmas
 pub mod RcRowLemmas
 pub mod RcValueLemmas
 pub mod RcAccountLemmas
+pub mod RcWarningLemmas

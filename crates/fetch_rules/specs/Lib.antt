@@ -6,4 +6,5 @@ pub mod RcMeaning
 pub mod RcRead
 pub mod RcRow
 pub mod RcRows
+pub mod RcWarning
 pub mod Settings

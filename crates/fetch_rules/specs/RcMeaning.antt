@@ -138,7 +138,8 @@ is_same a b = bytes_eq a.section b.section && bytes_eq a.key b.key
 -- each of the rows but those that stand for what an earlier one stands for
 abbrev pub firsts : List Warned → List Warned → List Warned
 firsts told [] = []
-firsts told (row ∷ rows) = if list_any (is_same row) told then firsts told rows else row ∷ firsts (row ∷ told) rows
+firsts told (row ∷ rows) =
+    if list_any (λ earlier. is_same earlier row) told then firsts told rows else row ∷ firsts (row ∷ told) rows
 
 -- what has no effect is told once, at its first line, in the order of lines
 abbrev pub warnings_in : List Row → List Warned

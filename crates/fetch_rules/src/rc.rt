@@ -9,3 +9,4 @@ pub mod key;
 mod line;
 mod row;
 mod value;
+pub mod warning;
