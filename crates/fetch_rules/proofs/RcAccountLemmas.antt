@@ -4,7 +4,7 @@ use Rattle.std.specs.Str.{bytes_eq}
 use Rattle.fetch_rules.specs.RcAccount.{key_fault, MakesDestination, IsDestination, ReadsDestination}
 use Rattle.fetch_rules.specs.RcKeys.{destination_keys, value_fault, path}
 use Rattle.fetch_rules.specs.RcMeaning.{fault_at, first_fault, is_folder, value_of, text_of, destination_in}
-use Rattle.fetch_rules.specs.RcRow.{IsFaultOf}
+use Rattle.fetch_rules.specs.RcAnswer.{IsFaultOf}
 use Rattle.fetch_rules.specs.RcRows.{Row}
 use Rattle.fetch_rules.specs.Settings.{Destination, maildir, mboxrd, destination_of, is_destination}
 use Rattle.fetch_rules.specs.declared.rc.fault.RcFault.{RcFault}

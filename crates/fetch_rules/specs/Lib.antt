@@ -1,4 +1,6 @@
+pub mod Flags
 pub mod RcAccount
+pub mod RcAnswer
 pub mod RcKeys
 pub mod RcLine
 pub mod RcLines
@@ -6,5 +8,6 @@ pub mod RcMeaning
 pub mod RcRead
 pub mod RcRow
 pub mod RcRows
+pub mod RcTexts
 pub mod RcWarning
 pub mod Settings

@@ -3,7 +3,7 @@ use Rattle.std.specs.Prelude.{◌≡◌, ℕ, ◌≤◌, List, ◌++◌, map, mi
 use Rattle.std.specs.String.{string_bytes}
 use Rattle.fetch_rules.specs.RcKeys.{retriever_keys, destination_keys, option_keys}
 use Rattle.fetch_rules.specs.RcMeaning.{fault_at, first_fault, text_of, number_of, is_true, destination_in, settings_in}
-use Rattle.fetch_rules.specs.RcRow.{IsFaultOf}
+use Rattle.fetch_rules.specs.RcAnswer.{IsFaultOf}
 use Rattle.fetch_rules.specs.RcRows.{Row}
 use Rattle.fetch_rules.specs.Settings.{Destination, is_server, is_credential, is_destination, destination_of, content_of, IsValid}
 use Rattle.fetch_rules.specs.declared.rc.account.Options.{Options}

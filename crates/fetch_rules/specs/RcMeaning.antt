@@ -78,11 +78,11 @@ first_fault [] = None
 first_fault (None ∷ faults) = first_fault faults
 first_fault (Some fault ∷ faults) = Some fault
 
--- all that can be wrong with a file, in the order in which it decides
-abbrev pub faults_of : List ℕ → List (Option RcFault)
-faults_of bytes =
-    too_long bytes ∷ first_bad (rows_of bytes) ∷ missing_section (rows_of bytes) Retriever ∷ missing_section (rows_of bytes) DestinationSection
-    ∷ map (fault_at (rows_of bytes)) (retriever_keys ++ (destination_keys ++ option_keys))
+-- all that can be wrong with a file of these rows, in the order in which it decides
+abbrev pub faults_of : List ℕ → List Row → List (Option RcFault)
+faults_of bytes rows =
+    too_long bytes ∷ first_bad rows ∷ missing_section rows Retriever ∷ missing_section rows DestinationSection
+    ∷ map (fault_at rows) (retriever_keys ++ (destination_keys ++ option_keys))
 
 -- the settings, where nothing is wrong
 abbrev pub destination_in : List Row → Destination
@@ -151,4 +151,4 @@ meant None rows = Ok (settings_in rows, warnings_in rows)
 meant (Some fault) rows = Err fault
 
 unfoldable pub rc_meaning : List ℕ → Result (Content × List Warned) RcFault
-rc_meaning bytes = meant (first_fault (faults_of bytes)) (rows_of bytes)
+rc_meaning bytes = meant (first_fault (faults_of bytes (rows_of bytes))) (rows_of bytes)

@@ -2,6 +2,7 @@
 use Rattle.std.specs.Prelude.{◌≡◌, ℕ, ◌+◌, Bool, true, false, List, [], ◌∷◌, ◌++◌, map, Option, Some, None, Result, Ok, Err, Vec}
 use Rattle.std.specs.declared.alloc.Global.{Global}
 use Rattle.std.specs.String.{string_bytes}
+use Rattle.fetch_rules.specs.RcAnswer.{IsFaultOf}
 use Rattle.fetch_rules.specs.RcLines.{Line}
 use Rattle.fetch_rules.specs.RcRows.{Row, section_row, key_row, bad_row, added, rows_from}
 use Rattle.fetch_rules.specs.RcMeaning.{first_bad}
@@ -19,24 +20,6 @@ row_of row = row_at row.line row.section.now row.entry
 
 abbrev pub rows_in : List ReadRow → List Row
 rows_in rows = map row_of rows
-
--- the fault is what is meant, or a growth was refused
-abbrev pub IsFaultOf : Option RcFault → RcFault → Type 0
-IsFaultOf meant TooLong = meant ≡ Some TooLong
-IsFaultOf meant (BadLine line) = meant ≡ Some (BadLine line)
-IsFaultOf meant (MissingSection section) = meant ≡ Some (MissingSection section)
-IsFaultOf meant (MissingKey key) = meant ≡ Some (MissingKey key)
-IsFaultOf meant (UnknownType key) = meant ≡ Some (UnknownType key)
-IsFaultOf meant (BadValue key) = meant ≡ Some (BadValue key)
-IsFaultOf meant (Unsupported key) = meant ≡ Some (Unsupported key)
-IsFaultOf meant BadPath = meant ≡ Some BadPath
-IsFaultOf meant Contradiction = meant ≡ Some Contradiction
-IsFaultOf meant NoMemory = Unit {0}
-
--- the fault of a result
-abbrev pub fault_in : {T : Type 0} → Result T RcFault → Option RcFault
-fault_in (Ok value) = None
-fault_in (Err fault) = Some fault
 
 -- the row with this text behind its value, where it is a key's
 abbrev pub continued_row : Row → List ℕ → Row

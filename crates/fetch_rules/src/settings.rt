@@ -2,7 +2,7 @@
 ghost use Rattle.std.specs.Prelude.{◌≡◌, ◌↔◌, ◌++◌, drop, if◌then◌else◌, IfOk, IsTrue};
 ghost use Rattle.std.specs.String.{string_bytes};
 ghost use Rattle.std.specs.List.{list_all};
-ghost use Rattle.fetch_rules.specs.Settings.{is_server_byte, is_plain_byte, is_path_byte, is_server, is_credential, is_path, is_maildir_path, is_mboxrd_path, is_destination, destination_of, IsValid};
+ghost use Rattle.fetch_rules.specs.Settings.{begins_at_home, is_server_byte, is_plain_byte, is_path_byte, is_server, is_credential, is_path, is_maildir_path, is_mboxrd_path, is_destination, destination_of, IsValid};
 
 use std::alloc::{AllocError, Global};
 
@@ -122,4 +122,17 @@ fn is_destination(dest: &Dest) -> bool
         Dest::Maildir(path) => is_maildir_path(path.as_str()),
         Dest::Mboxrd(path) => is_mboxrd_path(path.as_str()),
     }
+}
+
+/// The path that is meant: one that begins with `~/` begins in the home, and is `home` followed by
+/// the path from its `/`; any other is itself.
+pub fn full_path(alloc: Global, path: &str, home: &str) -> Result<String, AllocError>
+    ensures { IfOk result (λ full. string_bytes full ≡ (if begins_at_home path.now then home.now ++ drop 1 path.now else path.now)) }
+{
+    if !path.as_bytes().starts_with(b"~/") {
+        return String::from_str(alloc, path);
+    }
+    let mut full = String::from_str(alloc, home)?;
+    full.push_str(&path[1..])?;
+    Ok(full)
 }

@@ -3,7 +3,8 @@ ghost use Rattle.std.specs.Prelude.{◌≡◌};
 ghost use Rattle.std.specs.Option.{option_copied};
 ghost use Rattle.std.specs.List.{list_any};
 ghost use Rattle.fetch_rules.specs.RcMeaning.{is_section, section_name, value_at, value_of, missing_section};
-ghost use Rattle.fetch_rules.specs.RcRow.{fault_in, row_of, rows_in};
+ghost use Rattle.fetch_rules.specs.RcAnswer.{fault_in};
+ghost use Rattle.fetch_rules.specs.RcRow.{row_of, rows_in};
 
 use crate::rc::fault::RcFault;
 use crate::rc::key::{Key, Section};

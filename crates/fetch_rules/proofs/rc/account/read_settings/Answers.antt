@@ -2,7 +2,8 @@ use Rattle.std.proofs.Common.{◌≡◌, ◌++◌, ◌∙◌, None}
 use Rattle.std.proofs.lemmas.Result.{err_from_is_err_and}
 use Rattle.fetch_rules.specs.RcAccount.{key_fault}
 use Rattle.fetch_rules.specs.RcKeys.{retriever_keys, destination_keys, option_keys}
-use Rattle.fetch_rules.specs.RcRow.{IsFaultOf, rows_in}
+use Rattle.fetch_rules.specs.RcAnswer.{IsFaultOf}
+use Rattle.fetch_rules.specs.RcRow.{rows_in}
 use Rattle.fetch_rules.proofs.RcAccountLemmas.{key_fault-past, key_fault-front}
 use Rattle.fetch_rules.proofs.RcFaultLemmas.{is_fault-through}
 use Rattle.fetch_rules.proofs.rc.account.read_settings.Goals as goal

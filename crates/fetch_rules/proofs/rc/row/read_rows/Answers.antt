@@ -3,7 +3,8 @@ use Rattle.std.proofs.lemmas.Result.{err_from_is_err_and}
 use Rattle.fetch_rules.specs.RcLine.{line_of}
 use Rattle.fetch_rules.specs.RcLines.{Line, judge, file_lines}
 use Rattle.fetch_rules.specs.RcMeaning.{first_bad}
-use Rattle.fetch_rules.specs.RcRow.{rows_in, file_rows, IsFaultOf}
+use Rattle.fetch_rules.specs.RcAnswer.{IsFaultOf}
+use Rattle.fetch_rules.specs.RcRow.{rows_in, file_rows}
 use Rattle.fetch_rules.specs.RcRows.{Row, rows_of}
 use Rattle.fetch_rules.specs.declared.rc.fault.RcFault.{RcFault}
 use Rattle.fetch_rules.specs.declared.rc.row.Row.{Row as ReadRow}

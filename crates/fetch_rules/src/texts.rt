@@ -1,0 +1,55 @@
+//! How faults and warnings of an rc file are told. Nothing of a value stands in them, so that no
+//! password does.
+ghost use Rattle.std.specs.Prelude.{◌≡◌, ◌++◌, IfOk};
+ghost use Rattle.std.specs.String.{string_bytes};
+ghost use Rattle.fetch_rules.specs.RcTexts.{key_text, rc_text, warning_text};
+ghost use Rattle.fetch_rules.specs.RcWarning.{warning_of};
+
+use crate::rc::fault::RcFault;
+use crate::rc::key::Key;
+use crate::rc::warning::Warning;
+use std::alloc::{AllocError, Global};
+
+/// The text of a fault, without a line end.
+pub fn rc_text(alloc: Global, fault: &RcFault) -> Result<String, AllocError>
+    ensures { IfOk result (λ text. string_bytes text ≡ rc_text fault.now) }
+{
+    match *fault {
+        RcFault::TooLong => String::from_str(alloc, "rc file too long"),
+        RcFault::BadLine(line) => format!(in alloc; "rc file line {line} not understood"),
+        RcFault::MissingSection(section) => {
+            let name = section.name();
+            format!(in alloc; "section [{name}] missing")
+        }
+        RcFault::MissingKey(key) => key_text(alloc, key, " missing"),
+        RcFault::UnknownType(key) => key_text(alloc, key, " unknown"),
+        RcFault::BadValue(key) => key_text(alloc, key, " has a bad value"),
+        RcFault::Unsupported(key) => key_text(alloc, key, " unsupported"),
+        RcFault::BadPath => String::from_str(alloc, "destination.path has a bad form"),
+        RcFault::Contradiction => String::from_str(alloc, "opposite flags"),
+        RcFault::NoMemory => String::from_str(alloc, "out of memory"),
+    }
+}
+
+/// A key with its section, and what is said of it.
+fn key_text(alloc: Global, key: Key, said: &str) -> Result<String, AllocError>
+    ensures { IfOk result (λ text. string_bytes text ≡ key_text key ++ said.now) }
+{
+    let section = key.section();
+    let name = key.name();
+    format!(in alloc; "{section}.{name}{said}")
+}
+
+/// The text of a warning, without a line end.
+pub fn warning_text(alloc: Global, warning: &Warning) -> Result<String, AllocError>
+    ensures { IfOk result (λ text. string_bytes text ≡ warning_text (warning_of warning.now)) }
+{
+    let line = warning.line;
+    let section = warning.section.as_str();
+    let key = warning.key.as_str();
+    if key.is_empty() {
+        format!(in alloc; "warning: line {line}: section [{section}] has no effect")
+    } else {
+        format!(in alloc; "warning: line {line}: {section}.{key} has no effect")
+    }
+}
