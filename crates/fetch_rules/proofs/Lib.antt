@@ -1,6 +1,7 @@
+pub mod RcAccountLemmas
 pub mod RcFaultLemmas
 pub mod RcLineLemmas
+pub mod RcReadLemmas
 pub mod RcRowLemmas
 pub mod RcValueLemmas
-pub mod RcAccountLemmas
 pub mod RcWarningLemmas

@@ -24,8 +24,12 @@ rc_text Contradiction = codes "opposite flags"
 rc_text NoMemory = codes "out of memory"
 
 -- what has no effect: a section, or a key with its section
-abbrev pub subject_text : Warned → List ℕ
-subject_text warning = if length warning.key == 0 then codes "section [" ++ warning.section ++ codes "]" else warning.section ++ codes "." ++ warning.key
+abbrev pub section_warning : ℕ → List ℕ → List ℕ
+section_warning line section = codes "warning: line " ++ decimal line ++ codes ": section [" ++ section ++ codes "] has no effect"
+
+abbrev pub key_warning : ℕ → List ℕ → List ℕ → List ℕ
+key_warning line section key = codes "warning: line " ++ decimal line ++ codes ": " ++ section ++ codes "." ++ key ++ codes " has no effect"
 
 abbrev pub warning_text : Warned → List ℕ
-warning_text warning = codes "warning: line " ++ decimal warning.line ++ codes ": " ++ subject_text warning ++ codes " has no effect"
+warning_text warning =
+    if length warning.key == 0 then section_warning warning.line warning.section else key_warning warning.line warning.section warning.key

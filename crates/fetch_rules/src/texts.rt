@@ -2,7 +2,9 @@
 //! password does.
 ghost use Rattle.std.specs.Prelude.{◌≡◌, ◌++◌, IfOk};
 ghost use Rattle.std.specs.String.{string_bytes};
-ghost use Rattle.fetch_rules.specs.RcTexts.{key_text, rc_text, warning_text};
+ghost use Rattle.fetch_rules.specs.RcTexts.{
+    key_text, key_warning, rc_text, section_warning, warning_text,
+};
 ghost use Rattle.fetch_rules.specs.RcWarning.{warning_of};
 
 use crate::rc::fault::RcFault;
@@ -44,12 +46,22 @@ fn key_text(alloc: Global, key: Key, said: &str) -> Result<String, AllocError>
 pub fn warning_text(alloc: Global, warning: &Warning) -> Result<String, AllocError>
     ensures { IfOk result (λ text. string_bytes text ≡ warning_text (warning_of warning.now)) }
 {
-    let line = warning.line;
     let section = warning.section.as_str();
-    let key = warning.key.as_str();
-    if key.is_empty() {
-        format!(in alloc; "warning: line {line}: section [{section}] has no effect")
+    if warning.key.is_empty() {
+        section_warning(alloc, warning.line, section)
     } else {
-        format!(in alloc; "warning: line {line}: {section}.{key} has no effect")
+        key_warning(alloc, warning.line, section, warning.key.as_str())
     }
+}
+
+fn section_warning(alloc: Global, line: u32, section: &str) -> Result<String, AllocError>
+    ensures { IfOk result (λ text. string_bytes text ≡ section_warning line section.now) }
+{
+    format!(in alloc; "warning: line {line}: section [{section}] has no effect")
+}
+
+fn key_warning(alloc: Global, line: u32, section: &str, key: &str) -> Result<String, AllocError>
+    ensures { IfOk result (λ text. string_bytes text ≡ key_warning line section.now key.now) }
+{
+    format!(in alloc; "warning: line {line}: {section}.{key} has no effect")
 }
