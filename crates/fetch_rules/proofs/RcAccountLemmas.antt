@@ -1,12 +1,10 @@
 -- The first faulty key, from the faults of single keys.
-use Rattle.std.proofs.Common.{◌≡◌, ℕ, List, [], ◌∷◌, ◌++◌, map, Bool, true, false, Option, Some, None, Result, Ok, Err, if◌then◌else◌, ap, sym, refl, ◌∙◌}
-use Rattle.std.specs.Str.{bytes_eq}
-use Rattle.fetch_rules.specs.RcAccount.{key_fault, MakesDestination, IsDestination, ReadsDestination}
-use Rattle.fetch_rules.specs.RcKeys.{destination_keys, value_fault, path}
-use Rattle.fetch_rules.specs.RcMeaning.{fault_at, first_fault, is_folder, value_of, text_of, destination_in}
-use Rattle.fetch_rules.specs.RcAnswer.{IsFaultOf}
+use Rattle.std.proofs.Common.{◌≡◌, ℕ, List, [], ◌∷◌, ◌++◌, map, true, false, Option, Some, None, Result, Ok, Err, ap, sym, refl, ◌∙◌}
+use Rattle.fetch_rules.specs.RcAccount.{key_fault, MakesDestination, ReadsDestination}
+use Rattle.fetch_rules.specs.RcKeys.{value_fault, path}
+use Rattle.fetch_rules.specs.RcMeaning.{fault_at, first_fault, is_folder, value_of}
 use Rattle.fetch_rules.specs.RcRows.{Row}
-use Rattle.fetch_rules.specs.Settings.{Destination, maildir, mboxrd, destination_of, is_destination}
+use Rattle.fetch_rules.specs.Settings.{maildir, mboxrd, is_destination}
 use Rattle.fetch_rules.specs.declared.rc.fault.RcFault.{RcFault}
 use Rattle.fetch_rules.specs.declared.rc.fault.RcFault.TheVariants.{TooLong, BadLine, MissingSection, MissingKey, UnknownType, BadValue, Unsupported, BadPath, Contradiction, NoMemory}
 use Rattle.fetch_rules.specs.declared.rc.key.Key.{Key}
@@ -64,7 +62,7 @@ pub maildir_read : (rows : List Row) (text : List ℕ) (result : Result Dest RcF
 maildir_read rows text (Ok dest) found kind folder h = record {
   sound = key_fault-next rows DestinationKind (Path ∷ []) kind ∙ key_fault-next rows Path [] (sym (path_fault rows text found) ∙ rw (folder, h.1)) ∙ key_fault-nil rows;
   dest_is = h.0 ∙ ap maildir (text_found rows Path text found) ∙ rw folder;
-  dest_valid = ap is_destination h.0 ∙ h.1
+  dest_valid = ap is_destination h.0 ∙ h.1;
 }
 maildir_read rows text (Err BadPath) found kind folder h = key_fault-next rows DestinationKind (Path ∷ []) kind ∙ key_fault-here rows Path [] BadPath (sym (path_fault rows text found) ∙ rw (folder, h))
 maildir_read rows text (Err NoMemory) found kind folder h = tt
@@ -81,7 +79,7 @@ pub mboxrd_read : (rows : List Row) (text : List ℕ) (result : Result Dest RcFa
 mboxrd_read rows text (Ok dest) found kind folder h = record {
   sound = key_fault-next rows DestinationKind (Path ∷ []) kind ∙ key_fault-next rows Path [] (sym (path_fault rows text found) ∙ rw (folder, h.1)) ∙ key_fault-nil rows;
   dest_is = h.0 ∙ ap mboxrd (text_found rows Path text found) ∙ rw folder;
-  dest_valid = ap is_destination h.0 ∙ h.1
+  dest_valid = ap is_destination h.0 ∙ h.1;
 }
 mboxrd_read rows text (Err BadPath) found kind folder h = key_fault-next rows DestinationKind (Path ∷ []) kind ∙ key_fault-here rows Path [] BadPath (sym (path_fault rows text found) ∙ rw (folder, h))
 mboxrd_read rows text (Err NoMemory) found kind folder h = tt

@@ -1,5 +1,5 @@
 -- A fault that is meant is answered, and one that is answered, but for a refused growth, is meant.
-use Rattle.std.proofs.Common.{◌≡◌, Option, Some, None}
+use Rattle.std.proofs.Common.{◌≡◌, Option, Some}
 use Rattle.fetch_rules.specs.RcAnswer.{IsFaultOf}
 use Rattle.fetch_rules.specs.declared.rc.fault.RcFault.{RcFault}
 use Rattle.fetch_rules.specs.declared.rc.fault.RcFault.TheVariants.{TooLong, BadLine, MissingSection, MissingKey, UnknownType, BadValue, Unsupported, BadPath, Contradiction, NoMemory}

@@ -1,12 +1,12 @@
 -- Where a line may be cut: beside a blank or a sign, which are ASCII.
-use Rattle.std.proofs.Common.{◌≡◌, ℕ, ◌+◌, ◌-◌, ◌<◌, ◌≤◌, List, length, Bool, true, false, ◌||◌, ◌==◌, ◌⊎◌, get_or, arith, reverse, subst, sym, ap, ◌∙◌, refl, [], ◌∷◌, inl, inr, eqb, ltb, Some, None}
+use Rattle.std.proofs.Common.{◌≡◌, ℕ, ◌+◌, ◌-◌, ◌<◌, ◌≤◌, List, length, true, false, ◌==◌, get_or, arith, reverse, subst, sym, ap, ◌∙◌, refl, [], ◌∷◌, inl, inr, eqb, ltb, Some, None}
 use Rattle.std.proofs.lemmas.Bool.{or_cases, eqb-true, ltb-true, cases_eq, cases_lt, cases_Bool, both_ways}
 use Rattle.std.proofs.lemmas.List.{get_or-reverse, get_or-take}
 use Rattle.std.proofs.lemmas.List.Sums.{prefix_len-le-length, suffix_len-le-length, prefix_len_passes, passes_at_first}
 use Rattle.std.proofs.lemmas.Str.{IsCharBoundary-before_ascii, IsCharBoundary-after_ascii, IsCharBoundary-end, IsUtf8-from_is_utf8, is_utf8-from_IsUtf8}
 use Rattle.std.specs.List.{prefix_len, suffix_len, position, position_or_len}
 use Rattle.std.specs.Str.{IsUtf8, is_utf8, IsCharBoundary}
-use Rattle.fetch_rules.specs.RcLines.{is_blank, is_sign, before_blanks, trimmed, is_skipped, section_line, key_line, judge, Line, skipped, more, bad}
+use Rattle.fetch_rules.specs.RcLines.{is_blank, is_sign, before_blanks, trimmed, is_skipped, section_line, key_line, judge, skipped, more, bad}
 
 blank_ascii : (byte : ℕ) → is_blank byte ≡ true → byte < 128
 blank_ascii byte h =
@@ -29,14 +29,14 @@ front_boundary bs utf8 some =
 pub end_boundary : (bs : List ℕ) → IsCharBoundary bs (length bs - suffix_len is_blank bs)
 end_boundary bs =
     elim (cases_eq (suffix_len is_blank bs) 0) [
-      inl none ↦ subst (λ (n : ℕ). IsCharBoundary bs n) (omega arith) (IsCharBoundary-end bs)
-    | inr some ↦
-        let within : suffix_len is_blank bs ≤ length bs = suffix_len-le-length is_blank bs in
-        let blank : is_blank (get_or (reverse bs) (suffix_len is_blank bs - 1) 0) ≡ true = prefix_len_passes is_blank (reverse bs) (suffix_len is_blank bs - 1) 0 (omega arith) in
-        let place : get_or (reverse bs) (suffix_len is_blank bs - 1) 0 ≡ get_or bs (length bs - 1 - (suffix_len is_blank bs - 1)) 0 = get_or-reverse bs (suffix_len is_blank bs - 1) 0 (omega arith) in
-        let same : length bs - 1 - (suffix_len is_blank bs - 1) ≡ length bs - suffix_len is_blank bs = omega arith in
-        let low : get_or bs (length bs - suffix_len is_blank bs) 0 < 128 = subst (λ (n : ℕ). get_or bs n 0 < 128) same (subst (λ (x : ℕ). x < 128) place (blank_ascii _ blank)) in
-        IsCharBoundary-before_ascii bs (length bs - suffix_len is_blank bs) (omega arith) low
+      | inl none ↦ subst (λ (n : ℕ). IsCharBoundary bs n) (omega arith) (IsCharBoundary-end bs)
+      | inr some ↦
+          let within : suffix_len is_blank bs ≤ length bs = suffix_len-le-length is_blank bs in
+          let blank : is_blank (get_or (reverse bs) (suffix_len is_blank bs - 1) 0) ≡ true = prefix_len_passes is_blank (reverse bs) (suffix_len is_blank bs - 1) 0 (omega arith) in
+          let place : get_or (reverse bs) (suffix_len is_blank bs - 1) 0 ≡ get_or bs (length bs - 1 - (suffix_len is_blank bs - 1)) 0 = get_or-reverse bs (suffix_len is_blank bs - 1) 0 (omega arith) in
+          let same : length bs - 1 - (suffix_len is_blank bs - 1) ≡ length bs - suffix_len is_blank bs = omega arith in
+          let low : get_or bs (length bs - suffix_len is_blank bs) 0 < 128 = subst (λ (n : ℕ). get_or bs n 0 < 128) same (subst (λ (x : ℕ). x < 128) place (blank_ascii _ blank)) in
+          IsCharBoundary-before_ascii bs (length bs - suffix_len is_blank bs) (omega arith) low
     ]
 
 -- and before and after the first sign
@@ -55,27 +55,28 @@ pub before_blanks-first : (bs : List ℕ) → 0 < length bs → is_blank (get_or
 before_blanks-first bs some first =
     let within : suffix_len is_blank bs ≤ length bs = suffix_len-le-length is_blank bs in
     let short : suffix_len is_blank bs < length bs =
-        elim (cases_lt (suffix_len is_blank bs) (length bs)) [
-          inl lt ↦ lt
-        | inr ge ↦
-            let blank : is_blank (get_or (reverse bs) (length bs - 1) 0) ≡ true = prefix_len_passes is_blank (reverse bs) (length bs - 1) 0 (omega arith) in
-            let place : get_or (reverse bs) (length bs - 1) 0 ≡ get_or bs (length bs - 1 - (length bs - 1)) 0 = get_or-reverse bs (length bs - 1) 0 (omega arith) in
-            let same : length bs - 1 - (length bs - 1) ≡ 0 = omega arith in
-            let front : is_blank (get_or bs 0 0) ≡ true = subst (λ (n : ℕ). is_blank (get_or bs n 0) ≡ true) same (subst (λ (x : ℕ). is_blank x ≡ true) place blank) in
-            absurd (both_ways _ first front)
-        ] in
+    elim (cases_lt (suffix_len is_blank bs) (length bs)) [
+      | inl lt ↦ lt
+      | inr ge ↦
+          let blank : is_blank (get_or (reverse bs) (length bs - 1) 0) ≡ true = prefix_len_passes is_blank (reverse bs) (length bs - 1) 0 (omega arith) in
+          let place : get_or (reverse bs) (length bs - 1) 0 ≡ get_or bs (length bs - 1 - (length bs - 1)) 0 = get_or-reverse bs (length bs - 1) 0 (omega arith) in
+          let same : length bs - 1 - (length bs - 1) ≡ 0 = omega arith in
+          let front : is_blank (get_or bs 0 0) ≡ true = subst (λ (n : ℕ). is_blank (get_or bs n 0) ≡ true) same (subst (λ (x : ℕ). is_blank x ≡ true) place blank) in
+          absurd (both_ways _ first front)
+    ] in
     get_or-take (length bs - suffix_len is_blank bs) bs 0 0 (omega arith)
 
 -- where a sign is found
 pub sign_found : (bs : List ℕ) (i : ℕ) → position is_sign bs ≡ Some i → (i ≡ position_or_len is_sign bs) × (position_or_len is_sign bs < length bs)
 sign_found bs i e =
     elim (cases_Bool (ltb (position_or_len is_sign bs) (length bs))) [
-      inl within ↦ (some_same _ _ (sym (rw within at e)), ltb-true _ _ within)
-    | inr past ↦ absurd (none_some _ (rw past at e))
+      | inl within ↦ (some_same _ _ (sym (rw within at e)), ltb-true _ _ within)
+      | inr past ↦ absurd (none_some _ (rw past at e))
     ]
   where
     some_same : (a b : ℕ) → Some a ≡ Some b → a ≡ b
     some_same a b h = cc
+
     none_some : (a : ℕ) → None ≡ Some a → ⊥
     none_some a h = cc
 
@@ -84,8 +85,8 @@ pub judge_bad : (bs : List ℕ) → (IsUtf8 bs → ⊥) → bad ≡ judge bs
 unfolding judge
 judge_bad bs other =
     elim (cases_Bool (is_utf8 bs)) [
-      inl is ↦ absurd (other (IsUtf8-from_is_utf8 bs is))
-    | inr isnt ↦ rw isnt
+      | inl is ↦ absurd (other (IsUtf8-from_is_utf8 bs is))
+      | inr isnt ↦ rw isnt
     ]
 
 pub judge_skipped : (line bs : List ℕ) → line ≡ bs → IsUtf8 bs → is_skipped line ≡ true → skipped ≡ judge bs

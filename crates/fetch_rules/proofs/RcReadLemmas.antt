@@ -1,10 +1,10 @@
 -- The meaning of a file, from what its reader finds.
-use Rattle.std.proofs.Common.{◌≡◌, ℕ, ◌<◌, ◌≤◌, List, [], ◌∷◌, ◌++◌, length, map, Option, Some, None, Result, Ok, Err, ap, sym, refl, ◌∙◌, if◌then◌else◌, Bool}
+use Rattle.std.proofs.Common.{◌≡◌, ℕ, ◌<◌, ◌≤◌, List, [], ◌∷◌, ◌++◌, length, map, Option, Some, None, Ok, ap, sym, refl, ◌∙◌}
 use Rattle.std.proofs.lemmas.Bool.{lt-ltb, le-ltb}
 use Rattle.fetch_rules.specs.RcAccount.{key_fault}
 use Rattle.fetch_rules.specs.RcAnswer.{fault_in}
 use Rattle.fetch_rules.specs.RcKeys.{retriever_keys, destination_keys, option_keys}
-use Rattle.fetch_rules.specs.RcMeaning.{Warned, limit, too_long, first_bad, missing_section, fault_at, first_fault, faults_of, settings_in, warnings_in, meant, rc_meaning}
+use Rattle.fetch_rules.specs.RcMeaning.{Warned, too_long, first_bad, missing_section, fault_at, first_fault, faults_of, settings_in, warnings_in, meant, rc_meaning}
 use Rattle.fetch_rules.specs.RcRow.{row_at, rows_in}
 use Rattle.fetch_rules.specs.RcRows.{Row, rows_of}
 use Rattle.fetch_rules.specs.Settings.{Content}

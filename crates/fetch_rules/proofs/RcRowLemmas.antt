@@ -1,9 +1,9 @@
 -- Reading a file line by line gives its rows.
-use Rattle.std.proofs.Common.{◌≡◌, ℕ, ◌+◌, ◌-◌, ◌<◌, ◌≤◌, suc, zero, Result, Ok, Err, List, [], ◌∷◌, ◌++◌, length, take, get_or, set, map, Bool, true, false, Option, Some, None, is_some, sym, ap, ◌∙◌, refl, arith}
+use Rattle.std.proofs.Common.{◌≡◌, ℕ, ◌+◌, ◌-◌, ◌<◌, ◌≤◌, suc, zero, Result, Ok, Err, List, [], ◌∷◌, ◌++◌, length, take, get_or, set, map, true, false, Option, Some, None, sym, ap, ◌∙◌, refl, arith}
 use Rattle.std.proofs.lemmas.List.{append-nil, append_assoc, map-append}
 use Rattle.std.specs.Char.{to_ascii_lowercase}
 use Rattle.fetch_rules.specs.RcLines.{Line, skipped, more, section, key, bad}
-use Rattle.fetch_rules.specs.RcRows.{Row, section_row, key_row, bad_row, added, more_rows, key_rows, rows_from}
+use Rattle.fetch_rules.specs.RcRows.{Row, section_row, key_row, bad_row, added, rows_from}
 use Rattle.fetch_rules.specs.RcMeaning.{first_bad}
 use Rattle.fetch_rules.specs.RcRow.{row_of, row_at, rows_in, continued_row, continued, section_in, last_section, is_key_row, ends_in_key, file_rows, AddsText, TakesLine}
 use Rattle.fetch_rules.specs.declared.rc.fault.RcFault.{RcFault}
@@ -69,8 +69,14 @@ file_rows-more rows (bad_row m) n text lines is_key = absurd (none is_key)
     none : false ≡ true → ⊥
     none h = cc
 file_rows-more rows (key_row m name word value) n text lines is_key =
-    rw (continued-last rows (key_row m name word value) (10 ∷ (text ++ added lines)), last_section-last rows (key_row m name word value), ends_in_key-last rows (key_row m name word value),
-        continued-last rows (key_row m name word (value ++ (10 ∷ text))) (added lines), last_section-last rows (key_row m name word (value ++ (10 ∷ text))), ends_in_key-last rows (key_row m name word (value ++ (10 ∷ text))))
+    rw (
+      continued-last rows (key_row m name word value) (10 ∷ (text ++ added lines)),
+      last_section-last rows (key_row m name word value),
+      ends_in_key-last rows (key_row m name word value),
+      continued-last rows (key_row m name word (value ++ (10 ∷ text))) (added lines),
+      last_section-last rows (key_row m name word (value ++ (10 ∷ text))),
+      ends_in_key-last rows (key_row m name word (value ++ (10 ∷ text))),
+    )
     (ap (λ (v : List ℕ). (rows ++ (key_row m name word v ∷ [])) ++ rows_from (Some name) true (n + 1) lines) (sym (append_assoc value (10 ∷ text) (added lines))))
 
 -- rows that were read are never bad

@@ -76,5 +76,5 @@ number_parsed {E} ds (Err e) numeral h =
     let read = parse_digits own {E = E} 64 ds (Err e) h (sym (digits_same ds) ∙ parts.1) in
     let some : 0 < length ds = ltb-true 0 (length ds) (and_parts (nat_lt 0 (length ds)) (nat_le (length ds) 20) parts.0).0 in
     let large : 18446744073709551615 < digits_value 10 ds =
-        elim (cases_lt 18446744073709551615 (digits_value 10 ds)) [ inl lt ↦ lt | inr le ↦ absurd (read (some, omega (arith, le))) ] in
+    elim (cases_lt 18446744073709551615 (digits_value 10 ds)) [ inl lt ↦ lt | inr le ↦ absurd (read (some, omega (arith, le))) ] in
     rw (numeral, lt-leb (digits_value 10 ds) 18446744073709551615 large)

@@ -61,15 +61,15 @@ pub tells_new : (row : Warned) (found : List Warned) (old new : HashSet Name (Bu
 tells_new row found old new name section key absent updates = λ all rest h. record {
   met = row ∷ h.met;
   whole =
-    h.whole
-    ∙ ap (λ (l : List Warned). found ++ l) (firsts_new h.met row rest (sym (met_same h.met name row section key) ∙ sym (h.names name) ∙ absent))
-    ∙ sym (append_assoc found (row ∷ []) (firsts (row ∷ h.met) rest));
+      h.whole
+      ∙ ap (λ (l : List Warned). found ++ l) (firsts_new h.met row rest (sym (met_same h.met name row section key) ∙ sym (h.names name) ∙ absent))
+      ∙ sym (append_assoc found (row ∷ []) (firsts (row ∷ h.met) rest));
   names = λ q.
-    updates q
-    ∙ or_cond (name_eq name q) (contains name_eq old q)
-    ∙ ap (λ (b : Bool). name_eq name q || b) (h.names q)
-    ∙ ap (λ (s : List ℕ). (bytes_eq s q.0.now && bytes_eq name.1.now q.1.now) || list_any (λ (earlier : Warned). bytes_eq earlier.section q.0.now && bytes_eq earlier.key q.1.now) h.met) section
-    ∙ ap (λ (k : List ℕ). (bytes_eq row.section q.0.now && bytes_eq k q.1.now) || list_any (λ (earlier : Warned). bytes_eq earlier.section q.0.now && bytes_eq earlier.key q.1.now) h.met) key
+      updates q
+      ∙ or_cond (name_eq name q) (contains name_eq old q)
+      ∙ ap (λ (b : Bool). name_eq name q || b) (h.names q)
+      ∙ ap (λ (s : List ℕ). (bytes_eq s q.0.now && bytes_eq name.1.now q.1.now) || list_any (λ (earlier : Warned). bytes_eq earlier.section q.0.now && bytes_eq earlier.key q.1.now) h.met) section
+      ∙ ap (λ (k : List ℕ). (bytes_eq row.section q.0.now && bytes_eq k q.1.now) || list_any (λ (earlier : Warned). bytes_eq earlier.section q.0.now && bytes_eq earlier.key q.1.now) h.met) key;
 }
 
 -- a row whose name was met
@@ -78,7 +78,7 @@ pub tells_again : (row : Warned) (found : List Warned) (old new : HashSet Name (
 tells_again row found old new name section key there same = λ all rest h. record {
   met = h.met;
   whole =
-    h.whole
-    ∙ ap (λ (l : List Warned). found ++ l) (firsts_again h.met row rest (sym (met_same h.met name row section key) ∙ sym (h.names name) ∙ there));
-  names = λ q. ap (λ (keys : List Name). list_any (name_eq q) keys) same ∙ h.names q
+      h.whole
+      ∙ ap (λ (l : List Warned). found ++ l) (firsts_again h.met row rest (sym (met_same h.met name row section key) ∙ sym (h.names name) ∙ there));
+  names = λ q. ap (λ (keys : List Name). list_any (name_eq q) keys) same ∙ h.names q;
 }

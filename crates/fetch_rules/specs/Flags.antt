@@ -19,5 +19,5 @@ abbrev pub overridden : Content → Flags → Content
 overridden content flags = record content {
   read_all = switched flags.all flags.new_only content.read_all;
   delete = switched flags.delete flags.dont_delete content.delete;
-  verbose = louder flags.quiet flags.verbose content.verbose
+  verbose = louder flags.quiet flags.verbose content.verbose;
 }

@@ -1,5 +1,5 @@
 -- What the readers of the sections answer.
-use Rattle.std.specs.Prelude.{◌≡◌, ℕ, ◌≤◌, List, ◌++◌, map, min, Option, None, Result, Ok, Err, false, IsTrue}
+use Rattle.std.specs.Prelude.{◌≡◌, ◌≤◌, List, ◌++◌, map, min, Option, None, Result, Ok, Err, false, IsTrue}
 use Rattle.std.specs.String.{string_bytes}
 use Rattle.fetch_rules.specs.RcKeys.{retriever_keys, destination_keys, option_keys}
 use Rattle.fetch_rules.specs.RcMeaning.{fault_at, first_fault, text_of, number_of, is_true, destination_in, settings_in}

@@ -1,7 +1,6 @@
 -- What each line of an rc file is, wherever it stands.
-use Rattle.std.specs.Prelude.{ℕ, Bool, not, ◌&&◌, ◌||◌, List, [], ◌∷◌, ◌-◌, length, take, drop, map, ◌==◌, nat_lt, slice_index, if◌then◌else◌}
+use Rattle.std.specs.Prelude.{ℕ, Bool, not, ◌&&◌, ◌||◌, List, ◌-◌, length, take, drop, map, ◌==◌, nat_lt, slice_index, if◌then◌else◌}
 use Rattle.std.specs.List.{prefix_len, suffix_len, position_or_len, before_first, after_first}
-use Rattle.std.specs.Char.{to_ascii_lowercase}
 use Rattle.std.specs.Str.{is_utf8}
 use Rattle.bstr.specs.Text.{lines_of, without_terminator}
 

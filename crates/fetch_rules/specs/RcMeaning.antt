@@ -1,5 +1,5 @@
 -- What an rc file means: its rows are read first, and then each answer is a look-up in them.
-use Rattle.std.specs.Prelude.{◌≡◌, ℕ, Bool, true, false, not, ◌&&◌, List, [], ◌∷◌, ◌++◌, length, map, min, nat_lt, if◌then◌else◌, Option, Some, None, Result, Ok, Err, codes}
+use Rattle.std.specs.Prelude.{ℕ, Bool, false, not, ◌&&◌, List, [], ◌∷◌, ◌++◌, length, map, min, nat_lt, if◌then◌else◌, Option, Some, None, Result, Ok, Err, codes}
 use Rattle.std.specs.List.{filter, filter_map, last_or, list_any}
 use Rattle.std.specs.Option.{unwrap_or}
 use Rattle.std.specs.Str.{bytes_eq}
@@ -100,7 +100,7 @@ settings_in rows = record {
   delete_after = number_of rows DeleteAfter;
   max_size = number_of rows MaxSize;
   max_count = number_of rows MaxCount;
-  verbose = min (number_of rows Verbose) 2
+  verbose = min (number_of rows Verbose) 2;
 }
 
 -- a warning as a value: its line, its section and, where it is about a key, the key

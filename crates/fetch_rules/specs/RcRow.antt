@@ -7,7 +7,7 @@ use Rattle.fetch_rules.specs.RcLines.{Line}
 use Rattle.fetch_rules.specs.RcRows.{Row, section_row, key_row, bad_row, added, rows_from}
 use Rattle.fetch_rules.specs.RcMeaning.{first_bad}
 use Rattle.fetch_rules.specs.declared.rc.fault.RcFault.{RcFault}
-use Rattle.fetch_rules.specs.declared.rc.fault.RcFault.TheVariants.{TooLong, BadLine, MissingSection, MissingKey, UnknownType, BadValue, Unsupported, BadPath, Contradiction, NoMemory}
+use Rattle.fetch_rules.specs.declared.rc.fault.RcFault.TheVariants.{BadLine, NoMemory}
 use Rattle.fetch_rules.specs.declared.rc.row.Row.{Row as ReadRow}
 use Rattle.fetch_rules.specs.declared.rc.row.Entry.{Entry}
 

@@ -25,10 +25,11 @@ rc_text NoMemory = codes "out of memory"
 
 -- what has no effect: a section, or a key with its section
 abbrev pub section_warning : ℕ → List ℕ → List ℕ
-section_warning line section = codes "warning: line " ++ decimal line ++ codes ": section [" ++ section ++ codes "] has no effect"
+section_warning line section = codes "warning: line " ++ (decimal line ++ (codes ": section [" ++ (section ++ codes "] has no effect")))
 
 abbrev pub key_warning : ℕ → List ℕ → List ℕ → List ℕ
-key_warning line section key = codes "warning: line " ++ decimal line ++ codes ": " ++ section ++ codes "." ++ key ++ codes " has no effect"
+key_warning line section key =
+    codes "warning: line " ++ (decimal line ++ (codes ": " ++ (section ++ (codes "." ++ (key ++ codes " has no effect")))))
 
 abbrev pub warning_text : Warned → List ℕ
 warning_text warning =

@@ -1,5 +1,5 @@
 -- What settings hold, and which values they may hold.
-use Rattle.std.specs.Prelude.{◌≡◌, ℕ, ◌≤◌, Bool, not, ◌&&◌, List, length, ◌==◌, nat_lt, nat_le, nat_eq, if◌then◌else◌, true, IsTrue, codes}
+use Rattle.std.specs.Prelude.{ℕ, ◌≤◌, Bool, not, ◌&&◌, List, length, ◌==◌, nat_lt, nat_le, nat_eq, if◌then◌else◌, true, IsTrue, codes}
 use Rattle.std.specs.List.{list_all, starts_with, ends_with}
 use Rattle.std.specs.String.{string_bytes}
 use Rattle.fetch_rules.specs.declared.settings.Settings.{Settings}
@@ -84,7 +84,7 @@ content_of settings = record {
   delete_after = settings.delete_after;
   max_size = settings.max_size;
   max_count = settings.max_count;
-  verbose = settings.verbose
+  verbose = settings.verbose;
 }
 
 -- the settings hold only values that an rc file may give. The types of the fields say the rest

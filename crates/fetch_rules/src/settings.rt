@@ -82,7 +82,9 @@ pub(crate) fn is_credential(text: &str) -> bool
 fn has_plain_bytes(bytes: &[u8]) -> bool
     ensures { result ≡ list_all is_plain_byte bytes.now }
 {
-    bytes.iter().all(|byte| *byte != b'\r' && *byte != b'\n' && *byte != 0)
+    bytes
+        .iter()
+        .all(|byte| *byte != b'\r' && *byte != b'\n' && *byte != 0)
 }
 
 /// Whether the text may be a path.
@@ -98,7 +100,9 @@ fn is_path(path: &str) -> bool
 fn has_path_bytes(bytes: &[u8]) -> bool
     ensures { result ≡ list_all is_path_byte bytes.now }
 {
-    bytes.iter().all(|byte| *byte != b'\n' && *byte != 0 && *byte != b'$')
+    bytes
+        .iter()
+        .all(|byte| *byte != b'\n' && *byte != 0 && *byte != b'$')
 }
 
 /// Whether the text may be the path of a Maildir.

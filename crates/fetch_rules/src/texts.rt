@@ -3,7 +3,11 @@
 ghost use Rattle.std.specs.Prelude.{◌≡◌, ◌++◌, IfOk};
 ghost use Rattle.std.specs.String.{string_bytes};
 ghost use Rattle.fetch_rules.specs.RcTexts.{
-    key_text, key_warning, rc_text, section_warning, warning_text,
+  key_text,
+  key_warning,
+  rc_text,
+  section_warning,
+  warning_text,
 };
 ghost use Rattle.fetch_rules.specs.RcWarning.{warning_of};
 

@@ -1,7 +1,11 @@
 //! The settings that the rows of an rc file give.
 ghost use Rattle.std.specs.Prelude.{◌≡◌, true, codes};
 ghost use Rattle.fetch_rules.specs.RcAccount.{
-    MakesDestination, ReadsRetriever, ReadsDestination, ReadsOptions, ReadsSettings,
+  MakesDestination,
+  ReadsRetriever,
+  ReadsDestination,
+  ReadsOptions,
+  ReadsSettings,
 };
 ghost use Rattle.fetch_rules.specs.RcKeys.{rule, value_fault};
 ghost use Rattle.fetch_rules.specs.RcMeaning.{fault_at, is_folder};

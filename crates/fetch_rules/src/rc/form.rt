@@ -4,7 +4,17 @@ ghost use Rattle.std.specs.Char.{is_ascii_digit, to_ascii_lowercase};
 ghost use Rattle.std.specs.List.{list_all};
 ghost use Rattle.std.specs.Str.Parse.{digits_value};
 ghost use Rattle.fetch_rules.specs.RcKeys.{
-    rule, boolean, never, number, server, credential, is_word, is_yes, is_no, is_numeral, value_fault,
+  rule,
+  boolean,
+  never,
+  number,
+  server,
+  credential,
+  is_word,
+  is_yes,
+  is_no,
+  is_numeral,
+  value_fault,
 };
 ghost use Rattle.fetch_rules.specs.RcMeaning.{fault_at, is_true, number_of, text_of};
 ghost use Rattle.fetch_rules.specs.RcRead.{ReadsAs, ReadsText};
@@ -143,7 +153,11 @@ fn check_server(key: Key, text: &str) -> Result<&str, RcFault>
     ensures reads { ReadsText (value_fault server key true text.now) text.now result }
     ensures valid { IfOk result (λ text. IsTrue (is_server text.now)) }
 {
-    if is_server(text) { Ok(text) } else { Err(RcFault::BadValue(key)) }
+    if is_server(text) {
+        Ok(text)
+    } else {
+        Err(RcFault::BadValue(key))
+    }
 }
 
 /// The username or the password.
@@ -162,5 +176,9 @@ fn check_credential(key: Key, text: &str) -> Result<&str, RcFault>
     ensures reads { ReadsText (value_fault credential key true text.now) text.now result }
     ensures valid { IfOk result (λ text. IsTrue (is_credential text.now)) }
 {
-    if is_credential(text) { Ok(text) } else { Err(RcFault::BadValue(key)) }
+    if is_credential(text) {
+        Ok(text)
+    } else {
+        Err(RcFault::BadValue(key))
+    }
 }

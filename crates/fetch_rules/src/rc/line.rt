@@ -2,7 +2,14 @@
 ghost use Rattle.std.specs.Prelude.{◌≡◌, ◌≤◌, ◌==◌, length, slice_index};
 ghost use Rattle.std.specs.List.{position, prefix_len, suffix_len};
 ghost use Rattle.fetch_rules.specs.RcLines.{
-    is_blank, is_sign, is_skipped, trimmed, before_blanks, section_line, key_line, judge,
+  is_blank,
+  is_sign,
+  is_skipped,
+  trimmed,
+  before_blanks,
+  section_line,
+  key_line,
+  judge,
 };
 ghost use Rattle.fetch_rules.specs.RcLine.{line_of};
 
@@ -53,7 +60,10 @@ fn front_blanks(text: &str) -> usize
     ensures count { result ≡ prefix_len is_blank text.now }
     ensures within { result ≤ length text.now }
 {
-    text.as_bytes().iter().take_while(|byte| is_blank(**byte)).count()
+    text.as_bytes()
+        .iter()
+        .take_while(|byte| is_blank(**byte))
+        .count()
 }
 
 /// How many blanks the text ends with.
@@ -61,7 +71,11 @@ fn end_blanks(text: &str) -> usize
     ensures count { result ≡ suffix_len is_blank text.now }
     ensures within { result ≤ length text.now }
 {
-    text.as_bytes().iter().rev().take_while(|byte| is_blank(**byte)).count()
+    text.as_bytes()
+        .iter()
+        .rev()
+        .take_while(|byte| is_blank(**byte))
+        .count()
 }
 
 /// Whether the line is empty, blanks alone or a comment.
@@ -135,5 +149,7 @@ fn key_line(line: &str) -> Line<'_>
 fn sign_place(line: &str) -> Option<usize>
     ensures { result ≡ position is_sign line.now }
 {
-    line.as_bytes().iter().position(|byte| *byte == b'=' || *byte == b':')
+    line.as_bytes()
+        .iter()
+        .position(|byte| *byte == b'=' || *byte == b':')
 }

@@ -77,7 +77,11 @@ fn add_line<'a>(
 fn add_section<'a>(rows: &mut Vec<Row<'a>>, number: u32, name: &'a str) -> Result<(), RcFault>
     ensures { TakesLine rows.old.items number (section name.now) result rows.new.items }
 {
-    rows.push(Row { line: number, section: name, entry: None })?;
+    rows.push(Row {
+        line: number,
+        section: name,
+        entry: None,
+    })?;
     Ok(())
 }
 
@@ -98,7 +102,11 @@ fn add_key<'a>(
         key: word.to_ascii_lowercase(alloc)?,
         value: String::from_str(alloc, value)?,
     };
-    rows.push(Row { line: number, section, entry: Some(entry) })?;
+    rows.push(Row {
+        line: number,
+        section,
+        entry: Some(entry),
+    })?;
     Ok(())
 }
 

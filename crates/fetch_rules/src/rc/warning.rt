@@ -1,7 +1,12 @@
 //! What of an rc file has no effect.
 ghost use Rattle.std.specs.Prelude.{◌≡◌, map, IfOk, OnOk};
 ghost use Rattle.fetch_rules.specs.RcMeaning.{
-    has_no_effect, is_known_key, is_known_section, is_named, warned, warnings_in,
+  has_no_effect,
+  is_known_key,
+  is_known_section,
+  is_named,
+  warned,
+  warnings_in,
 };
 ghost use Rattle.fetch_rules.specs.RcRow.{row_of, rows_in};
 ghost use Rattle.fetch_rules.specs.RcWarning.{Tells, warning_of};

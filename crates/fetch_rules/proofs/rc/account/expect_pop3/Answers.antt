@@ -1,10 +1,8 @@
-use Rattle.std.proofs.Common.{List, ℕ, ap, refl}
-use Rattle.std.specs.Prelude.{codes}
-use Rattle.std.specs.Str.{bytes_eq}
+use Rattle.std.proofs.Common.{refl}
 use Rattle.fetch_rules.specs.RcKeys.{rule}
 use Rattle.fetch_rules.specs.RcRow.{rows_in}
 use Rattle.fetch_rules.specs.declared.rc.key.Key.TheVariants.{RetrieverKind}
-use Rattle.fetch_rules.proofs.RcValueLemmas.{value_missing, value_judged, text_found, reads_same}
+use Rattle.fetch_rules.proofs.RcValueLemmas.{value_missing, value_judged, reads_same}
 use Rattle.fetch_rules.proofs.rc.account.expect_pop3.Goals as goal
 
 pub returns-in-Some : goal.returns-in-Some

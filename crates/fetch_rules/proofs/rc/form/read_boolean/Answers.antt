@@ -1,4 +1,4 @@
-use Rattle.std.proofs.Common.{ap, refl}
+use Rattle.std.proofs.Common.{ap}
 use Rattle.fetch_rules.specs.RcKeys.{boolean, is_yes}
 use Rattle.fetch_rules.specs.RcRow.{rows_in}
 use Rattle.fetch_rules.proofs.RcValueLemmas.{value_missing, value_judged, text_found, reads_same}

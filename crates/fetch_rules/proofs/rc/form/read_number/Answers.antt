@@ -1,4 +1,4 @@
-use Rattle.std.proofs.Common.{ap, refl}
+use Rattle.std.proofs.Common.{ap}
 use Rattle.std.specs.Str.Parse.{digits_value}
 use Rattle.fetch_rules.specs.RcKeys.{number}
 use Rattle.fetch_rules.specs.RcRow.{rows_in}

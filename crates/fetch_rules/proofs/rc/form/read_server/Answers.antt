@@ -1,4 +1,3 @@
-use Rattle.std.proofs.Common.{ap, refl}
 use Rattle.fetch_rules.specs.RcKeys.{server}
 use Rattle.fetch_rules.specs.RcRow.{rows_in}
 use Rattle.fetch_rules.proofs.RcValueLemmas.{value_missing, value_judged, text_found, reads_text_same}

@@ -1,7 +1,7 @@
-use Rattle.std.proofs.Common.{ap, refl}
+use Rattle.std.proofs.Common.{refl}
 use Rattle.fetch_rules.specs.RcKeys.{never}
 use Rattle.fetch_rules.specs.RcRow.{rows_in}
-use Rattle.fetch_rules.proofs.RcValueLemmas.{value_missing, value_judged, text_found, reads_same}
+use Rattle.fetch_rules.proofs.RcValueLemmas.{value_missing, value_judged, reads_same}
 use Rattle.fetch_rules.proofs.rc.form.refuse_true.Goals as goal
 
 pub returns-in-Some : goal.returns-in-Some

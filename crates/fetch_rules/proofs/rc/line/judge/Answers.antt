@@ -1,4 +1,4 @@
-use Rattle.std.proofs.Common.{◌∙◌, ap, sym, arith, List, ℕ, length, ◌<◌, ◌≡◌, get_or, false}
+use Rattle.std.proofs.Common.{◌∙◌, ap, sym}
 use Rattle.fetch_rules.specs.RcLines.{section_line, more}
 use Rattle.fetch_rules.proofs.RcLineLemmas.{judge_bad, judge_skipped, judge_more, judge_section, judge_key, begins_after_blanks}
 use Rattle.fetch_rules.proofs.rc.line.judge.Goals as goal

@@ -1,4 +1,4 @@
-use Rattle.std.proofs.Common.{ℕ, ◌+◌, ◌∙◌, sym, subst}
+use Rattle.std.proofs.Common.{ℕ, ◌+◌, sym, subst}
 use Rattle.std.specs.Str.{IsCharBoundary}
 use Rattle.fetch_rules.proofs.RcLineLemmas.{sign_found, sign_boundary, past_sign_boundary}
 use Rattle.fetch_rules.proofs.rc.line.key_line.Goals as goal

@@ -1,7 +1,5 @@
 use Rattle.std.proofs.Common.{◌<◌, ℕ, subst, sym}
-use Rattle.std.specs.List.{prefix_len}
 use Rattle.std.specs.Str.{IsCharBoundary}
-use Rattle.fetch_rules.specs.RcLines.{is_blank}
 use Rattle.fetch_rules.proofs.RcLineLemmas.{front_boundary}
 use Rattle.fetch_rules.proofs.rc.line.trimmed.Goals as goal
 

@@ -1,5 +1,4 @@
-use Rattle.std.proofs.Common.{List, ℕ, [], ◌∷◌, ◌++◌, ◌+◌, ◌∙◌, ap, sym, map, arith, length, ◌<◌}
-use Rattle.std.specs.Char.{to_ascii_lowercase}
+use Rattle.std.proofs.Common.{List, ℕ, [], ◌∷◌, ◌++◌, ◌+◌, ◌∙◌, ap, sym}
 use Rattle.std.specs.String.{string_bytes}
 use Rattle.fetch_rules.specs.RcRows.{Row, key_row}
 use Rattle.fetch_rules.specs.RcRow.{rows_in, file_rows}
@@ -9,7 +8,7 @@ use Rattle.fetch_rules.proofs.rc.row.add_key.Goals as goal
 pub returns-in_default : goal.returns-in_default
 returns-in_default c =
     λ lines. first_bad-key c.args.rows.now.items c.args.number c.args.word.now c.args.value.now lines
-        (key_misplaced c.args.rows.now.items c.deref.result.now c.deref.ensures.value c.in_default.ensures.item.3)
+    (key_misplaced c.args.rows.now.items c.deref.result.now c.deref.ensures.value c.in_default.ensures.item.3)
 
 pub returns : goal.returns
 returns c =

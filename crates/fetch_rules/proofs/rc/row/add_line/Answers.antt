@@ -1,4 +1,4 @@
-use Rattle.std.proofs.Common.{List, ◌∙◌, ap, ◌∷◌}
+use Rattle.std.proofs.Common.{◌∙◌, ap, ◌∷◌}
 use Rattle.fetch_rules.specs.RcLine.{line_of}
 use Rattle.fetch_rules.specs.RcMeaning.{first_bad}
 use Rattle.fetch_rules.specs.RcRow.{rows_in, file_rows}

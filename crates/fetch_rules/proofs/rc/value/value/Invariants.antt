@@ -1,8 +1,8 @@
-use Rattle.std.proofs.Common.{◌≡◌, drop, map}
+use Rattle.std.proofs.Common.{◌≡◌, drop}
 use Rattle.std.specs.List.{filter_map, last_or}
 use Rattle.std.specs.Option.{option_copied}
 use Rattle.fetch_rules.specs.RcMeaning.{value_at, value_of}
-use Rattle.fetch_rules.specs.RcRow.{row_of, rows_in}
+use Rattle.fetch_rules.specs.RcRow.{rows_in}
 use Rattle.fetch_rules.proofs.rc.value.value.Given as goal
 
 -- the last of what was found and of what is still to come decides
