@@ -6,5 +6,5 @@ import sys
 top = pathlib.Path(__file__).resolve().parent.parent
 sample = (top / "docs/getmailrc.sample").read_text()
 tests = (top / "crates/fetch_rules/src/rc/tests.rt").read_text()
-if f'const SAMPLE: &str = "{sample}";' not in tests:
+if f'"{sample}";' not in tests:
     sys.exit("docs/getmailrc.sample and the text in crates/fetch_rules/src/rc/tests.rt differ")

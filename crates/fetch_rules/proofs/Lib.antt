@@ -5,3 +5,4 @@ pub mod RcReadLemmas
 pub mod RcRowLemmas
 pub mod RcValueLemmas
 pub mod RcWarningLemmas
+pub mod TextsLemmas

@@ -1,8 +1,9 @@
 -- How faults and warnings of an rc file are told.
-use Rattle.std.specs.Prelude.{ℕ, List, ◌++◌, length, ◌==◌, if◌then◌else◌, codes}
+use Rattle.std.specs.Prelude.{ℕ, List, [], ◌++◌, length, ◌==◌, if◌then◌else◌, codes}
 use Rattle.std.specs.Fmt.{decimal}
 use Rattle.fetch_rules.specs.RcKeys.{rule}
 use Rattle.fetch_rules.specs.RcMeaning.{Warned, section_name}
+use Rattle.fetch_rules.specs.RcRows.{Row, section_row, key_row, bad_row}
 use Rattle.fetch_rules.specs.declared.rc.fault.RcFault.{RcFault}
 use Rattle.fetch_rules.specs.declared.rc.fault.RcFault.TheVariants.{TooLong, BadLine, MissingSection, MissingKey, UnknownType, BadValue, Unsupported, BadPath, Contradiction, NoMemory}
 use Rattle.fetch_rules.specs.declared.rc.key.Key.{Key}
@@ -34,3 +35,9 @@ key_warning line section key =
 abbrev pub warning_text : Warned → List ℕ
 warning_text warning =
     if length warning.key == 0 then section_warning warning.line warning.section else key_warning warning.line warning.section warning.key
+
+-- a row without its value
+abbrev pub without_value : Row → Row
+without_value (section_row line name) = section_row line name
+without_value (key_row line section key value) = key_row line section key []
+without_value (bad_row line) = bad_row line

@@ -82,3 +82,90 @@ fn louder(quiet: bool, more: u8, verbose: u8) -> u8
         verbose.saturating_add(more).min(2)
     }
 }
+
+#[cfg(test)]
+mod tests {
+    use super::*;
+    use crate::settings::Dest;
+    use std::alloc::{AllocError, Global};
+    use std::test::Fail;
+
+    const NONE: Flags = Flags {
+        all: false,
+        new_only: false,
+        delete: false,
+        dont_delete: false,
+        quiet: false,
+        verbose: 0,
+    };
+
+    fn sample(alloc: Global) -> Result<Settings, AllocError> {
+        Ok(Settings {
+            server: String::from_str(alloc, "s")?,
+            port: 110,
+            username: String::from_str(alloc, "u")?,
+            password: String::from_str(alloc, "p")?,
+            dest: Dest::Maildir(String::from_str(alloc, "m/")?),
+            read_all: true,
+            delete: false,
+            delete_after: 7,
+            max_size: 0,
+            max_count: 0,
+            verbose: 1,
+        })
+    }
+
+    #[test]
+    fn changes_what_flags_name(rt: HostRuntime) -> Result<(), Fail> {
+        let flags = Flags {
+            new_only: true,
+            delete: true,
+            verbose: 3,
+            ..NONE
+        };
+        let settings = override_with(sample(rt.alloc())?, flags)?;
+        assert!(rt; !settings.read_all && settings.delete);
+        assert_eq!(rt; settings.verbose, 2);
+        assert_eq!(rt; settings.delete_after, 7);
+        let settings = override_with(
+            settings,
+            Flags {
+                all: true,
+                dont_delete: true,
+                quiet: true,
+                ..NONE
+            },
+        )?;
+        assert!(rt; settings.read_all && !settings.delete);
+        assert_eq!(rt; settings.verbose, 0);
+        assert_eq!(rt; settings.delete_after, 7);
+        Ok(())
+    }
+
+    #[test]
+    fn refuses_opposite_flags(rt: HostRuntime) -> Result<(), Fail> {
+        for flags in [
+            Flags {
+                all: true,
+                new_only: true,
+                ..NONE
+            },
+            Flags {
+                delete: true,
+                dont_delete: true,
+                ..NONE
+            },
+            Flags {
+                quiet: true,
+                verbose: 1,
+                ..NONE
+            },
+        ] {
+            match override_with(sample(rt.alloc())?, flags) {
+                Ok(_) => assert!(rt; false, "accepted {flags:?}"),
+                Err(fault) => assert_eq!(rt; fault, RcFault::Contradiction),
+            }
+        }
+        Ok(())
+    }
+}

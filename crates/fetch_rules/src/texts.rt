@@ -1,6 +1,8 @@
 //! How faults and warnings of an rc file are told. Nothing of a value stands in them, so that no
 //! password does.
-ghost use Rattle.std.specs.Prelude.{◌≡◌, ◌++◌, IfOk};
+ghost use Rattle.std.specs.Prelude.{◌≡◌, ◌++◌, List, map, IfOk};
+ghost use Rattle.fetch_rules.specs.RcMeaning.{warnings_in};
+ghost use Rattle.fetch_rules.specs.RcRows.{Row};
 ghost use Rattle.std.specs.String.{string_bytes};
 ghost use Rattle.fetch_rules.specs.RcTexts.{
   key_text,
@@ -8,6 +10,7 @@ ghost use Rattle.fetch_rules.specs.RcTexts.{
   rc_text,
   section_warning,
   warning_text,
+  without_value,
 };
 ghost use Rattle.fetch_rules.specs.RcWarning.{warning_of};
 
@@ -68,4 +71,63 @@ fn key_warning(alloc: Global, line: u32, section: &str, key: &str) -> Result<Str
     ensures { IfOk result (λ text. string_bytes text ≡ key_warning line section.now key.now) }
 {
     format!(in alloc; "warning: line {line}: {section}.{key} has no effect")
+}
+
+/// A law: no warning depends on a value of the file, a password among them.
+pub fn warnings_hide_values()
+    ensures { (rows : List Row) → warnings_in (map without_value rows) ≡ warnings_in rows }
+{}
+
+#[cfg(test)]
+mod tests {
+    use super::*;
+    use crate::rc::key::Section;
+    use std::test::Fail;
+
+    #[test]
+    fn tells_faults(rt: HostRuntime) -> Result<(), Fail> {
+        for (fault, wanted) in [
+            (RcFault::TooLong, "rc file too long"),
+            (RcFault::BadLine(4), "rc file line 4 not understood"),
+            (
+                RcFault::MissingSection(Section::Destination),
+                "section [destination] missing",
+            ),
+            (RcFault::MissingKey(Key::Server), "retriever.server missing"),
+            (
+                RcFault::UnknownType(Key::RetrieverKind),
+                "retriever.type unknown",
+            ),
+            (
+                RcFault::BadValue(Key::MaxCount),
+                "options.max_messages_per_session has a bad value",
+            ),
+            (
+                RcFault::Unsupported(Key::UseApop),
+                "retriever.use_apop unsupported",
+            ),
+            (RcFault::BadPath, "destination.path has a bad form"),
+            (RcFault::Contradiction, "opposite flags"),
+            (RcFault::NoMemory, "out of memory"),
+        ] {
+            let text = rc_text(rt.alloc(), &fault)?;
+            assert_eq!(rt; text.as_str(), wanted);
+        }
+        Ok(())
+    }
+
+    #[test]
+    fn tells_a_section_of_no_effect(rt: HostRuntime) -> Result<(), Fail> {
+        let warning = Warning {
+            line: 9,
+            section: String::from_str(rt.alloc(), "filter-1")?,
+            key: String::new(rt.alloc()),
+        };
+        let text = warning_text(rt.alloc(), &warning)?;
+        assert_eq!(rt;
+            text.as_str(),
+            "warning: line 9: section [filter-1] has no effect"
+        );
+        Ok(())
+    }
 }
