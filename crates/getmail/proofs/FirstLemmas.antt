@@ -20,28 +20,29 @@ pub fetched : (line : List ℕ) (old mid new : Place) (text : List ℕ) → Open
 fetched line old mid new text begun read =
     let took = read.3 in
     let whole : took.body ≡ body_of took.is.lines = took.is.whole in
-    let short : length (body_of took.is.lines) ≤ text_limit = subst (λ (b : List ℕ). length b ≤ text_limit) whole took.within in
-    (record { first = line; body = Some took.is.lines },
+    let short : length (body_of took.is.lines) ≤ text_limit = subst (λ (b : List ℕ). length b ≤ text_limit) whole took.within in (
+      record { first = line; body = Some took.is.lines },
       talked_body retr line old mid new took.is.lines read.0 begun read.1 read.2 (took.heard ∙ ap (λ (b : List ℕ). b ++ new.waiting) whole)
-        (refl, took.is.content, short),
-      subst (λ (b : List ℕ). Body b text) whole took.is)
+          (refl, took.is.content, short),
+      subst (λ (b : List ℕ). Body b text) whole took.is,
+    )
 
 pub fetch_ended : (line : List ℕ) (old mid new : Place) → Opened retr line old mid → ReadsBody text_limit mid (Err Ended) new → Broke retr old new.link ConnectionEnded
 fetch_ended line old mid new begun read =
     broke_behind retr line old mid new.link read.0 ConnectionEnded begun read.1
-      (read.2.2, inr (mid.waiting ++ read.0, begins_of retr line old mid (mid.waiting ++ read.0) begun, refl, read.2.0))
+    (read.2.2, inr (mid.waiting ++ read.0, begins_of retr line old mid (mid.waiting ++ read.0) begun, refl, read.2.0))
 
 pub fetch_failed : (line : List ℕ) (old mid new : Place) → Opened retr line old mid → ReadsBody text_limit mid (Err Failed) new → Broke retr old new.link ReadFailed
 fetch_failed line old mid new begun read =
     let risen : new.link.failures ≡ mid.link.failures + 1 = read.2.3 in
     let more : mid.link.failures < new.link.failures = omega arith in
     broke_behind retr line old mid new.link read.0 ReadFailed begun read.1
-      (more, inr (mid.waiting ++ read.0, begins_of retr line old mid (mid.waiting ++ read.0) begun, refl, read.2.0))
+    (more, inr (mid.waiting ++ read.0, begins_of retr line old mid (mid.waiting ++ read.0) begun, refl, read.2.0))
 
 pub fetch_too_long : (line : List ℕ) (old mid new : Place) → Opened retr line old mid → ReadsBody text_limit mid (Err TooLong) new → Broke retr old new.link TextTooLong
 fetch_too_long line old mid new begun read =
     broke_behind retr line old mid new.link read.0 TextTooLong begun read.1
-      (refl, (mid.waiting ++ read.0, begins_of retr line old mid (mid.waiting ++ read.0) begun, read.2.0, read.2.1))
+    (refl, (mid.waiting ++ read.0, begins_of retr line old mid (mid.waiting ++ read.0) begun, read.2.0, read.2.1))
 
 -- STAT's turn was talked
 pub counted : (old new : Place) (count : ℕ) → Counts stat old (Ok count) new → (reply : Reply) × Talked (stat ∷ []) (reply ∷ []) old new × TellsCount reply count

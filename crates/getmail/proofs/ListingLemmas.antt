@@ -47,12 +47,12 @@ rows_none asked reader listing = record { listing = listing; content = tt; rows 
 
 has_more : (asked : Asked) (bytes waits more : List ℕ) (lines : List (List ℕ)) → HasRows asked bytes waits lines → HasRows asked (bytes ++ more) (waits ++ more) lines
 has_more asked bytes waits more lines has = record {
-    listing = has.listing;
-    content = has.content;
-    rows = has.rows;
-    few = has.few;
-    whole = ap (λ (l : List ℕ). l ++ more) has.whole ∙ append_assoc (flat_map ended lines) waits more;
-  }
+  listing = has.listing;
+  content = has.content;
+  rows = has.rows;
+  few = has.few;
+  whole = ap (λ (l : List ℕ). l ++ more) has.whole ∙ append_assoc (flat_map ended lines) waits more;
+}
 
 all_push : (P : List ℕ → Type 0) (lines : List (List ℕ)) (line : List ℕ) → AllByRecursion P lines → P line → AllByRecursion P (lines ++ line ∷ [])
 all_push P [] line all is = (is, tt)
@@ -81,47 +81,51 @@ is_ok_of r x e = ap is_ok e
 module _ {W R : Type 0} (sound : W → Type 0) (leads_to : W → W → Type 0) (seen : W → Link) (trans : (u v w : W) → leads_to u v → leads_to v w → leads_to u w)
     (asked : Asked) (IsThisRow : List ℕ → R → Type 0) (a : W) (reader : List ℕ) (b : W) (waits : List ℕ) (rows : List R)
     (now : InRows sound leads_to seen asked IsThisRow a reader b waits rows) where
-
   -- more was got, and nothing taken yet
   pub in_rows_on : (c : W) (waits' more : List ℕ) → leads_to b c → Gains (at (seen b) waits) (at (seen c) waits') more → GoesOn (seen b) (seen c)
       → InRows sound leads_to seen asked IsThisRow a reader c waits' rows
   in_rows_on c waits' more leads gains steady = record {
-      lines = now.lines;
-      gained = now.gained ++ more;
-      has = subst (λ (l : List ℕ). HasRows asked l waits' now.lines) (append_assoc reader now.gained more)
+    lines = now.lines;
+    gained = now.gained ++ more;
+    has = subst (λ (l : List ℕ). HasRows asked l waits' now.lines) (append_assoc reader now.gained more)
         (subst (λ (l : List ℕ). HasRows asked ((reader ++ now.gained) ++ more) l now.lines) (sym gains.waiting) (has_more asked (reader ++ now.gained) waits more now.lines now.has));
-      read = now.read;
-      link = (now.link.0, trans a b c now.link.1 leads, drew_on (seen a) (seen b) (seen c) now.gained more now.link.2 (drew_of (at (seen b) waits) (at (seen c) waits') more gains),
-        goes_on (seen a) (seen b) (seen c) now.link.3 steady);
-    }
+    read = now.read;
+    link = (
+      now.link.0,
+      trans a b c now.link.1 leads,
+      drew_on (seen a) (seen b) (seen c) now.gained more now.link.2 (drew_of (at (seen b) waits) (at (seen c) waits') more gains),
+      goes_on (seen a) (seen b) (seen c) now.link.3 steady,
+    );
+  }
 
   -- one more row was taken
   pub in_rows_push : (line after : List ℕ) (row : R) (rows' : List R) → waits ≡ ended line ++ after → IsContent line → IsRow asked line → IsThisRow line row
       → length rows < row_limit → rows' ≡ rows ++ row ∷ []
       → InRows sound leads_to seen asked IsThisRow a reader b after rows'
   in_rows_push line after row rows' whole content good read few is = record {
-      lines = now.lines ++ line ∷ [];
-      gained = now.gained;
-      has = record {
-        listing = now.has.listing;
-        content = all_push IsContent now.lines line now.has.content content;
-        rows = all_push (IsRow asked) now.lines line now.has.rows good;
-        few = size;
-        whole = now.has.whole ∙ ap (λ (l : List ℕ). flat_map ended now.lines ++ l) whole ∙ more_whole;
-      };
-      read = subst (AllZip IsThisRow (now.lines ++ line ∷ [])) (sym is) (zip_push IsThisRow now.lines rows line row now.read read);
-      link = now.link;
-    }
+    lines = now.lines ++ line ∷ [];
+    gained = now.gained;
+    has = record {
+      listing = now.has.listing;
+      content = all_push IsContent now.lines line now.has.content content;
+      rows = all_push (IsRow asked) now.lines line now.has.rows good;
+      few = size;
+      whole = now.has.whole ∙ ap (λ (l : List ℕ). flat_map ended now.lines ++ l) whole ∙ more_whole;
+    };
+    read = subst (AllZip IsThisRow (now.lines ++ line ∷ [])) (sym is) (zip_push IsThisRow now.lines rows line row now.read read);
+    link = now.link;
+  }
     where
       size : length (now.lines ++ line ∷ []) ≤ row_limit
       size =
           let all : length (now.lines ++ line ∷ []) ≡ length now.lines + 1 = length-append now.lines (line ∷ []) in
           let same : length now.lines ≡ length rows = zip_length IsThisRow now.lines rows now.read in
           omega arith
+
       more_whole : flat_map ended now.lines ++ (ended line ++ after) ≡ flat_map ended (now.lines ++ line ∷ []) ++ after
       more_whole = sym (append_assoc (flat_map ended now.lines) (ended line) after)
-        ∙ ap (λ (l : List ℕ). (flat_map ended now.lines ++ l) ++ after) (sym (append-nil (ended line)))
-        ∙ ap (λ (l : List ℕ). l ++ after) (sym (flat_map-append ended now.lines (line ∷ [])))
+          ∙ ap (λ (l : List ℕ). (flat_map ended now.lines ++ l) ++ after) (sym (append-nil (ended line)))
+          ∙ ap (λ (l : List ℕ). l ++ after) (sym (flat_map-append ended now.lines (line ∷ [])))
 
   -- a row was bad
   pub rows_bad : (line after : List ℕ) → waits ≡ ended line ++ after → IsContent line → (IsRow asked line → ⊥)
@@ -137,15 +141,18 @@ module _ {W R : Type 0} (sound : W → Type 0) (leads_to : W → W → Type 0) (
     where
       has : HasRows asked (reader ++ (now.gained ++ more)) waits' now.lines
       has = subst (λ (l : List ℕ). HasRows asked l waits' now.lines) (append_assoc reader now.gained more)
-        (subst (λ (l : List ℕ). HasRows asked ((reader ++ now.gained) ++ more) l now.lines) (sym behind) (has_more asked (reader ++ now.gained) waits more now.lines now.has))
+          (subst (λ (l : List ℕ). HasRows asked ((reader ++ now.gained) ++ more) l now.lines) (sym behind) (has_more asked (reader ++ now.gained) waits more now.lines now.has))
+
       none : IsLine waits' → HasNoBody (reader ++ (now.gained ++ more))
       none line = no_body (reader ++ (now.gained ++ more)) waits' (text_of now.lines)
-        (record { lines = now.lines; content = has.content; whole = has.whole; read = refl }) line
+          (record { lines = now.lines; content = has.content; whole = has.whole; read = refl }) line
+
       full : row_limit ≤ n → length now.lines ≡ row_limit
       full least =
           let same : length now.lines ≡ length rows = zip_length IsThisRow now.lines rows now.read in
           let few : length now.lines ≤ row_limit = now.has.few in
           omega arith
+
       by : (f : Fault) → RowCause f n (seen b) c waits' → RowsCause f asked (seen a) c (reader ++ (now.gained ++ more))
       by ConnectionEnded w = (w.0, none w.1)
       by ReadFailed w = (subst (λ (k : ℕ). k < c.failures) steady.failures w.0, none w.1)
@@ -163,11 +170,13 @@ module _ {W R : Type 0} (sound : W → Type 0) (leads_to : W → W → Type 0) (
   pub rows_end : (new : Place) (more : List ℕ) → Drew (seen a) (seen b) now.gained → GoesOn (seen a) (seen b)
       → Drew (seen b) new.link more → GoesOn (seen b) new.link → waits ++ more ≡ ended dot ++ new.waiting
       → (whole : List ℕ) × Drew (seen a) new.link whole × GoesOn (seen a) new.link × (reader ++ whole ≡ body_of now.lines ++ new.waiting)
-  rows_end new more drew steady drew' steady' heard =
-      (now.gained ++ more, drew_on (seen a) (seen b) new.link now.gained more drew drew', goes_on (seen a) (seen b) new.link steady steady',
-        sym (append_assoc reader now.gained more) ∙ ap (λ (l : List ℕ). l ++ more) now.has.whole ∙ append_assoc (flat_map ended now.lines) waits more
-        ∙ ap (λ (l : List ℕ). flat_map ended now.lines ++ l) heard ∙ sym (append_assoc (flat_map ended now.lines) (ended dot) new.waiting))
-
+  rows_end new more drew steady drew' steady' heard = (
+    now.gained ++ more,
+    drew_on (seen a) (seen b) new.link now.gained more drew drew',
+    goes_on (seen a) (seen b) new.link steady steady',
+    sym (append_assoc reader now.gained more) ∙ ap (λ (l : List ℕ). l ++ more) now.has.whole ∙ append_assoc (flat_map ended now.lines) waits more
+        ∙ ap (λ (l : List ℕ). flat_map ended now.lines ++ l) heard ∙ sym (append_assoc (flat_map ended now.lines) (ended dot) new.waiting),
+  )
 
 has_body_of_listing : (asked : Asked) → IsListing asked → (has_body asked ≡ true) × (may_want asked ≡ true)
 has_body_of_listing Greeting l = absurd l
@@ -197,12 +206,13 @@ cause_of_rows NoMemory asked old new bytes after begins listing why = (has_body_
 -- a listing was asked for, and its rows taken or not
 pub lists_of : {R : Type 0} (turn : Turn) (IsThisRow : List ℕ → R → Type 0) (line : List ℕ) (old mid new : Place) (result : Result (List R) Fault)
     → Opened turn line old mid → IsListing turn.asked → TakesRows turn.asked IsThisRow mid result new → Lists turn IsThisRow old result new
-lists_of turn IsThisRow line old mid new (Ok rows) begun listing takes =
-    (record { first = line; body = Some takes.0 },
-      talked_body turn line old mid new takes.0 takes.1.gained begun takes.1.drew takes.1.steady takes.1.heard
-        ((has_body_of_listing turn.asked listing).0, takes.1.content, takes.1.fit),
-      (takes.0, refl, takes.2))
+lists_of turn IsThisRow line old mid new (Ok rows) begun listing takes = (
+  record { first = line; body = Some takes.0 },
+  talked_body turn line old mid new takes.0 takes.1.gained begun takes.1.drew takes.1.steady takes.1.heard
+      ((has_body_of_listing turn.asked listing).0, takes.1.content, takes.1.fit),
+  (takes.0, refl, takes.2),
+)
 lists_of turn IsThisRow line old mid new (Err fault) begun listing takes =
     broke_behind turn line old mid new.link takes.0 fault begun takes.1
-      (cause_of_rows fault turn.asked mid.link new.link (ended line ++ (mid.waiting ++ takes.0)) (mid.waiting ++ takes.0)
-        (begins_of turn line old mid (mid.waiting ++ takes.0) begun) listing takes.2)
+    (cause_of_rows fault turn.asked mid.link new.link (ended line ++ (mid.waiting ++ takes.0)) (mid.waiting ++ takes.0)
+    (begins_of turn line old mid (mid.waiting ++ takes.0) begun) listing takes.2)

@@ -87,9 +87,13 @@ pub broke_there : (turn : Turn) (old : Place) (said : Link) (mid : Place) (gaine
     → said ≡ record old.link { sent = old.link.sent ++ turn.bytes } → Gains (at said old.waiting) mid gained
     → Cause fault turn.asked said mid.link mid.waiting → Broke turn old mid.link fault
 broke_there turn old said mid gained fault is gains why =
-    inr (gained, gains.sent ∙ ap (λ (l : Link). l.sent) is, gains.got ∙ ap (λ (l : Link). l.got ++ gained) is,
+    inr (
+      gained,
+      gains.sent ∙ ap (λ (l : Link). l.sent) is,
+      gains.got ∙ ap (λ (l : Link). l.got ++ gained) is,
       cause_since fault turn.asked old.link said mid.link (old.waiting ++ gained) (ap (λ (l : Link). l.failures) is)
-        (subst (Cause fault turn.asked said mid.link) gains.waiting why))
+          (subst (Cause fault turn.asked said mid.link) gains.waiting why),
+    )
 
 -- nothing is sent for the greeting
 pub nothing_said : (link : Link) → link ≡ record link { sent = link.sent ++ [] }
@@ -138,13 +142,13 @@ goes_on a b c first then = record { ended = then.ended ∙ first.ended; failures
 
 pub talked_none : (place : Place) → Talked [] [] place place
 talked_none place = record {
-    gained = [];
-    sent = sym (append-nil place.link.sent);
-    got = sym (append-nil place.link.got);
-    heard = append-nil place.waiting;
-    good = tt;
-    steady = record { ended = refl; failures = refl };
-  }
+  gained = [];
+  sent = sym (append-nil place.link.sent);
+  got = sym (append-nil place.link.got);
+  heard = append-nil place.waiting;
+  good = tt;
+  steady = record { ended = refl; failures = refl };
+}
 
 good_on : (xs ys : List Turn) (ls ms : List Reply) → AllZip IsGood xs ls → AllZip IsGood ys ms → AllZip IsGood (xs ++ ys) (ls ++ ms)
 good_on [] ys [] ms first then = then
@@ -154,44 +158,44 @@ good_on (x ∷ xs) ys (l ∷ ls) ms first then = (first.0, good_on xs ys ls ms f
 
 pub talked_on : (xs ys : List Turn) (ls ms : List Reply) (a b c : Place) → Talked xs ls a b → Talked ys ms b c → Talked (xs ++ ys) (ls ++ ms) a c
 talked_on xs ys ls ms a b c first then = record {
-    gained = first.gained ++ then.gained;
-    sent = then.sent ∙ ap (λ (s : List ℕ). s ++ asking ys) first.sent ∙ append_assoc a.link.sent (asking xs) (asking ys)
+  gained = first.gained ++ then.gained;
+  sent = then.sent ∙ ap (λ (s : List ℕ). s ++ asking ys) first.sent ∙ append_assoc a.link.sent (asking xs) (asking ys)
       ∙ ap (λ (s : List ℕ). a.link.sent ++ s) (sym (flat_map-append (λ (t : Turn). t.bytes) xs ys));
-    got = then.got ∙ ap (λ (s : List ℕ). s ++ then.gained) first.got ∙ append_assoc a.link.got first.gained then.gained;
-    heard = sym (append_assoc a.waiting first.gained then.gained) ∙ ap (λ (s : List ℕ). s ++ then.gained) first.heard
+  got = then.got ∙ ap (λ (s : List ℕ). s ++ then.gained) first.got ∙ append_assoc a.link.got first.gained then.gained;
+  heard = sym (append_assoc a.waiting first.gained then.gained) ∙ ap (λ (s : List ℕ). s ++ then.gained) first.heard
       ∙ append_assoc (flat_map reply_bytes ls) b.waiting then.gained ∙ ap (λ (s : List ℕ). flat_map reply_bytes ls ++ s) then.heard
       ∙ sym (append_assoc (flat_map reply_bytes ls) (flat_map reply_bytes ms) c.waiting)
       ∙ ap (λ (s : List ℕ). s ++ c.waiting) (sym (flat_map-append reply_bytes ls ms));
-    good = good_on xs ys ls ms first.good then.good;
-    steady = goes_on a.link b.link c.link first.steady then.steady;
-  }
+  good = good_on xs ys ls ms first.good then.good;
+  steady = goes_on a.link b.link c.link first.steady then.steady;
+}
 
 -- a reply of one line
 pub talked_line : (turn : Turn) (line : List ℕ) (old new : Place) → Opened turn line old new → has_body turn.asked ≡ false
     → Talked (turn ∷ []) (record { first = line; body = None } ∷ []) old new
 talked_line turn line old new begun none = record {
-    gained = begun.gained;
-    sent = begun.sent ∙ ap (λ (s : List ℕ). old.link.sent ++ s) (sym (append-nil turn.bytes));
-    got = begun.got;
-    heard = begun.heard ∙ ap (λ (s : List ℕ). s ++ new.waiting) (sym (append-nil (ended line ++ []) ∙ append-nil (ended line)));
-    good = (record { rest = begun.rest; line = begun.is; within = begun.within; positive = begun.positive; fits = begun.fits; body = none }, tt);
-    steady = begun.steady;
-  }
+  gained = begun.gained;
+  sent = begun.sent ∙ ap (λ (s : List ℕ). old.link.sent ++ s) (sym (append-nil turn.bytes));
+  got = begun.got;
+  heard = begun.heard ∙ ap (λ (s : List ℕ). s ++ new.waiting) (sym (append-nil (ended line ++ []) ∙ append-nil (ended line)));
+  good = (record { rest = begun.rest; line = begun.is; within = begun.within; positive = begun.positive; fits = begun.fits; body = none }, tt);
+  steady = begun.steady;
+}
 
 -- a reply with a body
 pub talked_body : (turn : Turn) (line : List ℕ) (old mid new : Place) (lines : List (List ℕ)) (gained : List ℕ) → Opened turn line old mid
     → Drew mid.link new.link gained → GoesOn mid.link new.link → mid.waiting ++ gained ≡ body_of lines ++ new.waiting
     → IsBody turn.asked (Some lines) → Talked (turn ∷ []) (record { first = line; body = Some lines } ∷ []) old new
 talked_body turn line old mid new lines gained begun drew steady heard is = record {
-    gained = begun.gained ++ gained;
-    sent = drew.sent ∙ begun.sent ∙ ap (λ (s : List ℕ). old.link.sent ++ s) (sym (append-nil turn.bytes));
-    got = drew.got ∙ ap (λ (s : List ℕ). s ++ gained) begun.got ∙ append_assoc old.link.got begun.gained gained;
-    heard = heard_behind line old mid gained begun.gained begun.heard ∙ ap (λ (s : List ℕ). ended line ++ s) heard
+  gained = begun.gained ++ gained;
+  sent = drew.sent ∙ begun.sent ∙ ap (λ (s : List ℕ). old.link.sent ++ s) (sym (append-nil turn.bytes));
+  got = drew.got ∙ ap (λ (s : List ℕ). s ++ gained) begun.got ∙ append_assoc old.link.got begun.gained gained;
+  heard = heard_behind line old mid gained begun.gained begun.heard ∙ ap (λ (s : List ℕ). ended line ++ s) heard
       ∙ sym (append_assoc (ended line) (body_of lines) new.waiting)
       ∙ ap (λ (s : List ℕ). s ++ new.waiting) (sym (append-nil (ended line ++ body_of lines)));
-    good = (record { rest = begun.rest; line = begun.is; within = begun.within; positive = begun.positive; fits = begun.fits; body = is }, tt);
-    steady = goes_on old.link mid.link new.link begun.steady steady;
-  }
+  good = (record { rest = begun.rest; line = begun.is; within = begun.within; positive = begun.positive; fits = begun.fits; body = is }, tt);
+  steady = goes_on old.link mid.link new.link begun.steady steady;
+}
   where
     heard_behind : (line : List ℕ) (old mid : Place) (gained first : List ℕ) → old.waiting ++ first ≡ ended line ++ mid.waiting
         → old.waiting ++ (first ++ gained) ≡ ended line ++ (mid.waiting ++ gained)
@@ -202,9 +206,13 @@ talked_body turn line old mid new lines gained begun drew steady heard is = reco
 pub broke_behind : (turn : Turn) (line : List ℕ) (old mid : Place) (new : Link) (gained : List ℕ) (fault : Fault) → Opened turn line old mid
     → Drew mid.link new gained → Cause fault turn.asked mid.link new (ended line ++ (mid.waiting ++ gained)) → Broke turn old new fault
 broke_behind turn line old mid new gained fault begun drew why =
-    inr (begun.gained ++ gained, drew.sent ∙ begun.sent, drew.got ∙ ap (λ (s : List ℕ). s ++ gained) begun.got ∙ append_assoc old.link.got begun.gained gained,
+    inr (
+      begun.gained ++ gained,
+      drew.sent ∙ begun.sent,
+      drew.got ∙ ap (λ (s : List ℕ). s ++ gained) begun.got ∙ append_assoc old.link.got begun.gained gained,
       cause_since fault turn.asked old.link mid.link new (old.waiting ++ (begun.gained ++ gained)) begun.steady.failures
-        (subst (Cause fault turn.asked mid.link new) (sym heard) why))
+          (subst (Cause fault turn.asked mid.link new) (sym heard) why),
+    )
   where
     heard : old.waiting ++ (begun.gained ++ gained) ≡ ended line ++ (mid.waiting ++ gained)
     heard = sym (append_assoc old.waiting begun.gained gained) ∙ ap (λ (s : List ℕ). s ++ gained) begun.heard ∙ append_assoc (ended line) mid.waiting gained
@@ -216,15 +224,15 @@ stopped_first turn turns old new fault broke =
 pub stopped_next : (turn : Turn) (turns : List Turn) (reply : Reply) (a b : Place) (new : Link) (fault : Fault)
     → Talked (turn ∷ []) (reply ∷ []) a b → Stopped turns b new fault → Stopped (turn ∷ turns) a new fault
 stopped_next turn turns reply a b new fault first then = record {
-    done = turn ∷ then.done;
-    replies = reply ∷ then.replies;
-    next = then.next;
-    later = then.later;
-    mid = then.mid;
-    split = ap (λ (ts : List Turn). turn ∷ ts) then.split;
-    talked = talked_on (turn ∷ []) then.done (reply ∷ []) then.replies a b then.mid first then.talked;
-    broke = then.broke;
-  }
+  done = turn ∷ then.done;
+  replies = reply ∷ then.replies;
+  next = then.next;
+  later = then.later;
+  mid = then.mid;
+  split = ap (λ (ts : List Turn). turn ∷ ts) then.split;
+  talked = talked_on (turn ∷ []) then.done (reply ∷ []) then.replies a b then.mid first then.talked;
+  broke = then.broke;
+}
 
 -- but for STAT's, nothing is asked of the rest of a first line
 pub fits_other : (asked : Asked) (rest : List ℕ) → asked ≢ Stat → Fits asked rest

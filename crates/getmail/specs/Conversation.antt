@@ -161,9 +161,9 @@ Cause BadListing asked old new bytes = (after behind row : List ℕ) × (lines :
 Cause ListingsDisagree asked old new bytes = ⊥
 Cause TooMany asked old new bytes =
     ((asked ≡ Stat) × ((line after rest : List ℕ) × (count size : ℕ) × IsLine line × (bytes ≡ ended line ++ after)
-        × IsFirstLine line Positive rest × (number_and_size rest ≡ Ok (count, size)) × (1 < count)))
+    × IsFirstLine line Positive rest × (number_and_size rest ≡ Ok (count, size)) × (1 < count)))
     ⊎ ((after behind row : List ℕ) × (lines : List (List ℕ)) × Begins bytes after
-        × HasRows asked after (ended row ++ behind) lines × (length lines ≡ row_limit) × IsContent row × (length row + 2 ≤ line_limit))
+    × HasRows asked after (ended row ++ behind) lines × (length lines ≡ row_limit) × IsContent row × (length row + 2 ≤ line_limit))
 Cause TextTooLong asked old new bytes = (asked ≡ Retr) × ((after : List ℕ) × Begins bytes after
     × HasNoBody (take text_limit after) × (text_limit ≤ length after))
 Cause NoMemory asked old new bytes = may_want asked ≡ true
@@ -190,9 +190,9 @@ Heard asked old (Err fault) new = Cause fault asked old.link new.link new.waitin
 abbrev pub Broke : Turn → Place → Link → Fault → Type 0
 Broke turn old new fault =
     ((fault ≡ WriteFailed) × (old.link.failures < new.failures) × (new.got ≡ old.link.got)
-        × ((front rest : List ℕ) × (turn.bytes ≡ front ++ rest) × (new.sent ≡ old.link.sent ++ front)))
+    × ((front rest : List ℕ) × (turn.bytes ≡ front ++ rest) × (new.sent ≡ old.link.sent ++ front)))
     ⊎ ((gained : List ℕ) × (new.sent ≡ old.link.sent ++ turn.bytes) × (new.got ≡ old.link.got ++ gained)
-        × Cause fault turn.asked old.link new (old.waiting ++ gained))
+    × Cause fault turn.asked old.link new (old.waiting ++ gained))
 
 -- some of the turns were talked, and the next one broke
 pub record Stopped (turns : List Turn) (old : Place) (new : Link) (fault : Fault) : Type 0 where

@@ -7,14 +7,12 @@ ghost use Rattle.getmail.specs.Conversation.{refusal_of, retr};
 ghost use Rattle.getmail.specs.Listing.{IsJoined, SizesFit, uid_pair, scan_pair, id_of};
 ghost use Rattle.getmail.specs.First.{login, Fetches, Talks, Looks, Closes, Plans, Session, found_of, id_in};
 
-use std::alloc::Global;
-use std::vec::Vec;
-
-use pop3_wire::{BodyFault, LineReader, Wire, read_body};
-
 use crate::fault::{Asked, Fault, fault_number};
 use crate::listing::{ScanRow, UidRow, list, uidl};
 use crate::talk::{ask, greet, leave, stat};
+use pop3_wire::{BodyFault, LineReader, Wire, read_body};
+use std::alloc::Global;
+use std::vec::Vec;
 
 /// The greatest body of RETR in octets, end mark included.
 const TEXT_LIMIT: usize = 268_435_456;
@@ -33,13 +31,9 @@ fn sizes_fit(count: u32, sizes: &[ScanRow]) -> bool
 /// The id of the one message, where there is one. The listings have to agree with the count and
 /// with one another: each has each number from 1 to the count once, and no other.
 fn joined(count: u32, uids: Vec<UidRow>, sizes: &[ScanRow]) -> Result<Option<Vec<u8>>, Fault>
-    ensures ok {
-        IfOk (id_of result) (IsJoined count (map uid_pair uids.items) (map scan_pair sizes.now))
-    }
-    ensures err {
-        IfErr result (λ fault. (fault ≡ Fault.ListingsDisagree) × ((first : Option (List ℕ))
-            → IsJoined count (map uid_pair uids.items) (map scan_pair sizes.now) first → ⊥))
-    }
+    ensures ok { IfOk (id_of result) (IsJoined count (map uid_pair uids.items) (map scan_pair sizes.now)) }
+    ensures err { IfErr result (λ fault. (fault ≡ Fault.ListingsDisagree) × ((first : Option (List ℕ))
+        → IsJoined count (map uid_pair uids.items) (map scan_pair sizes.now) first → ⊥)) }
 {
     if !sizes_fit(count, sizes) {
         return Err(Fault::ListingsDisagree);
@@ -58,13 +52,9 @@ fn joined(count: u32, uids: Vec<UidRow>, sizes: &[ScanRow]) -> Result<Option<Vec
 
 /// Logs in.
 fn log_in<W: Wire>(wire: &mut W, reader: &mut LineReader) -> Result<(), Fault>
-    ensures counted {
-        Tallies (W.seen wire.old).failures (refusal_of result) (W.seen wire.new).failures
-    }
-    ensures talks {
-        W.sound wire.new → W.sound wire.old × W.leads_to wire.old wire.new
-            × Talks login (at (W.seen wire.old) reader.old) result (at (W.seen wire.new) reader.new)
-    }
+    ensures counted { Tallies (W.seen wire.old).failures (refusal_of result) (W.seen wire.new).failures }
+    ensures talks { W.sound wire.new → W.sound wire.old × W.leads_to wire.old wire.new
+        × Talks login (at (W.seen wire.old) reader.old) result (at (W.seen wire.new) reader.new) }
 {
     if let Err(fault) = greet(wire, reader) {
         return Err(fault);
@@ -84,13 +74,9 @@ fn look<W: Wire>(
     wire: &mut W,
     reader: &mut LineReader,
 ) -> Result<Option<Vec<u8>>, Fault>
-    ensures counted {
-        Tallies (W.seen wire.old).failures (refusal_of result) (W.seen wire.new).failures
-    }
-    ensures looks {
-        W.sound wire.new → W.sound wire.old × W.leads_to wire.old wire.new
-            × Looks (at (W.seen wire.old) reader.old) (id_of result) (at (W.seen wire.new) reader.new)
-    }
+    ensures counted { Tallies (W.seen wire.old).failures (refusal_of result) (W.seen wire.new).failures }
+    ensures looks { W.sound wire.new → W.sound wire.old × W.leads_to wire.old wire.new
+        × Looks (at (W.seen wire.old) reader.old) (id_of result) (at (W.seen wire.new) reader.new) }
 {
     let count = match stat(wire, reader) {
         Ok(count) => count,
@@ -109,13 +95,9 @@ fn look<W: Wire>(
 
 /// Asks for the text of the one message.
 fn fetch<W: Wire>(alloc: Global, wire: &mut W, reader: &mut LineReader) -> Result<Vec<u8>, Fault>
-    ensures counted {
-        Tallies (W.seen wire.old).failures (refusal_of result) (W.seen wire.new).failures
-    }
-    ensures fetches {
-        W.sound wire.new → W.sound wire.old × W.leads_to wire.old wire.new
-            × Fetches retr (at (W.seen wire.old) reader.old) (items_of result) (at (W.seen wire.new) reader.new)
-    }
+    ensures counted { Tallies (W.seen wire.old).failures (refusal_of result) (W.seen wire.new).failures }
+    ensures fetches { W.sound wire.new → W.sound wire.old × W.leads_to wire.old wire.new
+        × Fetches retr (at (W.seen wire.old) reader.old) (items_of result) (at (W.seen wire.new) reader.new) }
 {
     if let Err(fault) = ask(wire, reader, Asked::Retr, b"RETR 1\r\n") {
         return Err(fault);
@@ -136,13 +118,9 @@ fn close<W: Wire>(
     reader: &mut LineReader,
     first: Option<Vec<u8>>,
 ) -> Result<Option<(Vec<u8>, Vec<u8>)>, Fault>
-    ensures counted {
-        Tallies (W.seen wire.old).failures (refusal_of result) (W.seen wire.new).failures
-    }
-    ensures closes {
-        W.sound wire.new → W.sound wire.old × W.leads_to wire.old wire.new
-            × Closes (id_in first) (at (W.seen wire.old) reader.old) (found_of result) (at (W.seen wire.new) reader.new)
-    }
+    ensures counted { Tallies (W.seen wire.old).failures (refusal_of result) (W.seen wire.new).failures }
+    ensures closes { W.sound wire.new → W.sound wire.old × W.leads_to wire.old wire.new
+        × Closes (id_in first) (at (W.seen wire.old) reader.old) (found_of result) (at (W.seen wire.new) reader.new) }
 {
     let Some(uid) = first else {
         return match ask(wire, reader, Asked::Quit, b"QUIT\r\n") {
@@ -166,13 +144,9 @@ fn planned<W: Wire>(
     wire: &mut W,
     reader: &mut LineReader,
 ) -> Result<Option<(Vec<u8>, Vec<u8>)>, Fault>
-    ensures counted {
-        Tallies (W.seen wire.old).failures (refusal_of result) (W.seen wire.new).failures
-    }
-    ensures plans {
-        W.sound wire.new → W.sound wire.old × W.leads_to wire.old wire.new
-            × Plans (at (W.seen wire.old) reader.old) (found_of result) (at (W.seen wire.new) reader.new)
-    }
+    ensures counted { Tallies (W.seen wire.old).failures (refusal_of result) (W.seen wire.new).failures }
+    ensures plans { W.sound wire.new → W.sound wire.old × W.leads_to wire.old wire.new
+        × Plans (at (W.seen wire.old) reader.old) (found_of result) (at (W.seen wire.new) reader.new) }
 {
     if let Err(fault) = log_in(wire, reader) {
         return Err(fault);
@@ -186,10 +160,8 @@ fn planned<W: Wire>(
 /// One session of user `u` with password `p` over a maildrop of at most one message: its id and its
 /// text, or None where the maildrop is empty. A fault is its number: 1 to 10, or 13.
 pub fn fetch_first<W: Wire>(alloc: Global, wire: &mut W) -> Result<Option<(Vec<u8>, Vec<u8>)>, u8>
-    ensures session {
-        W.sound wire.new → W.sound wire.old × W.leads_to wire.old wire.new
-            × Session (W.seen wire.old) (found_of result) (W.seen wire.new)
-    }
+    ensures session { W.sound wire.new → W.sound wire.old × W.leads_to wire.old wire.new
+        × Session (W.seen wire.old) (found_of result) (W.seen wire.new) }
 {
     let mut reader = LineReader::new();
     match planned(alloc, wire, &mut reader) {

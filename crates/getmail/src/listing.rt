@@ -5,13 +5,11 @@ ghost use Rattle.pop3_wire.specs.Place.{at, Gains, GoesOn, HasLine};
 ghost use Rattle.getmail.specs.Conversation.{refusal_of, turn_of, uidl, list};
 ghost use Rattle.getmail.specs.Listing.{IsUidRow, IsScanRow, uid_pair, scan_pair, uid_pairs, scan_pairs, NextRow, TakesRows, Lists};
 
-use std::alloc::Global;
-use std::vec::Vec;
-
-use pop3_wire::{LineReader, Wire, is_end_mark, read_scan, read_uid, without_dot};
-
 use crate::fault::{Asked, Fault};
 use crate::talk::{ask, next_line};
+use pop3_wire::{LineReader, Wire, is_end_mark, read_scan, read_uid, without_dot};
+use std::alloc::Global;
+use std::vec::Vec;
 
 /// A row of UIDL.
 #[derive(Drop)]
@@ -38,15 +36,11 @@ fn next_row<W: Wire>(
     reader: &mut LineReader,
     rows: usize,
 ) -> Result<Option<usize>, Fault>
-    ensures counted {
-        Tallies (W.seen wire.old).failures (refusal_of result) (W.seen wire.new).failures
-    }
+    ensures counted { Tallies (W.seen wire.old).failures (refusal_of result) (W.seen wire.new).failures }
     ensures line { IfOk result (λ found. IfSome found (HasLine 2048 reader.new)) }
     ensures few { IfOk result (λ found. IfSome found (λ n. rows < 100000)) }
-    ensures next {
-        W.sound wire.new → W.sound wire.old × W.leads_to wire.old wire.new
-            × NextRow rows (at (W.seen wire.old) reader.old) result (at (W.seen wire.new) reader.new)
-    }
+    ensures next { W.sound wire.new → W.sound wire.old × W.leads_to wire.old wire.new
+        × NextRow rows (at (W.seen wire.old) reader.old) result (at (W.seen wire.new) reader.new) }
 {
     let length = match next_line(wire, reader) {
         Ok(length) => length,
@@ -65,10 +59,8 @@ fn next_row<W: Wire>(
 /// The row of UIDL that a line of its body stands for.
 fn uid_row(alloc: Global, line: &[u8]) -> Result<UidRow, Fault>
     ensures ok { IfOk result (λ row. IsUidRow line.now (uid_pair row)) }
-    ensures err {
-        IfErr result (λ fault. (fault ≡ Fault.NoMemory)
-            ⊎ ((fault ≡ Fault.BadListing) × ((row : ℕ × List ℕ) → IsUidRow line.now row → ⊥)))
-    }
+    ensures err { IfErr result (λ fault. (fault ≡ Fault.NoMemory)
+        ⊎ ((fault ≡ Fault.BadListing) × ((row : ℕ × List ℕ) → IsUidRow line.now row → ⊥))) }
 {
     match read_uid(without_dot(line)) {
         Ok((number, uid)) => Ok(UidRow {
@@ -82,9 +74,7 @@ fn uid_row(alloc: Global, line: &[u8]) -> Result<UidRow, Fault>
 /// The row of LIST that a line of its body stands for.
 fn scan_row(line: &[u8]) -> Result<ScanRow, Fault>
     ensures ok { IfOk result (λ row. IsScanRow line.now (scan_pair row)) }
-    ensures err {
-        IfErr result (λ fault. (fault ≡ Fault.BadListing) × ((row : ℕ × ℕ) → IsScanRow line.now row → ⊥))
-    }
+    ensures err { IfErr result (λ fault. (fault ≡ Fault.BadListing) × ((row : ℕ × ℕ) → IsScanRow line.now row → ⊥)) }
 {
     match read_scan(without_dot(line)) {
         Ok((number, size)) => Ok(ScanRow { number, size }),
@@ -98,13 +88,9 @@ fn uid_rows<W: Wire>(
     wire: &mut W,
     reader: &mut LineReader,
 ) -> Result<Vec<UidRow>, Fault>
-    ensures counted {
-        Tallies (W.seen wire.old).failures (refusal_of result) (W.seen wire.new).failures
-    }
-    ensures takes {
-        W.sound wire.new → W.sound wire.old × W.leads_to wire.old wire.new
-            × TakesRows Asked.Uidl IsUidRow (at (W.seen wire.old) reader.old) (uid_pairs result) (at (W.seen wire.new) reader.new)
-    }
+    ensures counted { Tallies (W.seen wire.old).failures (refusal_of result) (W.seen wire.new).failures }
+    ensures takes { W.sound wire.new → W.sound wire.old × W.leads_to wire.old wire.new
+        × TakesRows Asked.Uidl IsUidRow (at (W.seen wire.old) reader.old) (uid_pairs result) (at (W.seen wire.new) reader.new) }
 {
     let mut rows = Vec::new(alloc);
     'rows: loop {
@@ -130,13 +116,9 @@ fn scan_rows<W: Wire>(
     wire: &mut W,
     reader: &mut LineReader,
 ) -> Result<Vec<ScanRow>, Fault>
-    ensures counted {
-        Tallies (W.seen wire.old).failures (refusal_of result) (W.seen wire.new).failures
-    }
-    ensures takes {
-        W.sound wire.new → W.sound wire.old × W.leads_to wire.old wire.new
-            × TakesRows Asked.List IsScanRow (at (W.seen wire.old) reader.old) (scan_pairs result) (at (W.seen wire.new) reader.new)
-    }
+    ensures counted { Tallies (W.seen wire.old).failures (refusal_of result) (W.seen wire.new).failures }
+    ensures takes { W.sound wire.new → W.sound wire.old × W.leads_to wire.old wire.new
+        × TakesRows Asked.List IsScanRow (at (W.seen wire.old) reader.old) (scan_pairs result) (at (W.seen wire.new) reader.new) }
 {
     let mut rows = Vec::new(alloc);
     'rows: loop {
@@ -162,13 +144,9 @@ pub fn uidl<W: Wire>(
     wire: &mut W,
     reader: &mut LineReader,
 ) -> Result<Vec<UidRow>, Fault>
-    ensures counted {
-        Tallies (W.seen wire.old).failures (refusal_of result) (W.seen wire.new).failures
-    }
-    ensures lists {
-        W.sound wire.new → W.sound wire.old × W.leads_to wire.old wire.new
-            × Lists uidl IsUidRow (at (W.seen wire.old) reader.old) (uid_pairs result) (at (W.seen wire.new) reader.new)
-    }
+    ensures counted { Tallies (W.seen wire.old).failures (refusal_of result) (W.seen wire.new).failures }
+    ensures lists { W.sound wire.new → W.sound wire.old × W.leads_to wire.old wire.new
+        × Lists uidl IsUidRow (at (W.seen wire.old) reader.old) (uid_pairs result) (at (W.seen wire.new) reader.new) }
 {
     if let Err(fault) = ask(wire, reader, Asked::Uidl, b"UIDL\r\n") {
         return Err(fault);
@@ -182,13 +160,9 @@ pub fn list<W: Wire>(
     wire: &mut W,
     reader: &mut LineReader,
 ) -> Result<Vec<ScanRow>, Fault>
-    ensures counted {
-        Tallies (W.seen wire.old).failures (refusal_of result) (W.seen wire.new).failures
-    }
-    ensures lists {
-        W.sound wire.new → W.sound wire.old × W.leads_to wire.old wire.new
-            × Lists list IsScanRow (at (W.seen wire.old) reader.old) (scan_pairs result) (at (W.seen wire.new) reader.new)
-    }
+    ensures counted { Tallies (W.seen wire.old).failures (refusal_of result) (W.seen wire.new).failures }
+    ensures lists { W.sound wire.new → W.sound wire.old × W.leads_to wire.old wire.new
+        × Lists list IsScanRow (at (W.seen wire.old) reader.old) (scan_pairs result) (at (W.seen wire.new) reader.new) }
 {
     if let Err(fault) = ask(wire, reader, Asked::List, b"LIST\r\n") {
         return Err(fault);

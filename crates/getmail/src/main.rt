@@ -4,17 +4,18 @@
 
 mod fault;
 mod first;
+#[cfg(test)]
+mod first_tests;
 mod listing;
 mod rehearsal;
 mod talk;
 mod transcript;
 
+use crate::rehearsal::rehearse;
 use std::env;
 use std::process::ExitCode;
 use std::string::String;
 use std::vec::Vec;
-
-use crate::rehearsal::rehearse;
 
 /// Whether the words after the program's name are the one word `--rehearse`.
 fn asks_to_rehearse(words: &[String]) -> bool {

@@ -1,13 +1,11 @@
 //! The rehearsal: a session whose server is a recorded conversation.
+use crate::first::fetch_first;
+use crate::transcript::Transcript;
+use pop3_wire::StreamWire;
 use std::alloc::Global;
 use std::io;
 use std::io::{Read, Write};
 use std::vec::Vec;
-
-use pop3_wire::StreamWire;
-
-use crate::first::fetch_first;
-use crate::transcript::Transcript;
 
 /// Writes a decimal number.
 fn write_number<W: Write>(alloc: Global, output: &mut W, number: u64) -> io::Result<()> {

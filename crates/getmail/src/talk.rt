@@ -7,21 +7,16 @@ ghost use Rattle.pop3_wire.specs.Reply.{IsFirstLine};
 ghost use Rattle.pop3_wire.specs.Fields.{number_and_size};
 ghost use Rattle.getmail.specs.Conversation.{Waits, Heard, Sent, Asks, Counts, Left, turn_of, greeting, stat, tail, refusal_of, TellsFew};
 
-use pop3_wire::{LineFault, LineReader, Status, Wire, read_stat, read_status};
-
 use crate::fault::{Asked, Fault};
+use pop3_wire::{LineFault, LineReader, Status, Wire, read_stat, read_status};
 
 /// Takes from the link until a line of a reply waits, and says how long it is. It still waits then.
 pub fn next_line<W: Wire>(wire: &mut W, reader: &mut LineReader) -> Result<usize, Fault>
-    ensures counted {
-        Tallies (W.seen wire.old).failures (refusal_of result) (W.seen wire.new).failures
-    }
+    ensures counted { Tallies (W.seen wire.old).failures (refusal_of result) (W.seen wire.new).failures }
     ensures line { IfOk result (HasLine 2048 reader.new) }
-    ensures waits {
-        W.sound wire.new → W.sound wire.old × W.leads_to wire.old wire.new
-            × ((gained : List ℕ) × Gains (at (W.seen wire.old) reader.old) (at (W.seen wire.new) reader.new) gained)
-            × Waits (at (W.seen wire.old) reader.old) result (at (W.seen wire.new) reader.new)
-    }
+    ensures waits { W.sound wire.new → W.sound wire.old × W.leads_to wire.old wire.new
+        × ((gained : List ℕ) × Gains (at (W.seen wire.old) reader.old) (at (W.seen wire.new) reader.new) gained)
+        × Waits (at (W.seen wire.old) reader.old) result (at (W.seen wire.new) reader.new) }
 {
     match reader.line(wire, 2048) {
         Ok(length) => Ok(length),
@@ -33,13 +28,9 @@ pub fn next_line<W: Wire>(wire: &mut W, reader: &mut LineReader) -> Result<usize
 
 /// Sends bytes.
 fn say<W: Wire>(wire: &mut W, bytes: &[u8]) -> Result<(), Fault>
-    ensures counted {
-        Tallies (W.seen wire.old).failures (refusal_of result) (W.seen wire.new).failures
-    }
-    ensures sent {
-        W.sound wire.new → W.sound wire.old × W.leads_to wire.old wire.new
-            × Sent bytes.now (W.seen wire.old) result (W.seen wire.new)
-    }
+    ensures counted { Tallies (W.seen wire.old).failures (refusal_of result) (W.seen wire.new).failures }
+    ensures sent { W.sound wire.new → W.sound wire.old × W.leads_to wire.old wire.new
+        × Sent bytes.now (W.seen wire.old) result (W.seen wire.new) }
 {
     match wire.send(bytes) {
         Ok(()) => Ok(()),
@@ -49,18 +40,12 @@ fn say<W: Wire>(wire: &mut W, bytes: &[u8]) -> Result<(), Fault>
 
 /// Waits for a positive first line, and says how long it is. It still waits then.
 fn hear<W: Wire>(wire: &mut W, reader: &mut LineReader, asked: Asked) -> Result<usize, Fault>
-    ensures counted {
-        Tallies (W.seen wire.old).failures (refusal_of result) (W.seen wire.new).failures
-    }
+    ensures counted { Tallies (W.seen wire.old).failures (refusal_of result) (W.seen wire.new).failures }
     ensures line { IfOk result (HasLine 2048 reader.new) }
-    ensures positive {
-        IfOk result (λ n. (rest : List ℕ) × IsFirstLine (take n reader.new) Status.Positive rest)
-    }
-    ensures heard {
-        W.sound wire.new → W.sound wire.old × W.leads_to wire.old wire.new
-            × ((gained : List ℕ) × Gains (at (W.seen wire.old) reader.old) (at (W.seen wire.new) reader.new) gained)
-            × Heard asked (at (W.seen wire.old) reader.old) result (at (W.seen wire.new) reader.new)
-    }
+    ensures positive { IfOk result (λ n. (rest : List ℕ) × IsFirstLine (take n reader.new) Status.Positive rest) }
+    ensures heard { W.sound wire.new → W.sound wire.old × W.leads_to wire.old wire.new
+        × ((gained : List ℕ) × Gains (at (W.seen wire.old) reader.old) (at (W.seen wire.new) reader.new) gained)
+        × Heard asked (at (W.seen wire.old) reader.old) result (at (W.seen wire.new) reader.new) }
 {
     let length = match next_line(wire, reader) {
         Ok(length) => length,
@@ -75,13 +60,9 @@ fn hear<W: Wire>(wire: &mut W, reader: &mut LineReader, asked: Asked) -> Result<
 
 /// Takes the greeting.
 pub fn greet<W: Wire>(wire: &mut W, reader: &mut LineReader) -> Result<(), Fault>
-    ensures counted {
-        Tallies (W.seen wire.old).failures (refusal_of result) (W.seen wire.new).failures
-    }
-    ensures asks {
-        W.sound wire.new → W.sound wire.old × W.leads_to wire.old wire.new
-            × Asks greeting (at (W.seen wire.old) reader.old) result (at (W.seen wire.new) reader.new)
-    }
+    ensures counted { Tallies (W.seen wire.old).failures (refusal_of result) (W.seen wire.new).failures }
+    ensures asks { W.sound wire.new → W.sound wire.old × W.leads_to wire.old wire.new
+        × Asks greeting (at (W.seen wire.old) reader.old) result (at (W.seen wire.new) reader.new) }
 {
     let length = match hear(wire, reader, Asked::Greeting) {
         Ok(length) => length,
@@ -99,13 +80,9 @@ pub fn ask<W: Wire>(
     bytes: &[u8],
 ) -> Result<(), Fault>
     requires { asked ≢ Asked.Stat }
-    ensures counted {
-        Tallies (W.seen wire.old).failures (refusal_of result) (W.seen wire.new).failures
-    }
-    ensures asks {
-        W.sound wire.new → W.sound wire.old × W.leads_to wire.old wire.new
-            × Asks (turn_of asked bytes.now) (at (W.seen wire.old) reader.old) result (at (W.seen wire.new) reader.new)
-    }
+    ensures counted { Tallies (W.seen wire.old).failures (refusal_of result) (W.seen wire.new).failures }
+    ensures asks { W.sound wire.new → W.sound wire.old × W.leads_to wire.old wire.new
+        × Asks (turn_of asked bytes.now) (at (W.seen wire.old) reader.old) result (at (W.seen wire.new) reader.new) }
 {
     if let Err(fault) = say(wire, bytes) {
         return Err(fault);
@@ -140,13 +117,9 @@ fn count_of(line: &[u8]) -> Result<u32, Fault>
 
 /// Asks how many messages there are.
 pub fn stat<W: Wire>(wire: &mut W, reader: &mut LineReader) -> Result<u32, Fault>
-    ensures counted {
-        Tallies (W.seen wire.old).failures (refusal_of result) (W.seen wire.new).failures
-    }
-    ensures counts {
-        W.sound wire.new → W.sound wire.old × W.leads_to wire.old wire.new
-            × Counts stat (at (W.seen wire.old) reader.old) result (at (W.seen wire.new) reader.new)
-    }
+    ensures counted { Tallies (W.seen wire.old).failures (refusal_of result) (W.seen wire.new).failures }
+    ensures counts { W.sound wire.new → W.sound wire.old × W.leads_to wire.old wire.new
+        × Counts stat (at (W.seen wire.old) reader.old) result (at (W.seen wire.new) reader.new) }
 {
     if let Err(fault) = say(wire, b"STAT\r\n") {
         return Err(fault);
@@ -177,10 +150,8 @@ fn tail_of(fault: Fault) -> &'static [u8]
 
 /// Leaves after a fault: what follows it is sent, and one line of the reply to it is read.
 pub fn leave<W: Wire>(wire: &mut W, reader: &mut LineReader, fault: Fault)
-    ensures left {
-        W.sound wire.new → W.sound wire.old × W.leads_to wire.old wire.new
-            × Left fault (W.seen wire.old) (W.seen wire.new)
-    }
+    ensures left { W.sound wire.new → W.sound wire.old × W.leads_to wire.old wire.new
+        × Left fault (W.seen wire.old) (W.seen wire.new) }
 {
     let tail = tail_of(fault);
     if tail.is_empty() {

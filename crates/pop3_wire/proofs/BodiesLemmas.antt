@@ -49,12 +49,16 @@ cause_of_nothing fault limit left spot a b c w gained used text reached other si
   where
     all : w ++ gained ≡ used
     all = heard ∙ append-nil used
+
     none : HasNoBody (w ++ gained)
     none = subst HasNoBody (sym all) (reached_no_body spot used text reached other)
+
     short : length (w ++ gained) < limit
     short = let size : length (w ++ gained) ≡ length used = ap length all in omega arith
+
     drawn : (l : List ℕ) → gained ++ [] ≡ l → Drew b c [] → Drew a c l
     drawn l e then = subst (Drew a c) e (drew_on a b c gained [] drew then)
+
     cause : (f : BodyFault) → DrawsNothing f b c → Drew a c gained × BodyCause limit f a c (w ++ gained)
     cause Ended n = (drawn gained (append-nil gained) n.0, (none, short, n.1, n.2 ∙ steady.failures))
     cause Failed n = (drawn gained (append-nil gained) n.0, (none, short, n.1 ∙ steady.ended, n.2 ∙ ap (λ (k : ℕ). k + 1) steady.failures))
@@ -77,7 +81,7 @@ pub in_body_on : {W : Type 0} (sound : W → Type 0) (leads_to : W → W → Typ
     → InBody sound leads_to seen limit a w b waits spot left text
     → (c : W) (waits1 waits2 : List ℕ) (n : ℕ) (spot' : Spot) (text' : List ℕ)
     → ((more : List ℕ) × (waits1 ≡ waits ++ more) × (0 < length waits1)
-        × (sound c → sound b × leads_to b c × Drew (seen b) (seen c) more × GoesOn (seen b) (seen c)))
+    × (sound c → sound b × leads_to b c × Drew (seen b) (seen c) more × GoesOn (seen b) (seen c)))
     → n ≤ left → n ≤ length waits1 → waits2 ≡ drop n waits1
     → ((bytes known : List ℕ) → text ≡ known → Reaches spot bytes known → Reaches spot' (bytes ++ take n waits1) text')
     → InBody sound leads_to seen limit a w c waits2 spot' (left - n) text'
@@ -88,9 +92,9 @@ in_body_on sound leads_to seen trans limit a w b waits spot left text now c wait
       reached = reaches now.used text refl now.reached;
       sizes = sizes;
       heard = subst (λ (l : List ℕ). w ++ (now.gained ++ drawn.0) ≡ (now.used ++ take n l) ++ drop n l) (sym drawn.1) (heard_on w now.gained drawn.0 now.used waits n now.heard)
-        ∙ ap (λ (l : List ℕ). (now.used ++ take n waits1) ++ l) (sym rest);
+          ∙ ap (λ (l : List ℕ). (now.used ++ take n waits1) ++ l) (sym rest);
       link = λ s. let later = drawn.3 s in let earlier = now.link later.0 in
-        (earlier.0, trans a b c earlier.1 later.1, drew_on (seen a) (seen b) (seen c) now.gained drawn.0 earlier.2 later.2, goes_on (seen a) (seen b) (seen c) earlier.3 later.3);
+          (earlier.0, trans a b c earlier.1 later.1, drew_on (seen a) (seen b) (seen c) now.gained drawn.0 earlier.2 later.2, goes_on (seen a) (seen b) (seen c) earlier.3 later.3);
     }
   where
     sizes : length (now.used ++ take n waits1) + (left - n) ≡ limit

@@ -36,7 +36,7 @@ no_body_in (line ∷ lines) rest [] more content tail content' e =
     content.0.1 same.0
 no_body_in (line ∷ lines) rest (other ∷ others) more content tail content' e =
     let same = first_line_same line other (flat_map ended lines ++ rest) ((flat_map ended others ++ ended dot) ++ more) content.0.0 content'.0.0
-                 (sym (ended_first line (flat_map ended lines) rest) ∙ e ∙ other_first) in
+    (sym (ended_first line (flat_map ended lines) rest) ∙ e ∙ other_first) in
     no_body_in lines rest others more content.1 tail content'.1 same.1
   where
     other_first : ((ended other ++ flat_map ended others) ++ ended dot) ++ more ≡ other ++ (crlf ++ ((flat_map ended others ++ ended dot) ++ more))
@@ -92,11 +92,14 @@ reads_more bytes rest line after text reads is cut other =
     all_push : (lines : List (List ℕ)) (line : List ℕ) → AllByRecursion IsContent lines → IsContent line → AllByRecursion IsContent (lines ++ line ∷ [])
     all_push [] line content is = (is, tt)
     all_push (first ∷ lines) line content is = (content.0, all_push lines line content.1 is)
+
     flat_push : (f : List ℕ → List ℕ) (lines : List (List ℕ)) → flat_map f (lines ++ line ∷ []) ≡ flat_map f lines ++ f line
     flat_push f [] = append-nil (f line)
     flat_push f (first ∷ lines) = ap (λ l. f first ++ l) (flat_push f lines) ∙ sym (append_assoc (f first) (flat_map f lines) (f line))
+
     more_bytes : flat_map ended reads.lines ++ (line ++ (crlf ++ after)) ≡ flat_map ended (reads.lines ++ line ∷ []) ++ after
     more_bytes = rw (flat_push ended reads.lines) (simp append_assoc)
+
     more_text : text_of reads.lines ++ kept line ≡ text_of (reads.lines ++ line ∷ [])
     more_text = sym (flat_push kept reads.lines)
 
@@ -108,10 +111,13 @@ reads_end bytes rest line after text reads cut is = (omega arith, body)
     whole : bytes ≡ body_of reads.lines ++ after
     whole = reads.whole ∙ ap (λ r. flat_map ended reads.lines ++ r) (cut ∙ ap (λ l. l ++ (crlf ++ after)) is)
         ∙ sym (append_assoc (flat_map ended reads.lines) (ended dot) after)
+
     total : length bytes ≡ length (body_of reads.lines) + length after
     total = ap length whole ∙ length-append (body_of reads.lines) after
+
     sizes : length (body_of reads.lines) ≡ length bytes - length after
     sizes = omega (arith, total)
+
     body : Body (take (length bytes - length after) bytes) text
     body = record {
       lines = reads.lines;

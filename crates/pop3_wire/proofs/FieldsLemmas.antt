@@ -33,7 +33,7 @@ value_bound ds digits short =
 -- one more digit of a numeral: what it adds, and that all fit
 pub numeral_step : (ds : List ℕ) (i : ℕ) → is_numeral ds ≡ true → i < length ds
     → (digits_value 10 (take (i + 1) ds) ≡ digits_value 10 (take i ds) * 10 + (get_or ds i 0 - 48))
-      × (digits_value 10 (take (i + 1) ds) < 10 ^ 20)
+    × (digits_value 10 (take (i + 1) ds) < 10 ^ 20)
 numeral_step ds i e small =
     let parts = and_parts (nat_lt 0 (length ds) && nat_le (length ds) 20) (list_all is_ascii_digit ds) e in
     let short : length ds ≤ 20 = leb-true (length ds) 20 (and_parts (nat_lt 0 (length ds)) (nat_le (length ds) 20) parts.0).1 in

@@ -9,9 +9,9 @@ use Rattle.pop3_wire.specs.Line.{crlf, IsLine}
 pub last_split : (xs : List ℕ) → (xs ≡ []) ⊎ ((ys : List ℕ) × (y : ℕ) × (xs ≡ ys ++ y ∷ []))
 last_split [] = inl refl
 last_split (x ∷ xs) = elim (last_split xs) [
-    inl none ↦ inr ([], x, ap (λ l. x ∷ l) none)
+  | inl none ↦ inr ([], x, ap (λ l. x ∷ l) none)
   | inr some ↦ inr (x ∷ some.0, some.1, ap (λ l. x ∷ l) some.2)
-  ]
+]
 
 -- the pair stands where the bytes are split at it
 occurs_at_split : (front rest : List ℕ) → OccursAt (front ++ (crlf ++ rest)) crlf (length front)
@@ -44,10 +44,11 @@ line_found bytes k first occurs = (whole, split)
   where
     split : bytes ≡ take k bytes ++ (crlf ++ drop (k + 2) bytes)
     split = sym (take-append-drop k bytes) ∙ ap (λ l. take k bytes ++ l) (OccursAt-split bytes crlf k occurs)
+
     whole : IsLine (take k bytes)
     whole front rest e =
         let again : bytes ≡ front ++ (crlf ++ (rest ++ drop k bytes)) =
-            sym (take-append-drop k bytes) ∙ ap (λ l. l ++ drop k bytes) e ∙ append_assoc front (crlf ++ rest) (drop k bytes) in
+        sym (take-append-drop k bytes) ∙ ap (λ l. l ++ drop k bytes) e ∙ append_assoc front (crlf ++ rest) (drop k bytes) in
         let earlier : OccursAt bytes crlf (length front) = subst (λ (b : List ℕ). OccursAt b crlf (length front)) (sym again) (occurs_at_split front (rest ++ drop k bytes)) in
         let fits = occurs.fits in
         let size : length (take k bytes) ≡ k = length-take-le k bytes (omega arith) in

@@ -12,9 +12,9 @@ use Rattle.pop3_wire.proofs.LineLemmas.{IsLine-nil, IsLine-front, IsLine-back}
 
 le_cases : (a b : ℕ) → (a ≤ b) ⊎ (b < a)
 le_cases a b = elim (cases_order a b) [
-    inl e ↦ inl (omega arith)
+  | inl e ↦ inl (omega arith)
   | inr r ↦ elim r [ inl l ↦ inl (omega arith) | inr l ↦ inr l ]
-  ]
+]
 
 pub no_line_zero : (w : List ℕ) → HasNoLine 0 w
 no_line_zero w = record { none = IsLine-nil }
@@ -22,7 +22,7 @@ no_line_zero w = record { none = IsLine-nil }
 pub no_line_less : (m n : ℕ) (w : List ℕ) → m ≤ n → HasNoLine n w → HasNoLine m w
 no_line_less m n w small known =
     let split : take m w ++ drop m (take n w) ≡ take n w =
-        ap (λ (l : List ℕ). l ++ drop m (take n w)) (sym (take-take m n w small)) ∙ take-append-drop m (take n w) in
+    ap (λ (l : List ℕ). l ++ drop m (take n w)) (sym (take-take m n w small)) ∙ take-append-drop m (take n w) in
     record { none = IsLine-front (take m w) (drop m (take n w)) (subst IsLine (sym split) known.none) }
 
 pub no_line_all : (n : ℕ) (w : List ℕ) → IsLine w → HasNoLine n w
@@ -31,13 +31,13 @@ no_line_all n w line =
 
 pub no_line_skip : (n s : ℕ) (w : List ℕ) → HasNoLine s w → HasNoLine (s - n) (drop n w)
 no_line_skip n s w known = elim (le_cases n s) [
-    inl small ↦
+  | inl small ↦
       let rest : drop n (take s w) ≡ take (s - n) (drop n w) =
-          ap (λ (k : ℕ). drop n (take k w)) (omega arith) ∙ drop-take n (s - n) w in
+      ap (λ (k : ℕ). drop n (take k w)) (omega arith) ∙ drop-take n (s - n) w in
       let back : IsLine (drop n (take s w)) = IsLine-back (take n (take s w)) (drop n (take s w)) (subst IsLine (sym (take-append-drop n (take s w))) known.none) in
       record { none = subst IsLine rest back }
   | inr past ↦ subst (λ (k : ℕ). HasNoLine k (drop n w)) (omega arith) (no_line_zero (drop n w))
-  ]
+]
 
 pub no_line_behind : (s : ℕ) (w piece : List ℕ) → s ≤ length w → HasNoLine s w → HasNoLine s (w ++ piece)
 no_line_behind s w piece small known = record { none = subst IsLine (sym (take-append-le s w piece small)) known.none }
@@ -45,27 +45,27 @@ no_line_behind s w piece small known = record { none = subst IsLine (sym (take-a
 -- no line end stands in the first s octets, nor from the last of them on
 seam : (u : List ℕ) (s : ℕ) → HasNoLine s u → IsLine (drop (s - 1) u) → IsLine u
 seam u s known later front rest e = elim (le_cases (length (front ++ crlf)) s) [
-    inl early ↦
+  | inl early ↦
       let split : take s u ≡ front ++ (crlf ++ take (s - length (front ++ crlf)) rest) =
-          ap (take s) (e ∙ sym (append_assoc front crlf rest))
-          ∙ ap (λ (k : ℕ). take k ((front ++ crlf) ++ rest)) (omega arith)
-          ∙ take-append-add (front ++ crlf) rest (s - length (front ++ crlf))
-          ∙ append_assoc front crlf (take (s - length (front ++ crlf)) rest) in
+      ap (take s) (e ∙ sym (append_assoc front crlf rest))
+      ∙ ap (λ (k : ℕ). take k ((front ++ crlf) ++ rest)) (omega arith)
+      ∙ take-append-add (front ++ crlf) rest (s - length (front ++ crlf))
+      ∙ append_assoc front crlf (take (s - length (front ++ crlf)) rest) in
       known.none front (take (s - length (front ++ crlf)) rest) split
   | inr late ↦
       let size : length (front ++ crlf) ≡ length front + 2 = length-append front crlf in
       let low : s - 1 ≤ length front = omega arith in
       let split : drop (s - 1) u ≡ drop (s - 1) front ++ (crlf ++ rest) =
-          ap (drop (s - 1)) e ∙ drop-append-le (s - 1) front (crlf ++ rest) low in
+      ap (drop (s - 1)) e ∙ drop-append-le (s - 1) front (crlf ++ rest) low in
       later (drop (s - 1) front) rest split
-  ]
+]
 
 -- the front of what is known holds no more than all of it
 front_known : (s m : ℕ) (w : List ℕ) → HasNoLine s w → HasNoLine s (take m w)
 front_known s m w known = elim (le_cases s m) [
-    inl small ↦ record { none = subst IsLine (sym (take-take s m w small)) known.none }
+  | inl small ↦ record { none = subst IsLine (sym (take-take s m w small)) known.none }
   | inr past ↦ no_line_all s (take m w) ((no_line_less m s w (omega arith) known).none)
-  ]
+]
 
 take_of_drop : (from n until : ℕ) (w : List ℕ) → from ≤ until → n ≤ until - from → take n (take (until - from) (drop from w)) ≡ drop from (take (from + n) w)
 take_of_drop from n until w low high = take-take n (until - from) (drop from w) high ∙ sym (drop-take from n w)
@@ -78,8 +78,8 @@ pub line_end_found : (w : List ℕ) (limit searched until from : ℕ) (line afte
 line_end_found w limit searched until from line after is_until is_from known is_line window =
     record {
       line = seam (take (from + length line) w) (min searched until)
-        (front_known (min searched until) (from + length line) w (no_line_less (min searched until) searched w (omega arith) known))
-        (subst IsLine (line_is ∙ ap (λ (k : ℕ). drop k (take (from + length line) w)) is_from) is_line);
+          (front_known (min searched until) (from + length line) w (no_line_less (min searched until) searched w (omega arith) known))
+          (subst IsLine (line_is ∙ ap (λ (k : ℕ). drop k (take (from + length line) w)) is_from) is_line);
       within = omega (arith, sizes);
       whole = sym (take-append-drop (from + length line) w) ∙ ap (λ (l : List ℕ). take (from + length line) w ++ l) rest_is;
     }
@@ -89,14 +89,19 @@ line_end_found w limit searched until from line after is_until is_from known is_
         let all : length (take (until - from) (drop from w)) ≡ length line + length (crlf ++ after) = ap length window ∙ length-append line (crlf ++ after) in
         let part : length (take (until - from) (drop from w)) ≡ until - from = length-take-le (until - from) (drop from w) (omega (arith, length-drop from w)) in
         omega arith
+
     line_is : line ≡ drop from (take (from + length line) w)
     line_is = sym (take_at line (crlf ++ after) (length line) refl) ∙ ap (take (length line)) (sym window) ∙ take_of_drop from (length line) until w (omega arith) (omega (arith, sizes))
+
     more : List ℕ
     more = drop (until - from) (drop from w)
+
     behind : drop from w ≡ line ++ (crlf ++ (after ++ more))
     behind = sym (take-append-drop (until - from) (drop from w)) ∙ ap (λ (l : List ℕ). l ++ more) window ∙ append_assoc line (crlf ++ after) more
+
     tail_is : drop (from + length line) w ≡ crlf ++ (after ++ more)
     tail_is = sym (drop-drop (length line) from w) ∙ ap (drop (length line)) behind ∙ drop_at line (crlf ++ (after ++ more)) (length line) refl
+
     rest_is : drop (from + length line) w ≡ crlf ++ drop (from + length line + 2) w
     rest_is = tail_is ∙ ap (λ (l : List ℕ). crlf ++ l) (sym (sym (drop-drop 2 (from + length line) w) ∙ ap (drop 2) tail_is))
 
@@ -106,38 +111,42 @@ pub line_end_none : (w : List ℕ) (limit searched until from : ℕ)
     → IsLine (take (until - from) (drop from w))
     → HasNoLine until w
 line_end_none w limit searched until from is_until is_from known window =
-    record { none = seam (take until w) (min searched until)
-      (front_known (min searched until) until w (no_line_less (min searched until) searched w (omega arith) known))
-      (subst IsLine (window_is ∙ ap (λ (k : ℕ). drop k (take until w)) is_from) window) }
+    record {
+      none = seam (take until w) (min searched until)
+          (front_known (min searched until) until w (no_line_less (min searched until) searched w (omega arith) known))
+          (subst IsLine (window_is ∙ ap (λ (k : ℕ). drop k (take until w)) is_from) window);
+    }
   where
     low : from ≤ until
     low = omega arith
+
     window_is : take (until - from) (drop from w) ≡ drop from (take until w)
     window_is = sym (drop-take from (until - from) w) ∙ ap (λ (k : ℕ). drop from (take k w)) (omega (arith, low))
 
 pub no_line_max : (s until : ℕ) (w : List ℕ) → HasNoLine s w → HasNoLine until w → HasNoLine (max s until) w
 no_line_max s until w known found = elim (le_cases s until) [
-    inl small ↦ subst (λ (k : ℕ). HasNoLine k w) (omega arith) found
+  | inl small ↦ subst (λ (k : ℕ). HasNoLine k w) (omega arith) found
   | inr past ↦ subst (λ (k : ℕ). HasNoLine k w) (omega arith) known
-  ]
+]
 
 pub no_line_limit : (limit until : ℕ) (w : List ℕ) → until ≡ min limit (length w) → HasNoLine until w → HasNoLine limit w
 no_line_limit limit until w is_until found = elim (le_cases limit (length w)) [
-    inl small ↦ subst (λ (k : ℕ). HasNoLine k w) (omega arith) found
+  | inl small ↦ subst (λ (k : ℕ). HasNoLine k w) (omega arith) found
   | inr past ↦
       let all : take until w ≡ take limit w = take_all until w (omega arith) ∙ sym (take_all limit w (omega arith)) in
       record { none = subst IsLine all found.none }
-  ]
+]
 
 -- what waits once its front was used
 pub window_skip : (bytes : List ℕ) (start end n : ℕ) → n ≤ length (take (end - start) (drop start bytes))
     → (n ≤ end - start) × (take (end - (start + n)) (drop (start + n) bytes) ≡ drop n (take (end - start) (drop start bytes)))
 window_skip bytes start end n fits =
-    let small : n ≤ end - start = omega (arith, length-take (end - start) (drop start bytes)) in
-    (small,
+    let small : n ≤ end - start = omega (arith, length-take (end - start) (drop start bytes)) in (
+      small,
       ap (take (end - (start + n))) (sym (drop-drop n start bytes))
-      ∙ sym (drop-take n (end - (start + n)) (drop start bytes))
-      ∙ ap (λ (k : ℕ). drop n (take k (drop start bytes))) (omega (arith, small)))
+          ∙ sym (drop-take n (end - (start + n)) (drop start bytes))
+          ∙ ap (λ (k : ℕ). drop n (take k (drop start bytes))) (omega (arith, small)),
+    )
 
 -- what waits once a piece was put behind it
 pub window_fill : (a k n : ℕ) (bytes buf : List ℕ) → a ≤ length bytes → n ≤ length buf

@@ -14,16 +14,16 @@ use Rattle.pop3_wire.proofs.BodyLemmas.{Reads, no_body, reads_more, IsLine-dot}
 -- one more octet keeps a line a line, unless it is LF behind CR
 IsLine-push : (part : List ℕ) (byte : ℕ) → IsLine part → (byte ≢ 10) ⊎ NoCr part → IsLine (part ++ byte ∷ [])
 IsLine-push part byte line apart front rest e = elim (last_split rest) [
-    inl none ↦
+  | inl none ↦
       let whole : part ++ byte ∷ [] ≡ (front ++ 13 ∷ []) ++ 10 ∷ [] =
-          e ∙ ap (λ (r : List ℕ). front ++ (crlf ++ r)) none ∙ sym (append_assoc front (13 ∷ []) (10 ∷ [])) in
+      e ∙ ap (λ (r : List ℕ). front ++ (crlf ++ r)) none ∙ sym (append_assoc front (13 ∷ []) (10 ∷ [])) in
       let same = same_from_push part (front ++ 13 ∷ []) byte 10 whole in
       elim apart [ inl other ↦ other same.1 | inr none ↦ none front same.0 ]
   | inr some ↦
       let whole : part ++ byte ∷ [] ≡ (front ++ (crlf ++ some.0)) ++ some.1 ∷ [] =
-          e ∙ ap (λ (r : List ℕ). front ++ (crlf ++ r)) some.2 ∙ sym (append_assoc front (crlf ++ some.0) (some.1 ∷ [])) in
+      e ∙ ap (λ (r : List ℕ). front ++ (crlf ++ r)) some.2 ∙ sym (append_assoc front (crlf ++ some.0) (some.1 ∷ [])) in
       line front some.0 (same_from_push part (front ++ (crlf ++ some.0)) byte some.1 whole).0
-  ]
+]
 
 NoCr-push : (part : List ℕ) (byte : ℕ) → byte ≢ 13 → NoCr (part ++ byte ∷ [])
 NoCr-push part byte other front e = other (same_from_push part front byte 13 e).1
@@ -34,9 +34,9 @@ push-some (b ∷ part) byte e = cc
 
 unstuffed-push : (part : List ℕ) (byte : ℕ) → (part ≢ []) ⊎ (byte ≢ 46) → unstuffed (part ++ byte ∷ []) ≡ unstuffed part ++ byte ∷ []
 unstuffed-push [] byte some = elim some [
-    inl n ↦ absurd (n refl)
+  | inl n ↦ absurd (n refl)
   | inr other ↦ grind (arith, ne_eqb byte 46 other)
-  ]
+]
 unstuffed-push (b ∷ part) byte some = grind arith
 
 -- one more octet of the line that is read
@@ -50,7 +50,6 @@ one_more bytes text part shown shown' byte given partly line more =
       whole = ap (λ (l : List ℕ). l ++ byte ∷ []) partly.whole ∙ append_assoc (flat_map ended partly.lines) part (byte ∷ []);
       read = ap (λ (l : List ℕ). l ++ given) partly.read ∙ append_assoc (text_of partly.lines) shown given ∙ ap (λ (l : List ℕ). text_of partly.lines ++ l) (sym more);
     }
-
 
 NoCr-nil : NoCr []
 NoCr-nil front e = push-some front 13 (sym e)
@@ -147,9 +146,10 @@ cr_lf bytes text h =
       lines = h.partly.lines;
       content = h.partly.content;
       whole = ap (λ (b : List ℕ). b ++ 10 ∷ []) h.partly.whole ∙ append_assoc (flat_map ended h.partly.lines) (h.part ++ 13 ∷ []) (10 ∷ [])
-        ∙ ap (λ (b : List ℕ). flat_map ended h.partly.lines ++ b) (append_assoc h.part (13 ∷ []) (10 ∷ []));
+          ∙ ap (λ (b : List ℕ). flat_map ended h.partly.lines ++ b) (append_assoc h.part (13 ∷ []) (10 ∷ []));
       read = refl;
     }
+
     more : Reads (bytes ++ 10 ∷ []) [] (text_of h.partly.lines ++ kept h.part)
     more = reads_more (bytes ++ 10 ∷ []) (h.part ++ (crlf ++ [])) h.part [] (text_of h.partly.lines) so_far (IsLine-front h.part (13 ∷ []) h.partly.line) refl h.other
 
@@ -159,7 +159,7 @@ cr_cr bytes text h =
       part = h.part ++ 13 ∷ [];
       other = λ e. cr_is_no_dot 13 refl (same_from_push h.part [] 13 46 e).1;
       partly = one_more bytes text (h.part ++ 13 ∷ []) (unstuffed h.part) (unstuffed (h.part ++ 13 ∷ [])) 13 (13 ∷ []) h.partly
-        (IsLine-push (h.part ++ 13 ∷ []) 13 h.partly.line (inl (cr_is_not_lf 13 refl))) (unstuffed-push h.part 13 (inr (cr_is_no_dot 13 refl)));
+          (IsLine-push (h.part ++ 13 ∷ []) 13 h.partly.line (inl (cr_is_not_lf 13 refl))) (unstuffed-push h.part 13 (inr (cr_is_no_dot 13 refl)));
     }
 
 pub cr_other : (bytes text : List ℕ) (byte : ℕ) → byte ≢ 10 → byte ≢ 13 → AtCr bytes text → InLine (bytes ++ byte ∷ []) (text ++ 13 ∷ byte ∷ [])
@@ -170,7 +170,7 @@ cr_other bytes text byte no_lf no_cr h =
       other = λ e. push-some h.part 13 (same_from_push (h.part ++ 13 ∷ []) [] byte 46 e).0;
       no_cr = NoCr-push (h.part ++ 13 ∷ []) byte no_cr;
       partly = one_more bytes text (h.part ++ 13 ∷ []) (unstuffed h.part) (unstuffed ((h.part ++ 13 ∷ []) ++ byte ∷ [])) byte (13 ∷ byte ∷ []) h.partly
-        (IsLine-push (h.part ++ 13 ∷ []) byte h.partly.line (inl no_lf)) shown;
+          (IsLine-push (h.part ++ 13 ∷ []) byte h.partly.line (inl no_lf)) shown;
     }
   where
     shown : unstuffed ((h.part ++ 13 ∷ []) ++ byte ∷ []) ≡ unstuffed h.part ++ 13 ∷ byte ∷ []

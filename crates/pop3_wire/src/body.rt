@@ -2,10 +2,9 @@
 ghost use Rattle.std.specs.Prelude.{◌≡◌, ◌≤◌, length, take, IfOk, IfErr, IfSome, IfNone, IsTrue, ◌↔◌};
 ghost use Rattle.pop3_wire.specs.Body.{dot, Body, HasNoBody, unstuffed};
 
-use std::alloc::Global;
-
 use crate::fault::WireFault;
 use crate::line::cut_line;
+use std::alloc::Global;
 
 /// What a line of a body stands for: the line without its first full stop, where it begins with one.
 pub fn without_dot(line: &[u8]) -> &[u8]
@@ -28,10 +27,8 @@ pub fn is_end_mark(line: &[u8]) -> bool
 /// mark included. None where no prefix of the bytes is a whole body. The text has the body's lines
 /// as they were before they were stuffed, each ended by LF.
 pub fn unstuff(alloc: Global, bytes: &[u8]) -> Result<Option<(Vec<u8>, usize)>, WireFault>
-    ensures found {
-        IfOk result (λ found. IfSome found (λ b. (b.1 ≤ length bytes.now)
-            × Body (take b.1 bytes.now) b.0.items))
-    }
+    ensures found { IfOk result (λ found. IfSome found (λ b. (b.1 ≤ length bytes.now)
+        × Body (take b.1 bytes.now) b.0.items)) }
     ensures none { IfOk result (λ found. IfNone found (HasNoBody bytes.now)) }
     ensures err { IfErr result (λ e. e ≡ WireFault.NoMemory) }
 {

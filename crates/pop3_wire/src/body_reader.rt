@@ -6,12 +6,11 @@ ghost use Rattle.pop3_wire.specs.Place.{at, GoesOn};
 ghost use Rattle.pop3_wire.specs.Unstuffing.{Reaches};
 ghost use Rattle.pop3_wire.specs.declared.unstuffer.Spot.TheVariants.{Done};
 
-use std::alloc::{AllocError, Global};
-use thiserror::Error;
-
 use crate::line_reader::LineReader;
 use crate::unstuffer::Unstuffer;
 use crate::wire::Wire;
+use std::alloc::{AllocError, Global};
+use thiserror::Error;
 
 /// Why there is no text.
 #[derive(Clone, Copy, Debug, PartialEq, Eq, Error)]
@@ -43,19 +42,13 @@ impl From<AllocError> for BodyFault {
 
 /// Takes from the link where nothing waits, so that something does.
 fn draw<W: Wire>(wire: &mut W, reader: &mut LineReader) -> Result<(), BodyFault>
-    ensures counted {
-        Tallies (W.seen wire.old).failures (refusal_of result) (W.seen wire.new).failures
-    }
-    ensures ok {
-        OnOk result ((gained : List ℕ) × (reader.new ≡ reader.old ++ gained) × (0 < length reader.new)
-            × (W.sound wire.new → W.sound wire.old × W.leads_to wire.old wire.new
-                × Drew (W.seen wire.old) (W.seen wire.new) gained × GoesOn (W.seen wire.old) (W.seen wire.new)))
-    }
-    ensures err {
-        IfErr result (λ fault. (reader.old ≡ [])
-            × (W.sound wire.new → W.sound wire.old × W.leads_to wire.old wire.new
-                × DrawsNothing fault (W.seen wire.old) (W.seen wire.new)))
-    }
+    ensures counted { Tallies (W.seen wire.old).failures (refusal_of result) (W.seen wire.new).failures }
+    ensures ok { OnOk result ((gained : List ℕ) × (reader.new ≡ reader.old ++ gained) × (0 < length reader.new)
+        × (W.sound wire.new → W.sound wire.old × W.leads_to wire.old wire.new
+        × Drew (W.seen wire.old) (W.seen wire.new) gained × GoesOn (W.seen wire.old) (W.seen wire.new))) }
+    ensures err { IfErr result (λ fault. (reader.old ≡ [])
+        × (W.sound wire.new → W.sound wire.old × W.leads_to wire.old wire.new
+        × DrawsNothing fault (W.seen wire.old) (W.seen wire.new))) }
 {
     if !reader.waiting().is_empty() {
         return Ok(());
@@ -75,16 +68,10 @@ fn use_waiting(
     left: usize,
     text: &mut Vec<u8>,
 ) -> Result<usize, AllocError>
-    ensures used {
-        IfOk result (λ used. (used ≤ left) × (used ≤ length reader.old) × (reader.new ≡ drop used reader.old))
-    }
-    ensures whole {
-        IfOk result (λ used. unstuffer.new ≢ Done → used ≡ min left (length reader.old))
-    }
-    ensures reached {
-        IfOk result (λ used. (bytes known : List ℕ) → text.old.items ≡ known → Reaches unstuffer.old bytes known
-            → Reaches unstuffer.new (bytes ++ take used reader.old) text.new.items)
-    }
+    ensures used { IfOk result (λ used. (used ≤ left) × (used ≤ length reader.old) × (reader.new ≡ drop used reader.old)) }
+    ensures whole { IfOk result (λ used. unstuffer.new ≢ Done → used ≡ min left (length reader.old)) }
+    ensures reached { IfOk result (λ used. (bytes known : List ℕ) → text.old.items ≡ known → Reaches unstuffer.old bytes known
+        → Reaches unstuffer.new (bytes ++ take used reader.old) text.new.items) }
 {
     let mut out = [0u8; 4097];
     let length = left.min(reader.waiting().len());
@@ -103,13 +90,9 @@ pub fn read_body<W: Wire>(
     limit: usize,
 ) -> Result<Vec<u8>, BodyFault>
     requires { 0 < limit }
-    ensures counted {
-        Tallies (W.seen wire.old).failures (refusal_of result) (W.seen wire.new).failures
-    }
-    ensures read {
-        W.sound wire.new → W.sound wire.old × W.leads_to wire.old wire.new
-            × ReadsBody limit (at (W.seen wire.old) reader.old) (items_of result) (at (W.seen wire.new) reader.new)
-    }
+    ensures counted { Tallies (W.seen wire.old).failures (refusal_of result) (W.seen wire.new).failures }
+    ensures read { W.sound wire.new → W.sound wire.old × W.leads_to wire.old wire.new
+        × ReadsBody limit (at (W.seen wire.old) reader.old) (items_of result) (at (W.seen wire.new) reader.new) }
 {
     let mut unstuffer = Unstuffer::new();
     let mut text = Vec::new(alloc);

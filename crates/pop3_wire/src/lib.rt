@@ -39,4 +39,6 @@ pub use wire::{Wire, WireDown};
 #[cfg(test)]
 mod command_tests;
 #[cfg(test)]
+mod reading_tests;
+#[cfg(test)]
 mod stuffing_tests;

@@ -6,9 +6,7 @@ use memchr::memmem;
 
 /// The line that the bytes begin with, and what follows its CR LF. None where no line ends.
 pub fn cut_line(bytes: &[u8]) -> Option<(&[u8], &[u8])>
-    ensures found {
-        IfSome result (λ cut. IsLine cut.0.now × (bytes.now ≡ cut.0.now ++ (crlf ++ cut.1.now)))
-    }
+    ensures found { IfSome result (λ cut. IsLine cut.0.now × (bytes.now ≡ cut.0.now ++ (crlf ++ cut.1.now))) }
     ensures none { IfNone result (IsLine bytes.now) }
 {
     let length = memmem::find(bytes, b"\r\n")?;

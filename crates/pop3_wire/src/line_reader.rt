@@ -4,11 +4,10 @@ ghost use Rattle.std.specs.Prelude.{◌≡◌, ◌≤◌, ◌<◌, ◌+◌, ◌-
 ghost use Rattle.pop3_wire.specs.Link.{Tallies};
 ghost use Rattle.pop3_wire.specs.Place.{at, GotPiece, WasRefused, Gains, HasLine, HasNoLine, ReadsLine, refusal_of};
 
-use std::marker::Model;
-use thiserror::Error;
-
 use crate::line::cut_line;
 use crate::wire::{Wire, WireDown};
+use std::marker::Model;
+use thiserror::Error;
 
 /// Why no line waits.
 #[derive(Clone, Copy, Debug, PartialEq, Eq, Error)]
@@ -89,16 +88,12 @@ impl LineReader {
     pub fn fill<W: Wire>(&mut self, wire: &mut W) -> Result<usize, WireDown>
         requires { length self.old < 4096 }
         ensures counted { Tallies (W.seen wire.old).failures result (W.seen wire.new).failures }
-        ensures ok {
-            IfOk result (λ n. (piece : List ℕ) × (length piece ≡ n) × (self.new ≡ self.old ++ piece)
-                × (W.sound wire.new → W.sound wire.old × W.leads_to wire.old wire.new
-                    × GotPiece (W.seen wire.old) piece (W.seen wire.new)))
-        }
-        ensures err {
-            OnErr result ((self.new ≡ self.old)
-                × (W.sound wire.new → W.sound wire.old × W.leads_to wire.old wire.new
-                    × WasRefused (W.seen wire.old) (W.seen wire.new)))
-        }
+        ensures ok { IfOk result (λ n. (piece : List ℕ) × (length piece ≡ n) × (self.new ≡ self.old ++ piece)
+            × (W.sound wire.new → W.sound wire.old × W.leads_to wire.old wire.new
+            × GotPiece (W.seen wire.old) piece (W.seen wire.new))) }
+        ensures err { OnErr result ((self.new ≡ self.old)
+            × (W.sound wire.new → W.sound wire.old × W.leads_to wire.old wire.new
+            × WasRefused (W.seen wire.old) (W.seen wire.new))) }
     {
         self.fill_at_most(wire, 4096)
     }
@@ -110,16 +105,12 @@ impl LineReader {
         requires some { 0 < most }
         ensures counted { Tallies (W.seen wire.old).failures result (W.seen wire.new).failures }
         ensures within { IfOk result (λ n. n ≤ most) }
-        ensures ok {
-            IfOk result (λ n. (piece : List ℕ) × (length piece ≡ n) × (self.new ≡ self.old ++ piece)
-                × (W.sound wire.new → W.sound wire.old × W.leads_to wire.old wire.new
-                    × GotPiece (W.seen wire.old) piece (W.seen wire.new)))
-        }
-        ensures err {
-            OnErr result ((self.new ≡ self.old)
-                × (W.sound wire.new → W.sound wire.old × W.leads_to wire.old wire.new
-                    × WasRefused (W.seen wire.old) (W.seen wire.new)))
-        }
+        ensures ok { IfOk result (λ n. (piece : List ℕ) × (length piece ≡ n) × (self.new ≡ self.old ++ piece)
+            × (W.sound wire.new → W.sound wire.old × W.leads_to wire.old wire.new
+            × GotPiece (W.seen wire.old) piece (W.seen wire.new))) }
+        ensures err { OnErr result ((self.new ≡ self.old)
+            × (W.sound wire.new → W.sound wire.old × W.leads_to wire.old wire.new
+            × WasRefused (W.seen wire.old) (W.seen wire.new))) }
     {
         move_to_front(&mut self.bytes, self.start, self.end);
         self.end -= self.start;
@@ -150,16 +141,12 @@ impl LineReader {
     /// and says how long it is without its CR LF. The line still waits then.
     pub fn line<W: Wire>(&mut self, wire: &mut W, limit: usize) -> Result<usize, LineFault>
         requires { limit ≤ 4096 }
-        ensures counted {
-            Tallies (W.seen wire.old).failures (refusal_of result) (W.seen wire.new).failures
-        }
+        ensures counted { Tallies (W.seen wire.old).failures (refusal_of result) (W.seen wire.new).failures }
         ensures found { IfOk result (HasLine limit self.new) }
         ensures gained { (gained : List ℕ) × (self.new ≡ self.old ++ gained) }
-        ensures read {
-            W.sound wire.new → W.sound wire.old × W.leads_to wire.old wire.new
-                × ((gained : List ℕ) × Gains (at (W.seen wire.old) self.old) (at (W.seen wire.new) self.new) gained)
-                × ReadsLine limit (at (W.seen wire.old) self.old) result (at (W.seen wire.new) self.new)
-        }
+        ensures read { W.sound wire.new → W.sound wire.old × W.leads_to wire.old wire.new
+            × ((gained : List ℕ) × Gains (at (W.seen wire.old) self.old) (at (W.seen wire.new) self.new) gained)
+            × ReadsLine limit (at (W.seen wire.old) self.old) result (at (W.seen wire.new) self.new) }
     {
         loop {
             if let Some(length) = self.line_end(limit) {

@@ -27,10 +27,8 @@ fn without_space(after: &[u8]) -> &[u8]
 /// it begins with neither `+OK` nor `-ERR`, in upper case. One space in front of the rest is dropped.
 pub fn read_status(line: &[u8]) -> Result<(Status, &[u8]), WireFault>
     ensures ok { IfOk result (λ read. IsFirstLine line.now read.0 read.1.now) }
-    ensures err {
-        IfErr result (λ e. (e ≡ WireFault.BadStatus)
-            × ((status : Status) (rest : List ℕ) → IsFirstLine line.now status rest → ⊥))
-    }
+    ensures err { IfErr result (λ e. (e ≡ WireFault.BadStatus)
+        × ((status : Status) (rest : List ℕ) → IsFirstLine line.now status rest → ⊥)) }
 {
     if let Some(after) = line.strip_prefix(b"+OK".as_slice()) {
         return Ok((Status::Positive, without_space(after)));

@@ -4,10 +4,9 @@ ghost use Rattle.pop3_wire.specs.Link.{greatest_count, Tallies, Sends, Receives}
 ghost use Rattle.pop3_wire.specs.Script.{Script};
 ghost use Rattle.std.proofs.Common.{refl, ◌∙◌};
 
+use crate::wire::{Wire, WireDown};
 use std::alloc::Global;
 use std::marker::Model;
-
-use crate::wire::{Wire, WireDown};
 
 /// A link that gives replies written beforehand, in pieces of a bounded length, and keeps what it is
 /// sent. Below the greatest failure count it refuses only for want of memory, in `send`.
@@ -25,13 +24,13 @@ impl Model for ScriptWire {
     ghost Value = { Script };
 
     ghost view = { λ w. record {
-        replies = w.replies.items;
-        link = record {
-            sent = w.sent.items;
-            got = take w.given w.replies.items;
-            ended = w.ended;
-            failures = w.failures
-        }
+      replies = w.replies.items;
+      link = record {
+        sent = w.sent.items;
+        got = take w.given w.replies.items;
+        ended = w.ended;
+        failures = w.failures;
+      };
     } };
 
     ghost invariant = { λ w. (w.given ≤ length w.replies.items) × (0 < w.cut) };
@@ -41,12 +40,10 @@ impl ScriptWire {
     /// A link that will give these replies, at most `cut` octets at once, and was sent nothing yet.
     pub fn new(alloc: Global, replies: Vec<u8>, cut: usize) -> ScriptWire
         requires { 0 < cut }
-        ensures {
-            result ≡ record {
-                replies = replies.items;
-                link = record { sent = []; got = []; ended = false; failures = 0 }
-            }
-        }
+        ensures { result ≡ record {
+          replies = replies.items;
+          link = record { sent = []; got = []; ended = false; failures = 0 };
+        } }
     {
         ScriptWire {
             replies,
@@ -88,11 +85,9 @@ impl Wire for ScriptWire {
         requires { 0 < length buf.old }
         ensures within { IfOk result (λ n. n ≤ length buf.new) }
         ensures counted { Tallies self.old.link.failures result self.new.link.failures }
-        ensures got {
-            (self.new.link.failures < greatest_count) → (self.old.link.failures < greatest_count)
-                × (self.new.replies ≡ self.old.replies)
-                × Receives self.old.link result buf.new self.new.link
-        }
+        ensures got { (self.new.link.failures < greatest_count) → (self.old.link.failures < greatest_count)
+            × (self.new.replies ≡ self.old.replies)
+            × Receives self.old.link result buf.new self.new.link }
         // Below the greatest count it refuses nothing, and answers 0 only where all was given.
         ensures gives { self.old.link.failures < greatest_count → IsOk result }
         ensures ends { IfOk result (λ n. n ≡ 0 → self.new.link.got ≡ self.new.replies) }

@@ -2,10 +2,9 @@
 ghost use Rattle.std.specs.Prelude.{◌≡◌, ◌+◌, ◌<◌, OnErr, OnOk};
 ghost use Rattle.pop3_wire.specs.Link.{uncharted};
 
+use crate::wire::{Wire, WireDown};
 use std::io;
 use std::io::{Read, Write};
-
-use crate::wire::{Wire, WireDown};
 
 /// A link over a reader and a writer. Nothing is known of the octets that these take and give, so
 /// its premise never holds: what crosses it is shown by tests.

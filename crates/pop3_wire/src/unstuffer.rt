@@ -47,10 +47,8 @@ pub struct Fed {
 /// What an octet does at a spot inside the body.
 fn step(spot: Spot, byte: u8) -> (Spot, Given)
     requires { spot ≢ Spot.Done }
-    ensures reached {
-        (bytes text : List ℕ) → Reaches spot bytes text
-            → Reaches result.0 (bytes ++ byte ∷ []) (text ++ bytes_given result.1)
-    }
+    ensures reached { (bytes text : List ℕ) → Reaches spot bytes text
+        → Reaches result.0 (bytes ++ byte ∷ []) (text ++ bytes_given result.1) }
     ensures few { length (bytes_given result.1) + held_back result.0 ≤ 1 + held_back spot }
 {
     match spot {
@@ -136,10 +134,8 @@ impl Unstuffer {
         requires { length piece.now < length out.old }
         ensures fits { (result.used ≤ length piece.now) × (result.put ≤ length out.new) }
         ensures whole { (self.new ≢ Spot.Done) → result.used ≡ length piece.now }
-        ensures reached {
-            (bytes text : List ℕ) → Reaches self.old bytes text
-                → Reaches self.new (bytes ++ take result.used piece.now) (text ++ take result.put out.new)
-        }
+        ensures reached { (bytes text : List ℕ) → Reaches self.old bytes text
+            → Reaches self.new (bytes ++ take result.used piece.now) (text ++ take result.put out.new) }
         ensures ended { IsTrue result.ended ↔ (self.new ≡ Spot.Done) }
         ensures after { self.old ≡ Spot.Done → (result.used ≡ 0) × (result.put ≡ 0) }
     {
@@ -177,22 +173,15 @@ impl Unstuffer {
 /// At the start nothing was read, and nothing put.
 pub fn starts_empty()
     ensures { Reaches Spot.Start [] [] }
-{
-}
+{}
 
 /// The octets read are a body exactly at the end, and then what was put is its text.
 pub fn ends_with_body()
-    ensures {
-        (spot : Spot) (bytes text : List ℕ) → Reaches spot bytes text
-            → (spot ≡ Spot.Done → Body bytes text) × ((whole : List ℕ) → Body bytes whole → spot ≡ Spot.Done)
-    }
-{
-}
+    ensures { (spot : Spot) (bytes text : List ℕ) → Reaches spot bytes text
+        → (spot ≡ Spot.Done → Body bytes text) × ((whole : List ℕ) → Body bytes whole → spot ≡ Spot.Done) }
+{}
 
 /// Before the end no prefix of the octets read is a body.
 pub fn holds_no_body()
-    ensures {
-        (spot : Spot) (bytes text : List ℕ) → Reaches spot bytes text → spot ≢ Spot.Done → HasNoBody bytes
-    }
-{
-}
+    ensures { (spot : Spot) (bytes text : List ℕ) → Reaches spot bytes text → spot ≢ Spot.Done → HasNoBody bytes }
+{}

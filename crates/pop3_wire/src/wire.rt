@@ -28,10 +28,8 @@ pub trait Wire {
     /// Sends the bytes, all of them, before it answers. A refused call has sent a prefix of them.
     fn send(&mut self, bytes: &[u8]) -> Result<(), WireDown>
         ensures counted { Tallies (seen self.old).failures result (seen self.new).failures }
-        ensures sent {
-            sound self.new → sound self.old × leads_to self.old self.new
-                × Sends (seen self.old) bytes.now result (seen self.new)
-        };
+        ensures sent { sound self.new → sound self.old × leads_to self.old self.new
+            × Sends (seen self.old) bytes.now result (seen self.new) };
 
     /// Puts into the buffer what comes next, at least one octet, and answers how many; 0 says that
     /// nothing comes any more. It may wait.
@@ -39,10 +37,8 @@ pub trait Wire {
         requires { 0 < length buf.old }
         ensures within { IfOk result (λ n. n ≤ length buf.new) }
         ensures counted { Tallies (seen self.old).failures result (seen self.new).failures }
-        ensures got {
-            sound self.new → sound self.old × leads_to self.old self.new
-                × Receives (seen self.old) result buf.new (seen self.new)
-        };
+        ensures got { sound self.new → sound self.old × leads_to self.old self.new
+            × Receives (seen self.old) result buf.new (seen self.new) };
 
     /// How many calls were refused.
     fn failures(&self) -> u64
@@ -50,5 +46,6 @@ pub trait Wire {
 
     // `leads_to` is reflexive and transitive.
     ghost leads_same: { (w : Self) → leads_to w w };
+
     ghost leads_on: { (u v w : Self) → leads_to u v → leads_to v w → leads_to u w };
 }

@@ -7,7 +7,9 @@ use Rattle.getmail.proofs.listing.list.Goals as goal
 pub returns-clause-lists : goal.returns-clause-lists
 returns-clause-lists g c sound =
     let takes = c.scan_rows.ensures.takes sound in
-    let asks = c.in_default.ensures.asks takes.0 in
-    (asks.0, g.met.W.Wire.leads_on _ _ _ asks.1 takes.1,
+    let asks = c.in_default.ensures.asks takes.0 in (
+      asks.0,
+      g.met.W.Wire.leads_on _ _ _ asks.1 takes.1,
       lists_of list IsScanRow asks.2.0 (at (g.W.Wire.seen c.args.wire.now) c.args.reader.now) (at (g.W.Wire.seen c.ask.new.wire) c.ask.new.reader)
-        (at (g.W.Wire.seen c.scan_rows.new.wire) c.scan_rows.new.reader) (scan_pairs c.scan_rows.result) asks.2.1 tt takes.2)
+          (at (g.W.Wire.seen c.scan_rows.new.wire) c.scan_rows.new.reader) (scan_pairs c.scan_rows.result) asks.2.1 tt takes.2,
+    )

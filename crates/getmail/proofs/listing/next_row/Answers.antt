@@ -10,7 +10,19 @@ returns-then-rows-ge100000-clause-next g c sound =
     let n = c.in-Ok.length in
     let w = c.next_line.new.reader in
     let within : n + 2 ≤ 2048 = waits.3.0.within in
-    let size : length (take n w) ≡ min n (length w) = length-take n w in
-    (waits.0, waits.1, (waits.2.0, waits.2.1, (take n w, drop (n + 2) w, c.if-rows-ge100000.true,
-      (waits.3.0.line, λ e. false≢true (c.if-is_end_mark.ensures.1 (ap (take n) c.waiting.ensures.value ∙ e))),
-      omega arith, line_waits 2048 n w waits.3.0)))
+    let size : length (take n w) ≡ min n (length w) = length-take n w in (
+      waits.0,
+      waits.1,
+      (
+        waits.2.0,
+        waits.2.1,
+        (
+          take n w,
+          drop (n + 2) w,
+          c.if-rows-ge100000.true,
+          (waits.3.0.line, λ e. false≢true (c.if-is_end_mark.ensures.1 (ap (take n) c.waiting.ensures.value ∙ e))),
+          omega arith,
+          line_waits 2048 n w waits.3.0,
+        ),
+      ),
+    )

@@ -8,7 +8,7 @@ abbrev pub invariant-rows : goal.invariant-rows
 invariant-rows g l =
     ((g.W.Wire.seen l.wire).failures ≡ (g.W.Wire.seen l.fn.wire).failures)
     × (g.W.Wire.sound l.wire
-      → InRows g.W.Wire.sound g.W.Wire.leads_to g.W.Wire.seen SizeList IsScanRow l.fn.wire l.fn.reader l.wire l.reader (map scan_pair l.rows.items))
+    → InRows g.W.Wire.sound g.W.Wire.leads_to g.W.Wire.seen SizeList IsScanRow l.fn.wire l.fn.reader l.wire l.reader (map scan_pair l.rows.items))
 
 abbrev pub decreases-rows : goal.decreases-rows
 decreases-rows g l = 100000 - length l.rows.items

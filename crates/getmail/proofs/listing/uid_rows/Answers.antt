@@ -14,24 +14,32 @@ use Rattle.getmail.proofs.ListingLemmas.{InRows, rows_none, drew_on, drew_of, in
 use Rattle.getmail.proofs.listing.uid_rows.Goals as goal
 
 pub rows-init : goal.rows-init
-rows-init g c = (refl, λ sound. record {
+rows-init g c = (
+  refl,
+  λ sound. record {
     lines = [];
     gained = [];
     has = rows_none Uidl c.args.reader.now tt;
     read = subst (λ (l : List _). AllZip IsUidRow [] (map uid_pair l)) (sym c.new-rows.ensures.items) tt;
     link = (sound, g.met.W.Wire.leads_same c.args.wire.now, record { got = sym (append-nil _); sent = refl }, record { ended = refl; failures = refl });
-  })
+  },
+)
 
 pub returns-in-Err-clause-takes : goal.returns-in-Err-clause-takes
 returns-in-Err-clause-takes g c sound =
     let next = c.in-Err.ensures.next sound in
     let now = c.rows.invariant.1 next.0 in
     let size : c.len.result ≡ length c.rows.rows.items = omega arith in
-    let count : c.len.result ≡ length (map uid_pair c.rows.rows.items) = size ∙ sym (length-map c.rows.rows.items uid_pair) in
-    (now.link.0, g.met.W.Wire.leads_on _ _ _ now.link.1 next.1, (now.gained ++ next.2.0,
-      drew_on _ _ _ now.gained next.2.0 now.link.2 (drew_of _ _ next.2.0 next.2.1),
-      rows_cause g.W.Wire.sound g.W.Wire.leads_to g.W.Wire.seen g.met.W.Wire.leads_on Uidl IsUidRow c.args.wire.now c.args.reader.now c.rows.wire c.rows.reader (map uid_pair c.rows.rows.items) now
-        c.in-Err.fault c.len.result (g.W.Wire.seen c.next_row.new.wire) c.next_row.new.reader next.2.0 count now.link.3 next.2.1.waiting next.2.2))
+    let count : c.len.result ≡ length (map uid_pair c.rows.rows.items) = size ∙ sym (length-map c.rows.rows.items uid_pair) in (
+      now.link.0,
+      g.met.W.Wire.leads_on _ _ _ now.link.1 next.1,
+      (
+        now.gained ++ next.2.0,
+        drew_on _ _ _ now.gained next.2.0 now.link.2 (drew_of _ _ next.2.0 next.2.1),
+        rows_cause g.W.Wire.sound g.W.Wire.leads_to g.W.Wire.seen g.met.W.Wire.leads_on Uidl IsUidRow c.args.wire.now c.args.reader.now c.rows.wire c.rows.reader (map uid_pair c.rows.rows.items) now
+            c.in-Err.fault c.len.result (g.W.Wire.seen c.next_row.new.wire) c.next_row.new.reader next.2.0 count now.link.3 next.2.1.waiting next.2.2,
+      ),
+    )
 
 pub returns-in-Err-uid_row-clause-takes : goal.returns-in-Err-uid_row-clause-takes
 returns-in-Err-uid_row-clause-takes g c sound =
@@ -39,40 +47,55 @@ returns-in-Err-uid_row-clause-takes g c sound =
     let n = c.in-Ok-Some.length in
     let w = c.next_row.new.reader in
     let now = in_rows_on g.W.Wire.sound g.W.Wire.leads_to g.W.Wire.seen g.met.W.Wire.leads_on Uidl IsUidRow c.args.wire.now c.args.reader.now c.rows.wire c.rows.reader (map uid_pair c.rows.rows.items)
-            (c.rows.invariant.1 next.0) c.next_row.new.wire w next.2.0 next.1 next.2.1 next.2.2 in
+    (c.rows.invariant.1 next.0) c.next_row.new.wire w next.2.0 next.1 next.2.1 next.2.2 in
     let bad : ((row : ℕ × List ℕ) → IsUidRow (take n c.waiting.result.now) row → ⊥) → RowsCause BadListing Uidl (g.W.Wire.seen c.args.wire.now) (g.W.Wire.seen c.next_row.new.wire) (c.args.reader.now ++ now.gained) =
-            λ unread. rows_bad g.W.Wire.sound g.W.Wire.leads_to g.W.Wire.seen g.met.W.Wire.leads_on Uidl IsUidRow c.args.wire.now c.args.reader.now c.next_row.new.wire w (map uid_pair c.rows.rows.items) now
-              (take n w) (drop (n + 2) w) (line_waits 2048 n w next.2.3) (next.2.3.line, next.2.4)
-              (λ ok. let some = ok_gives (number_and_id (unstuffed (take n w))) ok in
-                subst (λ (l : List ℕ). (row : ℕ × List ℕ) → IsUidRow (take n l) row → ⊥) c.waiting.ensures.value unread some.0 some.1) in
-    (now.link.0, now.link.1, (now.gained, now.link.2,
-      elim c.in-Err-uid_row.ensures.err [
-          inl wanting ↦ let P : Fault → Type 0 = λ (f : Fault). RowsCause f Uidl (g.W.Wire.seen c.args.wire.now) (g.W.Wire.seen c.next_row.new.wire) (c.args.reader.now ++ now.gained) in subst P (sym wanting) tt
-        | inr unread ↦ let P : Fault → Type 0 = λ (f : Fault). RowsCause f Uidl (g.W.Wire.seen c.args.wire.now) (g.W.Wire.seen c.next_row.new.wire) (c.args.reader.now ++ now.gained) in subst P (sym unread.0) (bad unread.1)
-        ]))
+    λ unread. rows_bad g.W.Wire.sound g.W.Wire.leads_to g.W.Wire.seen g.met.W.Wire.leads_on Uidl IsUidRow c.args.wire.now c.args.reader.now c.next_row.new.wire w (map uid_pair c.rows.rows.items) now
+    (take n w) (drop (n + 2) w) (line_waits 2048 n w next.2.3) (next.2.3.line, next.2.4)
+    (λ ok. let some = ok_gives (number_and_id (unstuffed (take n w))) ok in
+    subst (λ (l : List ℕ). (row : ℕ × List ℕ) → IsUidRow (take n l) row → ⊥) c.waiting.ensures.value unread some.0 some.1) in (
+      now.link.0,
+      now.link.1,
+      (
+        now.gained,
+        now.link.2,
+        elim c.in-Err-uid_row.ensures.err [
+          | inl wanting ↦ let P : Fault → Type 0 = λ (f : Fault). RowsCause f Uidl (g.W.Wire.seen c.args.wire.now) (g.W.Wire.seen c.next_row.new.wire) (c.args.reader.now ++ now.gained) in subst P (sym wanting) tt
+          | inr unread ↦ let P : Fault → Type 0 = λ (f : Fault). RowsCause f Uidl (g.W.Wire.seen c.args.wire.now) (g.W.Wire.seen c.next_row.new.wire) (c.args.reader.now ++ now.gained) in subst P (sym unread.0) (bad unread.1)
+        ],
+      ),
+    )
 
 pub rows-preserved : goal.rows-preserved
-rows-preserved g c = (c.in-Ok-Some.ensures.counted ∙ c.rows.invariant.0, λ sound.
-    let next = (rw c.in-Ok-Some.field-0-is at c.in-Ok-Some.ensures.next) sound in
-    let n = c.in-Ok-Some.length in
-    let w = c.next_row.new.reader in
-    let now = in_rows_on g.W.Wire.sound g.W.Wire.leads_to g.W.Wire.seen g.met.W.Wire.leads_on Uidl IsUidRow c.args.wire.now c.args.reader.now c.rows.wire c.rows.reader (map uid_pair c.rows.rows.items)
-            (c.rows.invariant.1 next.0) c.next_row.new.wire w next.2.0 next.1 next.2.1 next.2.2 in
-    let size : c.len.result ≡ length c.rows.rows.items = omega arith in
-    let count : length (map uid_pair c.rows.rows.items) ≡ length c.rows.rows.items = length-map c.rows.rows.items uid_pair in
-    let few : c.len.result < 100000 = rw c.in-Ok-Some.field-0-is at c.in-Ok-Some.ensures.few in
-    let read : IsUidRow (take n w) (uid_pair c.in-Ok.row) = subst (λ (l : List ℕ). IsUidRow (take n l) (uid_pair c.in-Ok.row)) c.waiting.ensures.value c.in-Ok.ensures.ok in
-    subst (λ (rest : List ℕ). InRows g.W.Wire.sound g.W.Wire.leads_to g.W.Wire.seen Uidl IsUidRow c.args.wire.now c.args.reader.now c.next_row.new.wire rest (map uid_pair c.push.new.self.items))
+rows-preserved g c = (
+  c.in-Ok-Some.ensures.counted ∙ c.rows.invariant.0,
+  λ sound.
+      let next = (rw c.in-Ok-Some.field-0-is at c.in-Ok-Some.ensures.next) sound in
+      let n = c.in-Ok-Some.length in
+      let w = c.next_row.new.reader in
+      let now = in_rows_on g.W.Wire.sound g.W.Wire.leads_to g.W.Wire.seen g.met.W.Wire.leads_on Uidl IsUidRow c.args.wire.now c.args.reader.now c.rows.wire c.rows.reader (map uid_pair c.rows.rows.items)
+      (c.rows.invariant.1 next.0) c.next_row.new.wire w next.2.0 next.1 next.2.1 next.2.2 in
+      let size : c.len.result ≡ length c.rows.rows.items = omega arith in
+      let count : length (map uid_pair c.rows.rows.items) ≡ length c.rows.rows.items = length-map c.rows.rows.items uid_pair in
+      let few : c.len.result < 100000 = rw c.in-Ok-Some.field-0-is at c.in-Ok-Some.ensures.few in
+      let read : IsUidRow (take n w) (uid_pair c.in-Ok.row) = subst (λ (l : List ℕ). IsUidRow (take n l) (uid_pair c.in-Ok.row)) c.waiting.ensures.value c.in-Ok.ensures.ok in
+      subst (λ (rest : List ℕ). InRows g.W.Wire.sound g.W.Wire.leads_to g.W.Wire.seen Uidl IsUidRow c.args.wire.now c.args.reader.now c.next_row.new.wire rest (map uid_pair c.push.new.self.items))
       (sym c.skip.ensures)
       (in_rows_push g.W.Wire.sound g.W.Wire.leads_to g.W.Wire.seen g.met.W.Wire.leads_on Uidl IsUidRow c.args.wire.now c.args.reader.now c.next_row.new.wire w (map uid_pair c.rows.rows.items) now (take n w) (drop (n + 2) w) (uid_pair c.in-Ok.row) (map uid_pair c.push.new.self.items)
-        (line_waits 2048 n w next.2.3) (next.2.3.line, next.2.4) (is_ok_of (number_and_id (unstuffed (take n w))) (uid_pair c.in-Ok.row) read) read (omega arith)
-        (ap (map uid_pair) c.in-Ok-push.ensures.items ∙ map_push uid_pair c.rows.rows.items c.in-Ok.row)))
+      (line_waits 2048 n w next.2.3) (next.2.3.line, next.2.4) (is_ok_of (number_and_id (unstuffed (take n w))) (uid_pair c.in-Ok.row) read) read (omega arith)
+      (ap (map uid_pair) c.in-Ok-push.ensures.items ∙ map_push uid_pair c.rows.rows.items c.in-Ok.row)),
+)
 
 pub returns-in-Ok-None-clause-takes : goal.returns-in-Ok-None-clause-takes
 returns-in-Ok-None-clause-takes g c sound =
     let next = (rw c.in-Ok-None.field-0-is at c.in-Ok-None.ensures.next) sound in
     let now = c.rows.invariant.1 next.0 in
     let end = rows_end g.W.Wire.sound g.W.Wire.leads_to g.W.Wire.seen g.met.W.Wire.leads_on Uidl IsUidRow c.args.wire.now c.args.reader.now c.rows.wire c.rows.reader (map uid_pair c.rows.rows.items) now
-            (at (g.W.Wire.seen c.next_row.new.wire) c.next_row.new.reader) next.2.0 now.link.2 now.link.3 next.2.1 next.2.2 next.2.3 in
-    (now.link.0, g.met.W.Wire.leads_on _ _ _ now.link.1 next.1, (now.lines,
-      record { gained = end.0; drew = end.1; steady = end.2; content = now.has.content; fit = (now.has.few, now.has.rows); heard = end.3 }, now.read))
+    (at (g.W.Wire.seen c.next_row.new.wire) c.next_row.new.reader) next.2.0 now.link.2 now.link.3 next.2.1 next.2.2 next.2.3 in (
+      now.link.0,
+      g.met.W.Wire.leads_on _ _ _ now.link.1 next.1,
+      (
+        now.lines,
+        record { gained = end.0; drew = end.1; steady = end.2; content = now.has.content; fit = (now.has.few, now.has.rows); heard = end.3 },
+        now.read,
+      ),
+    )

@@ -6,9 +6,12 @@ use Rattle.getmail.proofs.talk.greet.Goals as goal
 
 pub returns-in-Err-clause-asks : goal.returns-in-Err-clause-asks
 returns-in-Err-clause-asks g c sound =
-    let heard = c.in-Err.ensures.heard sound in
-    (heard.0, heard.1, broke_there greeting (at (g.W.Wire.seen c.args.wire.now) c.args.reader.now) (g.W.Wire.seen c.args.wire.now)
-        (at (g.W.Wire.seen c.hear.new.wire) c.hear.new.reader) heard.2.0 c.in-Err.fault (nothing_said (g.W.Wire.seen c.args.wire.now)) heard.2.1 heard.3)
+    let heard = c.in-Err.ensures.heard sound in (
+      heard.0,
+      heard.1,
+      broke_there greeting (at (g.W.Wire.seen c.args.wire.now) c.args.reader.now) (g.W.Wire.seen c.args.wire.now)
+          (at (g.W.Wire.seen c.hear.new.wire) c.hear.new.reader) heard.2.0 c.in-Err.fault (nothing_said (g.W.Wire.seen c.args.wire.now)) heard.2.1 heard.3,
+    )
 
 pub returns-clause-asks : goal.returns-clause-asks
 returns-clause-asks g c sound =
@@ -16,6 +19,11 @@ returns-clause-asks g c sound =
     let n = c.in-Ok.length in
     let old = at (g.W.Wire.seen c.args.wire.now) c.args.reader.now in
     let begun = opened greeting old old.link (at (g.W.Wire.seen c.hear.new.wire) c.hear.new.reader) heard.2.0 n heard.3.2.0
-            (nothing_said old.link) heard.2.1 heard.3.0 heard.3.1 heard.3.2.1 tt in
-    (heard.0, heard.1, (take n c.hear.new.reader,
-        subst (λ (rest : List ℕ). Opened greeting (take n c.hear.new.reader) old (at (g.W.Wire.seen c.hear.new.wire) rest)) (sym c.skip.ensures) begun))
+    (nothing_said old.link) heard.2.1 heard.3.0 heard.3.1 heard.3.2.1 tt in (
+      heard.0,
+      heard.1,
+      (
+        take n c.hear.new.reader,
+        subst (λ (rest : List ℕ). Opened greeting (take n c.hear.new.reader) old (at (g.W.Wire.seen c.hear.new.wire) rest)) (sym c.skip.ensures) begun,
+      ),
+    )

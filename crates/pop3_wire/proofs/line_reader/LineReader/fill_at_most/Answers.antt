@@ -20,6 +20,9 @@ returns-clause-ok g c =
     let high : r.end ≤ 4096 = c.self.invariant.1 in
     let whole : length c.move_to_front.new.bytes ≡ 4096 = omega arith in
     let waits = window_fill (r.end - r.start) ((r.end - r.start) + c.min.result - (r.end - r.start)) n c.move_to_front.new.bytes buf (omega arith) within in
-    let moved = ap (λ (l : List ℕ). l ++ take n buf) (c.move_to_front.ensures ∙ c.self.view_is) in
-    (take n buf, size, waits ∙ moved,
-      λ sound. let got = c.in_ok-n.ensures.got sound in (got.0, got.1, piece_got _ _ n buf size got.2))
+    let moved = ap (λ (l : List ℕ). l ++ take n buf) (c.move_to_front.ensures ∙ c.self.view_is) in (
+      take n buf,
+      size,
+      waits ∙ moved,
+      λ sound. let got = c.in_ok-n.ensures.got sound in (got.0, got.1, piece_got _ _ n buf size got.2),
+    )

@@ -7,7 +7,7 @@ use Rattle.pop3_wire.proofs.script_wire.ScriptWireWire.recv.Goals as goal
 pub returns-then-self-clause-front : goal.returns-then-self-clause-front
 returns-then-self-clause-front c =
     subst (λ (w : Script). (rest : List ℕ) × (w.replies ≡ w.link.got ++ rest)) c.self.view_is
-        (drop c.self.inside.given c.self.inside.replies.items, sym (take-append-drop c.self.inside.given c.self.inside.replies.items))
+    (drop c.self.inside.given c.self.inside.replies.items, sym (take-append-drop c.self.inside.given c.self.inside.replies.items))
 
 pub returns-clause-got : goal.returns-clause-got
 returns-clause-got c = grind (arith, common_steps, take-add, take-append_seam)
