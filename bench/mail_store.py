@@ -1,0 +1,113 @@
+#!/usr/bin/env python3
+"""Measures `held` and `deliver` of mail_store on Maildirs of the file system.
+
+`held` is asked over 2,000 files and 2,000 items and over 20,000 of each; its time must grow no
+faster than n log n. `deliver` puts 2,000 texts of 2 KB beside a plain loop in C (deliver.c).
+Each figure is the least of several runs.
+
+Build first: `rt run` in crates/store_bench, or `rt ci`. Usage: bench/mail_store.py [FOLDER]; the
+Maildirs are made in FOLDER, which decides the file system (the working folder if none is given).
+"""
+
+import hashlib
+import math
+import os
+import shutil
+import subprocess
+import sys
+import tempfile
+
+HERE = os.path.dirname(os.path.abspath(__file__))
+PROGRAM = os.path.join(HERE, "..", "crates", "store_bench", "out", "store_bench")
+ACCOUNT = hashlib.sha256(b"bench\x00110\x00bench").hexdigest()
+RUNS = 5
+
+
+def name_of(number):
+    return ACCOUNT + "." + ("id-%05d" % number).encode().hex()
+
+
+def make_maildir(path):
+    for folder in ("tmp", "new", "cur"):
+        os.makedirs(os.path.join(path, folder))
+
+
+def fill(path, count):
+    """Puts a file for each odd number into `new` or `cur`, and as many of another account."""
+    for number in range(1, count + 1):
+        name = name_of(number) if number % 2 else "1700000000.%d.host" % number
+        if number % 4 < 2:
+            place = os.path.join(path, "new", name)
+        else:
+            place = os.path.join(path, "cur", name + ":2,S")
+        open(place, "w").close()
+
+
+def run(*words):
+    """What a program prints: a count, and microseconds of the clock and of the processor."""
+    out = subprocess.run(words, check=True, capture_output=True, text=True).stdout
+    return [int(word) for word in out.split()]
+
+
+def least(command):
+    results = [command() for _ in range(RUNS)]
+    return results[0][0], min(r[1] for r in results), min(r[2] for r in results)
+
+
+def measure_held(folder):
+    print("held, files and items: found, wall us, processor us")
+    times = {}
+    for count in (2000, 20000):
+        path = os.path.join(folder, "held-%d" % count)
+        make_maildir(path)
+        fill(path, count)
+        found, wall, processor = least(lambda: run(PROGRAM, "held", path, str(count)))
+        assert found == (count + 1) // 2, found
+        times[count] = processor
+        print("  %6d: %6d %9d %9d" % (count, found, wall, processor))
+    allowed = 10 * math.log(20000) / math.log(2000)
+    grown = times[20000] / times[2000]
+    print("  processor time grew %.1f times; n log n grows %.1f times" % (grown, allowed))
+    return grown <= 1.5 * allowed
+
+
+def measure_deliver(folder, plain):
+    print("deliver, 2,000 texts of 2 KB: wall us, processor us")
+
+    def times(kind, *words):
+        def once():
+            path = os.path.join(folder, "deliver")
+            make_maildir(path)
+            try:
+                return run(*[path if word is None else word for word in words])
+            finally:
+                shutil.rmtree(path)
+        _, wall, processor = least(once)
+        print("  %-34s %9d %9d" % (kind, wall, processor))
+        return wall, processor
+
+    ours = times("deliver", PROGRAM, "deliver", None, "2000")
+    for kind, words in (
+        ("plain loop", (plain, None, "2000")),
+        ("plain loop that flushes `new` too", (plain, None, "2000", "new")),
+    ):
+        theirs = times(kind, *words)
+        print("    deliver takes %.2f of its wall time, %.2f of its processor time"
+              % (ours[0] / theirs[0], ours[1] / theirs[1]))
+
+
+def main():
+    where = sys.argv[1] if len(sys.argv) > 1 else "."
+    with tempfile.TemporaryDirectory(prefix="mail_store-", dir=where) as folder:
+        plain = os.path.join(folder, "plain")
+        subprocess.run(["cc", "-O2", "-o", plain, os.path.join(HERE, "deliver.c")], check=True)
+        grows_well = measure_held(folder)
+        measure_deliver(folder, plain)
+    if not grows_well:
+        print("held grows faster than n log n")
+        return 1
+    return 0
+
+
+if __name__ == "__main__":
+    sys.exit(main())

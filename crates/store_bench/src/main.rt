@@ -1,0 +1,79 @@
+//! Times two calls of `mail_store` on a Maildir in a folder. `bench/mail_store.py` runs it.
+#![tactic(auto)]
+
+use anyhow::{Result, ensure};
+use fetch_rules::{Listing, ScanRow, UidRow, have_legal_ids, is_legal_id};
+use mail_store::{FolderMaildir, account_id, deliver, file_name, held};
+use std::alloc::Global;
+use std::env;
+use std::time::{CpuClock, Instant};
+
+/// The id of the message of a number, as the driver names its files.
+fn id_of(alloc: Global, number: u32) -> Result<String> {
+    Ok(format!(in alloc; "id-{number:05}")?)
+}
+
+/// The listing of messages 1 to `count`.
+fn listing_of(alloc: Global, count: u32) -> Result<Listing> {
+    let mut uids = Vec::new(alloc);
+    let mut sizes = Vec::new(alloc);
+    for number in 1..=count {
+        let uid = Vec::from_slice(alloc, id_of(alloc, number)?.as_bytes())?;
+        uids.push(UidRow { number, uid })?;
+        sizes.push(ScanRow { number, size: 2048 })?;
+    }
+    ensure!(have_legal_ids(&uids), "ids of another form");
+    Ok(Listing::join(alloc, count, &uids, &sizes)?)
+}
+
+/// Asks once which of `count` messages the Maildir holds. Prints how many, and the microseconds of
+/// the clock and of the processor.
+fn time_held(rt: &HostRuntime, path: &str, count: u32) -> Result<()> {
+    let alloc = rt.alloc();
+    let account = account_id("bench", 110, "bench");
+    let listing = listing_of(alloc, count)?;
+    let mut disk = FolderMaildir::at(rt, String::from_str(alloc, path)?);
+    let start = Instant::now(rt)?;
+    let used = rt.process_cpu_time()?;
+    let flags = held(alloc, &mut disk, &account, &listing)?;
+    let used = rt.process_cpu_time()?.saturating_sub(used);
+    let passed = start.elapsed(rt)?;
+    let found = flags.iter().filter(|flag| **flag).count();
+    println!(rt; "{found} {} {}", passed.as_micros(), used.as_micros())?;
+    Ok(())
+}
+
+/// Delivers `count` texts of 2,048 bytes. Prints how many, and the microseconds of the clock and of
+/// the processor.
+fn time_deliver(rt: &HostRuntime, path: &str, count: u32) -> Result<()> {
+    let alloc = rt.alloc();
+    let account = account_id("bench", 110, "bench");
+    let text = [b'x'; 2048];
+    let mut disk = FolderMaildir::at(rt, String::from_str(alloc, path)?);
+    let start = Instant::now(rt)?;
+    let used = rt.process_cpu_time()?;
+    for number in 1..=count {
+        let id = id_of(alloc, number)?;
+        ensure!(is_legal_id(id.as_bytes()), "an id of another form");
+        let name = file_name(alloc, &account, id.as_bytes())?;
+        deliver(&mut disk, name.as_str(), text.as_slice())?;
+    }
+    let used = rt.process_cpu_time()?.saturating_sub(used);
+    let passed = start.elapsed(rt)?;
+    println!(rt; "{count} {} {}", passed.as_micros(), used.as_micros())?;
+    Ok(())
+}
+
+fn main(rt: HostRuntime) -> Result<()> {
+    let words: Vec<String> = env::args(&rt)?.collect(rt.alloc())?;
+    if words.len() != 4 {
+        println!(rt; "usage: store_bench held|deliver MAILDIR COUNT")?;
+        return Ok(());
+    }
+    let path = words[2].as_str();
+    let count: u32 = words[3].as_str().parse()?;
+    match words[1].as_str() {
+        "held" => time_held(&rt, path, count),
+        _ => time_deliver(&rt, path, count),
+    }
+}
