@@ -13,7 +13,7 @@ use Rattle.pop3_wire.specs.declared.reply.Status.TheVariants.{Positive, Negative
 use Rattle.pop3_wire.specs.Line.{crlf, IsLine, ended}
 use Rattle.pop3_wire.specs.Body.{Body}
 use Rattle.pop3_wire.specs.Fields.{number_and_size}
-use Rattle.pop3_wire.specs.Commands.{line_of}
+use Rattle.pop3_wire.specs.Commands.{line_of, can_be_sent}
 use Rattle.pop3_wire.specs.CommandLine.{command_of}
 use Rattle.pop3_wire.specs.Stuffed.{lines_of_text, stuffed_lines, whole_text}
 use Rattle.pop3_wire.specs.World.{Message, IsMessage}
@@ -294,6 +294,10 @@ flat_lines : (commands : List Command) → flat_map ended (lines_of commands) �
 flat_lines [] = refl
 flat_lines (c ∷ commands) = ap (λ (l : List ℕ). ended (line_of c) ++ l) (flat_lines commands)
 
+all_sendable : (commands : List Command) → AllByRecursion IsAsked commands → AllByRecursion (λ c. can_be_sent c ≡ true) commands
+all_sendable [] all = tt
+all_sendable (c ∷ commands) all = (all.0.sendable, all_sendable commands all.1)
+
 pub is_honest : {D : Type 0} (sound : D → Type 0) (mail : D → Mail) → IsHonest sound mail
 is_honest sound mail old new commands answers state asked run s served =
     let ms = there (mail old.drop).slots in
@@ -305,7 +309,7 @@ is_honest sound mail old new commands answers state asked run s served =
         hello = greeting;
         greets = granted greeting (codes " popd ready") refl refl;
         commands = commands;
-        asked = record { part = []; no_line = IsLine-nil; whole = flat_lines commands ∙ sym (append-nil (flat_map (λ c. ended (line_of c)) commands)) };
+        asked = record { sendable = all_sendable commands asked; part = []; no_line = IsLine-nil; whole = flat_lines commands ∙ sym (append-nil (flat_map (λ c. ended (line_of c)) commands)) };
         replies = answers;
         replied = all.1;
         later = [];
