@@ -23,14 +23,14 @@ fn asks_to_rehearse(words: &[String]) -> bool {
 }
 
 fn main(rt: HostRuntime) -> ExitCode {
-    let words: Vec<String> = match env::args(&rt) {
-        Ok(words) => match words.collect(rt.alloc()) {
-            Ok(words) => words,
-            Err(_) => return ExitCode::from(2),
+    let rehearses = match env::args(&rt) {
+        Ok(words) => match words.collect::<Vec<String>>(rt.alloc()) {
+            Ok(words) => asks_to_rehearse(&words),
+            Err(_) => false,
         },
-        Err(_) => return ExitCode::from(2),
+        Err(_) => false,
     };
-    if !asks_to_rehearse(&words) {
+    if !rehearses {
         let _ = rt.eprintln("getmail: usage: getmail --rehearse");
         return ExitCode::from(2);
     }

@@ -157,6 +157,10 @@ pub fn leave<W: Wire>(wire: &mut W, reader: &mut LineReader, fault: Fault)
     if tail.is_empty() {
         return;
     }
+    // The refused reply still waits; the one to QUIT stands behind it.
+    if let Some(length) = reader.line_end(2048) {
+        reader.skip(length + 2);
+    }
     if say(wire, tail).is_ok() {
         let _ = reader.line(wire, 2048);
     }
