@@ -6,17 +6,14 @@ mod rehearsal;
 mod serving;
 mod words;
 
-use std::env;
-use std::fs;
-use std::io::{self, ErrorKind};
-use std::process::ExitCode;
-
-use pop3_server::{MaildirDrop, ServerFault};
-
 use crate::password::password;
 use crate::rehearsal::rehearsal_drop;
 use crate::serving::{listen, serve_streams, tell};
 use crate::words::{Words, read_words};
+use pop3_server::{MaildirDrop, ServerFault};
+use std::io::{self, ErrorKind};
+use std::process::ExitCode;
+use std::{env, fs};
 
 /// What the words after the options name.
 #[derive(Drop)]
@@ -43,7 +40,12 @@ fn tell_error(rt: &HostRuntime, error: io::Error, what: &str, name: &str) -> u8 
 }
 
 /// The user and the Maildir that the words name, and the password in the file that they name.
-fn account_of(rt: &HostRuntime, user: &str, file: &[u8], maildir: &str) -> Result<Account, ServerFault> {
+fn account_of(
+    rt: &HostRuntime,
+    user: &str,
+    file: &[u8],
+    maildir: &str,
+) -> Result<Account, ServerFault> {
     let alloc = rt.alloc();
     Ok(Account {
         user: Vec::from_slice(alloc, user.as_bytes())?,

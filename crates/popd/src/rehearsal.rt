@@ -2,9 +2,8 @@
 ghost use Rattle.std.specs.Prelude.{◌≡◌, IfOk};
 ghost use Rattle.popd.specs.Rehearsal.{rehearsal};
 
-use std::alloc::{AllocError, Global};
-
 use pop3_server::MemoryDrop;
+use std::alloc::{AllocError, Global};
 
 /// Two small messages: one with a line that begins with a full stop, and one of two lines behind
 /// its head.

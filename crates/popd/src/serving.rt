@@ -1,11 +1,9 @@
 //! Serving over standard input and output, and over TCP, one connection after the other.
-use std::io;
-use std::net::{TcpListener, TcpStream};
-
+use crate::Account;
 use pop3_server::{MaildirDrop, Maildrop, Server, ServerFault, serve};
 use pop3_wire::StreamWire;
-
-use crate::Account;
+use std::io;
+use std::net::{TcpListener, TcpStream};
 
 /// Tells a fault on standard error.
 pub fn tell(rt: &HostRuntime, fault: ServerFault) {
@@ -30,7 +28,11 @@ pub fn serve_streams<D: Maildrop + Drop>(
 }
 
 /// Serves one connection, by a server of its own over the Maildir as it is then.
-fn serve_stream(rt: &HostRuntime, stream: &TcpStream, account: &Account) -> Result<(), ServerFault> {
+fn serve_stream(
+    rt: &HostRuntime,
+    stream: &TcpStream,
+    account: &Account,
+) -> Result<(), ServerFault> {
     let alloc = rt.alloc();
     let user = Vec::from_slice(alloc, account.user.as_slice())?;
     let password = Vec::from_slice(alloc, account.password.as_slice())?;
@@ -44,7 +46,12 @@ fn serve_stream(rt: &HostRuntime, stream: &TcpStream, account: &Account) -> Resu
 
 /// Serves so many connections to an address, one after the other. A fault on one of them, or in
 /// taking it, is told, and the next one is served. An error where the address can't be listened on.
-pub fn listen(rt: &HostRuntime, address: &str, connections: u32, account: &Account) -> io::Result<()> {
+pub fn listen(
+    rt: &HostRuntime,
+    address: &str,
+    connections: u32,
+    account: &Account,
+) -> io::Result<()> {
     let listener = TcpListener::bind(rt, address)?;
     for _ in 0..connections {
         let served = match listener.accept() {

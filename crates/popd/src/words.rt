@@ -1,8 +1,7 @@
 //! The command line, read with clap.
-use std::alloc::{AllocError, Global};
-
 use clap::error::ErrorKind;
 use clap::{Arg, ArgAction, Command, Error, value_parser};
+use std::alloc::{AllocError, Global};
 
 /// What the command line asks for.
 #[derive(Drop)]
@@ -35,7 +34,11 @@ fn command<'a>(alloc: Global) -> Result<Command<'a>, AllocError> {
         .value_name("USER PASSFILE MAILDIR")
         .num_args(0..)
         .action(ArgAction::Append);
-    Command::new(alloc, "popd").arg(listen)?.arg(connections)?.arg(rehearse)?.arg(rest)
+    Command::new(alloc, "popd")
+        .arg(listen)?
+        .arg(connections)?
+        .arg(rehearse)?
+        .arg(rest)
 }
 
 /// What these words ask for, the program's name first. Clap's error has the text of help or of the
