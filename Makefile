@@ -4,7 +4,7 @@
 #   make rehearse   the same for getmail, which then runs on the recorded conversation in examples/
 #   make check      the gate: every proof, then every test; its last line is 'N passed, 0 failed'
 #   make test       builds the programs, then runs the tests from outside alone
-#   make bench      builds the programs, then prints their speed and memory as ratios; not in the gate
+#   make bench      builds the programs, then prints speed and memory as ratios; not in the gate
 
 SHELL := /bin/bash
 .SHELLFLAGS := -eu -o pipefail -c
@@ -12,8 +12,9 @@ SHELL := /bin/bash
 # The programs among the crates that crates.txt lists.
 crates := $(shell sed -e 's/\#.*//' -e 's/:.*//' crates.txt)
 programs := $(filter getmail popd,$(crates))
+benches := $(addprefix bench-,$(filter getmail popd store_bench,$(crates)))
 
-.PHONY: all rehearse check test bench clean $(programs)
+.PHONY: all rehearse check test bench clean $(programs) $(benches)
 .NOTPARALLEL:
 
 all: $(programs)
@@ -34,8 +35,18 @@ check:
 test: all
 	python3 tests/run.py
 
-bench: all
-	@for program in $(programs); do python3 bench/$$program.py; done
+bench: $(benches)
+
+bench-getmail: getmail
+	@python3 bench/getmail.py
+
+bench-popd: popd
+	@python3 bench/popd.py
+
+# The stores are measured through a small program of their own.
+bench-store_bench:
+	cd crates/store_bench && rt run > /dev/null
+	@python3 bench/mail_store.py
 
 clean:
 	rm -rf bin
