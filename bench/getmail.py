@@ -12,7 +12,7 @@ from pathlib import Path
 import measure
 
 MESSAGE = 64 * measure.MEBIBYTE
-TURNS = 5
+TURNS = 9
 LEAST_RATIO = 0.5
 MOST_MEMORY = 4
 

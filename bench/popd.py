@@ -4,7 +4,8 @@
 In the same run the same client fetches the same messages from `prepared_server.py`, fifty lines of Python that only
 write replies made before. For both: messages and octets a second and their ratio, the best of some turns taken one
 after the other; for `popd` the peak of memory too. To be reached: faster than that server on small messages, and
-memory of no more than the largest message and its reply together, beside what the server needs for an empty maildrop.
+memory of no more than the largest message and its reply together, above what the server needs for as many messages of
+one line.
 """
 
 import socket
@@ -19,7 +20,7 @@ import measure
 from harness import kernel
 from harness.kernel import LOOPBACK
 
-TURNS = 5
+TURNS = 9
 SECONDS = 60
 LETTER_LINE = b"A line of a common length, as a letter to somebody has them.\n"
 PREPARED_SERVER = Path(__file__).with_name("prepared_server.py")
@@ -149,13 +150,13 @@ def measure_large(folder):
     """A few large messages: what counts is the memory."""
     name, count, octets = "20 of 5 MB", 20, 5_000_000
     maildir = make_maildir(folder, count, octets)
-    empty = fetch_from_popd(make_maildir(folder, 0, 0), 0).memory
+    base = fetch_from_popd(make_maildir(Path(folder) / "short", count, len(LETTER_LINE)), count).memory
     ours, theirs = fetch_in_turns(maildir, count)
     ratio = print_speed(name, count, ours, theirs)
     peak = max(fetch.memory for fetch in ours)
     message_and_reply = (maildir / "new" / "000000").stat().st_size + ours[0].octets // count
-    multiple = (peak - empty) / message_and_reply
-    print(f"  {name}: ratio {ratio:.2f}, peak of memory {peak / 1e6:.1f} MB, beside an empty maildrop's "
+    multiple = (peak - base) / message_and_reply
+    print(f"  {name}: ratio {ratio:.2f}, peak of memory {peak / 1e6:.1f} MB, above that for messages of a line "
           f"{multiple:.2f} of a message and its reply ({measure.verdict(multiple <= 1)})", flush=True)
 
 

@@ -1,5 +1,6 @@
 """A Maildir in a folder of its own, `popd` serving it over loopback, and a plain client that sees every octet."""
 
+import contextlib
 import os
 import poplib
 import socket
@@ -92,6 +93,14 @@ class Client:
     def rest(self):
         """All that comes until the server ends the connection."""
         return self.file.read()
+
+    def rest_or_reset(self):
+        """The same where lines of ours may be left that the server did not read, which ends by a reset."""
+        got = b""
+        with contextlib.suppress(ConnectionResetError):
+            while piece := self.socket.recv(65536):
+                got += piece
+        return got
 
     def log_in(self):
         """Reads the greeting and logs in; the answer to PASS."""

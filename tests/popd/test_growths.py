@@ -94,5 +94,5 @@ class RefusedGrowths(unittest.TestCase):
             for _ in range(2):
                 with service.client() as client:
                     client.give(given)
-                    got.append(client.rest())
+                    got.append(client.rest_or_reset())
             return got, service.finish()
