@@ -1,7 +1,8 @@
 -- What an octet does to a body that is read octet by octet.
-use Rattle.std.proofs.Common.{◌≡◌, ◌≢◌, ◌⊎◌, inl, inr, ℕ, List, [], ◌∷◌, ◌++◌, refl, sym, ap, ◌∙◌, arith, append_assoc}
+use Rattle.std.proofs.Common.{◌≡◌, ◌≢◌, ◌⊎◌, ◌≤◌, ◌<◌, ◌+◌, ◌-◌, inl, inr, ℕ, zero, suc, List, [], ◌∷◌, ◌++◌, length, take, drop, get_or, refl, sym, ap, subst, ◌∙◌, arith, append_assoc}
 use Rattle.std.proofs.lemmas.Bool.{ne_eqb}
-use Rattle.std.proofs.lemmas.List.{append-nil, same_from_push}
+use Rattle.std.proofs.lemmas.List.{append-nil, same_from_push, take_more, take_rest}
+use Rattle.std.proofs.Math.Seq.{take-add}
 use Rattle.std.specs.List.{flat_map}
 use Rattle.pop3_wire.specs.Line.{crlf, IsLine, ended}
 use Rattle.pop3_wire.specs.Body.{dot, unstuffed, kept, text_of, Body, HasNoBody}
@@ -200,3 +201,50 @@ reached_body DotCr bytes text whole h is = absurd (reached_no_body DotCr bytes t
 reached_body Middle bytes text whole h is = absurd (reached_no_body Middle bytes text h (λ e. cc) bytes whole [] is (sym (append-nil bytes)))
 reached_body Cr bytes text whole h is = absurd (reached_no_body Cr bytes text h (λ e. cc) bytes whole [] is (sym (append-nil bytes)))
 reached_body Done bytes text whole h is = refl
+
+-- octets without CR go on with a line, as they are
+pub middle_run : (piece : List ℕ) (n : ℕ) → n ≤ length piece → ((k : ℕ) → k < n → get_or piece k 0 ≢ 13)
+    → (bytes text : List ℕ) → InLine bytes text → InLine (bytes ++ take n piece) (text ++ take n piece)
+middle_run piece zero fits none bytes text h =
+    subst (λ (b : List ℕ). InLine b (text ++ [])) (sym (append-nil bytes)) (subst (InLine bytes) (sym (append-nil text)) h)
+middle_run piece (suc n) fits none bytes text h =
+    let more : take (suc n) piece ≡ take n piece ++ get_or piece n 0 ∷ [] = ap (λ (k : ℕ). take k piece) {x = suc n} {y = n + 1} (omega arith) ∙ take_more piece n 0 (omega arith) in
+    let so_far = middle_run piece n (omega arith) (λ k small. none k (omega arith)) bytes text h in
+    let next = middle_other (bytes ++ take n piece) (text ++ take n piece) (get_or piece n 0) (none n (omega arith)) so_far in
+    let bytes_are : (bytes ++ take n piece) ++ get_or piece n 0 ∷ [] ≡ bytes ++ take (suc n) piece = append_assoc bytes (take n piece) (get_or piece n 0 ∷ []) ∙ ap (λ (l : List ℕ). bytes ++ l) (sym more) in
+    let text_is : (text ++ take n piece) ++ get_or piece n 0 ∷ [] ≡ text ++ take (suc n) piece = append_assoc text (take n piece) (get_or piece n 0 ∷ []) ∙ ap (λ (l : List ℕ). text ++ l) (sym more) in
+    subst (λ (b : List ℕ). InLine b (text ++ take (suc n) piece)) bytes_are (subst (InLine ((bytes ++ take n piece) ++ get_or piece n 0 ∷ [])) text_is next)
+
+-- a run was copied
+pub run_on : (spot : Spot) (bytes text piece run_text : List ℕ) (used run : ℕ) (out : List ℕ)
+    → Reaches spot (bytes ++ take used piece) (text ++ out)
+    → ((b t : List ℕ) → Reaches spot b t → Reaches spot (b ++ take run (drop used piece)) (t ++ take run (drop used piece)))
+    → run_text ≡ out ++ take run (drop used piece)
+    → Reaches spot (bytes ++ take (used + run) piece) (text ++ run_text)
+run_on spot bytes text piece run_text used run out so_far reaches is =
+    let b : (bytes ++ take used piece) ++ take run (drop used piece) ≡ bytes ++ take (used + run) piece =
+    append_assoc bytes (take used piece) (take run (drop used piece)) ∙ ap (λ (l : List ℕ). bytes ++ l) (sym (take-add used run piece)) in
+    let t : (text ++ out) ++ take run (drop used piece) ≡ text ++ run_text =
+    append_assoc text out (take run (drop used piece)) ∙ ap (λ (l : List ℕ). text ++ l) (sym is) in
+    subst (λ (x : List ℕ). Reaches spot x (text ++ run_text)) b (subst (Reaches spot ((bytes ++ take used piece) ++ take run (drop used piece))) t (reaches (bytes ++ take used piece) (text ++ out) so_far))
+
+-- a run was copied, and one more octet read
+pub feed_step : (spot next : Spot) (bytes text piece : List ℕ) (used run : ℕ) (out0 out1 out2 given : List ℕ)
+    → Reaches spot (bytes ++ take used piece) (text ++ out0)
+    → ((b t : List ℕ) → Reaches spot b t
+    → Reaches spot (b ++ take run (take (length piece - used) (drop used piece))) (t ++ take run (take (length piece - used) (drop used piece))))
+    → out1 ≡ out0 ++ take run (take (length piece - used) (drop used piece))
+    → used + run < length piece
+    → ((b t : List ℕ) → Reaches spot b t → Reaches next (b ++ get_or piece (used + run) 0 ∷ []) (t ++ given))
+    → out2 ≡ out1 ++ given
+    → Reaches next (bytes ++ take (used + run + 1) piece) (text ++ out2)
+feed_step spot next bytes text piece used run out0 out1 out2 given so_far reaches copied small steps written =
+    let rest = take_rest piece used in
+    let run_is = ap (take run) rest in
+    let ran = run_on spot bytes text piece out1 used run out0 so_far
+    (λ b t h. subst (λ (l : List ℕ). Reaches spot (b ++ l) (t ++ l)) run_is (reaches b t h)) (copied ∙ ap (λ (l : List ℕ). out0 ++ l) run_is) in
+    let stepped = steps (bytes ++ take (used + run) piece) (text ++ out1) ran in
+    let bytes_are : (bytes ++ take (used + run) piece) ++ get_or piece (used + run) 0 ∷ [] ≡ bytes ++ take (used + run + 1) piece =
+    append_assoc bytes (take (used + run) piece) (get_or piece (used + run) 0 ∷ []) ∙ ap (λ (l : List ℕ). bytes ++ l) (sym (take_more piece (used + run) 0 small)) in
+    let text_is : (text ++ out1) ++ given ≡ text ++ out2 = append_assoc text out1 given ∙ ap (λ (l : List ℕ). text ++ l) (sym written) in
+    subst (λ (b : List ℕ). Reaches next b (text ++ out2)) bytes_are (subst (Reaches next ((bytes ++ take (used + run) piece) ++ get_or piece (used + run) 0 ∷ [])) text_is stepped)

@@ -1,8 +1,9 @@
 //! Bodies that are read piece by piece, however the pieces fall (RFC 1939, section 3).
-ghost use Rattle.std.specs.Prelude.{◌≡◌, ◌≢◌, ◌≤◌, ◌<◌, ◌+◌, ◌++◌, ◌↔◌, ◌∷◌, ℕ, List, [], length, take, IsTrue};
+ghost use Rattle.std.specs.Prelude.{◌≡◌, ◌≢◌, ◌≤◌, ◌<◌, ◌+◌, ◌++◌, ◌↔◌, ◌∷◌, ℕ, List, [], length, slice_index, take, IsTrue};
 ghost use Rattle.pop3_wire.specs.Body.{Body, HasNoBody};
 ghost use Rattle.pop3_wire.specs.Unstuffing.{Reaches, held_back, bytes_given};
 
+use memchr::memchr;
 use std::marker::Model;
 
 /// Where in a body the octets read so far lead.
@@ -99,6 +100,36 @@ fn write(out: &mut [u8], put: usize, given: Given) -> usize
     }
 }
 
+/// How many octets a piece begins with before its first CR.
+fn run_length(piece: &[u8]) -> usize
+    ensures fits { result ≤ length piece.now }
+    ensures none { (k : ℕ) → k < result → slice_index piece.now k ≢ 13 }
+{
+    match memchr(b'\r', piece) {
+        Some(length) => length,
+        None => piece.len(),
+    }
+}
+
+/// Copies what a piece begins with behind the first `put` octets, where that is the same in the
+/// body and in its text: in a line, all up to CR. It says how many octets that are.
+fn copy_run(spot: Spot, piece: &[u8], out: &mut [u8], put: usize) -> usize
+    requires { put + length piece.now ≤ length out.old }
+    ensures fits { result ≤ length piece.now }
+    ensures kept { take (put + result) out.new ≡ take put out.old ++ take result piece.now }
+    ensures reached { (bytes text : List ℕ) → Reaches spot bytes text
+        → Reaches spot (bytes ++ take result piece.now) (text ++ take result piece.now) }
+{
+    match spot {
+        Spot::Middle => {
+            let run = run_length(piece);
+            out[put..put + run].copy_from_slice(&piece[..run]);
+            run
+        }
+        _ => 0,
+    }
+}
+
 /// Reads one body, piece by piece, into its text.
 #[derive(Drop)]
 pub struct Unstuffer {
@@ -147,15 +178,23 @@ impl Unstuffer {
                 ended: true,
             };
         }
+        let mut used = 0;
         let mut put = 0;
-        for (i, byte) in piece.iter().enumerate() {
-            let (next, given) = step(spot, *byte);
+        'octets: while used < piece.len() {
+            let run = copy_run(spot, &piece[used..], out, put);
+            used += run;
+            put += run;
+            if used == piece.len() {
+                break;
+            }
+            let (next, given) = step(spot, piece[used]);
             put = write(out, put, given);
+            used += 1;
             spot = next;
             if spot == Spot::Done {
                 self.spot = spot;
                 return Fed {
-                    used: i + 1,
+                    used,
                     put,
                     ended: true,
                 };
