@@ -1,7 +1,8 @@
 # getmail and popd: to build them, to try them out, to check them.
 #
 #   make            proves and builds the programs, and leaves them in bin/
-#   make rehearse   the same for getmail, which then runs on the recorded conversation in examples/
+#   make rehearse   runs getmail on the recorded conversation in examples/ before any proof, within a
+#                   minute; then proves and builds it as above, and runs it again
 #   make check      the gate: every proof, then every test; its last line is 'N passed, 0 failed'
 #   make test       builds the programs, then runs the tests from outside alone
 #   make bench      builds the programs, then prints speed and memory as ratios; not in the gate
@@ -26,7 +27,9 @@ $(programs):
 	mkdir -p bin
 	install -m 755 crates/$@/out/$@ bin/$@
 
-rehearse: getmail
+rehearse:
+	cd crates/getmail && rt try -- --rehearse < $(CURDIR)/examples/getmail-rehearsal.txt
+	$(MAKE) --no-print-directory getmail
 	bin/getmail --rehearse < examples/getmail-rehearsal.txt
 
 check:

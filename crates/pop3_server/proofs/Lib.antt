@@ -2,6 +2,7 @@ pub mod DigestLemmas
 pub mod HonestLemmas
 pub mod HonestTurns
 pub mod LeaveLemmas
+pub mod LoopLemmas
 pub mod OpenLemmas
 pub mod RemovalLemmas
 pub mod ReplyLemmas

@@ -16,6 +16,7 @@ use Rattle.pop3_server.specs.declared.fault.ServerFault.TheVariants.{ReadFailed,
 use Rattle.pop3_server.specs.declared.state.State.{State}
 use Rattle.pop3_server.specs.Maildrop.{Mail}
 use Rattle.pop3_server.specs.ServerMachine.{Machine, Deed, Say, Open, Give, Leave, Answers, Unanswered, deed, greeting, said, is_open}
+use Rattle.pop3_server.specs.LoopLaws.{runs_on}
 use Rattle.pop3_server.specs.Run.{Run, Turn, SameServer}
 use Rattle.pop3_server.specs.Got.{Waiting}
 use Rattle.pop3_server.specs.Serving.{Took, Takes, AllSent, PartSent, Sent, Served}
@@ -32,14 +33,7 @@ pub record Progress {D : Type 0} (sound : D → Type 0) (mail : D → Mail) (old
   pub sent : link.sent ≡ before.sent ++ (greeting ++ answers)
   pub run : Run sound mail old lines answers server
 
--- runs go on
-pub run_on : {D : Type 0} (sound : D → Type 0) (mail : D → Mail) (a b c : Machine D) (lines others : List (List ℕ)) (x y : List ℕ)
-    → Run sound mail a lines x b → Run sound mail b others y c → Run sound mail a (lines ++ others) (x ++ y) c
-run_on sound mail a b c [] others x y (none, same) second =
-    subst (λ (m : Machine _). Run sound mail m others (x ++ y) c) same (subst (λ (l : List ℕ). Run sound mail b others (l ++ y) c) (sym none) second)
-run_on sound mail a b c (line ∷ lines) others x y (first, rest, next, is, turn, run) second =
-    (first, rest ++ y, next, ap (λ (l : List ℕ). l ++ y) is ∙ append_assoc first rest y, turn, run_on sound mail next b c lines others rest y run second)
-
+-- a run of one line
 pub run_one : {D : Type 0} (sound : D → Type 0) (mail : D → Mail) (a b : Machine D) (line answer : List ℕ) → Turn sound mail a line answer b → Run sound mail a (line ∷ []) answer b
 run_one sound mail a b line answer turn = (answer, [], b, sym (append-nil answer), turn, (refl, refl))
 
@@ -80,7 +74,7 @@ progress_line sound mail old server next before link taken sent waiting after g 
       ∙ sym (append_assoc (flat_map ended p.lines) (ended line) after.octets) ∙ ap (λ (l : List ℕ). l ++ after.octets) (sym (flat_push p.lines line));
   left = let start : length p.gained + waiting.left ≡ 16777216 = p.left in omega (arith, length-append p.gained g);
   sent = ap (λ (l : Link). l.sent) sends ∙ ap (λ (l : List ℕ). l ++ answer) (took.sent ∙ p.sent) ∙ moved before.sent greeting p.answers answer;
-  run = run_on sound mail old server next p.lines (line ∷ []) p.answers answer p.run (run_one sound mail server next line answer turn);
+  run = runs_on sound mail old server next p.lines (line ∷ []) p.answers answer p.run (run_one sound mail server next line answer turn);
 }
   where
     moved : (a b c d : List ℕ) → (a ++ (b ++ c)) ++ d ≡ a ++ (b ++ (c ++ d))

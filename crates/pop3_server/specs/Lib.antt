@@ -1,5 +1,7 @@
 pub mod Got
 pub mod HonestServer
+pub mod LoopLaws
+pub mod LoopLink
 pub mod MaildirNames
 pub mod Maildrop
 pub mod Removal

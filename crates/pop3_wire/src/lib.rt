@@ -26,6 +26,7 @@ pub use command::{Command, command_bytes};
 pub use command_line::{read_as_written, read_command};
 pub use fault::WireFault;
 pub use fields::{is_legal_id, read_scan, read_stat, read_uid};
+pub use line::cut_line;
 pub use line_reader::{LineFault, LineReader};
 pub use reply::{Status, read_status};
 pub use script_wire::ScriptWire;

@@ -1,0 +1,272 @@
+-- A link to a server: what its calls do to what it keeps.
+use Rattle.std.proofs.Common.{◌≡◌, inl, inr, ◌≤◌, ◌<◌, ◌+◌, ◌-◌, ◌==◌, ◌||◌, ℕ, Bool, true, false, List, [], ◌∷◌, ◌++◌, length, take, drop, refl, sym, ap, subst, ◌∙◌, arith, append_assoc, take-append-drop, length-append, if◌then◌else◌}
+use Rattle.std.specs.List.{AllByRecursion, flat_map}
+use Rattle.std.proofs.lemmas.List.{append-nil, drop-append-le, take-append-le, take_all, drop_all}
+use Rattle.std.proofs.lemmas.Bool.{cases_Bool}
+use Rattle.std.proofs.lemmas.Grind.{common_steps}
+use Rattle.std.proofs.Math.Seq.{take-add, take-length, take-append_seam, drop-append-add}
+use Rattle.pop3_wire.specs.Line.{crlf, IsLine, ended}
+use Rattle.pop3_wire.specs.Link.{Link, greatest_count, with_failures}
+use Rattle.pop3_wire.specs.Place.{HasLine}
+use Rattle.pop3_server.specs.Maildrop.{Mail}
+use Rattle.pop3_server.specs.ServerMachine.{Machine, Answers, deed, greeting, is_open}
+use Rattle.pop3_server.specs.Run.{Run, Turn, SameServer}
+use Rattle.pop3_server.specs.LoopLink.{Loop, Serves, IsTold, IsAnswered}
+use Rattle.pop3_server.proofs.ServeLemmas.{run_one, turn_of}
+use Rattle.pop3_wire.specs.CommandLine.{command_of}
+
+-- a link as it keeps itself: so many octets sent are answered, and so many octets of the greeting and the answers given
+abbrev pub kept : {D : Type 0} → Machine D → List ℕ → ℕ → List ℕ → ℕ → Bool → Bool → ℕ → Loop D
+kept machine sent used answers given over down failures = record {
+  machine = machine;
+  link = record { sent = sent; got = take given (greeting ++ answers); ended = over; failures = failures };
+  answers = answers;
+  left = drop given (greeting ++ answers);
+  waiting = drop used sent;
+  down = down;
+}
+
+pub not_both : {A : Type 0} (b : Bool) → b ≡ false → b ≡ true → A
+not_both b off on = absurd (let e : true ≡ false = sym on ∙ off in cc)
+
+-- the octets in front of a line's end, as the first line of what waits
+pub line_cut : (sent : List ℕ) (used octets : ℕ) → HasLine (length (drop used sent)) (drop used sent) octets
+    → IsLine (take octets (drop used sent)) × (drop used sent ≡ ended (take octets (drop used sent)) ++ drop (used + (octets + 2)) sent)
+line_cut sent used octets has = (
+  has.line,
+  has.whole ∙ sym (append_assoc (take octets (drop used sent)) crlf (drop (octets + 2) (drop used sent)))
+      ∙ ap (λ (l : List ℕ). ended (take octets (drop used sent)) ++ l) (drop_more used (octets + 2) sent),
+)
+  where
+    drop_more : (a b : ℕ) (l : List ℕ) → drop b (drop a l) ≡ drop (a + b) l
+    drop_more a b l = grind (arith, common_steps)
+
+-- the server found no memory for an answer
+pub serves_unanswered : {D : Type 0} (sound : D → Type 0) (mail : D → Mail) (m n : Machine D) (sent : List ℕ) (used : ℕ) (answers : List ℕ) (given : ℕ) (over down : Bool) (failures : ℕ)
+    → down ≡ false → SameServer sound mail m n → Serves sound mail (kept m sent used answers given over down failures) (kept n sent used answers given over true failures)
+serves_unanswered sound mail m n sent used answers given over down failures up same = record {
+  lines = [];
+  more = [];
+  lost = [];
+  gained = [];
+  last = m;
+  each = tt;
+  run = (refl, refl);
+  same = same;
+  answers = sym (append-nil answers);
+  told = λ h. h;
+  sent = sym (append-nil sent);
+  heard = append-nil (drop used sent);
+  whole = λ e. absurd (let f : true ≡ false = e in cc);
+  over = λ e. not_both down up e;
+}
+
+-- an answer was made and could not be kept
+pub serves_lost : {D : Type 0} (sound : D → Type 0) (mail : D → Mail) (m n : Machine D) (sent : List ℕ) (used octets : ℕ) (answers kept_answers answer : List ℕ) (given : ℕ) (over down : Bool) (failures : ℕ)
+    → (same : SameServer sound mail n n) → down ≡ false → kept_answers ≡ answers → HasLine (length (drop used sent)) (drop used sent) octets → Turn sound mail m (take octets (drop used sent)) answer n
+    → Serves sound mail (kept m sent used answers given over down failures) (kept n sent (used + (octets + 2)) kept_answers given over true failures)
+serves_lost sound mail m n sent used octets answers kept_answers answer given over down failures same up is has turn =
+    let line = line_cut sent used octets has in record {
+      lines = take octets (drop used sent) ∷ [];
+      more = [];
+      lost = answer;
+      gained = [];
+      last = n;
+      each = (line.0, tt);
+      run = run_one sound mail m n (take octets (drop used sent)) answer turn;
+      same = same;
+      answers = is ∙ sym (append-nil answers);
+      told = λ h. take-append-drop given (greeting ++ kept_answers);
+      sent = sym (append-nil sent);
+      heard = append-nil (drop used sent) ∙ line.1 ∙ ap (λ (l : List ℕ). l ++ drop (used + (octets + 2)) sent) (sym (append-nil (ended (take octets (drop used sent)))));
+      whole = λ e. absurd (let f : true ≡ false = e in cc);
+      over = λ e. not_both down up e;
+    }
+
+-- a line was answered
+pub serves_one : {D : Type 0} (sound : D → Type 0) (mail : D → Mail) (m n : Machine D) (sent : List ℕ) (used octets : ℕ) (answers kept_answers answer : List ℕ) (given : ℕ) (over down : Bool) (failures : ℕ)
+    → (same : SameServer sound mail n n) → down ≡ false → kept_answers ≡ answers ++ answer → HasLine (length (drop used sent)) (drop used sent) octets → Turn sound mail m (take octets (drop used sent)) answer n
+    → Serves sound mail (kept m sent used answers given over down failures) (kept n sent (used + (octets + 2)) kept_answers given over down failures)
+serves_one sound mail m n sent used octets answers kept_answers answer given over down failures same up is has turn =
+    let line = line_cut sent used octets has in record {
+      lines = take octets (drop used sent) ∷ [];
+      more = answer;
+      lost = [];
+      gained = [];
+      last = n;
+      each = (line.0, tt);
+      run = run_one sound mail m n (take octets (drop used sent)) (answer ++ []) (subst (λ (l : List ℕ). Turn sound mail m (take octets (drop used sent)) l n) (sym (append-nil answer)) turn);
+      same = same;
+      answers = is;
+      told = λ h. take-append-drop given (greeting ++ kept_answers);
+      sent = sym (append-nil sent);
+      heard = append-nil (drop used sent) ∙ line.1 ∙ ap (λ (l : List ℕ). l ++ drop (used + (octets + 2)) sent) (sym (append-nil (ended (take octets (drop used sent)))));
+      whole = λ e. (refl, refl, λ answered. absurd (answered turn.was_open (take octets (drop used sent)) (drop (octets + 2) (drop used sent)) has.whole));
+      over = λ e. not_both down up e;
+    }
+
+-- more octets were sent, and the lines that they complete answered
+pub serves_sent : {D : Type 0} (sound : D → Type 0) (mail : D → Mail) (m : Machine D) (new : Loop D) (sent bytes longer : List ℕ) (used : ℕ) (answers : List ℕ) (given : ℕ) (over down : Bool) (failures : ℕ)
+    → used ≤ length sent → longer ≡ sent ++ bytes → (new.down ≡ false → IsAnswered new) → Serves sound mail (kept m longer used answers given over down failures) new
+    → Serves sound mail (kept m sent used answers given over down failures) new
+serves_sent sound mail m new sent bytes longer used answers given over down failures within is answered p = record {
+  lines = p.lines;
+  more = p.more;
+  lost = p.lost;
+  gained = bytes ++ p.gained;
+  last = p.last;
+  each = p.each;
+  run = p.run;
+  same = p.same;
+  answers = p.answers;
+  told = p.told;
+  sent = p.sent ∙ ap (λ (l : List ℕ). l ++ p.gained) is ∙ append_assoc sent bytes p.gained;
+  heard = sym (append_assoc (drop used sent) bytes p.gained) ∙ ap (λ (l : List ℕ). l ++ p.gained) (sym longer_waits) ∙ p.heard;
+  whole = λ e. let whole = p.whole e in (whole.0, whole.1, λ _. answered e);
+  over = p.over;
+}
+  where
+    longer_waits : drop used longer ≡ drop used sent ++ bytes
+    longer_waits = ap (drop used) is ∙ drop-append-le used sent bytes within
+
+-- the link went down behind that
+pub serves_down : {D : Type 0} (sound : D → Type 0) (mail : D → Mail) (old mid : Loop D) (failures : ℕ) → Serves sound mail old mid
+    → Serves sound mail old (record mid { down = true; link = with_failures failures mid.link })
+serves_down sound mail old mid failures p = record {
+  lines = p.lines;
+  more = p.more;
+  lost = p.lost;
+  gained = p.gained;
+  last = p.last;
+  each = p.each;
+  run = p.run;
+  same = p.same;
+  answers = p.answers;
+  told = p.told;
+  sent = p.sent;
+  heard = p.heard;
+  whole = λ e. absurd (let f : true ≡ false = e in cc);
+  over = λ e. let over = p.over e in (over.0, over.1, over.2, refl);
+}
+
+-- some of what is left was given
+pub serves_given : {D : Type 0} (sound : D → Type 0) (mail : D → Mail) (m : Machine D) (sent : List ℕ) (used : ℕ) (answers : List ℕ) (given more : ℕ) (over later down : Bool) (failures : ℕ)
+    → SameServer sound mail m m → Serves sound mail (kept m sent used answers given over down failures) (kept m sent used answers more later down failures)
+serves_given sound mail m sent used answers given more over later down failures same = record {
+  lines = [];
+  more = [];
+  lost = [];
+  gained = [];
+  last = m;
+  each = tt;
+  run = (refl, refl);
+  same = same;
+  answers = sym (append-nil answers);
+  told = λ h. take-append-drop more (greeting ++ answers);
+  sent = sym (append-nil sent);
+  heard = append-nil (drop used sent);
+  whole = λ e. (refl, refl, λ is. is);
+  over = λ e. (refl, refl, refl, e);
+}
+
+-- ---- what the code finds
+
+-- the line that was found is the first that waits
+pub line_found : (seen sent line rest : List ℕ) (used : ℕ) → seen ≡ sent → IsLine line → take (length seen - used) (drop used seen) ≡ line ++ (crlf ++ rest)
+    → HasLine (length (drop used sent)) (drop used sent) (length line)
+line_found seen sent line rest used same is cut =
+    let whole : drop used sent ≡ line ++ (crlf ++ rest) = ap (drop used) (sym same) ∙ sym (take_all (length seen - used) (drop used seen) short) ∙ cut in
+    let long : length (drop used sent) ≡ length (line ++ (crlf ++ rest)) = ap length whole in
+    let front : take (length line) (drop used sent) ≡ line = ap (take (length line)) whole ∙ take-append_seam line (crlf ++ rest) in record {
+      line = subst IsLine (sym front) is;
+      within = omega (arith, long, length-append line (crlf ++ rest));
+      whole = whole ∙ ap (λ (l : List ℕ). l ++ (crlf ++ rest)) (sym front)
+          ∙ ap (λ (l : List ℕ). take (length line) (drop used sent) ++ (crlf ++ l)) (sym (drop-append-add line (crlf ++ rest) 2) ∙ ap (drop (length line + 2)) (sym whole));
+    }
+  where
+    short : length (drop used seen) ≤ length seen - used
+    short = grind (arith, common_steps)
+
+-- the server answered that line
+pub turn_at : {D : Type 0} (sound : D → Type 0) (mail : D → Mail) (m n : Machine D) (seen sent : List ℕ) (used octets : ℕ) (answer bytes : List ℕ) → is_open m.state ≡ true
+    → (n.user ≡ m.user) × (n.pass ≡ m.pass) → Answers sound mail (deed m.user m.pass m.state (command_of (take (used + octets - used) (drop used seen)))) m.drop bytes n.state n.drop
+    → seen ≡ sent → answer ≡ bytes → Turn sound mail m (take octets (drop used sent)) answer n
+turn_at sound mail m n seen sent used octets answer bytes opened who answers same is =
+    let count : used + octets - used ≡ octets = omega arith in
+    turn_of sound mail m n (take octets (drop used sent)) answer bytes opened who
+    (subst (λ (l : List ℕ). Answers sound mail (deed m.user m.pass m.state (command_of l)) m.drop bytes n.state n.drop)
+    (ap (λ (k : ℕ). take k (drop used seen)) count ∙ ap (λ (l : List ℕ). take octets (drop used l)) same) answers)
+    is
+
+abbrev pub link_of : List ℕ → List ℕ → Bool → ℕ → Link
+link_of sent got over failures = record { sent = sent; got = got; ended = over; failures = failures }
+
+-- new answers change nothing of what was given
+pub same_link : (sent answers more kept_answers : List ℕ) (given : ℕ) (over : Bool) (failures : ℕ) → kept_answers ≡ answers ++ more → given ≤ length (greeting ++ answers)
+    → link_of sent (take given (greeting ++ kept_answers)) over failures ≡ link_of sent (take given (greeting ++ answers)) over failures
+same_link sent answers more kept_answers given over failures is within =
+    ap (λ (got : List ℕ). link_of sent got over failures)
+    (ap (λ (l : List ℕ). take given (greeting ++ l)) is ∙ ap (take given) (sym (append_assoc greeting answers more)) ∙ take-append-le given (greeting ++ answers) more within)
+
+-- what is left in the first part, and in the second
+pub left_first : (first second : List ℕ) (given : ℕ) → given ≤ length first → drop given (first ++ second) ≡ take (length first - given) (drop given first) ++ second
+left_first first second given within = drop-append-le given first second within ∙ ap (λ (l : List ℕ). l ++ second) (sym (take_all (length first - given) (drop given first) short))
+  where
+    short : length (drop given first) ≤ length first - given
+    short = grind (arith, common_steps)
+
+pub left_second : (first second seen : List ℕ) (given : ℕ) → length first ≤ given → seen ≡ second
+    → drop given (first ++ second) ≡ take (length seen - (given - length first)) (drop (given - length first) seen) ++ []
+left_second first second seen given within same =
+    let count : given ≡ length first + (given - length first) = omega arith in
+    ap (λ (k : ℕ). drop k (first ++ second)) count ∙ drop-append-add first second (given - length first) ∙ ap (drop (given - length first)) (sym same)
+    ∙ sym (take_all (length seen - (given - length first)) (drop (given - length first) seen) short) ∙ sym (append-nil _)
+  where
+    short : length (drop (given - length first) seen) ≤ length seen - (given - length first)
+    short = grind (arith, common_steps)
+
+-- a piece of what is left ends within it
+pub piece_within : (all piece rest : List ℕ) (given n : ℕ) → given ≤ length all → drop given all ≡ piece ++ rest → n ≤ length piece → given + n ≤ length all
+piece_within all piece rest given n within is few =
+    let long : length (drop given all) ≡ length (piece ++ rest) = ap length is in
+    let dropped : length (drop given all) ≡ length all - given = grind (arith, common_steps) in
+    omega (arith, long, dropped, length-append piece rest)
+
+-- the first octets of a piece of what is left are given
+pub given_on : (all piece rest copied buf : List ℕ) (given n : ℕ) → given ≤ length all → drop given all ≡ piece ++ rest → n ≤ length piece → copied ≡ take n piece
+    → (take (given + n) all ≡ take given all ++ take n (copied ++ drop n buf)) × (drop given all ≡ take n (copied ++ drop n buf) ++ drop (given + n) all)
+given_on all piece rest copied buf given n within is few same =
+    let long : length copied ≡ n = ap length same ∙ take_length in
+    let front : take n (copied ++ drop n buf) ≡ copied = ap (λ (k : ℕ). take k (copied ++ drop n buf)) (sym long) ∙ take-append_seam copied (drop n buf) in
+    let left : take n (drop given all) ≡ copied = ap (take n) is ∙ take-append-le n piece rest few ∙ sym same in (
+      take-add given n all ∙ ap (λ (l : List ℕ). take given all ++ l) (left ∙ sym front),
+      sym (take-append-drop n (drop given all)) ∙ ap (λ (l : List ℕ). l ++ drop n (drop given all)) (left ∙ sym front) ∙ ap (λ (l : List ℕ). take n (copied ++ drop n buf) ++ l) dropped,
+    )
+  where
+    take_length : length (take n piece) ≡ n
+    take_length = grind (arith, common_steps)
+
+    dropped : drop n (drop given all) ≡ drop (given + n) all
+    dropped = grind (arith, common_steps)
+
+-- a refused call below the greatest count was counted
+pub counted_below : (old new : ℕ) → new ≡ (if old == greatest_count then greatest_count else old + 1) → new < greatest_count → (old < greatest_count) × (new ≡ old + 1)
+counted_below old new is below = elim (cases_Bool (old == greatest_count)) [
+  | inl most ↦ absurd (omega (arith, is ∙ ap (λ (b : Bool). if b then greatest_count else old + 1) most, below))
+  | inr less ↦ let next : new ≡ old + 1 = is ∙ ap (λ (b : Bool). if b then greatest_count else old + 1) less in (omega (arith, next, below), next)
+]
+
+-- a refused call took the link down and was counted
+pub refused_at : {D : Type 0} (sound : D → Type 0) (mail : D → Mail) (old mid new : Loop D) → Serves sound mail old mid
+    → new ≡ record mid { down = true; link = with_failures new.link.failures mid.link } → Serves sound mail old new
+refused_at sound mail old mid new p is = subst (λ (w : Loop _). Serves sound mail old w) (sym is) (serves_down sound mail old mid new.link.failures p)
+
+pub refused_link : {D : Type 0} (mid new : Loop D) → new.link.failures ≡ mid.link.failures + 1 → new ≡ record mid { down = true; link = with_failures new.link.failures mid.link }
+    → new.link ≡ record mid.link { failures = mid.link.failures + 1 }
+refused_link mid new count is = ap (λ (w : Loop _). w.link) is ∙ ap (λ (k : ℕ). with_failures k mid.link) count
+
+-- what was given was got
+pub given_link : (sent got piece all : List ℕ) (over later : Bool) (n failures : ℕ) → all ≡ got ++ piece → later ≡ over || n == 0
+    → link_of sent all later failures ≡ link_of sent (got ++ piece) (over || n == 0) failures
+given_link sent got piece all over later n failures is ends =
+    ap (λ (l : List ℕ). link_of sent l later failures) is ∙ ap (λ (b : Bool). link_of sent (got ++ piece) b failures) ends
