@@ -242,6 +242,10 @@ Tied sound mail (Authorization kept) = Unit {0}
 Tied sound mail (Transaction rows) = sound → (i : ℕ) (row : Row) → slice_get rows i ≡ Some row → HasPlace mail i
 Tied sound mail Closed = Unit {0}
 
+-- where a row stands now, one stood before
+abbrev pub SamePlaces : List Row → List Row → Type 0
+SamePlaces old new = (i : ℕ) (row : Row) → slice_get new i ≡ Some row → (before : Row) × (slice_get old i ≡ Some before)
+
 -- the state after an answer, where none means that it stays as it is
 abbrev pub next_of : State → Option State → State
 next_of state None = state

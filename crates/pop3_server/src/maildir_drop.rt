@@ -17,7 +17,7 @@ use std::rt::Files;
 pub struct MaildirDrop<'a, R: Files + AllocGlobal + Clone + Drop> {
     rt: &'a R,
     path: String,
-    files: Vec<MailFile>,
+    files: Vec<ListedFile>,
     refused: u64,
     removals: u64,
 }
@@ -37,11 +37,19 @@ fn file_size<R: Files>(rt: &R, path: &str) -> io::Result<u64> {
     Ok(count.size())
 }
 
+/// Where the file of a listed message lies, and the size that the listing gave.
+#[derive(Drop)]
+struct ListedFile {
+    folder: Folder,
+    name: String,
+    size: u64,
+}
+
 /// The messages found in a Maildir, and where their files lie.
 #[derive(Drop)]
 struct Listing {
     entries: Vec<Entry>,
-    files: Vec<MailFile>,
+    files: Vec<ListedFile>,
 }
 
 impl<'a, R: Files + AllocGlobal + Clone + Drop> MaildirDrop<'a, R> {
@@ -58,11 +66,10 @@ impl<'a, R: Files + AllocGlobal + Clone + Drop> MaildirDrop<'a, R> {
         }
     }
 
-    /// Where a file lies.
-    fn path_of(&self, file: &MailFile) -> io::Result<String> {
+    /// The path of a file in a folder.
+    fn path_of(&self, folder: Folder, name: &str) -> io::Result<String> {
         let path = self.path.as_str();
-        let folder = file.folder.name();
-        let name = file.name.as_str();
+        let folder = folder.name();
         Ok(format!(in self.rt.alloc(); "{path}/{folder}/{name}")?)
     }
 
@@ -123,29 +130,38 @@ impl<'a, R: Files + AllocGlobal + Clone + Drop> MaildirDrop<'a, R> {
             if seen.contains(uid.as_slice()) {
                 continue;
             }
-            let size = file_size(self.rt, self.path_of(&file)?.as_str())?;
+            let MailFile { folder, name, .. } = file;
+            let size = file_size(self.rt, self.path_of(folder, name.as_str())?.as_str())?;
             if size > MAX_SIZE {
                 continue;
             }
             seen.insert(Vec::from_slice(alloc, uid.as_slice())?)?;
             entries.push(Entry::new(uid, size))?;
-            files.push(file)?;
+            files.push(ListedFile { folder, name, size })?;
         }
         Ok(Listing { entries, files })
     }
 
-    /// The bytes of the file at a place of the last listing.
+    /// The bytes of the file at a place of the last listing. They go into room of the size that the
+    /// listing gave, which is above the file's length: the room grows only where the file has grown.
     fn read_file(&self, i: usize) -> io::Result<Vec<u8>> {
-        match self.files.get(i) {
-            Some(file) => fs::read(self.rt, self.path_of(file)?.as_str()),
-            None => Err(ErrorKind::NotFound.into()),
-        }
+        let Some(listed) = self.files.get(i) else {
+            return Err(ErrorKind::NotFound.into());
+        };
+        let path = self.path_of(listed.folder, listed.name.as_str())?;
+        let mut file = fs::open(self.rt, path.as_str())?;
+        let mut text = Vec::with_capacity(self.rt.alloc(), listed.size as usize)?;
+        file.read_to_end(&mut text)?;
+        Ok(text)
     }
 
     /// Removes the file at a place of the last listing.
     fn remove_file(&self, i: usize) -> io::Result<()> {
         match self.files.get(i) {
-            Some(file) => fs::remove_file(self.rt, self.path_of(file)?.as_str()),
+            Some(listed) => {
+                let path = self.path_of(listed.folder, listed.name.as_str())?;
+                fs::remove_file(self.rt, path.as_str())
+            }
             None => Err(ErrorKind::NotFound.into()),
         }
     }

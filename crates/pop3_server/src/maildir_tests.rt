@@ -88,3 +88,25 @@ fn a_file_that_vanished_is_refused(rt: HostRuntime) -> Result<(), Fail> {
     assert_eq!(rt; maildrop.failures(), 3);
     Ok(())
 }
+
+#[test]
+fn a_file_that_changed_is_given_as_it_is_now(rt: HostRuntime) -> Result<(), Fail> {
+    maildir(
+        &rt,
+        "changed_maildir",
+        &[("new/a", b"one\n"), ("new/b", b"one line\nand another\n")],
+    )?;
+    let path = String::from_str(rt.alloc(), "changed_maildir")?;
+    let mut maildrop = MaildirDrop::at(&rt, path);
+    assert_eq!(rt; maildrop.entries()?.len(), 2);
+    let mut grown = Vec::new(rt.alloc());
+    for _ in 0..10_000 {
+        grown.extend_from_slice(b"more\n")?;
+    }
+    fs::write(&rt, "changed_maildir/new/a", grown.as_slice())?;
+    fs::write(&rt, "changed_maildir/new/b", b"less\n")?;
+    assert_eq!(rt; maildrop.text(0)?.as_slice(), grown.as_slice());
+    assert_eq!(rt; maildrop.text(1)?.as_slice(), b"less\n".as_slice());
+    fs::remove_dir_all(&rt, "changed_maildir")?;
+    Ok(())
+}

@@ -124,6 +124,8 @@ pub fn say_text(alloc: Global, row: &Row, text: &[u8]) -> Result<Vec<u8>, Server
 {
     let size = row.entry.size();
     let mut reply = format!(in alloc; "+OK {size} octets\r\n")?.into_bytes();
+    // The size counts all that is sent but dots that are stuffed in and the end mark.
+    reply.reserve(size as usize + b".\r\n".len())?;
     match put_body(&mut reply, text) {
         Ok(()) => Ok(reply),
         Err(_) => Err(ServerFault::NoMemory),

@@ -1,15 +1,15 @@
 //! The server: a machine that is given lines and gives answers (RFC 1939).
-ghost use Rattle.std.specs.Prelude.{◌≡◌, not, true, None, IfOk, IfErr};
+ghost use Rattle.std.specs.Prelude.{◌≡◌, not, true, None, Ok, IfOk, IfErr};
 ghost use Rattle.pop3_wire.specs.CommandLine.{command_of};
 ghost use Rattle.pop3_server.specs.declared.state.State.TheVariants.{Authorization};
-ghost use Rattle.pop3_server.specs.ServerMachine.{Answers, Unanswered, deed, greeting, is_open};
+ghost use Rattle.pop3_server.specs.ServerMachine.{Answers, Unanswered, deed, greeting, is_open, next_of};
 
 use crate::fault::ServerFault;
 use crate::maildrops::Maildrop;
 use crate::replies::say;
-use crate::sessions::{authorize, transact};
+use crate::sessions::{Step, authorize, transact};
 use crate::state::State;
-use pop3_wire::{WireFault, read_command};
+use pop3_wire::{Command, WireFault, read_command};
 use std::alloc::Global;
 use std::marker::Model;
 
@@ -51,6 +51,22 @@ fn is_closed(state: &State) -> bool
         State::Closed => true,
         State::Authorization(_) => false,
         State::Transaction(_) => false,
+    }
+}
+
+/// Goes to the state that a step leads to, and gives its answer.
+fn take(state: &mut State, step: Step) -> Answer
+    ensures state { state.new ≡ next_of state.old step.1 }
+    ensures bytes { result.bytes.items ≡ step.0.items }
+    ensures closing { result.closing ≡ not (is_open state.new) }
+{
+    let (bytes, next) = step;
+    if let Some(next) = next {
+        *state = next;
+    }
+    Answer {
+        bytes,
+        closing: is_closed(state),
     }
 }
 
@@ -99,55 +115,40 @@ impl<D: Maildrop> Server<D> {
         ensures err { IfErr result (λ e. (e ≡ ServerFault.NoMemory) × (self.new.state ≡ self.old.state)
             × Unanswered D.sound D.mail self.old.drop self.new.drop) }
     {
-        let command = match read_command(self.alloc, line) {
-            Ok(command) => command,
-            Err(WireFault::NoMemory) => return Err(ServerFault::NoMemory),
-            Err(_) => {
-                let bytes = say(self.alloc, b"-ERR bad command")?;
-                return Ok(Answer {
-                    bytes,
-                    closing: false,
-                });
-            }
-        };
-        match &mut self.state {
-            State::Authorization(kept) => {
-                let (bytes, next) = authorize(
-                    self.alloc,
-                    &mut self.drop,
-                    self.user.as_slice(),
-                    self.pass.as_slice(),
-                    kept,
-                    command,
-                )?;
-                match next {
-                    None => Ok(Answer {
-                        bytes,
-                        closing: false,
-                    }),
-                    Some(state) => {
-                        let closing = is_closed(&state);
-                        self.state = state;
-                        Ok(Answer { bytes, closing })
-                    }
-                }
-            }
-            State::Transaction(rows) => {
-                let (bytes, next) = transact(self.alloc, &mut self.drop, rows, &command)?;
-                match next {
-                    None => Ok(Answer {
-                        bytes,
-                        closing: false,
-                    }),
-                    Some(state) => {
-                        let closing = is_closed(&state);
-                        self.state = state;
-                        Ok(Answer { bytes, closing })
-                    }
-                }
-            }
-            State::Closed => unreachable!(),
+        match read_command(self.alloc, line) {
+            Ok(command) => self.obey(command),
+            Err(WireFault::NoMemory) => Err(ServerFault::NoMemory),
+            Err(_) => Ok(Answer {
+                bytes: say(self.alloc, b"-ERR bad command")?,
+                closing: false,
+            }),
         }
+    }
+
+    /// The answer to a command, in the state that the server is in.
+    fn obey(&mut self, command: Command) -> Result<Answer, ServerFault>
+        requires { is_open self.old.state ≡ true }
+        ensures who { (self.new.user ≡ self.old.user) × (self.new.pass ≡ self.old.pass) }
+        ensures ok { IfOk result (λ answer. Answers D.sound D.mail
+            (deed self.old.user self.old.pass self.old.state (Ok command))
+            self.old.drop answer.bytes.items self.new.state self.new.drop) }
+        ensures closing { IfOk result (λ answer. answer.closing ≡ not (is_open self.new.state)) }
+        ensures err { IfErr result (λ e. (e ≡ ServerFault.NoMemory) × (self.new.state ≡ self.old.state)
+            × Unanswered D.sound D.mail self.old.drop self.new.drop) }
+    {
+        let step = match &mut self.state {
+            State::Authorization(kept) => authorize(
+                self.alloc,
+                &mut self.drop,
+                self.user.as_slice(),
+                self.pass.as_slice(),
+                kept,
+                command,
+            )?,
+            State::Transaction(rows) => transact(self.alloc, &mut self.drop, rows, &command)?,
+            State::Closed => unreachable!(),
+        };
+        Ok(take(&mut self.state, step))
     }
 
     /// The maildrop.

@@ -1,11 +1,11 @@
 //! What a server does for each command: the table of states and commands (RFC 1939, sections 4 to 7).
 ghost use Rattle.std.specs.Prelude.{◌≡◌, ℕ, Bool, map, slice_get, Some, None, IfOk, IfErr, MatchResult, codes, ◌++◌};
-ghost use Rattle.pop3_wire.specs.declared.command.Command.TheVariants.{Retr, Top};
+ghost use Rattle.pop3_wire.specs.declared.command.Command.TheVariants.{Retr, Top, Dele, Rset};
 ghost use Rattle.pop3_server.specs.declared.state.Row.{Row};
 ghost use Rattle.pop3_server.specs.declared.state.State.{State};
 ghost use Rattle.pop3_server.specs.declared.state.State.TheVariants.{Authorization, Transaction, Closed};
 ghost use Rattle.pop3_server.specs.Maildrop.{HasPlace, counted};
-ghost use Rattle.pop3_server.specs.ServerMachine.{Open, Answers, Unanswered, Tied, Tries, Empties, with_marked, in_authorization, in_transaction, next_of, said, of_row, row_at, scan_line, uid_line};
+ghost use Rattle.pop3_server.specs.ServerMachine.{Say, Open, Leave, Answers, SamePlaces, Unanswered, Tied, Tries, Empties, with_marked, in_authorization, in_transaction, next_of, said, of_row, row_at, scan_line, uid_line};
 
 use crate::fault::ServerFault;
 use crate::maildrops::{DropFault, Maildrop};
@@ -17,7 +17,7 @@ use pop3_wire::{Bytes, Command};
 use std::alloc::Global;
 
 /// A reply, and the next state; none where the state stays.
-type Step = (Vec<u8>, Option<State>);
+pub type Step = (Vec<u8>, Option<State>);
 
 /// PASS with the right password: lists the maildrop.
 fn open<D: Maildrop>(alloc: Global, drop: &mut D) -> Result<Step, ServerFault>
@@ -180,6 +180,44 @@ fn uidl_one(alloc: Global, rows: &Rows, number: u32) -> Result<Vec<u8>, ServerFa
     }
 }
 
+/// DELE: marks a message.
+fn dele(alloc: Global, rows: &mut Rows, number: u32) -> Result<Vec<u8>, ServerFault>
+    ensures ok { IfOk result (λ reply. in_transaction rows.old (Dele number) ≡ Say reply.items (Transaction rows.new)) }
+    ensures same_places { SamePlaces rows.old rows.new }
+    ensures err { IfErr result (λ e. (e ≡ ServerFault.NoMemory) × (rows.new ≡ rows.old)) }
+{
+    match rows.place(number) {
+        None => say(alloc, b"-ERR no such message"),
+        Some(i) => {
+            let reply = say(alloc, b"+OK marked")?;
+            rows.mark(i);
+            Ok(reply)
+        }
+    }
+}
+
+/// RSET: marks none.
+fn rset(alloc: Global, rows: &mut Rows) -> Result<Vec<u8>, ServerFault>
+    ensures ok { IfOk result (λ reply. in_transaction rows.old Rset ≡ Say reply.items (Transaction rows.new)) }
+    ensures same_places { SamePlaces rows.old rows.new }
+    ensures err { IfErr result (λ e. (e ≡ ServerFault.NoMemory) × (rows.new ≡ rows.old)) }
+{
+    let reply = say(alloc, b"+OK")?;
+    rows.unmark();
+    Ok(reply)
+}
+
+/// QUIT: removes the marked messages. Both replies are made before one is removed.
+fn quit<D: Maildrop>(alloc: Global, drop: &mut D, rows: &[Row]) -> Result<Vec<u8>, ServerFault>
+    requires { Tied (D.sound drop.old) (D.mail drop.old) (Transaction rows.now) }
+    ensures ok { IfOk result (λ reply. Answers D.sound D.mail (Leave rows.now) drop.old reply.items Closed drop.new) }
+    ensures err { IfErr result (λ e. (e ≡ ServerFault.NoMemory) × (drop.new ≡ drop.old)) }
+{
+    let all = say(alloc, b"+OK bye")?;
+    let some = say(alloc, b"-ERR some messages not removed")?;
+    if leave(drop, rows) { Ok(all) } else { Ok(some) }
+}
+
 /// A command in TRANSACTION.
 pub fn transact<D: Maildrop>(
     alloc: Global,
@@ -203,28 +241,9 @@ pub fn transact<D: Maildrop>(
         Command::UidlOne(number) => Ok((uidl_one(alloc, rows, *number)?, None)),
         Command::Retr(number) => Ok((retr(alloc, drop, rows, *number)?, None)),
         Command::Top(number, count) => Ok((top(alloc, drop, rows, *number, *count)?, None)),
-        Command::Dele(number) => match rows.place(*number) {
-            None => Ok((say(alloc, b"-ERR no such message")?, None)),
-            Some(i) => {
-                let reply = say(alloc, b"+OK marked")?;
-                rows.mark(i);
-                Ok((reply, None))
-            }
-        },
-        Command::Rset => {
-            let reply = say(alloc, b"+OK")?;
-            rows.unmark();
-            Ok((reply, None))
-        }
+        Command::Dele(number) => Ok((dele(alloc, rows, *number)?, None)),
+        Command::Rset => Ok((rset(alloc, rows)?, None)),
         Command::Noop => Ok((say(alloc, b"+OK")?, None)),
-        Command::Quit => {
-            let all = say(alloc, b"+OK bye")?;
-            let some = say(alloc, b"-ERR some messages not removed")?;
-            if leave(drop, rows.as_slice()) {
-                Ok((all, Some(State::Closed)))
-            } else {
-                Ok((some, Some(State::Closed)))
-            }
-        }
+        Command::Quit => Ok((quit(alloc, drop, rows.as_slice())?, Some(State::Closed))),
     }
 }
