@@ -1,10 +1,12 @@
 """Connections over loopback: one after the other, ended in any way, and clients that mean no good."""
 
 import socket
+import subprocess
 import threading
 import unittest
 
 from harness import programs
+from harness.kernel import LOOPBACK
 from popd import expected, lines
 from popd.service import Maildir, Service
 
@@ -12,10 +14,26 @@ READY = b"+OK popd ready\r\n"
 ROOM = 1 << 20
 
 
-class Connections(unittest.TestCase):
+class OverLoopback(unittest.TestCase):
+    """A Maildir of its own for each test."""
+
     def setUp(self):
         self.maildir = Maildir()
         self.addCleanup(self.maildir.holder.cleanup)
+
+    def check_reset(self, service, client, answer):
+        """Resets a connection to which the server writes: that is told, and the next and last client can log in."""
+        client.reset()
+        with service.client() as next_client:
+            self.assertEqual(next_client.log_in(), answer)
+        status, err = service.finish()
+        self.assertEqual(status, 0)
+        self.assertIn(err, (b"popd: write failed\n", b"popd: read failed\n"))
+
+
+class Connections(OverLoopback):
+    def setUp(self):
+        super().setUp()
         self.maildir.add("new", "a", b"one\n")
 
     def check_good_client(self, service):
@@ -77,12 +95,15 @@ class Connections(unittest.TestCase):
             client.log_in()
             client.give(b"RETR 2\r\n" * 500)
             self.assertEqual(client.file.read(1), b"+")
-            client.reset()
-            with service.client() as next_client:
-                self.assertEqual(next_client.log_in(), b"+OK 2 messages\r\n")
-            status, err = service.finish()
-            self.assertEqual(status, 0)
-            self.assertIn(err, (b"popd: write failed\n", b"popd: read failed\n"))
+            self.check_reset(service, client, b"+OK 2 messages\r\n")
+
+    def test_a_connection_that_cannot_be_taken(self):
+        """With no descriptor left each one fails at once, is told, and counts as one of those to serve."""
+        words = [programs.path_of("popd"), "--listen", f"{LOOPBACK}:0", "--connections", "3", "u",
+                 self.maildir.passfile, self.maildir.folder]
+        done = subprocess.run(["sh", "-c", 'ulimit -n 4 && exec "$0" "$@"', *words], stdin=subprocess.DEVNULL,
+                              capture_output=True, env=programs.environment(), timeout=programs.SECONDS)
+        self.assertEqual((done.returncode, done.stdout, done.stderr), (0, b"", b"popd: read failed\n" * 3))
 
     def test_all_lines_at_once(self):
         """A client that does not wait for the answers gets all of them, in order."""
@@ -96,12 +117,8 @@ class Connections(unittest.TestCase):
                 self.assertEqual(service.finish(), (0, b""))
 
 
-class Memory(unittest.TestCase):
+class Memory(OverLoopback):
     """Memory does not grow with what a client sends that isn't logged in, however much it is."""
-
-    def setUp(self):
-        self.maildir = Maildir()
-        self.addCleanup(self.maildir.holder.cleanup)
 
     def drive(self, service, piece):
         """Sends as much of the piece as one connection may, reads all answers, and answers how many octets came."""
@@ -142,9 +159,4 @@ class Memory(unittest.TestCase):
             with self.assertRaises(socket.timeout):
                 client.give(b"NOOP\r\n" * 4_000_000)
             self.assertLess(service.peak_of_memory() - before, ROOM)
-            client.reset()
-            with service.client() as next_client:
-                self.assertEqual(next_client.log_in(), b"+OK 0 messages\r\n")
-            status, err = service.finish()
-            self.assertEqual(status, 0)
-            self.assertIn(err, (b"popd: write failed\n", b"popd: read failed\n"))
+            self.check_reset(service, client, b"+OK 0 messages\r\n")

@@ -8,8 +8,6 @@ from popd import expected, lines
 from popd.service import Maildir, Service
 
 NO_MEMORY = b"popd: out of memory\n"
-# Where the words can't be had, nothing was begun.
-NO_WORDS = programs.Run(2, b"", b"popd: wrong number of arguments\n")
 RECORDED = lines.CONVERSATIONS["the recorded one"]
 
 
@@ -26,8 +24,6 @@ class RefusedGrowths(unittest.TestCase):
             if run == programs.Run(0, b"".join(answers), b""):
                 continue
             self.assertTrue(refusal.came(), f"nothing was refused: {run}")
-            if run == NO_WORDS:
-                continue
             self.assertEqual((run.status, run.err), (1, NO_MEMORY), f"growth {refusal.number} refused: {run}")
             self.assertIn(run.out, beginnings(answers), f"growth {refusal.number} refused")
             refused += 1
@@ -86,7 +82,7 @@ class RefusedGrowths(unittest.TestCase):
         run = programs.run("popd", "--listen", f"{LOOPBACK}:0", "--connections", "0", "u", maildir.passfile,
                            maildir.folder, **refusal.environment())
         if run.status != 0:
-            self.assertIn(run, (programs.Run(1, b"", NO_MEMORY), NO_WORDS), f"growth {refusal.number} refused")
+            self.assertEqual(run, programs.Run(1, b"", NO_MEMORY), f"growth {refusal.number} refused")
             return None
         refusal.forget()
         got = []

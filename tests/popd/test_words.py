@@ -35,6 +35,11 @@ class Words(unittest.TestCase):
                 for word in (b"--listen", b"--connections", b"--rehearse"):
                     self.assertIn(word, run.out)
 
+    def test_help_that_cannot_be_written(self):
+        with open("/dev/full", "wb") as full:
+            run = programs.run("popd", "--help", out=full)
+        self.assertEqual(run, programs.Run(1, b"", b""))
+
     def test_words_that_are_refused(self):
         for words in (["--listens"], ["-x"], ["--connections", "x"], ["--connections", "-1"],
                       ["--connections", "4294967296"],

@@ -1,2 +1,5 @@
+pub mod Account
+pub mod Failures
 pub mod Password
 pub mod Rehearsal
+pub mod Start

@@ -1,147 +1,95 @@
 //! `popd`: a small POP3 server of one user's Maildir, over standard input and output or over TCP.
 #![tactic(auto)]
 
+ghost use Rattle.std.specs.Prelude.{◌≡◌, ◌≢◌, ◌≤◌, ◌⊎◌, true, IfErr, MatchResult};
+ghost use Rattle.clap.specs.Values.{kind_of};
+ghost use Rattle.popd.specs.Failures.{IsCause, has_right_count};
+
+mod account;
+mod failure;
 mod password;
 mod rehearsal;
 mod serving;
 mod words;
 
-use crate::password::password;
-use crate::rehearsal::rehearsal_drop;
-use crate::serving::{listen, serve_streams, tell};
+use crate::account::read_account;
+use crate::failure::{Failure, end, failure_of};
+use crate::rehearsal::rehearse;
+use crate::serving::{listen, serve_streams};
 use crate::words::{Words, read_words};
+use clap::Error;
+use clap::error::ErrorKind;
 use pop3_server::{MaildirDrop, ServerFault};
-use std::io::{self, ErrorKind};
+use std::env;
 use std::process::ExitCode;
-use std::{env, fs};
 
-/// What the words after the options name.
-#[derive(Drop)]
-pub struct Account {
-    pub user: Vec<u8>,
-    pub password: Vec<u8>,
-    pub maildir: String,
-}
-
-/// Tells that the count of words is wrong.
-fn wrong_count(rt: &HostRuntime) -> u8 {
-    let _ = rt.eprintln("popd: wrong number of arguments");
-    2
-}
-
-/// Tells why a file or an address failed: want of memory as such.
-fn tell_error(rt: &HostRuntime, error: io::Error, what: &str, name: &str) -> u8 {
-    if error.kind() == ErrorKind::OutOfMemory {
-        tell(rt, ServerFault::NoMemory);
-    } else {
-        let _ = rt.eprintln(format_args!("popd: cannot {what} {name}"));
-    }
-    1
-}
-
-/// The user and the Maildir that the words name, and the password in the file that they name.
-fn account_of(
-    rt: &HostRuntime,
-    user: &str,
-    file: &[u8],
-    maildir: &str,
-) -> Result<Account, ServerFault> {
-    let alloc = rt.alloc();
-    Ok(Account {
-        user: Vec::from_slice(alloc, user.as_bytes())?,
-        password: Vec::from_slice(alloc, password(file))?,
-        maildir: String::from_str(alloc, maildir)?,
-    })
-}
-
-/// Serves the rehearsal's maildrop over standard input and output.
-fn rehearse(rt: &HostRuntime) -> Result<u8, ServerFault> {
-    let alloc = rt.alloc();
-    let maildrop = rehearsal_drop(alloc)?;
-    let user = Vec::from_slice(alloc, b"u")?;
-    let password = Vec::from_slice(alloc, b"p")?;
-    serve_streams(rt, maildrop, user, password)?;
-    Ok(0)
-}
-
-/// Serves a Maildir, over TCP where an address is named, else over standard input and output.
-fn serve_maildir(rt: &HostRuntime, words: &Words, account: Account) -> Result<u8, ServerFault> {
-    match &words.listen {
-        Some(address) => match listen(rt, address.as_str(), words.connections, &account) {
-            Ok(()) => Ok(0),
-            Err(error) => Ok(tell_error(rt, error, "listen on", address.as_str())),
-        },
-        None => {
-            let Account {
-                user,
-                password,
-                maildir,
-            } = account;
-            serve_streams(rt, MaildirDrop::at(rt, maildir), user, password)?;
-            Ok(0)
-        }
+/// The words of the command line, the program's name first. Where they can't be had, as where one
+/// isn't UTF-8, it is as if their count were wrong.
+fn arguments(rt: &HostRuntime) -> Result<Vec<String>, Failure<'static>>
+    ensures { IfErr result (λ f. (f ≡ Failure.WrongCount) ⊎ (f ≡ Failure.Fault ServerFault.NoMemory)) }
+{
+    match env::args(rt) {
+        Ok(words) => Ok(words.collect(rt.alloc())?),
+        Err(error) => Err(failure_of(error, Failure::WrongCount)),
     }
 }
 
-/// Does what the words ask for, and gives the status.
-fn run(rt: &HostRuntime, words: &Words) -> Result<u8, ServerFault> {
+/// Does what the words ask for. The first of these failures is answered: a wrong count of
+/// positionals, a password file that can't be read, an address that can't be listened on, a fault
+/// of the link. Where an address is listened on, a fault on a connection is none of the run.
+fn run<'a>(rt: &HostRuntime, words: &'a Words) -> Result<(), Failure<'a>>
+    ensures { MatchResult result (λ _. has_right_count words.now ≡ true) (IsCause words.now) }
+{
     if words.rehearse {
         if !words.rest.is_empty() {
-            return Ok(wrong_count(rt));
+            return Err(Failure::WrongCount);
         }
-        return rehearse(rt);
+        return Ok(rehearse(rt)?);
     }
-    match words.rest.as_slice() {
-        [user, passfile, maildir] => match fs::read(rt, passfile.as_str()) {
-            Ok(file) => {
-                let account = account_of(rt, user.as_str(), file.as_slice(), maildir.as_str())?;
-                serve_maildir(rt, words, account)
-            }
-            Err(error) => Ok(tell_error(rt, error, "read", passfile.as_str())),
-        },
-        _ => Ok(wrong_count(rt)),
+    let [user, passfile, maildir] = words.rest.as_slice() else {
+        return Err(Failure::WrongCount);
+    };
+    let account = read_account(rt, user.as_str(), passfile.as_str(), maildir.as_str())?;
+    match &words.listen {
+        Some(address) => listen(rt, address.as_str(), words.connections, &account),
+        None => {
+            let maildrop = MaildirDrop::at(rt, account.maildir);
+            Ok(serve_streams(rt, maildrop, account.user, account.password)?)
+        }
     }
 }
 
-/// The words of the command line, the program's name first.
-fn arguments(rt: &HostRuntime) -> io::Result<Vec<String>> {
-    Ok(env::args(rt)?.collect(rt.alloc())?)
+/// Shows clap's text, help on standard output and a mistake on standard error, and gives the exit
+/// status: 0 for help that was shown, 2 for a mistake.
+fn show(rt: &HostRuntime, error: &Error) -> u8
+    ensures memory { kind_of error.now ≡ ErrorKind.OutOfMemory → result ≡ 1 }
+    ensures help { kind_of error.now ≡ ErrorKind.DisplayHelp → result ≤ 1 }
+    ensures mistake { kind_of error.now ≢ ErrorKind.OutOfMemory
+        → kind_of error.now ≢ ErrorKind.DisplayHelp → result ≡ 2 }
+{
+    let kind = error.kind();
+    if kind == ErrorKind::OutOfMemory {
+        return end(rt, Err(Failure::Fault(ServerFault::NoMemory)));
+    }
+    let shown = error.print(rt);
+    if kind != ErrorKind::DisplayHelp {
+        return 2;
+    }
+    if shown.is_ok() { 0 } else { 1 }
+}
+
+/// Does what the command line asks for, and gives the exit status.
+fn obey(rt: &HostRuntime, arguments: &[String]) -> u8 {
+    match read_words(rt.alloc(), arguments) {
+        Ok(words) => end(rt, run(rt, &words)),
+        Err(error) => show(rt, &error),
+    }
 }
 
 fn main(rt: HostRuntime) -> ExitCode {
-    let arguments = match arguments(&rt) {
-        Ok(arguments) => arguments,
-        Err(error) => {
-            if error.kind() == ErrorKind::OutOfMemory {
-                tell(&rt, ServerFault::NoMemory);
-                return ExitCode::from(1);
-            }
-            return ExitCode::from(wrong_count(&rt));
-        }
-    };
-    let status = match read_words(rt.alloc(), arguments.as_slice()) {
-        Ok(words) => match run(&rt, &words) {
-            Ok(status) => status,
-            Err(fault) => {
-                tell(&rt, fault);
-                1
-            }
-        },
-        Err(error) => {
-            if error.kind() == clap::error::ErrorKind::OutOfMemory {
-                tell(&rt, ServerFault::NoMemory);
-                1
-            } else {
-                let shown = error.print(&rt);
-                if error.use_stderr() {
-                    2
-                } else if shown.is_ok() {
-                    0
-                } else {
-                    1
-                }
-            }
-        }
+    let status = match arguments(&rt) {
+        Ok(arguments) => obey(&rt, arguments.as_slice()),
+        Err(failure) => end(&rt, Err(failure)),
     };
     ExitCode::from(status)
 }
