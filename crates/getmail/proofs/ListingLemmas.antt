@@ -17,7 +17,7 @@ use Rattle.getmail.specs.declared.fault.Asked.TheVariants.{Greeting, User, Pass,
 use Rattle.getmail.specs.declared.fault.Asked.TheVariants.{List as SizeList}
 use Rattle.getmail.specs.Conversation.{has_body, may_want, IsRow, IsListing, HasRows, Begins, Cause, row_limit, line_limit}
 use Rattle.getmail.specs.Conversation.{Turn, Opened}
-use Rattle.getmail.proofs.TalkLemmas.{talked_body, broke_behind, begins_of}
+use Rattle.getmail.proofs.TalkLemmas.{drew_of, talked_body, broke_behind, begins_of, takes_other}
 use Rattle.getmail.specs.Listing.{Lists, RowCause, NextRow, RowsCause, TookLines, TakesRows}
 
 -- some rows were taken: these lines, which stand for these rows, and the rest waits
@@ -38,9 +38,6 @@ drew_on a b c g h first then =
 
 pub goes_on : (a b c : Link) → GoesOn a b → GoesOn b c → GoesOn a c
 goes_on a b c first then = record { ended = then.ended ∙ first.ended; failures = then.failures ∙ first.failures }
-
-pub drew_of : (old new : Place) (gained : List ℕ) → Gains old new gained → Drew old.link new.link gained
-drew_of old new gained gains = record { got = gains.got; sent = gains.sent }
 
 pub rows_none : (asked : Asked) (reader : List ℕ) → IsListing asked → HasRows asked (reader ++ []) reader []
 rows_none asked reader listing = record { listing = listing; content = tt; rows = tt; few = omega arith; whole = append-nil reader }
@@ -213,6 +210,8 @@ lists_of turn IsThisRow line old mid new (Ok rows) begun listing takes = (
   (takes.0, refl, takes.2),
 )
 lists_of turn IsThisRow line old mid new (Err fault) begun listing takes =
-    broke_behind turn line old mid new.link takes.0 fault begun takes.1
+    broke_behind turn line old mid new takes.0 fault begun takes.1
     (cause_of_rows fault turn.asked mid.link new.link (ended line ++ (mid.waiting ++ takes.0)) (mid.waiting ++ takes.0)
     (begins_of turn line old mid (mid.waiting ++ takes.0) begun) listing takes.2)
+    (λ bytes. takes_other fault bytes new.waiting
+    (λ to is. subst (λ (f : Fault). RowsCause f turn.asked mid.link new.link (mid.waiting ++ takes.0)) is takes.2))

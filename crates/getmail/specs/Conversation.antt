@@ -6,8 +6,9 @@ use Rattle.pop3_wire.specs.Body.{IsContent, unstuffed, body_of, HasNoBody}
 use Rattle.pop3_wire.specs.Reply.{IsFirstLine}
 use Rattle.pop3_wire.specs.declared.reply.Status.TheVariants.{Positive, Negative}
 use Rattle.pop3_wire.specs.Fields.{number_and_size, number_and_id}
-use Rattle.pop3_wire.specs.Link.{Link}
+use Rattle.pop3_wire.specs.Link.{Link, Tallies}
 use Rattle.pop3_wire.specs.Place.{Place, GoesOn, Gains, HasLine, HasNoLine}
+use Rattle.pop3_wire.specs.Bodies.{Drew}
 use Rattle.getmail.specs.declared.fault.Asked.{Asked}
 use Rattle.getmail.specs.declared.fault.Asked.TheVariants.{Greeting, User, Pass, Stat, Uidl, Retr, Quit}
 use Rattle.getmail.specs.declared.fault.Asked.TheVariants.{List as SizeList}
@@ -180,22 +181,28 @@ abbrev pub Waits : Place → Result ℕ Fault → Place → Type 0
 Waits old (Ok n) new = HasLine line_limit new.waiting n × GoesOn old.link new.link
 Waits old (Err fault) new = NoLineCause fault old.link new.link new.waiting
 
+-- a negative reply is whole, and is taken with its line; after any other fault nothing is said of what waits
+abbrev pub Takes : Fault → List ℕ → List ℕ → Type 0
+Takes (Refused to) bytes waiting = (line : List ℕ) × IsLine line × (bytes ≡ ended line ++ waiting)
+Takes _ bytes waiting = Unit {0}
+
 -- a positive first line waits, or why none does
 abbrev pub Heard : Asked → Place → Result ℕ Fault → Place → Type 0
-Heard asked old (Ok n) new = HasLine line_limit new.waiting n × GoesOn old.link new.link
+Heard asked old (Ok n) new = (gained : List ℕ) × Gains old new gained × HasLine line_limit new.waiting n × GoesOn old.link new.link
     × ((rest : List ℕ) × IsFirstLine (take n new.waiting) Positive rest)
-Heard asked old (Err fault) new = Cause fault asked old.link new.link new.waiting
+Heard asked old (Err fault) new = (gained : List ℕ) × Drew old.link new.link gained
+    × Cause fault asked old.link new.link (old.waiting ++ gained) × Takes fault (old.waiting ++ gained) new.waiting
 
 -- a turn was begun and not answered well: not all of it was sent, or its reply isn't good
-abbrev pub Broke : Turn → Place → Link → Fault → Type 0
+abbrev pub Broke : Turn → Place → Place → Fault → Type 0
 Broke turn old new fault =
-    ((fault ≡ WriteFailed) × (old.link.failures < new.failures) × (new.got ≡ old.link.got)
-    × ((front rest : List ℕ) × (turn.bytes ≡ front ++ rest) × (new.sent ≡ old.link.sent ++ front)))
-    ⊎ ((gained : List ℕ) × (new.sent ≡ old.link.sent ++ turn.bytes) × (new.got ≡ old.link.got ++ gained)
-    × Cause fault turn.asked old.link new (old.waiting ++ gained))
+    ((fault ≡ WriteFailed) × (old.link.failures < new.link.failures) × (new.link.got ≡ old.link.got)
+    × ((front rest : List ℕ) × (turn.bytes ≡ front ++ rest) × (new.link.sent ≡ old.link.sent ++ front)))
+    ⊎ ((gained : List ℕ) × (new.link.sent ≡ old.link.sent ++ turn.bytes) × (new.link.got ≡ old.link.got ++ gained)
+    × Cause fault turn.asked old.link new.link (old.waiting ++ gained) × Takes fault (old.waiting ++ gained) new.waiting)
 
 -- some of the turns were talked, and the next one broke
-pub record Stopped (turns : List Turn) (old : Place) (new : Link) (fault : Fault) : Type 0 where
+pub record Stopped (turns : List Turn) (old new : Place) (fault : Fault) : Type 0 where
   pub done : List Turn
   pub replies : List Reply
   pub next : Turn
@@ -214,13 +221,13 @@ Sent bytes old (Err fault) new = (fault ≡ WriteFailed)
 -- a turn with a reply of one line was talked, or it broke
 abbrev pub Asks : Turn → Place → Result (Unit {0}) Fault → Place → Type 0
 Asks turn old (Ok done) new = (line : List ℕ) × Opened turn line old new
-Asks turn old (Err fault) new = Broke turn old new.link fault
+Asks turn old (Err fault) new = Broke turn old new fault
 
 -- the same of STAT, whose reply tells how many messages there are
 abbrev pub Counts : Turn → Place → Result ℕ Fault → Place → Type 0
 Counts turn old (Ok count) new = (line rest : List ℕ) × (size : ℕ) × Opened turn line old new
     × IsFirstLine line Positive rest × (number_and_size rest ≡ Ok (count, size))
-Counts turn old (Err fault) new = Broke turn old new.link fault
+Counts turn old (Err fault) new = Broke turn old new fault
 
 -- a positive first line tells a count of at most one message, or why it doesn't
 abbrev pub TellsFew : List ℕ → Result ℕ Fault → Type 0
@@ -231,19 +238,22 @@ TellsFew line (Err TooMany) = (rest : List ℕ) × (count size : ℕ) × IsFirst
 TellsFew line (Err _) = ⊥
 
 -- whether a fault is a refused call of the link
+abbrev pub refusal : Fault → Result (Unit {0}) Fault
+refusal ReadFailed = Err ReadFailed
+refusal WriteFailed = Err WriteFailed
+refusal ConnectionEnded = Ok tt
+refusal ReplyTooLong = Ok tt
+refusal BadReply = Ok tt
+refusal (Refused to) = Ok tt
+refusal BadListing = Ok tt
+refusal ListingsDisagree = Ok tt
+refusal TooMany = Ok tt
+refusal TextTooLong = Ok tt
+refusal NoMemory = Ok tt
+
 abbrev pub refusal_of : {A : Type 0} → Result A Fault → Result (Unit {0}) Fault
 refusal_of (Ok done) = Ok tt
-refusal_of (Err ReadFailed) = Err ReadFailed
-refusal_of (Err WriteFailed) = Err WriteFailed
-refusal_of (Err ConnectionEnded) = Ok tt
-refusal_of (Err ReplyTooLong) = Ok tt
-refusal_of (Err BadReply) = Ok tt
-refusal_of (Err (Refused to)) = Ok tt
-refusal_of (Err BadListing) = Ok tt
-refusal_of (Err ListingsDisagree) = Ok tt
-refusal_of (Err TooMany) = Ok tt
-refusal_of (Err TextTooLong) = Ok tt
-refusal_of (Err NoMemory) = Ok tt
+refusal_of (Err fault) = refusal fault
 
 -- ---- what is said
 
@@ -274,18 +284,16 @@ retr = turn_of Retr (codes "RETR 1" ++ crlf)
 abbrev pub quit : Turn
 quit = turn_of Quit (codes "QUIT" ++ crlf)
 
--- what is sent after a fault: QUIT where a command was refused, but for QUIT itself
-abbrev pub tail : Fault → List ℕ
-tail (Refused Quit) = []
-tail (Refused to) = quit.bytes
-tail _ = []
+-- ---- what is said after a fault
 
--- after a fault the tail was sent whole, or a prefix of it and a call was refused; and where it was sent, one line of the reply to it was read, or could not be
-pub record Left (fault : Fault) (old new : Link) : Type 0 where
-  pub front : List ℕ
-  pub rest : List ℕ
-  pub gained : List ℕ
-  pub parts : tail fault ≡ front ++ rest
-  pub sent : new.sent ≡ old.sent ++ front
-  pub got : new.got ≡ old.got ++ gained
-  pub less : (rest ≡ []) ⊎ (old.failures < new.failures)
+-- after a refused command QUIT's turn is talked, or broke; after a refused QUIT and after any other fault nothing is done to the link
+abbrev pub Left : Fault → Place → Place → Type 0
+Left (Refused Quit) old new = new ≡ old
+Left (Refused to) old new = (result : Result (Unit {0}) Fault) × Asks quit old result new
+Left _ old new = new ≡ old
+
+-- at most one refusal is counted where QUIT is said after a refused command, and none otherwise
+abbrev pub LeavesCount : Fault → ℕ → ℕ → Type 0
+LeavesCount (Refused Quit) old new = new ≡ old
+LeavesCount (Refused to) old new = (result : Result (Unit {0}) Fault) × Tallies old (refusal_of result) new
+LeavesCount _ old new = new ≡ old

@@ -88,7 +88,7 @@ HasListing IsThisRow reply rows = (lines : List (List ℕ)) × (reply.body ≡ S
 -- a listing was asked for and taken, or its turn broke
 abbrev pub Lists : {R : Type 0} → Turn → (List ℕ → R → Type 0) → Place → Result (List R) Fault → Place → Type 0
 Lists turn IsThisRow old (Ok rows) new = (reply : Reply) × Talked (turn ∷ []) (reply ∷ []) old new × HasListing IsThisRow reply rows
-Lists turn IsThisRow old (Err fault) new = Broke turn old new.link fault
+Lists turn IsThisRow old (Err fault) new = Broke turn old new fault
 
 -- the sizes are those of the messages from 1 to the count, of which there is one at most
 abbrev pub SizesFit : ℕ → List (ℕ × ℕ) → Type 0

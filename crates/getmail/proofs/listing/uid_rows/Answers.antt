@@ -9,8 +9,8 @@ use Rattle.getmail.specs.declared.fault.Fault.{Fault}
 use Rattle.getmail.specs.declared.fault.Fault.TheVariants.{BadListing}
 use Rattle.getmail.specs.Conversation.{row_limit}
 use Rattle.getmail.specs.Listing.{IsUidRow, uid_pair, RowsCause}
-use Rattle.getmail.proofs.TalkLemmas.{line_waits}
-use Rattle.getmail.proofs.ListingLemmas.{InRows, rows_none, drew_on, drew_of, in_rows_on, in_rows_push, rows_bad, rows_cause, rows_end, ok_gives, is_ok_of}
+use Rattle.getmail.proofs.TalkLemmas.{drew_of, line_waits}
+use Rattle.getmail.proofs.ListingLemmas.{InRows, rows_none, drew_on, in_rows_on, in_rows_push, rows_bad, rows_cause, rows_end, ok_gives, is_ok_of}
 use Rattle.getmail.proofs.listing.uid_rows.Goals as goal
 
 pub rows-init : goal.rows-init
