@@ -1,18 +1,16 @@
 -- The parts of the small session, put together.
-use Rattle.std.proofs.Common.{◌≡◌, ◌⊎◌, inl, inr, ◌<◌, ◌≤◌, ◌+◌, ℕ, List, [], ◌∷◌, ◌++◌, length, take, map, Option, None, Some, Result, Ok, Err, IfOk, IfErr, refl, sym, ap, subst, ◌∙◌, arith}
+use Rattle.std.proofs.Common.{◌≡◌, inr, ◌<◌, ◌≤◌, ◌+◌, ℕ, List, [], ◌∷◌, ◌++◌, length, Option, None, Some, Result, Ok, Err, IfOk, IfErr, refl, ap, subst, ◌∙◌, arith}
 use Rattle.std.specs.Prelude.{Vec}
-use Rattle.pop3_wire.specs.Line.{ended}
 use Rattle.pop3_wire.specs.Body.{Body, body_of}
-use Rattle.pop3_wire.specs.Link.{Link}
-use Rattle.pop3_wire.specs.Place.{Place, at}
-use Rattle.pop3_wire.specs.Bodies.{Drew, BodyCause, TookBody, ReadsBody}
+use Rattle.pop3_wire.specs.Place.{Place}
+use Rattle.pop3_wire.specs.Bodies.{ReadsBody}
 use Rattle.pop3_wire.specs.declared.body_reader.BodyFault.TheVariants.{Ended, Failed, TooLong}
 use Rattle.getmail.specs.declared.fault.Fault.{Fault}
 use Rattle.getmail.specs.declared.fault.Fault.TheVariants.{ConnectionEnded, ReadFailed, TextTooLong, ListingsDisagree}
-use Rattle.getmail.specs.Conversation.{Turn, Reply, Talked, Opened, Broke, Stopped, Cause, Counts, text_limit, retr, quit, stat, uidl, list}
-use Rattle.getmail.specs.Listing.{IsJoined, Listed, TellsCount, HasListing, IsUidRow, IsScanRow, id_of}
-use Rattle.getmail.specs.First.{login, looking, closing, Fetches, Talks, Looks, Closes, Plans, HasText, id_in}
-use Rattle.getmail.proofs.TalkLemmas.{talked_body, talked_line, talked_on, broke_behind, begins_of, stopped_first, stopped_next}
+use Rattle.getmail.specs.Conversation.{Reply, Talked, Opened, Broke, Counts, text_limit, retr, stat}
+use Rattle.getmail.specs.Listing.{IsJoined, Listed, TellsCount, id_of}
+use Rattle.getmail.specs.First.{login, looking, Talks, Looks, Closes, Plans, HasText, id_in}
+use Rattle.getmail.proofs.TalkLemmas.{talked_body, talked_line, broke_behind, begins_of}
 
 -- the text was taken
 pub fetched : (line : List ℕ) (old mid new : Place) (text : List ℕ) → Opened retr line old mid → ReadsBody text_limit mid (Ok text) new

@@ -1,24 +1,24 @@
 -- Rows of a listing, taken one by one.
-use Rattle.std.proofs.Common.{◌≡◌, ◌≢◌, ◌⊎◌, inl, inr, ◌<◌, ◌≤◌, ◌+◌, ℕ, suc, true, List, [], ◌∷◌, ◌++◌, length, take, drop, map, None, Some, Result, Ok, Err, IsOk, is_ok, refl, sym, ap, subst, ◌∙◌, arith, append_assoc, length-append}
-use Rattle.std.proofs.lemmas.List.{append-nil, map_push}
+use Rattle.std.proofs.Common.{◌≡◌, inr, ◌<◌, ◌≤◌, ◌+◌, ℕ, suc, true, List, [], ◌∷◌, ◌++◌, length, Some, Result, Ok, Err, IsOk, is_ok, refl, sym, ap, subst, ◌∙◌, arith, append_assoc, length-append}
+use Rattle.std.proofs.lemmas.List.{append-nil}
 use Rattle.std.proofs.lemmas.Bool.{false≢true}
 use Rattle.std.proofs.lemmas.Grind.{flat_map-append}
 use Rattle.std.specs.List.{flat_map, AllZip, AllByRecursion}
 use Rattle.pop3_wire.specs.Line.{IsLine, ended}
 use Rattle.pop3_wire.specs.Body.{dot, IsContent, body_of, text_of, HasNoBody}
 use Rattle.pop3_wire.specs.Link.{Link}
-use Rattle.pop3_wire.specs.Place.{Place, at, GoesOn, Gains, HasLine}
+use Rattle.pop3_wire.specs.Place.{Place, at, GoesOn, Gains}
 use Rattle.pop3_wire.specs.Bodies.{Drew}
-use Rattle.pop3_wire.proofs.BodyLemmas.{Reads, no_body}
+use Rattle.pop3_wire.proofs.BodyLemmas.{no_body}
 use Rattle.getmail.specs.declared.fault.Asked.{Asked}
 use Rattle.getmail.specs.declared.fault.Fault.{Fault}
 use Rattle.getmail.specs.declared.fault.Fault.TheVariants.{ConnectionEnded, ReadFailed, WriteFailed, ReplyTooLong, BadReply, Refused, BadListing, ListingsDisagree, TooMany, TextTooLong, NoMemory}
 use Rattle.getmail.specs.declared.fault.Asked.TheVariants.{Greeting, User, Pass, Stat, Uidl, Retr, Quit}
 use Rattle.getmail.specs.declared.fault.Asked.TheVariants.{List as SizeList}
-use Rattle.getmail.specs.Conversation.{has_body, may_want, IsRow, IsListing, HasRows, Begins, Cause, row_limit, line_limit}
+use Rattle.getmail.specs.Conversation.{has_body, may_want, IsRow, IsListing, IsShort, HasRows, Begins, Cause, row_limit}
 use Rattle.getmail.specs.Conversation.{Turn, Opened}
 use Rattle.getmail.proofs.TalkLemmas.{drew_of, talked_body, broke_behind, begins_of, takes_other}
-use Rattle.getmail.specs.Listing.{Lists, RowCause, NextRow, RowsCause, TookLines, TakesRows}
+use Rattle.getmail.specs.Listing.{Lists, RowCause, RowsCause, TakesRows}
 
 -- some rows were taken: these lines, which stand for these rows, and the rest waits
 pub record InRows {W R : Type 0} (sound : W → Type 0) (leads_to : W → W → Type 0) (seen : W → Link) (asked : Asked) (IsThisRow : List ℕ → R → Type 0)
@@ -40,12 +40,13 @@ pub goes_on : (a b c : Link) → GoesOn a b → GoesOn b c → GoesOn a c
 goes_on a b c first then = record { ended = then.ended ∙ first.ended; failures = then.failures ∙ first.failures }
 
 pub rows_none : (asked : Asked) (reader : List ℕ) → IsListing asked → HasRows asked (reader ++ []) reader []
-rows_none asked reader listing = record { listing = listing; content = tt; rows = tt; few = omega arith; whole = append-nil reader }
+rows_none asked reader listing = record { listing = listing; content = tt; short = tt; rows = tt; few = omega arith; whole = append-nil reader }
 
 has_more : (asked : Asked) (bytes waits more : List ℕ) (lines : List (List ℕ)) → HasRows asked bytes waits lines → HasRows asked (bytes ++ more) (waits ++ more) lines
 has_more asked bytes waits more lines has = record {
   listing = has.listing;
   content = has.content;
+  short = has.short;
   rows = has.rows;
   few = has.few;
   whole = ap (λ (l : List ℕ). l ++ more) has.whole ∙ append_assoc (flat_map ended lines) waits more;
@@ -96,15 +97,16 @@ module _ {W R : Type 0} (sound : W → Type 0) (leads_to : W → W → Type 0) (
   }
 
   -- one more row was taken
-  pub in_rows_push : (line after : List ℕ) (row : R) (rows' : List R) → waits ≡ ended line ++ after → IsContent line → IsRow asked line → IsThisRow line row
+  pub in_rows_push : (line after : List ℕ) (row : R) (rows' : List R) → waits ≡ ended line ++ after → IsContent line → IsShort line → IsRow asked line → IsThisRow line row
       → length rows < row_limit → rows' ≡ rows ++ row ∷ []
       → InRows sound leads_to seen asked IsThisRow a reader b after rows'
-  in_rows_push line after row rows' whole content good read few is = record {
+  in_rows_push line after row rows' whole content short good read few is = record {
     lines = now.lines ++ line ∷ [];
     gained = now.gained;
     has = record {
       listing = now.has.listing;
       content = all_push IsContent now.lines line now.has.content content;
+      short = all_push IsShort now.lines line now.has.short short;
       rows = all_push (IsRow asked) now.lines line now.has.rows good;
       few = size;
       whole = now.has.whole ∙ ap (λ (l : List ℕ). flat_map ended now.lines ++ l) whole ∙ more_whole;
@@ -125,10 +127,10 @@ module _ {W R : Type 0} (sound : W → Type 0) (leads_to : W → W → Type 0) (
           ∙ ap (λ (l : List ℕ). l ++ after) (sym (flat_map-append ended now.lines (line ∷ [])))
 
   -- a row was bad
-  pub rows_bad : (line after : List ℕ) → waits ≡ ended line ++ after → IsContent line → (IsRow asked line → ⊥)
+  pub rows_bad : (line after : List ℕ) → waits ≡ ended line ++ after → IsContent line → IsShort line → (IsRow asked line → ⊥)
       → RowsCause BadListing asked (seen a) (seen b) (reader ++ now.gained)
-  rows_bad line after whole content bad =
-      (after, line, now.lines, subst (λ (l : List ℕ). HasRows asked (reader ++ now.gained) l now.lines) whole now.has, content, bad)
+  rows_bad line after whole content short bad =
+      (after, line, now.lines, subst (λ (l : List ℕ). HasRows asked (reader ++ now.gained) l now.lines) whole now.has, content, short, bad)
 
   -- neither a row nor the end mark came
   pub rows_cause : (fault : Fault) (n : ℕ) (c : Link) (waits' more : List ℕ) → n ≡ length rows
@@ -194,7 +196,7 @@ cause_of_rows WriteFailed asked old new bytes after begins listing why = why
 cause_of_rows ReplyTooLong asked old new bytes after begins listing why = inr (after, why.0, why.1, begins, why.2, why.3)
 cause_of_rows BadReply asked old new bytes after begins listing why = absurd why
 cause_of_rows (Refused to) asked old new bytes after begins listing why = absurd why
-cause_of_rows BadListing asked old new bytes after begins listing why = (after, why.0, why.1, why.2, begins, why.3, why.4, why.5)
+cause_of_rows BadListing asked old new bytes after begins listing why = (after, why.0, why.1, why.2, begins, why.3, why.4, why.5, why.6)
 cause_of_rows ListingsDisagree asked old new bytes after begins listing why = why
 cause_of_rows TooMany asked old new bytes after begins listing why = inr (after, why.0, why.1, why.2, begins, why.3, why.4, why.5, why.6)
 cause_of_rows TextTooLong asked old new bytes after begins listing why = absurd why

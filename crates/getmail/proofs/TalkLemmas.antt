@@ -1,7 +1,7 @@
 -- How the parts of a turn make a turn, and turns a conversation.
-use Rattle.std.proofs.Common.{◌≡◌, ◌≢◌, ◌⊎◌, inl, inr, ◌<◌, ◌≤◌, ◌+◌, ℕ, Bool, true, false, List, [], ◌∷◌, ◌++◌, length, take, drop, min, get_or, lit<, None, Some, Ok, Err, refl, sym, ap, subst, ◌∙◌, arith, append_assoc}
+use Rattle.std.proofs.Common.{◌≡◌, ◌≢◌, inl, inr, ◌<◌, ◌≤◌, ◌+◌, ℕ, false, List, [], ◌∷◌, ◌++◌, length, take, drop, min, get_or, lit<, None, Some, Err, refl, sym, ap, subst, ◌∙◌, arith, append_assoc}
 use Rattle.std.proofs.lemmas.List.{append-nil, take_all, length-take}
-use Rattle.std.specs.List.{flat_map, AllZip, AllByRecursion}
+use Rattle.std.specs.List.{flat_map, AllZip}
 use Rattle.pop3_wire.specs.Line.{crlf, IsLine, ended}
 use Rattle.pop3_wire.specs.Reply.{IsFirstLine, without_space}
 use Rattle.pop3_wire.specs.Body.{body_of}
@@ -16,7 +16,7 @@ use Rattle.getmail.specs.declared.fault.Asked.TheVariants.{Greeting, User, Pass,
 use Rattle.getmail.specs.declared.fault.Asked.TheVariants.{List as SizeList}
 use Rattle.getmail.specs.declared.fault.Fault.{Fault}
 use Rattle.getmail.specs.declared.fault.Fault.TheVariants.{ConnectionEnded, ReadFailed, WriteFailed, ReplyTooLong, BadReply, Refused, BadListing, ListingsDisagree, TooMany, TextTooLong, NoMemory}
-use Rattle.getmail.specs.Conversation.{Turn, Reply, Fits, has_body, IsBody, IsGood, asking, reply_bytes, line_limit, Opened, Talked, Cause, NoLineCause, IsOverlong, Begins, Takes, Heard, Broke, Stopped, Sent, TellsFew}
+use Rattle.getmail.specs.Conversation.{Turn, Reply, Fits, has_body, IsBody, IsGood, asking, reply_bytes, line_limit, IsShort, Opened, Talked, Cause, NoLineCause, Begins, Takes, Heard, Broke, Stopped, Sent, TellsFew}
 
 pub none_in_all : (limit : ℕ) (bytes : List ℕ) → HasNoLine limit bytes → length bytes < limit → IsLine bytes
 none_in_all limit bytes none short = subst IsLine (take_all limit bytes (omega arith)) none.none
@@ -53,6 +53,12 @@ cause_since NoMemory asked old said new bytes same why = why
 pub line_waits : (limit n : ℕ) (bytes : List ℕ) → HasLine limit bytes n → bytes ≡ ended (take n bytes) ++ drop (n + 2) bytes
 line_waits limit n bytes has = has.whole ∙ sym (append_assoc (take n bytes) crlf (drop (n + 2) bytes))
 
+pub line_short : (n : ℕ) (bytes : List ℕ) → HasLine line_limit bytes n → IsShort (take n bytes)
+line_short n bytes has =
+    let small : n + 2 ≤ line_limit = has.within in
+    let part : length (take n bytes) ≡ min n (length bytes) = length-take n bytes in
+    omega arith
+
 -- a turn was sent whole, and its first line taken
 pub opened : (turn : Turn) (old : Place) (said : Link) (mid : Place) (gained : List ℕ) (n : ℕ) (rest : List ℕ)
     → said ≡ record old.link { sent = old.link.sent ++ turn.bytes } → Gains (at said old.waiting) mid gained
@@ -67,7 +73,7 @@ opened turn old said mid gained n rest is gains has steady positive fits =
       got = gains.got ∙ ap (λ (l : Link). l.got ++ gained) is;
       heard = sym gains.waiting ∙ line_waits line_limit n mid.waiting has;
       is = has.line;
-      within = size;
+      short = line_short n mid.waiting has;
       positive = positive;
       fits = fits;
       steady = record {
@@ -75,12 +81,6 @@ opened turn old said mid gained n rest is gains has steady positive fits =
         failures = steady.failures ∙ ap (λ (l : Link). l.failures) is;
       };
     }
-  where
-    size : length (take n mid.waiting) + 2 ≤ line_limit
-    size =
-        let small : n + 2 ≤ line_limit = has.within in
-        let part : length (take n mid.waiting) ≡ min n (length mid.waiting) = length-take n mid.waiting in
-        omega arith
 
 -- what waits after a fault that is no refusal
 pub takes_other : (fault : Fault) (bytes waiting : List ℕ) → ((to : Asked) → fault ≡ Refused to → ⊥) → Takes fault bytes waiting
@@ -121,7 +121,7 @@ module _ (asked : Asked) (old mid : Place) (gained : List ℕ) (n : ℕ) (gains 
   heard_refused rest first = (
     gained,
     drew_of old mid gained gains,
-    (refl, (take n mid.waiting, drop (n + 2) mid.waiting, rest, has.line, came, first)),
+    (refl, (take n mid.waiting, drop (n + 2) mid.waiting, rest, has.line, line_short n mid.waiting has, came, first)),
     (take n mid.waiting, has.line, came),
   )
 
@@ -129,7 +129,7 @@ module _ (asked : Asked) (old mid : Place) (gained : List ℕ) (n : ℕ) (gains 
   heard_bad none = (
     gained,
     drew_of old mid gained gains,
-    (take n mid.waiting, drop (n + 2) mid.waiting, has.line, came, none Negative, λ rest first. absurd (none Positive rest first)),
+    (take n mid.waiting, drop (n + 2) mid.waiting, has.line, line_short n mid.waiting has, came, none Negative, λ rest first. absurd (none Positive rest first)),
     tt,
   )
 
@@ -171,26 +171,26 @@ pub same_rest : (line r rest : List ℕ) → IsFirstLine line Positive r → IsF
 same_rest line r rest first read = first.2 ∙ ap without_space (ap (drop 3) (sym first.1 ∙ read.1)) ∙ sym read.2
 
 -- why STAT's line isn't good
-pub few_cause : (fault : Fault) (old new : Link) (line after bytes : List ℕ) → IsLine line → bytes ≡ ended line ++ after
+pub few_cause : (fault : Fault) (old new : Link) (line after bytes : List ℕ) → IsLine line → IsShort line → bytes ≡ ended line ++ after
     → TellsFew line (Err fault) → Cause fault Stat old new bytes
-few_cause BadReply old new line after bytes is whole why = (line, after, is, whole, why.0, λ rest first. (refl, why.1 rest first))
-few_cause TooMany old new line after bytes is whole why = inl (refl, (line, after, why.0, why.1, why.2, is, whole, why.3, why.4, why.5))
-few_cause ConnectionEnded old new line after bytes is whole why = absurd why
-few_cause ReadFailed old new line after bytes is whole why = absurd why
-few_cause WriteFailed old new line after bytes is whole why = why
-few_cause ReplyTooLong old new line after bytes is whole why = absurd why
-few_cause (Refused to) old new line after bytes is whole why = absurd why
-few_cause BadListing old new line after bytes is whole why = absurd why
-few_cause ListingsDisagree old new line after bytes is whole why = why
-few_cause TextTooLong old new line after bytes is whole why = absurd why
-few_cause NoMemory old new line after bytes is whole why = absurd why
+few_cause BadReply old new line after bytes is short whole why = (line, after, is, short, whole, why.0, λ rest first. (refl, why.1 rest first))
+few_cause TooMany old new line after bytes is short whole why = inl (refl, (line, after, why.0, why.1, why.2, is, short, whole, why.3, why.4, why.5))
+few_cause ConnectionEnded old new line after bytes is short whole why = absurd why
+few_cause ReadFailed old new line after bytes is short whole why = absurd why
+few_cause WriteFailed old new line after bytes is short whole why = why
+few_cause ReplyTooLong old new line after bytes is short whole why = absurd why
+few_cause (Refused to) old new line after bytes is short whole why = absurd why
+few_cause BadListing old new line after bytes is short whole why = absurd why
+few_cause ListingsDisagree old new line after bytes is short whole why = why
+few_cause TextTooLong old new line after bytes is short whole why = absurd why
+few_cause NoMemory old new line after bytes is short whole why = absurd why
 
 pub few_heard : (fault : Fault) (said mid : Place) (gained : List ℕ) (n : ℕ) → Gains said mid gained → HasLine line_limit mid.waiting n
     → TellsFew (take n mid.waiting) (Err fault) → Heard Stat said (Err fault) mid
 few_heard fault said mid gained n gains has why = (
   gained,
   drew_of said mid gained gains,
-  few_cause fault said.link mid.link (take n mid.waiting) (drop (n + 2) mid.waiting) (said.waiting ++ gained) has.line
+  few_cause fault said.link mid.link (take n mid.waiting) (drop (n + 2) mid.waiting) (said.waiting ++ gained) has.line (line_short n mid.waiting has)
       (sym gains.waiting ∙ line_waits line_limit n mid.waiting has) why,
   takes_other fault (said.waiting ++ gained) mid.waiting (λ to is. subst (λ (f : Fault). TellsFew (take n mid.waiting) (Err f)) is why),
 )
@@ -238,7 +238,7 @@ talked_line turn line old new begun none = record {
   sent = begun.sent ∙ ap (λ (s : List ℕ). old.link.sent ++ s) (sym (append-nil turn.bytes));
   got = begun.got;
   heard = begun.heard ∙ ap (λ (s : List ℕ). s ++ new.waiting) (sym (append-nil (ended line ++ []) ∙ append-nil (ended line)));
-  good = (record { rest = begun.rest; line = begun.is; within = begun.within; positive = begun.positive; fits = begun.fits; body = none }, tt);
+  good = (record { rest = begun.rest; line = begun.is; short = begun.short; positive = begun.positive; fits = begun.fits; body = none }, tt);
   steady = begun.steady;
 }
 
@@ -253,7 +253,7 @@ talked_body turn line old mid new lines gained begun drew steady heard is = reco
   heard = heard_behind line old mid gained begun.gained begun.heard ∙ ap (λ (s : List ℕ). ended line ++ s) heard
       ∙ sym (append_assoc (ended line) (body_of lines) new.waiting)
       ∙ ap (λ (s : List ℕ). s ++ new.waiting) (sym (append-nil (ended line ++ body_of lines)));
-  good = (record { rest = begun.rest; line = begun.is; within = begun.within; positive = begun.positive; fits = begun.fits; body = is }, tt);
+  good = (record { rest = begun.rest; line = begun.is; short = begun.short; positive = begun.positive; fits = begun.fits; body = is }, tt);
   steady = goes_on old.link mid.link new.link begun.steady steady;
 }
   where
@@ -309,4 +309,4 @@ fits_other Quit rest other = tt
 
 -- a turn begins its reply
 pub begins_of : (turn : Turn) (line : List ℕ) (old mid : Place) (after : List ℕ) → Opened turn line old mid → Begins (ended line ++ after) after
-begins_of turn line old mid after begun = record { line = line; rest = begun.rest; is = begun.is; whole = refl; positive = begun.positive }
+begins_of turn line old mid after begun = record { line = line; rest = begun.rest; is = begun.is; short = begun.short; whole = refl; positive = begun.positive }

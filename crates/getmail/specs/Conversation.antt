@@ -40,6 +40,10 @@ line_limit = 2048
 abbrev pub text_limit : ℕ
 text_limit = 268435456
 
+-- with its CR LF a line stays within the limit
+abbrev pub IsShort : List ℕ → Type 0
+IsShort line = length line + 2 ≤ line_limit
+
 -- the most rows of a listing
 abbrev pub row_limit : ℕ
 row_limit = 100000
@@ -64,8 +68,8 @@ IsRow _ line = Unit {0}
 
 -- what the lines of a body have to be
 abbrev pub LinesFit : Asked → List (List ℕ) → Type 0
-LinesFit Uidl lines = (length lines ≤ row_limit) × AllByRecursion (IsRow Uidl) lines
-LinesFit SizeList lines = (length lines ≤ row_limit) × AllByRecursion (IsRow SizeList) lines
+LinesFit Uidl lines = (length lines ≤ row_limit) × AllByRecursion IsShort lines × AllByRecursion (IsRow Uidl) lines
+LinesFit SizeList lines = (length lines ≤ row_limit) × AllByRecursion IsShort lines × AllByRecursion (IsRow SizeList) lines
 LinesFit Retr lines = length (body_of lines) ≤ text_limit
 LinesFit _ lines = Unit {0}
 
@@ -78,7 +82,7 @@ IsBody asked (Some lines) = (has_body asked ≡ true) × AllByRecursion IsConten
 pub record IsGood (turn : Turn) (reply : Reply) : Type 0 where
   pub rest : List ℕ
   pub line : IsLine reply.first
-  pub within : length reply.first + 2 ≤ line_limit
+  pub short : IsShort reply.first
   pub positive : IsFirstLine reply.first Positive rest
   pub fits : Fits turn.asked rest
   pub body : IsBody turn.asked reply.body
@@ -104,7 +108,7 @@ pub record Opened (turn : Turn) (line : List ℕ) (old new : Place) : Type 0 whe
   pub got : new.link.got ≡ old.link.got ++ gained
   pub heard : old.waiting ++ gained ≡ ended line ++ new.waiting
   pub is : IsLine line
-  pub within : length line + 2 ≤ line_limit
+  pub short : IsShort line
   pub positive : IsFirstLine line Positive rest
   pub fits : Fits turn.asked rest
   pub steady : GoesOn old.link new.link
@@ -114,6 +118,7 @@ pub record Begins (bytes after : List ℕ) : Type 0 where
   pub line : List ℕ
   pub rest : List ℕ
   pub is : IsLine line
+  pub short : IsShort line
   pub whole : bytes ≡ ended line ++ after
   pub positive : IsFirstLine line Positive rest
 
@@ -127,6 +132,7 @@ IsListing _ = ⊥
 pub record HasRows (asked : Asked) (bytes after : List ℕ) (lines : List (List ℕ)) : Type 0 where
   pub listing : IsListing asked
   pub content : AllByRecursion IsContent lines
+  pub short : AllByRecursion IsShort lines
   pub rows : AllByRecursion (IsRow asked) lines
   pub few : length lines ≤ row_limit
   pub whole : bytes ≡ flat_map ended lines ++ after
@@ -153,18 +159,18 @@ Cause ReadFailed asked old new bytes = (old.failures < new.failures) × NotWhole
 Cause WriteFailed asked old new bytes = ⊥
 Cause ReplyTooLong asked old new bytes = IsOverlong bytes
     ⊎ ((after behind : List ℕ) × (lines : List (List ℕ)) × Begins bytes after × HasRows asked after behind lines × IsOverlong behind)
-Cause BadReply asked old new bytes = (line after : List ℕ) × IsLine line × (bytes ≡ ended line ++ after)
+Cause BadReply asked old new bytes = (line after : List ℕ) × IsLine line × IsShort line × (bytes ≡ ended line ++ after)
     × ((rest : List ℕ) → IsFirstLine line Negative rest → ⊥)
     × ((rest : List ℕ) → IsFirstLine line Positive rest → (asked ≡ Stat) × (IsOk (number_and_size rest) → ⊥))
-Cause (Refused to) asked old new bytes = (to ≡ asked) × ((line after rest : List ℕ) × IsLine line × (bytes ≡ ended line ++ after) × IsFirstLine line Negative rest)
+Cause (Refused to) asked old new bytes = (to ≡ asked) × ((line after rest : List ℕ) × IsLine line × IsShort line × (bytes ≡ ended line ++ after) × IsFirstLine line Negative rest)
 Cause BadListing asked old new bytes = (after behind row : List ℕ) × (lines : List (List ℕ)) × Begins bytes after
-    × HasRows asked after (ended row ++ behind) lines × IsContent row × (IsRow asked row → ⊥)
+    × HasRows asked after (ended row ++ behind) lines × IsContent row × IsShort row × (IsRow asked row → ⊥)
 Cause ListingsDisagree asked old new bytes = ⊥
 Cause TooMany asked old new bytes =
-    ((asked ≡ Stat) × ((line after rest : List ℕ) × (count size : ℕ) × IsLine line × (bytes ≡ ended line ++ after)
+    ((asked ≡ Stat) × ((line after rest : List ℕ) × (count size : ℕ) × IsLine line × IsShort line × (bytes ≡ ended line ++ after)
     × IsFirstLine line Positive rest × (number_and_size rest ≡ Ok (count, size)) × (1 < count)))
     ⊎ ((after behind row : List ℕ) × (lines : List (List ℕ)) × Begins bytes after
-    × HasRows asked after (ended row ++ behind) lines × (length lines ≡ row_limit) × IsContent row × (length row + 2 ≤ line_limit))
+    × HasRows asked after (ended row ++ behind) lines × (length lines ≡ row_limit) × IsContent row × IsShort row)
 Cause TextTooLong asked old new bytes = (asked ≡ Retr) × ((after : List ℕ) × Begins bytes after
     × HasNoBody (take text_limit after) × (text_limit ≤ length after))
 Cause NoMemory asked old new bytes = may_want asked ≡ true

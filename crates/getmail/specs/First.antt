@@ -1,6 +1,6 @@
 -- The small session: what it says, what it answers, and where it stops.
-use Rattle.std.specs.Prelude.{◌≡◌, ◌⊎◌, ℕ, List, [], ◌∷◌, ◌++◌, Option, None, Some, Result, Ok, Err, Vec}
-use Rattle.pop3_wire.specs.Body.{Body, body_of, text_of}
+use Rattle.std.specs.Prelude.{◌≡◌, ◌⊎◌, ℕ, List, [], ◌∷◌, Option, None, Some, Result, Ok, Err, Vec}
+use Rattle.pop3_wire.specs.Body.{Body}
 use Rattle.pop3_wire.specs.Link.{Link, Tallies}
 use Rattle.pop3_wire.specs.Place.{Place, at}
 use Rattle.getmail.specs.declared.fault.Fault.{Fault}

@@ -3,7 +3,7 @@ use Rattle.std.specs.Prelude.{Vec}
 use Rattle.pop3_wire.specs.Place.{at}
 use Rattle.getmail.specs.Conversation.{retr, quit}
 use Rattle.getmail.specs.First.{Closes, id_in}
-use Rattle.getmail.proofs.TalkLemmas.{talked_line, talked_on, stopped_first, stopped_next}
+use Rattle.getmail.proofs.TalkLemmas.{talked_line, talked_on, stopped_first}
 use Rattle.getmail.proofs.first.close.Goals as goal
 
 pub returns-in-Ok-clause-closes : goal.returns-in-Ok-clause-closes

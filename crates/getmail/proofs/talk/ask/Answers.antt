@@ -1,4 +1,4 @@
-use Rattle.std.proofs.Common.{◌+◌, List, ℕ, take, drop, sym, subst}
+use Rattle.std.proofs.Common.{List, ℕ, take, sym, subst}
 use Rattle.pop3_wire.specs.Place.{at}
 use Rattle.getmail.specs.Conversation.{Opened, turn_of}
 use Rattle.getmail.proofs.TalkLemmas.{opened, fits_other}

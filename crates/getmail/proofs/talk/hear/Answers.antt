@@ -1,4 +1,4 @@
-use Rattle.std.proofs.Common.{◌≡◌, ◌+◌, ◌++◌, List, ℕ, take, drop, refl, sym, ap, subst, Err}
+use Rattle.std.proofs.Common.{List, ℕ, take, sym, subst, Err}
 use Rattle.pop3_wire.specs.Place.{at}
 use Rattle.pop3_wire.specs.Reply.{IsFirstLine}
 use Rattle.pop3_wire.specs.declared.reply.Status.{Status}

@@ -1,4 +1,4 @@
-use Rattle.std.proofs.Common.{◌<◌, arith}
+use Rattle.std.proofs.Common.{arith}
 use Rattle.getmail.proofs.TalkLemmas.{none_in_all}
 use Rattle.getmail.proofs.talk.next_line.Goals as goal
 

@@ -1,5 +1,4 @@
-use Rattle.std.proofs.Common.{◌≡◌, ◌+◌, List, ℕ, take, drop, sym, subst, refl, Ok, Err}
-use Rattle.pop3_wire.specs.Line.{IsLine}
+use Rattle.std.proofs.Common.{List, ℕ, take, sym, subst, Ok, Err}
 use Rattle.pop3_wire.specs.Reply.{IsFirstLine}
 use Rattle.pop3_wire.specs.declared.reply.Status.TheVariants.{Positive}
 use Rattle.pop3_wire.specs.Place.{at}
