@@ -28,14 +28,14 @@ fetched line old mid new text begun read =
 pub fetch_ended : (line : List ℕ) (old mid new : Place) → Opened retr line old mid → ReadsBody text_limit mid (Err Ended) new → Broke retr old new ConnectionEnded
 fetch_ended line old mid new begun read =
     broke_behind retr line old mid new read.0 ConnectionEnded begun read.1
-    (read.2.2, inr (mid.waiting ++ read.0, begins_of retr line old mid (mid.waiting ++ read.0) begun, refl, read.2.0)) (λ bytes. tt)
+    (read.2.2, inr (mid.waiting ++ read.0, begins_of retr line old mid (mid.waiting ++ read.0) begun, (read.2.0, read.2.1))) (λ bytes. tt)
 
 pub fetch_failed : (line : List ℕ) (old mid new : Place) → Opened retr line old mid → ReadsBody text_limit mid (Err Failed) new → Broke retr old new ReadFailed
 fetch_failed line old mid new begun read =
     let risen : new.link.failures ≡ mid.link.failures + 1 = read.2.3 in
     let more : mid.link.failures < new.link.failures = omega arith in
     broke_behind retr line old mid new read.0 ReadFailed begun read.1
-    (more, inr (mid.waiting ++ read.0, begins_of retr line old mid (mid.waiting ++ read.0) begun, refl, read.2.0)) (λ bytes. tt)
+    (more, inr (mid.waiting ++ read.0, begins_of retr line old mid (mid.waiting ++ read.0) begun, (read.2.0, read.2.1))) (λ bytes. tt)
 
 pub fetch_too_long : (line : List ℕ) (old mid new : Place) → Opened retr line old mid → ReadsBody text_limit mid (Err TooLong) new → Broke retr old new TextTooLong
 fetch_too_long line old mid new begun read =

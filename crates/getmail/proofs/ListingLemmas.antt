@@ -4,18 +4,17 @@ use Rattle.std.proofs.lemmas.List.{append-nil}
 use Rattle.std.proofs.lemmas.Bool.{false≢true}
 use Rattle.std.proofs.lemmas.Grind.{flat_map-append}
 use Rattle.std.specs.List.{flat_map, AllZip, AllByRecursion}
-use Rattle.pop3_wire.specs.Line.{IsLine, ended}
-use Rattle.pop3_wire.specs.Body.{dot, IsContent, body_of, text_of, HasNoBody}
+use Rattle.pop3_wire.specs.Line.{ended}
+use Rattle.pop3_wire.specs.Body.{dot, IsContent, body_of}
 use Rattle.pop3_wire.specs.Link.{Link}
 use Rattle.pop3_wire.specs.Place.{Place, at, GoesOn, Gains}
 use Rattle.pop3_wire.specs.Bodies.{Drew}
-use Rattle.pop3_wire.proofs.BodyLemmas.{no_body}
 use Rattle.getmail.specs.declared.fault.Asked.{Asked}
 use Rattle.getmail.specs.declared.fault.Fault.{Fault}
 use Rattle.getmail.specs.declared.fault.Fault.TheVariants.{ConnectionEnded, ReadFailed, WriteFailed, ReplyTooLong, BadReply, Refused, BadListing, ListingsDisagree, TooMany, TextTooLong, NoMemory}
 use Rattle.getmail.specs.declared.fault.Asked.TheVariants.{Greeting, User, Pass, Stat, Uidl, Retr, Quit}
 use Rattle.getmail.specs.declared.fault.Asked.TheVariants.{List as SizeList}
-use Rattle.getmail.specs.Conversation.{has_body, may_want, IsRow, IsListing, IsShort, HasRows, Begins, Cause, row_limit}
+use Rattle.getmail.specs.Conversation.{has_body, may_want, IsRow, IsListing, IsShort, IsPartOfListing, IsPartOfBody, HasRows, Begins, Cause, row_limit}
 use Rattle.getmail.specs.Conversation.{Turn, Opened}
 use Rattle.getmail.proofs.TalkLemmas.{drew_of, talked_body, broke_behind, begins_of, takes_other}
 use Rattle.getmail.specs.Listing.{Lists, RowCause, RowsCause, TakesRows}
@@ -142,10 +141,6 @@ module _ {W R : Type 0} (sound : W → Type 0) (leads_to : W → W → Type 0) (
       has = subst (λ (l : List ℕ). HasRows asked l waits' now.lines) (append_assoc reader now.gained more)
           (subst (λ (l : List ℕ). HasRows asked ((reader ++ now.gained) ++ more) l now.lines) (sym behind) (has_more asked (reader ++ now.gained) waits more now.lines now.has))
 
-      none : IsLine waits' → HasNoBody (reader ++ (now.gained ++ more))
-      none line = no_body (reader ++ (now.gained ++ more)) waits' (text_of now.lines)
-          (record { lines = now.lines; content = has.content; whole = has.whole; read = refl }) line
-
       full : row_limit ≤ n → length now.lines ≡ row_limit
       full least =
           let same : length now.lines ≡ length rows = zip_length IsThisRow now.lines rows now.read in
@@ -153,8 +148,8 @@ module _ {W R : Type 0} (sound : W → Type 0) (leads_to : W → W → Type 0) (
           omega arith
 
       by : (f : Fault) → RowCause f n (seen b) c waits' → RowsCause f asked (seen a) c (reader ++ (now.gained ++ more))
-      by ConnectionEnded w = (w.0, none w.1)
-      by ReadFailed w = (subst (λ (k : ℕ). k < c.failures) steady.failures w.0, none w.1)
+      by ConnectionEnded w = (w.0, (waits', now.lines, has, w.1))
+      by ReadFailed w = (subst (λ (k : ℕ). k < c.failures) steady.failures w.0, (waits', now.lines, has, w.1))
       by WriteFailed w = w
       by ReplyTooLong w = (waits', now.lines, has, w)
       by BadReply w = absurd w
@@ -187,11 +182,21 @@ has_body_of_listing SizeList l = (refl, refl)
 has_body_of_listing Retr l = absurd l
 has_body_of_listing Quit l = absurd l
 
+part_of_body : (asked : Asked) (bytes : List ℕ) → IsListing asked → IsPartOfListing asked bytes → IsPartOfBody asked bytes
+part_of_body Greeting bytes l part = absurd l
+part_of_body User bytes l part = absurd l
+part_of_body Pass bytes l part = absurd l
+part_of_body Stat bytes l part = absurd l
+part_of_body Uidl bytes l part = part
+part_of_body SizeList bytes l part = part
+part_of_body Retr bytes l part = absurd l
+part_of_body Quit bytes l part = absurd l
+
 -- why a listing isn't good, told of its whole reply
 pub cause_of_rows : (fault : Fault) (asked : Asked) (old new : Link) (bytes after : List ℕ) → Begins bytes after → IsListing asked
     → RowsCause fault asked old new after → Cause fault asked old new bytes
-cause_of_rows ConnectionEnded asked old new bytes after begins listing why = (why.0, inr (after, begins, (has_body_of_listing asked listing).0, why.1))
-cause_of_rows ReadFailed asked old new bytes after begins listing why = (why.0, inr (after, begins, (has_body_of_listing asked listing).0, why.1))
+cause_of_rows ConnectionEnded asked old new bytes after begins listing why = (why.0, inr (after, begins, part_of_body asked after listing why.1))
+cause_of_rows ReadFailed asked old new bytes after begins listing why = (why.0, inr (after, begins, part_of_body asked after listing why.1))
 cause_of_rows WriteFailed asked old new bytes after begins listing why = why
 cause_of_rows ReplyTooLong asked old new bytes after begins listing why = inr (after, why.0, why.1, begins, why.2, why.3)
 cause_of_rows BadReply asked old new bytes after begins listing why = absurd why

@@ -91,7 +91,7 @@ pub record IsGood (turn : Turn) (reply : Reply) : Type 0 where
 abbrev pub asking : List Turn → List ℕ
 asking turns = flat_map (λ (turn : Turn). turn.bytes) turns
 
--- each of these was sent, and was answered by its reply, whole and good, before anything else was sent
+-- these were sent, and in order each was answered by its reply, whole and good; that none is sent before the reply to the one before it shows where turns stop (`Stopped`)
 pub record Talked (turns : List Turn) (replies : List Reply) (old new : Place) : Type 0 where
   pub gained : List ℕ
   pub sent : new.link.sent ≡ old.link.sent ++ asking turns
@@ -137,9 +137,24 @@ pub record HasRows (asked : Asked) (bytes after : List ℕ) (lines : List (List 
   pub few : length lines ≤ row_limit
   pub whole : bytes ≡ flat_map ended lines ++ after
 
--- no whole reply has come: no first line, or a positive one whose body isn't whole
+-- a line is under way, and may still end within the limit
+abbrev pub IsPartOfLine : List ℕ → Type 0
+IsPartOfLine bytes = IsLine bytes × (length bytes < line_limit)
+
+-- good rows of a listing, and a part of its next line
+abbrev pub IsPartOfListing : Asked → List ℕ → Type 0
+IsPartOfListing asked bytes = (behind : List ℕ) × (lines : List (List ℕ)) × HasRows asked bytes behind lines × IsPartOfLine behind
+
+-- a body is under way: all of it that has come is good, and it may still end within the limit
+abbrev pub IsPartOfBody : Asked → List ℕ → Type 0
+IsPartOfBody Uidl bytes = IsPartOfListing Uidl bytes
+IsPartOfBody SizeList bytes = IsPartOfListing SizeList bytes
+IsPartOfBody Retr bytes = HasNoBody bytes × (length bytes < text_limit)
+IsPartOfBody _ bytes = ⊥
+
+-- a reply is under way: its first line, or the body behind a positive one
 abbrev pub NotWhole : Asked → List ℕ → Type 0
-NotWhole asked bytes = IsLine bytes ⊎ ((after : List ℕ) × Begins bytes after × (has_body asked ≡ true) × HasNoBody after)
+NotWhole asked bytes = IsPartOfLine bytes ⊎ ((after : List ℕ) × Begins bytes after × IsPartOfBody asked after)
 
 -- where a line should stand, as many octets as its limit hold none
 abbrev pub IsOverlong : List ℕ → Type 0
@@ -177,8 +192,8 @@ Cause NoMemory asked old new bytes = may_want asked ≡ true
 
 -- why no line waits, where these octets wait
 abbrev pub NoLineCause : Fault → Link → Link → List ℕ → Type 0
-NoLineCause ConnectionEnded old new bytes = (new.ended ≡ true) × IsLine bytes
-NoLineCause ReadFailed old new bytes = (old.failures < new.failures) × IsLine bytes
+NoLineCause ConnectionEnded old new bytes = (new.ended ≡ true) × IsPartOfLine bytes
+NoLineCause ReadFailed old new bytes = (old.failures < new.failures) × IsPartOfLine bytes
 NoLineCause ReplyTooLong old new bytes = IsOverlong bytes
 NoLineCause _ old new bytes = ⊥
 

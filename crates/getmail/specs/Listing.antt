@@ -2,7 +2,7 @@
 use Rattle.std.specs.Prelude.{◌≡◌, ◌≢◌, ◌⊎◌, ◌<◌, ◌≤◌, ℕ, true, List, [], ◌∷◌, ◌++◌, length, take, map, Option, None, Some, Result, Ok, Err, Vec}
 use Rattle.std.specs.List.{AllByRecursion, AllZip}
 use Rattle.pop3_wire.specs.Line.{ended}
-use Rattle.pop3_wire.specs.Body.{IsContent, unstuffed, body_of, HasNoBody, dot}
+use Rattle.pop3_wire.specs.Body.{IsContent, unstuffed, body_of, dot}
 use Rattle.pop3_wire.specs.Fields.{number_and_size, number_and_id}
 use Rattle.pop3_wire.specs.Reply.{IsFirstLine}
 use Rattle.pop3_wire.specs.declared.reply.Status.TheVariants.{Positive}
@@ -14,7 +14,7 @@ use Rattle.getmail.specs.declared.fault.Fault.{Fault}
 use Rattle.getmail.specs.declared.fault.Fault.TheVariants.{ConnectionEnded, ReadFailed, ReplyTooLong, BadListing, TooMany, NoMemory}
 use Rattle.getmail.specs.declared.listing.UidRow.{UidRow}
 use Rattle.getmail.specs.declared.listing.ScanRow.{ScanRow}
-use Rattle.getmail.specs.Conversation.{IsRow, IsShort, LinesFit, HasRows, IsOverlong, NoLineCause, row_limit, line_limit, Reply, Turn, Talked, Broke}
+use Rattle.getmail.specs.Conversation.{IsRow, IsShort, IsPartOfListing, LinesFit, HasRows, IsOverlong, NoLineCause, row_limit, line_limit, Reply, Turn, Talked, Broke}
 
 -- the number and the id that a line of UIDL stands for, and the number and the size that a line of LIST stands for
 abbrev pub IsUidRow : List ℕ → ℕ × List ℕ → Type 0
@@ -56,8 +56,8 @@ NextRow rows old (Err fault) new = (gained : List ℕ) × Gains old new gained �
 
 -- why a listing isn't good, where these octets follow its first line
 abbrev pub RowsCause : Fault → Asked → Link → Link → List ℕ → Type 0
-RowsCause ConnectionEnded asked old new after = (new.ended ≡ true) × HasNoBody after
-RowsCause ReadFailed asked old new after = (old.failures < new.failures) × HasNoBody after
+RowsCause ConnectionEnded asked old new after = (new.ended ≡ true) × IsPartOfListing asked after
+RowsCause ReadFailed asked old new after = (old.failures < new.failures) × IsPartOfListing asked after
 RowsCause ReplyTooLong asked old new after = (behind : List ℕ) × (lines : List (List ℕ)) × HasRows asked after behind lines × IsOverlong behind
 RowsCause BadListing asked old new after = (behind row : List ℕ) × (lines : List (List ℕ))
     × HasRows asked after (ended row ++ behind) lines × IsContent row × IsShort row × (IsRow asked row → ⊥)
