@@ -17,9 +17,10 @@ sys.path.insert(0, str(ROOT / "tests"))
 
 @dataclass(frozen=True)
 class Cost:
-    """The wall time of one run in seconds and its peak of memory in octets."""
+    """The wall time of one run and its processor time in seconds, and its peak of memory in octets."""
 
     seconds: float
+    processor: float
     memory: int
 
 
@@ -45,7 +46,7 @@ def cost_of(words, given):
         seconds = time.perf_counter() - begun
     if os.waitstatus_to_exitcode(status) != 0:
         sys.exit(f"{' '.join(words)} over {given} ended with {os.waitstatus_to_exitcode(status)}")
-    return Cost(seconds, usage.ru_maxrss * 1024)
+    return Cost(seconds, usage.ru_utime + usage.ru_stime, usage.ru_maxrss * 1024)
 
 
 def verdict(reached):

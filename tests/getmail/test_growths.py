@@ -36,15 +36,16 @@ class RefusedGrowths(unittest.TestCase):
     def kind_of(run, answer):
         """How a run ended: with its own answer, cut for want of memory, or given up; None for anything else.
 
-        A run that is given up, since memory was wanting outside the conversation, wrote the beginning of what it would
-        have written otherwise.
+        A run that is given up, since memory was wanting outside the conversation, wrote the first lines of what it
+        would have written otherwise, each of them whole.
         """
         if run == answer:
             return "its own"
         cuts = cut_answers(answer)
         if run in [programs.Run(1, out, b"") for out in cuts]:
             return "cut"
-        begun = any(out.startswith(run.out) for out in (answer.out, *cuts))
+        whole = run.out == b"" or run.out.endswith(b"\n")
+        begun = whole and any(out.startswith(run.out) for out in (answer.out, *cuts))
         return "given up" if run == NO_WORDS or (begun and (run.status, run.err) == (1, b"")) else None
 
     def test_one_message(self):

@@ -1,18 +1,16 @@
 -- The parts of the small session, put together.
-use Rattle.std.proofs.Common.{◌≡◌, ◌⊎◌, inl, inr, ◌<◌, ◌≤◌, ◌+◌, ℕ, List, [], ◌∷◌, ◌++◌, length, take, map, Option, None, Some, Result, Ok, Err, IfOk, IfErr, refl, sym, ap, subst, ◌∙◌, arith}
+use Rattle.std.proofs.Common.{◌≡◌, inr, ◌<◌, ◌≤◌, ◌+◌, ℕ, List, [], ◌∷◌, ◌++◌, length, Option, None, Some, Result, Ok, Err, IfOk, IfErr, refl, ap, subst, ◌∙◌, arith}
 use Rattle.std.specs.Prelude.{Vec}
-use Rattle.pop3_wire.specs.Line.{ended}
 use Rattle.pop3_wire.specs.Body.{Body, body_of}
-use Rattle.pop3_wire.specs.Link.{Link}
-use Rattle.pop3_wire.specs.Place.{Place, at}
-use Rattle.pop3_wire.specs.Bodies.{Drew, BodyCause, TookBody, ReadsBody}
+use Rattle.pop3_wire.specs.Place.{Place}
+use Rattle.pop3_wire.specs.Bodies.{ReadsBody}
 use Rattle.pop3_wire.specs.declared.body_reader.BodyFault.TheVariants.{Ended, Failed, TooLong}
 use Rattle.getmail.specs.declared.fault.Fault.{Fault}
 use Rattle.getmail.specs.declared.fault.Fault.TheVariants.{ConnectionEnded, ReadFailed, TextTooLong, ListingsDisagree}
-use Rattle.getmail.specs.Conversation.{Turn, Reply, Talked, Opened, Broke, Stopped, Cause, Counts, text_limit, retr, quit, stat, uidl, list}
-use Rattle.getmail.specs.Listing.{IsJoined, Listed, TellsCount, HasListing, IsUidRow, IsScanRow, id_of}
-use Rattle.getmail.specs.First.{login, looking, closing, Fetches, Talks, Looks, Closes, Plans, HasText, id_in}
-use Rattle.getmail.proofs.TalkLemmas.{talked_body, talked_line, talked_on, broke_behind, begins_of, stopped_first, stopped_next}
+use Rattle.getmail.specs.Conversation.{Reply, Talked, Opened, Broke, Counts, text_limit, retr, stat}
+use Rattle.getmail.specs.Listing.{IsJoined, Listed, TellsCount, id_of}
+use Rattle.getmail.specs.First.{login, looking, Talks, Looks, Closes, Plans, HasText, id_in}
+use Rattle.getmail.proofs.TalkLemmas.{talked_body, talked_line, broke_behind, begins_of}
 
 -- the text was taken
 pub fetched : (line : List ℕ) (old mid new : Place) (text : List ℕ) → Opened retr line old mid → ReadsBody text_limit mid (Ok text) new
@@ -27,22 +25,22 @@ fetched line old mid new text begun read =
       subst (λ (b : List ℕ). Body b text) whole took.is,
     )
 
-pub fetch_ended : (line : List ℕ) (old mid new : Place) → Opened retr line old mid → ReadsBody text_limit mid (Err Ended) new → Broke retr old new.link ConnectionEnded
+pub fetch_ended : (line : List ℕ) (old mid new : Place) → Opened retr line old mid → ReadsBody text_limit mid (Err Ended) new → Broke retr old new ConnectionEnded
 fetch_ended line old mid new begun read =
-    broke_behind retr line old mid new.link read.0 ConnectionEnded begun read.1
-    (read.2.2, inr (mid.waiting ++ read.0, begins_of retr line old mid (mid.waiting ++ read.0) begun, refl, read.2.0))
+    broke_behind retr line old mid new read.0 ConnectionEnded begun read.1
+    (read.2.2, inr (mid.waiting ++ read.0, begins_of retr line old mid (mid.waiting ++ read.0) begun, (read.2.0, read.2.1))) (λ bytes. tt)
 
-pub fetch_failed : (line : List ℕ) (old mid new : Place) → Opened retr line old mid → ReadsBody text_limit mid (Err Failed) new → Broke retr old new.link ReadFailed
+pub fetch_failed : (line : List ℕ) (old mid new : Place) → Opened retr line old mid → ReadsBody text_limit mid (Err Failed) new → Broke retr old new ReadFailed
 fetch_failed line old mid new begun read =
     let risen : new.link.failures ≡ mid.link.failures + 1 = read.2.3 in
     let more : mid.link.failures < new.link.failures = omega arith in
-    broke_behind retr line old mid new.link read.0 ReadFailed begun read.1
-    (more, inr (mid.waiting ++ read.0, begins_of retr line old mid (mid.waiting ++ read.0) begun, refl, read.2.0))
+    broke_behind retr line old mid new read.0 ReadFailed begun read.1
+    (more, inr (mid.waiting ++ read.0, begins_of retr line old mid (mid.waiting ++ read.0) begun, (read.2.0, read.2.1))) (λ bytes. tt)
 
-pub fetch_too_long : (line : List ℕ) (old mid new : Place) → Opened retr line old mid → ReadsBody text_limit mid (Err TooLong) new → Broke retr old new.link TextTooLong
+pub fetch_too_long : (line : List ℕ) (old mid new : Place) → Opened retr line old mid → ReadsBody text_limit mid (Err TooLong) new → Broke retr old new TextTooLong
 fetch_too_long line old mid new begun read =
-    broke_behind retr line old mid new.link read.0 TextTooLong begun read.1
-    (refl, (mid.waiting ++ read.0, begins_of retr line old mid (mid.waiting ++ read.0) begun, read.2.0, read.2.1))
+    broke_behind retr line old mid new read.0 TextTooLong begun read.1
+    (refl, (mid.waiting ++ read.0, begins_of retr line old mid (mid.waiting ++ read.0) begun, read.2.0, read.2.1)) (λ bytes. tt)
 
 -- STAT's turn was talked
 pub counted : (old new : Place) (count : ℕ) → Counts stat old (Ok count) new → (reply : Reply) × Talked (stat ∷ []) (reply ∷ []) old new × TellsCount reply count

@@ -1,24 +1,23 @@
 -- Rows of a listing, taken one by one.
-use Rattle.std.proofs.Common.{◌≡◌, ◌≢◌, ◌⊎◌, inl, inr, ◌<◌, ◌≤◌, ◌+◌, ℕ, suc, true, List, [], ◌∷◌, ◌++◌, length, take, drop, map, None, Some, Result, Ok, Err, IsOk, is_ok, refl, sym, ap, subst, ◌∙◌, arith, append_assoc, length-append}
-use Rattle.std.proofs.lemmas.List.{append-nil, map_push}
+use Rattle.std.proofs.Common.{◌≡◌, inr, ◌<◌, ◌≤◌, ◌+◌, ℕ, suc, true, List, [], ◌∷◌, ◌++◌, length, Some, Result, Ok, Err, IsOk, is_ok, refl, sym, ap, subst, ◌∙◌, arith, append_assoc, length-append}
+use Rattle.std.proofs.lemmas.List.{append-nil}
 use Rattle.std.proofs.lemmas.Bool.{false≢true}
 use Rattle.std.proofs.lemmas.Grind.{flat_map-append}
 use Rattle.std.specs.List.{flat_map, AllZip, AllByRecursion}
-use Rattle.pop3_wire.specs.Line.{IsLine, ended}
-use Rattle.pop3_wire.specs.Body.{dot, IsContent, body_of, text_of, HasNoBody}
+use Rattle.pop3_wire.specs.Line.{ended}
+use Rattle.pop3_wire.specs.Body.{dot, IsContent, body_of}
 use Rattle.pop3_wire.specs.Link.{Link}
-use Rattle.pop3_wire.specs.Place.{Place, at, GoesOn, Gains, HasLine}
+use Rattle.pop3_wire.specs.Place.{Place, at, GoesOn, Gains}
 use Rattle.pop3_wire.specs.Bodies.{Drew}
-use Rattle.pop3_wire.proofs.BodyLemmas.{Reads, no_body}
 use Rattle.getmail.specs.declared.fault.Asked.{Asked}
 use Rattle.getmail.specs.declared.fault.Fault.{Fault}
 use Rattle.getmail.specs.declared.fault.Fault.TheVariants.{ConnectionEnded, ReadFailed, WriteFailed, ReplyTooLong, BadReply, Refused, BadListing, ListingsDisagree, TooMany, TextTooLong, NoMemory}
 use Rattle.getmail.specs.declared.fault.Asked.TheVariants.{Greeting, User, Pass, Stat, Uidl, Retr, Quit}
 use Rattle.getmail.specs.declared.fault.Asked.TheVariants.{List as SizeList}
-use Rattle.getmail.specs.Conversation.{has_body, may_want, IsRow, IsListing, HasRows, Begins, Cause, row_limit, line_limit}
+use Rattle.getmail.specs.Conversation.{has_body, may_want, IsRow, IsListing, IsShort, IsPartOfListing, IsPartOfBody, HasRows, Begins, Cause, row_limit}
 use Rattle.getmail.specs.Conversation.{Turn, Opened}
-use Rattle.getmail.proofs.TalkLemmas.{talked_body, broke_behind, begins_of}
-use Rattle.getmail.specs.Listing.{Lists, RowCause, NextRow, RowsCause, TookLines, TakesRows}
+use Rattle.getmail.proofs.TalkLemmas.{drew_of, talked_body, broke_behind, begins_of, takes_other}
+use Rattle.getmail.specs.Listing.{Lists, RowCause, RowsCause, TakesRows}
 
 -- some rows were taken: these lines, which stand for these rows, and the rest waits
 pub record InRows {W R : Type 0} (sound : W → Type 0) (leads_to : W → W → Type 0) (seen : W → Link) (asked : Asked) (IsThisRow : List ℕ → R → Type 0)
@@ -39,16 +38,14 @@ drew_on a b c g h first then =
 pub goes_on : (a b c : Link) → GoesOn a b → GoesOn b c → GoesOn a c
 goes_on a b c first then = record { ended = then.ended ∙ first.ended; failures = then.failures ∙ first.failures }
 
-pub drew_of : (old new : Place) (gained : List ℕ) → Gains old new gained → Drew old.link new.link gained
-drew_of old new gained gains = record { got = gains.got; sent = gains.sent }
-
 pub rows_none : (asked : Asked) (reader : List ℕ) → IsListing asked → HasRows asked (reader ++ []) reader []
-rows_none asked reader listing = record { listing = listing; content = tt; rows = tt; few = omega arith; whole = append-nil reader }
+rows_none asked reader listing = record { listing = listing; content = tt; short = tt; rows = tt; few = omega arith; whole = append-nil reader }
 
 has_more : (asked : Asked) (bytes waits more : List ℕ) (lines : List (List ℕ)) → HasRows asked bytes waits lines → HasRows asked (bytes ++ more) (waits ++ more) lines
 has_more asked bytes waits more lines has = record {
   listing = has.listing;
   content = has.content;
+  short = has.short;
   rows = has.rows;
   few = has.few;
   whole = ap (λ (l : List ℕ). l ++ more) has.whole ∙ append_assoc (flat_map ended lines) waits more;
@@ -99,15 +96,16 @@ module _ {W R : Type 0} (sound : W → Type 0) (leads_to : W → W → Type 0) (
   }
 
   -- one more row was taken
-  pub in_rows_push : (line after : List ℕ) (row : R) (rows' : List R) → waits ≡ ended line ++ after → IsContent line → IsRow asked line → IsThisRow line row
+  pub in_rows_push : (line after : List ℕ) (row : R) (rows' : List R) → waits ≡ ended line ++ after → IsContent line → IsShort line → IsRow asked line → IsThisRow line row
       → length rows < row_limit → rows' ≡ rows ++ row ∷ []
       → InRows sound leads_to seen asked IsThisRow a reader b after rows'
-  in_rows_push line after row rows' whole content good read few is = record {
+  in_rows_push line after row rows' whole content short good read few is = record {
     lines = now.lines ++ line ∷ [];
     gained = now.gained;
     has = record {
       listing = now.has.listing;
       content = all_push IsContent now.lines line now.has.content content;
+      short = all_push IsShort now.lines line now.has.short short;
       rows = all_push (IsRow asked) now.lines line now.has.rows good;
       few = size;
       whole = now.has.whole ∙ ap (λ (l : List ℕ). flat_map ended now.lines ++ l) whole ∙ more_whole;
@@ -128,10 +126,10 @@ module _ {W R : Type 0} (sound : W → Type 0) (leads_to : W → W → Type 0) (
           ∙ ap (λ (l : List ℕ). l ++ after) (sym (flat_map-append ended now.lines (line ∷ [])))
 
   -- a row was bad
-  pub rows_bad : (line after : List ℕ) → waits ≡ ended line ++ after → IsContent line → (IsRow asked line → ⊥)
+  pub rows_bad : (line after : List ℕ) → waits ≡ ended line ++ after → IsContent line → IsShort line → (IsRow asked line → ⊥)
       → RowsCause BadListing asked (seen a) (seen b) (reader ++ now.gained)
-  rows_bad line after whole content bad =
-      (after, line, now.lines, subst (λ (l : List ℕ). HasRows asked (reader ++ now.gained) l now.lines) whole now.has, content, bad)
+  rows_bad line after whole content short bad =
+      (after, line, now.lines, subst (λ (l : List ℕ). HasRows asked (reader ++ now.gained) l now.lines) whole now.has, content, short, bad)
 
   -- neither a row nor the end mark came
   pub rows_cause : (fault : Fault) (n : ℕ) (c : Link) (waits' more : List ℕ) → n ≡ length rows
@@ -143,10 +141,6 @@ module _ {W R : Type 0} (sound : W → Type 0) (leads_to : W → W → Type 0) (
       has = subst (λ (l : List ℕ). HasRows asked l waits' now.lines) (append_assoc reader now.gained more)
           (subst (λ (l : List ℕ). HasRows asked ((reader ++ now.gained) ++ more) l now.lines) (sym behind) (has_more asked (reader ++ now.gained) waits more now.lines now.has))
 
-      none : IsLine waits' → HasNoBody (reader ++ (now.gained ++ more))
-      none line = no_body (reader ++ (now.gained ++ more)) waits' (text_of now.lines)
-          (record { lines = now.lines; content = has.content; whole = has.whole; read = refl }) line
-
       full : row_limit ≤ n → length now.lines ≡ row_limit
       full least =
           let same : length now.lines ≡ length rows = zip_length IsThisRow now.lines rows now.read in
@@ -154,8 +148,8 @@ module _ {W R : Type 0} (sound : W → Type 0) (leads_to : W → W → Type 0) (
           omega arith
 
       by : (f : Fault) → RowCause f n (seen b) c waits' → RowsCause f asked (seen a) c (reader ++ (now.gained ++ more))
-      by ConnectionEnded w = (w.0, none w.1)
-      by ReadFailed w = (subst (λ (k : ℕ). k < c.failures) steady.failures w.0, none w.1)
+      by ConnectionEnded w = (w.0, (waits', now.lines, has, w.1))
+      by ReadFailed w = (subst (λ (k : ℕ). k < c.failures) steady.failures w.0, (waits', now.lines, has, w.1))
       by WriteFailed w = w
       by ReplyTooLong w = (waits', now.lines, has, w)
       by BadReply w = absurd w
@@ -188,16 +182,26 @@ has_body_of_listing SizeList l = (refl, refl)
 has_body_of_listing Retr l = absurd l
 has_body_of_listing Quit l = absurd l
 
+part_of_body : (asked : Asked) (bytes : List ℕ) → IsListing asked → IsPartOfListing asked bytes → IsPartOfBody asked bytes
+part_of_body Greeting bytes l part = absurd l
+part_of_body User bytes l part = absurd l
+part_of_body Pass bytes l part = absurd l
+part_of_body Stat bytes l part = absurd l
+part_of_body Uidl bytes l part = part
+part_of_body SizeList bytes l part = part
+part_of_body Retr bytes l part = absurd l
+part_of_body Quit bytes l part = absurd l
+
 -- why a listing isn't good, told of its whole reply
 pub cause_of_rows : (fault : Fault) (asked : Asked) (old new : Link) (bytes after : List ℕ) → Begins bytes after → IsListing asked
     → RowsCause fault asked old new after → Cause fault asked old new bytes
-cause_of_rows ConnectionEnded asked old new bytes after begins listing why = (why.0, inr (after, begins, (has_body_of_listing asked listing).0, why.1))
-cause_of_rows ReadFailed asked old new bytes after begins listing why = (why.0, inr (after, begins, (has_body_of_listing asked listing).0, why.1))
+cause_of_rows ConnectionEnded asked old new bytes after begins listing why = (why.0, inr (after, begins, part_of_body asked after listing why.1))
+cause_of_rows ReadFailed asked old new bytes after begins listing why = (why.0, inr (after, begins, part_of_body asked after listing why.1))
 cause_of_rows WriteFailed asked old new bytes after begins listing why = why
 cause_of_rows ReplyTooLong asked old new bytes after begins listing why = inr (after, why.0, why.1, begins, why.2, why.3)
 cause_of_rows BadReply asked old new bytes after begins listing why = absurd why
 cause_of_rows (Refused to) asked old new bytes after begins listing why = absurd why
-cause_of_rows BadListing asked old new bytes after begins listing why = (after, why.0, why.1, why.2, begins, why.3, why.4, why.5)
+cause_of_rows BadListing asked old new bytes after begins listing why = (after, why.0, why.1, why.2, begins, why.3, why.4, why.5, why.6)
 cause_of_rows ListingsDisagree asked old new bytes after begins listing why = why
 cause_of_rows TooMany asked old new bytes after begins listing why = inr (after, why.0, why.1, why.2, begins, why.3, why.4, why.5, why.6)
 cause_of_rows TextTooLong asked old new bytes after begins listing why = absurd why
@@ -213,6 +217,8 @@ lists_of turn IsThisRow line old mid new (Ok rows) begun listing takes = (
   (takes.0, refl, takes.2),
 )
 lists_of turn IsThisRow line old mid new (Err fault) begun listing takes =
-    broke_behind turn line old mid new.link takes.0 fault begun takes.1
+    broke_behind turn line old mid new takes.0 fault begun takes.1
     (cause_of_rows fault turn.asked mid.link new.link (ended line ++ (mid.waiting ++ takes.0)) (mid.waiting ++ takes.0)
     (begins_of turn line old mid (mid.waiting ++ takes.0) begun) listing takes.2)
+    (λ bytes. takes_other fault bytes new.waiting
+    (λ to is. subst (λ (f : Fault). RowsCause f turn.asked mid.link new.link (mid.waiting ++ takes.0)) is takes.2))

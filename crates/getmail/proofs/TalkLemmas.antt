@@ -1,7 +1,7 @@
 -- How the parts of a turn make a turn, and turns a conversation.
-use Rattle.std.proofs.Common.{◌≡◌, ◌≢◌, ◌⊎◌, inl, inr, ◌<◌, ◌≤◌, ◌+◌, ℕ, Bool, true, false, List, [], ◌∷◌, ◌++◌, length, take, drop, min, get_or, lit<, None, Some, Ok, Err, refl, sym, ap, subst, ◌∙◌, arith, append_assoc}
+use Rattle.std.proofs.Common.{◌≡◌, ◌≢◌, inl, inr, ◌<◌, ◌≤◌, ◌+◌, ℕ, false, List, [], ◌∷◌, ◌++◌, length, take, drop, min, get_or, lit<, None, Some, Err, refl, sym, ap, subst, ◌∙◌, arith, append_assoc}
 use Rattle.std.proofs.lemmas.List.{append-nil, take_all, length-take}
-use Rattle.std.specs.List.{flat_map, AllZip, AllByRecursion}
+use Rattle.std.specs.List.{flat_map, AllZip}
 use Rattle.pop3_wire.specs.Line.{crlf, IsLine, ended}
 use Rattle.pop3_wire.specs.Reply.{IsFirstLine, without_space}
 use Rattle.pop3_wire.specs.Body.{body_of}
@@ -16,7 +16,7 @@ use Rattle.getmail.specs.declared.fault.Asked.TheVariants.{Greeting, User, Pass,
 use Rattle.getmail.specs.declared.fault.Asked.TheVariants.{List as SizeList}
 use Rattle.getmail.specs.declared.fault.Fault.{Fault}
 use Rattle.getmail.specs.declared.fault.Fault.TheVariants.{ConnectionEnded, ReadFailed, WriteFailed, ReplyTooLong, BadReply, Refused, BadListing, ListingsDisagree, TooMany, TextTooLong, NoMemory}
-use Rattle.getmail.specs.Conversation.{Turn, Reply, Fits, has_body, IsBody, IsGood, asking, reply_bytes, line_limit, Opened, Talked, Cause, NoLineCause, IsOverlong, Begins, Broke, Stopped, Sent, TellsFew}
+use Rattle.getmail.specs.Conversation.{Turn, Reply, Fits, has_body, IsBody, IsGood, asking, reply_bytes, line_limit, IsShort, Opened, Talked, Cause, NoLineCause, Begins, Takes, Heard, Broke, Stopped, Sent, TellsFew}
 
 pub none_in_all : (limit : ℕ) (bytes : List ℕ) → HasNoLine limit bytes → length bytes < limit → IsLine bytes
 none_in_all limit bytes none short = subst IsLine (take_all limit bytes (omega arith)) none.none
@@ -53,6 +53,12 @@ cause_since NoMemory asked old said new bytes same why = why
 pub line_waits : (limit n : ℕ) (bytes : List ℕ) → HasLine limit bytes n → bytes ≡ ended (take n bytes) ++ drop (n + 2) bytes
 line_waits limit n bytes has = has.whole ∙ sym (append_assoc (take n bytes) crlf (drop (n + 2) bytes))
 
+pub line_short : (n : ℕ) (bytes : List ℕ) → HasLine line_limit bytes n → IsShort (take n bytes)
+line_short n bytes has =
+    let small : n + 2 ≤ line_limit = has.within in
+    let part : length (take n bytes) ≡ min n (length bytes) = length-take n bytes in
+    omega arith
+
 -- a turn was sent whole, and its first line taken
 pub opened : (turn : Turn) (old : Place) (said : Link) (mid : Place) (gained : List ℕ) (n : ℕ) (rest : List ℕ)
     → said ≡ record old.link { sent = old.link.sent ++ turn.bytes } → Gains (at said old.waiting) mid gained
@@ -67,7 +73,7 @@ opened turn old said mid gained n rest is gains has steady positive fits =
       got = gains.got ∙ ap (λ (l : Link). l.got ++ gained) is;
       heard = sym gains.waiting ∙ line_waits line_limit n mid.waiting has;
       is = has.line;
-      within = size;
+      short = line_short n mid.waiting has;
       positive = positive;
       fits = fits;
       steady = record {
@@ -75,24 +81,68 @@ opened turn old said mid gained n rest is gains has steady positive fits =
         failures = steady.failures ∙ ap (λ (l : Link). l.failures) is;
       };
     }
-  where
-    size : length (take n mid.waiting) + 2 ≤ line_limit
-    size =
-        let small : n + 2 ≤ line_limit = has.within in
-        let part : length (take n mid.waiting) ≡ min n (length mid.waiting) = length-take n mid.waiting in
-        omega arith
+
+-- what waits after a fault that is no refusal
+pub takes_other : (fault : Fault) (bytes waiting : List ℕ) → ((to : Asked) → fault ≡ Refused to → ⊥) → Takes fault bytes waiting
+takes_other ConnectionEnded bytes waiting other = tt
+takes_other ReadFailed bytes waiting other = tt
+takes_other WriteFailed bytes waiting other = tt
+takes_other ReplyTooLong bytes waiting other = tt
+takes_other BadReply bytes waiting other = tt
+takes_other (Refused to) bytes waiting other = absurd (other to refl)
+takes_other BadListing bytes waiting other = tt
+takes_other ListingsDisagree bytes waiting other = tt
+takes_other TooMany bytes waiting other = tt
+takes_other TextTooLong bytes waiting other = tt
+takes_other NoMemory bytes waiting other = tt
+
+pub drew_of : (old new : Place) (gained : List ℕ) → Gains old new gained → Drew old.link new.link gained
+drew_of old new gained gains = record { got = gains.got; sent = gains.sent }
+
+-- no line came
+pub heard_none : (fault : Fault) (asked : Asked) (old new : Place) (gained : List ℕ) → Gains old new gained
+    → NoLineCause fault old.link new.link new.waiting → Heard asked old (Err fault) new
+heard_none fault asked old new gained gains why =
+    let here = subst (NoLineCause fault old.link new.link) gains.waiting why in (
+      gained,
+      drew_of old new gained gains,
+      no_line_no_reply fault asked old.link new.link (old.waiting ++ gained) here,
+      takes_other fault (old.waiting ++ gained) new.waiting
+          (λ to is. subst (λ (f : Fault). NoLineCause f old.link new.link (old.waiting ++ gained)) is here),
+    )
+
+-- a line came
+module _ (asked : Asked) (old mid : Place) (gained : List ℕ) (n : ℕ) (gains : Gains old mid gained) (has : HasLine line_limit mid.waiting n) where
+  came : old.waiting ++ gained ≡ ended (take n mid.waiting) ++ drop (n + 2) mid.waiting
+  came = sym gains.waiting ∙ line_waits line_limit n mid.waiting has
+
+  pub heard_refused : (rest : List ℕ) → IsFirstLine (take n mid.waiting) Negative rest
+      → Heard asked old (Err (Refused asked)) (at mid.link (drop (n + 2) mid.waiting))
+  heard_refused rest first = (
+    gained,
+    drew_of old mid gained gains,
+    (refl, (take n mid.waiting, drop (n + 2) mid.waiting, rest, has.line, line_short n mid.waiting has, came, first)),
+    (take n mid.waiting, has.line, came),
+  )
+
+  pub heard_bad : ((status : Status) (rest : List ℕ) → IsFirstLine (take n mid.waiting) status rest → ⊥) → Heard asked old (Err BadReply) mid
+  heard_bad none = (
+    gained,
+    drew_of old mid gained gains,
+    (take n mid.waiting, drop (n + 2) mid.waiting, has.line, line_short n mid.waiting has, came, none Negative, λ rest first. absurd (none Positive rest first)),
+    tt,
+  )
 
 -- a turn was sent whole, and its reply isn't good
-pub broke_there : (turn : Turn) (old : Place) (said : Link) (mid : Place) (gained : List ℕ) (fault : Fault)
-    → said ≡ record old.link { sent = old.link.sent ++ turn.bytes } → Gains (at said old.waiting) mid gained
-    → Cause fault turn.asked said mid.link mid.waiting → Broke turn old mid.link fault
-broke_there turn old said mid gained fault is gains why =
+pub broke_there : (turn : Turn) (old : Place) (said : Link) (new : Place) (fault : Fault)
+    → said ≡ record old.link { sent = old.link.sent ++ turn.bytes } → Heard turn.asked (at said old.waiting) (Err fault) new → Broke turn old new fault
+broke_there turn old said new fault is heard =
     inr (
-      gained,
-      gains.sent ∙ ap (λ (l : Link). l.sent) is,
-      gains.got ∙ ap (λ (l : Link). l.got ++ gained) is,
-      cause_since fault turn.asked old.link said mid.link (old.waiting ++ gained) (ap (λ (l : Link). l.failures) is)
-          (subst (Cause fault turn.asked said mid.link) gains.waiting why),
+      heard.0,
+      heard.1.sent ∙ ap (λ (l : Link). l.sent) is,
+      heard.1.got ∙ ap (λ (l : Link). l.got ++ heard.0) is,
+      cause_since fault turn.asked old.link said new.link (old.waiting ++ heard.0) (ap (λ (l : Link). l.failures) is) heard.2,
+      heard.3,
     )
 
 -- nothing is sent for the greeting
@@ -100,10 +150,10 @@ pub nothing_said : (link : Link) → link ≡ record link { sent = link.sent ++ 
 nothing_said link = ap (λ (s : List ℕ). record link { sent = s }) (sym (append-nil link.sent))
 
 -- a turn wasn't sent whole
-pub broke_saying : (turn : Turn) (old : Place) (new : Link) (fault : Fault) → Sent turn.bytes old.link (Err fault) new → Broke turn old new fault
+pub broke_saying : (turn : Turn) (old new : Place) (fault : Fault) → Sent turn.bytes old.link (Err fault) new.link → Broke turn old new fault
 broke_saying turn old new fault said =
     let is = said.1.3 in
-    let risen : new.failures ≡ old.link.failures + 1 = ap (λ (l : Link). l.failures) is in
+    let risen : new.link.failures ≡ old.link.failures + 1 = ap (λ (l : Link). l.failures) is in
     inl (said.0, omega arith, ap (λ (l : Link). l.got) is, (said.1.0, said.1.1, said.1.2, ap (λ (l : Link). l.sent) is))
 
 heads_apart : (x y : ℕ) → x < y → (a b : List ℕ) → x ∷ a ≡ y ∷ b → ⊥
@@ -121,19 +171,29 @@ pub same_rest : (line r rest : List ℕ) → IsFirstLine line Positive r → IsF
 same_rest line r rest first read = first.2 ∙ ap without_space (ap (drop 3) (sym first.1 ∙ read.1)) ∙ sym read.2
 
 -- why STAT's line isn't good
-pub few_cause : (fault : Fault) (old new : Link) (line after bytes : List ℕ) → IsLine line → bytes ≡ ended line ++ after
+pub few_cause : (fault : Fault) (old new : Link) (line after bytes : List ℕ) → IsLine line → IsShort line → bytes ≡ ended line ++ after
     → TellsFew line (Err fault) → Cause fault Stat old new bytes
-few_cause BadReply old new line after bytes is whole why = (line, after, is, whole, why.0, λ rest first. (refl, why.1 rest first))
-few_cause TooMany old new line after bytes is whole why = inl (refl, (line, after, why.0, why.1, why.2, is, whole, why.3, why.4, why.5))
-few_cause ConnectionEnded old new line after bytes is whole why = absurd why
-few_cause ReadFailed old new line after bytes is whole why = absurd why
-few_cause WriteFailed old new line after bytes is whole why = why
-few_cause ReplyTooLong old new line after bytes is whole why = absurd why
-few_cause (Refused to) old new line after bytes is whole why = absurd why
-few_cause BadListing old new line after bytes is whole why = absurd why
-few_cause ListingsDisagree old new line after bytes is whole why = why
-few_cause TextTooLong old new line after bytes is whole why = absurd why
-few_cause NoMemory old new line after bytes is whole why = absurd why
+few_cause BadReply old new line after bytes is short whole why = (line, after, is, short, whole, why.0, λ rest first. (refl, why.1 rest first))
+few_cause TooMany old new line after bytes is short whole why = inl (refl, (line, after, why.0, why.1, why.2, is, short, whole, why.3, why.4, why.5))
+few_cause ConnectionEnded old new line after bytes is short whole why = absurd why
+few_cause ReadFailed old new line after bytes is short whole why = absurd why
+few_cause WriteFailed old new line after bytes is short whole why = why
+few_cause ReplyTooLong old new line after bytes is short whole why = absurd why
+few_cause (Refused to) old new line after bytes is short whole why = absurd why
+few_cause BadListing old new line after bytes is short whole why = absurd why
+few_cause ListingsDisagree old new line after bytes is short whole why = why
+few_cause TextTooLong old new line after bytes is short whole why = absurd why
+few_cause NoMemory old new line after bytes is short whole why = absurd why
+
+pub few_heard : (fault : Fault) (said mid : Place) (gained : List ℕ) (n : ℕ) → Gains said mid gained → HasLine line_limit mid.waiting n
+    → TellsFew (take n mid.waiting) (Err fault) → Heard Stat said (Err fault) mid
+few_heard fault said mid gained n gains has why = (
+  gained,
+  drew_of said mid gained gains,
+  few_cause fault said.link mid.link (take n mid.waiting) (drop (n + 2) mid.waiting) (said.waiting ++ gained) has.line (line_short n mid.waiting has)
+      (sym gains.waiting ∙ line_waits line_limit n mid.waiting has) why,
+  takes_other fault (said.waiting ++ gained) mid.waiting (λ to is. subst (λ (f : Fault). TellsFew (take n mid.waiting) (Err f)) is why),
+)
 
 -- ---- turns in a row
 
@@ -178,7 +238,7 @@ talked_line turn line old new begun none = record {
   sent = begun.sent ∙ ap (λ (s : List ℕ). old.link.sent ++ s) (sym (append-nil turn.bytes));
   got = begun.got;
   heard = begun.heard ∙ ap (λ (s : List ℕ). s ++ new.waiting) (sym (append-nil (ended line ++ []) ∙ append-nil (ended line)));
-  good = (record { rest = begun.rest; line = begun.is; within = begun.within; positive = begun.positive; fits = begun.fits; body = none }, tt);
+  good = (record { rest = begun.rest; line = begun.is; short = begun.short; positive = begun.positive; fits = begun.fits; body = none }, tt);
   steady = begun.steady;
 }
 
@@ -193,7 +253,7 @@ talked_body turn line old mid new lines gained begun drew steady heard is = reco
   heard = heard_behind line old mid gained begun.gained begun.heard ∙ ap (λ (s : List ℕ). ended line ++ s) heard
       ∙ sym (append_assoc (ended line) (body_of lines) new.waiting)
       ∙ ap (λ (s : List ℕ). s ++ new.waiting) (sym (append-nil (ended line ++ body_of lines)));
-  good = (record { rest = begun.rest; line = begun.is; within = begun.within; positive = begun.positive; fits = begun.fits; body = is }, tt);
+  good = (record { rest = begun.rest; line = begun.is; short = begun.short; positive = begun.positive; fits = begun.fits; body = is }, tt);
   steady = goes_on old.link mid.link new.link begun.steady steady;
 }
   where
@@ -203,25 +263,27 @@ talked_body turn line old mid new lines gained begun drew steady heard is = reco
         sym (append_assoc old.waiting first gained) ∙ ap (λ (s : List ℕ). s ++ gained) e ∙ append_assoc (ended line) mid.waiting gained
 
 -- a turn whose first line is good broke behind it
-pub broke_behind : (turn : Turn) (line : List ℕ) (old mid : Place) (new : Link) (gained : List ℕ) (fault : Fault) → Opened turn line old mid
-    → Drew mid.link new gained → Cause fault turn.asked mid.link new (ended line ++ (mid.waiting ++ gained)) → Broke turn old new fault
-broke_behind turn line old mid new gained fault begun drew why =
+pub broke_behind : (turn : Turn) (line : List ℕ) (old mid new : Place) (gained : List ℕ) (fault : Fault) → Opened turn line old mid
+    → Drew mid.link new.link gained → Cause fault turn.asked mid.link new.link (ended line ++ (mid.waiting ++ gained))
+    → ((bytes : List ℕ) → Takes fault bytes new.waiting) → Broke turn old new fault
+broke_behind turn line old mid new gained fault begun drew why takes =
     inr (
       begun.gained ++ gained,
       drew.sent ∙ begun.sent,
       drew.got ∙ ap (λ (s : List ℕ). s ++ gained) begun.got ∙ append_assoc old.link.got begun.gained gained,
-      cause_since fault turn.asked old.link mid.link new (old.waiting ++ (begun.gained ++ gained)) begun.steady.failures
-          (subst (Cause fault turn.asked mid.link new) (sym heard) why),
+      cause_since fault turn.asked old.link mid.link new.link (old.waiting ++ (begun.gained ++ gained)) begun.steady.failures
+          (subst (Cause fault turn.asked mid.link new.link) (sym heard) why),
+      takes (old.waiting ++ (begun.gained ++ gained)),
     )
   where
     heard : old.waiting ++ (begun.gained ++ gained) ≡ ended line ++ (mid.waiting ++ gained)
     heard = sym (append_assoc old.waiting begun.gained gained) ∙ ap (λ (s : List ℕ). s ++ gained) begun.heard ∙ append_assoc (ended line) mid.waiting gained
 
-pub stopped_first : (turn : Turn) (turns : List Turn) (old : Place) (new : Link) (fault : Fault) → Broke turn old new fault → Stopped (turn ∷ turns) old new fault
+pub stopped_first : (turn : Turn) (turns : List Turn) (old new : Place) (fault : Fault) → Broke turn old new fault → Stopped (turn ∷ turns) old new fault
 stopped_first turn turns old new fault broke =
     record { done = []; replies = []; next = turn; later = turns; mid = old; split = refl; talked = talked_none old; broke = broke }
 
-pub stopped_next : (turn : Turn) (turns : List Turn) (reply : Reply) (a b : Place) (new : Link) (fault : Fault)
+pub stopped_next : (turn : Turn) (turns : List Turn) (reply : Reply) (a b new : Place) (fault : Fault)
     → Talked (turn ∷ []) (reply ∷ []) a b → Stopped turns b new fault → Stopped (turn ∷ turns) a new fault
 stopped_next turn turns reply a b new fault first then = record {
   done = turn ∷ then.done;
@@ -247,4 +309,4 @@ fits_other Quit rest other = tt
 
 -- a turn begins its reply
 pub begins_of : (turn : Turn) (line : List ℕ) (old mid : Place) (after : List ℕ) → Opened turn line old mid → Begins (ended line ++ after) after
-begins_of turn line old mid after begun = record { line = line; rest = begun.rest; is = begun.is; whole = refl; positive = begun.positive }
+begins_of turn line old mid after begun = record { line = line; rest = begun.rest; is = begun.is; short = begun.short; whole = refl; positive = begun.positive }

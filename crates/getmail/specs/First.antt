@@ -1,12 +1,12 @@
 -- The small session: what it says, what it answers, and where it stops.
-use Rattle.std.specs.Prelude.{◌≡◌, ◌⊎◌, ℕ, List, [], ◌∷◌, ◌++◌, Option, None, Some, Result, Ok, Err, Vec}
-use Rattle.pop3_wire.specs.Body.{Body, body_of, text_of}
-use Rattle.pop3_wire.specs.Link.{Link}
+use Rattle.std.specs.Prelude.{◌≡◌, ◌⊎◌, ℕ, List, [], ◌∷◌, Option, None, Some, Result, Ok, Err, Vec}
+use Rattle.pop3_wire.specs.Body.{Body}
+use Rattle.pop3_wire.specs.Link.{Link, Tallies}
 use Rattle.pop3_wire.specs.Place.{Place, at}
 use Rattle.getmail.specs.declared.fault.Fault.{Fault}
 use Rattle.getmail.specs.declared.fault.Fault.TheVariants.{ListingsDisagree}
 use Rattle.getmail.specs.Fault.{number_of}
-use Rattle.getmail.specs.Conversation.{Turn, Reply, Talked, Stopped, Broke, Left, body_bytes, greeting, user, pass, stat, uidl, list, retr, quit}
+use Rattle.getmail.specs.Conversation.{Turn, Reply, Talked, Stopped, Broke, Left, LeavesCount, refusal, body_bytes, greeting, user, pass, stat, uidl, list, retr, quit}
 use Rattle.getmail.specs.Listing.{Joins, Disagrees}
 
 -- logging in, asking what is there, and the end: with one message it is fetched first
@@ -27,17 +27,17 @@ HasText reply text = Body (body_bytes reply.body) text
 -- a text was asked for and taken, or its turn broke
 abbrev pub Fetches : Turn → Place → Result (List ℕ) Fault → Place → Type 0
 Fetches turn old (Ok text) new = (reply : Reply) × Talked (turn ∷ []) (reply ∷ []) old new × HasText reply text
-Fetches turn old (Err fault) new = Broke turn old new.link fault
+Fetches turn old (Err fault) new = Broke turn old new fault
 
 -- these turns were talked, or the conversation stopped at one of them
 abbrev pub Talks : List Turn → Place → Result (Unit {0}) Fault → Place → Type 0
 Talks turns old (Ok done) new = (replies : List Reply) × Talked turns replies old new
-Talks turns old (Err fault) new = Stopped turns old new.link fault
+Talks turns old (Err fault) new = Stopped turns old new fault
 
 -- it was asked what is there, and the replies agree; or it stopped, or they disagree
 abbrev pub Looks : Place → Result (Option (List ℕ)) Fault → Place → Type 0
 Looks old (Ok first) new = (s u l : Reply) × Talked looking (s ∷ u ∷ l ∷ []) old new × Joins s u l first
-Looks old (Err fault) new = Stopped looking old new.link fault
+Looks old (Err fault) new = Stopped looking old new fault
     ⊎ ((fault ≡ ListingsDisagree) × ((s u l : Reply) × Talked looking (s ∷ u ∷ l ∷ []) old new × Disagrees s u l))
 
 -- the end was said: with one message, its text was fetched
@@ -47,8 +47,8 @@ Closes None old (Ok (Some found)) new = ⊥
 Closes (Some id) old (Ok None) new = ⊥
 Closes (Some id) old (Ok (Some found)) new = (found.0 ≡ id)
     × ((r q : Reply) × Talked (closing (Some id)) (r ∷ q ∷ []) old new × HasText r found.1)
-Closes None old (Err fault) new = Stopped (closing None) old new.link fault
-Closes (Some id) old (Err fault) new = Stopped (closing (Some id)) old new.link fault
+Closes None old (Err fault) new = Stopped (closing None) old new fault
+Closes (Some id) old (Err fault) new = Stopped (closing (Some id)) old new fault
 
 -- all was said and answered well, in three parts, each from where the one before ended; or the part where it stopped
 abbrev pub Plans : Place → Result (Option (List ℕ × List ℕ)) Fault → Place → Type 0
@@ -57,10 +57,17 @@ Plans old (Err fault) new = Talks login old (Err fault) new
     ⊎ (((mid : Place) × Talks login old (Ok tt) mid × Looks mid (Err fault) new)
     ⊎ ((mid then : Place) × (first : Option (List ℕ)) × Talks login old (Ok tt) mid × Looks mid (Ok first) then × Closes first then (Err fault) new))
 
--- the whole session: its plan, or a part of it, a fault with its cause and its number, and the tail
+-- the whole session: its plan, or a part of it, a fault with its cause and its number, and what follows it
 abbrev pub Session : Link → Result (Option (List ℕ × List ℕ)) ℕ → Link → Type 0
 Session old (Ok found) new = (waiting : List ℕ) × Plans (at old []) (Ok found) (at new waiting)
-Session old (Err number) new = (fault : Fault) × (mid : Place) × (number_of fault ≡ number) × Plans (at old []) (Err fault) mid × Left fault mid.link new
+Session old (Err number) new = (fault : Fault) × (mid : Place) × (waiting : List ℕ) × (number_of fault ≡ number)
+    × Plans (at old []) (Err fault) mid × Left fault mid (at new waiting)
+
+-- none is counted in a session that ends; in one that is cut, the refusal that cut it is, and one of QUIT's turn after a refused command
+abbrev pub SessionCount : {A : Type 0} → ℕ → Result A ℕ → ℕ → Type 0
+SessionCount old (Ok found) new = new ≡ old
+SessionCount old (Err number) new = (fault : Fault) × (mid : ℕ) × (number_of fault ≡ number)
+    × Tallies old (refusal fault) mid × LeavesCount fault mid new
 
 -- the id and the text that a call gave
 abbrev pub found_of : {Z Y E : Type 0} → Result (Option (Vec ℕ Z × Vec ℕ Y)) E → Result (Option (List ℕ × List ℕ)) E

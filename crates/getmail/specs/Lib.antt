@@ -2,3 +2,4 @@ pub mod Conversation
 pub mod Fault
 pub mod First
 pub mod Listing
+pub mod Rehearsal

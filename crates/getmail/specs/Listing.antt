@@ -1,8 +1,8 @@
 -- The rows of listings, and how two listings are joined with STAT's count (RFC 1939, sections 5 and 7).
-use Rattle.std.specs.Prelude.{◌≡◌, ◌≢◌, ◌⊎◌, ◌+◌, ◌<◌, ◌≤◌, ℕ, true, List, [], ◌∷◌, ◌++◌, length, take, map, Option, None, Some, Result, Ok, Err, Vec}
-use Rattle.std.specs.List.{flat_map, AllByRecursion, AllZip}
-use Rattle.pop3_wire.specs.Line.{IsLine, ended}
-use Rattle.pop3_wire.specs.Body.{IsContent, unstuffed, body_of, text_of, HasNoBody, dot}
+use Rattle.std.specs.Prelude.{◌≡◌, ◌≢◌, ◌⊎◌, ◌<◌, ◌≤◌, ℕ, true, List, [], ◌∷◌, ◌++◌, length, take, map, Option, None, Some, Result, Ok, Err, Vec}
+use Rattle.std.specs.List.{AllByRecursion, AllZip}
+use Rattle.pop3_wire.specs.Line.{ended}
+use Rattle.pop3_wire.specs.Body.{IsContent, unstuffed, body_of, dot}
 use Rattle.pop3_wire.specs.Fields.{number_and_size, number_and_id}
 use Rattle.pop3_wire.specs.Reply.{IsFirstLine}
 use Rattle.pop3_wire.specs.declared.reply.Status.TheVariants.{Positive}
@@ -11,10 +11,10 @@ use Rattle.pop3_wire.specs.Place.{Place, GoesOn, Gains, HasLine}
 use Rattle.pop3_wire.specs.Bodies.{Drew}
 use Rattle.getmail.specs.declared.fault.Asked.{Asked}
 use Rattle.getmail.specs.declared.fault.Fault.{Fault}
-use Rattle.getmail.specs.declared.fault.Fault.TheVariants.{ConnectionEnded, ReadFailed, WriteFailed, ReplyTooLong, BadReply, Refused, BadListing, ListingsDisagree, TooMany, TextTooLong, NoMemory}
+use Rattle.getmail.specs.declared.fault.Fault.TheVariants.{ConnectionEnded, ReadFailed, ReplyTooLong, BadListing, TooMany, NoMemory}
 use Rattle.getmail.specs.declared.listing.UidRow.{UidRow}
 use Rattle.getmail.specs.declared.listing.ScanRow.{ScanRow}
-use Rattle.getmail.specs.Conversation.{IsRow, LinesFit, HasRows, IsOverlong, NoLineCause, row_limit, line_limit, Reply, Turn, Talked, Broke}
+use Rattle.getmail.specs.Conversation.{IsRow, IsShort, IsPartOfListing, LinesFit, HasRows, IsOverlong, NoLineCause, row_limit, line_limit, Reply, Turn, Talked, Broke}
 
 -- the number and the id that a line of UIDL stands for, and the number and the size that a line of LIST stands for
 abbrev pub IsUidRow : List ℕ → ℕ × List ℕ → Type 0
@@ -43,7 +43,7 @@ abbrev pub RowCause : Fault → ℕ → Link → Link → List ℕ → Type 0
 RowCause ConnectionEnded rows old new bytes = NoLineCause ConnectionEnded old new bytes
 RowCause ReadFailed rows old new bytes = NoLineCause ReadFailed old new bytes
 RowCause ReplyTooLong rows old new bytes = IsOverlong bytes
-RowCause TooMany rows old new bytes = (row behind : List ℕ) × (row_limit ≤ rows) × IsContent row × (length row + 2 ≤ line_limit) × (bytes ≡ ended row ++ behind)
+RowCause TooMany rows old new bytes = (row behind : List ℕ) × (row_limit ≤ rows) × IsContent row × IsShort row × (bytes ≡ ended row ++ behind)
 RowCause _ rows old new bytes = ⊥
 
 -- a row waits, or the end mark was taken, or why neither
@@ -56,13 +56,13 @@ NextRow rows old (Err fault) new = (gained : List ℕ) × Gains old new gained �
 
 -- why a listing isn't good, where these octets follow its first line
 abbrev pub RowsCause : Fault → Asked → Link → Link → List ℕ → Type 0
-RowsCause ConnectionEnded asked old new after = (new.ended ≡ true) × HasNoBody after
-RowsCause ReadFailed asked old new after = (old.failures < new.failures) × HasNoBody after
+RowsCause ConnectionEnded asked old new after = (new.ended ≡ true) × IsPartOfListing asked after
+RowsCause ReadFailed asked old new after = (old.failures < new.failures) × IsPartOfListing asked after
 RowsCause ReplyTooLong asked old new after = (behind : List ℕ) × (lines : List (List ℕ)) × HasRows asked after behind lines × IsOverlong behind
 RowsCause BadListing asked old new after = (behind row : List ℕ) × (lines : List (List ℕ))
-    × HasRows asked after (ended row ++ behind) lines × IsContent row × (IsRow asked row → ⊥)
+    × HasRows asked after (ended row ++ behind) lines × IsContent row × IsShort row × (IsRow asked row → ⊥)
 RowsCause TooMany asked old new after = (behind row : List ℕ) × (lines : List (List ℕ))
-    × HasRows asked after (ended row ++ behind) lines × (length lines ≡ row_limit) × IsContent row × (length row + 2 ≤ line_limit)
+    × HasRows asked after (ended row ++ behind) lines × (length lines ≡ row_limit) × IsContent row × IsShort row
 RowsCause NoMemory asked old new after = Unit {0}
 RowsCause _ asked old new after = ⊥
 
@@ -88,7 +88,7 @@ HasListing IsThisRow reply rows = (lines : List (List ℕ)) × (reply.body ≡ S
 -- a listing was asked for and taken, or its turn broke
 abbrev pub Lists : {R : Type 0} → Turn → (List ℕ → R → Type 0) → Place → Result (List R) Fault → Place → Type 0
 Lists turn IsThisRow old (Ok rows) new = (reply : Reply) × Talked (turn ∷ []) (reply ∷ []) old new × HasListing IsThisRow reply rows
-Lists turn IsThisRow old (Err fault) new = Broke turn old new.link fault
+Lists turn IsThisRow old (Err fault) new = Broke turn old new fault
 
 -- the sizes are those of the messages from 1 to the count, of which there is one at most
 abbrev pub SizesFit : ℕ → List (ℕ × ℕ) → Type 0

@@ -5,7 +5,7 @@ ghost use Rattle.pop3_wire.specs.Link.{Tallies};
 ghost use Rattle.pop3_wire.specs.Place.{at};
 ghost use Rattle.getmail.specs.Conversation.{refusal_of, retr};
 ghost use Rattle.getmail.specs.Listing.{IsJoined, SizesFit, uid_pair, scan_pair, id_of};
-ghost use Rattle.getmail.specs.First.{login, Fetches, Talks, Looks, Closes, Plans, Session, found_of, id_in};
+ghost use Rattle.getmail.specs.First.{login, Fetches, Talks, Looks, Closes, Plans, Session, SessionCount, found_of, id_in};
 
 use crate::fault::{Asked, Fault, fault_number};
 use crate::listing::{ScanRow, UidRow, list, uidl};
@@ -160,6 +160,7 @@ fn planned<W: Wire>(
 /// One session of user `u` with password `p` over a maildrop of at most one message: its id and its
 /// text, or None where the maildrop is empty. A fault is its number: 1 to 10, or 13.
 pub fn fetch_first<W: Wire>(alloc: Global, wire: &mut W) -> Result<Option<(Vec<u8>, Vec<u8>)>, u8>
+    ensures counted { SessionCount (W.seen wire.old).failures result (W.seen wire.new).failures }
     ensures session { W.sound wire.new → W.sound wire.old × W.leads_to wire.old wire.new
         × Session (W.seen wire.old) (found_of result) (W.seen wire.new) }
 {

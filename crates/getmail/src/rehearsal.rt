@@ -1,16 +1,40 @@
 //! The rehearsal: a session whose server is a recorded conversation.
+ghost use Rattle.std.specs.Prelude.{◌≡◌, ◌≤◌, ◌++◌, IfOk, codes};
+ghost use Rattle.std.specs.Fmt.{decimal};
+ghost use Rattle.getmail.specs.First.{found_of};
+ghost use Rattle.getmail.specs.Rehearsal.{outcome_lines};
+
 use crate::first::fetch_first;
 use crate::transcript::Transcript;
 use pop3_wire::StreamWire;
-use std::alloc::Global;
+use std::alloc::{AllocError, Global};
 use std::io;
 use std::io::{Read, Write};
 use std::vec::Vec;
 
-/// Writes a decimal number.
-fn write_number<W: Write>(alloc: Global, output: &mut W, number: u64) -> io::Result<()> {
-    let text = format!(in alloc; "{number}")?;
-    output.write_all(text.as_bytes())
+/// The lines on a session that stored a text of so many octets and ended.
+fn stored_lines(alloc: Global, uid: &[u8], length: usize) -> Result<Vec<u8>, AllocError>
+    ensures { IfOk result (λ text. text.items ≡ codes "stored " ++ (uid.now ++ (codes " " ++ (decimal length ++ codes "\nended\n")))) }
+{
+    let rest = format!(in alloc; " {length}\nended\n")?;
+    let mut text = Vec::from_slice(alloc, b"stored ")?;
+    text.extend_from_slice(uid)?;
+    text.extend_from_slice(rest.as_bytes())?;
+    Ok(text)
+}
+
+/// The lines on what became of a session: whole, or none of them where memory is wanting.
+fn lines_on(
+    alloc: Global,
+    outcome: &Result<Option<(Vec<u8>, Vec<u8>)>, u8>,
+) -> Result<Vec<u8>, AllocError>
+    ensures { IfOk result (λ text. text.items ≡ outcome_lines (found_of outcome.now)) }
+{
+    match outcome {
+        Ok(None) => Vec::from_slice(alloc, b"ended\n"),
+        Ok(Some((uid, text))) => stored_lines(alloc, uid, text.len()),
+        Err(number) => Ok(format!(in alloc; "cut {number}\n")?.into_bytes()),
+    }
 }
 
 /// Writes what became of a session.
@@ -19,28 +43,18 @@ fn write_outcome<W: Write>(
     output: &mut W,
     outcome: &Result<Option<(Vec<u8>, Vec<u8>)>, u8>,
 ) -> io::Result<()> {
-    match outcome {
-        Ok(None) => output.write_all(b"ended\n")?,
-        Ok(Some((uid, text))) => {
-            output.write_all(b"stored ")?;
-            output.write_all(uid)?;
-            output.write_all(b" ")?;
-            write_number(alloc, output, text.len() as u64)?;
-            output.write_all(b"\nended\n")?;
-        }
-        Err(number) => {
-            output.write_all(b"cut ")?;
-            write_number(alloc, output, u64::from(*number))?;
-            output.write_all(b"\n")?;
-        }
-    }
+    let lines = lines_on(alloc, outcome)?;
+    output.write_all(&lines)?;
     output.flush()
 }
 
 /// Rehearses a session: `input` is the server, and `output` is shown each command as it is sent,
 /// then the id and the length of the text that was fetched, and how the session ended. It answers
-/// the status: 0 where the session ended, 1 where it was cut or `output` failed.
-pub fn rehearse<R: Read + Drop, W: Write + Drop>(alloc: Global, input: R, output: W) -> u8 {
+/// the status: 0 where the session ended, 1 where it was cut or `output` failed, or where memory is
+/// wanting for the last lines, of which then nothing is written.
+pub fn rehearse<R: Read + Drop, W: Write + Drop>(alloc: Global, input: R, output: W) -> u8
+    ensures { result ≤ 1 }
+{
     let mut wire = StreamWire::new(input, Transcript::new(output));
     let outcome = fetch_first(alloc, &mut wire);
     let (_input, transcript) = wire.into_parts();

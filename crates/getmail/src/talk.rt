@@ -5,7 +5,7 @@ ghost use Rattle.pop3_wire.specs.Link.{Tallies};
 ghost use Rattle.pop3_wire.specs.Place.{at, Gains, GoesOn, HasLine};
 ghost use Rattle.pop3_wire.specs.Reply.{IsFirstLine};
 ghost use Rattle.pop3_wire.specs.Fields.{number_and_size};
-ghost use Rattle.getmail.specs.Conversation.{Waits, Heard, Sent, Asks, Counts, Left, turn_of, greeting, stat, tail, refusal_of, TellsFew};
+ghost use Rattle.getmail.specs.Conversation.{Waits, Heard, Sent, Asks, Counts, Left, LeavesCount, turn_of, greeting, stat, refusal_of, TellsFew};
 
 use crate::fault::{Asked, Fault};
 use pop3_wire::{LineFault, LineReader, Status, Wire, read_stat, read_status};
@@ -38,13 +38,13 @@ fn say<W: Wire>(wire: &mut W, bytes: &[u8]) -> Result<(), Fault>
     }
 }
 
-/// Waits for a positive first line, and says how long it is. It still waits then.
+/// Waits for a positive first line, and says how long it is. It still waits then. A negative one is
+/// a whole reply, and is taken.
 fn hear<W: Wire>(wire: &mut W, reader: &mut LineReader, asked: Asked) -> Result<usize, Fault>
     ensures counted { Tallies (W.seen wire.old).failures (refusal_of result) (W.seen wire.new).failures }
     ensures line { IfOk result (HasLine 2048 reader.new) }
     ensures positive { IfOk result (λ n. (rest : List ℕ) × IsFirstLine (take n reader.new) Status.Positive rest) }
     ensures heard { W.sound wire.new → W.sound wire.old × W.leads_to wire.old wire.new
-        × ((gained : List ℕ) × Gains (at (W.seen wire.old) reader.old) (at (W.seen wire.new) reader.new) gained)
         × Heard asked (at (W.seen wire.old) reader.old) result (at (W.seen wire.new) reader.new) }
 {
     let length = match next_line(wire, reader) {
@@ -53,7 +53,10 @@ fn hear<W: Wire>(wire: &mut W, reader: &mut LineReader, asked: Asked) -> Result<
     };
     match read_status(&reader.waiting()[..length]) {
         Ok((Status::Positive, _)) => Ok(length),
-        Ok((Status::Negative, _)) => Err(Fault::Refused(asked)),
+        Ok((Status::Negative, _)) => {
+            reader.skip(length + 2);
+            Err(Fault::Refused(asked))
+        }
         Err(_) => Err(Fault::BadReply),
     }
 }
@@ -137,31 +140,18 @@ pub fn stat<W: Wire>(wire: &mut W, reader: &mut LineReader) -> Result<u32, Fault
     }
 }
 
-/// What is sent after a fault: QUIT where a command was refused, but for QUIT itself.
-fn tail_of(fault: Fault) -> &'static [u8]
-    ensures { result.now ≡ tail fault }
+/// Leaves after a fault: after a refused command QUIT is said and its reply taken, whatever it is.
+/// After a refused QUIT and after any other fault the link is left alone.
+pub fn leave<W: Wire>(wire: &mut W, reader: &mut LineReader, fault: Fault)
+    ensures counted { LeavesCount fault (W.seen wire.old).failures (W.seen wire.new).failures }
+    ensures left { W.sound wire.new → W.sound wire.old × W.leads_to wire.old wire.new
+        × Left fault (at (W.seen wire.old) reader.old) (at (W.seen wire.new) reader.new) }
 {
     match fault {
-        Fault::Refused(Asked::Quit) => b"",
-        Fault::Refused(_) => b"QUIT\r\n",
-        _ => b"",
-    }
-}
-
-/// Leaves after a fault: what follows it is sent, and one line of the reply to it is read.
-pub fn leave<W: Wire>(wire: &mut W, reader: &mut LineReader, fault: Fault)
-    ensures left { W.sound wire.new → W.sound wire.old × W.leads_to wire.old wire.new
-        × Left fault (W.seen wire.old) (W.seen wire.new) }
-{
-    let tail = tail_of(fault);
-    if tail.is_empty() {
-        return;
-    }
-    // The refused reply still waits; the one to QUIT stands behind it.
-    if let Some(length) = reader.line_end(2048) {
-        reader.skip(length + 2);
-    }
-    if say(wire, tail).is_ok() {
-        let _ = reader.line(wire, 2048);
+        Fault::Refused(Asked::Quit) => {}
+        Fault::Refused(_) => {
+            let _ = ask(wire, reader, Asked::Quit, b"QUIT\r\n");
+        }
+        _ => {}
     }
 }

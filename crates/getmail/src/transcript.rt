@@ -1,4 +1,7 @@
 //! What a rehearsal shows of the commands that it sends.
+ghost use Rattle.std.specs.Prelude.{◌≡◌};
+ghost use Rattle.getmail.specs.Rehearsal.{shown_of};
+
 use std::io;
 use std::io::Write;
 
@@ -9,25 +12,35 @@ pub struct Transcript<W> {
     writer: W,
 }
 
+/// A command as it is shown: PASS without its argument.
+fn shown(command: &[u8]) -> &[u8]
+    ensures { result.now ≡ shown_of command.now }
+{
+    if command.starts_with(b"PASS ") {
+        return b"PASS *";
+    }
+    command
+}
+
 /// Writes a command's line as it is shown.
 fn show<W: Write>(writer: &mut W, command: &[u8]) -> io::Result<()> {
     writer.write_all(b"C: ")?;
-    if command.starts_with(b"PASS ") {
-        writer.write_all(b"PASS *")?;
-    } else {
-        writer.write_all(command)?;
-    }
+    writer.write_all(shown(command))?;
     writer.write_all(b"\n")
 }
 
 impl<W: Write> Transcript<W> {
     /// Shows commands on a writer.
-    pub fn new(writer: W) -> Transcript<W> {
+    pub fn new(writer: W) -> Transcript<W>
+        ensures { result.writer ≡ writer }
+    {
         Transcript { writer }
     }
 
     /// The writer, given back.
-    pub fn into_inner(self) -> W {
+    pub fn into_inner(self) -> W
+        ensures { result ≡ self.writer }
+    {
         let Transcript { writer } = self;
         writer
     }

@@ -3,7 +3,7 @@ use Rattle.std.specs.Prelude.{Vec}
 use Rattle.pop3_wire.specs.Place.{at}
 use Rattle.getmail.specs.Conversation.{retr, quit}
 use Rattle.getmail.specs.First.{Closes, id_in}
-use Rattle.getmail.proofs.TalkLemmas.{talked_line, talked_on, stopped_first, stopped_next}
+use Rattle.getmail.proofs.TalkLemmas.{talked_line, talked_on, stopped_first}
 use Rattle.getmail.proofs.first.close.Goals as goal
 
 pub returns-in-Ok-clause-closes : goal.returns-in-Ok-clause-closes
@@ -18,7 +18,7 @@ returns-in-Err-clause-closes g c sound =
     let asks = c.in-Err.ensures.asks sound in
     let old = at (g.W.Wire.seen c.args.wire.now) c.args.reader.now in
     let new = at (g.W.Wire.seen c.ask.new.wire) c.ask.new.reader in
-    (asks.0, asks.1, subst (λ (f : Option (Vec ℕ _)). Closes (id_in f) old (Err c.in-Err.fault) new) (sym c.in_default.is) (stopped_first quit [] old new.link c.in-Err.fault asks.2))
+    (asks.0, asks.1, subst (λ (f : Option (Vec ℕ _)). Closes (id_in f) old (Err c.in-Err.fault) new) (sym c.in_default.is) (stopped_first quit [] old new c.in-Err.fault asks.2))
 
 pub returns-in-Err-fetch-clause-closes : goal.returns-in-Err-fetch-clause-closes
 returns-in-Err-fetch-clause-closes g c sound =
@@ -28,7 +28,7 @@ returns-in-Err-fetch-clause-closes g c sound =
       fetches.0,
       fetches.1,
       subst (λ (f : Option (Vec ℕ _)). Closes (id_in f) old (Err c.in-Err-fetch.fault) new) (sym c.in-Some.is)
-          (stopped_first retr (quit ∷ []) old new.link c.in-Err-fetch.fault fetches.2),
+          (stopped_first retr (quit ∷ []) old new c.in-Err-fetch.fault fetches.2),
     )
 
 pub returns-in-Ok-ask-clause-closes : goal.returns-in-Ok-ask-clause-closes

@@ -1,7 +1,6 @@
-use Rattle.std.proofs.Common.{◌∷◌, [], refl, None}
+use Rattle.std.proofs.Common.{◌∷◌, [], refl}
 use Rattle.pop3_wire.specs.Place.{at}
-use Rattle.getmail.specs.Conversation.{Reply, greeting, user, pass}
-use Rattle.getmail.specs.First.{login}
+use Rattle.getmail.specs.Conversation.{greeting, user, pass}
 use Rattle.getmail.proofs.TalkLemmas.{talked_line, talked_on, stopped_first, stopped_next}
 use Rattle.getmail.proofs.first.log_in.Goals as goal
 

@@ -1,4 +1,4 @@
-use Rattle.std.proofs.Common.{◌≡◌, ◌≢◌, ◌<◌, ◌+◌, ◌++◌, ◌∷◌, ◌∙◌, ◌⊎◌, [], inl, inr, ℕ, List, length, take, drop, map, refl, sym, ap, subst, arith, Ok}
+use Rattle.std.proofs.Common.{◌≡◌, ◌<◌, ◌+◌, ◌++◌, ◌∙◌, [], inl, inr, ℕ, List, length, take, drop, map, refl, sym, ap, subst, arith}
 use Rattle.std.proofs.lemmas.List.{append-nil, map_push, length-map}
 use Rattle.std.specs.List.{AllZip}
 use Rattle.getmail.specs.declared.fault.Asked.TheVariants.{Uidl}
@@ -7,10 +7,9 @@ use Rattle.pop3_wire.specs.Body.{unstuffed}
 use Rattle.pop3_wire.specs.Fields.{number_and_id}
 use Rattle.getmail.specs.declared.fault.Fault.{Fault}
 use Rattle.getmail.specs.declared.fault.Fault.TheVariants.{BadListing}
-use Rattle.getmail.specs.Conversation.{row_limit}
 use Rattle.getmail.specs.Listing.{IsUidRow, uid_pair, RowsCause}
-use Rattle.getmail.proofs.TalkLemmas.{line_waits}
-use Rattle.getmail.proofs.ListingLemmas.{InRows, rows_none, drew_on, drew_of, in_rows_on, in_rows_push, rows_bad, rows_cause, rows_end, ok_gives, is_ok_of}
+use Rattle.getmail.proofs.TalkLemmas.{drew_of, line_short, line_waits}
+use Rattle.getmail.proofs.ListingLemmas.{InRows, rows_none, drew_on, in_rows_on, in_rows_push, rows_bad, rows_cause, rows_end, ok_gives, is_ok_of}
 use Rattle.getmail.proofs.listing.uid_rows.Goals as goal
 
 pub rows-init : goal.rows-init
@@ -50,7 +49,7 @@ returns-in-Err-uid_row-clause-takes g c sound =
     (c.rows.invariant.1 next.0) c.next_row.new.wire w next.2.0 next.1 next.2.1 next.2.2 in
     let bad : ((row : ℕ × List ℕ) → IsUidRow (take n c.waiting.result.now) row → ⊥) → RowsCause BadListing Uidl (g.W.Wire.seen c.args.wire.now) (g.W.Wire.seen c.next_row.new.wire) (c.args.reader.now ++ now.gained) =
     λ unread. rows_bad g.W.Wire.sound g.W.Wire.leads_to g.W.Wire.seen g.met.W.Wire.leads_on Uidl IsUidRow c.args.wire.now c.args.reader.now c.next_row.new.wire w (map uid_pair c.rows.rows.items) now
-    (take n w) (drop (n + 2) w) (line_waits 2048 n w next.2.3) (next.2.3.line, next.2.4)
+    (take n w) (drop (n + 2) w) (line_waits 2048 n w next.2.3) (next.2.3.line, next.2.4) (line_short n w next.2.3)
     (λ ok. let some = ok_gives (number_and_id (unstuffed (take n w))) ok in
     subst (λ (l : List ℕ). (row : ℕ × List ℕ) → IsUidRow (take n l) row → ⊥) c.waiting.ensures.value unread some.0 some.1) in (
       now.link.0,
@@ -81,7 +80,7 @@ rows-preserved g c = (
       subst (λ (rest : List ℕ). InRows g.W.Wire.sound g.W.Wire.leads_to g.W.Wire.seen Uidl IsUidRow c.args.wire.now c.args.reader.now c.next_row.new.wire rest (map uid_pair c.push.new.self.items))
       (sym c.skip.ensures)
       (in_rows_push g.W.Wire.sound g.W.Wire.leads_to g.W.Wire.seen g.met.W.Wire.leads_on Uidl IsUidRow c.args.wire.now c.args.reader.now c.next_row.new.wire w (map uid_pair c.rows.rows.items) now (take n w) (drop (n + 2) w) (uid_pair c.in-Ok.row) (map uid_pair c.push.new.self.items)
-      (line_waits 2048 n w next.2.3) (next.2.3.line, next.2.4) (is_ok_of (number_and_id (unstuffed (take n w))) (uid_pair c.in-Ok.row) read) read (omega arith)
+      (line_waits 2048 n w next.2.3) (next.2.3.line, next.2.4) (line_short n w next.2.3) (is_ok_of (number_and_id (unstuffed (take n w))) (uid_pair c.in-Ok.row) read) read (omega arith)
       (ap (map uid_pair) c.in-Ok-push.ensures.items ∙ map_push uid_pair c.rows.rows.items c.in-Ok.row)),
 )
 
@@ -95,7 +94,7 @@ returns-in-Ok-None-clause-takes g c sound =
       g.met.W.Wire.leads_on _ _ _ now.link.1 next.1,
       (
         now.lines,
-        record { gained = end.0; drew = end.1; steady = end.2; content = now.has.content; fit = (now.has.few, now.has.rows); heard = end.3 },
+        record { gained = end.0; drew = end.1; steady = end.2; content = now.has.content; fit = (now.has.few, now.has.short, now.has.rows); heard = end.3 },
         now.read,
       ),
     )

@@ -1,4 +1,4 @@
-use Rattle.std.proofs.Common.{◌+◌, List, ℕ, take, drop, sym, subst}
+use Rattle.std.proofs.Common.{List, ℕ, take, sym, subst}
 use Rattle.pop3_wire.specs.Place.{at}
 use Rattle.getmail.specs.Conversation.{Opened, greeting}
 use Rattle.getmail.proofs.TalkLemmas.{opened, broke_there, nothing_said}
@@ -10,7 +10,7 @@ returns-in-Err-clause-asks g c sound =
       heard.0,
       heard.1,
       broke_there greeting (at (g.W.Wire.seen c.args.wire.now) c.args.reader.now) (g.W.Wire.seen c.args.wire.now)
-          (at (g.W.Wire.seen c.hear.new.wire) c.hear.new.reader) heard.2.0 c.in-Err.fault (nothing_said (g.W.Wire.seen c.args.wire.now)) heard.2.1 heard.3,
+          (at (g.W.Wire.seen c.hear.new.wire) c.hear.new.reader) c.in-Err.fault (nothing_said (g.W.Wire.seen c.args.wire.now)) heard.2,
     )
 
 pub returns-clause-asks : goal.returns-clause-asks
@@ -18,8 +18,8 @@ returns-clause-asks g c sound =
     let heard = c.in-Ok.ensures.heard sound in
     let n = c.in-Ok.length in
     let old = at (g.W.Wire.seen c.args.wire.now) c.args.reader.now in
-    let begun = opened greeting old old.link (at (g.W.Wire.seen c.hear.new.wire) c.hear.new.reader) heard.2.0 n heard.3.2.0
-    (nothing_said old.link) heard.2.1 heard.3.0 heard.3.1 heard.3.2.1 tt in (
+    let begun = opened greeting old old.link (at (g.W.Wire.seen c.hear.new.wire) c.hear.new.reader) heard.2.0 n heard.2.4.0
+    (nothing_said old.link) heard.2.1 heard.2.2 heard.2.3 heard.2.4.1 tt in (
       heard.0,
       heard.1,
       (

@@ -1,10 +1,9 @@
-use Rattle.std.proofs.Common.{◌≡◌, ◌+◌, List, ℕ, take, drop, sym, subst, refl, Ok, Err}
-use Rattle.pop3_wire.specs.Line.{IsLine}
+use Rattle.std.proofs.Common.{List, ℕ, take, sym, subst, Ok, Err}
 use Rattle.pop3_wire.specs.Reply.{IsFirstLine}
 use Rattle.pop3_wire.specs.declared.reply.Status.TheVariants.{Positive}
 use Rattle.pop3_wire.specs.Place.{at}
 use Rattle.getmail.specs.Conversation.{Opened, TellsFew, stat}
-use Rattle.getmail.proofs.TalkLemmas.{opened, broke_there, few_cause, line_waits}
+use Rattle.getmail.proofs.TalkLemmas.{opened, broke_there, few_heard}
 use Rattle.getmail.proofs.talk.stat.Goals as goal
 
 pub count_of-requires : goal.count_of-requires
@@ -19,7 +18,7 @@ returns-in-Ok-count_of-clause-counts g c sound =
     let old = (at (g.W.Wire.seen c.args.wire.now) c.args.reader.now) in
     let tells = subst (λ (w : List ℕ). TellsFew (take n w) (Ok c.in-Ok-count_of.count)) c.waiting.ensures.value c.in-Ok-count_of.ensures in
     let begun = opened stat old (g.W.Wire.seen c.say.new.wire) (at (g.W.Wire.seen c.hear.new.wire) c.hear.new.reader) heard.2.0 n tells.0
-    said.2 heard.2.1 heard.3.0 heard.3.1 tells.2 (c.in-Ok-count_of.count, tells.1, tells.3, tells.4) in (
+    said.2 heard.2.1 heard.2.2 heard.2.3 tells.2 (c.in-Ok-count_of.count, tells.1, tells.3, tells.4) in (
       said.0,
       g.met.W.Wire.leads_on _ _ _ said.1 heard.1,
       (
@@ -41,6 +40,6 @@ returns-in-Err-count_of-clause-counts g c sound =
     let why = subst (λ (l : List ℕ). TellsFew (take n l) (Err c.in-Err-count_of.fault)) c.waiting.ensures.value c.in-Err-count_of.ensures in (
       said.0,
       g.met.W.Wire.leads_on _ _ _ said.1 heard.1,
-      broke_there stat (at (g.W.Wire.seen c.args.wire.now) c.args.reader.now) (g.W.Wire.seen c.say.new.wire) (at (g.W.Wire.seen c.hear.new.wire) w) heard.2.0 c.in-Err-count_of.fault said.2 heard.2.1
-          (few_cause c.in-Err-count_of.fault _ _ (take n w) (drop (n + 2) w) w heard.3.0.line (line_waits 2048 n w heard.3.0) why),
+      broke_there stat (at (g.W.Wire.seen c.args.wire.now) c.args.reader.now) (g.W.Wire.seen c.say.new.wire) (at (g.W.Wire.seen c.hear.new.wire) w) c.in-Err-count_of.fault said.2
+          (few_heard c.in-Err-count_of.fault (at (g.W.Wire.seen c.say.new.wire) c.args.reader.now) (at (g.W.Wire.seen c.hear.new.wire) w) heard.2.0 n heard.2.1 heard.2.2 why),
     )
