@@ -1,5 +1,5 @@
 -- A file that is begun, written and settled is delivered.
-use Rattle.std.proofs.Common.{◌≡◌, ℕ, List, [], Some, None, Result, Ok, Err, inl, inr, ◌∙◌, ap, subst}
+use Rattle.std.proofs.Common.{◌≡◌, ℕ, List, [], Some, Result, Ok, Err, inl, inr, ◌∙◌, ap, subst}
 use Rattle.std.specs.Prelude.{IfErr}
 use Rattle.mail_store.specs.declared.fault.StoreFault.{StoreFault}
 use Rattle.mail_store.specs.declared.fault.StoreFault.TheVariants.{Missing, Refused, NotMbox, NoMemory}
@@ -50,12 +50,3 @@ pub given_up : (old m n new : Maildir) (name bytes : List ℕ) (fault : StoreFau
 given_up old m n new name bytes fault e a d =
     let told = a (file name []) (ap (λ (d : Maildir). d.begun) e) in
     d ∙ ap dropped told.1 ∙ ap (λ (d : Maildir). counted (dropped d)) e
-
--- after a delivery none is begun, where none was begun before it
-pub none_begun : {T : Type 0} (old new : Maildir) (f : File) (r : Result T StoreFault) → old.begun ≡ None
-    → Delivers old f r new → new.begun ≡ None
-none_begun old new f (Ok done) calm d = ap (λ (m : Maildir). m.begun) d
-none_begun old new f (Err Missing) calm d = ap (λ (m : Maildir). m.begun) d.1 ∙ calm
-none_begun old new f (Err Refused) calm d = elim d [ inl h ↦ ap (λ (m : Maildir). m.begun) h | inr h ↦ ap (λ (m : Maildir). m.begun) h ]
-none_begun old new f (Err NotMbox) calm d = absurd d
-none_begun old new f (Err NoMemory) calm d = absurd d

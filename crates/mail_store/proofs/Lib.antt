@@ -3,3 +3,4 @@ pub mod FusedCalls
 pub mod NameLemmas
 pub mod HeldLemmas
 pub mod MoveLemmas
+pub mod DistinctNames

@@ -1,6 +1,6 @@
 -- What each call of a Maildir device does, for either outcome, as a relation between the Maildir
 -- before and after the call.
-use Rattle.std.specs.Prelude.{◌≡◌, ℕ, ◌+◌, List, [], ◌∷◌, ◌++◌, map, Bool, false, true, Option, Some, None, Result, Ok, Err, ◌⊎◌, Vec, String, string_bytes, IsPermutation, Contains}
+use Rattle.std.specs.Prelude.{◌≡◌, ◌≢◌, ℕ, ◌+◌, List, [], ◌∷◌, ◌++◌, map, Bool, false, true, Option, Some, None, option_map, Result, Ok, Err, ◌⊎◌, Vec, String, string_bytes, IsPermutation, Contains, AllPairs}
 use Rattle.mail_store.specs.declared.fault.StoreFault.{StoreFault}
 use Rattle.mail_store.specs.declared.fault.StoreFault.TheVariants.{Missing, Refused, NotMbox, NoMemory}
 use Rattle.mail_store.specs.declared.maildir.Folder.{Folder}
@@ -41,6 +41,10 @@ file name content = record { name = name; content = content }
 abbrev pub file_of : {A B : Type 0} → String A × Vec ℕ B → File
 file_of pair = file (string_bytes pair.0) pair.1.items
 
+-- no two files that a device in memory keeps have one name
+abbrev pub HaveDistinctNames : {A B : Type 0} → List (String A × Vec ℕ B) → Type 0
+HaveDistinctNames pairs = AllPairs (λ p q. string_bytes p.0 ≢ string_bytes q.0) pairs
+
 -- the files of a folder
 abbrev pub files_in : Maildir → Folder → List File
 files_in maildir New = maildir.in_new
@@ -62,6 +66,14 @@ dropped old = record old { begun = None }
 -- the file stands in `new`, behind the others, and none is being written
 abbrev pub with_file : Maildir → File → Maildir
 with_file old f = record old { in_new = old.in_new ++ f ∷ []; begun = None }
+
+-- no name stands twice
+abbrev pub AreDistinct : List (List ℕ) → Type 0
+AreDistinct names = AllPairs (λ a b. a ≢ b) names
+
+-- the name of the file that is being written, if there is one
+abbrev pub name_begun : Maildir → Option (List ℕ)
+name_begun maildir = option_map name_in maildir.begun
 
 -- some file of `new` has the name
 abbrev pub IsInNew : Maildir → List ℕ → Type 0
@@ -127,13 +139,18 @@ Moves old name suffix (Ok false) new =
     (new ≡ old) × ((IsInNew old name → ⊥) ⊎ Contains (names_of old.in_cur) (name ++ suffix))
 Moves old name suffix (Err e) new = new ≡ old
 
--- what is known of a Maildir of the file system: how many calls were refused, and nothing else
-abbrev pub unknown_maildir : ℕ → Maildir
-unknown_maildir refused = record {
+-- a file of this name, whose bytes aren't known
+abbrev pub file_named : List ℕ → File
+file_named name = file name []
+
+-- what is known of a Maildir of the file system: the name of the file that is being written, if there
+-- is one, and how many calls were refused
+abbrev pub unknown_maildir : Option File → ℕ → Maildir
+unknown_maildir begun refused = record {
   there = record { tmp = false; new = false; cur = false };
   in_new = [];
   in_cur = [];
-  begun = None;
+  begun = begun;
   refused = refused;
 }
 

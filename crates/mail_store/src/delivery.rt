@@ -18,7 +18,7 @@ pub fn deliver<D: MaildirDisk>(disk: &mut D, name: &str, text: &[u8]) -> Result<
     requires not_there { D.keeps_word disk.old → IsInNew (D.maildir disk.old) name.now → ⊥ }
     ensures delivers { D.keeps_word disk.new → D.keeps_word disk.old
         × Delivers (D.maildir disk.old) (file name.now text.now) result (D.maildir disk.new) }
-    ensures none_begun { D.keeps_word disk.new → (D.maildir disk.new).begun ≡ None }
+    ensures none_begun { (D.maildir disk.old).begun ≡ None → (D.maildir disk.new).begun ≡ None }
     ensures fault { IfErr result IsDeviceFault }
     ensures count { Tallies (D.maildir disk.old).refused result (D.maildir disk.new).refused }
 {

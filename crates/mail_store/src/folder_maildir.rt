@@ -1,6 +1,6 @@
 //! A Maildir in a folder of the file system.
 
-ghost use Rattle.std.specs.Prelude.{◌≡◌, ◌<◌, ◌+◌};
+ghost use Rattle.std.specs.Prelude.{◌≡◌, ◌<◌, ◌+◌, IfOk, string_bytes};
 ghost use Rattle.mail_store.specs.Refusals.{greatest_count};
 
 use super::fault::StoreFault;
@@ -19,7 +19,7 @@ struct Begun<F: Drop> {
 }
 
 /// A Maildir in a folder of the file system, which must hold the folders `tmp`, `new` and `cur`;
-/// none of them is made. Nothing is known of what the system does.
+/// none of them is made. Nothing is known of what the system does; which file is begun is known.
 ///
 /// A file is flushed before it is renamed into `new`, and then `new` is flushed, where the system
 /// flushes folders, so that a delivered text outlives a loss of power.
@@ -32,11 +32,12 @@ pub struct FolderMaildir<'a, R: Files + AllocGlobal + Clone + Drop> {
 }
 
 impl<'a, R: Files + AllocGlobal + Clone + Drop> FolderMaildir<'a, R> {
+    ghost use Rattle.std.specs.Prelude.{None};
     ghost use Rattle.mail_store.specs.Maildirs.{unknown_maildir};
 
     /// The Maildir at a path, absolute or taken from the working folder.
     pub fn at(rt: &'a R, path: String) -> FolderMaildir<'a, R>
-        ensures { ⟦<FolderMaildir<'a, R> as MaildirDisk>⟧.maildir result ≡ unknown_maildir 0 }
+        ensures { ⟦<FolderMaildir<'a, R> as MaildirDisk>⟧.maildir result ≡ unknown_maildir None 0 }
     {
         FolderMaildir {
             rt,
@@ -91,7 +92,9 @@ impl<'a, R: Files + AllocGlobal + Clone + Drop> FolderMaildir<'a, R> {
         Ok(names)
     }
 
-    fn create(&self, name: &str) -> io::Result<Begun<R::File>> {
+    fn create(&self, name: &str) -> io::Result<Begun<R::File>>
+        ensures { IfOk result (λ begun. string_bytes begun.name ≡ name.now) }
+    {
         if !is_file_name(name) {
             return Err(io::Error::from(ErrorKind::InvalidInput));
         }
@@ -149,11 +152,12 @@ fn is_file_name(name: &str) -> bool {
 }
 
 impl<'a, R: Files + AllocGlobal + Clone + Drop> MaildirDisk for FolderMaildir<'a, R> {
-    ghost use Rattle.mail_store.specs.Maildirs.{unknown_maildir};
+    ghost use Rattle.std.specs.Prelude.{option_map};
+    ghost use Rattle.mail_store.specs.Maildirs.{file_named, unknown_maildir};
 
-    ghost maildir = { λ d. unknown_maildir d.refused };
+    ghost maildir = { λ d. unknown_maildir (option_map (λ begun. file_named (string_bytes begun.name)) d.begun) d.refused };
 
-    // Nothing is known of the file system.
+    // Of the file system nothing is known.
     ghost keeps_word = { λ _. ⊥ };
 
     fn names(&mut self, folder: Folder) -> Result<Vec<String>, StoreFault> {
@@ -192,10 +196,12 @@ impl<'a, R: Files + AllocGlobal + Clone + Drop> MaildirDisk for FolderMaildir<'a
         if self.refused == u64::MAX {
             return Err(StoreFault::Refused);
         }
-        let Some(begun) = &mut self.begun else {
+        let Some(mut unfinished) = self.begun.take() else {
             return Err(self.refuse());
         };
-        match begun.file.write_all(bytes) {
+        let answer = unfinished.file.write_all(bytes);
+        self.begun = Some(unfinished);
+        match answer {
             Ok(()) => Ok(()),
             Err(_) => Err(self.refuse()),
         }
@@ -203,6 +209,7 @@ impl<'a, R: Files + AllocGlobal + Clone + Drop> MaildirDisk for FolderMaildir<'a
 
     fn settle(&mut self) -> Result<(), StoreFault> {
         if self.refused == u64::MAX {
+            self.abandon();
             return Err(StoreFault::Refused);
         }
         let Some(begun) = self.begun.take() else {

@@ -86,9 +86,9 @@ impl<D> Fused<D> {
 }
 
 impl<D: MaildirDisk> MaildirDisk for Fused<D> {
-    ghost use Rattle.std.specs.Prelude.{◌≡◌, ◌<◌, IfErr, IsSome, Some, None};
+    ghost use Rattle.std.specs.Prelude.{◌≡◌, ◌<◌, IfErr, IfOk, IsSome, OnErr, OnOk, Some, None, map, string_bytes};
     ghost use Rattle.mail_store.specs.Refusals.{Tallies, IsDeviceFault, greatest_count};
-    ghost use Rattle.mail_store.specs.Maildirs.{File, IsInNew, Lists, Begins, Adds, Settles, dropped};
+    ghost use Rattle.mail_store.specs.Maildirs.{File, AreDistinct, IsInNew, Lists, Begins, Adds, Settles, dropped, name_begun};
     ghost use Rattle.mail_store.specs.Fuses.{device_of, passes_left, effect_is_due, refusals, fused_maildir, FusedKeeps, Burns, SettlesBehind};
 
     ghost maildir = { λ f. fused_maildir D.maildir f };
@@ -98,9 +98,11 @@ impl<D: MaildirDisk> MaildirDisk for Fused<D> {
     fn names(&mut self, folder: Folder) -> Result<Vec<String>, StoreFault>
         ensures lists { FusedKeeps D.keeps_word self.new → FusedKeeps D.keeps_word self.old
             × Lists (fused_maildir D.maildir self.old) folder result (fused_maildir D.maildir self.new) }
+        ensures once { FusedKeeps D.keeps_word self.new → IfOk result (λ names. AreDistinct (map string_bytes names.items)) }
         ensures fault { IfErr result IsDeviceFault }
         ensures count { Tallies (refusals self.old) result (refusals self.new) }
         ensures burns { refusals self.old < greatest_count → Burns (λ d. (D.maildir d).refused) self.old result self.new }
+        ensures behind { passes_left self.old ≡ 0 → device_of self.new ≡ device_of self.old }
     {
         if self.refused == u64::MAX {
             return Err(StoreFault::Refused);
@@ -117,9 +119,12 @@ impl<D: MaildirDisk> MaildirDisk for Fused<D> {
         requires { FusedKeeps D.keeps_word self.old → (D.maildir (device_of self.old)).begun ≡ None }
         ensures begins { FusedKeeps D.keeps_word self.new → FusedKeeps D.keeps_word self.old
             × Begins (fused_maildir D.maildir self.old) name.now result (fused_maildir D.maildir self.new) }
+        ensures begun { OnOk result (name_begun (D.maildir (device_of self.new)) ≡ Some name.now) }
+        ensures not_begun { OnErr result ((D.maildir (device_of self.new)).begun ≡ (D.maildir (device_of self.old)).begun) }
         ensures fault { IfErr result IsDeviceFault }
         ensures count { Tallies (refusals self.old) result (refusals self.new) }
         ensures burns { refusals self.old < greatest_count → Burns (λ d. (D.maildir d).refused) self.old result self.new }
+        ensures behind { passes_left self.old ≡ 0 → device_of self.new ≡ device_of self.old }
     {
         if self.refused == u64::MAX {
             return Err(StoreFault::Refused);
@@ -136,9 +141,11 @@ impl<D: MaildirDisk> MaildirDisk for Fused<D> {
         requires { FusedKeeps D.keeps_word self.old → IsSome (D.maildir (device_of self.old)).begun }
         ensures adds { FusedKeeps D.keeps_word self.new → FusedKeeps D.keeps_word self.old
             × Adds (fused_maildir D.maildir self.old) bytes.now result (fused_maildir D.maildir self.new) }
+        ensures begun { name_begun (D.maildir (device_of self.new)) ≡ name_begun (D.maildir (device_of self.old)) }
         ensures fault { IfErr result (λ e. e ≡ StoreFault.Refused) }
         ensures count { Tallies (refusals self.old) result (refusals self.new) }
         ensures burns { refusals self.old < greatest_count → Burns (λ d. (D.maildir d).refused) self.old result self.new }
+        ensures behind { passes_left self.old ≡ 0 → device_of self.new ≡ device_of self.old }
     {
         if self.refused == u64::MAX {
             return Err(StoreFault::Refused);
@@ -157,6 +164,7 @@ impl<D: MaildirDisk> MaildirDisk for Fused<D> {
             × (IsInNew (D.maildir (device_of self.old)) f.name → ⊥) }
         ensures settles { FusedKeeps D.keeps_word self.new → FusedKeeps D.keeps_word self.old
             × Settles (fused_maildir D.maildir self.old) result (fused_maildir D.maildir self.new) }
+        ensures none_begun { (D.maildir (device_of self.new)).begun ≡ None }
         ensures fault { IfErr result (λ e. e ≡ StoreFault.Refused) }
         ensures count { Tallies (refusals self.old) result (refusals self.new) }
         ensures burns { refusals self.old < greatest_count → Burns (λ d. (D.maildir d).refused) self.old result self.new }
@@ -164,6 +172,7 @@ impl<D: MaildirDisk> MaildirDisk for Fused<D> {
             → SettlesBehind (effect_is_due self.old) (D.maildir (device_of self.old)) (D.maildir (device_of self.new)) }
     {
         if self.refused == u64::MAX {
+            self.device.abandon();
             return Err(StoreFault::Refused);
         }
         if self.passes_left > 0 {
@@ -204,6 +213,7 @@ impl<D: FlatFile> FlatFile for Fused<D> {
         ensures fault { IfErr result IsDeviceFault }
         ensures count { Tallies (refusals self.old) result (refusals self.new) }
         ensures burns { refusals self.old < greatest_count → Burns (λ d. (D.stored d).refused) self.old result self.new }
+        ensures behind { passes_left self.old ≡ 0 → device_of self.new ≡ device_of self.old }
     {
         if self.refused == u64::MAX {
             return Err(StoreFault::Refused);
@@ -222,6 +232,7 @@ impl<D: FlatFile> FlatFile for Fused<D> {
         ensures fault { IfErr result IsDeviceFault }
         ensures count { Tallies (refusals self.old) result (refusals self.new) }
         ensures burns { refusals self.old < greatest_count → Burns (λ d. (D.stored d).refused) self.old result self.new }
+        ensures behind { passes_left self.old ≡ 0 → device_of self.new ≡ device_of self.old }
     {
         if self.refused == u64::MAX {
             return Err(StoreFault::Refused);
@@ -266,6 +277,7 @@ impl<D: FlatFile> FlatFile for Fused<D> {
         ensures fault { IfErr result (λ e. e ≡ StoreFault.Refused) }
         ensures count { Tallies (refusals self.old) result (refusals self.new) }
         ensures burns { refusals self.old < greatest_count → Burns (λ d. (D.stored d).refused) self.old result self.new }
+        ensures behind { passes_left self.old ≡ 0 → device_of self.new ≡ device_of self.old }
     {
         if self.refused == u64::MAX {
             return Err(StoreFault::Refused);

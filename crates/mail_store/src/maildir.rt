@@ -16,11 +16,12 @@ pub enum Folder {
 /// A file is begun in `tmp`, written there by any number of `add`, and then settled: only then it
 /// stands in `new`, whole. No other call changes `new` or `cur`.
 pub trait MaildirDisk {
-    ghost use Rattle.std.specs.Prelude.{◌≡◌, IfErr, IsSome, Some, None};
+    ghost use Rattle.std.specs.Prelude.{◌≡◌, IfErr, IfOk, IsSome, OnErr, OnOk, Some, None, map, string_bytes};
     ghost use Rattle.mail_store.specs.Refusals.{Tallies, IsDeviceFault};
-    ghost use Rattle.mail_store.specs.Maildirs.{Maildir, File, IsInNew, Lists, Begins, Adds, Settles, dropped};
+    ghost use Rattle.mail_store.specs.Maildirs.{Maildir, File, AreDistinct, IsInNew, Lists, Begins, Adds, Settles, dropped, name_begun};
 
-    // What is known of the Maildir.
+    // What is known of the Maildir. Whether a file is begun, its name and the count of refusals are
+    // known of every device, whatever else is.
     ghost maildir: { Self → Maildir };
 
     // The premise: so far the device did what this trait says, and its count is below its greatest
@@ -32,6 +33,7 @@ pub trait MaildirDisk {
     fn names(&mut self, folder: Folder) -> Result<Vec<String>, StoreFault>
         ensures lists { keeps_word self.new → keeps_word self.old
             × Lists (maildir self.old) folder result (maildir self.new) }
+        ensures once { keeps_word self.new → IfOk result (λ names. AreDistinct (map string_bytes names.items)) }
         ensures fault { IfErr result IsDeviceFault }
         ensures count { Tallies (maildir self.old).refused result (maildir self.new).refused };
 
@@ -42,6 +44,8 @@ pub trait MaildirDisk {
         requires { keeps_word self.old → (maildir self.old).begun ≡ None }
         ensures begins { keeps_word self.new → keeps_word self.old
             × Begins (maildir self.old) name.now result (maildir self.new) }
+        ensures begun { OnOk result (name_begun (maildir self.new) ≡ Some name.now) }
+        ensures not_begun { OnErr result ((maildir self.new).begun ≡ (maildir self.old).begun) }
         ensures fault { IfErr result IsDeviceFault }
         ensures count { Tallies (maildir self.old).refused result (maildir self.new).refused };
 
@@ -51,6 +55,7 @@ pub trait MaildirDisk {
         requires { keeps_word self.old → IsSome (maildir self.old).begun }
         ensures adds { keeps_word self.new → keeps_word self.old
             × Adds (maildir self.old) bytes.now result (maildir self.new) }
+        ensures begun { name_begun (maildir self.new) ≡ name_begun (maildir self.old) }
         ensures fault { IfErr result (λ e. e ≡ StoreFault.Refused) }
         ensures count { Tallies (maildir self.old).refused result (maildir self.new).refused };
 
@@ -62,6 +67,7 @@ pub trait MaildirDisk {
             → (f : File) × ((maildir self.old).begun ≡ Some f) × (IsInNew (maildir self.old) f.name → ⊥) }
         ensures settles { keeps_word self.new → keeps_word self.old
             × Settles (maildir self.old) result (maildir self.new) }
+        ensures none_begun { (maildir self.new).begun ≡ None }
         ensures fault { IfErr result (λ e. e ≡ StoreFault.Refused) }
         ensures count { Tallies (maildir self.old).refused result (maildir self.new).refused };
 
@@ -69,6 +75,7 @@ pub trait MaildirDisk {
     fn abandon(&mut self)
         ensures drops { keeps_word self.new → keeps_word self.old
             × (maildir self.new ≡ dropped (maildir self.old)) }
+        ensures none_begun { (maildir self.new).begun ≡ None }
         ensures count { (maildir self.new).refused ≡ (maildir self.old).refused };
 
     /// How many calls were refused.

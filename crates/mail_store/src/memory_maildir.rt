@@ -21,7 +21,7 @@ pub struct MemoryMaildir {
 
 impl Model for MemoryMaildir {
     ghost use Rattle.std.specs.Prelude.{map, option_map};
-    ghost use Rattle.mail_store.specs.Maildirs.{Maildir, file_of, all_there};
+    ghost use Rattle.mail_store.specs.Maildirs.{Maildir, file_of, all_there, HaveDistinctNames};
 
     ghost Value = { Maildir };
 
@@ -32,12 +32,14 @@ impl Model for MemoryMaildir {
       begun = option_map file_of d.begun;
       refused = d.refused;
     } };
+
+    ghost invariant = { λ d. HaveDistinctNames d.in_new.items × HaveDistinctNames d.in_cur.items };
 }
 
 impl MemoryMaildir {
     ghost use Rattle.std.specs.Prelude.{◌≡◌, ◌<◌, ◌+◌, ◌↔◌, [], None, map, slice_index, Contains, IsTrue, IsSome};
     ghost use Rattle.mail_store.specs.Refusals.{greatest_count};
-    ghost use Rattle.mail_store.specs.Maildirs.{Maildir, File, file_of, files_in, names_of, all_there, counted, Moves};
+    ghost use Rattle.mail_store.specs.Maildirs.{Maildir, File, HaveDistinctNames, file_of, files_in, names_of, all_there, counted, Moves};
 
     /// A Maildir without files.
     pub fn new(alloc: Global) -> MemoryMaildir
@@ -54,8 +56,10 @@ impl MemoryMaildir {
     }
 
     /// The files of a folder, each with its name and its bytes, in the order in which they came.
+    /// No two of them have one name.
     pub fn files(&self, folder: Folder) -> &[(String, Vec<u8>)]
-        ensures { map file_of result.now ≡ files_in self.now folder }
+        ensures files { map file_of result.now ≡ files_in self.now folder }
+        ensures distinct { HaveDistinctNames result.now }
     {
         match folder {
             Folder::New => self.in_new.as_slice(),
@@ -188,6 +192,7 @@ impl MaildirDisk for MemoryMaildir {
 
     fn settle(&mut self) -> Result<(), StoreFault> {
         if self.refused == u64::MAX {
+            self.abandon();
             return Err(StoreFault::Refused);
         }
         let Some(file) = self.begun.take() else {

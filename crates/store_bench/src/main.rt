@@ -1,6 +1,8 @@
 //! Times two calls of `mail_store` on a Maildir in a folder. `bench/mail_store.py` runs it.
 #![tactic(auto)]
 
+ghost use Rattle.std.specs.Prelude.{◌≡◌, IfOk, length};
+
 use anyhow::{Result, ensure};
 use fetch_rules::{Listing, ScanRow, UidRow, have_legal_ids, is_legal_id};
 use mail_store::{FolderMaildir, account_id, deliver, file_name, held};
@@ -14,7 +16,9 @@ fn id_of(alloc: Global, number: u32) -> Result<String> {
 }
 
 /// The listing of messages 1 to `count`.
-fn listing_of(alloc: Global, count: u32) -> Result<Listing> {
+fn listing_of(alloc: Global, count: u32) -> Result<Listing>
+    ensures { IfOk result (λ listing. length listing ≡ count) }
+{
     let mut uids = Vec::new(alloc);
     let mut sizes = Vec::new(alloc);
     for number in 1..=count {
@@ -64,16 +68,21 @@ fn time_deliver(rt: &HostRuntime, path: &str, count: u32) -> Result<()> {
     Ok(())
 }
 
+fn tell_usage(rt: &HostRuntime) -> Result<()> {
+    println!(rt; "usage: store_bench held|deliver MAILDIR COUNT")?;
+    Ok(())
+}
+
 fn main(rt: HostRuntime) -> Result<()> {
     let words: Vec<String> = env::args(&rt)?.collect(rt.alloc())?;
     if words.len() != 4 {
-        println!(rt; "usage: store_bench held|deliver MAILDIR COUNT")?;
-        return Ok(());
+        return tell_usage(&rt);
     }
     let path = words[2].as_str();
     let count: u32 = words[3].as_str().parse()?;
     match words[1].as_str() {
         "held" => time_held(&rt, path, count),
-        _ => time_deliver(&rt, path, count),
+        "deliver" => time_deliver(&rt, path, count),
+        _ => tell_usage(&rt),
     }
 }

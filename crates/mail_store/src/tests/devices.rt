@@ -56,6 +56,15 @@ fn passes_a_whole_delivery(rt: HostRuntime) -> Result<(), Fail> {
 }
 
 #[test]
+fn adds_nothing_for_an_empty_text(rt: HostRuntime) -> Result<(), Fail> {
+    let mut disk = Fused::new(MemoryMaildir::new(rt.alloc()), 2, false);
+    deliver(&mut disk, "one", b"")?;
+    assert_eq!(rt; disk.device().files(Folder::New).len(), 1);
+    assert_eq!(rt; disk.failures(), 0);
+    Ok(())
+}
+
+#[test]
 fn refuses_to_tell_what_is_held(rt: HostRuntime) -> Result<(), Fail> {
     let alloc = rt.alloc();
     let listing = listing_of(alloc, b"a", b"b")?;

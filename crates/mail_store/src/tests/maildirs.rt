@@ -1,7 +1,7 @@
 //! Delivery to a Maildir in memory and to one in a folder.
 
 use super::names::{fred, listing_of, name_of};
-use crate::{Folder, FolderMaildir, MaildirDisk, MemoryMaildir, StoreFault, deliver, held};
+use crate::{Folder, FolderMaildir, Fused, MaildirDisk, MemoryMaildir, StoreFault, deliver, held};
 use std::fs;
 use std::test::Fail;
 
@@ -130,6 +130,22 @@ fn misses_folders_that_are_not_there(rt: HostRuntime) -> Result<(), Fail> {
         Some(StoreFault::Missing)
     );
     assert_eq!(rt; disk.failures(), 0);
+    Ok(())
+}
+
+#[test]
+fn looks_into_new_before_cur(rt: HostRuntime) -> Result<(), Fail> {
+    let alloc = rt.alloc();
+    make_maildir(&rt, "folder_order")?;
+    fs::remove_dir(&rt, "folder_order/new")?;
+    let folder = FolderMaildir::at(&rt, String::from_str(alloc, "folder_order")?);
+    let mut disk = Fused::new(folder, 1, false);
+    let listing = listing_of(alloc, b"a", b"b")?;
+    assert_eq!(rt;
+        held(alloc, &mut disk, &fred(), &listing).err(),
+        Some(StoreFault::Missing)
+    );
+    fs::remove_dir_all(&rt, "folder_order")?;
     Ok(())
 }
 

@@ -1,6 +1,6 @@
 use Rattle.std.proofs.Common.{[]}
 use Rattle.mail_store.specs.Maildirs.{file}
-use Rattle.mail_store.proofs.Deliveries.{delivered, written, may_settle, none_begun}
+use Rattle.mail_store.proofs.Deliveries.{delivered, written, may_settle}
 use Rattle.mail_store.proofs.delivery.deliver.Goals as goal
 
 pub settle-requires : goal.settle-requires
@@ -19,16 +19,6 @@ settle-requires-2 g c = λ k.
     (g.D.MaildirDisk.maildir c.add.new.self) c.args.name.now c.args.text.now begun.1.1 added.1)
     (c.requires.not_there begun.0)
 
-pub returns-then-is_empty-clause-none_begun : goal.returns-then-is_empty-clause-none_begun
-returns-then-is_empty-clause-none_begun g c = λ k.
-    let settled = c.settle.ensures.settles k in
-    let begun = c.in_ok-begin.ensures.begins settled.0 in
-    let before = g.D.MaildirDisk.maildir c.args.disk.now in
-    let after = g.D.MaildirDisk.maildir c.settle.new.self in
-    let f = file c.args.name.now [] in
-    none_begun before after f c.settle.result (c.requires.none_begun begun.0)
-    (delivered before (g.D.MaildirDisk.maildir c.begin.new.self) after f c.settle.result begun.1.1 c.settle.ensures.fault settled.1)
-
 pub returns-clause-delivers : goal.returns-clause-delivers
 returns-clause-delivers g c = λ k.
     let settled = c.settle-2.ensures.settles k in
@@ -41,17 +31,3 @@ returns-clause-delivers g c = λ k.
           (written before (g.D.MaildirDisk.maildir c.begin.new.self) written_to c.args.name.now c.args.text.now begun.1.1 added.1)
           c.settle-2.ensures.fault settled.1,
     )
-
-pub returns-clause-none_begun : goal.returns-clause-none_begun
-returns-clause-none_begun g c = λ k.
-    let settled = c.settle-2.ensures.settles k in
-    let added = c.in_default.ensures.adds settled.0 in
-    let begun = c.in_ok-begin.ensures.begins added.0 in
-    let before = g.D.MaildirDisk.maildir c.args.disk.now in
-    let written_to = g.D.MaildirDisk.maildir c.add.new.self in
-    let after = g.D.MaildirDisk.maildir c.settle-2.new.self in
-    let f = file c.args.name.now c.args.text.now in
-    none_begun before after f c.settle-2.result (c.requires.none_begun begun.0)
-    (delivered before written_to after f c.settle-2.result
-    (written before (g.D.MaildirDisk.maildir c.begin.new.self) written_to c.args.name.now c.args.text.now begun.1.1 added.1)
-    c.settle-2.ensures.fault settled.1)
