@@ -36,6 +36,7 @@ check:
 	@tests/gate.sh
 
 test: all
+	python3 tests/test_sample.py
 	python3 tests/run.py
 
 bench: $(benches)

@@ -14,5 +14,6 @@ if [[ ! $verdict =~ ^[0-9]+\ passed,\ 0\ failed$ ]]; then
     exit 1
 fi
 
+python3 tests/test_sample.py
 python3 tests/run.py
 echo "$verdict"
