@@ -25,7 +25,7 @@ IsTold loop = loop.link.got ++ loop.left ≡ greeting ++ loop.answers
 abbrev pub IsAnswered : {D : Type 0} → Loop D → Type 0
 IsAnswered loop = is_open loop.machine.state ≡ true → IsLine loop.waiting
 
--- meanwhile the server answered lines that were sent, in order; where the link went down, one answer may be lost
+-- meanwhile the server answered lines that were sent, in order; where the link went down, the last answers may be lost
 pub record Serves {D : Type 0} (sound : D → Type 0) (mail : D → Mail) (old new : Loop D) : Type 0 where
   pub lines : List (List ℕ)
   pub more : List ℕ
