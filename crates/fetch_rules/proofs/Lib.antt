@@ -1,3 +1,5 @@
+mod DistinctLemmas
+mod FilterLemmas
 mod IdLemmas
 mod ListingLemmas
 mod MergeLemmas

@@ -7,8 +7,9 @@ use Rattle.std.proofs.lemmas.List.{take_more, take_all, map-append}
 use Rattle.std.proofs.lemmas.List.Folds.{list_any-append}
 use Rattle.std.proofs.lemmas.List.Sums.{sum_by-cons}
 use Rattle.std.proofs.lemmas.Slice.Zip.{length-zip, get_or-zip}
-use Rattle.fetch_rules.proofs.IdLemmas.{true_is_false}
-use Rattle.fetch_rules.proofs.RecordLemmas.{or_false, with_delivered-false}
+use Rattle.std.proofs.Math.Bool.{or_assoc, or-false}
+use Rattle.std.proofs.lemmas.Bool.{true≢false}
+use Rattle.fetch_rules.proofs.RecordLemmas.{with_delivered-false}
 use Rattle.fetch_rules.specs.Listing.{Item}
 use Rattle.fetch_rules.specs.Record.{Row, IsRecord, is_of, with_delivered, marked, is_held, with_held, new_ids, undelivered, merged}
 
@@ -24,13 +25,9 @@ pub with_flagged-none : (rows : List Row) → rows ≡ with_flagged [] rows
 with_flagged-none [] = refl
 with_flagged-none (row ∷ rest) = ap (λ (first : Row). first ∷ rest) (sym (with_delivered-false row)) ∙ ap (λ (others : List Row). with_delivered false row ∷ others) (with_flagged-none rest)
 
-or_assoc : (a b c : Bool) → (a || b) || c ≡ a || (b || c)
-or_assoc true b c = refl
-or_assoc false b c = refl
-
 -- one more flagged item
 any_more : (uid : List ℕ) (flagged : List (Item × Bool)) (next : Item × Bool) → list_any (stands_for uid) (flagged ++ next ∷ []) ≡ list_any (stands_for uid) flagged || stands_for uid next
-any_more uid flagged next = list_any-append (stands_for uid) flagged (next ∷ []) ∙ ap (λ (b : Bool). list_any (stands_for uid) flagged || b) (or_false (stands_for uid next))
+any_more uid flagged next = list_any-append (stands_for uid) flagged (next ∷ []) ∙ ap (λ (b : Bool). list_any (stands_for uid) flagged || b) (or-false (stands_for uid next))
 
 pub with_flagged-held : (rows : List Row) (flagged : List (Item × Bool)) (item : Item) → marked (with_flagged flagged rows) item.uid ≡ with_flagged (flagged ++ (item, true) ∷ []) rows
 with_flagged-held [] flagged item = refl
@@ -42,7 +39,7 @@ with_flagged-held (row ∷ rest) flagged item =
 pub with_flagged-free : (rows : List Row) (flagged : List (Item × Bool)) (item : Item) → with_flagged flagged rows ≡ with_flagged (flagged ++ (item, false) ∷ []) rows
 with_flagged-free [] flagged item = refl
 with_flagged-free (row ∷ rest) flagged item =
-    ap (λ (b : Bool). with_delivered b row ∷ with_flagged flagged rest) (sym (any_more row.uid flagged (item, false) ∙ or_false (list_any (stands_for row.uid) flagged)))
+    ap (λ (b : Bool). with_delivered b row ∷ with_flagged flagged rest) (sym (any_more row.uid flagged (item, false) ∙ or-false (list_any (stands_for row.uid) flagged)))
     ∙ ap (λ (others : List Row). with_delivered (list_any (stands_for row.uid) (flagged ++ (item, false) ∷ [])) row ∷ others) (with_flagged-free rest flagged item)
 
 -- how many rows are delivered: a mark that changes a row makes them more
@@ -95,7 +92,7 @@ pub record HasMarked (flagged : List (Item × Bool)) (before : List Row) (change
 pub HasMarked-none : (before : List Row) → IsRecord before → HasMarked [] before false before
 HasMarked-none before good = record {
   rows_are = with_flagged-none before;
-  more = λ e. absurd (true_is_false (sym e));
+  more = λ e. absurd (true≢false (sym e));
   same = λ _. refl;
   good = good;
 }
@@ -128,11 +125,11 @@ HasMarked-held flagged before changed rows item now_changed new has new_is diffe
     more true true h s d e _ = omega (arith, h refl, grown d)
     more true false h s d e _ = omega (arith, h refl, ap delivered_count e)
     more false true h s d e _ = omega (arith, ap delivered_count (s refl), grown d)
-    more false false h s d e contrary = absurd (true_is_false (sym contrary))
+    more false false h s d e contrary = absurd (true≢false (sym contrary))
 
     same : (a b : Bool) → (a ≡ false → rows ≡ before) → OnFalse b (new ≡ rows) → (a || b) ≡ false → new ≡ before
-    same true b s e contrary = absurd (true_is_false contrary)
-    same false true s e contrary = absurd (true_is_false contrary)
+    same true b s e contrary = absurd (true≢false contrary)
+    same false true s e contrary = absurd (true≢false contrary)
     same false false s e _ = e ∙ s refl
 
 -- the next flagged item

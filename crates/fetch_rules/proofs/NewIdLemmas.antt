@@ -2,24 +2,20 @@
 use Rattle.std.proofs.Common.{◌≡◌, ◌≢◌, ℕ, ◌<◌, ◌+◌, List, [], ◌∷◌, ◌++◌, Bool, true, false, not, ◌||◌, length, get_or, take, map, refl, sym, ◌∙◌, ap, subst, append_assoc, inl, inr}
 use Rattle.std.specs.Prelude.{bytes_eq, filter, AllPairs, All}
 use Rattle.std.specs.List.{list_any}
-use Rattle.std.proofs.lemmas.Bool.{cases_Bool, cond-true, cond-false, or_left, or_right, or_from, or_parts, or_cases, not_from_true, not_from_false, false_from_ne_true}
+use Rattle.std.proofs.lemmas.Bool.{cases_Bool, or_left, or_right, or_from, or_parts, or_cases, not_from_true, not_from_false, false_from_ne_true}
 use Rattle.std.proofs.lemmas.List.{take_more, map-append, append-nil}
 use Rattle.std.proofs.lemmas.List.Elements.{filter-append, All-append}
 use Rattle.std.proofs.lemmas.List.Folds.{list_any-append, list_any_at}
 use Rattle.std.proofs.lemmas.List.Quantifiers.{all_pairs_push}
-use Rattle.fetch_rules.proofs.IdLemmas.{same_from_test, test_from_same, test_from_other, cases_id, true_is_false}
+use Rattle.std.proofs.lemmas.Bool.{true≢false}
+use Rattle.fetch_rules.proofs.FilterLemmas.{filter_keeps, filter_leaves}
+use Rattle.fetch_rules.proofs.IdLemmas.{same_from_test, test_from_same, test_from_other, cases_id}
 use Rattle.fetch_rules.specs.Listing.{Item}
 use Rattle.fetch_rules.specs.Record.{Row, IsRow, IsRecord, is_of, has_row, distinct_ids, new_ids, undelivered}
 
 -- whether an id is among these
 abbrev pub is_among : List (List ℕ) → List ℕ → Bool
 is_among ids uid = list_any (bytes_eq uid) ids
-
-pub filter_keeps : {X : Type 0} (p : X → Bool) (x : X) (xs : List X) → p x ≡ true → filter p (x ∷ xs) ≡ x ∷ filter p xs
-filter_keeps p x xs hit = cond-true (p x) _ _ hit
-
-pub filter_leaves : {X : Type 0} (p : X → Bool) (x : X) (xs : List X) → p x ≡ false → filter p (x ∷ xs) ≡ filter p xs
-filter_leaves p x xs miss = cond-false (p x) _ _ miss
 
 -- a filter that an id passes doesn't take it away
 pub is_among-filter : (p : List ℕ → Bool) (uid : List ℕ) (ids : List (List ℕ)) → p uid ≡ true → is_among (filter p ids) uid ≡ is_among ids uid
@@ -28,7 +24,7 @@ is_among-filter p uid (id ∷ ids) passes = elim (cases_Bool (p id)) [
   | inl hit ↦ ap (λ (xs : List (List ℕ)). is_among xs uid) (filter_keeps p id ids hit) ∙ ap (λ (b : Bool). bytes_eq uid id || b) (is_among-filter p uid ids passes)
   | inr miss ↦
       ap (λ (xs : List (List ℕ)). is_among xs uid) (filter_leaves p id ids miss) ∙ is_among-filter p uid ids passes
-      ∙ ap (λ (b : Bool). b || is_among ids uid) (sym (test_from_other uid id (λ same. true_is_false (sym passes ∙ ap p same ∙ miss))))
+      ∙ ap (λ (b : Bool). b || is_among ids uid) (sym (test_from_other uid id (λ same. true≢false (sym passes ∙ ap p same ∙ miss))))
 ]
 
 pub is_among-distinct_ids : (uid : List ℕ) (ids : List (List ℕ)) → is_among (distinct_ids ids) uid ≡ is_among ids uid
@@ -67,7 +63,7 @@ distinct_ids-push_old (id ∷ ids) uid old = elim (cases_Bool (is_among ids uid)
 ]
   where
     same : is_among ids uid ≡ false → uid ≡ id
-    same outside = elim (or_cases (bytes_eq uid id) (is_among ids uid) old) [ inl hit ↦ same_from_test uid id hit | inr inside ↦ absurd (true_is_false (sym inside ∙ outside)) ]
+    same outside = elim (or_cases (bytes_eq uid id) (is_among ids uid) old) [ inl hit ↦ same_from_test uid id hit | inr inside ↦ absurd (true≢false (sym inside ∙ outside)) ]
 
 -- the ids of these that have no row
 abbrev pub new_of : List Row → List (List ℕ) → List (List ℕ)
@@ -165,7 +161,7 @@ AreApart-filter p (id ∷ ids) are = elim (cases_Bool (p id)) [
 pub AreApart-distinct_ids : (ids : List (List ℕ)) → AreApart (distinct_ids ids)
 AreApart-distinct_ids [] = tt
 AreApart-distinct_ids (id ∷ ids) = (
-  false_from_ne_true _ (λ there. true_is_false (sym (passes_filter (λ o. not (bytes_eq id o)) (distinct_ids ids) id there) ∙ not_from_true _ (test_from_same id id refl))),
+  false_from_ne_true _ (λ there. true≢false (sym (passes_filter (λ o. not (bytes_eq id o)) (distinct_ids ids) id there) ∙ not_from_true _ (test_from_same id id refl))),
   AreApart-filter _ _ (AreApart-distinct_ids ids),
 )
 
@@ -187,10 +183,10 @@ distinct_rows now rows (id ∷ ids) distinct apart none =
     subst (AllPairs (λ a b. a.uid ≢ b.uid)) (append_assoc rows (undelivered now id ∷ []) (map (undelivered now) ids))
     (distinct_rows now (rows ++ undelivered now id ∷ []) ids
     (all_pairs_push (λ (a b : Row). a.uid ≢ b.uid) rows (undelivered now id) distinct
-    (λ k d inside same. true_is_false (sym (list_any_at (is_of id) rows k d inside (test_from_same id (get_or rows k d).uid (sym same))) ∙ none id (or_left _ _ (test_from_same id id refl)))))
+    (λ k d inside same. true≢false (sym (list_any_at (is_of id) rows k d inside (test_from_same id (get_or rows k d).uid (sym same))) ∙ none id (or_left _ _ (test_from_same id id refl)))))
     apart.1
     (λ uid there. list_any-append (is_of uid) rows (undelivered now id ∷ [])
-    ∙ or_from _ _ (none uid (or_right _ _ there)) (or_from _ _ (test_from_other uid id (λ same. true_is_false (sym there ∙ ap (is_among ids) same ∙ apart.0))) refl)))
+    ∙ or_from _ _ (none uid (or_right _ _ there)) (or_from _ _ (test_from_other uid id (λ same. true≢false (sym there ∙ ap (is_among ids) same ∙ apart.0))) refl)))
 
 pub IsRecord-more : (rows : List Row) (listing : List Item) (now : ℕ) (added : List Row) → IsRecord rows → All IsRow added → added ≡ map (undelivered now) (new_ids rows listing) → IsRecord (rows ++ added)
 IsRecord-more rows listing now added is good are = record {

@@ -8,6 +8,7 @@ use Rattle.std.proofs.lemmas.List.Elements.{All-filter, All-take, All-weaker}
 use Rattle.std.proofs.lemmas.List.Folds.{list_any_none}
 use Rattle.std.proofs.lemmas.List.FromFn.{length-enumerate_from, get_or-enumerate_from}
 use Rattle.std.proofs.lemmas.List.Sums.{sum_by-cons, sum_by_more, count_by-le-length, length-filter}
+use Rattle.fetch_rules.proofs.FilterLemmas.{filter_keeps, filter_leaves}
 use Rattle.fetch_rules.specs.Listing.{Item}
 use Rattle.fetch_rules.specs.Record.{Row}
 use Rattle.fetch_rules.specs.Wanted.{numbered, is_candidate, at_most, wanted}
@@ -18,12 +19,6 @@ use Rattle.fetch_rules.specs.declared.steps.Step.{Step}
 -- a message with its number
 abbrev pub Message : Type 0
 Message = ℕ × Item
-
-pub filter_keeps : {X : Type 0} (p : X → Bool) (x : X) (xs : List X) → p x ≡ true → filter p (x ∷ xs) ≡ x ∷ filter p xs
-filter_keeps p x xs hit = cond-true (p x) _ _ hit
-
-pub filter_leaves : {X : Type 0} (p : X → Bool) (x : X) (xs : List X) → p x ≡ false → filter p (x ∷ xs) ≡ filter p xs
-filter_leaves p x xs miss = cond-false (p x) _ _ miss
 
 -- the numbers go up
 pub numbers_above : (n : ℕ) (items : List Item) → All (λ message. n ≤ message.0) (enumerate_from n items)

@@ -13,12 +13,13 @@ use Rattle.std.proofs.lemmas.List.Concat.{flat_map-append}
 use Rattle.std.proofs.lemmas.List.Folds.{list_any_at, Any-from_list_any}
 use Rattle.std.proofs.lemmas.List.Quantifiers.{all_pairs_push}
 use Rattle.std.proofs.lemmas.Fmt.{decimal_injective}
+use Rattle.std.proofs.lemmas.Bool.{true≢false}
 use Rattle.fetch_rules.specs.LegalId.{IsIdCharacter}
 use Rattle.fetch_rules.specs.Record.{Row, IsRow, IsRecord, is_of, has_row}
 use Rattle.fetch_rules.specs.RecordFile.{header, state_of, line_of, StandsFor, BeginsWith, line_after, HasBadRow, HasRepeatedId, IsFaultOf}
 use Rattle.fetch_rules.specs.declared.seen.SeenFault.{SeenFault}
 use Rattle.fetch_rules.specs.declared.seen.SeenFault.TheVariants.{BadHeader, BadRow, RepeatedId, NoMemory}
-use Rattle.fetch_rules.proofs.IdLemmas.{same_from_test, test_from_same, true_is_false}
+use Rattle.fetch_rules.proofs.IdLemmas.{same_from_test, test_from_same}
 use Rattle.fetch_rules.proofs.NumeralLemmas.{no_space-decimal}
 
 -- no space stands in the bytes
@@ -98,7 +99,7 @@ pub IsRecord-push : (rows : List Row) (row : Row) → IsRecord rows → IsRow ro
 IsRecord-push rows row is is_row none = record {
   each = All-push IsRow rows row is.each is_row;
   distinct = all_pairs_push (λ (a b : Row). a.uid ≢ b.uid) rows row is.distinct
-      (λ k d inside same. true_is_false (sym (list_any_at (is_of row.uid) rows k d inside (test_from_same row.uid (get_or rows k d).uid (sym same))) ∙ none));
+      (λ k d inside same. true≢false (sym (list_any_at (is_of row.uid) rows k d inside (test_from_same row.uid (get_or rows k d).uid (sym same))) ∙ none));
 }
 
 pub BeginsWith-more : (bytes rest : List ℕ) (rows : List Row) (row : Row) (behind : List ℕ) → BeginsWith bytes rows rest → IsRow row → rest ≡ line_of row ++ behind → has_row rows row.uid ≡ false
@@ -116,7 +117,7 @@ pub line_after-more : (n : ℕ) (line next : ℕ) → line ≡ line_after n → 
 line_after-more n line next is next_is = omega (arith, is, next_is)
 
 pub not_empty : (rest : List ℕ) (empty : Bool) → empty ≡ (length rest == 0) → empty ≡ false → rest ≢ []
-not_empty [] empty is e same = true_is_false (sym is ∙ e)
+not_empty [] empty is e same = true≢false (sym is ∙ e)
 not_empty (x ∷ xs) empty is e same = cc
 
 -- a file stands for one record at most

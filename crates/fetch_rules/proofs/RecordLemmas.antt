@@ -1,7 +1,8 @@
 -- The record and its changes.
-use Rattle.std.proofs.Common.{◌≡◌, ◌≢◌, ℕ, ◌<◌, List, [], ◌∷◌, Some, None, Bool, true, false, ◌||◌, suc, length, get_or, set, refl, sym, ◌∙◌, ap, subst, inl, inr, arith}
+use Rattle.std.proofs.Common.{◌≡◌, ◌≢◌, ℕ, ◌<◌, List, [], ◌∷◌, Some, None, Bool, true, false, suc, length, get_or, set, refl, sym, ◌∙◌, ap, subst, inl, inr, arith}
 use Rattle.std.specs.Prelude.{position}
 use Rattle.std.specs.List.{position_or_len}
+use Rattle.std.proofs.Math.Bool.{or-false, or-true}
 use Rattle.std.proofs.lemmas.Bool.{cases_eq, cases_lt, cases_order, cond_below}
 use Rattle.std.proofs.lemmas.Option.{none-some}
 use Rattle.std.proofs.lemmas.List.{get_or-set_same, get_or-set_other, length-set, get_or-map, length-map, ext_get_or}
@@ -10,19 +11,11 @@ use Rattle.std.proofs.lemmas.List.Sums.{fails_before_first}
 use Rattle.fetch_rules.proofs.IdLemmas.{same_from_test, test_from_other}
 use Rattle.fetch_rules.specs.Record.{Row, IsRecord, is_of, with_delivered, marked}
 
-pub or_false : (b : Bool) → b || false ≡ b
-or_false true = refl
-or_false false = refl
-
-pub or_true : (b : Bool) → b || true ≡ true
-or_true true = refl
-or_true false = refl
-
 pub with_delivered-false : (row : Row) → with_delivered false row ≡ row
-with_delivered-false row = ap (λ (b : Bool). record row { delivered = b }) (or_false row.delivered)
+with_delivered-false row = ap (λ (b : Bool). record row { delivered = b }) (or-false row.delivered)
 
 pub with_delivered-true : (row : Row) → with_delivered true row ≡ record row { delivered = true }
-with_delivered-true row = ap (λ (b : Bool). record row { delivered = b }) (or_true row.delivered)
+with_delivered-true row = ap (λ (b : Bool). record row { delivered = b }) (or-true row.delivered)
 
 pub other_ids : (rows : List Row) (i j : ℕ) (d : Row) → IsRecord rows → i < length rows → j < length rows → i ≢ j → (get_or rows i d).uid ≢ (get_or rows j d).uid
 other_ids rows i j d is i_inside j_inside other = elim (cases_order i j) [

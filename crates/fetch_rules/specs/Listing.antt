@@ -1,6 +1,6 @@
 -- The listing of a maildrop: the rows of UIDL and of LIST, joined by their numbers (RFC 1939,
 -- sections 5 and 7).
-use Rattle.std.specs.Prelude.{◌≡◌, ℕ, ◌<◌, ◌-◌, List, length, map, All, HoldsAt, slice_index, slice_index_or}
+use Rattle.std.specs.Prelude.{◌≡◌, ◌≢◌, ℕ, ◌<◌, ◌-◌, List, length, map, All, AllPairs, HoldsAt, slice_index, slice_index_or}
 use Rattle.fetch_rules.specs.Numbering.{IsNumbering}
 use Rattle.fetch_rules.specs.declared.listing.UidRow.{UidRow}
 use Rattle.fetch_rules.specs.declared.listing.ScanRow.{ScanRow}
@@ -9,6 +9,10 @@ use Rattle.fetch_rules.specs.declared.listing.ScanRow.{ScanRow}
 pub record Item : Type 0 where
   pub uid : List ℕ
   pub size : ℕ
+
+-- no id stands twice among the messages
+abbrev pub HasDistinctIds : List Item → Type 0
+HasDistinctIds listing = AllPairs (λ a b. a.uid ≢ b.uid) listing
 
 -- the rows of UIDL and of LIST can be joined: both number the messages from 1 to n
 abbrev pub Agree : ℕ → List UidRow → List ScanRow → Type 0

@@ -22,5 +22,5 @@ pub use rc::read_rc;
 pub use rc::warning::Warning;
 pub use seen::{Seen, SeenFault};
 pub use settings::{Dest, Settings, full_path};
-pub use steps::{Step, plan};
+pub use steps::{Step, distinct_messages_are_filtered, plan};
 pub use texts::{rc_text, warning_text};

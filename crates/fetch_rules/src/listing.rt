@@ -104,13 +104,12 @@ pub struct Listing {
 impl Model for Listing {
     ghost use Rattle.std.specs.Prelude.{List, length, ◌≤◌};
     ghost use Rattle.fetch_rules.specs.Listing.{Item as ListedItem};
-    ghost use Rattle.fetch_rules.specs.declared.listing.TheConstants.{MESSAGE_LIMIT};
 
     ghost Value = { List ListedItem };
 
     ghost view = { λ listing. listing.items.items };
 
-    ghost invariant = { λ listing. length listing.items.items ≤ MESSAGE_LIMIT };
+    ghost invariant = { λ listing. length listing.items.items ≤ 100000 };
 }
 
 /// Whether each row has a legal unique-id, as `Listing::join` wants.
@@ -173,7 +172,7 @@ impl Listing {
         requires { All (λ row. IsLegalId row.uid.items) uids.now }
         ensures joined { IfOk result (Joins n uids.now sizes.now) }
         ensures disagree { result ≡ Err ListingFault.Disagree → ¬ Agree n uids.now sizes.now }
-        ensures too_many { (result ≡ Err ListingFault.TooMany) ↔ (MESSAGE_LIMIT < n) }
+        ensures too_many { (result ≡ Err ListingFault.TooMany) ↔ (100000 < n) }
     {
         if n > MESSAGE_LIMIT {
             return Err(ListingFault::TooMany);
@@ -187,7 +186,7 @@ impl Listing {
     /// How many messages there are.
     pub fn len(&self) -> u32
         ensures count { result ≡ length self.now }
-        ensures within { result ≤ MESSAGE_LIMIT }
+        ensures within { result ≤ 100000 }
     {
         self.items.len() as u32
     }

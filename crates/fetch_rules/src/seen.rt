@@ -184,6 +184,7 @@ impl Seen {
         ensures unchanged { OnFalse result (self.new ≡ self.old) }
         ensures is_record { IsRecord self.new }
     {
+        // Opens the record: the loop below starts from what is always true of it.
         let _ = &self.rows;
         let mut changed = false;
         for i in 0..listing.len() {

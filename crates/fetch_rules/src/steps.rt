@@ -1,7 +1,7 @@
 //! Which messages of a listing are fetched, and which are deleted.
 
 ghost use Rattle.std.specs.Prelude.{◌≡◌, ◌+◌, ◌<◌, length, HoldsAt, IfOk};
-ghost use Rattle.fetch_rules.specs.Wanted.{is_candidate, wanted};
+ghost use Rattle.fetch_rules.specs.Wanted.{is_candidate, wanted, DistinctAreFiltered};
 ghost use Rattle.fetch_rules.specs.Due.{is_due};
 ghost use Rattle.fetch_rules.specs.Plan.{is_deleted, planned, retrieved};
 
@@ -94,6 +94,12 @@ pub fn plan(
     }
     Ok(steps)
 }
+
+/// A law: where no id stands twice in a listing, what may be fetched is a plain filter of it, by each
+/// message's size and what is recorded of its id.
+pub fn distinct_messages_are_filtered()
+    ensures { DistinctAreFiltered }
+{}
 
 #[cfg(test)]
 mod tests;

@@ -1,11 +1,11 @@
 use Rattle.std.proofs.Common.{◌∙◌, sym, subst}
-use Rattle.fetch_rules.proofs.IdLemmas.{true_is_false}
+use Rattle.std.proofs.lemmas.Bool.{true≢false}
 use Rattle.fetch_rules.proofs.NumeralLemmas.{BeginsAsNumeral, BeginsAsNumeral-decimal, decimal_from_parse, not_decimal-unparsed, IsUtf8-decimal}
 use Rattle.fetch_rules.proofs.seen.fields.read_number.Goals as goal
 
 pub returns-then-not-begins_as_numeral-clause-none : goal.returns-then-not-begins_as_numeral-clause-none
 returns-then-not-begins_as_numeral-clause-none c = λ number fits is.
-    true_is_false (sym (c.begins_as_numeral.ensures.1 (subst BeginsAsNumeral (sym is) (BeginsAsNumeral-decimal number fits))) ∙ c.if-not-begins_as_numeral.true)
+    true≢false (sym (c.begins_as_numeral.ensures.1 (subst BeginsAsNumeral (sym is) (BeginsAsNumeral-decimal number fits))) ∙ c.if-not-begins_as_numeral.true)
 
 pub returns-in_default-clause-none : goal.returns-in_default-clause-none
 returns-in_default-clause-none c = λ number fits is. c.in_default.ensures.cases.0 (IsUtf8-decimal _ number fits is)

@@ -1,0 +1,41 @@
+-- In a listing in which no id stands twice each message is the first with its id.
+use Rattle.std.proofs.Common.{◌≡◌, ◌≢◌, ℕ, ◌<◌, ◌+◌, ◌-◌, List, Bool, true, false, ◌&&◌, length, get_or, take, sym, ◌∙◌, ap, subst, arith}
+use Rattle.std.specs.Prelude.{bytes_eq, filter, All}
+use Rattle.std.proofs.lemmas.Bool.{not_from_false}
+use Rattle.std.proofs.lemmas.List.{get_or-take, get_or_default, length-take}
+use Rattle.std.proofs.lemmas.List.Elements.{All-weaker}
+use Rattle.std.proofs.lemmas.List.Folds.{list_any_none}
+use Rattle.std.proofs.lemmas.List.FromFn.{length-enumerate_from, get_or-enumerate_from}
+use Rattle.fetch_rules.proofs.FilterLemmas.{filter_same}
+use Rattle.fetch_rules.proofs.IdLemmas.{test_from_other}
+use Rattle.fetch_rules.specs.Listing.{Item, HasDistinctIds}
+use Rattle.fetch_rules.specs.Record.{Row}
+use Rattle.fetch_rules.specs.Wanted.{numbered, has_item, is_first, is_asked_for, is_candidate, candidates}
+use Rattle.fetch_rules.specs.declared.settings.Settings.{Settings}
+
+-- a message with its number
+abbrev Message : Type 0
+Message = ℕ × Item
+
+-- items with other ids
+has_item-none : (uid : List ℕ) (items : List Item) → All (λ item. item.uid ≢ uid) items → has_item items uid ≡ false
+has_item-none uid items others = list_any_none (λ (item : Item). bytes_eq uid item.uid) items
+    (All-weaker (λ item. item.uid ≢ uid) (λ item. bytes_eq uid item.uid ≡ false) (λ item other. test_from_other uid item.uid (λ same. other (sym same))) items others)
+
+earlier_differ : (listing : List Item) (k : ℕ) (d : Item) → HasDistinctIds listing → k < length listing → All (λ item. item.uid ≢ (get_or listing k d).uid) (take k listing)
+earlier_differ listing k d distinct inside = λ j e within.
+    let before : j < k = omega (arith, within, length-take k listing) in
+    subst (λ (item : Item). item.uid ≢ (get_or listing k d).uid) (sym (get_or-take k listing j e before))
+    (subst (λ (item : Item). (get_or listing j e).uid ≢ item.uid) (get_or_default listing k e d inside) (distinct j k e before inside))
+
+are_first : (listing : List Item) → HasDistinctIds listing → All (λ message. is_first listing message ≡ true) (numbered listing)
+are_first listing distinct = λ k d inside.
+    let there : k < length listing = omega (arith, inside, length-enumerate_from 1 listing) in
+    let number : 1 + k - 1 ≡ k = omega arith in
+    subst (λ (message : Message). is_first listing message ≡ true) (sym (get_or-enumerate_from 1 listing k d there))
+    (not_from_false _ (ap (λ (n : ℕ). has_item (take n listing) (get_or listing k d.1).uid) number ∙ has_item-none _ _ (earlier_differ listing k d.1 distinct there)))
+
+pub candidates-distinct : (settings : Settings) (rows : List Row) (listing : List Item) → HasDistinctIds listing → candidates settings rows listing ≡ filter (is_asked_for settings rows) (numbered listing)
+candidates-distinct settings rows listing distinct =
+    filter_same (is_candidate settings rows listing) (is_asked_for settings rows) (numbered listing)
+    (λ k d inside. ap (λ (b : Bool). b && is_asked_for settings rows (get_or (numbered listing) k d)) (are_first listing distinct k d inside))
