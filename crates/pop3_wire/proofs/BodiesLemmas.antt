@@ -3,8 +3,8 @@ use Rattle.std.proofs.Common.{◌≡◌, ◌≢◌, ◌<◌, ◌≤◌, ◌+◌,
 use Rattle.std.proofs.lemmas.List.{append-nil, take_at}
 use Rattle.pop3_wire.specs.Body.{HasNoBody}
 use Rattle.pop3_wire.specs.Link.{Link}
-use Rattle.pop3_wire.specs.Place.{GoesOn}
-use Rattle.pop3_wire.specs.Bodies.{Drew, DrawsNothing, BodyCause}
+use Rattle.pop3_wire.specs.Place.{at, GoesOn}
+use Rattle.pop3_wire.specs.Bodies.{Drew, DrawsNothing, BodyCause, Leaves}
 use Rattle.pop3_wire.specs.declared.body_reader.BodyFault.{BodyFault}
 use Rattle.pop3_wire.specs.declared.body_reader.BodyFault.TheVariants.{Ended, Failed, TooLong, NoMemory}
 use Rattle.pop3_wire.specs.declared.unstuffer.Spot.{Spot}
@@ -21,6 +21,14 @@ pub record InBody {W : Type 0} (sound : W → Type 0) (leads_to : W → W → Ty
   pub sizes : length used + left ≡ limit
   pub heard : reader ++ gained ≡ used ++ reader'
   pub link : sound wire' → sound wire × leads_to wire wire' × Drew (seen wire) (seen wire') gained × GoesOn (seen wire) (seen wire')
+
+-- so far what was used is within the limit, and the rest waits
+pub leaves : {W : Type 0} (sound : W → Type 0) (leads_to : W → W → Type 0) (seen : W → Link) (limit : ℕ)
+    (a : W) (w : List ℕ) (b : W) (waits : List ℕ) (spot : Spot) (left : ℕ) (text : List ℕ)
+    → InBody sound leads_to seen limit a w b waits spot left text → sound b → Leaves limit (at (seen a) w) (at (seen b) waits)
+leaves sound leads_to seen limit a w b waits spot left text now s =
+    let sizes : length now.used + left ≡ limit = now.sizes in
+    record { gained = now.gained; used = now.used; got = (now.link s).2.got; within = omega arith; heard = now.heard }
 
 pub drew_on : (a b c : Link) (g h : List ℕ) → Drew a b g → Drew b c h → Drew a c (g ++ h)
 drew_on a b c g h first then =
@@ -43,9 +51,8 @@ heard_on w gained more used waits n e =
 pub cause_of_nothing : (fault : BodyFault) (limit left : ℕ) (spot : Spot) (a b c : Link) (w gained used text : List ℕ)
     → Reaches spot used text → spot ≢ Done → length used + left ≡ limit → 0 < left → w ++ gained ≡ used ++ []
     → Drew a b gained → GoesOn a b → DrawsNothing fault b c
-    → (more : List ℕ) × Drew a c more × BodyCause limit fault a c (w ++ more)
-cause_of_nothing fault limit left spot a b c w gained used text reached other sizes some heard drew steady nothing =
-    let both = cause fault nothing in (gained, both.0, both.1)
+    → Drew a c gained × BodyCause limit fault a c (w ++ gained)
+cause_of_nothing fault limit left spot a b c w gained used text reached other sizes some heard drew steady nothing = cause fault nothing
   where
     all : w ++ gained ≡ used
     all = heard ∙ append-nil used

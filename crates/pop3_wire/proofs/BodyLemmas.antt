@@ -1,6 +1,6 @@
 -- A body ends at one place only, and reading line by line finds it.
 use Rattle.std.proofs.Common.{◌≡◌, ◌≢◌, ◌≤◌, ◌-◌, ℕ, List, [], ◌∷◌, ◌++◌, length, ◌+◌, take, refl, sym, ap, ◌∙◌, arith, append_assoc, length-append}
-use Rattle.std.proofs.lemmas.List.{append-nil, take_at, append_cancel_left}
+use Rattle.std.proofs.lemmas.List.{take_at, append_cancel_left, flat_map_more}
 use Rattle.std.specs.List.{flat_map, AllByRecursion}
 use Rattle.pop3_wire.specs.Line.{crlf, IsLine, ended}
 use Rattle.pop3_wire.specs.Body.{dot, IsContent, kept, body_of, text_of, Body, HasNoBody}
@@ -93,15 +93,11 @@ reads_more bytes rest line after text reads is cut other =
     all_push [] line content is = (is, tt)
     all_push (first ∷ lines) line content is = (content.0, all_push lines line content.1 is)
 
-    flat_push : (f : List ℕ → List ℕ) (lines : List (List ℕ)) → flat_map f (lines ++ line ∷ []) ≡ flat_map f lines ++ f line
-    flat_push f [] = append-nil (f line)
-    flat_push f (first ∷ lines) = ap (λ l. f first ++ l) (flat_push f lines) ∙ sym (append_assoc (f first) (flat_map f lines) (f line))
-
     more_bytes : flat_map ended reads.lines ++ (line ++ (crlf ++ after)) ≡ flat_map ended (reads.lines ++ line ∷ []) ++ after
-    more_bytes = rw (flat_push ended reads.lines) (simp append_assoc)
+    more_bytes = rw (sym (flat_map_more ended [] reads.lines line)) (simp append_assoc)
 
     more_text : text_of reads.lines ++ kept line ≡ text_of (reads.lines ++ line ∷ [])
-    more_text = sym (flat_push kept reads.lines)
+    more_text = flat_map_more kept [] reads.lines line
 
 -- the end mark was read
 pub reads_end : (bytes rest line after text : List ℕ) → Reads bytes rest text → rest ≡ line ++ (crlf ++ after) → line ≡ dot

@@ -1,18 +1,14 @@
 -- Lines cut at spaces.
-use Rattle.std.proofs.Common.{ℕ, ◌+◌, ◌-◌, ◌<◌, ◌≤◌, ◌≡◌, ◌≢◌, true, false, List, [], ◌∷◌, length, take, drop, get_or, refl, sym, ap, ◌∙◌, inl, inr, arith, Result, Ok, Err}
+use Rattle.std.proofs.Common.{ℕ, ◌+◌, ◌-◌, ◌<◌, ◌≤◌, ◌≡◌, ◌≢◌, true, false, List, [], ◌∷◌, length, take, drop, get_or, refl, sym, ap, ◌∙◌, arith, Err}
 use Rattle.std.specs.List.{position_or_len, after_first, slice_split, count_by}
 use Rattle.std.proofs.lemmas.List.Sums.{fails_before_first, suffix_len_is}
 use Rattle.std.proofs.lemmas.List.Splits.{slice_split_none, slice_split_first, length-slice_split}
 use Rattle.std.proofs.lemmas.List.Elements.{All-from_get_or}
 use Rattle.std.proofs.lemmas.List.{drop_all}
 use Rattle.std.proofs.lemmas.Grind.{common_steps}
-use Rattle.pop3_wire.specs.Fields.{is_space, number, is_numeral}
+use Rattle.pop3_wire.specs.Fields.{is_space}
 use Rattle.pop3_wire.specs.CommandLine.{trimmed, no_argument, one_number, number_or_none, two_numbers}
-use Rattle.pop3_wire.specs.declared.fault.WireFault.TheVariants.{BadArgument, BadNumber}
-use Rattle.pop3_wire.specs.declared.fault.WireFault.{WireFault}
-use Rattle.std.specs.Prelude.{nat_le, ◌&&◌}
-use Rattle.std.specs.Str.Parse.{digits_value}
-use Rattle.std.proofs.lemmas.Bool.{cases_Bool, cond-true, cond-false, and_parts, leb-true}
+use Rattle.pop3_wire.specs.declared.fault.WireFault.TheVariants.{BadArgument}
 
 -- a line without a space is one word
 pub one_word : (bytes : List ℕ) → position_or_len is_space bytes ≡ length bytes → slice_split is_space bytes ≡ bytes ∷ []

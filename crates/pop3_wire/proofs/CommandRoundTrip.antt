@@ -1,10 +1,9 @@
 -- The line that asks for a command is read as that command.
-use Rattle.std.proofs.Common.{ℕ, zero, suc, ◌+◌, ◌-◌, ◌*◌, ◌^◌, ◌<◌, ◌≤◌, ◌≡◌, ◌≢◌, Bool, true, false, cond, List, [], ◌∷◌, ◌++◌, length, take, drop, get_or, eqb, refl, sym, ap, ◌∙◌, subst, arith, rules, Result, Ok, Err, Option, Some, None, lit<, length-append, append_assoc}
+use Rattle.std.proofs.Common.{ℕ, zero, suc, ◌+◌, ◌-◌, ◌*◌, ◌^◌, ◌<◌, ◌≤◌, ◌≡◌, true, false, List, [], ◌∷◌, ◌++◌, length, drop, get_or, refl, sym, ap, ◌∙◌, arith, rules, Result, Ok, Some, length-append, append_assoc}
 use Rattle.std.specs.Prelude.{not, nat_lt, nat_le, ◌&&◌, codes}
-use Rattle.std.specs.List.{position_or_len, before_first, slice_split, suffix_len, list_all, All}
+use Rattle.std.specs.List.{before_first, slice_split, suffix_len, list_all, All}
 use Rattle.std.specs.Fmt.{decimal}
 use Rattle.std.specs.Char.{is_ascii_digit}
-use Rattle.std.specs.Str.{str_eq_ignore_ascii_case}
 use Rattle.std.specs.Str.Parse.{digits_value}
 use Rattle.std.proofs.lemmas.Bool.{not-true, and_parts, and_from, le-leb, lt-ltb, le-ltb, cond-true, cond-false, leb-true}
 use Rattle.std.proofs.lemmas.Bool.Decides.{nat_tests}
@@ -14,14 +13,11 @@ use Rattle.std.proofs.lemmas.List.Splits.{slice_split_none, slice_split_at}
 use Rattle.std.proofs.lemmas.List.Elements.{All-from_get_or}
 use Rattle.std.proofs.lemmas.List.Sums.{suffix_len_is}
 use Rattle.std.proofs.lemmas.List.{get_or-append_right, take_all}
-use Rattle.std.proofs.lemmas.Grind.{common_steps}
 use Rattle.pop3_wire.specs.declared.fault.WireFault.{WireFault}
-use Rattle.pop3_wire.specs.declared.fault.WireFault.TheVariants.{BadNumber, BadCommand, BadArgument}
-use Rattle.pop3_wire.specs.declared.command.Command.{Command}
 use Rattle.pop3_wire.specs.declared.command.Command.TheVariants.{User, Pass, Stat, UidlAll, UidlOne, ListAll, ListOne, Retr, Dele, Rset, Noop, Top, Quit}
 use Rattle.pop3_wire.specs.Fields.{◌>>=◌, is_space, number, is_numeral}
-use Rattle.pop3_wire.specs.Commands.{is_argument, is_plain, can_be_sent, line_of}
-use Rattle.pop3_wire.specs.CommandLine.{keyword_of, trimmed, arguments, rest_of, one_or_all, text_argument, argument_number, no_argument, one_number, number_or_none, two_numbers, command_by, command_of, HasNumbers, ReadAsWritten}
+use Rattle.pop3_wire.specs.Commands.{is_argument, is_plain, line_of}
+use Rattle.pop3_wire.specs.CommandLine.{keyword_of, trimmed, arguments, rest_of, one_or_all, text_argument, argument_number, no_argument, one_number, number_or_none, two_numbers, command_by, command_of, ReadAsWritten}
 
 read_on : ℕ → List ℕ → ℕ
 read_on n [] = n

@@ -8,3 +8,4 @@ pub mod LineReaderLemmas
 pub mod StuffLemmas
 pub mod UnstuffingLemmas
 pub mod BodiesLemmas
+pub mod BeginningLemmas

@@ -55,10 +55,10 @@ line_found bytes k first occurs = (whole, split)
         let sizes : length (take k bytes) ≡ length front + length (crlf ++ rest) = ap length e ∙ length-append front (crlf ++ rest) in
         first.before (length front) (omega arith) (omega arith) earlier
 
-same_cons : (b c : ℕ) (x y : List ℕ) → b ∷ x ≡ c ∷ y → (b ≡ c) × (x ≡ y)
+pub same_cons : (b c : ℕ) (x y : List ℕ) → b ∷ x ≡ c ∷ y → (b ≡ c) × (x ≡ y)
 same_cons b c x y e = (cc, cc)
 
-lf_is_not_cr : (b : ℕ) → b ≡ 10 → b ≡ 13 → ⊥
+pub lf_is_not_cr : (b : ℕ) → b ≡ 10 → b ≡ 13 → ⊥
 lf_is_not_cr b e f = absurd (omega arith)
 
 -- a line that isn't empty doesn't begin with the pair

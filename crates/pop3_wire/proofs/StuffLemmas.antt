@@ -1,10 +1,9 @@
 -- Texts cut into lines, and the bodies of these.
-use Rattle.std.proofs.Common.{◌≡◌, ◌≢◌, ◌⊎◌, inl, inr, ℕ, zero, suc, ◌+◌, ◌-◌, ◌<◌, ◌≤◌, true, false, List, [], ◌∷◌, ◌++◌, length, take, drop, refl, sym, ap, subst, ◌∙◌, arith, append_assoc, map}
+use Rattle.std.proofs.Common.{◌≡◌, ◌≢◌, inl, inr, ℕ, zero, suc, ◌+◌, ◌<◌, List, [], ◌∷◌, ◌++◌, length, take, drop, refl, sym, ap, ◌∙◌, arith, map}
 use Rattle.std.specs.List.{flat_map, onto_first, position_or_len, AllByRecursion}
 use Rattle.std.proofs.lemmas.Bool.Decides.{eqb_tells}
-use Rattle.std.proofs.lemmas.Grind.{common_steps}
 use Rattle.pop3_wire.specs.Line.{crlf, IsLine, ended}
-use Rattle.pop3_wire.specs.Body.{dot, IsContent, unstuffed, kept, body_of, text_of, Body}
+use Rattle.pop3_wire.specs.Body.{dot, IsContent, unstuffed, text_of}
 use Rattle.pop3_wire.specs.Stuffed.{is_line_feed, lines_of_text, stuffed, sent_line, stuffed_lines, whole_text, StuffedIsBody, StuffedIsRead, OneBody}
 use Rattle.pop3_wire.proofs.BodyLemmas.{one_body}
 

@@ -25,6 +25,14 @@ pub record TookBody (limit : ℕ) (old new : Place) (text gained : List ℕ) : T
   pub within : length body ≤ limit
   pub heard : old.waiting ++ gained ≡ body ++ new.waiting
 
+-- of what waited and was gained at most so many octets were used, and all that follows them waits
+pub record Leaves (limit : ℕ) (old new : Place) : Type 0 where
+  pub gained : List ℕ
+  pub used : List ℕ
+  pub got : new.link.got ≡ old.link.got ++ gained
+  pub within : length used ≤ limit
+  pub heard : old.waiting ++ gained ≡ used ++ new.waiting
+
 -- why there is no text, where these octets have come: nothing comes any more, a call was refused, the limit is reached, or memory is wanting
 abbrev pub BodyCause : ℕ → BodyFault → Link → Link → List ℕ → Type 0
 BodyCause limit Ended old new bytes = HasNoBody bytes × (length bytes < limit) × (new.ended ≡ true) × (new.failures ≡ old.failures)

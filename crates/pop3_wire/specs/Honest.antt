@@ -1,10 +1,9 @@
 -- What a server may answer to the commands of a session, and whole conversations (RFC 1939, sections 3 to 7).
-use Rattle.std.specs.Prelude.{◌≡◌, ◌⊎◌, ◌<◌, ◌-◌, ◌+◌, ℕ, Bool, true, false, not, List, [], ◌∷◌, ◌++◌, map, Some, Result, Ok, slice_get, slice_set, if◌then◌else◌}
+use Rattle.std.specs.Prelude.{◌≡◌, ◌⊎◌, ◌<◌, ◌-◌, ◌+◌, ℕ, Bool, true, false, not, List, [], ◌∷◌, ◌++◌, map, Some, Ok, slice_get, slice_set, if◌then◌else◌}
 use Rattle.std.specs.List.{flat_map, count_by, AllZip, AllByRecursion}
 use Rattle.std.specs.List.Sorted.{IsPermutation}
 use Rattle.pop3_wire.specs.declared.command.Command.{Command}
 use Rattle.pop3_wire.specs.declared.command.Command.TheVariants.{User, Pass, Stat, UidlAll, UidlOne, ListAll, ListOne, Retr, Dele, Rset, Noop, Top, Quit}
-use Rattle.pop3_wire.specs.declared.fault.WireFault.{WireFault}
 use Rattle.pop3_wire.specs.declared.reply.Status.{Status}
 use Rattle.pop3_wire.specs.declared.reply.Status.TheVariants.{Positive, Negative}
 use Rattle.pop3_wire.specs.Line.{IsLine, ended}

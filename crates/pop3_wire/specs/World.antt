@@ -1,5 +1,5 @@
 -- What a server's maildrop holds over time (RFC 1939, sections 4 and 7).
-use Rattle.std.specs.Prelude.{◌≡◌, ℕ, Bool, true, not, List, [], ◌∷◌, take, map, bytes_eq}
+use Rattle.std.specs.Prelude.{◌≡◌, ℕ, true, not, List, [], ◌∷◌, take, map, bytes_eq}
 use Rattle.std.specs.List.{filter, list_any, Contains, AllByRecursion}
 use Rattle.pop3_wire.specs.Fields.{is_legal_id}
 use Rattle.pop3_wire.specs.Stuffed.{whole_text}

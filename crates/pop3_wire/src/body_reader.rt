@@ -1,6 +1,6 @@
 //! Taking one body from a link, into its text (RFC 1939, section 3).
-ghost use Rattle.std.specs.Prelude.{◌≡◌, ◌≢◌, ◌≤◌, ◌<◌, ◌+◌, ◌-◌, ◌++◌, ℕ, List, [], length, take, drop, min, IfOk, IfErr, OnOk};
-ghost use Rattle.pop3_wire.specs.Bodies.{Drew, DrawsNothing, ReadsBody, items_of, refusal_of};
+ghost use Rattle.std.specs.Prelude.{◌≡◌, ◌≢◌, ◌≤◌, ◌<◌, ◌+◌, ◌-◌, ◌++◌, ℕ, List, [], length, take, drop, min, IfOk, IfErr, OnOk, OnErr};
+ghost use Rattle.pop3_wire.specs.Bodies.{Drew, DrawsNothing, Leaves, ReadsBody, items_of, refusal_of};
 ghost use Rattle.pop3_wire.specs.Link.{Tallies};
 ghost use Rattle.pop3_wire.specs.Place.{at, GoesOn};
 ghost use Rattle.pop3_wire.specs.Unstuffing.{Reaches};
@@ -46,7 +46,7 @@ fn draw<W: Wire>(wire: &mut W, reader: &mut LineReader) -> Result<(), BodyFault>
     ensures ok { OnOk result ((gained : List ℕ) × (reader.new ≡ reader.old ++ gained) × (0 < length reader.new)
         × (W.sound wire.new → W.sound wire.old × W.leads_to wire.old wire.new
         × Drew (W.seen wire.old) (W.seen wire.new) gained × GoesOn (W.seen wire.old) (W.seen wire.new))) }
-    ensures err { IfErr result (λ fault. (reader.old ≡ [])
+    ensures err { IfErr result (λ fault. (reader.old ≡ []) × (reader.new ≡ [])
         × (W.sound wire.new → W.sound wire.old × W.leads_to wire.old wire.new
         × DrawsNothing fault (W.seen wire.old) (W.seen wire.new))) }
 {
@@ -61,28 +61,30 @@ fn draw<W: Wire>(wire: &mut W, reader: &mut LineReader) -> Result<(), BodyFault>
 }
 
 /// Uses what waits, as far as it belongs to the body and stays within `left` octets, and puts what
-/// it adds to the text behind it. It says how many octets that were.
+/// it adds to the text behind it, by way of `out`. It says how many octets that were.
 fn use_waiting(
     reader: &mut LineReader,
     unstuffer: &mut Unstuffer,
     left: usize,
+    out: &mut [u8; 4097],
     text: &mut Vec<u8>,
 ) -> Result<usize, AllocError>
     ensures used { IfOk result (λ used. (used ≤ left) × (used ≤ length reader.old) × (reader.new ≡ drop used reader.old)) }
     ensures whole { IfOk result (λ used. unstuffer.new ≢ Done → used ≡ min left (length reader.old)) }
     ensures reached { IfOk result (λ used. (bytes known : List ℕ) → text.old.items ≡ known → Reaches unstuffer.old bytes known
         → Reaches unstuffer.new (bytes ++ take used reader.old) text.new.items) }
+    ensures err { OnErr result (reader.new ≡ reader.old) }
 {
-    let mut out = [0u8; 4097];
     let length = left.min(reader.waiting().len());
-    let fed = unstuffer.feed(&reader.waiting()[..length], &mut out);
+    let fed = unstuffer.feed(&reader.waiting()[..length], out);
     text.extend_from_slice(&out[..fed.put])?;
     reader.skip(fed.used);
     Ok(fed.used)
 }
 
 /// Takes one body from the link, end mark included, and answers its text. It asks the link for no
-/// more than the body needs, and the body may take at most `limit` octets.
+/// more than the body needs, and the body may take at most `limit` octets. Whatever it answers, no
+/// more than `limit` octets are used, and what the link gave beyond them waits.
 pub fn read_body<W: Wire>(
     alloc: Global,
     wire: &mut W,
@@ -93,15 +95,17 @@ pub fn read_body<W: Wire>(
     ensures counted { Tallies (W.seen wire.old).failures (refusal_of result) (W.seen wire.new).failures }
     ensures read { W.sound wire.new → W.sound wire.old × W.leads_to wire.old wire.new
         × ReadsBody limit (at (W.seen wire.old) reader.old) (items_of result) (at (W.seen wire.new) reader.new) }
+    ensures rest { W.sound wire.new → Leaves limit (at (W.seen wire.old) reader.old) (at (W.seen wire.new) reader.new) }
 {
     let mut unstuffer = Unstuffer::new();
+    let mut out = [0u8; 4097];
     let mut text = Vec::new(alloc);
     let mut left = limit;
     'pieces: loop {
         if let Err(fault) = draw(wire, reader) {
             return Err(fault);
         }
-        let used = use_waiting(reader, &mut unstuffer, left, &mut text)?;
+        let used = use_waiting(reader, &mut unstuffer, left, &mut out, &mut text)?;
         left -= used;
         if unstuffer.has_ended() {
             return Ok(text);

@@ -8,7 +8,7 @@ pub enum WireFault {
     /// A first line begins with neither `+OK` nor `-ERR`.
     #[error("no status")]
     BadStatus,
-    /// A numeral isn't 1 to 20 digits, or its value is above the limit of its field.
+    /// A number isn't written in digits, has too many of them, or is above the limit of its field.
     #[error("bad number")]
     BadNumber,
     /// A field is missing, or an id isn't legal.

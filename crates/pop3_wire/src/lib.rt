@@ -34,11 +34,15 @@ pub use stream_wire::StreamWire;
 pub use stuffing::{
     cut_text, only_one_body, put_body, put_line, stuff, stuffed_is_body, stuffed_is_read,
 };
-pub use unstuffer::{Fed, Given, Spot, Unstuffer};
+pub use unstuffer::{
+    Fed, Spot, Unstuffer, ends_with_body, holds_no_body, shows_a_beginning, starts_empty,
+};
 pub use wire::{Wire, WireDown};
 
 #[cfg(test)]
 mod command_tests;
+#[cfg(test)]
+mod link_tests;
 #[cfg(test)]
 mod reading_tests;
 #[cfg(test)]

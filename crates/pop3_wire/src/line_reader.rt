@@ -44,13 +44,16 @@ impl Model for LineReader {
         × HasNoLine r.searched (take (r.end - r.start) (drop r.start r.bytes)) };
 }
 
-/// Moves a part of the bytes to their front.
+/// Moves a part of the bytes to their front. Where it stands there nothing is copied, so that a line
+/// that comes in many pieces is copied once.
 fn move_to_front(bytes: &mut [u8], start: usize, end: usize)
     requires low { start ≤ end }
     requires high { end ≤ length bytes.old }
     ensures { take (end - start) bytes.new ≡ take (end - start) (drop start bytes.old) }
 {
-    bytes.copy_within(start..end, 0);
+    if start > 0 {
+        bytes.copy_within(start..end, 0);
+    }
 }
 
 impl LineReader {

@@ -25,6 +25,7 @@ impl Model for ScriptWire {
 
     ghost view = { λ w. record {
       replies = w.replies.items;
+      cut = w.cut;
       link = record {
         sent = w.sent.items;
         got = take w.given w.replies.items;
@@ -42,6 +43,7 @@ impl ScriptWire {
         requires { 0 < cut }
         ensures { result ≡ record {
           replies = replies.items;
+          cut = cut;
           link = record { sent = []; got = []; ended = false; failures = 0 };
         } }
     {
@@ -68,7 +70,7 @@ impl Wire for ScriptWire {
 
     ghost sound = { λ w. w.link.failures < greatest_count };
 
-    ghost leads_to = { λ u v. v.replies ≡ u.replies };
+    ghost leads_to = { λ u v. (v.replies ≡ u.replies) × (v.cut ≡ u.cut) };
 
     fn send(&mut self, bytes: &[u8]) -> Result<(), WireDown> {
         if self.failures == u64::MAX {
@@ -86,11 +88,13 @@ impl Wire for ScriptWire {
         ensures within { IfOk result (λ n. n ≤ length buf.new) }
         ensures counted { Tallies self.old.link.failures result self.new.link.failures }
         ensures got { (self.new.link.failures < greatest_count) → (self.old.link.failures < greatest_count)
-            × (self.new.replies ≡ self.old.replies)
+            × ((self.new.replies ≡ self.old.replies) × (self.new.cut ≡ self.old.cut))
             × Receives self.old.link result buf.new self.new.link }
-        // Below the greatest count it refuses nothing, and answers 0 only where all was given.
+        // Below the greatest count it refuses nothing, and answers 0 only where all was given; a piece
+        // is never longer than the cut.
         ensures gives { self.old.link.failures < greatest_count → IsOk result }
         ensures ends { IfOk result (λ n. n ≡ 0 → self.new.link.got ≡ self.new.replies) }
+        ensures piece { IfOk result (λ n. n ≤ self.old.cut) }
         ensures front { (rest : List ℕ) × (self.new.replies ≡ self.new.link.got ++ rest) }
     {
         if self.failures == u64::MAX {
@@ -108,7 +112,7 @@ impl Wire for ScriptWire {
         self.failures
     }
 
-    ghost leads_same = { λ _. refl };
+    ghost leads_same = { λ _. (refl, refl) };
 
-    ghost leads_on = { λ _ _ _ p q. q ∙ p };
+    ghost leads_on = { λ _ _ _ p q. (q.0 ∙ p.0, q.1 ∙ p.1) };
 }

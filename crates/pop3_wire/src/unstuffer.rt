@@ -224,3 +224,9 @@ pub fn ends_with_body()
 pub fn holds_no_body()
     ensures { (spot : Spot) (bytes text : List ℕ) → Reaches spot bytes text → spot ≢ Spot.Done → HasNoBody bytes }
 {}
+
+/// What was put begins the text of every body that goes on from the octets read.
+pub fn shows_a_beginning()
+    ensures { (spot : Spot) (bytes text rest whole : List ℕ) → Reaches spot bytes text → Body (bytes ++ rest) whole
+        → (more : List ℕ) × (whole ≡ text ++ more) }
+{}

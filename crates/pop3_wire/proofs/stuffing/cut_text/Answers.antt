@@ -1,6 +1,6 @@
-use Rattle.std.proofs.Common.{◌≡◌, ◌<◌, ◌+◌, ℕ, List, ◌∷◌, length, arith, ap, sym, ◌∙◌}
+use Rattle.std.proofs.Common.{◌≡◌, ◌<◌, ◌+◌, length, arith}
 use Rattle.std.specs.List.{position_or_len}
-use Rattle.pop3_wire.specs.Stuffed.{is_line_feed, lines_of_text}
+use Rattle.pop3_wire.specs.Stuffed.{is_line_feed}
 use Rattle.pop3_wire.proofs.CommandLineLemmas.{to_end}
 use Rattle.pop3_wire.proofs.StuffLemmas.{one_text_line, first_text_line}
 use Rattle.pop3_wire.proofs.stuffing.cut_text.Goals as goal

@@ -1,4 +1,4 @@
-use Rattle.std.proofs.Common.{◌++◌, ℕ, List, take, sym, subst}
+use Rattle.std.proofs.Common.{◌++◌, take, sym, subst}
 use Rattle.pop3_wire.specs.declared.unstuffer.Spot.{Spot}
 use Rattle.pop3_wire.specs.Unstuffing.{Reaches}
 use Rattle.pop3_wire.proofs.UnstuffingLemmas.{middle_run}

@@ -1,4 +1,4 @@
-use Rattle.std.proofs.Common.{◌+◌, ◌-◌, ℕ, List, take, drop, length, sym, subst, arith, rules, length-take-le, length-drop}
+use Rattle.std.proofs.Common.{◌+◌, ◌-◌, take, drop, length, sym, subst, arith, rules, length-drop}
 use Rattle.std.proofs.lemmas.List.{length-take}
 use Rattle.pop3_wire.specs.declared.unstuffer.Spot.{Spot}
 use Rattle.pop3_wire.specs.Unstuffing.{Reaches, bytes_given}
