@@ -178,6 +178,26 @@ cr_other bytes text byte no_lf no_cr h =
     shown = unstuffed-push (h.part ++ 13 ∷ []) byte (inl (push-some h.part 13))
         ∙ ap (λ (t : List ℕ). t ++ byte ∷ []) (unstuffed-push h.part 13 (inr (cr_is_no_dot 13 refl))) ∙ append_assoc (unstuffed h.part) (13 ∷ []) (byte ∷ [])
 
+-- the end of a line, both octets of it
+middle_cr_lf : (bytes text : List ℕ) → InLine bytes text → Partly (bytes ++ crlf) (text ++ 10 ∷ []) [] []
+middle_cr_lf bytes text h =
+    subst (λ (b : List ℕ). Partly b (text ++ 10 ∷ []) [] []) (append_assoc bytes (13 ∷ []) (10 ∷ []))
+    (subst (λ (t : List ℕ). Partly ((bytes ++ 13 ∷ []) ++ 10 ∷ []) (t ++ 10 ∷ []) [] []) (append-nil text)
+    (cr_lf (bytes ++ 13 ∷ []) (text ++ []) (middle_cr bytes text h)))
+
+-- the first two octets of a piece, by their places
+take_two : (piece : List ℕ) → 2 ≤ length piece → take 2 piece ≡ get_or piece 0 0 ∷ get_or piece 1 0 ∷ []
+take_two [] long = absurd (omega arith)
+take_two (a ∷ []) long = absurd (omega arith)
+take_two (a ∷ b ∷ rest) long = refl
+
+-- a piece that begins with the end of a line
+pub middle_two : (bytes text piece : List ℕ) → 2 ≤ length piece → get_or piece 0 0 ≡ 13 → get_or piece 1 0 ≡ 10 → InLine bytes text
+    → Partly (bytes ++ take 2 piece) (text ++ 10 ∷ []) [] []
+middle_two bytes text piece long first second h =
+    let two : crlf ≡ take 2 piece = sym (take_two piece long ∙ ap (λ (b : ℕ). b ∷ get_or piece 1 0 ∷ []) first ∙ ap (λ (b : ℕ). 13 ∷ b ∷ []) second) in
+    subst (λ (l : List ℕ). Partly (bytes ++ l) (text ++ 10 ∷ []) [] []) two (middle_cr_lf bytes text h)
+
 pub partly_none : Partly [] [] [] []
 partly_none = record { lines = []; content = tt; line = IsLine-nil; whole = refl; read = refl }
 
@@ -215,36 +235,14 @@ middle_run piece (suc n) fits none bytes text h =
     let text_is : (text ++ take n piece) ++ get_or piece n 0 ∷ [] ≡ text ++ take (suc n) piece = append_assoc text (take n piece) (get_or piece n 0 ∷ []) ∙ ap (λ (l : List ℕ). text ++ l) (sym more) in
     subst (λ (b : List ℕ). InLine b (text ++ take (suc n) piece)) bytes_are (subst (InLine ((bytes ++ take n piece) ++ get_or piece n 0 ∷ [])) text_is next)
 
--- a run was copied
-pub run_on : (spot : Spot) (bytes text piece run_text : List ℕ) (used run : ℕ) (out : List ℕ)
+-- the first octets of what is left of a piece were read
+pub turn_on : (spot next : Spot) (bytes text piece : List ℕ) (used more : ℕ) (out out' : List ℕ)
     → Reaches spot (bytes ++ take used piece) (text ++ out)
-    → ((b t : List ℕ) → Reaches spot b t → Reaches spot (b ++ take run (drop used piece)) (t ++ take run (drop used piece)))
-    → run_text ≡ out ++ take run (drop used piece)
-    → Reaches spot (bytes ++ take (used + run) piece) (text ++ run_text)
-run_on spot bytes text piece run_text used run out so_far reaches is =
-    let b : (bytes ++ take used piece) ++ take run (drop used piece) ≡ bytes ++ take (used + run) piece =
-    append_assoc bytes (take used piece) (take run (drop used piece)) ∙ ap (λ (l : List ℕ). bytes ++ l) (sym (take-add used run piece)) in
-    let t : (text ++ out) ++ take run (drop used piece) ≡ text ++ run_text =
-    append_assoc text out (take run (drop used piece)) ∙ ap (λ (l : List ℕ). text ++ l) (sym is) in
-    subst (λ (x : List ℕ). Reaches spot x (text ++ run_text)) b (subst (Reaches spot ((bytes ++ take used piece) ++ take run (drop used piece))) t (reaches (bytes ++ take used piece) (text ++ out) so_far))
-
--- a run was copied, and one more octet read
-pub feed_step : (spot next : Spot) (bytes text piece : List ℕ) (used run : ℕ) (out0 out1 out2 given : List ℕ)
-    → Reaches spot (bytes ++ take used piece) (text ++ out0)
-    → ((b t : List ℕ) → Reaches spot b t
-    → Reaches spot (b ++ take run (take (length piece - used) (drop used piece))) (t ++ take run (take (length piece - used) (drop used piece))))
-    → out1 ≡ out0 ++ take run (take (length piece - used) (drop used piece))
-    → used + run < length piece
-    → ((b t : List ℕ) → Reaches spot b t → Reaches next (b ++ get_or piece (used + run) 0 ∷ []) (t ++ given))
-    → out2 ≡ out1 ++ given
-    → Reaches next (bytes ++ take (used + run + 1) piece) (text ++ out2)
-feed_step spot next bytes text piece used run out0 out1 out2 given so_far reaches copied small steps written =
-    let rest = take_rest piece used in
-    let run_is = ap (take run) rest in
-    let ran = run_on spot bytes text piece out1 used run out0 so_far
-    (λ b t h. subst (λ (l : List ℕ). Reaches spot (b ++ l) (t ++ l)) run_is (reaches b t h)) (copied ∙ ap (λ (l : List ℕ). out0 ++ l) run_is) in
-    let stepped = steps (bytes ++ take (used + run) piece) (text ++ out1) ran in
-    let bytes_are : (bytes ++ take (used + run) piece) ++ get_or piece (used + run) 0 ∷ [] ≡ bytes ++ take (used + run + 1) piece =
-    append_assoc bytes (take (used + run) piece) (get_or piece (used + run) 0 ∷ []) ∙ ap (λ (l : List ℕ). bytes ++ l) (sym (take_more piece (used + run) 0 small)) in
-    let text_is : (text ++ out1) ++ given ≡ text ++ out2 = append_assoc text out1 given ∙ ap (λ (l : List ℕ). text ++ l) (sym written) in
-    subst (λ (b : List ℕ). Reaches next b (text ++ out2)) bytes_are (subst (Reaches next ((bytes ++ take (used + run) piece) ++ get_or piece (used + run) 0 ∷ [])) text_is stepped)
+    → ((b t : List ℕ) → Reaches spot b (t ++ out) → Reaches next (b ++ take more (take (length piece - used) (drop used piece))) (t ++ out'))
+    → Reaches next (bytes ++ take (used + more) piece) (text ++ out')
+turn_on spot next bytes text piece used more out out' so_far reaches =
+    let rest = ap (take more) (take_rest piece used) in
+    let bytes_are : (bytes ++ take used piece) ++ take more (take (length piece - used) (drop used piece)) ≡ bytes ++ take (used + more) piece =
+    append_assoc bytes (take used piece) (take more (take (length piece - used) (drop used piece)))
+    ∙ ap (λ (l : List ℕ). bytes ++ (take used piece ++ l)) rest ∙ ap (λ (l : List ℕ). bytes ++ l) (sym (take-add used more piece)) in
+    subst (λ (b : List ℕ). Reaches next b (text ++ out')) bytes_are (reaches (bytes ++ take used piece) text so_far)

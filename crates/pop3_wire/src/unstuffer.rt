@@ -1,5 +1,5 @@
 //! Bodies that are read piece by piece, however the pieces fall (RFC 1939, section 3).
-ghost use Rattle.std.specs.Prelude.{◌≡◌, ◌≢◌, ◌≤◌, ◌<◌, ◌+◌, ◌++◌, ◌↔◌, ◌∷◌, ℕ, List, [], length, slice_index, take, IsTrue};
+ghost use Rattle.std.specs.Prelude.{◌≡◌, ◌≢◌, ◌≤◌, ◌<◌, ◌+◌, ◌++◌, ◌↔◌, ◌∷◌, ℕ, List, [], length, slice_index, take, IsTrue, IfSome};
 ghost use Rattle.pop3_wire.specs.Body.{Body, HasNoBody};
 ghost use Rattle.pop3_wire.specs.Unstuffing.{Reaches, held_back, bytes_given};
 
@@ -80,6 +80,27 @@ fn step(spot: Spot, byte: u8) -> (Spot, Given)
     }
 }
 
+/// Where the two octets that a piece begins with lead, and the one that they give, for the pairs
+/// that many lines have: CR LF in a line, and a full stop at its start with an octet that isn't CR.
+fn pair(spot: Spot, piece: &[u8]) -> Option<(Spot, u8)>
+    ensures fits { IfSome result (λ r. (2 ≤ length piece.now) × (r.0 ≢ Spot.Done) × (held_back r.0 ≤ held_back spot)) }
+    ensures reached { IfSome result (λ r. (bytes text : List ℕ) → Reaches spot bytes text
+        → Reaches r.0 (bytes ++ take 2 piece.now) (text ++ r.1 ∷ [])) }
+{
+    match spot {
+        Spot::Start => match piece {
+            [b'.', b'\r', ..] => None,
+            [b'.', byte, ..] => Some((Spot::Middle, *byte)),
+            _ => None,
+        },
+        Spot::Middle => match piece {
+            [b'\r', b'\n', ..] => Some((Spot::Start, b'\n')),
+            _ => None,
+        },
+        _ => None,
+    }
+}
+
 /// Writes what an octet gave behind the first `put` octets, and says how many stand there now.
 fn write(out: &mut [u8], put: usize, given: Given) -> usize
     requires { put + length (bytes_given given) ≤ length out.old }
@@ -105,6 +126,9 @@ fn run_length(piece: &[u8]) -> usize
     ensures fits { result ≤ length piece.now }
     ensures none { (k : ℕ) → k < result → slice_index piece.now k ≢ 13 }
 {
+    if let [b'\r', ..] = piece {
+        return 0;
+    }
     match memchr(b'\r', piece) {
         Some(length) => length,
         None => piece.len(),
@@ -127,6 +151,50 @@ fn copy_run(spot: Spot, piece: &[u8], out: &mut [u8], put: usize) -> usize
             run
         }
         _ => 0,
+    }
+}
+
+/// Where the first octets of a piece lead, how many they are, and how many octets stand in the
+/// buffer then.
+#[derive(Clone, Copy)]
+struct Turn {
+    spot: Spot,
+    used: usize,
+    put: usize,
+}
+
+/// Reads the first octets of a piece, and puts what they give behind the first `put` octets.
+fn take_turn(spot: Spot, piece: &[u8], out: &mut [u8], put: usize) -> Turn
+    requires inside { spot ≢ Spot.Done }
+    requires some { 0 < length piece.now }
+    requires room { put + length piece.now + held_back spot ≤ length out.old }
+    ensures fits { (0 < result.used) × (result.used ≤ length piece.now) }
+    ensures few { result.put + held_back result.spot ≤ put + result.used + held_back spot }
+    ensures reached { (bytes text : List ℕ) → Reaches spot bytes (text ++ take put out.old)
+        → Reaches result.spot (bytes ++ take result.used piece.now) (text ++ take result.put out.new) }
+{
+    if let Some((next, byte)) = pair(spot, piece) {
+        let put = write(out, put, Given::One(byte));
+        return Turn {
+            spot: next,
+            used: 2,
+            put,
+        };
+    }
+    let run = copy_run(spot, piece, out, put);
+    if run > 0 {
+        return Turn {
+            spot,
+            used: run,
+            put: put + run,
+        };
+    }
+    let (next, given) = step(spot, piece[0]);
+    let put = write(out, put, given);
+    Turn {
+        spot: next,
+        used: 1,
+        put,
     }
 }
 
@@ -171,40 +239,19 @@ impl Unstuffer {
         ensures after { self.old ≡ Spot.Done → (result.used ≡ 0) × (result.put ≡ 0) }
     {
         let mut spot = self.spot;
-        if spot == Spot::Done {
-            return Fed {
-                used: 0,
-                put: 0,
-                ended: true,
-            };
-        }
         let mut used = 0;
         let mut put = 0;
-        'octets: while used < piece.len() {
-            let run = copy_run(spot, &piece[used..], out, put);
-            used += run;
-            put += run;
-            if used == piece.len() {
-                break;
-            }
-            let (next, given) = step(spot, piece[used]);
-            put = write(out, put, given);
-            used += 1;
-            spot = next;
-            if spot == Spot::Done {
-                self.spot = spot;
-                return Fed {
-                    used,
-                    put,
-                    ended: true,
-                };
-            }
+        'octets: while used < piece.len() && spot != Spot::Done {
+            let turn = take_turn(spot, &piece[used..], out, put);
+            spot = turn.spot;
+            used += turn.used;
+            put = turn.put;
         }
         self.spot = spot;
         Fed {
-            used: piece.len(),
+            used,
             put,
-            ended: false,
+            ended: spot == Spot::Done,
         }
     }
 }
