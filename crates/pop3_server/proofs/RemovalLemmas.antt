@@ -62,6 +62,18 @@ all_removed (stays i row rows old all new unmarked rest) whole = all_removed res
 all_removed (goes i row rows old mid true all new marked tries rest) whole = all_removed rest whole ∙ ap (λ (m : Mail). m.refused) tries
 all_removed (goes i row rows old mid false all new marked tries rest) whole = cc
 
+pub some_refused : {i : ℕ} {rows : List Row} {old : Mail} {all : Bool} {new : Mail} → Empties i rows old all new → all ≡ false → old.refused < new.refused
+some_refused (none i old) left = cc
+some_refused (stays i row rows old all new unmarked rest) left = some_refused rest left
+some_refused (goes i row rows old mid true all new marked tries rest) left =
+    let later = some_refused rest left in
+    let same = ap (λ (m : Mail). m.refused) tries in
+    omega (arith, later, same)
+some_refused (goes i row rows old mid false all new marked tries rest) left =
+    let one = tries_count old mid i false true tries sym in
+    let later = few_left rest in
+    omega (arith, one, later)
+
 pub others_stay : {i : ℕ} {rows : List Row} {old : Mail} {all : Bool} {new : Mail} → Empties i rows old all new → (k : ℕ) (row : Row) → slice_get rows k ≡ Some row → row.marked ≡ false → slice_get new.slots (i + k) ≡ slice_get old.slots (i + k)
 others_stay (none i old) k row h unmarked = refl
 others_stay (stays i first rows old all new fresh rest) zero row h unmarked = earlier rest (i + 0) (omega arith)
