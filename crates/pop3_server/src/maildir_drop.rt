@@ -37,27 +37,38 @@ impl<'a, R: Files + AllocGlobal + Clone + Drop> Model for MaildirDrop<'a, R> {
     } };
 }
 
-/// The octets of a file, read in pieces.
-fn file_size<R: Files>(rt: &R, path: &str) -> io::Result<u64> {
+/// How long a file is, and its size as a message, where each line's end counts as two octets.
+struct Extent {
+    length: u64,
+    size: u64,
+}
+
+/// The extent of a file, which is read in pieces.
+fn extent_of<R: Files>(rt: &R, path: &str) -> io::Result<Extent> {
     let mut file = fs::open(rt, path)?;
     let mut piece = [0u8; 16384];
+    let mut length = 0u64;
     let mut count = SizeCount::new();
     for _ in 0..u64::MAX {
         let n = file.read(&mut piece)?;
         if n == 0 {
             break;
         }
+        length = length.saturating_add(n as u64);
         count.add(&piece[..n]);
     }
-    Ok(count.size())
+    Ok(Extent {
+        length,
+        size: count.size(),
+    })
 }
 
-/// Where the file of a listed message lies, and the size that the listing gave.
+/// Where the file of a listed message lies, and how long it was when it was listed.
 #[derive(Drop)]
 struct ListedFile {
     folder: Folder,
     name: String,
-    size: u64,
+    length: u64,
 }
 
 /// The messages found in a Maildir, and where their files lie.
@@ -148,26 +159,33 @@ impl<'a, R: Files + AllocGlobal + Clone + Drop> MaildirDrop<'a, R> {
             if seen.contains(uid.as_slice()) {
                 continue;
             }
-            let size = file_size(self.rt, self.path_of(folder, name.as_str())?.as_str())?;
+            let path = self.path_of(folder, name.as_str())?;
+            let Extent { length, size } = extent_of(self.rt, path.as_str())?;
             if size > MAX_SIZE {
                 continue;
             }
             seen.insert(Vec::from_slice(alloc, uid.as_slice())?)?;
             entries.push(Entry::new(uid, size))?;
-            files.push(ListedFile { folder, name, size })?;
+            files.push(ListedFile {
+                folder,
+                name,
+                length,
+            })?;
         }
         Ok(Listing { entries, files })
     }
 
-    /// The bytes of the file at a place of the last listing. They go into room of the size that the
-    /// listing gave, which is above the file's length: the room grows only where the file has grown.
+    /// The bytes of the file at a place of the last listing. They go into room for one more than the
+    /// listing counted, so that the read that finds the end has room too: it grows only where the
+    /// file has grown.
     fn read_file(&self, i: usize) -> io::Result<Vec<u8>> {
         let Some(listed) = self.files.get(i) else {
             return Err(ErrorKind::NotFound.into());
         };
         let path = self.path_of(listed.folder, listed.name.as_str())?;
         let mut file = fs::open(self.rt, path.as_str())?;
-        let mut text = Vec::with_capacity(self.rt.alloc(), listed.size as usize)?;
+        let room = (listed.length as usize).saturating_add(1);
+        let mut text = Vec::with_capacity(self.rt.alloc(), room)?;
         file.read_to_end(&mut text)?;
         Ok(text)
     }
