@@ -1,5 +1,5 @@
 -- One more file of a Maildir is listed.
-use Rattle.std.proofs.Common.{◌≡◌, ◌++◌, ◌∷◌, [], List, ℕ, map, ap, sym, ◌∙◌}
+use Rattle.std.proofs.Common.{◌≡◌, ◌++◌, ◌∷◌, [], List, map, ap, sym, ◌∙◌}
 use Rattle.std.proofs.lemmas.List.{map_push}
 use Rattle.pop3_server.specs.declared.maildir_drop.ListedFile.{ListedFile}
 use Rattle.pop3_server.specs.Maildrop.{Listed}
