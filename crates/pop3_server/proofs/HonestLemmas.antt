@@ -1,37 +1,28 @@
 -- The server's conversations are honest: how its rows follow the messages and their marks, and what each answer says.
-use Rattle.std.proofs.Common.{◌≡◌, ◌≢◌, ◌⊎◌, inl, inr, ◌<◌, ◌≤◌, ◌+◌, ◌-◌, ◌*◌, ◌^◌, ℕ, zero, suc, Bool, true, false, cond, List, [], ◌∷◌, ◌++◌, map, length, refl, sym, ap, subst, ◌∙◌, arith, append_assoc, Option, Some, None, Result, Ok, Err, ne_eqb}
-use Rattle.std.specs.Prelude.{codes, not, slice_get, slice_set, bytes_eq, ◌&&◌, ◌==◌, if◌then◌else◌}
-use Rattle.std.specs.List.{flat_map, AllByRecursion, AllZip, count_by, sum_by, list_all}
-use Rattle.std.specs.List.Sorted.{IsPermutation}
+use Rattle.std.proofs.Common.{◌≡◌, ◌≢◌, ◌⊎◌, inl, inr, ◌<◌, ◌≤◌, ◌+◌, ◌-◌, ◌*◌, ◌^◌, ℕ, zero, suc, Bool, true, false, cond, List, [], ◌∷◌, ◌++◌, map, length, refl, sym, ap, subst, ◌∙◌, arith, append_assoc, Some, None, ne_eqb}
+use Rattle.std.specs.Prelude.{codes, not, slice_get, slice_set, if◌then◌else◌}
+use Rattle.std.specs.List.{flat_map, AllByRecursion, AllZip, count_by, list_all}
 use Rattle.std.specs.Fmt.{decimal}
 use Rattle.std.specs.Char.{is_ascii_digit}
-use Rattle.std.proofs.lemmas.Bool.{cases_Bool, cond-true, cond-false}
+use Rattle.std.proofs.lemmas.Bool.{cond-true, cond-false}
 use Rattle.std.proofs.lemmas.Bool.Decides.{eqb_tells, nat_tests}
-use Rattle.std.proofs.lemmas.List.{append-nil}
-use Rattle.std.proofs.lemmas.List.Sums.{sum_by-cons, count_by-le-length}
+use Rattle.std.proofs.lemmas.List.Sums.{sum_by-cons}
 use Rattle.std.proofs.lemmas.List.Recursion.{is_count_by}
 use Rattle.std.proofs.lemmas.List.Sorted.{IsPermutation-refl}
 use Rattle.pop3_wire.specs.declared.command.Command.{Command}
-use Rattle.pop3_wire.specs.declared.command.Command.TheVariants.{User, Pass, Stat, UidlAll, UidlOne, ListAll, ListOne, Retr, Dele, Rset, Noop, Top, Quit}
-use Rattle.pop3_wire.specs.declared.fault.WireFault.{WireFault}
 use Rattle.pop3_wire.specs.declared.reply.Status.{Status}
 use Rattle.pop3_wire.specs.declared.reply.Status.TheVariants.{Positive, Negative}
-use Rattle.pop3_wire.specs.Line.{crlf, IsLine, ended}
-use Rattle.pop3_wire.specs.Body.{dot, IsContent, unstuffed, body_of, Body}
-use Rattle.pop3_wire.specs.Reply.{IsFirstLine, without_space}
+use Rattle.pop3_wire.specs.Line.{crlf, ended}
+use Rattle.pop3_wire.specs.Body.{dot, IsContent, unstuffed}
+use Rattle.pop3_wire.specs.Reply.{without_space}
 use Rattle.pop3_wire.specs.Fields.{number_and_size, number_and_id, is_legal_id}
-use Rattle.pop3_wire.specs.Stuffed.{lines_of_text, stuffed_lines, whole_text}
-use Rattle.pop3_wire.specs.World.{Message, IsMessage}
-use Rattle.pop3_wire.specs.Honest.{Says, SaysAnything, IsUnmarked, unmarked_from, IsScanRow, IsUidRow, ListsAll, Grants, Reply, no_marks}
+use Rattle.pop3_wire.specs.World.{Message}
+use Rattle.pop3_wire.specs.Honest.{Says, SaysAnything, IsUnmarked, unmarked_from, IsScanRow, IsUidRow, ListsAll, Reply, no_marks}
 use Rattle.pop3_wire.proofs.HonestRows.{scan_read, uid_read, is_no_lf, line_without_lf, no_lf_append, no_lf_decimal, no_lf_id, digit_first}
-use Rattle.pop3_wire.proofs.StuffLemmas.{stuffed_is_body}
 use Rattle.pop3_server.specs.declared.state.Row.{Row}
-use Rattle.pop3_server.specs.declared.state.State.{State}
-use Rattle.pop3_server.specs.declared.state.State.TheVariants.{Authorization, Transaction, Closed}
-use Rattle.pop3_server.specs.Maildrop.{Mail, Listed, there, entry_of, refusing}
-use Rattle.pop3_server.specs.ServerMachine.{Deed, Say, Open, Give, Leave, Does, said, is_left, left_count, left_size, left_total, unless_marked, row_at, mark_at, unmarked, row_of, scan_line, uid_line, lines_from, listed, octets_line, text_body, give, dele, in_authorization, in_transaction, greeting}
-use Rattle.pop3_server.specs.HonestServer.{IsOfSession, IsServed, AreServed}
-use Rattle.pop3_server.proofs.SlotLemmas.{there_map}
+use Rattle.pop3_server.specs.Maildrop.{entry_of}
+use Rattle.pop3_server.specs.ServerMachine.{said, is_left, left_count, left_size, left_total, unless_marked, row_at, mark_at, unmarked, row_of, scan_line, uid_line, lines_from, listed}
+use Rattle.pop3_server.specs.HonestServer.{IsServed, AreServed}
 
 -- ---- the rows of messages under their marks
 

@@ -1,23 +1,20 @@
 -- Each answer of the server to a command of a session is an honest reply, and so are all of them in order.
-use Rattle.std.proofs.Common.{◌≡◌, ◌≢◌, ◌⊎◌, inl, inr, ◌<◌, ◌≤◌, ◌+◌, ◌-◌, ◌*◌, ◌^◌, ℕ, Bool, true, false, cond, List, [], ◌∷◌, ◌++◌, map, length, refl, sym, ap, subst, ◌∙◌, arith, append_assoc, Option, Some, None, Result, Ok, Err}
+use Rattle.std.proofs.Common.{◌≡◌, inl, inr, ◌<◌, ◌≤◌, ◌-◌, ◌*◌, ◌^◌, ℕ, Bool, true, false, cond, List, [], ◌∷◌, ◌++◌, map, length, refl, sym, ap, subst, ◌∙◌, arith, append_assoc, Option, Some, None, Result, Ok}
 use Rattle.std.specs.Prelude.{codes, not, slice_get, slice_set, bytes_eq, ◌&&◌}
 use Rattle.std.specs.List.{flat_map, AllByRecursion, count_by, list_all}
 use Rattle.std.specs.Fmt.{decimal}
-use Rattle.std.proofs.lemmas.Bool.{cases_Bool, cond-true, cond-false}
 use Rattle.std.proofs.lemmas.List.{append-nil}
 use Rattle.std.proofs.lemmas.List.Sums.{count_by-le-length}
 use Rattle.pop3_wire.specs.declared.command.Command.{Command}
 use Rattle.pop3_wire.specs.declared.command.Command.TheVariants.{User, Pass, Stat, UidlAll, UidlOne, ListAll, ListOne, Retr, Dele, Rset, Noop, Top, Quit}
 use Rattle.pop3_wire.specs.declared.fault.WireFault.{WireFault}
-use Rattle.pop3_wire.specs.declared.reply.Status.TheVariants.{Positive, Negative}
-use Rattle.pop3_wire.specs.Line.{crlf, IsLine, ended}
+use Rattle.pop3_wire.specs.declared.reply.Status.TheVariants.{Positive}
+use Rattle.pop3_wire.specs.Line.{ended}
 use Rattle.pop3_wire.specs.Body.{Body}
-use Rattle.pop3_wire.specs.Fields.{number_and_size}
 use Rattle.pop3_wire.specs.Commands.{line_of, can_be_sent}
-use Rattle.pop3_wire.specs.CommandLine.{command_of}
-use Rattle.pop3_wire.specs.Stuffed.{lines_of_text, stuffed_lines, whole_text}
-use Rattle.pop3_wire.specs.World.{Message, IsMessage}
-use Rattle.pop3_wire.specs.Honest.{Says, SaysAnything, IsUnmarked, IsScanRow, IsUidRow, Grants, Reply, Replies, no_marks, Honest}
+use Rattle.pop3_wire.specs.Stuffed.{lines_of_text, stuffed_lines}
+use Rattle.pop3_wire.specs.World.{Message}
+use Rattle.pop3_wire.specs.Honest.{Says, SaysAnything, IsUnmarked, IsScanRow, IsUidRow, Grants, Reply, Replies, no_marks}
 use Rattle.pop3_wire.proofs.HonestRows.{scan_read, is_no_lf, no_lf_append, no_lf_decimal}
 use Rattle.pop3_wire.proofs.StuffLemmas.{stuffed_is_body}
 use Rattle.pop3_wire.proofs.LineLemmas.{IsLine-nil}
@@ -25,11 +22,10 @@ use Rattle.pop3_wire.proofs.CommandRoundTrip.{round_trip}
 use Rattle.pop3_server.specs.declared.state.Row.{Row}
 use Rattle.pop3_server.specs.declared.state.State.{State}
 use Rattle.pop3_server.specs.declared.state.State.TheVariants.{Authorization, Transaction, Closed}
-use Rattle.pop3_server.specs.Maildrop.{Mail, there, refusing}
-use Rattle.pop3_server.specs.ServerMachine.{Machine, Deed, Say, Open, Give, Leave, Does, Opens, GivesText, Leaves, deed, is_open, said, left_count, left_total, row_at, mark_at, unmarked, row_of, scan_line, uid_line, octets_line, text_body, give, dele, in_authorization, in_transaction, greeting}
-use Rattle.pop3_server.specs.Run.{Run, Turn}
-use Rattle.pop3_server.specs.HonestServer.{IsOfSession, IsAsked, IsServed, AreServed, lines_of, IsHonest}
-use Rattle.pop3_server.proofs.SlotLemmas.{there_map}
+use Rattle.pop3_server.specs.Maildrop.{Mail, there}
+use Rattle.pop3_server.specs.ServerMachine.{Machine, Deed, Say, Open, Give, Leave, Does, Opens, Leaves, deed, is_open, said, left_count, left_total, mark_at, unmarked, row_of, scan_line, uid_line, octets_line, give, dele, in_authorization, in_transaction, greeting}
+use Rattle.pop3_server.specs.Run.{Run}
+use Rattle.pop3_server.specs.HonestServer.{IsOfSession, IsAsked, AreServed, lines_of, IsHonest}
 use Rattle.pop3_server.proofs.HonestLemmas.{row_with, rows_with, fresh_rows, fresh_length, cleared_rows, cleared_length, marked_rows, marked_length, found, served_at, text_at, counted_left, total_left, ok_says, granted, refused, scan_rows, uid_rows, lists_all}
 
 -- where the server stands with these messages, when these are marked

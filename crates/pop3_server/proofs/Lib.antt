@@ -3,6 +3,7 @@ pub mod HonestLemmas
 pub mod HonestTurns
 pub mod LeaveLemmas
 pub mod LoopLemmas
+pub mod MaildirLemmas
 pub mod OpenLemmas
 pub mod RemovalLemmas
 pub mod ReplyLemmas

@@ -1,17 +1,16 @@
 -- A link to a server: what its calls do to what it keeps.
 use Rattle.std.proofs.Common.{◌≡◌, inl, inr, ◌≤◌, ◌<◌, ◌+◌, ◌-◌, ◌==◌, ◌||◌, ℕ, Bool, true, false, List, [], ◌∷◌, ◌++◌, length, take, drop, refl, sym, ap, subst, ◌∙◌, arith, append_assoc, take-append-drop, length-append, if◌then◌else◌}
-use Rattle.std.specs.List.{AllByRecursion, flat_map}
-use Rattle.std.proofs.lemmas.List.{append-nil, drop-append-le, take-append-le, take_all, drop_all}
+use Rattle.std.proofs.lemmas.List.{append-nil, drop-append-le, take-append-le, take_all}
 use Rattle.std.proofs.lemmas.Bool.{cases_Bool}
 use Rattle.std.proofs.lemmas.Grind.{common_steps}
-use Rattle.std.proofs.Math.Seq.{take-add, take-length, take-append_seam, drop-append-add}
+use Rattle.std.proofs.Math.Seq.{take-add, take-append_seam, drop-append-add}
 use Rattle.pop3_wire.specs.Line.{crlf, IsLine, ended}
 use Rattle.pop3_wire.specs.Link.{Link, greatest_count, with_failures}
 use Rattle.pop3_wire.specs.Place.{HasLine}
 use Rattle.pop3_server.specs.Maildrop.{Mail}
 use Rattle.pop3_server.specs.ServerMachine.{Machine, Answers, deed, greeting, is_open}
-use Rattle.pop3_server.specs.Run.{Run, Turn, SameServer}
-use Rattle.pop3_server.specs.LoopLink.{Loop, Serves, IsTold, IsAnswered}
+use Rattle.pop3_server.specs.Run.{Turn, SameServer}
+use Rattle.pop3_server.specs.LoopLink.{Loop, Serves, IsAnswered}
 use Rattle.pop3_server.proofs.ServeLemmas.{run_one, turn_of}
 use Rattle.pop3_wire.specs.CommandLine.{command_of}
 

@@ -1,9 +1,9 @@
 -- Removals, and what is left.
-use Rattle.std.proofs.Common.{◌≡◌, ◌⊎◌, ◌&&◌, ℕ, zero, suc, ◌+◌, ◌<◌, ◌≤◌, Bool, true, false, List, [], ◌∷◌, length, Option, Some, None, slice_get, slice_set, refl, sym, ◌∙◌, ap, subst, inl, inr, arith, if◌then◌else◌}
+use Rattle.std.proofs.Common.{◌≡◌, ℕ, zero, suc, ◌+◌, ◌<◌, ◌≤◌, Bool, true, false, List, [], ◌∷◌, Option, Some, None, slice_get, slice_set, refl, sym, ◌∙◌, ap, subst, inl, inr, arith, if◌then◌else◌}
 use Rattle.std.proofs.lemmas.Bool.{false≢true}
 use Rattle.pop3_wire.specs.World.{Message}
 use Rattle.pop3_server.specs.declared.state.Row.{Row}
-use Rattle.pop3_server.specs.Maildrop.{Mail, counted, refusing, asked, removed}
+use Rattle.pop3_server.specs.Maildrop.{Mail}
 use Rattle.pop3_server.specs.ServerMachine.{Tries, Empties, none, stays, goes}
 use Rattle.pop3_server.specs.Removal.{holds, left_marked}
 
@@ -61,6 +61,18 @@ all_removed (none i old) whole = refl
 all_removed (stays i row rows old all new unmarked rest) whole = all_removed rest whole
 all_removed (goes i row rows old mid true all new marked tries rest) whole = all_removed rest whole ∙ ap (λ (m : Mail). m.refused) tries
 all_removed (goes i row rows old mid false all new marked tries rest) whole = cc
+
+pub some_refused : {i : ℕ} {rows : List Row} {old : Mail} {all : Bool} {new : Mail} → Empties i rows old all new → all ≡ false → old.refused < new.refused
+some_refused (none i old) left = cc
+some_refused (stays i row rows old all new unmarked rest) left = some_refused rest left
+some_refused (goes i row rows old mid true all new marked tries rest) left =
+    let later = some_refused rest left in
+    let same = ap (λ (m : Mail). m.refused) tries in
+    omega (arith, later, same)
+some_refused (goes i row rows old mid false all new marked tries rest) left =
+    let one = tries_count old mid i false true tries sym in
+    let later = few_left rest in
+    omega (arith, one, later)
 
 pub others_stay : {i : ℕ} {rows : List Row} {old : Mail} {all : Bool} {new : Mail} → Empties i rows old all new → (k : ℕ) (row : Row) → slice_get rows k ≡ Some row → row.marked ≡ false → slice_get new.slots (i + k) ≡ slice_get old.slots (i + k)
 others_stay (none i old) k row h unmarked = refl

@@ -1,25 +1,22 @@
 -- How far a server has come that serves a link, and why it ends.
-use Rattle.std.proofs.Common.{◌≡◌, ◌⊎◌, inl, inr, ◌<◌, ◌≤◌, ◌+◌, ◌-◌, ◌*◌, ℕ, true, false, List, [], ◌∷◌, ◌++◌, length, take, drop, refl, sym, ap, subst, ◌∙◌, arith, append_assoc, length-append, Result, Ok, Err}
-use Rattle.std.specs.Prelude.{codes, not}
+use Rattle.std.proofs.Common.{◌≡◌, ◌⊎◌, inl, inr, ◌<◌, ◌+◌, ℕ, true, false, List, [], ◌∷◌, ◌++◌, length, take, drop, refl, sym, ap, subst, ◌∙◌, arith, append_assoc, length-append, Ok, Err}
+use Rattle.std.specs.Prelude.{codes}
 use Rattle.std.specs.List.{flat_map, AllByRecursion}
 use Rattle.std.proofs.lemmas.Bool.{cond-true, lt-ltb}
 use Rattle.std.proofs.lemmas.List.{append-nil}
-use Rattle.pop3_wire.specs.declared.fault.WireFault.{WireFault}
 use Rattle.pop3_wire.specs.declared.fault.WireFault.TheVariants.{BadCommand}
-use Rattle.pop3_wire.specs.declared.command.Command.{Command}
 use Rattle.pop3_wire.specs.CommandLine.{command_of}
 use Rattle.pop3_wire.specs.Line.{crlf, IsLine, ended}
-use Rattle.pop3_wire.specs.Link.{Link, Sends}
+use Rattle.pop3_wire.specs.Link.{Link}
 use Rattle.pop3_wire.specs.Place.{HasLine}
-use Rattle.pop3_server.specs.declared.fault.ServerFault.{ServerFault}
 use Rattle.pop3_server.specs.declared.fault.ServerFault.TheVariants.{ReadFailed, WriteFailed, NoMemory}
 use Rattle.pop3_server.specs.declared.state.State.{State}
 use Rattle.pop3_server.specs.Maildrop.{Mail}
-use Rattle.pop3_server.specs.ServerMachine.{Machine, Deed, Say, Open, Give, Leave, Answers, Unanswered, deed, greeting, said, is_open}
+use Rattle.pop3_server.specs.ServerMachine.{Machine, Deed, Say, Open, Give, Leave, Answers, deed, greeting, said, is_open}
 use Rattle.pop3_server.specs.LoopLaws.{runs_on}
 use Rattle.pop3_server.specs.Run.{Run, Turn, SameServer}
 use Rattle.pop3_server.specs.Got.{Waiting}
-use Rattle.pop3_server.specs.Serving.{Took, Takes, AllSent, PartSent, Sent, Served}
+use Rattle.pop3_server.specs.Serving.{Took, Takes, AllSent, Served}
 
 -- the greeting and the answers to all lines that were got whole went out
 pub record Progress {D : Type 0} (sound : D → Type 0) (mail : D → Mail) (old : Machine D) (before : Link) (server : Machine D) (link : Link) (waiting : Waiting) : Type 0 where

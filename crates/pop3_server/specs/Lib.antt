@@ -4,6 +4,7 @@ pub mod LoopLaws
 pub mod LoopLink
 pub mod MaildirNames
 pub mod Maildrop
+pub mod RealMaildir
 pub mod Removal
 pub mod Run
 pub mod ServerMachine

@@ -1,5 +1,5 @@
 -- A link whose answers are a server's: what it does in two calls is of the same kind.
-use Rattle.std.specs.Prelude.{◌≡◌, ℕ, Bool, true, false, List, [], ◌∷◌, ◌++◌}
+use Rattle.std.specs.Prelude.{◌≡◌, ℕ, true, false, List, [], ◌∷◌, ◌++◌}
 use Rattle.std.specs.List.{flat_map, AllByRecursion}
 use Rattle.std.proofs.Common.{refl, sym, ap, subst, ◌∙◌, append_assoc, inl, inr}
 use Rattle.std.proofs.lemmas.Grind.{flat_map-append}
@@ -7,9 +7,9 @@ use Rattle.std.proofs.lemmas.List.{append-nil}
 use Rattle.std.proofs.lemmas.Bool.{cases_Bool}
 use Rattle.pop3_wire.specs.Line.{IsLine, ended}
 use Rattle.pop3_server.specs.Maildrop.{Mail}
-use Rattle.pop3_server.specs.ServerMachine.{Machine, is_open}
+use Rattle.pop3_server.specs.ServerMachine.{Machine}
 use Rattle.pop3_server.specs.Run.{Run, SameServer}
-use Rattle.pop3_server.specs.LoopLink.{Loop, Serves, IsAnswered}
+use Rattle.pop3_server.specs.LoopLink.{Loop, Serves}
 
 pub same_refl : {D : Type 0} (sound : D → Type 0) (mail : D → Mail) (m : Machine D) → SameServer sound mail m m
 same_refl sound mail m = record {

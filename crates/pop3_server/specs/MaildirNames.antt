@@ -1,9 +1,15 @@
--- The unique id of a file in a Maildir, by its name.
-use Rattle.std.specs.Prelude.{ℕ, ◌==◌, Bool, List, if◌then◌else◌}
+-- The folders of a Maildir, and the unique id of a file in one, by its name.
+use Rattle.std.specs.Prelude.{ℕ, ◌==◌, Bool, List, codes, if◌then◌else◌}
 use Rattle.std.specs.List.{before_first}
 use Rattle.hex.specs.Hex.{encode_lower}
 use Rattle.sha2.specs.Sha256.{sha256}
 use Rattle.pop3_wire.specs.Fields.{is_legal_id}
+use Rattle.pop3_server.specs.declared.maildir_names.Folder.{Folder}
+use Rattle.pop3_server.specs.declared.maildir_names.Folder.TheVariants.{Cur, New}
+
+abbrev pub folder_name : Folder → List ℕ
+folder_name Cur = codes "cur"
+folder_name New = codes "new"
 
 -- the name without its flags: what stands before the first colon
 abbrev pub is_colon : ℕ → Bool

@@ -1,5 +1,5 @@
 -- What QUIT leaves of the marked messages.
-use Rattle.std.specs.Prelude.{◌≡◌, ℕ, ◌+◌, ◌≤◌, Bool, true, false, ◌&&◌, List, [], ◌∷◌, Option, Some, None, slice_get, if◌then◌else◌}
+use Rattle.std.specs.Prelude.{◌≡◌, ℕ, ◌+◌, ◌<◌, ◌≤◌, Bool, true, false, ◌&&◌, List, [], ◌∷◌, Option, Some, None, slice_get, if◌then◌else◌}
 use Rattle.pop3_wire.specs.World.{Message}
 use Rattle.pop3_server.specs.declared.state.Row.{Row}
 use Rattle.pop3_server.specs.Maildrop.{Mail}
@@ -23,6 +23,10 @@ FewAreLeft = (rows : List Row) (old new : Mail) (all : Bool) → Empties 0 rows 
 -- where all were removed, nothing was refused
 abbrev pub AllAreRemoved : Type 0
 AllAreRemoved = (rows : List Row) (old new : Mail) → Empties 0 rows old true new → new.refused ≡ old.refused
+
+-- where not all were removed, something was refused
+abbrev pub SomeAreRefused : Type 0
+SomeAreRefused = (rows : List Row) (old new : Mail) → Empties 0 rows old false new → old.refused < new.refused
 
 -- a message that isn't marked stays where it is
 abbrev pub OthersStay : Type 0

@@ -1,8 +1,9 @@
 //! A Maildir in a real folder as a maildrop. Its files are listed as they lie in `cur` and `new`,
 //! those whose names begin with a full stop left out (the Maildir format: a name up to its first
 //! colon stays, and flags follow).
-ghost use Rattle.std.specs.Prelude.{◌≡◌, ◌≤◌, vec_len, IfOk, []};
-ghost use Rattle.pop3_server.specs.Maildrop.{CountsFault};
+ghost use Rattle.std.specs.Prelude.{◌≡◌, ◌≤◌, vec_len, IfOk, IfErr, []};
+ghost use Rattle.pop3_server.specs.Maildrop.{CountsFault, Tallies, counted};
+ghost use Rattle.pop3_server.specs.RealMaildir.{mail_of, names_of, HaveIds, ListsNames};
 
 use crate::maildir_names::{Folder, MailFile, base, unique_id};
 use crate::maildrops::{DropFault, Entry, MAX_COUNT, MAX_SIZE, Maildrop};
@@ -10,9 +11,11 @@ use crate::size::SizeCount;
 use std::collections::BTreeSet;
 use std::fs;
 use std::io::{self, ErrorKind, Read};
+use std::marker::Model;
 use std::rt::Files;
 
-/// A Maildir in a real folder. Nothing is known of what it holds.
+/// A Maildir in a real folder. Nothing is known of what it holds: contracts see the names of the
+/// files that were listed, and the counts.
 #[derive(Drop)]
 pub struct MaildirDrop<'a, R: Files + AllocGlobal + Clone + Drop> {
     rt: &'a R,
@@ -22,27 +25,50 @@ pub struct MaildirDrop<'a, R: Files + AllocGlobal + Clone + Drop> {
     removals: u64,
 }
 
-/// The octets of a file, read in pieces.
-fn file_size<R: Files>(rt: &R, path: &str) -> io::Result<u64> {
+impl<'a, R: Files + AllocGlobal + Clone + Drop> Model for MaildirDrop<'a, R> {
+    ghost use Rattle.pop3_server.specs.RealMaildir.{RealMaildir, names_of};
+
+    ghost Value = { RealMaildir };
+
+    ghost view = { λ d. record {
+      names = names_of d.files.items;
+      refused = d.refused;
+      removals = d.removals;
+    } };
+}
+
+/// How long a file is, and its size as a message, where each line's end counts as two octets.
+struct Extent {
+    length: u64,
+    size: u64,
+}
+
+/// The extent of a file, which is read in pieces.
+fn extent_of<R: Files>(rt: &R, path: &str) -> io::Result<Extent> {
     let mut file = fs::open(rt, path)?;
     let mut piece = [0u8; 16384];
+    let mut length = 0u64;
     let mut count = SizeCount::new();
     for _ in 0..u64::MAX {
         let n = file.read(&mut piece)?;
         if n == 0 {
             break;
         }
+        length = length.saturating_add(n as u64);
         count.add(&piece[..n]);
     }
-    Ok(count.size())
+    Ok(Extent {
+        length,
+        size: count.size(),
+    })
 }
 
-/// Where the file of a listed message lies, and the size that the listing gave.
+/// Where the file of a listed message lies, and how long it was when it was listed.
 #[derive(Drop)]
 struct ListedFile {
     folder: Folder,
     name: String,
-    size: u64,
+    length: u64,
 }
 
 /// The messages found in a Maildir, and where their files lie.
@@ -55,7 +81,7 @@ struct Listing {
 impl<'a, R: Files + AllocGlobal + Clone + Drop> MaildirDrop<'a, R> {
     /// The maildrop of the Maildir at this path, which must have the folders `new` and `cur`.
     pub fn at(rt: &'a R, path: String) -> MaildirDrop<'a, R>
-        ensures { ⟦<MaildirDrop<'a, R> as Maildrop>⟧.mail result ≡ record { slots = []; refused = 0; removals = 0 } }
+        ensures { result ≡ record { names = []; refused = 0; removals = 0 } }
     {
         MaildirDrop {
             rt,
@@ -115,8 +141,10 @@ impl<'a, R: Files + AllocGlobal + Clone + Drop> MaildirDrop<'a, R> {
     }
 
     /// The messages of these files: of several with one id the first, none past the limits.
+    #[tactic(auto, using(crate::proofs::MaildirLemmas::ids_push))]
     fn list(&self, found: Vec<MailFile>) -> io::Result<Listing>
-        ensures { IfOk result (λ listing. vec_len listing.entries ≤ MAX_COUNT) }
+        ensures within { IfOk result (λ listing. vec_len listing.entries ≤ MAX_COUNT) }
+        ensures names { IfOk result (λ listing. HaveIds listing.entries.items (names_of listing.files.items)) }
     {
         let alloc = self.rt.alloc();
         let mut seen: BTreeSet<Vec<u8>> = BTreeSet::new(alloc);
@@ -126,31 +154,38 @@ impl<'a, R: Files + AllocGlobal + Clone + Drop> MaildirDrop<'a, R> {
             if entries.len() >= MAX_COUNT {
                 break;
             }
-            let uid = unique_id(alloc, file.base.as_slice())?;
+            let MailFile { folder, name, .. } = file;
+            let uid = unique_id(alloc, base(name.as_bytes()))?;
             if seen.contains(uid.as_slice()) {
                 continue;
             }
-            let MailFile { folder, name, .. } = file;
-            let size = file_size(self.rt, self.path_of(folder, name.as_str())?.as_str())?;
+            let path = self.path_of(folder, name.as_str())?;
+            let Extent { length, size } = extent_of(self.rt, path.as_str())?;
             if size > MAX_SIZE {
                 continue;
             }
             seen.insert(Vec::from_slice(alloc, uid.as_slice())?)?;
             entries.push(Entry::new(uid, size))?;
-            files.push(ListedFile { folder, name, size })?;
+            files.push(ListedFile {
+                folder,
+                name,
+                length,
+            })?;
         }
         Ok(Listing { entries, files })
     }
 
-    /// The bytes of the file at a place of the last listing. They go into room of the size that the
-    /// listing gave, which is above the file's length: the room grows only where the file has grown.
+    /// The bytes of the file at a place of the last listing. They go into room for one more than the
+    /// listing counted, so that the read that finds the end has room too: it grows only where the
+    /// file has grown.
     fn read_file(&self, i: usize) -> io::Result<Vec<u8>> {
         let Some(listed) = self.files.get(i) else {
             return Err(ErrorKind::NotFound.into());
         };
         let path = self.path_of(listed.folder, listed.name.as_str())?;
         let mut file = fs::open(self.rt, path.as_str())?;
-        let mut text = Vec::with_capacity(self.rt.alloc(), listed.size as usize)?;
+        let room = (listed.length as usize).saturating_add(1);
+        let mut text = Vec::with_capacity(self.rt.alloc(), room)?;
         file.read_to_end(&mut text)?;
         Ok(text)
     }
@@ -181,11 +216,16 @@ impl<'a, R: Files + AllocGlobal + Clone + Drop> MaildirDrop<'a, R> {
 }
 
 impl<'a, R: Files + AllocGlobal + Clone + Drop> Maildrop for MaildirDrop<'a, R> {
-    ghost mail = { λ d. record { slots = []; refused = d.refused; removals = d.removals } };
+    ghost mail = { λ d. mail_of d };
 
     ghost sound = { λ _. ⊥ };
 
-    fn entries(&mut self) -> Result<Vec<Entry>, DropFault> {
+    fn entries(&mut self) -> Result<Vec<Entry>, DropFault>
+        ensures within { IfOk result (λ entries. vec_len entries ≤ MAX_COUNT) }
+        ensures tally { Tallies (mail_of self.old) result (mail_of self.new) }
+        ensures removes_none { self.new.removals ≡ self.old.removals }
+        ensures names { ListsNames self.old result self.new }
+    {
         if self.refused == u64::MAX {
             return Err(DropFault::Refused);
         }
@@ -202,7 +242,10 @@ impl<'a, R: Files + AllocGlobal + Clone + Drop> Maildrop for MaildirDrop<'a, R> 
         }
     }
 
-    fn text(&mut self, i: usize) -> Result<Vec<u8>, DropFault> {
+    fn text(&mut self, i: usize) -> Result<Vec<u8>, DropFault>
+        ensures tally { Tallies (mail_of self.old) result (mail_of self.new) }
+        ensures others { self.new ≡ record self.old { refused = self.new.refused } }
+    {
         if self.refused == u64::MAX {
             return Err(DropFault::Refused);
         }
@@ -212,7 +255,12 @@ impl<'a, R: Files + AllocGlobal + Clone + Drop> Maildrop for MaildirDrop<'a, R> 
         }
     }
 
-    fn remove(&mut self, i: usize) -> Result<(), DropFault> {
+    fn remove(&mut self, i: usize) -> Result<(), DropFault>
+        ensures err { IfErr result (λ e. e ≡ DropFault.Refused) }
+        ensures tally { Tallies (mail_of self.old) result (mail_of self.new) }
+        ensures asks { self.new.removals ≡ counted self.old.removals }
+        ensures names { self.new.names ≡ self.old.names }
+    {
         self.removals = self.removals.saturating_add(1);
         if self.refused == u64::MAX {
             return Err(DropFault::Refused);

@@ -2,7 +2,7 @@
 ghost use Rattle.std.specs.Prelude.{◌≡◌, ◌≤◌, true, length, IsTrue, IfOk};
 ghost use Rattle.std.specs.List.{position_or_len, list_all};
 ghost use Rattle.pop3_wire.specs.Fields.{is_legal_id, is_id_byte};
-ghost use Rattle.pop3_server.specs.MaildirNames.{is_colon, base_of, id_of};
+ghost use Rattle.pop3_server.specs.MaildirNames.{folder_name, is_colon, base_of, id_of};
 ghost use Rattle.hex.specs.Hex.{encode_lower};
 ghost use Rattle.sha2.specs.Sha256.{sha256};
 
@@ -19,7 +19,9 @@ pub enum Folder {
 
 impl Folder {
     /// Its name.
-    pub fn name(self) -> &'static str {
+    pub fn name(self) -> &'static str
+        ensures { result.now ≡ folder_name self }
+    {
         match self {
             Folder::Cur => "cur",
             Folder::New => "new",

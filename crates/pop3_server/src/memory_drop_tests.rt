@@ -5,8 +5,8 @@ use crate::size::size_of;
 use std::process::Abort;
 use std::test::Fail;
 
-/// A maildrop of these messages.
-fn maildrop_of(
+/// A maildrop of these messages, each an id and a text.
+pub fn maildrop_of(
     rt: &(impl Abort + AllocGlobal),
     messages: &[(&str, &str)],
 ) -> Result<MemoryDrop, Fail> {

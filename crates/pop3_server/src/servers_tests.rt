@@ -1,27 +1,20 @@
 //! Conversations with a server over a maildrop in memory, with ample memory.
 use crate::memory_drop::MemoryDrop;
+use crate::memory_drop_tests::maildrop_of;
 use crate::servers::Server;
 use std::process::Abort;
 use std::test::Fail;
 
 /// A server over a maildrop of two messages, for user `u` with password `p`.
-fn server(rt: &(impl Abort + AllocGlobal)) -> Result<Server<MemoryDrop>, Fail> {
+pub fn server(rt: &(impl Abort + AllocGlobal)) -> Result<Server<MemoryDrop>, Fail> {
     let alloc = rt.alloc();
-    let mut maildrop = MemoryDrop::new(alloc);
     let messages = [
         ("m1", "Subject: one\n\n.dot\n"),
         ("m2", "Subject: two\n\na\nbc\n"),
     ];
-    for (uid, text) in messages {
-        assert!(rt; pop3_wire::is_legal_id(uid.as_bytes()));
-        assert!(rt; !maildrop.contains(uid.as_bytes()));
-        assert!(rt; crate::size::size_of(text.as_bytes()) <= 1000);
-        assert!(rt; maildrop.len() < 1000);
-        maildrop.push(uid.as_bytes(), text.as_bytes())?;
-    }
     Ok(Server::new(
         alloc,
-        maildrop,
+        maildrop_of(rt, &messages)?,
         Vec::from_slice(alloc, b"u")?,
         Vec::from_slice(alloc, b"p")?,
     ))

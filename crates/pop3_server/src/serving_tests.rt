@@ -2,35 +2,11 @@
 ghost use Rattle.std.specs.Prelude.{◌<◌};
 ghost use Rattle.pop3_wire.specs.Link.{uncharted};
 
-use crate::memory_drop::MemoryDrop;
-use crate::servers::Server;
+use crate::servers_tests::server;
 use crate::serving::serve;
 use pop3_wire::{ScriptWire, Wire, WireDown};
 use std::process::Abort;
 use std::test::Fail;
-
-/// A server over a maildrop of two messages, for user `u` with password `p`.
-fn server(rt: &(impl Abort + AllocGlobal)) -> Result<Server<MemoryDrop>, Fail> {
-    let alloc = rt.alloc();
-    let mut maildrop = MemoryDrop::new(alloc);
-    let messages = [
-        ("m1", "Subject: one\n\n.dot\n"),
-        ("m2", "Subject: two\n\na\nbc\n"),
-    ];
-    for (uid, text) in messages {
-        assert!(rt; pop3_wire::is_legal_id(uid.as_bytes()));
-        assert!(rt; !maildrop.contains(uid.as_bytes()));
-        assert!(rt; crate::size::size_of(text.as_bytes()) <= 1000);
-        assert!(rt; maildrop.len() < 1000);
-        maildrop.push(uid.as_bytes(), text.as_bytes())?;
-    }
-    Ok(Server::new(
-        alloc,
-        maildrop,
-        Vec::from_slice(alloc, b"u")?,
-        Vec::from_slice(alloc, b"p")?,
-    ))
-}
 
 /// What a server says to all of these octets, which come in pieces of at most `cut` octets, and how
 /// many messages are left.

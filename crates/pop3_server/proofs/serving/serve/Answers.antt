@@ -1,4 +1,4 @@
-use Rattle.std.proofs.Common.{◌≡◌, ◌≤◌, ◌<◌, ◌+◌, ◌*◌, ◌++◌, ℕ, List, length, true, false, take, Ok, Err, refl, sym, ap, subst, ◌∙◌}
+use Rattle.std.proofs.Common.{◌≡◌, ◌+◌, true, take, sym, ◌∙◌}
 use Rattle.std.proofs.lemmas.Bool.{not-true, not-false}
 use Rattle.pop3_server.specs.ServerMachine.{is_open}
 use Rattle.pop3_server.proofs.ServeLemmas.{served_unmade, served_ungreeted, served_unsent, served_unanswered, served_closed, progress_line, long_turn, line_octets, turn_of, open_removals}

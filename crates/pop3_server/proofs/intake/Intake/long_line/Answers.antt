@@ -1,7 +1,6 @@
-use Rattle.std.proofs.Common.{◌≡◌, ◌≤◌, ◌<◌, ◌+◌, ◌*◌, ◌++◌, ℕ, List, [], length, take, drop, arith, refl, sym, ap, subst, ◌∙◌, Ok, length-append}
+use Rattle.std.proofs.Common.{◌≡◌, ◌≤◌, ◌<◌, ◌+◌, ◌*◌, ◌++◌, [], length, take, arith, refl, ap, ◌∙◌, Ok, length-append}
 use Rattle.std.proofs.lemmas.List.{length-drop}
-use Rattle.pop3_server.specs.Got.{Waiting}
-use Rattle.pop3_server.proofs.ServeIntakeLemmas.{Dropping, drops_first, drops_more, drops_on, dropped_line, dropped_end, took_on, took_none, still_dropping, drop_less, still_none, still_short}
+use Rattle.pop3_server.proofs.ServeIntakeLemmas.{drops_first, drops_more, drops_on, dropped_line, dropped_end, took_on, took_none, still_dropping, drop_less, still_none, still_short}
 use Rattle.pop3_server.proofs.intake.Intake.long_line.Goals as goal
 
 pub loop-length-init : goal.loop-length-init

@@ -1,4 +1,4 @@
-use Rattle.std.proofs.Common.{◌≡◌, ◌≤◌, ◌<◌, ◌+◌, ◌*◌, ℕ, List, [], length}
+use Rattle.std.proofs.Common.{◌≡◌, ◌<◌, ◌+◌, ◌*◌, ℕ, List, length}
 use Rattle.pop3_server.specs.Serving.{Took}
 use Rattle.pop3_server.proofs.ServeIntakeLemmas.{Dropping}
 use Rattle.pop3_server.proofs.intake.Intake.long_line.Given as goal

@@ -1,4 +1,4 @@
-use Rattle.std.proofs.Common.{◌≡◌, ◌≤◌, ◌<◌, ◌+◌, ◌*◌, ◌++◌, ℕ, List, [], length, take, drop, arith, refl, sym, ap, subst, ◌∙◌, Ok}
+use Rattle.std.proofs.Common.{◌<◌, ◌++◌, [], length, sym, ap, subst, Ok}
 use Rattle.pop3_server.specs.Got.{Waiting}
 use Rattle.pop3_server.specs.Serving.{Takes}
 use Rattle.pop3_server.proofs.ServeIntakeLemmas.{took_on, takes_piece, still_none, still_short, all_waits}

@@ -1,4 +1,4 @@
-use Rattle.std.proofs.Common.{◌≡◌, ◌≤◌, ◌<◌, ◌+◌, ◌++◌, ◌-◌, ℕ, List, length, take, drop, Bool, true, false, if◌then◌else◌, refl, sym, ap, subst, ◌∙◌}
+use Rattle.std.proofs.Common.{◌≡◌, ◌+◌, ◌++◌, length, Bool, true, if◌then◌else◌, refl, sym, ap, subst, ◌∙◌}
 use Rattle.pop3_wire.specs.Place.{HasLine}
 use Rattle.pop3_server.specs.LoopLink.{Loop, Serves}
 use Rattle.pop3_server.specs.LoopLaws.{same_refl}

@@ -1,4 +1,4 @@
-use Rattle.std.proofs.Common.{◌≡◌, ◌≤◌, ◌<◌, ◌+◌, ◌++◌, ◌-◌, ℕ, List, [], length, sym, ap, ◌∙◌, arith}
+use Rattle.std.proofs.Common.{◌≤◌, [], sym, ap, ◌∙◌, arith}
 use Rattle.pop3_server.specs.ServerMachine.{greeting}
 use Rattle.pop3_server.specs.LoopLink.{Loop}
 use Rattle.pop3_server.proofs.LoopLemmas.{left_first, left_second}

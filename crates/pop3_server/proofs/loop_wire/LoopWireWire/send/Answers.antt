@@ -1,9 +1,9 @@
-use Rattle.std.proofs.Common.{◌≡◌, ◌≤◌, ◌<◌, ◌+◌, ◌++◌, ◌==◌, ◌||◌, ℕ, Bool, true, if◌then◌else◌, List, [], length, take, drop, refl, sym, ap, subst, ◌∙◌, arith}
+use Rattle.std.proofs.Common.{◌≡◌, ◌<◌, ◌+◌, ◌++◌, ℕ, Bool, if◌then◌else◌, List, [], take, refl, sym, ap, subst, ◌∙◌}
 use Rattle.std.proofs.lemmas.List.{append-nil}
 use Rattle.pop3_wire.specs.Link.{Link, greatest_count}
 use Rattle.pop3_server.specs.ServerMachine.{greeting}
 use Rattle.pop3_server.specs.LoopLink.{Loop, Serves}
-use Rattle.pop3_server.specs.LoopLaws.{same_refl, serves_same}
+use Rattle.pop3_server.specs.LoopLaws.{serves_same}
 use Rattle.pop3_server.proofs.LoopLemmas.{kept, link_of, not_both, serves_sent, counted_below, refused_at, refused_link}
 use Rattle.pop3_server.proofs.loop_wire.LoopWireWire.send.Goals as goal
 
