@@ -1,4 +1,5 @@
 pub mod Account
+pub mod CommandLine
 pub mod Failures
 pub mod Password
 pub mod Rehearsal

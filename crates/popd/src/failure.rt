@@ -4,7 +4,7 @@ ghost use Rattle.std.specs.IoError.{error_kind};
 ghost use Rattle.popd.specs.Failures.{status_of};
 
 use pop3_server::ServerFault;
-use std::alloc::{AllocError, AllocFailed};
+use std::alloc::AllocError;
 use std::io::{self, ErrorKind};
 
 /// Why the program serves nothing, or ends early.

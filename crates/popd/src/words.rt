@@ -1,6 +1,11 @@
 //! The command line, read with clap.
+ghost use Rattle.std.specs.Prelude.{◌≡◌, IfOk, false, map, option_map};
+ghost use Rattle.std.specs.String.{string_bytes};
+ghost use Rattle.clap.specs.Words.{FailsBy, app_of, fault_of, found_of, matches_of, rows_of, rule_of};
+ghost use Rattle.popd.specs.CommandLine.{Asks, connections_rule, listen_rule, popd, positionals, rehearse_rule, rest_rule};
+
 use clap::error::ErrorKind;
-use clap::{Arg, ArgAction, Command, Error, value_parser};
+use clap::{Arg, ArgAction, ArgMatches, Command, Error, value_parser};
 use std::alloc::{AllocError, Global};
 
 /// What the command line asks for.
@@ -16,49 +21,110 @@ pub struct Words {
     pub rest: Vec<String>,
 }
 
-/// The command line's options.
-fn command<'a>(alloc: Global) -> Result<Command<'a>, AllocError> {
-    let listen = Arg::new(alloc, "listen")
+/// `--listen ADDRESS`.
+fn listen_option<'a>(alloc: Global) -> Arg<'a>
+    ensures rule { rule_of result ≡ listen_rule }
+    ensures local { result.global ≡ false }
+{
+    Arg::new(alloc, "listen")
         .long("listen")
         .value_name("ADDRESS")
-        .action(ArgAction::Set);
-    let connections = Arg::new(alloc, "connections")
+        .action(ArgAction::Set)
+}
+
+/// `--connections N`, a number of 32 bits.
+fn connections_option<'a>(alloc: Global) -> Arg<'a>
+    ensures rule { rule_of result ≡ connections_rule }
+    ensures local { result.global ≡ false }
+{
+    Arg::new(alloc, "connections")
         .long("connections")
         .value_name("N")
         .value_parser(value_parser!(u32))
-        .action(ArgAction::Set);
-    let rehearse = Arg::new(alloc, "rehearse")
+        .action(ArgAction::Set)
+}
+
+/// `--rehearse`.
+fn rehearse_option<'a>(alloc: Global) -> Arg<'a>
+    ensures rule { rule_of result ≡ rehearse_rule }
+    ensures local { result.global ≡ false }
+{
+    Arg::new(alloc, "rehearse")
         .long("rehearse")
-        .action(ArgAction::Count);
-    let rest = Arg::new(alloc, "rest")
+        .action(ArgAction::Count)
+}
+
+/// The words that are no options.
+fn rest_option<'a>(alloc: Global) -> Arg<'a>
+    ensures rule { rule_of result ≡ rest_rule }
+    ensures local { result.global ≡ false }
+{
+    Arg::new(alloc, "rest")
         .value_name("USER PASSFILE MAILDIR")
         .num_args(0..)
-        .action(ArgAction::Append);
+        .action(ArgAction::Append)
+}
+
+/// The command line's options.
+fn command<'a>(alloc: Global) -> Result<Command<'a>, AllocError>
+    ensures { IfOk result (λ command. app_of command ≡ popd) }
+{
     Command::new(alloc, "popd")
-        .arg(listen)?
-        .arg(connections)?
-        .arg(rehearse)?
-        .arg(rest)
+        .arg(listen_option(alloc))?
+        .arg(connections_option(alloc))?
+        .arg(rehearse_option(alloc))?
+        .arg(rest_option(alloc))
+}
+
+/// A text of its own.
+fn copy(alloc: Global, text: Option<&str>) -> Result<Option<String>, AllocError>
+    ensures { IfOk result (λ owned. option_map string_bytes owned ≡ option_map (λ t. t.now) text.entry) }
+{
+    match text {
+        None => Ok(None),
+        Some(text) => Ok(Some(String::from_str(alloc, text)?)),
+    }
+}
+
+/// Texts of their own.
+fn copies(alloc: Global, texts: &[&str]) -> Result<Vec<String>, AllocError>
+    ensures { IfOk result (λ owned. map string_bytes owned.items ≡ map (λ t. t.now) texts.now) }
+{
+    let mut owned = Vec::new(alloc);
+    for text in texts {
+        owned.push(String::from_str(alloc, text)?)?;
+    }
+    Ok(owned)
+}
+
+/// The words that are no options.
+fn positionals(alloc: Global, matches: &ArgMatches<'_>) -> Result<Vec<String>, AllocError>
+    ensures { IfOk result (λ rest. map string_bytes rest.items ≡ positionals (rows_of (found_of matches.now))) }
+{
+    match matches.get_strs("rest") {
+        None => Ok(Vec::new(alloc)),
+        Some(texts) => copies(alloc, texts),
+    }
+}
+
+/// What clap's matches ask for.
+fn words_of(alloc: Global, matches: &ArgMatches<'_>) -> Result<Words, AllocError>
+    ensures { IfOk result (Asks (rows_of (found_of matches.now))) }
+{
+    Ok(Words {
+        listen: copy(alloc, matches.get_str("listen"))?,
+        connections: matches.get_one("connections").unwrap_or(u32::MAX),
+        rehearse: matches.get_count("rehearse") > 0,
+        rest: positionals(alloc, matches)?,
+    })
 }
 
 /// What these words ask for, the program's name first. Clap's error has the text of help or of the
 /// mistake, or is of the kind OutOfMemory.
-pub fn read_words(alloc: Global, words: &[String]) -> Result<Words, Error> {
+pub fn read_words(alloc: Global, words: &[String]) -> Result<Words, Error>
+    ensures faults { FailsBy (fault_of popd (map string_bytes words.now)) result }
+    ensures asks { IfOk result (Asks (matches_of popd (map string_bytes words.now))) }
+{
     let matches = command(alloc)?.try_get_matches_from(words)?;
-    let listen = match matches.get_str("listen") {
-        None => None,
-        Some(address) => Some(String::from_str(alloc, address)?),
-    };
-    let mut rest = Vec::new(alloc);
-    if let Some(positionals) = matches.get_strs("rest") {
-        for word in positionals {
-            rest.push(String::from_str(alloc, word)?)?;
-        }
-    }
-    Ok(Words {
-        listen,
-        connections: matches.get_one("connections").unwrap_or(u32::MAX),
-        rehearse: matches.get_count("rehearse") > 0,
-        rest,
-    })
+    Ok(words_of(alloc, &matches)?)
 }
