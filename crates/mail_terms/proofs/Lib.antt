@@ -1,0 +1,3 @@
+mod ListingLemmas
+mod NumberingLemmas
+mod TextLemmas

@@ -1,0 +1,14 @@
+use Rattle.std.proofs.Common.{◌∙◌, sym, arith}
+use Rattle.mail_terms.proofs.NumberingLemmas.{not_numbering-taken, HasPlaces-free, HasPlaces-all}
+use Rattle.mail_terms.proofs.numbering.found_places.Goals as goal
+
+pub returns-then-is_some-clause-disagree : goal.returns-then-is_some-clause-disagree
+returns-then-is_some-clause-disagree c = λ _ numbering.
+    not_numbering-taken _ _ _ _ _ c.loop-place.invariant (omega arith) (omega arith) (omega arith) c.index.ensures (sym c.is_some.ensures ∙ c.if-is_some.true) numbering
+
+pub loop-place-preserved : goal.loop-place-preserved
+loop-place-preserved c =
+    HasPlaces-free _ _ _ _ _ c.loop-place.invariant (omega arith) (omega arith) c.index.ensures (sym c.is_some.ensures ∙ c.if-is_some.false)
+
+pub returns-clause-ok : goal.returns-clause-ok
+returns-clause-ok c = HasPlaces-all _ _ _ _ (omega arith) c.loop-place.invariant

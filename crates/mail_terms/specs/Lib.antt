@@ -1,0 +1,9 @@
+pub mod Credential
+pub mod Distinct
+pub mod FailureCount
+pub mod Listing
+pub mod MaildirName
+pub mod Numbering
+pub mod Numeral
+pub mod Text
+pub mod UniqueId

@@ -1,0 +1,16 @@
+-- Numerals of the protocol (RFC 1939, sections 5 and 7), and the greatest numbers that they give.
+use Rattle.std.specs.Prelude.{ℕ, Bool, ◌&&◌, nat_lt, nat_le, List, length}
+use Rattle.std.specs.Char.{is_ascii_digit}
+use Rattle.std.specs.List.{list_all}
+
+-- 1 to 20 digits; leading zeros are taken
+abbrev pub is_numeral : List ℕ → Bool
+is_numeral field = nat_lt 0 (length field) && nat_le (length field) 20 && list_all is_ascii_digit field
+
+-- the greatest message number
+abbrev pub greatest_number : ℕ
+greatest_number = 4294967295
+
+-- the greatest size or total, in octets
+abbrev pub greatest_size : ℕ
+greatest_size = 18446744073709551615

@@ -1,0 +1,21 @@
+//! What mail is, apart from the wire that carries it and the files that keep it: unique-ids,
+//! credentials, numerals, texts and their lines, the listing of a maildrop, the names of a Maildir's
+//! files, and the count of the calls that a device refused.
+#![tactic(auto)]
+
+mod bytes;
+mod credential;
+mod failure_count;
+mod listing;
+mod maildir_name;
+mod numbering;
+mod text;
+mod unique_id;
+
+pub use bytes::Bytes;
+pub use credential::is_credential;
+pub use failure_count::FailureCount;
+pub use listing::{Listing, ListingFault, MESSAGE_LIMIT, ScanRow, UidRow, have_legal_ids};
+pub use maildir_name::base;
+pub use text::cut_text;
+pub use unique_id::{is_legal_id, legal_ids_have_ranges};
