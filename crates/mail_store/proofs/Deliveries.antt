@@ -3,7 +3,7 @@ use Rattle.std.proofs.Common.{◌≡◌, ℕ, List, [], Some, Result, Ok, Err, i
 use Rattle.std.specs.Prelude.{IfErr}
 use Rattle.mail_store.specs.declared.fault.StoreFault.{StoreFault}
 use Rattle.mail_store.specs.declared.fault.StoreFault.TheVariants.{Missing, Refused, NotMbox, NoMemory}
-use Rattle.mail_store.specs.Maildirs.{Maildir, File, file, IsInNew, Adds, Settles, Delivers, counted, dropped, with_file}
+use Rattle.mail_store.specs.Maildir.{Maildir, File, file, IsInNew, Adds, Settles, Delivers, counted, dropped, with_file}
 
 -- a settled file of these bytes, after the state `m` that differs from `old` in the file begun alone
 pub delivered : {T : Type 0} (old m new : Maildir) (f : File) (r : Result T StoreFault)

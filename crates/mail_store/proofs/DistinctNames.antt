@@ -4,7 +4,7 @@ use Rattle.std.specs.Prelude.{Contains, ◌≢◌, option_map}
 use Rattle.std.proofs.lemmas.List.{get_or_default}
 use Rattle.std.proofs.lemmas.List.Kept.{AllPairs-cons}
 use Rattle.std.proofs.lemmas.List.Quantifiers.{all_pairs_push}
-use Rattle.mail_store.specs.Maildirs.{Maildir, File, AreDistinct, HaveDistinctNames, IsInNew, file_of, names_of}
+use Rattle.mail_store.specs.Maildir.{Maildir, File, AreDistinct, HaveDistinctNames, IsInNew, file_of, names_of}
 use Rattle.mail_store.proofs.MoveLemmas.{named, not_named}
 
 module _ {Z Y : Type 0} where

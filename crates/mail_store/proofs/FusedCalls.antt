@@ -2,27 +2,27 @@
 use Rattle.std.proofs.Common.{◌≡◌, ℕ, ◌+◌, List, ◌++◌, Option, Result, Ok, Err, ◌∙◌, ap, append_assoc}
 use Rattle.mail_store.specs.declared.fault.StoreFault.{StoreFault}
 use Rattle.mail_store.specs.declared.fault.StoreFault.TheVariants.{Refused}
-use Rattle.mail_store.specs.Maildirs.{Maildir, File, Adds}
-use Rattle.mail_store.specs.FlatFiles.{Stored, Appends}
+use Rattle.mail_store.specs.Maildir.{Maildir, File, Adds}
+use Rattle.mail_store.specs.FlatFile.{Stored, Appends}
 
 -- a part of the bytes was appended, or a front of that part: a front of the bytes stands there
 pub front_appended : {T : Type 0} (old new : Stored) (bytes part rest : List ℕ) (n : ℕ) (answer : Result T StoreFault)
     → bytes ≡ part ++ rest → Appends old part answer new
-    → Appends {T = Unit {0}} (record old { refused = n }) bytes (Err Refused) (record new { refused = n + 1 })
+    → Appends {T = Unit {0}} (record old { failures = n }) bytes (Err Refused) (record new { failures = n + 1 })
 front_appended old new bytes part rest n (Ok done) e a = λ was h.
-    (part, rest, e, ap (λ (s : Stored). record s { refused = n + 1 }) (a was h))
+    (part, rest, e, ap (λ (s : Stored). record s { failures = n + 1 }) (a was h))
 front_appended old new bytes part rest n (Err fault) e a = λ was h.
     let told = a was h in (
       told.0,
       told.1 ++ rest,
       e ∙ ap (λ (xs : List ℕ). xs ++ rest) told.2 ∙ append_assoc told.0 told.1 rest,
-      ap (λ (s : Stored). record s { refused = n + 1 }) told.3,
+      ap (λ (s : Stored). record s { failures = n + 1 }) told.3,
     )
 
 -- nothing was added: the file begun has the bytes that it had
 pub nothing_added : (m : Maildir) (bytes : List ℕ) (n : ℕ)
-    → Adds {T = Unit {0}} (record m { refused = n }) bytes (Err Refused) (record m { refused = n + 1 })
+    → Adds {T = Unit {0}} (record m { failures = n }) bytes (Err Refused) (record m { failures = n + 1 })
 nothing_added m bytes n = λ f h. (
   f.content,
-  ap (λ (b : Option File). record { there = m.there; in_new = m.in_new; in_cur = m.in_cur; begun = b; refused = n + 1 }) h,
+  ap (λ (b : Option File). record { there = m.there; in_new = m.in_new; in_cur = m.in_cur; begun = b; failures = n + 1 }) h,
 )

@@ -8,10 +8,10 @@ use Rattle.std.proofs.lemmas.List.Folds.{list_any-append, list_any_at}
 use Rattle.std.proofs.lemmas.List.Sorted.{list_any-IsPermutation}
 use Rattle.std.proofs.lemmas.Slice.Eq.{bytes_eq-Decides}
 use Rattle.fetch_rules.specs.Listing.{Item}
-use Rattle.mail_store.specs.Maildirs.{Maildir, File, file, name_in, names_of, IsInNew}
-use Rattle.mail_store.specs.Names.{base, name_of, names_id, is_held, IsAccountText}
+use Rattle.mail_store.specs.Maildir.{Maildir, File, file, name_in, names_of, IsInNew}
+use Rattle.mail_store.specs.FileName.{base, name_of, names_id, is_held, IsAccountText}
 use Rattle.mail_store.proofs.NameLemmas.{base-name_of}
-use Rattle.mail_store.specs.Holdings.{flags_of}
+use Rattle.mail_store.specs.Held.{flags_of}
 
 -- ---- one more name
 

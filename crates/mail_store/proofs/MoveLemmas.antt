@@ -4,7 +4,7 @@ use Rattle.std.specs.Prelude.{All, HoldsAt, Contains, ◌≢◌, ◌↔◌, IsTr
 use Rattle.std.proofs.lemmas.Bool.{both_ways}
 use Rattle.std.proofs.lemmas.List.{map-append}
 use Rattle.std.proofs.Math.Seq.{split_at}
-use Rattle.mail_store.specs.Maildirs.{Maildir, File, Folders, file, file_of, names_of, Takes}
+use Rattle.mail_store.specs.Maildir.{Maildir, File, Folders, file, file_of, names_of, Takes}
 
 module _ {Z Y : Type 0} where
   -- where no pair has the name, no file has it
@@ -27,14 +27,14 @@ module _ {Z Y : Type 0} where
       let rest = named pairs name i (omega arith) at in
       (suc rest.0, omega (arith, rest.1), rest.2)
 
-  pub taken : (there : Folders) (begun : Option File) (refused : ℕ) (new cur new' cur' : List (String Z × Vec ℕ Y)) (i : ℕ)
+  pub taken : (there : Folders) (begun : Option File) (failures : ℕ) (new cur new' cur' : List (String Z × Vec ℕ Y)) (i : ℕ)
       (found made : String Z × Vec ℕ Y) (name suffix : List ℕ)
       → i < length new → HoldsAt (λ p. string_bytes p.0 ≡ name) new i → found ≡ get_or new i found
       → new' ≡ remove new i → cur' ≡ cur ++ made ∷ [] → string_bytes made.0 ≡ name ++ suffix → made.1.items ≡ found.1.items
       → (Contains (names_of (map file_of cur)) (name ++ suffix) → ⊥)
-      → Takes (record { there = there; in_new = map file_of new; in_cur = map file_of cur; begun = begun; refused = refused }) name suffix
-      (record { there = there; in_new = map file_of new'; in_cur = map file_of cur'; begun = begun; refused = refused })
-  taken there begun refused new cur new' cur' i found made name suffix below at is removed pushed named_so same free =
+      → Takes (record { there = there; in_new = map file_of new; in_cur = map file_of cur; begun = begun; failures = failures }) name suffix
+      (record { there = there; in_new = map file_of new'; in_cur = map file_of cur'; begun = begun; failures = failures })
+  taken there begun failures new cur new' cur' i found made name suffix below at is removed pushed named_so same free =
       let titled : string_bytes found.0 ≡ name = ap (λ (p : String Z × Vec ℕ Y). string_bytes p.0) is ∙ at found in
       let whole : new ≡ take i new ++ found ∷ drop (suc i) new =
       split_at new i found below ∙ ap (λ (p : String Z × Vec ℕ Y). take i new ++ p ∷ drop (suc i) new) (sym is) in
@@ -45,9 +45,9 @@ module _ {Z Y : Type 0} where
         was = ap (map file_of) whole ∙ map-append file_of (take i new) (found ∷ drop (suc i) new)
             ∙ ap (λ (n : List ℕ). map file_of (take i new) ++ file n found.1.items ∷ map file_of (drop (suc i) new)) titled;
         free = free;
-        is = ap (λ (files : List File). record { there = there; in_new = files; in_cur = map file_of cur'; begun = begun; refused = refused })
+        is = ap (λ (files : List File). record { there = there; in_new = files; in_cur = map file_of cur'; begun = begun; failures = failures })
             (ap (map file_of) removed ∙ map-append file_of (take i new) (drop (suc i) new))
-            ∙ ap (λ (files : List File). record { there = there; in_new = map file_of (take i new) ++ map file_of (drop (suc i) new); in_cur = files; begun = begun; refused = refused })
+            ∙ ap (λ (files : List File). record { there = there; in_new = map file_of (take i new) ++ map file_of (drop (suc i) new); in_cur = files; begun = begun; failures = failures })
             (ap (map file_of) pushed ∙ map-append file_of cur (made ∷ [])
             ∙ ap (λ (n : List ℕ). map file_of cur ++ file n made.1.items ∷ []) named_so
             ∙ ap (λ (bytes : List ℕ). map file_of cur ++ file (name ++ suffix) bytes ∷ []) same);

@@ -12,7 +12,7 @@ use Rattle.hex.specs.Hex.{encode_lower, encode_with, lower_digits, IsBytes, deco
 use Rattle.hex.specs.declared.error.FromHexError.{FromHexError}
 use Rattle.hex.proofs.HexLemmas.{decode_of-encode_lower, length-encode_with}
 use Rattle.fetch_rules.specs.LegalId.{IsLegalId}
-use Rattle.mail_store.specs.Names.{base, is_colon, is_lower_hex_digit, name_of, IsAccountText}
+use Rattle.mail_store.specs.FileName.{base, is_colon, is_lower_hex_digit, name_of, IsAccountText}
 
 -- ---- digits
 

@@ -1,6 +1,6 @@
 pub mod Refusals
-pub mod Maildirs
-pub mod FlatFiles
-pub mod Fuses
-pub mod Names
-pub mod Holdings
+pub mod Maildir
+pub mod FlatFile
+pub mod Fuse
+pub mod FileName
+pub mod Held

@@ -4,7 +4,7 @@ ghost use Rattle.std.specs.Prelude.{◌≡◌, [], ◌∷◌, ◌++◌, length, 
 ghost use Rattle.std.specs.List.{AllPass};
 ghost use Rattle.hex.specs.Hex.{encode_lower};
 ghost use Rattle.sha2.specs.Sha256.{sha256};
-ghost use Rattle.mail_store.specs.Names.{account_text, is_lower_hex_digit, IsAccountText};
+ghost use Rattle.mail_store.specs.FileName.{account_text, is_lower_hex_digit, IsAccountText};
 
 use itoa::Buffer;
 use sha2::{Digest, Sha256};
@@ -19,7 +19,7 @@ pub struct AccountId {
 
 impl Model for AccountId {
     ghost use Rattle.std.specs.Prelude.{ℕ, List};
-    ghost use Rattle.mail_store.specs.Names.{IsAccountText};
+    ghost use Rattle.mail_store.specs.FileName.{IsAccountText};
 
     ghost Value = { List ℕ };
 

@@ -1,8 +1,8 @@
 //! A device that refuses every call after the first few.
 
-use super::fault::StoreFault;
-use super::flat_file::{Edges, FlatFile};
-use super::maildir::{Folder, MaildirDisk};
+use crate::fault::StoreFault;
+use crate::file::flat_file::{Edges, FlatFile};
+use crate::maildir::disk::{Folder, MaildirDisk};
 
 /// A device that passes its first calls on to another one and then refuses every call, so that each
 /// place where a device can fail can be tried. It counts the refusals of both.
@@ -11,13 +11,13 @@ pub struct Fused<D> {
     device: D,
     passes_left: u64,
     takes_effect: bool,
-    refused: u64,
+    failures: u64,
 }
 
 impl<D> Fused<D> {
     ghost use Rattle.std.specs.Prelude.{◌≡◌, ◌+◌, ◌<◌, false};
     ghost use Rattle.mail_store.specs.Refusals.{Tallies, greatest_count};
-    ghost use Rattle.mail_store.specs.Fuses.{device_of, passes_left, effect_is_due, refusals};
+    ghost use Rattle.mail_store.specs.Fuse.{device_of, passes_left, effect_is_due, refusals};
 
     /// Passes `passes` calls that answer a `Result` on to the device, and refuses every later one.
     /// Where `takes_effect` is true, the first call that it refuses itself takes effect
@@ -33,7 +33,7 @@ impl<D> Fused<D> {
             device,
             passes_left: passes,
             takes_effect,
-            refused: 0,
+            failures: 0,
         }
     }
 
@@ -52,32 +52,32 @@ impl<D> Fused<D> {
             device,
             passes_left: _,
             takes_effect: _,
-            refused: _,
+            failures: _,
         } = self;
         device
     }
 
     // Counts a refusal of the fuse's own, after which no other takes effect.
     fn refuse(&mut self) -> StoreFault
-        requires { self.old.refused < greatest_count }
+        requires { self.old.failures < greatest_count }
         ensures fault { result ≡ StoreFault.Refused }
-        ensures counted { self.new ≡ record self.old { refused = self.old.refused + 1; takes_effect = false } }
+        ensures counted { self.new ≡ record self.old { failures = self.old.failures + 1; takes_effect = false } }
     {
         self.takes_effect = false;
-        self.refused += 1;
+        self.failures += 1;
         StoreFault::Refused
     }
 
     // Counts what the device answered, where it refused.
     fn tally<T>(&mut self, answer: Result<T, StoreFault>) -> Result<T, StoreFault>
-        requires { self.old.refused < greatest_count }
+        requires { self.old.failures < greatest_count }
         ensures answer { result ≡ answer }
-        ensures count { Tallies self.old.refused answer self.new.refused }
-        ensures others { self.new ≡ record self.old { refused = self.new.refused } }
+        ensures count { Tallies self.old.failures answer self.new.failures }
+        ensures others { self.new ≡ record self.old { failures = self.new.failures } }
     {
         match answer {
             Err(StoreFault::Refused) => {
-                self.refused += 1;
+                self.failures += 1;
                 Err(StoreFault::Refused)
             }
             other => other,
@@ -88,23 +88,23 @@ impl<D> Fused<D> {
 impl<D: MaildirDisk> MaildirDisk for Fused<D> {
     ghost use Rattle.std.specs.Prelude.{◌≡◌, ◌<◌, IfErr, IfOk, IsSome, OnErr, OnOk, Some, None, map, string_bytes};
     ghost use Rattle.mail_store.specs.Refusals.{Tallies, IsDeviceFault, greatest_count};
-    ghost use Rattle.mail_store.specs.Maildirs.{File, AreDistinct, IsInNew, Lists, Begins, Adds, Settles, dropped, name_begun};
-    ghost use Rattle.mail_store.specs.Fuses.{device_of, passes_left, effect_is_due, refusals, fused_maildir, FusedKeeps, Burns, SettlesBehind};
+    ghost use Rattle.mail_store.specs.Maildir.{File, AreDistinct, IsInNew, Lists, Begins, Adds, Settles, dropped, name_begun};
+    ghost use Rattle.mail_store.specs.Fuse.{device_of, passes_left, effect_is_due, refusals, fused_maildir, FusedIsSound, Burns, SettlesBehind};
 
     ghost maildir = { λ f. fused_maildir D.maildir f };
 
-    ghost keeps_word = { λ f. FusedKeeps D.keeps_word f };
+    ghost sound = { λ f. FusedIsSound D.sound f };
 
     fn names(&mut self, folder: Folder) -> Result<Vec<String>, StoreFault>
-        ensures lists { FusedKeeps D.keeps_word self.new → FusedKeeps D.keeps_word self.old
+        ensures lists { FusedIsSound D.sound self.new → FusedIsSound D.sound self.old
             × Lists (fused_maildir D.maildir self.old) folder result (fused_maildir D.maildir self.new) }
-        ensures once { FusedKeeps D.keeps_word self.new → IfOk result (λ names. AreDistinct (map string_bytes names.items)) }
+        ensures once { FusedIsSound D.sound self.new → IfOk result (λ names. AreDistinct (map string_bytes names.items)) }
         ensures fault { IfErr result IsDeviceFault }
         ensures count { Tallies (refusals self.old) result (refusals self.new) }
-        ensures burns { refusals self.old < greatest_count → Burns (λ d. (D.maildir d).refused) self.old result self.new }
+        ensures burns { refusals self.old < greatest_count → Burns (λ d. (D.maildir d).failures) self.old result self.new }
         ensures behind { passes_left self.old ≡ 0 → device_of self.new ≡ device_of self.old }
     {
-        if self.refused == u64::MAX {
+        if self.failures == u64::MAX {
             return Err(StoreFault::Refused);
         }
         if self.passes_left == 0 {
@@ -116,17 +116,17 @@ impl<D: MaildirDisk> MaildirDisk for Fused<D> {
     }
 
     fn begin(&mut self, name: &str) -> Result<(), StoreFault>
-        requires { FusedKeeps D.keeps_word self.old → (D.maildir (device_of self.old)).begun ≡ None }
-        ensures begins { FusedKeeps D.keeps_word self.new → FusedKeeps D.keeps_word self.old
+        requires { FusedIsSound D.sound self.old → (D.maildir (device_of self.old)).begun ≡ None }
+        ensures begins { FusedIsSound D.sound self.new → FusedIsSound D.sound self.old
             × Begins (fused_maildir D.maildir self.old) name.now result (fused_maildir D.maildir self.new) }
         ensures begun { OnOk result (name_begun (D.maildir (device_of self.new)) ≡ Some name.now) }
         ensures not_begun { OnErr result ((D.maildir (device_of self.new)).begun ≡ (D.maildir (device_of self.old)).begun) }
         ensures fault { IfErr result IsDeviceFault }
         ensures count { Tallies (refusals self.old) result (refusals self.new) }
-        ensures burns { refusals self.old < greatest_count → Burns (λ d. (D.maildir d).refused) self.old result self.new }
+        ensures burns { refusals self.old < greatest_count → Burns (λ d. (D.maildir d).failures) self.old result self.new }
         ensures behind { passes_left self.old ≡ 0 → device_of self.new ≡ device_of self.old }
     {
-        if self.refused == u64::MAX {
+        if self.failures == u64::MAX {
             return Err(StoreFault::Refused);
         }
         if self.passes_left == 0 {
@@ -138,16 +138,16 @@ impl<D: MaildirDisk> MaildirDisk for Fused<D> {
     }
 
     fn add(&mut self, bytes: &[u8]) -> Result<(), StoreFault>
-        requires { FusedKeeps D.keeps_word self.old → IsSome (D.maildir (device_of self.old)).begun }
-        ensures adds { FusedKeeps D.keeps_word self.new → FusedKeeps D.keeps_word self.old
+        requires { FusedIsSound D.sound self.old → IsSome (D.maildir (device_of self.old)).begun }
+        ensures adds { FusedIsSound D.sound self.new → FusedIsSound D.sound self.old
             × Adds (fused_maildir D.maildir self.old) bytes.now result (fused_maildir D.maildir self.new) }
         ensures begun { name_begun (D.maildir (device_of self.new)) ≡ name_begun (D.maildir (device_of self.old)) }
         ensures fault { IfErr result (λ e. e ≡ StoreFault.Refused) }
         ensures count { Tallies (refusals self.old) result (refusals self.new) }
-        ensures burns { refusals self.old < greatest_count → Burns (λ d. (D.maildir d).refused) self.old result self.new }
+        ensures burns { refusals self.old < greatest_count → Burns (λ d. (D.maildir d).failures) self.old result self.new }
         ensures behind { passes_left self.old ≡ 0 → device_of self.new ≡ device_of self.old }
     {
-        if self.refused == u64::MAX {
+        if self.failures == u64::MAX {
             return Err(StoreFault::Refused);
         }
         if self.passes_left == 0 {
@@ -159,19 +159,19 @@ impl<D: MaildirDisk> MaildirDisk for Fused<D> {
     }
 
     fn settle(&mut self) -> Result<(), StoreFault>
-        requires { FusedKeeps D.keeps_word self.old
+        requires { FusedIsSound D.sound self.old
             → (f : File) × ((D.maildir (device_of self.old)).begun ≡ Some f)
             × (IsInNew (D.maildir (device_of self.old)) f.name → ⊥) }
-        ensures settles { FusedKeeps D.keeps_word self.new → FusedKeeps D.keeps_word self.old
+        ensures settles { FusedIsSound D.sound self.new → FusedIsSound D.sound self.old
             × Settles (fused_maildir D.maildir self.old) result (fused_maildir D.maildir self.new) }
         ensures none_begun { (D.maildir (device_of self.new)).begun ≡ None }
         ensures fault { IfErr result (λ e. e ≡ StoreFault.Refused) }
         ensures count { Tallies (refusals self.old) result (refusals self.new) }
-        ensures burns { refusals self.old < greatest_count → Burns (λ d. (D.maildir d).refused) self.old result self.new }
-        ensures behind { passes_left self.old ≡ 0 → FusedKeeps D.keeps_word self.new
+        ensures burns { refusals self.old < greatest_count → Burns (λ d. (D.maildir d).failures) self.old result self.new }
+        ensures behind { passes_left self.old ≡ 0 → FusedIsSound D.sound self.new
             → SettlesBehind (effect_is_due self.old) (D.maildir (device_of self.old)) (D.maildir (device_of self.new)) }
     {
-        if self.refused == u64::MAX {
+        if self.failures == u64::MAX {
             self.device.abandon();
             return Err(StoreFault::Refused);
         }
@@ -193,29 +193,29 @@ impl<D: MaildirDisk> MaildirDisk for Fused<D> {
     }
 
     fn failures(&self) -> u64 {
-        self.refused
+        self.failures
     }
 }
 
 impl<D: FlatFile> FlatFile for Fused<D> {
     ghost use Rattle.std.specs.Prelude.{◌≡◌, ◌<◌, IfErr, IsSome};
     ghost use Rattle.mail_store.specs.Refusals.{Tallies, IsDeviceFault, greatest_count};
-    ghost use Rattle.mail_store.specs.FlatFiles.{Loads, Measures, Appends, Cuts, Replaces, HasBytes};
-    ghost use Rattle.mail_store.specs.Fuses.{device_of, passes_left, effect_is_due, refusals, fused_file, FusedKeeps, Burns, AppendsBehind, ReplacesBehind};
+    ghost use Rattle.mail_store.specs.FlatFile.{Loads, Measures, Appends, Cuts, Replaces, HasBytes};
+    ghost use Rattle.mail_store.specs.Fuse.{device_of, passes_left, effect_is_due, refusals, fused_file, FusedIsSound, Burns, AppendsBehind, ReplacesBehind};
 
     ghost stored = { λ f. fused_file D.stored f };
 
-    ghost keeps_word = { λ f. FusedKeeps D.keeps_word f };
+    ghost sound = { λ f. FusedIsSound D.sound f };
 
     fn load(&mut self) -> Result<Vec<u8>, StoreFault>
-        ensures loads { FusedKeeps D.keeps_word self.new → FusedKeeps D.keeps_word self.old
+        ensures loads { FusedIsSound D.sound self.new → FusedIsSound D.sound self.old
             × Loads (fused_file D.stored self.old) result (fused_file D.stored self.new) }
         ensures fault { IfErr result IsDeviceFault }
         ensures count { Tallies (refusals self.old) result (refusals self.new) }
-        ensures burns { refusals self.old < greatest_count → Burns (λ d. (D.stored d).refused) self.old result self.new }
+        ensures burns { refusals self.old < greatest_count → Burns (λ d. (D.stored d).failures) self.old result self.new }
         ensures behind { passes_left self.old ≡ 0 → device_of self.new ≡ device_of self.old }
     {
-        if self.refused == u64::MAX {
+        if self.failures == u64::MAX {
             return Err(StoreFault::Refused);
         }
         if self.passes_left == 0 {
@@ -227,14 +227,14 @@ impl<D: FlatFile> FlatFile for Fused<D> {
     }
 
     fn edges(&mut self) -> Result<Edges, StoreFault>
-        ensures measures { FusedKeeps D.keeps_word self.new → FusedKeeps D.keeps_word self.old
+        ensures measures { FusedIsSound D.sound self.new → FusedIsSound D.sound self.old
             × Measures (fused_file D.stored self.old) result (fused_file D.stored self.new) }
         ensures fault { IfErr result IsDeviceFault }
         ensures count { Tallies (refusals self.old) result (refusals self.new) }
-        ensures burns { refusals self.old < greatest_count → Burns (λ d. (D.stored d).refused) self.old result self.new }
+        ensures burns { refusals self.old < greatest_count → Burns (λ d. (D.stored d).failures) self.old result self.new }
         ensures behind { passes_left self.old ≡ 0 → device_of self.new ≡ device_of self.old }
     {
-        if self.refused == u64::MAX {
+        if self.failures == u64::MAX {
             return Err(StoreFault::Refused);
         }
         if self.passes_left == 0 {
@@ -246,16 +246,16 @@ impl<D: FlatFile> FlatFile for Fused<D> {
     }
 
     fn append(&mut self, bytes: &[u8]) -> Result<(), StoreFault>
-        requires { FusedKeeps D.keeps_word self.old → IsSome (D.stored (device_of self.old)).content }
-        ensures appends { FusedKeeps D.keeps_word self.new → FusedKeeps D.keeps_word self.old
+        requires { FusedIsSound D.sound self.old → IsSome (D.stored (device_of self.old)).content }
+        ensures appends { FusedIsSound D.sound self.new → FusedIsSound D.sound self.old
             × Appends (fused_file D.stored self.old) bytes.now result (fused_file D.stored self.new) }
         ensures fault { IfErr result (λ e. e ≡ StoreFault.Refused) }
         ensures count { Tallies (refusals self.old) result (refusals self.new) }
-        ensures burns { refusals self.old < greatest_count → Burns (λ d. (D.stored d).refused) self.old result self.new }
-        ensures behind { passes_left self.old ≡ 0 → FusedKeeps D.keeps_word self.new
+        ensures burns { refusals self.old < greatest_count → Burns (λ d. (D.stored d).failures) self.old result self.new }
+        ensures behind { passes_left self.old ≡ 0 → FusedIsSound D.sound self.new
             → AppendsBehind (effect_is_due self.old) (D.stored (device_of self.old)) bytes.now (D.stored (device_of self.new)) }
     {
-        if self.refused == u64::MAX {
+        if self.failures == u64::MAX {
             return Err(StoreFault::Refused);
         }
         if self.passes_left > 0 {
@@ -271,15 +271,15 @@ impl<D: FlatFile> FlatFile for Fused<D> {
     }
 
     fn cut_to(&mut self, len: u64) -> Result<(), StoreFault>
-        requires { FusedKeeps D.keeps_word self.old → HasBytes (D.stored (device_of self.old)) len }
-        ensures cuts { FusedKeeps D.keeps_word self.new → FusedKeeps D.keeps_word self.old
+        requires { FusedIsSound D.sound self.old → HasBytes (D.stored (device_of self.old)) len }
+        ensures cuts { FusedIsSound D.sound self.new → FusedIsSound D.sound self.old
             × Cuts (fused_file D.stored self.old) len result (fused_file D.stored self.new) }
         ensures fault { IfErr result (λ e. e ≡ StoreFault.Refused) }
         ensures count { Tallies (refusals self.old) result (refusals self.new) }
-        ensures burns { refusals self.old < greatest_count → Burns (λ d. (D.stored d).refused) self.old result self.new }
+        ensures burns { refusals self.old < greatest_count → Burns (λ d. (D.stored d).failures) self.old result self.new }
         ensures behind { passes_left self.old ≡ 0 → device_of self.new ≡ device_of self.old }
     {
-        if self.refused == u64::MAX {
+        if self.failures == u64::MAX {
             return Err(StoreFault::Refused);
         }
         if self.passes_left == 0 {
@@ -291,15 +291,15 @@ impl<D: FlatFile> FlatFile for Fused<D> {
     }
 
     fn replace(&mut self, bytes: &[u8]) -> Result<(), StoreFault>
-        ensures replaces { FusedKeeps D.keeps_word self.new → FusedKeeps D.keeps_word self.old
+        ensures replaces { FusedIsSound D.sound self.new → FusedIsSound D.sound self.old
             × Replaces (fused_file D.stored self.old) bytes.now result (fused_file D.stored self.new) }
         ensures fault { IfErr result (λ e. e ≡ StoreFault.Refused) }
         ensures count { Tallies (refusals self.old) result (refusals self.new) }
-        ensures burns { refusals self.old < greatest_count → Burns (λ d. (D.stored d).refused) self.old result self.new }
-        ensures behind { passes_left self.old ≡ 0 → FusedKeeps D.keeps_word self.new
+        ensures burns { refusals self.old < greatest_count → Burns (λ d. (D.stored d).failures) self.old result self.new }
+        ensures behind { passes_left self.old ≡ 0 → FusedIsSound D.sound self.new
             → ReplacesBehind (effect_is_due self.old) (D.stored (device_of self.old)) bytes.now (D.stored (device_of self.new)) }
     {
-        if self.refused == u64::MAX {
+        if self.failures == u64::MAX {
             return Err(StoreFault::Refused);
         }
         if self.passes_left > 0 {
@@ -315,6 +315,6 @@ impl<D: FlatFile> FlatFile for Fused<D> {
     }
 
     fn failures(&self) -> u64 {
-        self.refused
+        self.failures
     }
 }

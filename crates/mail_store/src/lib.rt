@@ -2,31 +2,24 @@
 #![tactic(auto)]
 
 mod account;
-mod delivery;
 mod fault;
-mod flat_file;
-mod folder_maildir;
+mod file;
 mod fused;
-mod held_ids;
-mod host_file;
 mod maildir;
-mod memory_file;
-mod memory_maildir;
-mod names;
 mod sync;
 
 pub use account::{AccountId, account_id};
-pub use delivery::deliver;
 pub use fault::StoreFault;
-pub use flat_file::{Edges, FlatFile};
-pub use folder_maildir::FolderMaildir;
+pub use file::flat_file::{Edges, FlatFile};
+pub use file::host::HostFile;
+pub use file::memory::MemoryFile;
 pub use fused::Fused;
-pub use held_ids::held;
-pub use host_file::HostFile;
-pub use maildir::{Folder, MaildirDisk};
-pub use memory_file::MemoryFile;
-pub use memory_maildir::MemoryMaildir;
-pub use names::{
+pub use maildir::delivery::deliver;
+pub use maildir::disk::{Folder, MaildirDisk};
+pub use maildir::folder::FolderMaildir;
+pub use maildir::held::held;
+pub use maildir::memory::MemoryMaildir;
+pub use maildir::names::{
     base, file_name, names_are_bases, names_differ, uid_of, unheld_ids_are_not_in_new,
 };
 

@@ -1,7 +1,7 @@
 use Rattle.std.proofs.Common.{◌≡◌, ℕ, List, rules, sym, subst, arith}
 use Rattle.std.specs.List.{AllPass}
 use Rattle.hex.specs.Hex.{encode_lower}
-use Rattle.mail_store.specs.Names.{is_lower_hex_digit}
+use Rattle.mail_store.specs.FileName.{is_lower_hex_digit}
 use Rattle.mail_store.proofs.NameLemmas.{digits_pass}
 use Rattle.mail_store.proofs.account.lower_hex.Goals as goal
 

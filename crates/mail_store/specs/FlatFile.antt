@@ -1,0 +1,72 @@
+-- What each call of a file device does, for either outcome, as a relation between what is known of
+-- the file before and after the call.
+use Rattle.std.specs.Prelude.{◌≡◌, ℕ, ◌+◌, ◌≤◌, List, [], ◌∷◌, ◌++◌, length, take, slice_index, Option, Some, None, Result, Ok, Err, ◌⊎◌, Vec}
+use Rattle.mail_store.specs.declared.fault.StoreFault.{StoreFault}
+use Rattle.mail_store.specs.declared.fault.StoreFault.TheVariants.{Missing, Refused, NotMbox, NoMemory}
+use Rattle.mail_store.specs.declared.file.flat_file.Edges.{Edges}
+
+-- what is known of a file: its bytes, None where there is no file, and how many calls were refused
+pub record Stored : Type 0 where
+  pub content : Option (List ℕ)
+  pub failures : ℕ
+
+-- these bytes are the file's
+abbrev pub holding : Stored → List ℕ → Stored
+holding old bytes = record old { content = Some bytes }
+
+-- one more refusal
+abbrev pub counted : Stored → Stored
+counted old = record old { failures = old.failures + 1 }
+
+-- the size of some bytes, the first five of them, and the last two; a byte that isn't there is zero
+-- (`slice_index` gives 0 past the end)
+abbrev pub edges_of : List ℕ → Edges
+edges_of bytes = record {
+  size = length bytes;
+  head = slice_index bytes 0 ∷ slice_index bytes 1 ∷ slice_index bytes 2 ∷ slice_index bytes 3 ∷ slice_index bytes 4 ∷ [];
+  tail = slice_index (0 ∷ 0 ∷ bytes) (length bytes) ∷ slice_index (0 ∷ 0 ∷ bytes) (length bytes + 1) ∷ [];
+}
+
+-- a call that only reads answered a fault: there is no file, or the call was refused
+abbrev pub Denies : Stored → StoreFault → Stored → Type 0
+Denies old Missing new = (old.content ≡ None) × (new ≡ old)
+Denies old Refused new = new ≡ counted old
+Denies old NotMbox new = ⊥
+Denies old NoMemory new = ⊥
+
+-- `load`: the file's bytes
+abbrev pub Loads : {B : Type 0} → Stored → Result (Vec ℕ B) StoreFault → Stored → Type 0
+Loads old (Ok bytes) new = (old.content ≡ Some bytes.items) × (new ≡ old)
+Loads old (Err fault) new = Denies old fault new
+
+-- `edges`: the size and the ends of the file's bytes
+abbrev pub Measures : Stored → Result Edges StoreFault → Stored → Type 0
+Measures old (Ok edges) new = ((was : List ℕ) × (old.content ≡ Some was) × (edges ≡ edges_of was)) × (new ≡ old)
+Measures old (Err fault) new = Denies old fault new
+
+-- `append`: the bytes stand behind the old ones; a refused call put a front of them there
+abbrev pub Appends : {T : Type 0} → Stored → List ℕ → Result T StoreFault → Stored → Type 0
+Appends old bytes (Ok done) new = (was : List ℕ) → old.content ≡ Some was → new ≡ holding old (was ++ bytes)
+Appends old bytes (Err fault) new =
+    (was : List ℕ) → old.content ≡ Some was
+    → (front rest : List ℕ) × (bytes ≡ front ++ rest) × (new ≡ counted (holding old (was ++ front)))
+
+-- `cut_to`: the first bytes are kept; a refused call leaves the old ones or these
+abbrev pub Cuts : {T : Type 0} → Stored → ℕ → Result T StoreFault → Stored → Type 0
+Cuts old len (Ok done) new = (was : List ℕ) → old.content ≡ Some was → new ≡ holding old (take len was)
+Cuts old len (Err fault) new =
+    (was : List ℕ) → old.content ≡ Some was
+    → (new ≡ counted old) ⊎ (new ≡ counted (holding old (take len was)))
+
+-- `replace`: the bytes are the file's; a refused call leaves the old file, or none where none was
+abbrev pub Replaces : {T : Type 0} → Stored → List ℕ → Result T StoreFault → Stored → Type 0
+Replaces old bytes (Ok done) new = new ≡ holding old bytes
+Replaces old bytes (Err fault) new = (new ≡ counted old) ⊎ (new ≡ counted (holding old bytes))
+
+-- the file is there, and has at least this many bytes
+abbrev pub HasBytes : Stored → ℕ → Type 0
+HasBytes stored len = (was : List ℕ) × (stored.content ≡ Some was) × (len ≤ length was)
+
+-- what is known of a file of the file system: how many calls were refused, and nothing else
+abbrev pub unknown_file : ℕ → Stored
+unknown_file failures = record { content = None; failures = failures }

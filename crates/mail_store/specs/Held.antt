@@ -1,0 +1,19 @@
+-- What `held` answers of a Maildir.
+use Rattle.std.specs.Prelude.{◌≡◌, ℕ, List, map, Bool, false, Result, Ok, Err, Vec, ◌⊎◌}
+use Rattle.fetch_rules.specs.Listing.{Item}
+use Rattle.mail_store.specs.declared.fault.StoreFault.{StoreFault}
+use Rattle.mail_store.specs.declared.fault.StoreFault.TheVariants.{Missing, Refused, NotMbox, NoMemory}
+use Rattle.mail_store.specs.Maildir.{Maildir, counted}
+use Rattle.mail_store.specs.FileName.{is_held}
+
+-- whether the id of each item is held, in order
+abbrev pub flags_of : List ℕ → Maildir → List Item → List Bool
+flags_of account maildir items = map (λ (item : Item). is_held account maildir item.uid) items
+
+-- `held`: a flag for each item; `new` or `cur` isn't there; or a call was refused
+abbrev pub Finds : {B : Type 0} → List ℕ → Maildir → List Item → Result (Vec Bool B) StoreFault → Maildir → Type 0
+Finds account old items (Ok flags) new = (flags.items ≡ flags_of account old items) × (new ≡ old)
+Finds account old items (Err Missing) new = ((old.there.new ≡ false) ⊎ (old.there.cur ≡ false)) × (new ≡ old)
+Finds account old items (Err Refused) new = new ≡ counted old
+Finds account old items (Err NotMbox) new = ⊥
+Finds account old items (Err NoMemory) new = new ≡ old

@@ -1,0 +1,5 @@
+//! Devices that keep one file.
+
+pub mod flat_file;
+pub mod host;
+pub mod memory;

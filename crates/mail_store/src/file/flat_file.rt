@@ -1,0 +1,73 @@
+//! Devices that keep one file.
+
+use crate::fault::StoreFault;
+
+/// The size of a file and its ends.
+#[derive(Clone, Copy, Debug, PartialEq, Eq)]
+pub struct Edges {
+    /// How many bytes the file has.
+    pub size: u64,
+    /// Its first five bytes, with zeros behind them where it is shorter.
+    pub head: [u8; 5],
+    /// Its last two bytes, with zeros in front of them where it is shorter.
+    pub tail: [u8; 2],
+}
+
+/// A device that keeps one file, and that can refuse any call.
+pub trait FlatFile {
+    ghost use Rattle.std.specs.Prelude.{◌≡◌, IfErr, IsSome};
+    ghost use Rattle.mail_store.specs.Refusals.{Tallies, IsDeviceFault};
+    ghost use Rattle.mail_store.specs.FlatFile.{Stored, Loads, Measures, Appends, Cuts, Replaces, HasBytes};
+
+    // What is known of the file.
+    ghost stored: { Self → Stored };
+
+    // The premise: so far the device did what this trait says, and its count is below its greatest
+    // value. Where it holds after a call it held before it.
+    ghost sound: { Self → Type 0 };
+
+    /// The bytes of the file. Missing where there is none, else Refused.
+    fn load(&mut self) -> Result<Vec<u8>, StoreFault>
+        ensures loads { sound self.new → sound self.old
+            × Loads (stored self.old) result (stored self.new) }
+        ensures fault { IfErr result IsDeviceFault }
+        ensures count { Tallies (stored self.old).failures result (stored self.new).failures };
+
+    /// The size of the file, its first five bytes and its last two. Missing where there is none,
+    /// else Refused.
+    fn edges(&mut self) -> Result<Edges, StoreFault>
+        ensures measures { sound self.new → sound self.old
+            × Measures (stored self.old) result (stored self.new) }
+        ensures fault { IfErr result IsDeviceFault }
+        ensures count { Tallies (stored self.old).failures result (stored self.new).failures };
+
+    /// Puts bytes behind those of the file. The only fault is Refused: a front of the bytes may
+    /// then stand there. A good `load`, `edges` or `replace` tells that the file is there.
+    fn append(&mut self, bytes: &[u8]) -> Result<(), StoreFault>
+        requires { sound self.old → IsSome (stored self.old).content }
+        ensures appends { sound self.new → sound self.old
+            × Appends (stored self.old) bytes.now result (stored self.new) }
+        ensures fault { IfErr result (λ e. e ≡ StoreFault.Refused) }
+        ensures count { Tallies (stored self.old).failures result (stored self.new).failures };
+
+    /// Cuts the file to its first `len` bytes. The only fault is Refused: the file is then as it
+    /// was, or cut. `edges` tells the file's size.
+    fn cut_to(&mut self, len: u64) -> Result<(), StoreFault>
+        requires { sound self.old → HasBytes (stored self.old) len }
+        ensures cuts { sound self.new → sound self.old
+            × Cuts (stored self.old) len result (stored self.new) }
+        ensures fault { IfErr result (λ e. e ≡ StoreFault.Refused) }
+        ensures count { Tallies (stored self.old).failures result (stored self.new).failures };
+
+    /// Makes these bytes the file's, whether or not there is a file. The only fault is Refused:
+    /// the file is then as it was, or has these bytes.
+    fn replace(&mut self, bytes: &[u8]) -> Result<(), StoreFault>
+        ensures replaces { sound self.new → sound self.old
+            × Replaces (stored self.old) bytes.now result (stored self.new) }
+        ensures fault { IfErr result (λ e. e ≡ StoreFault.Refused) }
+        ensures count { Tallies (stored self.old).failures result (stored self.new).failures };
+
+    /// How many calls were refused.
+    fn failures(&self) -> u64
+        ensures { result ≡ (stored self.now).failures };
+}

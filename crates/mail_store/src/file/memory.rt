@@ -1,0 +1,196 @@
+//! A file in memory.
+
+ghost use Rattle.std.specs.Prelude.{◌≡◌, ◌<◌, ◌+◌, [], slice_index, option_map};
+ghost use Rattle.mail_store.specs.Refusals.{greatest_count};
+ghost use Rattle.mail_store.specs.FlatFile.{edges_of};
+
+use crate::fault::StoreFault;
+use crate::file::flat_file::{Edges, FlatFile};
+use std::alloc::Global;
+use std::marker::Model;
+
+/// A file in memory. Below the greatest count it refuses a call only where memory runs out.
+#[derive(Drop)]
+pub struct MemoryFile {
+    alloc: Global,
+    content: Option<Vec<u8>>,
+    failures: u64,
+}
+
+impl Model for MemoryFile {
+    ghost use Rattle.std.specs.Prelude.{option_map};
+    ghost use Rattle.mail_store.specs.FlatFile.{Stored};
+
+    ghost Value = { Stored };
+
+    ghost view = { λ f. record { content = option_map (λ bytes. bytes.items) f.content; failures = f.failures } };
+}
+
+impl MemoryFile {
+    /// An empty file.
+    pub fn new(alloc: Global) -> MemoryFile
+        ensures stored { result ≡ record { content = Some []; failures = 0 } }
+        ensures sound { ⟦<MemoryFile as FlatFile>⟧.sound result }
+    {
+        MemoryFile {
+            alloc,
+            content: Some(Vec::new(alloc)),
+            failures: 0,
+        }
+    }
+
+    /// No file, until one is made by `replace`.
+    pub fn missing(alloc: Global) -> MemoryFile
+        ensures stored { result ≡ record { content = None; failures = 0 } }
+        ensures sound { ⟦<MemoryFile as FlatFile>⟧.sound result }
+    {
+        MemoryFile {
+            alloc,
+            content: None,
+            failures: 0,
+        }
+    }
+
+    /// The bytes of the file, None where there is no file.
+    pub fn content(&self) -> Option<&[u8]>
+        ensures { option_map (λ bytes. bytes.now) result ≡ self.now.content }
+    {
+        match &self.content {
+            Some(bytes) => Some(bytes.as_slice()),
+            None => None,
+        }
+    }
+
+    fn refuse(&mut self) -> StoreFault
+        requires { self.old.failures < greatest_count }
+        ensures fault { result ≡ StoreFault.Refused }
+        ensures counted { self.new ≡ record self.old { failures = self.old.failures + 1 } }
+    {
+        self.failures += 1;
+        StoreFault::Refused
+    }
+}
+
+/// The byte at a place, or zero past the end.
+fn byte_at(bytes: &[u8], place: usize) -> u8
+    ensures { result ≡ slice_index bytes.now place }
+{
+    bytes.get(place).copied().unwrap_or(0)
+}
+
+/// The last two bytes, with zeros in front of them where there are fewer.
+fn tail_of(bytes: &[u8]) -> [u8; 2]
+    ensures { result ≡ (edges_of bytes.now).tail }
+{
+    match bytes.len() {
+        0 => [0, 0],
+        1 => [0, bytes[0]],
+        size => [bytes[size - 2], bytes[size - 1]],
+    }
+}
+
+/// The size of some bytes and their ends.
+fn edges_of(bytes: &[u8]) -> Edges
+    ensures { result ≡ edges_of bytes.now }
+{
+    Edges {
+        size: bytes.len() as u64,
+        head: [
+            byte_at(bytes, 0),
+            byte_at(bytes, 1),
+            byte_at(bytes, 2),
+            byte_at(bytes, 3),
+            byte_at(bytes, 4),
+        ],
+        tail: tail_of(bytes),
+    }
+}
+
+impl FlatFile for MemoryFile {
+    ghost use Rattle.std.specs.Prelude.{◌≡◌, ◌≢◌, ◌<◌, IfErr, IsOk};
+    ghost use Rattle.mail_store.specs.Refusals.{Tallies, IsDeviceFault, greatest_count};
+    ghost use Rattle.mail_store.specs.FlatFile.{Measures, Cuts, HasBytes};
+
+    ghost stored = { λ f. f };
+
+    ghost sound = { λ f. f.failures < greatest_count };
+
+    fn load(&mut self) -> Result<Vec<u8>, StoreFault> {
+        if self.failures == u64::MAX {
+            return Err(StoreFault::Refused);
+        }
+        let Some(bytes) = &self.content else {
+            return Err(StoreFault::Missing);
+        };
+        match bytes.clone() {
+            Ok(copy) => Ok(copy),
+            Err(_) => Err(self.refuse()),
+        }
+    }
+
+    // It takes no memory, so below the greatest count it isn't refused.
+    fn edges(&mut self) -> Result<Edges, StoreFault>
+        ensures measures { self.new.failures < greatest_count → (self.old.failures < greatest_count)
+            × Measures self.old result self.new }
+        ensures fault { IfErr result IsDeviceFault }
+        ensures count { Tallies self.old.failures result self.new.failures }
+        ensures answers { self.old.failures < greatest_count → result ≢ Err StoreFault.Refused }
+    {
+        if self.failures == u64::MAX {
+            return Err(StoreFault::Refused);
+        }
+        match &self.content {
+            Some(bytes) => Ok(edges_of(bytes.as_slice())),
+            None => Err(StoreFault::Missing),
+        }
+    }
+
+    fn append(&mut self, bytes: &[u8]) -> Result<(), StoreFault> {
+        if self.failures == u64::MAX {
+            return Err(StoreFault::Refused);
+        }
+        let Some(content) = &mut self.content else {
+            unreachable!()
+        };
+        match content.extend_from_slice(bytes) {
+            Ok(()) => Ok(()),
+            Err(_) => Err(self.refuse()),
+        }
+    }
+
+    // It takes no memory, so below the greatest count it isn't refused.
+    fn cut_to(&mut self, len: u64) -> Result<(), StoreFault>
+        requires { self.old.failures < greatest_count → HasBytes self.old len }
+        ensures cuts { self.new.failures < greatest_count → (self.old.failures < greatest_count)
+            × Cuts self.old len result self.new }
+        ensures fault { IfErr result (λ e. e ≡ StoreFault.Refused) }
+        ensures count { Tallies self.old.failures result self.new.failures }
+        ensures answers { self.old.failures < greatest_count → IsOk result }
+    {
+        if self.failures == u64::MAX {
+            return Err(StoreFault::Refused);
+        }
+        let Some(content) = &mut self.content else {
+            unreachable!()
+        };
+        content.truncate(len as usize);
+        Ok(())
+    }
+
+    fn replace(&mut self, bytes: &[u8]) -> Result<(), StoreFault> {
+        if self.failures == u64::MAX {
+            return Err(StoreFault::Refused);
+        }
+        match Vec::from_slice(self.alloc, bytes) {
+            Ok(content) => {
+                self.content = Some(content);
+                Ok(())
+            }
+            Err(_) => Err(self.refuse()),
+        }
+    }
+
+    fn failures(&self) -> u64 {
+        self.failures
+    }
+}

@@ -1,0 +1,84 @@
+//! Devices that keep a Maildir (<https://cr.yp.to/proto/maildir.html>).
+
+use crate::fault::StoreFault;
+
+/// A folder of a Maildir that readers look into.
+#[derive(Clone, Copy, Debug, PartialEq, Eq)]
+pub enum Folder {
+    /// Files that no reader has seen.
+    New,
+    /// Files that a reader has taken.
+    Cur,
+}
+
+/// A device that keeps a Maildir, and that can refuse any call.
+///
+/// A file is begun in `tmp`, written there by any number of `add`, and then settled: only then it
+/// stands in `new`, whole. No other call changes `new` or `cur`.
+pub trait MaildirDisk {
+    ghost use Rattle.std.specs.Prelude.{◌≡◌, IfErr, IfOk, IsSome, OnErr, OnOk, Some, None, map, string_bytes};
+    ghost use Rattle.mail_store.specs.Refusals.{Tallies, IsDeviceFault};
+    ghost use Rattle.mail_store.specs.Maildir.{Maildir, File, AreDistinct, IsInNew, Lists, Begins, Adds, Settles, dropped, name_begun};
+
+    // What is known of the Maildir. Whether a file is begun, its name and the count of refusals are
+    // known of every device, whatever else is.
+    ghost maildir: { Self → Maildir };
+
+    // The premise: so far the device did what this trait says, and its count is below its greatest
+    // value. Where it holds after a call it held before it.
+    ghost sound: { Self → Type 0 };
+
+    /// The names of the files of a folder, each once, in any order. Missing where the folder isn't
+    /// there, else Refused.
+    fn names(&mut self, folder: Folder) -> Result<Vec<String>, StoreFault>
+        ensures lists { sound self.new → sound self.old
+            × Lists (maildir self.old) folder result (maildir self.new) }
+        ensures once { sound self.new → IfOk result (λ names. AreDistinct (map string_bytes names.items)) }
+        ensures fault { IfErr result IsDeviceFault }
+        ensures count { Tallies (maildir self.old).failures result (maildir self.new).failures };
+
+    /// Begins an empty file of this name in `tmp`; an older file of that name there is emptied.
+    /// Missing where `tmp` isn't there, else Refused; after a fault none is begun. `abandon` makes
+    /// sure that none is begun.
+    fn begin(&mut self, name: &str) -> Result<(), StoreFault>
+        requires { sound self.old → (maildir self.old).begun ≡ None }
+        ensures begins { sound self.new → sound self.old
+            × Begins (maildir self.old) name.now result (maildir self.new) }
+        ensures begun { OnOk result (name_begun (maildir self.new) ≡ Some name.now) }
+        ensures not_begun { OnErr result ((maildir self.new).begun ≡ (maildir self.old).begun) }
+        ensures fault { IfErr result IsDeviceFault }
+        ensures count { Tallies (maildir self.old).failures result (maildir self.new).failures };
+
+    /// Puts bytes behind those of the file begun. The only fault is Refused: the file is then still
+    /// begun, with any bytes. A good `begin` makes sure that one is begun.
+    fn add(&mut self, bytes: &[u8]) -> Result<(), StoreFault>
+        requires { sound self.old → IsSome (maildir self.old).begun }
+        ensures adds { sound self.new → sound self.old
+            × Adds (maildir self.old) bytes.now result (maildir self.new) }
+        ensures begun { name_begun (maildir self.new) ≡ name_begun (maildir self.old) }
+        ensures fault { IfErr result (λ e. e ≡ StoreFault.Refused) }
+        ensures count { Tallies (maildir self.old).failures result (maildir self.new).failures };
+
+    /// Puts the file begun into `new`. The only fault is Refused: the file is then not in `new`, or
+    /// in `new` and whole. Either way none is begun afterwards. `names` tells whether a name is in
+    /// `new`.
+    fn settle(&mut self) -> Result<(), StoreFault>
+        requires { sound self.old
+            → (f : File) × ((maildir self.old).begun ≡ Some f) × (IsInNew (maildir self.old) f.name → ⊥) }
+        ensures settles { sound self.new → sound self.old
+            × Settles (maildir self.old) result (maildir self.new) }
+        ensures none_begun { (maildir self.new).begun ≡ None }
+        ensures fault { IfErr result (λ e. e ≡ StoreFault.Refused) }
+        ensures count { Tallies (maildir self.old).failures result (maildir self.new).failures };
+
+    /// Gives up the file begun, if there is one.
+    fn abandon(&mut self)
+        ensures drops { sound self.new → sound self.old
+            × (maildir self.new ≡ dropped (maildir self.old)) }
+        ensures none_begun { (maildir self.new).begun ≡ None }
+        ensures count { (maildir self.new).failures ≡ (maildir self.old).failures };
+
+    /// How many calls were refused.
+    fn failures(&self) -> u64
+        ensures { result ≡ (maildir self.now).failures };
+}

@@ -1,0 +1,236 @@
+//! A Maildir in a folder of the file system.
+
+ghost use Rattle.std.specs.Prelude.{◌≡◌, ◌<◌, ◌+◌, IfOk, string_bytes};
+ghost use Rattle.mail_store.specs.Refusals.{greatest_count};
+
+use crate::fault::StoreFault;
+use crate::maildir::disk::{Folder, MaildirDisk};
+use crate::sync::flush_folder;
+use std::fs::OpenFile;
+use std::io::{ErrorKind, Write};
+use std::rt::Files;
+use std::{fs, io};
+
+/// The file that is being written, and its name in `tmp`.
+#[derive(Drop)]
+struct Begun<F: Drop> {
+    file: F,
+    name: String,
+}
+
+/// A Maildir in a folder of the file system, which must hold the folders `tmp`, `new` and `cur`;
+/// none of them is made. Nothing is known of what the system does; which file is begun is known.
+///
+/// A file is flushed before it is renamed into `new`, and then `new` is flushed, where the system
+/// flushes folders, so that a delivered text outlives a loss of power.
+#[derive(Drop)]
+pub struct FolderMaildir<'a, R: Files + AllocGlobal + Clone + Drop> {
+    rt: &'a R,
+    path: String,
+    begun: Option<Begun<R::File>>,
+    failures: u64,
+}
+
+impl<'a, R: Files + AllocGlobal + Clone + Drop> FolderMaildir<'a, R> {
+    ghost use Rattle.std.specs.Prelude.{None};
+    ghost use Rattle.mail_store.specs.Maildir.{unknown_maildir};
+
+    /// The Maildir at a path, absolute or taken from the working folder.
+    pub fn at(rt: &'a R, path: String) -> FolderMaildir<'a, R>
+        ensures { ⟦<FolderMaildir<'a, R> as MaildirDisk>⟧.maildir result ≡ unknown_maildir None 0 }
+    {
+        FolderMaildir {
+            rt,
+            path,
+            begun: None,
+            failures: 0,
+        }
+    }
+
+    // The path of a folder of the Maildir.
+    fn folder_path(&self, folder: &str) -> io::Result<String> {
+        let path = self.path.as_str();
+        Ok(if path.ends_with('/') {
+            format!(in self.rt.alloc(); "{path}{folder}")?
+        } else {
+            format!(in self.rt.alloc(); "{path}/{folder}")?
+        })
+    }
+
+    // The path of a file in a folder of the Maildir.
+    fn file_path(&self, folder: &str, name: &str) -> io::Result<String> {
+        let mut path = self.folder_path(folder)?;
+        path.push('/')?;
+        path.push_str(name)?;
+        Ok(path)
+    }
+
+    // The names of a folder's files. A name that begins with a full stop or isn't UTF-8 is passed
+    // over, and so is a folder. What vanishes while the folder is read counts as a file: a reader
+    // may have renamed it.
+    fn read_names(&self, folder: &str) -> io::Result<Vec<String>> {
+        let mut names = Vec::new(self.rt.alloc());
+        for entry in fs::read_dir(self.rt, self.folder_path(folder)?)? {
+            let entry = match entry {
+                Ok(entry) => entry,
+                Err(fault) if fault.kind() == ErrorKind::InvalidFilename => continue,
+                Err(fault) => return Err(fault),
+            };
+            let name = entry.file_name();
+            if name.starts_with('.') {
+                continue;
+            }
+            let is_folder = match entry.metadata() {
+                Ok(metadata) => metadata.is_dir(),
+                Err(fault) if fault.kind() == ErrorKind::NotFound => false,
+                Err(fault) => return Err(fault),
+            };
+            if !is_folder {
+                names.push(String::from_str(self.rt.alloc(), name)?)?;
+            }
+        }
+        Ok(names)
+    }
+
+    fn create(&self, name: &str) -> io::Result<Begun<R::File>>
+        ensures { IfOk result (λ begun. string_bytes begun.name ≡ name.now) }
+    {
+        if !is_file_name(name) {
+            return Err(io::Error::from(ErrorKind::InvalidInput));
+        }
+        let name = String::from_str(self.rt.alloc(), name)?;
+        let file = fs::create(self.rt, self.file_path("tmp", name.as_str())?)?;
+        Ok(Begun { file, name })
+    }
+
+    // Whether a folder of the Maildir isn't there.
+    fn lacks(&self, folder: &str) -> bool {
+        match self.folder_path(folder) {
+            Ok(path) => match fs::metadata(self.rt, path) {
+                Ok(_) => false,
+                Err(fault) => fault.kind() == ErrorKind::NotFound,
+            },
+            Err(_) => false,
+        }
+    }
+
+    // Flushes the file and renames it into `new`, where no file has its name.
+    fn move_into_new(&self, begun: &Begun<R::File>) -> io::Result<()> {
+        begun.file.sync_all()?;
+        let from = self.file_path("tmp", begun.name.as_str())?;
+        let to = self.file_path("new", begun.name.as_str())?;
+        match fs::symlink_metadata(self.rt, to.as_str()) {
+            Ok(_) => return Err(io::Error::from(ErrorKind::AlreadyExists)),
+            Err(fault) if fault.kind() == ErrorKind::NotFound => {}
+            Err(fault) => return Err(fault),
+        }
+        fs::rename(self.rt, from, to)?;
+        flush_folder(self.rt, self.folder_path("new")?.as_str())
+    }
+
+    // Removes the file from `tmp`, if it is there and the system lets it.
+    fn remove_from_tmp(&self, begun: Begun<R::File>) {
+        if let Ok(path) = self.file_path("tmp", begun.name.as_str()) {
+            let _ = fs::remove_file(self.rt, path);
+        }
+    }
+
+    fn refuse(&mut self) -> StoreFault
+        requires { self.old.failures < greatest_count }
+        ensures fault { result ≡ StoreFault.Refused }
+        ensures counted { self.new ≡ record self.old { failures = self.old.failures + 1 } }
+    {
+        self.failures += 1;
+        StoreFault::Refused
+    }
+}
+
+/// Whether a name stands for a file of the folder itself that readers of a Maildir look at: it
+/// isn't empty, doesn't begin with a full stop and holds no `/` and no NUL.
+fn is_file_name(name: &str) -> bool {
+    !name.is_empty() && !name.starts_with('.') && !name.bytes().any(|b| b == b'/' || b == 0)
+}
+
+impl<'a, R: Files + AllocGlobal + Clone + Drop> MaildirDisk for FolderMaildir<'a, R> {
+    ghost use Rattle.std.specs.Prelude.{option_map};
+    ghost use Rattle.mail_store.specs.Maildir.{file_named, unknown_maildir};
+
+    ghost maildir = { λ d. unknown_maildir (option_map (λ begun. file_named (string_bytes begun.name)) d.begun) d.failures };
+
+    // Of the file system nothing is known.
+    ghost sound = { λ _. ⊥ };
+
+    fn names(&mut self, folder: Folder) -> Result<Vec<String>, StoreFault> {
+        if self.failures == u64::MAX {
+            return Err(StoreFault::Refused);
+        }
+        let folder = match folder {
+            Folder::New => "new",
+            Folder::Cur => "cur",
+        };
+        match self.read_names(folder) {
+            Ok(names) => Ok(names),
+            Err(_) if self.lacks(folder) => Err(StoreFault::Missing),
+            Err(_) => Err(self.refuse()),
+        }
+    }
+
+    fn begin(&mut self, name: &str) -> Result<(), StoreFault> {
+        if self.failures == u64::MAX {
+            return Err(StoreFault::Refused);
+        }
+        if self.begun.is_some() {
+            return Err(self.refuse());
+        }
+        match self.create(name) {
+            Ok(begun) => {
+                self.begun = Some(begun);
+                Ok(())
+            }
+            Err(_) if self.lacks("tmp") => Err(StoreFault::Missing),
+            Err(_) => Err(self.refuse()),
+        }
+    }
+
+    fn add(&mut self, bytes: &[u8]) -> Result<(), StoreFault> {
+        if self.failures == u64::MAX {
+            return Err(StoreFault::Refused);
+        }
+        let Some(mut unfinished) = self.begun.take() else {
+            return Err(self.refuse());
+        };
+        let answer = unfinished.file.write_all(bytes);
+        self.begun = Some(unfinished);
+        match answer {
+            Ok(()) => Ok(()),
+            Err(_) => Err(self.refuse()),
+        }
+    }
+
+    fn settle(&mut self) -> Result<(), StoreFault> {
+        if self.failures == u64::MAX {
+            self.abandon();
+            return Err(StoreFault::Refused);
+        }
+        let Some(begun) = self.begun.take() else {
+            return Err(self.refuse());
+        };
+        match self.move_into_new(&begun) {
+            Ok(()) => Ok(()),
+            Err(_) => {
+                self.remove_from_tmp(begun);
+                Err(self.refuse())
+            }
+        }
+    }
+
+    fn abandon(&mut self) {
+        if let Some(begun) = self.begun.take() {
+            self.remove_from_tmp(begun);
+        }
+    }
+
+    fn failures(&self) -> u64 {
+        self.failures
+    }
+}
