@@ -19,24 +19,24 @@ use Rattle.pop3_wire.specs.Fields.{number_and_size, number_and_id, is_legal_id}
 use Rattle.pop3_wire.specs.World.{Message}
 use Rattle.pop3_wire.specs.Honest.{Says, SaysAnything, IsUnmarked, unmarked_from, IsScanRow, IsUidRow, ListsAll, Reply, no_marks}
 use Rattle.pop3_wire.proofs.HonestRows.{scan_read, uid_read, is_no_lf, line_without_lf, no_lf_append, no_lf_decimal, no_lf_id, digit_first}
-use Rattle.pop3_server.specs.declared.state.Row.{Row}
+use Rattle.pop3_server.specs.declared.rows.MessageRow.{MessageRow}
 use Rattle.pop3_server.specs.Maildrop.{entry_of}
 use Rattle.pop3_server.specs.ServerMachine.{said, is_left, left_count, left_size, left_total, unless_marked, row_at, mark_at, unmarked, row_of, scan_line, uid_line, lines_from, listed}
 use Rattle.pop3_server.specs.HonestServer.{IsServed, AreServed}
 
 -- ---- the rows of messages under their marks
 
-abbrev pub row_with : Message → Bool → Row
+abbrev pub row_with : Message → Bool → MessageRow
 row_with message mark = record { entry = entry_of message; marked = mark }
 
-abbrev pub rows_with : List Message → List Bool → List Row
+abbrev pub rows_with : List Message → List Bool → List MessageRow
 rows_with [] marks = []
 rows_with (m ∷ ms) [] = []
 rows_with (m ∷ ms) (b ∷ bs) = row_with m b ∷ rows_with ms bs
 
 pub fresh_rows : (ms : List Message) → map row_of ms ≡ rows_with ms (no_marks ms)
 fresh_rows [] = refl
-fresh_rows (m ∷ ms) = ap (λ (rows : List Row). row_with m false ∷ rows) (fresh_rows ms)
+fresh_rows (m ∷ ms) = ap (λ (rows : List MessageRow). row_with m false ∷ rows) (fresh_rows ms)
 
 pub fresh_length : (ms : List Message) → length (no_marks ms) ≡ length ms
 fresh_length [] = refl
@@ -45,7 +45,7 @@ fresh_length (m ∷ ms) = let ih = fresh_length ms in omega arith
 pub cleared_rows : (ms : List Message) (bs : List Bool) → map unmarked (rows_with ms bs) ≡ rows_with ms (map (λ _. false) bs)
 cleared_rows [] bs = refl
 cleared_rows (m ∷ ms) [] = refl
-cleared_rows (m ∷ ms) (b ∷ bs) = ap (λ (rows : List Row). row_with m false ∷ rows) (cleared_rows ms bs)
+cleared_rows (m ∷ ms) (b ∷ bs) = ap (λ (rows : List MessageRow). row_with m false ∷ rows) (cleared_rows ms bs)
 
 pub cleared_length : (bs : List Bool) → length (map (λ _. false) bs) ≡ length bs
 cleared_length [] = refl
@@ -55,7 +55,7 @@ pub marked_rows : (ms : List Message) (bs : List Bool) (i : ℕ) → mark_at (ro
 marked_rows [] bs i = refl
 marked_rows (m ∷ ms) [] i = refl
 marked_rows (m ∷ ms) (b ∷ bs) zero = refl
-marked_rows (m ∷ ms) (b ∷ bs) (suc i) = ap (λ (rows : List Row). row_with m b ∷ rows) (marked_rows ms bs i)
+marked_rows (m ∷ ms) (b ∷ bs) (suc i) = ap (λ (rows : List MessageRow). row_with m b ∷ rows) (marked_rows ms bs i)
 
 pub marked_length : (bs : List Bool) (i : ℕ) → length (slice_set bs i true) ≡ length bs
 marked_length [] i = refl
@@ -150,21 +150,21 @@ granted answer after is none = subst (SaysAnything Positive) (sym is) (anything 
 
 -- ---- listings
 
-abbrev row_lines : (ℕ → Row → List ℕ) → ℕ → List Row → List (List ℕ)
+abbrev row_lines : (ℕ → MessageRow → List ℕ) → ℕ → List MessageRow → List (List ℕ)
 row_lines line k [] = []
 row_lines line k (row ∷ rows) = if row.marked then row_lines line (k + 1) rows else line k row ∷ row_lines line (k + 1) rows
 
-lines_flat : (line : ℕ → Row → List ℕ) (k : ℕ) (ms : List Message) (bs : List Bool) → lines_from line k (rows_with ms bs) ≡ flat_map ended (row_lines line k (rows_with ms bs))
+lines_flat : (line : ℕ → MessageRow → List ℕ) (k : ℕ) (ms : List Message) (bs : List Bool) → lines_from line k (rows_with ms bs) ≡ flat_map ended (row_lines line k (rows_with ms bs))
 lines_flat line k [] bs = refl
 lines_flat line k (m ∷ ms) [] = refl
 lines_flat line k (m ∷ ms) (true ∷ bs) = lines_flat line (k + 1) ms bs
 lines_flat line k (m ∷ ms) (false ∷ bs) = ap (λ (l : List ℕ). said (line k (row_with m false)) ++ l) (lines_flat line (k + 1) ms bs)
 
 -- each row of a served message is a line of a body, and is read as that message's
-pub GoodRows : (ℕ → Row → List ℕ) → (ℕ × Message → List ℕ → Type 0) → Type 0
+pub GoodRows : (ℕ → MessageRow → List ℕ) → (ℕ × Message → List ℕ → Type 0) → Type 0
 GoodRows line IsRow = (k : ℕ) (m : Message) → k ≤ 4294967295 → IsServed m → IsContent (line k (row_with m false)) × IsRow (k, m) (unstuffed (line k (row_with m false)))
 
-rows_content : (line : ℕ → Row → List ℕ) (IsRow : ℕ × Message → List ℕ → Type 0) → GoodRows line IsRow → (k : ℕ) (ms : List Message) (bs : List Bool)
+rows_content : (line : ℕ → MessageRow → List ℕ) (IsRow : ℕ × Message → List ℕ → Type 0) → GoodRows line IsRow → (k : ℕ) (ms : List Message) (bs : List Bool)
     → k + length ms ≤ 4294967296 → AllByRecursion IsServed ms
     → AllByRecursion IsContent (row_lines line k (rows_with ms bs)) × AllZip IsRow (unmarked_from k ms bs) (map unstuffed (row_lines line k (rows_with ms bs)))
 unfolding GoodRows
@@ -210,7 +210,7 @@ uid_rows k m few served =
     let good = digit_content k (32 ∷ m.uid) (omega arith) none in
     (subst IsContent (sym same) good.0, ap number_and_id (ap unstuffed same ∙ good.1) ∙ uid_read k m.uid few legal)
 
-pub lists_all : (line : ℕ → Row → List ℕ) (IsRow : ℕ × Message → List ℕ → Type 0) → GoodRows line IsRow → (ms : List Message) (bs : List Bool) (answer : List ℕ) → AreServed ms → answer ≡ listed line (rows_with ms bs)
+pub lists_all : (line : ℕ → MessageRow → List ℕ) (IsRow : ℕ × Message → List ℕ → Type 0) → GoodRows line IsRow → (ms : List Message) (bs : List Bool) (answer : List ℕ) → AreServed ms → answer ≡ listed line (rows_with ms bs)
     → (first body : List ℕ) × (answer ≡ first ++ body) × SaysAnything Positive first × ListsAll IsRow ms bs body × (bs ≡ bs)
 lists_all line IsRow good ms bs answer served is =
     let few : length ms ≤ 100000 = served.few in

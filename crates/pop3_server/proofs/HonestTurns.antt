@@ -19,12 +19,12 @@ use Rattle.pop3_wire.proofs.HonestRows.{scan_read, is_no_lf, no_lf_append, no_lf
 use Rattle.pop3_wire.proofs.StuffLemmas.{stuffed_is_body}
 use Rattle.pop3_wire.proofs.LineLemmas.{IsLine-nil}
 use Rattle.pop3_wire.proofs.CommandRoundTrip.{round_trip}
-use Rattle.pop3_server.specs.declared.state.Row.{Row}
+use Rattle.pop3_server.specs.declared.rows.MessageRow.{MessageRow}
 use Rattle.pop3_server.specs.declared.state.State.{State}
 use Rattle.pop3_server.specs.declared.state.State.TheVariants.{Authorization, Transaction, Closed}
 use Rattle.pop3_server.specs.Maildrop.{Mail, there}
 use Rattle.pop3_server.specs.ServerMachine.{Machine, Deed, Say, Open, Give, Leave, Does, Opens, Leaves, deed, is_open, said, left_count, left_total, mark_at, unmarked, row_of, scan_line, uid_line, octets_line, give, dele, in_authorization, in_transaction, greeting}
-use Rattle.pop3_server.specs.Run.{Run}
+use Rattle.pop3_server.specs.AnswersLines.{AnswersLines}
 use Rattle.pop3_server.specs.HonestServer.{IsOfSession, IsAsked, AreServed, lines_of, IsHonest}
 use Rattle.pop3_server.proofs.HonestLemmas.{row_with, rows_with, fresh_rows, fresh_length, cleared_rows, cleared_length, marked_rows, marked_length, found, served_at, text_at, counted_left, total_left, ok_says, granted, refused, scan_rows, uid_rows, lists_all}
 
@@ -155,7 +155,7 @@ gave sound mail ms marks k m old answer next new served rows s at (state, inr (t
       subst (λ (st : State). Stands ms st (mail new) marks) (sym state) (ap (λ (x : Mail). x.slots) drop.0 ∙ rows.0, rows.1, refl),
     )
 
-left : {D : Type 0} (sound : D → Type 0) (mail : D → Mail) (ms : List Message) (marks : List Bool) (rows : List Row) (old : D) (answer : List ℕ) (next : State) (new : D)
+left : {D : Type 0} (sound : D → Type 0) (mail : D → Mail) (ms : List Message) (marks : List Bool) (rows : List MessageRow) (old : D) (answer : List ℕ) (next : State) (new : D)
     → (next ≡ Closed) × Leaves sound mail rows old answer new → Replied ms marks Quit answer next (mail new)
 left sound mail ms marks rows old answer next new (state, (true, is, known)) =
     (marks, inr (granted answer (codes " bye") is refl, refl), subst (λ (st : State). Stands ms st (mail new) marks) (sym state) tt)
@@ -233,15 +233,15 @@ in_trans sound mail ms marks ListAll old answer next new served rows s asked doe
 in_trans sound mail ms marks (ListOne n) old answer next new served rows s asked does = absurd asked
 in_trans sound mail ms marks (Retr k) old answer next new served rows s asked does = elim (found ms marks k) [
   | inl none ↦ says_no mail ms marks (Retr k) old answer (codes " no such message") (Transaction (rows_with ms marks)) next new
-      (subst (λ (r : Option Row). Does sound mail (give (rows_with ms marks) k r octets_line None) old answer next new) none does) refl (stands_in ms marks (mail old) rows)
+      (subst (λ (r : Option MessageRow). Does sound mail (give (rows_with ms marks) k r octets_line None) old answer next new) none does) refl (stands_in ms marks (mail old) rows)
   | inr some ↦ gave sound mail ms marks k some.0 old answer next new served rows s some.2
-      (subst (λ (r : Option Row). Does sound mail (give (rows_with ms marks) k r octets_line None) old answer next new) some.1 does)
+      (subst (λ (r : Option MessageRow). Does sound mail (give (rows_with ms marks) k r octets_line None) old answer next new) some.1 does)
 ]
 in_trans sound mail ms marks (Dele k) old answer next new served rows s asked does = elim (found ms marks k) [
   | inl none ↦ says_no mail ms marks (Dele k) old answer (codes " no such message") (Transaction (rows_with ms marks)) next new
-      (subst (λ (r : Option Row). Does sound mail (dele (rows_with ms marks) k r) old answer next new) none does) refl (stands_in ms marks (mail old) rows)
+      (subst (λ (r : Option MessageRow). Does sound mail (dele (rows_with ms marks) k r) old answer next new) none does) refl (stands_in ms marks (mail old) rows)
   | inr some ↦ marked sound mail ms marks k some.0 old answer next new rows some.2
-      (subst (λ (r : Option Row). Does sound mail (dele (rows_with ms marks) k r) old answer next new) some.1 does)
+      (subst (λ (r : Option MessageRow). Does sound mail (dele (rows_with ms marks) k r) old answer next new) some.1 does)
 ]
 in_trans sound mail ms marks Rset old answer next new served rows s asked does =
     says_yes mail ms marks (map (λ _. false) marks) Rset old answer [] (Transaction (map unmarked (rows_with ms marks))) next new does refl (λ says. (says, refl))
@@ -259,7 +259,7 @@ replied sound mail ms marks user pass (Authorization kept) c old answer next new
     subst (λ (bs : List Bool). Replied ms bs c answer next (mail new)) (sym stands.1) (in_auth sound mail ms user pass kept c old answer next new served stands.0 s asked does)
 replied sound mail ms marks user pass (Transaction rows) c old answer next new served opened stands s asked does =
     in_trans sound mail ms marks c old answer next new served (made_rows ms marks (mail old) stands.0 stands.1) s asked
-    (subst (λ (rs : List Row). Does sound mail (in_transaction rs c) old answer next new) stands.2 does)
+    (subst (λ (rs : List MessageRow). Does sound mail (in_transaction rs c) old answer next new) stands.2 does)
 replied sound mail ms marks user pass Closed c old answer next new served opened stands s asked does = absurd (let e : false ≡ true = opened in cc)
 
 did_sound : {D : Type 0} (sound : D → Type 0) (mail : D → Mail) (asked : Deed) (old : D) (answer : List ℕ) (next : State) (new : D) → Does sound mail asked old answer next new → sound new → sound old
@@ -270,13 +270,13 @@ did_sound sound mail (Give rows i line top) old answer next new (state, inl (is,
 did_sound sound mail (Give rows i line top) old answer next new (state, inr (text, is, known)) s = (known s).0
 did_sound sound mail (Leave rows) old answer next new (state, (all, is, known)) s = (known s).0
 
-pub run_sound : {D : Type 0} (sound : D → Type 0) (mail : D → Mail) (old new : Machine D) (lines : List (List ℕ)) (answers : List ℕ) → Run sound mail old lines answers new → sound new.drop → sound old.drop
+pub run_sound : {D : Type 0} (sound : D → Type 0) (mail : D → Mail) (old new : Machine D) (lines : List (List ℕ)) (answers : List ℕ) → AnswersLines sound mail old lines answers new → sound new.drop → sound old.drop
 run_sound sound mail old new [] answers (none, same) s = subst (λ (m : Machine _). sound m.drop) same s
 run_sound sound mail old new (line ∷ lines) answers (first, rest, next, is, turn, run) s =
     did_sound sound mail _ old.drop first next.state next.drop turn.answers.does (run_sound sound mail next new lines rest run s)
 
 all_replied : {D : Type 0} (sound : D → Type 0) (mail : D → Mail) (ms : List Message) (marks : List Bool) (commands : List Command) (old new : Machine D) (answers : List ℕ)
-    → AreServed ms → AllByRecursion IsAsked commands → Run sound mail old (lines_of commands) answers new → sound new.drop → Stands ms old.state (mail old.drop) marks
+    → AreServed ms → AllByRecursion IsAsked commands → AnswersLines sound mail old (lines_of commands) answers new → sound new.drop → Stands ms old.state (mail old.drop) marks
     → (last : List Bool) × Replies ms marks commands answers last
 all_replied sound mail ms marks [] old new answers served asked run s stands = (marks, (run.0, refl))
 all_replied sound mail ms marks (c ∷ commands) old new answers served asked (first, rest, next, is, turn, run) s stands =

@@ -1,12 +1,12 @@
 -- Removals one after another.
 use Rattle.std.proofs.Common.{◌≡◌, ◌&&◌, ℕ, zero, suc, ◌+◌, ◌<◌, Bool, true, false, List, [], ◌∷◌, length, drop, get_or, Option, Some, None, slice_get, slice_set, refl, sym, ◌∙◌, ap, inl, inr, arith, add-one, drop-cons, if◌then◌else◌}
 use Rattle.pop3_wire.specs.World.{Message}
-use Rattle.pop3_server.specs.declared.state.Row.{Row}
+use Rattle.pop3_server.specs.declared.rows.MessageRow.{MessageRow}
 use Rattle.pop3_server.specs.Maildrop.{Mail, HasPlace, counted}
 use Rattle.pop3_server.specs.ServerMachine.{Tries, with_marked}
 
 -- the rows from a place on begin with the row there
-pub drop_row : (rows : List Row) (i : ℕ) (row : Row) → row ≡ get_or rows i row → i < length rows → drop i rows ≡ row ∷ drop (i + 1) rows
+pub drop_row : (rows : List MessageRow) (i : ℕ) (row : MessageRow) → row ≡ get_or rows i row → i < length rows → drop i rows ≡ row ∷ drop (i + 1) rows
 drop_row rows i row is fits = rw add-one (drop-cons rows i row fits ∙ ap (λ r. r ∷ drop (suc i) rows) (sym is))
 
 -- a removal leaves the other places
@@ -29,11 +29,11 @@ and_assoc true b c = refl
 and_assoc false b c = refl
 
 -- a row that isn't marked stays, and so does the count
-pub count_stays : (row : Row) (rows : List Row) (count : ℕ) → row.marked ≡ false → with_marked (row ∷ rows) count ≡ with_marked rows count
+pub count_stays : (row : MessageRow) (rows : List MessageRow) (count : ℕ) → row.marked ≡ false → with_marked (row ∷ rows) count ≡ with_marked rows count
 count_stays row rows count is = ap (λ marked. with_marked rows (if marked then counted count else count)) is
 
 -- a marked row is asked for once
-pub count_goes : (row : Row) (rows : List Row) (count : ℕ) → row.marked ≡ true → with_marked (row ∷ rows) count ≡ with_marked rows (counted count)
+pub count_goes : (row : MessageRow) (rows : List MessageRow) (count : ℕ) → row.marked ≡ true → with_marked (row ∷ rows) count ≡ with_marked rows (counted count)
 count_goes row rows count is = ap (λ marked. with_marked rows (if marked then counted count else count)) is
 
 pub and_true : (a : Bool) → (a && true) ≡ a

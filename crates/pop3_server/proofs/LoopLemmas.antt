@@ -9,7 +9,7 @@ use Rattle.pop3_wire.specs.Link.{Link, greatest_count, with_failures}
 use Rattle.pop3_wire.specs.Place.{HasLine}
 use Rattle.pop3_server.specs.Maildrop.{Mail}
 use Rattle.pop3_server.specs.ServerMachine.{Machine, Answers, deed, greeting, is_open}
-use Rattle.pop3_server.specs.Run.{Turn, SameServer}
+use Rattle.pop3_server.specs.AnswersLines.{AnswersLine, SameServer}
 use Rattle.pop3_server.specs.LoopLink.{Loop, Serves, IsAnswered}
 use Rattle.pop3_server.proofs.ServeLemmas.{run_one, turn_of}
 use Rattle.pop3_wire.specs.CommandLine.{command_of}
@@ -62,7 +62,7 @@ serves_unanswered sound mail m n sent used answers given over down failures up s
 
 -- an answer was made and could not be kept
 pub serves_lost : {D : Type 0} (sound : D → Type 0) (mail : D → Mail) (m n : Machine D) (sent : List ℕ) (used octets : ℕ) (answers kept_answers answer : List ℕ) (given : ℕ) (over down : Bool) (failures : ℕ)
-    → (same : SameServer sound mail n n) → down ≡ false → kept_answers ≡ answers → HasLine (length (drop used sent)) (drop used sent) octets → Turn sound mail m (take octets (drop used sent)) answer n
+    → (same : SameServer sound mail n n) → down ≡ false → kept_answers ≡ answers → HasLine (length (drop used sent)) (drop used sent) octets → AnswersLine sound mail m (take octets (drop used sent)) answer n
     → Serves sound mail (kept m sent used answers given over down failures) (kept n sent (used + (octets + 2)) kept_answers given over true failures)
 serves_lost sound mail m n sent used octets answers kept_answers answer given over down failures same up is has turn =
     let line = line_cut sent used octets has in record {
@@ -84,7 +84,7 @@ serves_lost sound mail m n sent used octets answers kept_answers answer given ov
 
 -- a line was answered
 pub serves_one : {D : Type 0} (sound : D → Type 0) (mail : D → Mail) (m n : Machine D) (sent : List ℕ) (used octets : ℕ) (answers kept_answers answer : List ℕ) (given : ℕ) (over down : Bool) (failures : ℕ)
-    → (same : SameServer sound mail n n) → down ≡ false → kept_answers ≡ answers ++ answer → HasLine (length (drop used sent)) (drop used sent) octets → Turn sound mail m (take octets (drop used sent)) answer n
+    → (same : SameServer sound mail n n) → down ≡ false → kept_answers ≡ answers ++ answer → HasLine (length (drop used sent)) (drop used sent) octets → AnswersLine sound mail m (take octets (drop used sent)) answer n
     → Serves sound mail (kept m sent used answers given over down failures) (kept n sent (used + (octets + 2)) kept_answers given over down failures)
 serves_one sound mail m n sent used octets answers kept_answers answer given over down failures same up is has turn =
     let line = line_cut sent used octets has in record {
@@ -94,7 +94,7 @@ serves_one sound mail m n sent used octets answers kept_answers answer given ove
       gained = [];
       last = n;
       each = (line.0, tt);
-      run = run_one sound mail m n (take octets (drop used sent)) (answer ++ []) (subst (λ (l : List ℕ). Turn sound mail m (take octets (drop used sent)) l n) (sym (append-nil answer)) turn);
+      run = run_one sound mail m n (take octets (drop used sent)) (answer ++ []) (subst (λ (l : List ℕ). AnswersLine sound mail m (take octets (drop used sent)) l n) (sym (append-nil answer)) turn);
       same = same;
       answers = is;
       told = λ h. take-append-drop given (greeting ++ kept_answers);
@@ -189,7 +189,7 @@ line_found seen sent line rest used same is cut =
 -- the server answered that line
 pub turn_at : {D : Type 0} (sound : D → Type 0) (mail : D → Mail) (m n : Machine D) (seen sent : List ℕ) (used octets : ℕ) (answer bytes : List ℕ) → is_open m.state ≡ true
     → (n.user ≡ m.user) × (n.pass ≡ m.pass) → Answers sound mail (deed m.user m.pass m.state (command_of (take (used + octets - used) (drop used seen)))) m.drop bytes n.state n.drop
-    → seen ≡ sent → answer ≡ bytes → Turn sound mail m (take octets (drop used sent)) answer n
+    → seen ≡ sent → answer ≡ bytes → AnswersLine sound mail m (take octets (drop used sent)) answer n
 turn_at sound mail m n seen sent used octets answer bytes opened who answers same is =
     let count : used + octets - used ≡ octets = omega arith in
     turn_of sound mail m n (take octets (drop used sent)) answer bytes opened who

@@ -2,7 +2,7 @@
 use Rattle.std.proofs.Common.{◌≡◌, ℕ, zero, suc, ◌+◌, ◌<◌, ◌≤◌, Bool, true, false, List, [], ◌∷◌, Option, Some, None, slice_get, slice_set, refl, sym, ◌∙◌, ap, subst, inl, inr, arith, if◌then◌else◌}
 use Rattle.std.proofs.lemmas.Bool.{false≢true}
 use Rattle.pop3_wire.specs.World.{Message}
-use Rattle.pop3_server.specs.declared.state.Row.{Row}
+use Rattle.pop3_server.specs.declared.rows.MessageRow.{MessageRow}
 use Rattle.pop3_server.specs.Maildrop.{Mail}
 use Rattle.pop3_server.specs.ServerMachine.{Tries, Empties, none, stays, goes}
 use Rattle.pop3_server.specs.Removal.{holds, left_marked}
@@ -28,27 +28,27 @@ tries_other old new i k false tries other =
     ]
 
 -- earlier places stay as they are
-earlier : {i : ℕ} {rows : List Row} {old : Mail} {all : Bool} {new : Mail} → Empties i rows old all new → (k : ℕ) → k < i → slice_get new.slots k ≡ slice_get old.slots k
+earlier : {i : ℕ} {rows : List MessageRow} {old : Mail} {all : Bool} {new : Mail} → Empties i rows old all new → (k : ℕ) → k < i → slice_get new.slots k ≡ slice_get old.slots k
 earlier (none i old) k less = refl
 earlier (stays i row rows old all new unmarked rest) k less = earlier rest k (omega arith)
 earlier (goes i row rows old mid done all new marked tries rest) k less =
     earlier rest k (omega arith) ∙ tries_other old mid i k done tries (λ e. omega arith)
 
-tries_count : (old new : Mail) (i : ℕ) (done : Bool) (holding : Bool) → Tries old i done new → (done ≡ true → holding ≡ false) → (if holding then 1 else 0) + old.refused ≤ new.refused
+tries_count : (old new : Mail) (i : ℕ) (done : Bool) (holding : Bool) → Tries old i done new → (done ≡ true → holding ≡ false) → (if holding then 1 else 0) + old.failures ≤ new.failures
 tries_count old new i true holding tries gone =
-    let same : new.refused ≡ old.refused = ap (λ (m : Mail). m.refused) tries in
+    let same : new.failures ≡ old.failures = ap (λ (m : Mail). m.failures) tries in
     rw (gone refl) (omega (arith, same))
 tries_count old new i false true tries gone =
-    elim tries [ inl kept ↦ (let more = ap (λ (m : Mail). m.refused) kept in omega (arith, more)) | inr lost ↦ (let more = ap (λ (m : Mail). m.refused) lost in omega (arith, more)) ]
+    elim tries [ inl kept ↦ (let more = ap (λ (m : Mail). m.failures) kept in omega (arith, more)) | inr lost ↦ (let more = ap (λ (m : Mail). m.failures) lost in omega (arith, more)) ]
 tries_count old new i false false tries gone =
-    elim tries [ inl kept ↦ (let more = ap (λ (m : Mail). m.refused) kept in omega (arith, more)) | inr lost ↦ (let more = ap (λ (m : Mail). m.refused) lost in omega (arith, more)) ]
+    elim tries [ inl kept ↦ (let more = ap (λ (m : Mail). m.failures) kept in omega (arith, more)) | inr lost ↦ (let more = ap (λ (m : Mail). m.failures) lost in omega (arith, more)) ]
 
 -- a message that was removed isn't there any more
 gone_at : (old mid : Mail) (i : ℕ) (done : Bool) (slot : Option (Option Message)) → Tries old i done mid → slot ≡ slice_get mid.slots i → done ≡ true → holds slot ≡ false
 gone_at old mid i true slot tries same done = ap holds (same ∙ ap (λ (m : Mail). slice_get m.slots i) tries) ∙ slot_removed old.slots i
 gone_at old mid i false slot tries same done = cc
 
-pub few_left : {i : ℕ} {rows : List Row} {old : Mail} {all : Bool} {new : Mail} → Empties i rows old all new → left_marked i rows new + old.refused ≤ new.refused
+pub few_left : {i : ℕ} {rows : List MessageRow} {old : Mail} {all : Bool} {new : Mail} → Empties i rows old all new → left_marked i rows new + old.failures ≤ new.failures
 few_left (none i old) = omega arith
 few_left (stays i row rows old all new unmarked rest) = let less = few_left rest in rw unmarked (omega (arith, less))
 few_left (goes i row rows old mid done all new marked tries rest) =
@@ -56,31 +56,31 @@ few_left (goes i row rows old mid done all new marked tries rest) =
     let one = tries_count old mid i done (holds (slice_get new.slots i)) tries (gone_at old mid i done (slice_get new.slots i) tries (earlier rest i (omega arith))) in
     rw marked (omega (arith, less, one))
 
-pub all_removed : {i : ℕ} {rows : List Row} {old : Mail} {all : Bool} {new : Mail} → Empties i rows old all new → all ≡ true → new.refused ≡ old.refused
+pub all_removed : {i : ℕ} {rows : List MessageRow} {old : Mail} {all : Bool} {new : Mail} → Empties i rows old all new → all ≡ true → new.failures ≡ old.failures
 all_removed (none i old) whole = refl
 all_removed (stays i row rows old all new unmarked rest) whole = all_removed rest whole
-all_removed (goes i row rows old mid true all new marked tries rest) whole = all_removed rest whole ∙ ap (λ (m : Mail). m.refused) tries
+all_removed (goes i row rows old mid true all new marked tries rest) whole = all_removed rest whole ∙ ap (λ (m : Mail). m.failures) tries
 all_removed (goes i row rows old mid false all new marked tries rest) whole = cc
 
-pub some_refused : {i : ℕ} {rows : List Row} {old : Mail} {all : Bool} {new : Mail} → Empties i rows old all new → all ≡ false → old.refused < new.refused
+pub some_refused : {i : ℕ} {rows : List MessageRow} {old : Mail} {all : Bool} {new : Mail} → Empties i rows old all new → all ≡ false → old.failures < new.failures
 some_refused (none i old) left = cc
 some_refused (stays i row rows old all new unmarked rest) left = some_refused rest left
 some_refused (goes i row rows old mid true all new marked tries rest) left =
     let later = some_refused rest left in
-    let same = ap (λ (m : Mail). m.refused) tries in
+    let same = ap (λ (m : Mail). m.failures) tries in
     omega (arith, later, same)
 some_refused (goes i row rows old mid false all new marked tries rest) left =
     let one = tries_count old mid i false true tries sym in
     let later = few_left rest in
     omega (arith, one, later)
 
-pub others_stay : {i : ℕ} {rows : List Row} {old : Mail} {all : Bool} {new : Mail} → Empties i rows old all new → (k : ℕ) (row : Row) → slice_get rows k ≡ Some row → row.marked ≡ false → slice_get new.slots (i + k) ≡ slice_get old.slots (i + k)
+pub others_stay : {i : ℕ} {rows : List MessageRow} {old : Mail} {all : Bool} {new : Mail} → Empties i rows old all new → (k : ℕ) (row : MessageRow) → slice_get rows k ≡ Some row → row.marked ≡ false → slice_get new.slots (i + k) ≡ slice_get old.slots (i + k)
 others_stay (none i old) k row h unmarked = refl
 others_stay (stays i first rows old all new fresh rest) zero row h unmarked = earlier rest (i + 0) (omega arith)
 others_stay (stays i first rows old all new fresh rest) (suc k) row h unmarked =
     let e : i + 1 + k ≡ i + suc k = omega arith in subst (λ n. slice_get new.slots n ≡ slice_get old.slots n) e (others_stay rest k row h unmarked)
 others_stay (goes i first rows old mid done all new marked tries rest) zero row h unmarked =
-    let same : first ≡ row = cc in absurd (false≢true (sym unmarked ∙ ap (λ (r : Row). r.marked) (sym same) ∙ marked))
+    let same : first ≡ row = cc in absurd (false≢true (sym unmarked ∙ ap (λ (r : MessageRow). r.marked) (sym same) ∙ marked))
 others_stay (goes i first rows old mid done all new marked tries rest) (suc k) row h unmarked =
     let e : i + 1 + k ≡ i + suc k = omega arith in
     subst (λ n. slice_get new.slots n ≡ slice_get mid.slots n) e (others_stay rest k row h unmarked) ∙ tries_other old mid i (i + suc k) done tries (λ same. omega arith)

@@ -1,23 +1,23 @@
 -- Rows, marked and unmarked.
 use Rattle.std.proofs.Common.{◌≡◌, ℕ, zero, suc, ◌<◌, true, List, [], ◌∷◌, map, length, get_or, Some, slice_set, slice_get, refl, ap, arith}
-use Rattle.pop3_server.specs.declared.state.Row.{Row}
+use Rattle.pop3_server.specs.declared.rows.MessageRow.{MessageRow}
 use Rattle.pop3_server.specs.ServerMachine.{marked, unmarked, mark_at}
 
 -- a row that is written back with its mark
-pub set_mark : (rows : List Row) (i : ℕ) (row : Row) → row ≡ get_or rows i row → i < length rows → slice_set rows i (record { entry = row.entry; marked = true }) ≡ mark_at rows i
+pub set_mark : (rows : List MessageRow) (i : ℕ) (row : MessageRow) → row ≡ get_or rows i row → i < length rows → slice_set rows i (record { entry = row.entry; marked = true }) ≡ mark_at rows i
 set_mark [] i row is fits = absurd (omega arith)
-set_mark (first ∷ rows) zero row is fits = ap (λ (r : Row). marked r ∷ rows) is
+set_mark (first ∷ rows) zero row is fits = ap (λ (r : MessageRow). marked r ∷ rows) is
 set_mark (first ∷ rows) (suc i) row is fits = ap (λ l. first ∷ l) (set_mark rows i row is (omega arith))
 
 -- a row stands where one stood before
-pub row_of_mark : (rows : List Row) (i k : ℕ) (row : Row) → slice_get (mark_at rows i) k ≡ Some row → (r : Row) × (slice_get rows k ≡ Some r)
+pub row_of_mark : (rows : List MessageRow) (i k : ℕ) (row : MessageRow) → slice_get (mark_at rows i) k ≡ Some row → (r : MessageRow) × (slice_get rows k ≡ Some r)
 row_of_mark [] i k row h = (row, h)
 row_of_mark (first ∷ rows) zero zero row h = (first, refl)
 row_of_mark (first ∷ rows) zero (suc k) row h = (row, h)
 row_of_mark (first ∷ rows) (suc i) zero row h = (first, refl)
 row_of_mark (first ∷ rows) (suc i) (suc k) row h = row_of_mark rows i k row h
 
-pub row_of_unmark : (rows : List Row) (k : ℕ) (row : Row) → slice_get (map unmarked rows) k ≡ Some row → (r : Row) × (slice_get rows k ≡ Some r)
+pub row_of_unmark : (rows : List MessageRow) (k : ℕ) (row : MessageRow) → slice_get (map unmarked rows) k ≡ Some row → (r : MessageRow) × (slice_get rows k ≡ Some r)
 row_of_unmark [] k row h = (row, h)
 row_of_unmark (first ∷ rows) zero row h = (first, refl)
 row_of_unmark (first ∷ rows) (suc k) row h = row_of_unmark rows k row h

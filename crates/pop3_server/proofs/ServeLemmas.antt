@@ -14,7 +14,7 @@ use Rattle.pop3_server.specs.declared.state.State.{State}
 use Rattle.pop3_server.specs.Maildrop.{Mail}
 use Rattle.pop3_server.specs.ServerMachine.{Machine, Deed, Say, Open, Give, Leave, Answers, deed, greeting, said, is_open}
 use Rattle.pop3_server.specs.LoopLaws.{runs_on}
-use Rattle.pop3_server.specs.Run.{Run, Turn, SameServer}
+use Rattle.pop3_server.specs.AnswersLines.{AnswersLines, AnswersLine, SameServer}
 use Rattle.pop3_server.specs.Got.{Waiting}
 use Rattle.pop3_server.specs.Serving.{Took, Takes, AllSent, Served}
 
@@ -28,10 +28,10 @@ pub record Progress {D : Type 0} (sound : D → Type 0) (mail : D → Mail) (old
   pub heard : gained ≡ flat_map ended lines ++ waiting.octets
   pub left : length gained + waiting.left ≡ 16777216
   pub sent : link.sent ≡ before.sent ++ (greeting ++ answers)
-  pub run : Run sound mail old lines answers server
+  pub run : AnswersLines sound mail old lines answers server
 
 -- a run of one line
-pub run_one : {D : Type 0} (sound : D → Type 0) (mail : D → Mail) (a b : Machine D) (line answer : List ℕ) → Turn sound mail a line answer b → Run sound mail a (line ∷ []) answer b
+pub run_one : {D : Type 0} (sound : D → Type 0) (mail : D → Mail) (a b : Machine D) (line answer : List ℕ) → AnswersLine sound mail a line answer b → AnswersLines sound mail a (line ∷ []) answer b
 run_one sound mail a b line answer turn = (answer, [], b, sym (append-nil answer), turn, (refl, refl))
 
 all_push : (lines : List (List ℕ)) (line : List ℕ) → AllByRecursion IsLine lines → IsLine line → AllByRecursion IsLine (lines ++ line ∷ [])
@@ -60,7 +60,7 @@ progress_start sound mail old server before link hello same is sends = record {
 -- one more line came and was answered
 pub progress_line : {D : Type 0} (sound : D → Type 0) (mail : D → Mail) (old server next : Machine D) (before link taken sent : Link) (waiting after : Waiting) (g line answer : List ℕ)
     → Progress sound mail old before server link waiting → Took link taken g → waiting.octets ++ g ≡ ended line ++ after.octets → length g + after.left ≡ waiting.left → IsLine line
-    → Turn sound mail server line answer next → sent ≡ record taken { sent = taken.sent ++ answer } → Progress sound mail old before next sent after
+    → AnswersLine sound mail server line answer next → sent ≡ record taken { sent = taken.sent ++ answer } → Progress sound mail old before next sent after
 progress_line sound mail old server next before link taken sent waiting after g line answer p took octets left is turn sends = record {
   gained = p.gained ++ g;
   lines = p.lines ++ line ∷ [];
@@ -166,7 +166,7 @@ served_unanswered sound mail old server next before link taken waiting after g p
 -- one more line came, and its answer went out in part
 pub served_unsent : {D : Type 0} (sound : D → Type 0) (mail : D → Mail) (old server next : Machine D) (before link taken sent : Link) (waiting after : Waiting) (g line answer front rest : List ℕ) (count : ℕ)
     → Progress sound mail old before server link waiting → Took link taken g → waiting.octets ++ g ≡ ended line ++ after.octets → length g + after.left ≡ waiting.left → IsLine line
-    → Turn sound mail server line answer next → answer ≡ front ++ rest → sent ≡ record taken { sent = taken.sent ++ front; failures = count }
+    → AnswersLine sound mail server line answer next → answer ≡ front ++ rest → sent ≡ record taken { sent = taken.sent ++ front; failures = count }
     → Served sound mail old before (Err WriteFailed) next sent
 served_unsent sound mail old server next before link taken sent waiting after g line answer front rest count p took octets left is turn part sends =
     let total = within sound mail old server before link waiting g after.left p left in
@@ -223,7 +223,7 @@ long_command line long = cond-true _ _ _ (lt-ltb 510 (length line) long)
 
 -- a line that is too long is no command, and changes nothing
 pub long_turn : {D : Type 0} (sound : D → Type 0) (mail : D → Mail) (server : Machine D) (line : List ℕ) → is_open server.state ≡ true → 510 < length line
-    → Turn sound mail server line (said (codes "-ERR bad command")) server
+    → AnswersLine sound mail server line (said (codes "-ERR bad command")) server
 long_turn sound mail server line opened long = record {
   was_open = opened;
   user = refl;
@@ -252,7 +252,7 @@ line_octets before mid after g seen n takes has same is = (
 
 pub turn_of : {D : Type 0} (sound : D → Type 0) (mail : D → Mail) (server next : Machine D) (line answer bytes : List ℕ) → is_open server.state ≡ true
     → (next.user ≡ server.user) × (next.pass ≡ server.pass) → Answers sound mail (deed server.user server.pass server.state (command_of line)) server.drop bytes next.state next.drop
-    → answer ≡ bytes → Turn sound mail server line answer next
+    → answer ≡ bytes → AnswersLine sound mail server line answer next
 turn_of sound mail server next line answer bytes opened who answers same = record {
   was_open = opened;
   user = who.0;

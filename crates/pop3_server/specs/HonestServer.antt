@@ -11,7 +11,7 @@ use Rattle.pop3_wire.specs.Honest.{Honest}
 use Rattle.pop3_server.specs.declared.state.State.TheVariants.{Authorization}
 use Rattle.pop3_server.specs.Maildrop.{Mail, there}
 use Rattle.pop3_server.specs.ServerMachine.{Machine, greeting}
-use Rattle.pop3_server.specs.Run.{Run}
+use Rattle.pop3_server.specs.AnswersLines.{AnswersLines}
 
 -- what a session sends: the commands of its plan, and RSET
 abbrev pub IsOfSession : Command → Type 0
@@ -51,6 +51,6 @@ lines_of commands = map line_of commands
 -- a new server's greeting and its answers to these commands are an honest conversation over its maildrop's messages
 abbrev pub IsHonest : {D : Type 0} → (D → Type 0) → (D → Mail) → Type 0
 IsHonest {D} sound mail = (old new : Machine D) (commands : List Command) (answers : List ℕ)
-    → old.state ≡ Authorization None → AllByRecursion IsAsked commands → Run sound mail old (lines_of commands) answers new
+    → old.state ≡ Authorization None → AllByRecursion IsAsked commands → AnswersLines sound mail old (lines_of commands) answers new
     → sound new.drop → AreServed (there (mail old.drop).slots)
     → (marks : List Bool) × Honest (there (mail old.drop).slots) (flat_map ended (lines_of commands)) (greeting ++ answers) marks

@@ -6,7 +6,7 @@ pub mod MaildirNames
 pub mod Maildrop
 pub mod RealMaildir
 pub mod Removal
-pub mod Run
+pub mod AnswersLines
 pub mod ServerMachine
 pub mod Serving
 pub mod Size

@@ -8,7 +8,7 @@ use Rattle.std.proofs.lemmas.Bool.{cases_Bool}
 use Rattle.pop3_wire.specs.Line.{IsLine, ended}
 use Rattle.pop3_server.specs.Maildrop.{Mail}
 use Rattle.pop3_server.specs.ServerMachine.{Machine}
-use Rattle.pop3_server.specs.Run.{Run, SameServer}
+use Rattle.pop3_server.specs.AnswersLines.{AnswersLines, SameServer}
 use Rattle.pop3_server.specs.LoopLink.{Loop, Serves}
 
 pub same_refl : {D : Type 0} (sound : D → Type 0) (mail : D → Mail) (m : Machine D) → SameServer sound mail m m
@@ -16,7 +16,7 @@ same_refl sound mail m = record {
   user = refl;
   pass = refl;
   state = refl;
-  unanswered = record { refused = refl; removals = refl; messages = λ s. (s, refl) };
+  unanswered = record { failures = refl; removals = refl; messages = λ s. (s, refl) };
 }
 
 pub same_trans : {D : Type 0} (sound : D → Type 0) (mail : D → Mail) (a b c : Machine D) → SameServer sound mail a b → SameServer sound mail b c → SameServer sound mail a c
@@ -25,16 +25,16 @@ same_trans sound mail a b c p q = record {
   pass = q.pass ∙ p.pass;
   state = q.state ∙ p.state;
   unanswered = record {
-    refused = q.unanswered.refused ∙ p.unanswered.refused;
+    failures = q.unanswered.failures ∙ p.unanswered.failures;
     removals = q.unanswered.removals ∙ p.unanswered.removals;
     messages = λ s. let second = q.unanswered.messages s in let first = p.unanswered.messages second.0 in (first.0, second.1 ∙ first.1);
   };
 }
 
 pub runs_on : {D : Type 0} (sound : D → Type 0) (mail : D → Mail) (a b c : Machine D) (lines others : List (List ℕ)) (x y : List ℕ)
-    → Run sound mail a lines x b → Run sound mail b others y c → Run sound mail a (lines ++ others) (x ++ y) c
+    → AnswersLines sound mail a lines x b → AnswersLines sound mail b others y c → AnswersLines sound mail a (lines ++ others) (x ++ y) c
 runs_on sound mail a b c [] others x y (none, same) second =
-    subst (λ (m : Machine _). Run sound mail m others (x ++ y) c) same (subst (λ (l : List ℕ). Run sound mail b others (l ++ y) c) (sym none) second)
+    subst (λ (m : Machine _). AnswersLines sound mail m others (x ++ y) c) same (subst (λ (l : List ℕ). AnswersLines sound mail b others (l ++ y) c) (sym none) second)
 runs_on sound mail a b c (line ∷ lines) others x y (first, rest, next, is, turn, run) second =
     (first, rest ++ y, next, ap (λ (l : List ℕ). l ++ y) is ∙ append_assoc first rest y, turn, runs_on sound mail next b c lines others rest y run second)
 
@@ -71,7 +71,7 @@ heard_on u v w lines others g h first second =
 on_up : {D : Type 0} (sound : D → Type 0) (mail : D → Mail) (u v w : Loop D) → v.down ≡ false → Serves sound mail u v → Serves sound mail v w → Serves sound mail u w
 on_up sound mail u v w up p q =
     let whole = p.whole up in
-    let first = subst (λ (m : Machine _). Run sound mail u.machine p.lines p.more m) (sym whole.1) (subst (λ (l : List ℕ). Run sound mail u.machine p.lines l p.last) (ap (λ (l : List ℕ). p.more ++ l) whole.0 ∙ append-nil p.more) p.run) in
+    let first = subst (λ (m : Machine _). AnswersLines sound mail u.machine p.lines p.more m) (sym whole.1) (subst (λ (l : List ℕ). AnswersLines sound mail u.machine p.lines l p.last) (ap (λ (l : List ℕ). p.more ++ l) whole.0 ∙ append-nil p.more) p.run) in
     record {
       lines = p.lines ++ q.lines;
       more = p.more ++ q.more;
@@ -79,7 +79,7 @@ on_up sound mail u v w up p q =
       gained = p.gained ++ q.gained;
       last = q.last;
       each = lines_on p.lines q.lines p.each q.each;
-      run = subst (λ (l : List ℕ). Run sound mail u.machine (p.lines ++ q.lines) l q.last) (sym (append_assoc p.more q.more q.lost))
+      run = subst (λ (l : List ℕ). AnswersLines sound mail u.machine (p.lines ++ q.lines) l q.last) (sym (append_assoc p.more q.more q.lost))
           (runs_on sound mail u.machine v.machine q.last p.lines q.lines p.more (q.more ++ q.lost) first q.run);
       same = q.same;
       answers = q.answers ∙ ap (λ (l : List ℕ). l ++ q.more) p.answers ∙ append_assoc u.answers p.more q.more;
@@ -94,8 +94,8 @@ on_up sound mail u v w up p q =
 on_down : {D : Type 0} (sound : D → Type 0) (mail : D → Mail) (u v w : Loop D) → v.down ≡ true → Serves sound mail u v → Serves sound mail v w → Serves sound mail u w
 on_down sound mail u v w down p q =
     let over = q.over down in
-    let still : q.last ≡ v.machine = stays (subst (λ (l : List ℕ). Run sound mail v.machine [] l q.last) (ap (λ (l : List ℕ). l ++ q.lost) over.1 ∙ over.2)
-    (subst (λ (ls : List (List ℕ)). Run sound mail v.machine ls (q.more ++ q.lost) q.last) over.0 q.run)) in
+    let still : q.last ≡ v.machine = stays (subst (λ (l : List ℕ). AnswersLines sound mail v.machine [] l q.last) (ap (λ (l : List ℕ). l ++ q.lost) over.1 ∙ over.2)
+    (subst (λ (ls : List (List ℕ)). AnswersLines sound mail v.machine ls (q.more ++ q.lost) q.last) over.0 q.run)) in
     record {
       lines = p.lines;
       more = p.more;
@@ -114,7 +114,7 @@ on_down sound mail u v w down p q =
       over = λ d. let first = p.over d in (first.0, first.1, first.2, over.3);
     }
   where
-    stays : {m : Machine _} → Run sound mail v.machine [] [] m → m ≡ v.machine
+    stays : {m : Machine _} → AnswersLines sound mail v.machine [] [] m → m ≡ v.machine
     stays run = run.1
 
 pub serves_on : {D : Type 0} (sound : D → Type 0) (mail : D → Mail) (u v w : Loop D) → Serves sound mail u v → Serves sound mail v w → Serves sound mail u w

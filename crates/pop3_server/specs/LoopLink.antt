@@ -5,7 +5,7 @@ use Rattle.pop3_wire.specs.Line.{IsLine, ended}
 use Rattle.pop3_wire.specs.Link.{Link}
 use Rattle.pop3_server.specs.Maildrop.{Mail}
 use Rattle.pop3_server.specs.ServerMachine.{Machine, greeting, is_open}
-use Rattle.pop3_server.specs.Run.{Run, SameServer}
+use Rattle.pop3_server.specs.AnswersLines.{AnswersLines, SameServer}
 
 -- a server and a link to it: its answers so far, what of the greeting and these is still to be given, what was sent and
 -- isn't answered, and whether the link is down
@@ -33,7 +33,7 @@ pub record Serves {D : Type 0} (sound : D → Type 0) (mail : D → Mail) (old n
   pub gained : List ℕ
   pub last : Machine D
   pub each : AllByRecursion IsLine lines
-  pub run : Run sound mail old.machine lines (more ++ lost) last
+  pub run : AnswersLines sound mail old.machine lines (more ++ lost) last
   pub same : SameServer sound mail last new.machine
   pub answers : new.answers ≡ old.answers ++ more
   pub told : IsTold old → IsTold new

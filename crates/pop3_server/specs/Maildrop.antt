@@ -2,8 +2,8 @@
 use Rattle.std.specs.Prelude.{◌≡◌, ◌⊎◌, ℕ, ◌+◌, ◌-◌, ◌^◌, min, List, [], ◌∷◌, map, Option, Some, None, Result, Ok, Err, Vec, slice_get, slice_set}
 use Rattle.std.specs.List.{Contains}
 use Rattle.pop3_wire.specs.World.{Message}
-use Rattle.pop3_server.specs.declared.maildrops.DropFault.{DropFault}
-use Rattle.pop3_server.specs.declared.maildrops.DropFault.TheVariants.{Refused, NoMemory}
+use Rattle.pop3_server.specs.declared.maildrop.DropFault.{DropFault}
+use Rattle.pop3_server.specs.declared.maildrop.DropFault.TheVariants.{Refused, NoMemory}
 
 -- what a listing says of a message
 pub record Listed : Type 0 where
@@ -14,7 +14,7 @@ pub record Listed : Type 0 where
 -- refused; and how often a removal was asked for
 pub record Mail : Type 0 where
   pub slots : List (Option Message)
-  pub refused : ℕ
+  pub failures : ℕ
   pub removals : ℕ
 
 -- one more, as far as a count goes
@@ -46,7 +46,7 @@ HasPlace mail i = (message : Message) × (slice_get mail.slots i ≡ Some (Some 
 
 -- a call was refused, and nothing else changed
 abbrev pub refusing : Mail → Mail
-refusing old = record old { refused = old.refused + 1 }
+refusing old = record old { failures = old.failures + 1 }
 
 -- a removal was asked for, and nothing else changed
 abbrev pub asked : Mail → Mail
@@ -85,5 +85,5 @@ CountsFault old Refused new = new ≡ counted old
 CountsFault old NoMemory new = new ≡ old
 
 abbrev pub Tallies : {T : Type 0} → Mail → Result T DropFault → Mail → Type 0
-Tallies old (Ok done) new = new.refused ≡ old.refused
-Tallies old (Err fault) new = CountsFault old.refused fault new.refused
+Tallies old (Ok done) new = new.failures ≡ old.failures
+Tallies old (Err fault) new = CountsFault old.failures fault new.failures

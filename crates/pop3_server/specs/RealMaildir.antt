@@ -1,19 +1,19 @@
 -- A Maildir in a real folder: what is known of it, whatever the folder does.
 use Rattle.std.specs.Prelude.{◌≡◌, ℕ, List, [], map, string_bytes, Result, Ok, Err, Vec}
 use Rattle.pop3_server.specs.declared.maildir_drop.ListedFile.{ListedFile}
-use Rattle.pop3_server.specs.declared.maildrops.DropFault.{DropFault}
+use Rattle.pop3_server.specs.declared.maildrop.DropFault.{DropFault}
 use Rattle.pop3_server.specs.MaildirNames.{base_of, id_of}
 use Rattle.pop3_server.specs.Maildrop.{Listed, Mail}
 
 -- the names of the files of the last good listing, by their places; and the two counts
 pub record RealMaildir : Type 0 where
   pub names : List (List ℕ)
-  pub refused : ℕ
+  pub failures : ℕ
   pub removals : ℕ
 
 -- as a maildrop: nothing is known of its messages
 abbrev pub mail_of : RealMaildir → Mail
-mail_of maildir = record { slots = []; refused = maildir.refused; removals = maildir.removals }
+mail_of maildir = record { slots = []; failures = maildir.failures; removals = maildir.removals }
 
 abbrev pub name_of : ListedFile → List ℕ
 name_of file = string_bytes file.name

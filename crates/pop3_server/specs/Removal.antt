@@ -1,7 +1,7 @@
 -- What QUIT leaves of the marked messages.
 use Rattle.std.specs.Prelude.{◌≡◌, ℕ, ◌+◌, ◌<◌, ◌≤◌, Bool, true, false, ◌&&◌, List, [], ◌∷◌, Option, Some, None, slice_get, if◌then◌else◌}
 use Rattle.pop3_wire.specs.World.{Message}
-use Rattle.pop3_server.specs.declared.state.Row.{Row}
+use Rattle.pop3_server.specs.declared.rows.MessageRow.{MessageRow}
 use Rattle.pop3_server.specs.Maildrop.{Mail}
 use Rattle.pop3_server.specs.ServerMachine.{Empties}
 
@@ -12,23 +12,23 @@ holds (Some None) = false
 holds (Some (Some message)) = true
 
 -- how many of the rows from place i on are marked and still there
-abbrev pub left_marked : ℕ → List Row → Mail → ℕ
+abbrev pub left_marked : ℕ → List MessageRow → Mail → ℕ
 left_marked i [] mail = 0
 left_marked i (row ∷ rows) mail = (if row.marked && holds (slice_get mail.slots i) then 1 else 0) + left_marked (i + 1) rows mail
 
 -- of the marked messages at most as many are left as refusals were counted
 abbrev pub FewAreLeft : Type 0
-FewAreLeft = (rows : List Row) (old new : Mail) (all : Bool) → Empties 0 rows old all new → left_marked 0 rows new + old.refused ≤ new.refused
+FewAreLeft = (rows : List MessageRow) (old new : Mail) (all : Bool) → Empties 0 rows old all new → left_marked 0 rows new + old.failures ≤ new.failures
 
 -- where all were removed, nothing was refused
 abbrev pub AllAreRemoved : Type 0
-AllAreRemoved = (rows : List Row) (old new : Mail) → Empties 0 rows old true new → new.refused ≡ old.refused
+AllAreRemoved = (rows : List MessageRow) (old new : Mail) → Empties 0 rows old true new → new.failures ≡ old.failures
 
 -- where not all were removed, something was refused
 abbrev pub SomeAreRefused : Type 0
-SomeAreRefused = (rows : List Row) (old new : Mail) → Empties 0 rows old false new → old.refused < new.refused
+SomeAreRefused = (rows : List MessageRow) (old new : Mail) → Empties 0 rows old false new → old.failures < new.failures
 
 -- a message that isn't marked stays where it is
 abbrev pub OthersStay : Type 0
-OthersStay = (rows : List Row) (old new : Mail) (all : Bool) → Empties 0 rows old all new
-    → (k : ℕ) (row : Row) → slice_get rows k ≡ Some row → row.marked ≡ false → slice_get new.slots k ≡ slice_get old.slots k
+OthersStay = (rows : List MessageRow) (old new : Mail) (all : Bool) → Empties 0 rows old all new
+    → (k : ℕ) (row : MessageRow) → slice_get rows k ≡ Some row → row.marked ≡ false → slice_get new.slots k ≡ slice_get old.slots k

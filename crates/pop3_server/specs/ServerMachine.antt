@@ -9,50 +9,50 @@ use Rattle.pop3_wire.specs.Line.{crlf, ended}
 use Rattle.pop3_wire.specs.Body.{dot}
 use Rattle.pop3_wire.specs.Stuffed.{lines_of_text, stuffed_lines}
 use Rattle.pop3_wire.specs.World.{Message}
-use Rattle.pop3_server.specs.declared.state.Row.{Row}
+use Rattle.pop3_server.specs.declared.rows.MessageRow.{MessageRow}
 use Rattle.pop3_server.specs.declared.state.State.{State}
 use Rattle.pop3_server.specs.declared.state.State.TheVariants.{Authorization, Transaction, Closed}
 use Rattle.pop3_server.specs.Maildrop.{Listed, Mail, there, entry_of, HasPlace, counted, refusing, asked, removed}
 
 -- ---- the rows: the messages as PASS found them, and their marks
 
-abbrev pub is_left : Row → Bool
+abbrev pub is_left : MessageRow → Bool
 is_left row = not row.marked
 
 -- how many messages aren't marked, and their octets
-abbrev pub left_count : List Row → ℕ
+abbrev pub left_count : List MessageRow → ℕ
 left_count rows = count_by is_left rows
 
-abbrev pub left_size : Row → ℕ
+abbrev pub left_size : MessageRow → ℕ
 left_size row = if row.marked then 0 else row.entry.size
 
-abbrev pub left_total : List Row → ℕ
+abbrev pub left_total : List MessageRow → ℕ
 left_total rows = sum_by left_size rows
 
-abbrev pub unless_marked : Option Row → Option Row
+abbrev pub unless_marked : Option MessageRow → Option MessageRow
 unless_marked None = None
 unless_marked (Some row) = if row.marked then None else Some row
 
 -- the row of a message number, counted from 1, if there is one that isn't marked
-abbrev pub row_at : List Row → ℕ → Option Row
+abbrev pub row_at : List MessageRow → ℕ → Option MessageRow
 row_at rows k = if k == 0 then None else unless_marked (slice_get rows (k - 1))
 
-abbrev pub marked : Row → Row
+abbrev pub marked : MessageRow → MessageRow
 marked row = record row { marked = true }
 
-abbrev pub unmarked : Row → Row
+abbrev pub unmarked : MessageRow → MessageRow
 unmarked row = record row { marked = false }
 
 -- the row at a place is marked
-abbrev pub mark_at : List Row → ℕ → List Row
+abbrev pub mark_at : List MessageRow → ℕ → List MessageRow
 mark_at [] i = []
 mark_at (row ∷ rows) zero = marked row ∷ rows
 mark_at (row ∷ rows) (suc i) = row ∷ mark_at rows i
 
-abbrev pub row_of_entry : Listed → Row
+abbrev pub row_of_entry : Listed → MessageRow
 row_of_entry entry = record { entry = entry; marked = false }
 
-abbrev pub row_of : Message → Row
+abbrev pub row_of : Message → MessageRow
 row_of message = row_of_entry (entry_of message)
 
 -- ---- the answers
@@ -65,22 +65,22 @@ abbrev pub greeting : List ℕ
 greeting = said (codes "+OK popd ready")
 
 -- a message's line in a listing, behind its number
-abbrev pub scan_line : ℕ → Row → List ℕ
+abbrev pub scan_line : ℕ → MessageRow → List ℕ
 scan_line k row = decimal k ++ codes " " ++ decimal row.entry.size
 
-abbrev pub uid_line : ℕ → Row → List ℕ
+abbrev pub uid_line : ℕ → MessageRow → List ℕ
 uid_line k row = decimal k ++ codes " " ++ row.entry.uid
 
 -- the lines of the rows that aren't marked, numbered from k on
-abbrev pub lines_from : (ℕ → Row → List ℕ) → ℕ → List Row → List ℕ
+abbrev pub lines_from : (ℕ → MessageRow → List ℕ) → ℕ → List MessageRow → List ℕ
 lines_from line k [] = []
 lines_from line k (row ∷ rows) = (if row.marked then [] else said (line k row)) ++ lines_from line (k + 1) rows
 
-abbrev pub listed : (ℕ → Row → List ℕ) → List Row → List ℕ
+abbrev pub listed : (ℕ → MessageRow → List ℕ) → List MessageRow → List ℕ
 listed line rows = codes "+OK" ++ crlf ++ lines_from line 1 rows ++ ended dot
 
 -- the answer about one message
-abbrev pub of_row : (Row → List ℕ) → Option Row → List ℕ
+abbrev pub of_row : (MessageRow → List ℕ) → Option MessageRow → List ℕ
 of_row line None = said (codes "-ERR no such message")
 of_row line (Some row) = line row
 
@@ -107,9 +107,9 @@ pub data Deed : Type 0 where
   -- the maildrop is listed
   Open : Deed
   -- the text at a place is given behind a first line, all of it or its top
-  Give : List Row → ℕ → List ℕ → Option ℕ → Deed
+  Give : List MessageRow → ℕ → List ℕ → Option ℕ → Deed
   -- the marked messages are removed
-  Leave : List Row → Deed
+  Leave : List MessageRow → Deed
 
 abbrev pub in_authorization : List ℕ → List ℕ → Option (List ℕ) → Command → Deed
 in_authorization user pass kept (User name) = Say (said (codes "+OK send PASS")) (Authorization (Some name))
@@ -119,18 +119,18 @@ in_authorization user pass (Some name) (Pass word) =
 in_authorization user pass kept Quit = Say (said (codes "+OK bye")) Closed
 in_authorization user pass kept command = Say (said (codes "-ERR not now")) (Authorization kept)
 
-abbrev pub give : List Row → ℕ → Option Row → (Row → List ℕ) → Option ℕ → Deed
+abbrev pub give : List MessageRow → ℕ → Option MessageRow → (MessageRow → List ℕ) → Option ℕ → Deed
 give rows k None line top = Say (said (codes "-ERR no such message")) (Transaction rows)
 give rows k (Some row) line top = Give rows (k - 1) (said (line row)) top
 
-abbrev pub octets_line : Row → List ℕ
+abbrev pub octets_line : MessageRow → List ℕ
 octets_line row = codes "+OK " ++ decimal row.entry.size ++ codes " octets"
 
-abbrev pub dele : List Row → ℕ → Option Row → Deed
+abbrev pub dele : List MessageRow → ℕ → Option MessageRow → Deed
 dele rows k None = Say (said (codes "-ERR no such message")) (Transaction rows)
 dele rows k (Some row) = Say (said (codes "+OK marked")) (Transaction (mark_at rows (k - 1)))
 
-abbrev pub in_transaction : List Row → Command → Deed
+abbrev pub in_transaction : List MessageRow → Command → Deed
 in_transaction rows (User name) = Say (said (codes "-ERR not now")) (Transaction rows)
 in_transaction rows (Pass word) = Say (said (codes "-ERR not now")) (Transaction rows)
 in_transaction rows Stat =
@@ -167,15 +167,15 @@ Tries old i true new = new ≡ removed old i
 Tries old i false new = (new ≡ refusing (asked old)) ⊎ (new ≡ refusing (removed old i))
 
 -- the marked messages from place i on were removed in order, each tried; the flag says whether all were
-pub data Empties : ℕ → List Row → Mail → Bool → Mail → Type 0 where
+pub data Empties : ℕ → List MessageRow → Mail → Bool → Mail → Type 0 where
   none : (i : ℕ) (old : Mail) → Empties i [] old true old
-  stays : (i : ℕ) (row : Row) (rows : List Row) (old : Mail) (all : Bool) (new : Mail)
+  stays : (i : ℕ) (row : MessageRow) (rows : List MessageRow) (old : Mail) (all : Bool) (new : Mail)
       → row.marked ≡ false → Empties (i + 1) rows old all new → Empties i (row ∷ rows) old all new
-  goes : (i : ℕ) (row : Row) (rows : List Row) (old mid : Mail) (done all : Bool) (new : Mail)
+  goes : (i : ℕ) (row : MessageRow) (rows : List MessageRow) (old mid : Mail) (done all : Bool) (new : Mail)
       → row.marked ≡ true → Tries old i done mid → Empties (i + 1) rows mid all new → Empties i (row ∷ rows) old (done && all) new
 
 -- a count of removals, with one more for each marked row
-abbrev pub with_marked : List Row → ℕ → ℕ
+abbrev pub with_marked : List MessageRow → ℕ → ℕ
 with_marked [] count = count
 with_marked (row ∷ rows) count = with_marked rows (if row.marked then counted count else count)
 
@@ -191,7 +191,7 @@ abbrev pub Opens : {D : Type 0} → (D → Type 0) → (D → Mail) → D → Li
 Opens sound mail old answer next new =
     ((answer ≡ said (codes "-ERR maildrop unavailable")) × (next ≡ Authorization None)
     × Known sound mail old new (λ before after. after ≡ refusing before))
-    ⊎ ((rows : List Row) × (answer ≡ said (codes "+OK " ++ decimal (length rows) ++ codes " messages"))
+    ⊎ ((rows : List MessageRow) × (answer ≡ said (codes "+OK " ++ decimal (length rows) ++ codes " messages"))
     × (next ≡ Transaction rows)
     × Known sound mail old new (λ before after. (after ≡ record before { slots = map Some (there before.slots) })
     × (rows ≡ map row_of (there before.slots))))
@@ -206,7 +206,7 @@ GivesText sound mail i line top old answer new =
     × ((message : Message) × (slice_get before.slots i ≡ Some (Some message)) × (text ≡ message.text))))
 
 -- the marked messages were removed, all of them or not
-abbrev pub Leaves : {D : Type 0} → (D → Type 0) → (D → Mail) → List Row → D → List ℕ → D → Type 0
+abbrev pub Leaves : {D : Type 0} → (D → Type 0) → (D → Mail) → List MessageRow → D → List ℕ → D → Type 0
 Leaves sound mail rows old answer new =
     (all : Bool) × (answer ≡ said (if all then codes "+OK bye" else codes "-ERR some messages not removed"))
     × Known sound mail old new (λ before after. Empties 0 rows before all after)
@@ -225,7 +225,7 @@ pub record Answers {D : Type 0} (sound : D → Type 0) (mail : D → Mail) (aske
 
 -- nothing was answered for want of memory: no message changed and no count, whatever places there are
 pub record Unanswered {D : Type 0} (sound : D → Type 0) (mail : D → Mail) (old new : D) : Type 0 where
-  pub refused : (mail new).refused ≡ (mail old).refused
+  pub failures : (mail new).failures ≡ (mail old).failures
   pub removals : (mail new).removals ≡ (mail old).removals
   pub messages : Known sound mail old new (λ before after. there after.slots ≡ there before.slots)
 
@@ -239,12 +239,12 @@ is_open Closed = false
 -- each row's message is there, while there are rows
 abbrev pub Tied : Type 0 → Mail → State → Type 0
 Tied sound mail (Authorization kept) = Unit {0}
-Tied sound mail (Transaction rows) = sound → (i : ℕ) (row : Row) → slice_get rows i ≡ Some row → HasPlace mail i
+Tied sound mail (Transaction rows) = sound → (i : ℕ) (row : MessageRow) → slice_get rows i ≡ Some row → HasPlace mail i
 Tied sound mail Closed = Unit {0}
 
 -- where a row stands now, one stood before
-abbrev pub SamePlaces : List Row → List Row → Type 0
-SamePlaces old new = (i : ℕ) (row : Row) → slice_get new i ≡ Some row → (before : Row) × (slice_get old i ≡ Some before)
+abbrev pub SamePlaces : List MessageRow → List MessageRow → Type 0
+SamePlaces old new = (i : ℕ) (row : MessageRow) → slice_get new i ≡ Some row → (before : MessageRow) × (slice_get old i ≡ Some before)
 
 -- the state after an answer, where none means that it stays as it is
 abbrev pub next_of : State → Option State → State

@@ -10,7 +10,7 @@ use Rattle.pop3_server.specs.declared.intake.Heard.{Heard}
 use Rattle.pop3_server.specs.declared.intake.Heard.TheVariants.{Line, LongLine, End}
 use Rattle.pop3_server.specs.Maildrop.{Mail}
 use Rattle.pop3_server.specs.ServerMachine.{Machine, greeting, is_open}
-use Rattle.pop3_server.specs.Run.{Run, Turn, SameServer}
+use Rattle.pop3_server.specs.AnswersLines.{AnswersLines, AnswersLine, SameServer}
 use Rattle.pop3_server.specs.Got.{Waiting}
 
 -- ---- what comes in
@@ -53,14 +53,14 @@ Found End waiting = Unit {0}
 
 -- the greeting went out, and the answers to these lines
 abbrev pub AllSent : {D : Type 0} → (D → Type 0) → (D → Mail) → Machine D → List (List ℕ) → List ℕ → Machine D → Type 0
-AllSent sound mail old lines sent last = (answers : List ℕ) × Run sound mail old lines answers last × (sent ≡ greeting ++ answers)
+AllSent sound mail old lines sent last = (answers : List ℕ) × AnswersLines sound mail old lines answers last × (sent ≡ greeting ++ answers)
 
 -- the greeting went out in part alone, or the greeting and all answers did but the last, of which a part did
 abbrev pub PartSent : {D : Type 0} → (D → Type 0) → (D → Mail) → Machine D → List (List ℕ) → List ℕ → Machine D → Type 0
 PartSent {D} sound mail old lines sent last =
     ((rest : List ℕ) × (greeting ≡ sent ++ rest) × (lines ≡ []) × (last ≡ old))
     ⊎ ((before : List (List ℕ)) × (line whole answer front rest : List ℕ) × (mid : Machine D)
-    × (lines ≡ before ++ line ∷ []) × AllSent sound mail old before whole mid × Turn sound mail mid line answer last
+    × (lines ≡ before ++ line ∷ []) × AllSent sound mail old before whole mid × AnswersLine sound mail mid line answer last
     × (answer ≡ front ++ rest) × (sent ≡ whole ++ front))
 
 -- what went out for these lines, and which server is left, where this rest was got behind them

@@ -1,7 +1,7 @@
 //! That the server is honest: a law over its definitions.
 ghost use Rattle.pop3_server.specs.HonestServer.{IsHonest};
 
-use crate::maildrops::Maildrop;
+use crate::maildrop::Maildrop;
 
 /// A new server's greeting and its answers to any commands that a session sends, one after another,
 /// are an honest conversation over the messages of its maildrop, where these are of a world and

@@ -1,6 +1,7 @@
 //! A POP3 server as a machine of lines, over any maildrop (RFC 1939).
 #![tactic(auto)]
 
+mod commands;
 mod fault;
 mod honesty;
 mod intake;
@@ -8,13 +9,13 @@ mod laws;
 mod loop_wire;
 mod maildir_drop;
 mod maildir_names;
-mod maildrops;
+mod maildrop;
 mod memory_drop;
-mod replies;
-mod servers;
+mod reply;
+mod server;
 mod serving;
-mod sessions;
 mod size;
+mod rows;
 mod state;
 
 pub use fault::ServerFault;
@@ -22,9 +23,9 @@ pub use honesty::conversations_are_honest;
 pub use laws::quit_leaves_few;
 pub use loop_wire::LoopWire;
 pub use maildir_drop::MaildirDrop;
-pub use maildrops::{DropFault, Entry, MAX_COUNT, MAX_SIZE, Maildrop};
+pub use maildrop::{DropFault, Entry, MAX_COUNT, MAX_SIZE, Maildrop};
 pub use memory_drop::MemoryDrop;
-pub use servers::{Answer, Server};
+pub use server::{Answer, Server};
 pub use serving::serve;
 pub use size::size_of;
 
@@ -35,6 +36,6 @@ mod maildir_tests;
 #[cfg(test)]
 mod memory_drop_tests;
 #[cfg(test)]
-mod servers_tests;
+mod server_tests;
 #[cfg(test)]
 mod serving_tests;

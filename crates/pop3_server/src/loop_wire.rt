@@ -6,8 +6,8 @@ ghost use Rattle.pop3_server.specs.ServerMachine.{greeting, is_open};
 ghost use Rattle.pop3_server.specs.LoopLink.{Loop, Serves, IsAnswered};
 ghost use Rattle.pop3_server.specs.LoopLaws.{serves_same, serves_on};
 
-use crate::maildrops::Maildrop;
-use crate::servers::Server;
+use crate::maildrop::Maildrop;
+use crate::server::Server;
 use pop3_wire::{Wire, WireDown, cut_line};
 use std::alloc::Global;
 use std::marker::Model;

@@ -1,7 +1,7 @@
 //! A link to a server over a maildrop in memory, with ample memory.
 use crate::loop_wire::LoopWire;
 use crate::memory_drop::MemoryDrop;
-use crate::servers::Server;
+use crate::server::Server;
 use pop3_wire::Wire;
 use std::process::Abort;
 use std::test::Fail;

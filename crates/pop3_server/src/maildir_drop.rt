@@ -6,7 +6,7 @@ ghost use Rattle.pop3_server.specs.Maildrop.{CountsFault, Tallies, counted};
 ghost use Rattle.pop3_server.specs.RealMaildir.{mail_of, names_of, HaveIds, ListsNames};
 
 use crate::maildir_names::{Folder, MailFile, base, unique_id};
-use crate::maildrops::{DropFault, Entry, MAX_COUNT, MAX_SIZE, Maildrop};
+use crate::maildrop::{DropFault, Entry, MAX_COUNT, MAX_SIZE, Maildrop};
 use crate::size::SizeCount;
 use std::collections::BTreeSet;
 use std::fs;
@@ -21,7 +21,7 @@ pub struct MaildirDrop<'a, R: Files + AllocGlobal + Clone + Drop> {
     rt: &'a R,
     path: String,
     files: Vec<ListedFile>,
-    refused: u64,
+    failures: u64,
     removals: u64,
 }
 
@@ -32,7 +32,7 @@ impl<'a, R: Files + AllocGlobal + Clone + Drop> Model for MaildirDrop<'a, R> {
 
     ghost view = { λ d. record {
       names = names_of d.files.items;
-      refused = d.refused;
+      failures = d.failures;
       removals = d.removals;
     } };
 }
@@ -81,13 +81,13 @@ struct Listing {
 impl<'a, R: Files + AllocGlobal + Clone + Drop> MaildirDrop<'a, R> {
     /// The maildrop of the Maildir at this path, which must have the folders `new` and `cur`.
     pub fn at(rt: &'a R, path: String) -> MaildirDrop<'a, R>
-        ensures { result ≡ record { names = []; refused = 0; removals = 0 } }
+        ensures { result ≡ record { names = []; failures = 0; removals = 0 } }
     {
         MaildirDrop {
             rt,
             path,
             files: Vec::new(rt.alloc()),
-            refused: 0,
+            failures: 0,
             removals: 0,
         }
     }
@@ -204,13 +204,13 @@ impl<'a, R: Files + AllocGlobal + Clone + Drop> MaildirDrop<'a, R> {
     /// What a call answers after an error of the system: want of memory as such, anything else as a
     /// refusal, which is counted.
     fn refuse(&mut self, error: io::Error) -> DropFault
-        ensures others { self.new ≡ record self.old { refused = self.new.refused } }
-        ensures count { CountsFault self.old.refused result self.new.refused }
+        ensures others { self.new ≡ record self.old { failures = self.new.failures } }
+        ensures count { CountsFault self.old.failures result self.new.failures }
     {
         if error.kind() == ErrorKind::OutOfMemory {
             return DropFault::NoMemory;
         }
-        self.refused = self.refused.saturating_add(1);
+        self.failures = self.failures.saturating_add(1);
         DropFault::Refused
     }
 }
@@ -226,7 +226,7 @@ impl<'a, R: Files + AllocGlobal + Clone + Drop> Maildrop for MaildirDrop<'a, R> 
         ensures removes_none { self.new.removals ≡ self.old.removals }
         ensures names { ListsNames self.old result self.new }
     {
-        if self.refused == u64::MAX {
+        if self.failures == u64::MAX {
             return Err(DropFault::Refused);
         }
         let listed = match self.find() {
@@ -244,9 +244,9 @@ impl<'a, R: Files + AllocGlobal + Clone + Drop> Maildrop for MaildirDrop<'a, R> 
 
     fn text(&mut self, i: usize) -> Result<Vec<u8>, DropFault>
         ensures tally { Tallies (mail_of self.old) result (mail_of self.new) }
-        ensures others { self.new ≡ record self.old { refused = self.new.refused } }
+        ensures others { self.new ≡ record self.old { failures = self.new.failures } }
     {
-        if self.refused == u64::MAX {
+        if self.failures == u64::MAX {
             return Err(DropFault::Refused);
         }
         match self.read_file(i) {
@@ -262,19 +262,19 @@ impl<'a, R: Files + AllocGlobal + Clone + Drop> Maildrop for MaildirDrop<'a, R> 
         ensures names { self.new.names ≡ self.old.names }
     {
         self.removals = self.removals.saturating_add(1);
-        if self.refused == u64::MAX {
+        if self.failures == u64::MAX {
             return Err(DropFault::Refused);
         }
         match self.remove_file(i) {
             Ok(()) => Ok(()),
             Err(_) => {
-                self.refused += 1;
+                self.failures += 1;
                 Err(DropFault::Refused)
             }
         }
     }
 
     fn failures(&self) -> u64 {
-        self.refused
+        self.failures
     }
 }

@@ -1,6 +1,6 @@
 //! A Maildir in a real folder, served.
 use crate::maildir_drop::MaildirDrop;
-use crate::maildrops::Maildrop;
+use crate::maildrop::Maildrop;
 use std::fs;
 use std::test::Fail;
 

@@ -6,7 +6,7 @@ ghost use Rattle.pop3_wire.specs.World.{Message};
 ghost use Rattle.pop3_server.specs.Size.{size_of};
 ghost use Rattle.pop3_server.specs.Maildrop.{Mail, Listed, counted, there, ids, entry_of, AreDistinct, HasPlace, Lists, Gives, Removes, Tallies};
 
-use crate::maildrops::{DropFault, Entry, MAX_COUNT, MAX_SIZE, Maildrop};
+use crate::maildrop::{DropFault, Entry, MAX_COUNT, MAX_SIZE, Maildrop};
 use crate::size::size_of;
 use pop3_wire::Bytes;
 use std::alloc::{AllocError, Global};
@@ -130,7 +130,7 @@ impl Model for MemoryDrop {
 
     ghost Value = { Mail };
 
-    ghost view = { λ d. record { slots = d.slots.items; refused = 0; removals = d.removals } };
+    ghost view = { λ d. record { slots = d.slots.items; failures = 0; removals = d.removals } };
 
     ghost invariant = { λ d. AreDistinct (ids d.slots.items) × (length (there d.slots.items) ≤ 100000) };
 }
@@ -138,7 +138,7 @@ impl Model for MemoryDrop {
 impl MemoryDrop {
     /// A maildrop without messages.
     pub fn new(alloc: Global) -> MemoryDrop
-        ensures { result ≡ record { slots = []; refused = 0; removals = 0 } }
+        ensures { result ≡ record { slots = []; failures = 0; removals = 0 } }
     {
         MemoryDrop {
             alloc,

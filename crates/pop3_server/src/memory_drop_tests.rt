@@ -1,5 +1,5 @@
 //! A maildrop in memory, with ample memory.
-use crate::maildrops::Maildrop;
+use crate::maildrop::Maildrop;
 use crate::memory_drop::MemoryDrop;
 use crate::size::size_of;
 use std::process::Abort;

@@ -6,8 +6,8 @@ ghost use Rattle.pop3_server.specs.Serving.{Served, refusal_of};
 
 use crate::fault::ServerFault;
 use crate::intake::{Heard, Intake};
-use crate::maildrops::Maildrop;
-use crate::servers::Server;
+use crate::maildrop::Maildrop;
+use crate::server::Server;
 use pop3_wire::Wire;
 
 /// Sends bytes, all of them at once.

@@ -2,7 +2,7 @@
 ghost use Rattle.std.specs.Prelude.{◌<◌};
 ghost use Rattle.pop3_wire.specs.Link.{uncharted};
 
-use crate::servers_tests::server;
+use crate::server_tests::server;
 use crate::serving::serve;
 use pop3_wire::{ScriptWire, Wire, WireDown};
 use std::process::Abort;

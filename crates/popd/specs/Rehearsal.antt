@@ -15,4 +15,4 @@ second = record { uid = codes "m2"; size = 23; text = line (codes "Subject: two"
 
 -- two small messages, nothing refused or removed yet
 abbrev pub rehearsal : Mail
-rehearsal = record { slots = Some first ∷ Some second ∷ []; refused = 0; removals = 0 }
+rehearsal = record { slots = Some first ∷ Some second ∷ []; failures = 0; removals = 0 }

@@ -24,6 +24,6 @@ returns-clause-distinct c = λ s.
 
 pub returns-clause-lists : goal.returns-clause-lists
 returns-clause-lists c = λ s.
-    let placed : List (Option Message) → Mail = λ slots. record { slots = slots; refused = 0; removals = c.self.inside.removals } in
+    let placed : List (Option Message) → Mail = λ slots. record { slots = slots; failures = 0; removals = c.self.inside.removals } in
     let listed : Mail → Mail = λ m. record m { slots = map (λ x. Some x) (there m.slots) } in
     (tt, (ap placed (kept_is c) ∙ ap listed c.self.view_is, entries_are c ∙ ap (λ s. map entry_of (there s)) (slots_are c)))

@@ -1,6 +1,0 @@
-use Rattle.std.proofs.Common.{◌≡◌, map}
-use Rattle.pop3_server.specs.ServerMachine.{row_of_entry}
-use Rattle.pop3_server.proofs.state.Rows.of.Given as goal
-
-abbrev pub invariant-loop-entry : goal.invariant-loop-entry
-invariant-loop-entry l = l.rows.items ≡ map row_of_entry l.yielded

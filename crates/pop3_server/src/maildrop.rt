@@ -1,0 +1,134 @@
+//! Maildrops: messages that a server lists, gives and removes (RFC 1939, section 4).
+ghost use Rattle.std.specs.Prelude.{◌≡◌, ℕ, ◌≤◌, IsTrue, IfOk, IfErr, map, vec_len};
+ghost use Rattle.pop3_wire.specs.Fields.{is_legal_id};
+ghost use Rattle.pop3_server.specs.Maildrop.{Mail, Listed, counted, AreDistinct, HasPlace, Lists, Gives, Removes, Tallies};
+
+use pop3_wire::Bytes;
+use std::alloc::{AllocError, AllocFailed};
+use std::marker::Model;
+use thiserror::Error;
+
+/// The greatest size of a message that is listed, in octets.
+pub const MAX_SIZE: u64 = 134_217_728;
+
+/// The greatest number of messages that are listed.
+pub const MAX_COUNT: usize = 100_000;
+
+/// Why a maildrop did not do what it was asked.
+#[derive(Clone, Copy, Debug, PartialEq, Eq, Error)]
+pub enum DropFault {
+    /// The device refused.
+    #[error("refused")]
+    Refused,
+    /// A growth was refused.
+    #[error("out of memory")]
+    NoMemory,
+}
+
+impl From<AllocError> for DropFault {
+    ghost use Rattle.std.specs.Prelude.{◌≡◌};
+    ghost use Rattle.pop3_server.specs.declared.maildrop.DropFault.TheVariants.{NoMemory};
+
+    ghost from_gives = { λ _ e. e ≡ NoMemory };
+
+    fn from(_error: AllocError) -> DropFault {
+        DropFault::NoMemory
+    }
+}
+
+impl<T: Drop> From<AllocFailed<T>> for DropFault {
+    ghost use Rattle.std.specs.Prelude.{◌≡◌};
+    ghost use Rattle.pop3_server.specs.declared.maildrop.DropFault.TheVariants.{NoMemory};
+
+    ghost from_gives = { λ _ e. e ≡ NoMemory };
+
+    fn from(_error: AllocFailed<T>) -> DropFault {
+        DropFault::NoMemory
+    }
+}
+
+/// What a listing says of a message: its unique id, a legal one, and its size in octets, each
+/// line's end counted as two, at most [`MAX_SIZE`].
+#[derive(Drop)]
+pub struct Entry {
+    uid: Bytes,
+    size: u64,
+}
+
+impl Model for Entry {
+    ghost use Rattle.std.specs.Prelude.{◌≤◌, IsTrue};
+    ghost use Rattle.pop3_wire.specs.Fields.{is_legal_id};
+    ghost use Rattle.pop3_server.specs.Maildrop.{Listed};
+
+    ghost Value = { Listed };
+
+    ghost view = { λ e. record { uid = e.uid; size = e.size } };
+
+    ghost invariant = { λ e. IsTrue (is_legal_id e.uid) × (e.size ≤ 134217728) };
+}
+
+impl Entry {
+    /// The entry of this id and size. `is_legal_id` tests the one condition.
+    pub fn new(uid: Bytes, size: u64) -> Entry
+        requires legal { IsTrue (is_legal_id uid) }
+        requires within { size ≤ MAX_SIZE }
+        ensures { result ≡ record { uid = uid; size = size } }
+    {
+        Entry { uid, size }
+    }
+
+    /// The unique id.
+    pub fn uid(&self) -> &[u8]
+        ensures value { result.now ≡ self.now.uid }
+        ensures legal { IsTrue (is_legal_id result.now) }
+    {
+        self.uid.as_slice()
+    }
+
+    /// The size in octets.
+    pub fn size(&self) -> u64
+        ensures value { result ≡ self.now.size }
+        ensures within { result ≤ MAX_SIZE }
+    {
+        self.size
+    }
+}
+
+/// Messages that a server lists, gives and removes.
+pub trait Maildrop {
+    // What is known of the messages. The two counts are kept by every maildrop.
+    ghost mail: { Self → Mail };
+
+    // The premise: so far the device did what this trait says, and its count of refusals hasn't
+    // reached its greatest value. It is never true of a real folder.
+    ghost sound: { Self → Type 0 };
+
+    /// Lists the messages, at most [`MAX_COUNT`], no id twice. From then on a message's place is
+    /// that in this list.
+    fn entries(&mut self) -> Result<Vec<Entry>, DropFault>
+        ensures within { IfOk result (λ entries. vec_len entries ≤ MAX_COUNT) }
+        ensures distinct { sound self.new → IfOk result (λ entries. AreDistinct (map (λ (e : Listed). e.uid) entries.items)) }
+        ensures tally { Tallies (mail self.old) result (mail self.new) }
+        ensures removes_none { (mail self.new).removals ≡ (mail self.old).removals }
+        ensures lists { sound self.new → sound self.old × Lists (mail self.old) result (mail self.new) };
+
+    /// The text of the message at a place, its lines ended by LF.
+    fn text(&mut self, i: usize) -> Result<Vec<u8>, DropFault>
+        requires { sound self.old → HasPlace (mail self.old) i }
+        ensures tally { Tallies (mail self.old) result (mail self.new) }
+        ensures removes_none { (mail self.new).removals ≡ (mail self.old).removals }
+        ensures gives { sound self.new → sound self.old × Gives (mail self.old) i result (mail self.new) };
+
+    /// Removes the message at a place. Where it is refused, the message may be gone or not; want of
+    /// memory is such a refusal.
+    fn remove(&mut self, i: usize) -> Result<(), DropFault>
+        requires { sound self.old → HasPlace (mail self.old) i }
+        ensures err { IfErr result (λ e. e ≡ DropFault.Refused) }
+        ensures tally { Tallies (mail self.old) result (mail self.new) }
+        ensures asks { (mail self.new).removals ≡ counted (mail self.old).removals }
+        ensures removes { sound self.new → sound self.old × Removes (mail self.old) i result (mail self.new) };
+
+    /// How many calls were refused, as far as the count goes.
+    fn failures(&self) -> u64
+        ensures { result ≡ (mail self.now).failures };
+}

@@ -1,0 +1,188 @@
+//! What a server says: each reply whole, with its CR LF (RFC 1939, sections 5 to 7).
+ghost use Rattle.std.specs.Prelude.{◌≡◌, ◌≤◌, ◌<◌, ◌++◌, ℕ, length, IfOk, IfErr, codes, true, false, None, Some, vec_len};
+ghost use Rattle.std.specs.Fmt.{decimal};
+ghost use Rattle.std.specs.List.{flat_map};
+ghost use Rattle.pop3_wire.specs.Stuffed.{lines_of_text, sent_line};
+ghost use Rattle.pop3_server.specs.ServerMachine.{said, scan_line, uid_line, listed, lines_from, left_count, left_total, octets_line, text_body, top_from};
+
+use crate::fault::ServerFault;
+use crate::maildrop::MAX_COUNT;
+use crate::rows::{MessageRow, left};
+use pop3_wire::{cut_text, put_body, put_line};
+use std::alloc::Global;
+
+/// One line.
+pub fn say(alloc: Global, text: &[u8]) -> Result<Vec<u8>, ServerFault>
+    ensures ok { IfOk result (λ reply. reply.items ≡ said text.now) }
+    ensures err { IfErr result (λ e. e ≡ ServerFault.NoMemory) }
+{
+    let mut reply = Vec::from_slice(alloc, text)?;
+    reply.extend_from_slice(b"\r\n")?;
+    Ok(reply)
+}
+
+/// How many messages there are, in answer to PASS.
+pub fn say_count(alloc: Global, count: usize) -> Result<Vec<u8>, ServerFault>
+    ensures ok { IfOk result (λ reply. reply.items ≡ said (codes "+OK " ++ decimal count ++ codes " messages")) }
+    ensures err { IfErr result (λ e. e ≡ ServerFault.NoMemory) }
+{
+    Ok(format!(in alloc; "+OK {count} messages\r\n")?.into_bytes())
+}
+
+/// How many messages aren't marked, and their octets.
+pub fn say_left(alloc: Global, rows: &[MessageRow]) -> Result<Vec<u8>, ServerFault>
+    requires { length rows.now ≤ MAX_COUNT }
+    ensures ok { IfOk result (λ reply. reply.items
+        ≡ said (codes "+OK " ++ decimal (left_count rows.now) ++ codes " " ++ decimal (left_total rows.now))) }
+    ensures err { IfErr result (λ e. e ≡ ServerFault.NoMemory) }
+{
+    let (count, total) = left(rows);
+    Ok(format!(in alloc; "+OK {count} {total}\r\n")?.into_bytes())
+}
+
+/// A message's size, behind its number.
+pub fn say_size(alloc: Global, number: u32, row: &MessageRow) -> Result<Vec<u8>, ServerFault>
+    ensures ok { IfOk result (λ reply. reply.items ≡ said (codes "+OK " ++ scan_line number row.now)) }
+    ensures err { IfErr result (λ e. e ≡ ServerFault.NoMemory) }
+{
+    let size = row.entry.size();
+    Ok(format!(in alloc; "+OK {number} {size}\r\n")?.into_bytes())
+}
+
+/// A message's unique id, behind its number.
+pub fn say_uid(alloc: Global, number: u32, row: &MessageRow) -> Result<Vec<u8>, ServerFault>
+    ensures ok { IfOk result (λ reply. reply.items ≡ said (codes "+OK " ++ uid_line number row.now)) }
+    ensures err { IfErr result (λ e. e ≡ ServerFault.NoMemory) }
+{
+    let mut reply = format!(in alloc; "+OK {number} ")?.into_bytes();
+    reply.extend_from_slice(row.entry.uid())?;
+    reply.extend_from_slice(b"\r\n")?;
+    Ok(reply)
+}
+
+/// Puts a message's line of LIST behind what stands there.
+fn put_size(reply: &mut Vec<u8>, alloc: Global, number: usize, row: &MessageRow) -> Result<(), ServerFault>
+    ensures ok { IfOk result (λ _. reply.new.items ≡ reply.old.items ++ said (scan_line number row.now)) }
+    ensures err { IfErr result (λ e. e ≡ ServerFault.NoMemory) }
+{
+    let size = row.entry.size();
+    let line = format!(in alloc; "{number} {size}\r\n")?;
+    reply.extend_from_slice(line.as_bytes())?;
+    Ok(())
+}
+
+/// Puts a message's line of UIDL behind what stands there.
+fn put_uid(reply: &mut Vec<u8>, alloc: Global, number: usize, row: &MessageRow) -> Result<(), ServerFault>
+    ensures ok { IfOk result (λ _. reply.new.items ≡ reply.old.items ++ said (uid_line number row.now)) }
+    ensures err { IfErr result (λ e. e ≡ ServerFault.NoMemory) }
+{
+    let front = format!(in alloc; "{number} ")?;
+    reply.extend_from_slice(front.as_bytes())?;
+    reply.extend_from_slice(row.entry.uid())?;
+    reply.extend_from_slice(b"\r\n")?;
+    Ok(())
+}
+
+/// The sizes of the messages that aren't marked.
+pub fn say_sizes(alloc: Global, rows: &[MessageRow]) -> Result<Vec<u8>, ServerFault>
+    requires { length rows.now ≤ MAX_COUNT }
+    ensures ok { IfOk result (λ reply. reply.items ≡ listed scan_line rows.now) }
+    ensures err { IfErr result (λ e. e ≡ ServerFault.NoMemory) }
+{
+    let mut reply = Vec::from_slice(alloc, b"+OK\r\n")?;
+    for (i, row) in rows.iter().enumerate() {
+        if row.marked {
+            continue;
+        }
+        put_size(&mut reply, alloc, i + 1, row)?;
+    }
+    reply.extend_from_slice(b".\r\n")?;
+    Ok(reply)
+}
+
+/// The unique ids of the messages that aren't marked.
+pub fn say_uids(alloc: Global, rows: &[MessageRow]) -> Result<Vec<u8>, ServerFault>
+    requires { length rows.now ≤ MAX_COUNT }
+    ensures ok { IfOk result (λ reply. reply.items ≡ listed uid_line rows.now) }
+    ensures err { IfErr result (λ e. e ≡ ServerFault.NoMemory) }
+{
+    let mut reply = Vec::from_slice(alloc, b"+OK\r\n")?;
+    for (i, row) in rows.iter().enumerate() {
+        if row.marked {
+            continue;
+        }
+        put_uid(&mut reply, alloc, i + 1, row)?;
+    }
+    reply.extend_from_slice(b".\r\n")?;
+    Ok(reply)
+}
+
+/// A text behind the line with its size, in answer to RETR.
+pub fn say_text(alloc: Global, row: &MessageRow, text: &[u8]) -> Result<Vec<u8>, ServerFault>
+    ensures ok { IfOk result (λ reply. reply.items ≡ said (octets_line row.now) ++ text_body None text.now) }
+    ensures err { IfErr result (λ e. e ≡ ServerFault.NoMemory) }
+{
+    let size = row.entry.size();
+    let mut reply = format!(in alloc; "+OK {size} octets\r\n")?.into_bytes();
+    // The size counts all that is sent but dots that are stuffed in and the end mark.
+    reply.reserve(size as usize + b".\r\n".len())?;
+    match put_body(&mut reply, text) {
+        Ok(()) => Ok(reply),
+        Err(_) => Err(ServerFault::NoMemory),
+    }
+}
+
+/// Puts the lines of a text up to and including its first empty one behind what stands there, and
+/// gives what follows them.
+fn put_head<'a>(reply: &mut Vec<u8>, text: &'a [u8]) -> Result<&'a [u8], ServerFault>
+    ensures ok { IfOk result (λ rest. (n : ℕ)
+        → reply.new.items ++ flat_map sent_line (top_from false n (lines_of_text rest.now))
+        ≡ reply.old.items ++ flat_map sent_line (top_from true n (lines_of_text text.now))) }
+    ensures err { IfErr result (λ e. e ≡ ServerFault.NoMemory) }
+{
+    let mut rest = text;
+    while !rest.is_empty() {
+        let (line, after) = cut_text(rest);
+        if put_line(reply, line).is_err() {
+            return Err(ServerFault::NoMemory);
+        }
+        rest = after;
+        if line.is_empty() {
+            return Ok(rest);
+        }
+    }
+    Ok(rest)
+}
+
+/// Puts so many lines of a text behind what stands there, or all that there are.
+fn put_lines(reply: &mut Vec<u8>, count: u32, text: &[u8]) -> Result<(), ServerFault>
+    ensures ok { IfOk result (λ _. reply.new.items ≡ reply.old.items ++ flat_map sent_line (top_from false count (lines_of_text text.now))) }
+    ensures err { IfErr result (λ e. e ≡ ServerFault.NoMemory) }
+{
+    let mut rest = text;
+    let mut left = count;
+    while left > 0 {
+        if rest.is_empty() {
+            return Ok(());
+        }
+        let (line, after) = cut_text(rest);
+        if put_line(reply, line).is_err() {
+            return Err(ServerFault::NoMemory);
+        }
+        rest = after;
+        left -= 1;
+    }
+    Ok(())
+}
+
+/// The head of a text and so many lines of what follows, in answer to TOP.
+pub fn say_top(alloc: Global, count: u32, text: &[u8]) -> Result<Vec<u8>, ServerFault>
+    ensures ok { IfOk result (λ reply. reply.items ≡ said (codes "+OK") ++ text_body (Some count) text.now) }
+    ensures err { IfErr result (λ e. e ≡ ServerFault.NoMemory) }
+{
+    let mut reply = Vec::from_slice(alloc, b"+OK\r\n")?;
+    let rest = put_head(&mut reply, text)?;
+    put_lines(&mut reply, count, rest)?;
+    reply.extend_from_slice(b".\r\n")?;
+    Ok(reply)
+}

@@ -1,0 +1,161 @@
+//! The server: a machine that is given lines and gives answers (RFC 1939).
+ghost use Rattle.std.specs.Prelude.{◌≡◌, not, true, None, Ok, IfOk, IfErr};
+ghost use Rattle.pop3_wire.specs.CommandLine.{command_of};
+ghost use Rattle.pop3_server.specs.declared.state.State.TheVariants.{Authorization};
+ghost use Rattle.pop3_server.specs.ServerMachine.{Answers, Unanswered, deed, greeting, is_open, next_of};
+
+use crate::fault::ServerFault;
+use crate::maildrop::Maildrop;
+use crate::reply::say;
+use crate::commands::{Step, authorize, transact};
+use crate::state::State;
+use pop3_wire::{Command, WireFault, read_command};
+use std::alloc::Global;
+use std::marker::Model;
+
+/// What a server says to a line.
+#[derive(Drop)]
+pub struct Answer {
+    /// All octets of the reply, its last CR LF included.
+    pub bytes: Vec<u8>,
+    /// Whether the session is over after it.
+    pub closing: bool,
+}
+
+/// A server of one session, over a maildrop. Contracts see whom it lets in, where it stands, and
+/// the maildrop.
+#[derive(Drop)]
+pub struct Server<D: Maildrop> {
+    alloc: Global,
+    drop: D,
+    user: Vec<u8>,
+    pass: Vec<u8>,
+    state: State,
+}
+
+impl<D: Maildrop> Model for Server<D> {
+    ghost use Rattle.pop3_server.specs.ServerMachine.{Machine, Tied};
+
+    ghost Value = { Machine D };
+
+    ghost view = { λ s. record { user = s.user.items; pass = s.pass.items; state = s.state; drop = s.drop } };
+
+    ghost invariant = { λ s. Tied (D.sound s.drop) (D.mail s.drop) s.state };
+}
+
+/// Whether this is the end of a session.
+fn is_closed(state: &State) -> bool
+    ensures { result ≡ not (is_open state.now) }
+{
+    match state {
+        State::Closed => true,
+        State::Authorization(_) => false,
+        State::Transaction(_) => false,
+    }
+}
+
+/// Goes to the state that a step leads to, and gives its answer.
+fn take(state: &mut State, step: Step) -> Answer
+    ensures state { state.new ≡ next_of state.old step.1 }
+    ensures bytes { result.bytes.items ≡ step.0.items }
+    ensures closing { result.closing ≡ not (is_open state.new) }
+{
+    let (bytes, next) = step;
+    if let Some(next) = next {
+        *state = next;
+    }
+    Answer {
+        bytes,
+        closing: is_closed(state),
+    }
+}
+
+impl<D: Maildrop> Server<D> {
+    /// A server at the start of a session, which lets in this user with this password. An empty
+    /// name or password is never matched, as no command carries one.
+    pub fn new(alloc: Global, drop: D, user: Vec<u8>, pass: Vec<u8>) -> Server<D>
+        ensures { result ≡ record { user = user.items; pass = pass.items; state = Authorization None; drop = drop } }
+    {
+        Server {
+            alloc,
+            drop,
+            user,
+            pass,
+            state: State::Authorization(None),
+        }
+    }
+
+    /// Whether the session goes on.
+    pub fn is_open(&self) -> bool
+        ensures { result ≡ is_open self.now.state }
+    {
+        !is_closed(&self.state)
+    }
+
+    /// What is said before the first line. NoMemory where a growth is refused.
+    pub fn greeting(&mut self) -> Result<Answer, ServerFault>
+        ensures same { self.new ≡ self.old }
+        ensures ok { IfOk result (λ answer. (answer.bytes.items ≡ greeting) × (answer.closing ≡ not (is_open self.old.state))) }
+        ensures err { IfErr result (λ e. e ≡ ServerFault.NoMemory) }
+    {
+        let bytes = say(self.alloc, b"+OK popd ready")?;
+        let closing = is_closed(&self.state);
+        Ok(Answer { bytes, closing })
+    }
+
+    /// The answer to a line without its CR LF. `is_open` tests the condition. NoMemory where a
+    /// growth is refused: then the state is as it was, and no message and no count has changed.
+    pub fn answer(&mut self, line: &[u8]) -> Result<Answer, ServerFault>
+        requires { is_open self.old.state ≡ true }
+        ensures who { (self.new.user ≡ self.old.user) × (self.new.pass ≡ self.old.pass) }
+        ensures ok { IfOk result (λ answer. Answers D.sound D.mail
+            (deed self.old.user self.old.pass self.old.state (command_of line.now))
+            self.old.drop answer.bytes.items self.new.state self.new.drop) }
+        ensures closing { IfOk result (λ answer. answer.closing ≡ not (is_open self.new.state)) }
+        ensures err { IfErr result (λ e. (e ≡ ServerFault.NoMemory) × (self.new.state ≡ self.old.state)
+            × Unanswered D.sound D.mail self.old.drop self.new.drop) }
+    {
+        match read_command(self.alloc, line) {
+            Ok(command) => self.obey(command),
+            Err(WireFault::NoMemory) => Err(ServerFault::NoMemory),
+            Err(_) => Ok(Answer {
+                bytes: say(self.alloc, b"-ERR bad command")?,
+                closing: false,
+            }),
+        }
+    }
+
+    /// The answer to a command, in the state that the server is in.
+    fn obey(&mut self, command: Command) -> Result<Answer, ServerFault>
+        requires { is_open self.old.state ≡ true }
+        ensures who { (self.new.user ≡ self.old.user) × (self.new.pass ≡ self.old.pass) }
+        ensures ok { IfOk result (λ answer. Answers D.sound D.mail
+            (deed self.old.user self.old.pass self.old.state (Ok command))
+            self.old.drop answer.bytes.items self.new.state self.new.drop) }
+        ensures closing { IfOk result (λ answer. answer.closing ≡ not (is_open self.new.state)) }
+        ensures err { IfErr result (λ e. (e ≡ ServerFault.NoMemory) × (self.new.state ≡ self.old.state)
+            × Unanswered D.sound D.mail self.old.drop self.new.drop) }
+    {
+        let step = match &mut self.state {
+            State::Authorization(kept) => authorize(
+                self.alloc,
+                &mut self.drop,
+                self.user.as_slice(),
+                self.pass.as_slice(),
+                kept,
+                command,
+            )?,
+            State::Transaction(rows) => transact(self.alloc, &mut self.drop, rows, &command)?,
+            State::Closed => unreachable!(),
+        };
+        Ok(take(&mut self.state, step))
+    }
+
+    /// The maildrop.
+    pub fn into_drop(self) -> D
+        ensures { result ≡ self.drop }
+    {
+        let Server { drop, .. } = self;
+        drop
+    }
+}
