@@ -23,7 +23,7 @@ use Rattle.pop3_server.specs.declared.rows.MessageRow.{MessageRow}
 use Rattle.pop3_server.specs.declared.state.State.{State}
 use Rattle.pop3_server.specs.declared.state.State.TheVariants.{Authorization, Transaction, Closed}
 use Rattle.pop3_server.specs.Maildrop.{Mail, there}
-use Rattle.pop3_server.specs.ServerMachine.{Machine, Deed, Say, Open, Give, Leave, Does, Opens, Leaves, deed, is_open, said, left_count, left_total, mark_at, unmarked, row_of, scan_line, uid_line, octets_line, give, dele, in_authorization, in_transaction, greeting}
+use Rattle.pop3_server.specs.ServerMachine.{Machine, Deed, Say, Open, Give, Leave, Does, Opens, RemovesMarked, deed, is_open, said, left_count, left_total, mark_at, unmarked, row_of, scan_line, uid_line, octets_line, give, dele, in_authorization, in_transaction, greeting}
 use Rattle.pop3_server.specs.AnswersLines.{AnswersLines}
 use Rattle.pop3_server.specs.HonestServer.{IsOfSession, IsAsked, AreServed, lines_of, IsHonest}
 use Rattle.pop3_server.proofs.HonestLemmas.{row_with, rows_with, fresh_rows, fresh_length, cleared_rows, cleared_length, marked_rows, marked_length, found, served_at, text_at, counted_left, total_left, ok_says, granted, refused, scan_rows, uid_rows, lists_all}
@@ -156,7 +156,7 @@ gave sound mail ms marks k m old answer next new served rows s at (state, inr (t
     )
 
 left : {D : Type 0} (sound : D → Type 0) (mail : D → Mail) (ms : List Message) (marks : List Bool) (rows : List MessageRow) (old : D) (answer : List ℕ) (next : State) (new : D)
-    → (next ≡ Closed) × Leaves sound mail rows old answer new → Replied ms marks Quit answer next (mail new)
+    → (next ≡ Closed) × RemovesMarked sound mail rows old answer new → Replied ms marks Quit answer next (mail new)
 left sound mail ms marks rows old answer next new (state, (true, is, known)) =
     (marks, inr (granted answer (codes " bye") is refl, refl), subst (λ (st : State). Stands ms st (mail new) marks) (sym state) tt)
 left sound mail ms marks rows old answer next new (state, (false, is, known)) =

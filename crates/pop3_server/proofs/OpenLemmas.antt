@@ -5,7 +5,7 @@ use Rattle.std.specs.Fmt.{decimal}
 use Rattle.pop3_wire.specs.World.{Message}
 use Rattle.pop3_server.specs.declared.rows.MessageRow.{MessageRow}
 use Rattle.pop3_server.specs.declared.state.State.TheVariants.{Transaction}
-use Rattle.pop3_server.specs.Maildrop.{Listed, Mail, there, entry_of, Lists}
+use Rattle.pop3_server.specs.Maildrop.{Listed, Mail, there, entry_of, ListsMessages}
 use Rattle.pop3_server.specs.ServerMachine.{row_of, row_of_entry, said, Answers, Unanswered, Open, Tied}
 use Rattle.pop3_server.proofs.SlotLemmas.{there_map}
 
@@ -19,7 +19,7 @@ placed [] i row h = cc
 placed (m ∷ ms) zero row h = (m, refl)
 placed (m ∷ ms) (suc i) row h = placed ms i row h
 
-module _ {D Z : Type 0} (sound : D → Type 0) (mail : D → Mail) (old new : D) (entries : Vec Listed Z) (lists : sound new → sound old × Lists (mail old) (Ok entries) (mail new)) where
+module _ {D Z : Type 0} (sound : D → Type 0) (mail : D → Mail) (old new : D) (entries : Vec Listed Z) (lists : sound new → sound old × ListsMessages (mail old) (Ok entries) (mail new)) where
   pub unanswered_listing : (mail new).failures ≡ (mail old).failures → (mail new).removals ≡ (mail old).removals → Unanswered sound mail old new
   unanswered_listing failures removals = record {
     failures = failures;

@@ -9,7 +9,7 @@ use Rattle.pop3_server.specs.declared.fault.ServerFault.{ServerFault}
 use Rattle.pop3_server.specs.declared.intake.Heard.{Heard}
 use Rattle.pop3_server.specs.declared.intake.Heard.TheVariants.{Line, LongLine, End}
 use Rattle.pop3_server.specs.Got.{Waiting}
-use Rattle.pop3_server.specs.Serving.{Took, Takes, Hears}
+use Rattle.pop3_server.specs.Serving.{Took, Queues, Hears}
 
 -- two pieces that share an octet are a line if both are
 no_split : (part back : List ℕ) (b : ℕ) → IsLine (part ++ b ∷ []) → IsLine (b ∷ back) → (front rest : List ℕ) → part ++ b ∷ back ≡ front ++ (crlf ++ rest) → ⊥
@@ -30,7 +30,7 @@ spliced part (b ∷ octets) (suc n) first second = splice part (take n octets) b
 
 -- the octets of a line that is dropped piece by piece, so far
 pub record Dropping (before : Waiting) (now : Waiting) (gained part : List ℕ) : Type 0 where
-  pub takes : Takes before part now gained
+  pub takes : Queues before part now gained
   pub line : IsLine (part ++ take 1 now.octets)
   pub some : 0 < length now.octets
   pub long : 510 < length part
@@ -85,7 +85,7 @@ drops_on before now after gained part piece d octets left = record {
 
 -- the line's end came
 pub dropped_line : (before now : Waiting) (gained part : List ℕ) (n : ℕ) → Dropping before now gained part → HasLine 512 now.octets n
-    → Takes before (ended (part ++ take n now.octets)) (record { octets = drop (n + 2) now.octets; left = now.left }) gained
+    → Queues before (ended (part ++ take n now.octets)) (record { octets = drop (n + 2) now.octets; left = now.left }) gained
     × IsLine (part ++ take n now.octets) × (510 < length (part ++ take n now.octets))
 dropped_line before now gained part n d has = (
   record {
@@ -115,24 +115,14 @@ took_on a b c g h first second = record {
 pub took_none : (a : Link) → Took a a []
 took_none a = record { got = sym (append-nil a.got); sent = refl }
 
-pub takes_none : (w : Waiting) → Takes w [] w []
-takes_none w = record { octets = append-nil w.octets; left = omega arith }
-
-pub takes_on : (a b c : Waiting) (dropped g h : List ℕ) → Takes a [] b g → Takes b dropped c h → Takes a dropped c (g ++ h)
+pub takes_on : (a b c : Waiting) (dropped g h : List ℕ) → Queues a [] b g → Queues b dropped c h → Queues a dropped c (g ++ h)
 takes_on a b c dropped g h first second = record {
   octets = sym (append_assoc a.octets g h) ∙ ap (λ (l : List ℕ). l ++ h) first.octets ∙ second.octets;
   left = let one : length g + b.left ≡ a.left = first.left in let two : length h + c.left ≡ b.left = second.left in omega (arith, length-append g h);
 }
 
-pub takes_piece : (a b c : Waiting) (g piece : List ℕ) → Takes a [] b g → c.octets ≡ b.octets ++ piece → length piece + c.left ≡ b.left → Takes a [] c (g ++ piece)
+pub takes_piece : (a b c : Waiting) (g piece : List ℕ) → Queues a [] b g → c.octets ≡ b.octets ++ piece → length piece + c.left ≡ b.left → Queues a [] c (g ++ piece)
 takes_piece a b c g piece first octets left = takes_on a b c [] g piece first (record { octets = sym octets; left = left })
-
--- what is heard after some octets were taken
-pub hears_on : (l0 l1 l2 : Link) (a b c : Waiting) (g : List ℕ) (result : Result Heard ServerFault) → Took l0 l1 g → Takes a [] b g → Hears l1 b result l2 c → Hears l0 a result l2 c
-hears_on l0 l1 l2 a b c g (Ok (Line n)) took takes (h, t, s, line) = (g ++ h, took_on l0 l1 l2 g h took t, takes_on a b c [] g h takes s, line)
-hears_on l0 l1 l2 a b c g (Ok LongLine) took takes (h, line, t, s, is, long) = (g ++ h, line, took_on l0 l1 l2 g h took t, takes_on a b c (ended line) g h takes s, is, long)
-hears_on l0 l1 l2 a b c g (Ok End) took takes (h, rest, t, s, is, why) = (g ++ h, rest, took_on l0 l1 l2 g h took t, takes_on a b c rest g h takes s, is, why)
-hears_on l0 l1 l2 a b c g (Err fault) took takes (is, (h, dropped, t, s)) = (is, (g ++ h, dropped, took_on l0 l1 l2 g h took t, takes_on a b c dropped g h takes s))
 
 -- the same octets wait
 pub still_dropping : (before now then_ : Waiting) (gained part : List ℕ) → then_ ≡ now → Dropping before now gained part → Dropping before then_ gained part

@@ -16,7 +16,7 @@ use Rattle.pop3_server.specs.ServerMachine.{Machine, Deed, Say, Open, Give, Leav
 use Rattle.pop3_server.specs.LoopLaws.{runs_on}
 use Rattle.pop3_server.specs.AnswersLines.{AnswersLines, AnswersLine, SameServer}
 use Rattle.pop3_server.specs.Got.{Waiting}
-use Rattle.pop3_server.specs.Serving.{Took, Takes, AllSent, Served}
+use Rattle.pop3_server.specs.Serving.{Took, Queues, AllSent, Served}
 
 -- the greeting and the answers to all lines that were got whole went out
 pub record Progress {D : Type 0} (sound : D → Type 0) (mail : D → Mail) (old : Machine D) (before : Link) (server : Machine D) (link : Link) (waiting : Waiting) : Type 0 where
@@ -41,21 +41,6 @@ all_push (first ∷ lines) line all is = (all.0, all_push lines line all.1 is)
 flat_push : (lines : List (List ℕ)) (line : List ℕ) → flat_map ended (lines ++ line ∷ []) ≡ flat_map ended lines ++ ended line
 flat_push [] line = append-nil (ended line)
 flat_push (first ∷ lines) line = ap (λ (l : List ℕ). ended first ++ l) (flat_push lines line) ∙ sym (append_assoc (ended first) (flat_map ended lines) (ended line))
-
--- the greeting went out
-pub progress_start : {D : Type 0} (sound : D → Type 0) (mail : D → Mail) (old server : Machine D) (before link : Link) (hello : List ℕ) → server ≡ old → hello ≡ greeting
-    → link ≡ record before { sent = before.sent ++ hello } → Progress sound mail old before server link (record { octets = []; left = 16777216 })
-progress_start sound mail old server before link hello same is sends = record {
-  gained = [];
-  lines = [];
-  answers = [];
-  each = tt;
-  got = ap (λ (l : Link). l.got) sends ∙ sym (append-nil before.got);
-  heard = refl;
-  left = refl;
-  sent = ap (λ (l : Link). l.sent) sends ∙ ap (λ (l : List ℕ). before.sent ++ l) (is ∙ sym (append-nil greeting));
-  run = (refl, same);
-}
 
 -- one more line came and was answered
 pub progress_line : {D : Type 0} (sound : D → Type 0) (mail : D → Mail) (old server next : Machine D) (before link taken sent : Link) (waiting after : Waiting) (g line answer : List ℕ)
@@ -86,45 +71,6 @@ within : {D : Type 0} (sound : D → Type 0) (mail : D → Mail) (old server : M
     (p : Progress sound mail old before server link waiting) → length g + left ≡ waiting.left → length (p.gained ++ g) + left ≡ 16777216
 within sound mail old server before link waiting g left p more = let start : length p.gained + waiting.left ≡ 16777216 = p.left in omega (arith, length-append p.gained g)
 
--- nothing went wrong, and no whole line is left
-pub served_end : {D : Type 0} (sound : D → Type 0) (mail : D → Mail) (old server : Machine D) (before link taken : Link) (waiting after : Waiting) (g dropped : List ℕ)
-    → Progress sound mail old before server link waiting → Took link taken g → Takes waiting dropped after g → IsLine (dropped ++ after.octets)
-    → (taken.ended ≡ true) ⊎ (after.left ≡ 0) → Served sound mail old before (Ok tt) server taken
-served_end sound mail old server before link taken waiting after g dropped p took takes is why =
-    let total = within sound mail old server before link waiting g after.left p takes.left in
-    record {
-      gained = p.gained ++ g;
-      got = took.got ∙ ap (λ (l : List ℕ). l ++ g) p.got ∙ append_assoc before.got p.gained g;
-      bound = omega arith;
-      lines = p.lines;
-      rest = waiting.octets ++ g;
-      each = p.each;
-      heard = ap (λ (l : List ℕ). l ++ g) p.heard ∙ append_assoc (flat_map ended p.lines) waiting.octets g;
-      out = greeting ++ p.answers;
-      sent = took.sent ∙ p.sent;
-      answered = (all_sent sound mail old server before link waiting p, inr (subst IsLine (sym takes.octets) is));
-      ends = λ _. inr (elim why [ inl over ↦ inl over | inr none ↦ inr (omega arith) ]);
-    }
-
--- the link refused to give more
-pub served_unread : {D : Type 0} (sound : D → Type 0) (mail : D → Mail) (old server : Machine D) (before link taken : Link) (waiting after : Waiting) (g dropped : List ℕ)
-    → Progress sound mail old before server link waiting → Took link taken g → Takes waiting dropped after g → Served sound mail old before (Err ReadFailed) server taken
-served_unread sound mail old server before link taken waiting after g dropped p took takes =
-    let total = within sound mail old server before link waiting g after.left p takes.left in
-    record {
-      gained = p.gained ++ g;
-      got = took.got ∙ ap (λ (l : List ℕ). l ++ g) p.got ∙ append_assoc before.got p.gained g;
-      bound = omega arith;
-      lines = p.lines;
-      rest = waiting.octets ++ g;
-      each = p.each;
-      heard = ap (λ (l : List ℕ). l ++ g) p.heard ∙ append_assoc (flat_map ended p.lines) waiting.octets g;
-      out = greeting ++ p.answers;
-      sent = took.sent ∙ p.sent;
-      answered = all_sent sound mail old server before link waiting p;
-      ends = λ e. cc;
-    }
-
 -- the session is over
 pub served_closed : {D : Type 0} (sound : D → Type 0) (mail : D → Mail) (old server : Machine D) (before link : Link) (waiting : Waiting)
     → Progress sound mail old before server link waiting → is_open server.state ≡ false → Served sound mail old before (Ok tt) server link
@@ -146,7 +92,7 @@ served_closed sound mail old server before link waiting p closed =
 
 -- one more line came, and memory was wanting for its answer
 pub served_unanswered : {D : Type 0} (sound : D → Type 0) (mail : D → Mail) (old server next : Machine D) (before link taken : Link) (waiting after : Waiting) (g : List ℕ)
-    → Progress sound mail old before server link waiting → Took link taken g → Takes waiting [] after g → SameServer sound mail server next → Served sound mail old before (Err NoMemory) next taken
+    → Progress sound mail old before server link waiting → Took link taken g → Queues waiting [] after g → SameServer sound mail server next → Served sound mail old before (Err NoMemory) next taken
 served_unanswered sound mail old server next before link taken waiting after g p took takes same =
     let total = within sound mail old server before link waiting g after.left p takes.left in
     record {
@@ -240,7 +186,7 @@ open_removals sound mail (Give rows i line top) old answer next new a opened = a
 open_removals sound mail (Leave rows) old answer next new a opened = absurd (let e : false ≡ true = rw a.does.0 at opened in cc)
 
 -- the line that waits, and what is left behind it
-pub line_octets : (before mid after : Waiting) (g seen : List ℕ) (n : ℕ) → Takes before [] mid g → HasLine 512 mid.octets n → seen ≡ mid.octets
+pub line_octets : (before mid after : Waiting) (g seen : List ℕ) (n : ℕ) → Queues before [] mid g → HasLine 512 mid.octets n → seen ≡ mid.octets
     → after ≡ record { octets = drop (n + 2) mid.octets; left = mid.left }
     → (before.octets ++ g ≡ ended (take n seen) ++ after.octets) × (length g + after.left ≡ before.left) × IsLine (take n seen)
 line_octets before mid after g seen n takes has same is = (

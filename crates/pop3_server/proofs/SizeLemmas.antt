@@ -5,7 +5,7 @@ use Rattle.std.proofs.lemmas.List.Sums.{sum_by-cons, sum_by-append}
 use Rattle.pop3_wire.specs.Line.{ended}
 use Rattle.pop3_wire.specs.Stuffed.{lines_of_text}
 use Rattle.pop3_server.specs.declared.size.SizeCount.{SizeCount}
-use Rattle.pop3_server.specs.Size.{size_of, weight, ends_open, capped, Counts}
+use Rattle.pop3_server.specs.Size.{size_of, weight, ends_open, capped, CountsText}
 
 -- these are the lines of a text that isn't empty
 record Some (lines : List (List ℕ)) : Type 0 where
@@ -49,19 +49,19 @@ ends_open-push (first ∷ []) byte = refl
 ends_open-push (first ∷ second ∷ rest) byte = ends_open-push (second ∷ rest) byte
 
 -- one more byte was counted
-pub Counts-push : (count next : SizeCount) (text : List ℕ) (byte : ℕ) → Counts count text → next.octets ≡ capped (count.octets + weight byte) → next.in_line ≡ not (byte == 10) → Counts next (text ++ byte ∷ [])
-Counts-push count next text byte h octets in_line = record {
+pub CountsText-push : (count next : SizeCount) (text : List ℕ) (byte : ℕ) → CountsText count text → next.octets ≡ capped (count.octets + weight byte) → next.in_line ≡ not (byte == 10) → CountsText next (text ++ byte ∷ [])
+CountsText-push count next text byte h octets in_line = record {
   octets = omega (arith, octets, h.octets, sum_by-append weight text (byte ∷ []), sum_by-cons weight byte []);
   in_line = in_line ∙ sym (ends_open-push text byte);
 }
 
 -- the size of what was counted, where the last line is open and where it isn't
-pub size-open : (count : SizeCount) (text : List ℕ) → Counts count text → count.in_line ≡ true → capped (count.octets + 2) ≡ capped (size_of text)
+pub size-open : (count : SizeCount) (text : List ℕ) → CountsText count text → count.in_line ≡ true → capped (count.octets + 2) ≡ capped (size_of text)
 size-open count text h more = let open_text : ends_open text ≡ true = sym h.in_line ∙ more in
     let e = size_of-weights text in
     let e2 : size_of text ≡ sum_by weight text + 2 = rw open_text at e in omega (arith, h.octets, e2)
 
-pub size-closed : (count : SizeCount) (text : List ℕ) → Counts count text → count.in_line ≡ false → count.octets ≡ capped (size_of text)
+pub size-closed : (count : SizeCount) (text : List ℕ) → CountsText count text → count.in_line ≡ false → count.octets ≡ capped (size_of text)
 size-closed count text h closed = let closed_text : ends_open text ≡ false = sym h.in_line ∙ closed in
     let e = size_of-weights text in
     let e2 : size_of text ≡ sum_by weight text + 0 = rw closed_text at e in omega (arith, h.octets, e2)

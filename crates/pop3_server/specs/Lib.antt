@@ -1,3 +1,4 @@
+pub mod AnswersLines
 pub mod Got
 pub mod HonestServer
 pub mod LoopLaws
@@ -6,7 +7,6 @@ pub mod MaildirNames
 pub mod Maildrop
 pub mod RealMaildir
 pub mod Removal
-pub mod AnswersLines
 pub mod ServerMachine
 pub mod Serving
 pub mod Size

@@ -62,10 +62,10 @@ Denies old Refused new = new ≡ refusing old
 Denies old NoMemory new = new ≡ old
 
 -- the messages that are there were listed, and have these places from now on
-abbrev pub Lists : {Z : Type 0} → Mail → Result (Vec Listed Z) DropFault → Mail → Type 0
-Lists old (Ok entries) new =
+abbrev pub ListsMessages : {Z : Type 0} → Mail → Result (Vec Listed Z) DropFault → Mail → Type 0
+ListsMessages old (Ok entries) new =
     (new ≡ record old { slots = map Some (there old.slots) }) × (entries.items ≡ map entry_of (there old.slots))
-Lists old (Err fault) new = Denies old fault new
+ListsMessages old (Err fault) new = Denies old fault new
 
 -- the text of the message at a place was given
 abbrev pub Gives : {Z : Type 0} → Mail → ℕ → Result (Vec ℕ Z) DropFault → Mail → Type 0

@@ -206,8 +206,8 @@ GivesText sound mail i line top old answer new =
     × ((message : Message) × (slice_get before.slots i ≡ Some (Some message)) × (text ≡ message.text))))
 
 -- the marked messages were removed, all of them or not
-abbrev pub Leaves : {D : Type 0} → (D → Type 0) → (D → Mail) → List MessageRow → D → List ℕ → D → Type 0
-Leaves sound mail rows old answer new =
+abbrev pub RemovesMarked : {D : Type 0} → (D → Type 0) → (D → Mail) → List MessageRow → D → List ℕ → D → Type 0
+RemovesMarked sound mail rows old answer new =
     (all : Bool) × (answer ≡ said (if all then codes "+OK bye" else codes "-ERR some messages not removed"))
     × Known sound mail old new (λ before after. Empties 0 rows before all after)
 
@@ -216,7 +216,7 @@ Does sound mail (Say bytes state) old answer next new = (answer ≡ bytes) × (n
 Does sound mail Open old answer next new = Opens sound mail old answer next new
 Does sound mail (Give rows i line top) old answer next new =
     (next ≡ Transaction rows) × GivesText sound mail i line top old answer new
-Does sound mail (Leave rows) old answer next new = (next ≡ Closed) × Leaves sound mail rows old answer new
+Does sound mail (Leave rows) old answer next new = (next ≡ Closed) × RemovesMarked sound mail rows old answer new
 
 -- a deed was done: its answer, the next state, and the maildrop before and after
 pub record Answers {D : Type 0} (sound : D → Type 0) (mail : D → Mail) (asked_for : Deed) (old : D) (answer : List ℕ) (next : State) (new : D) : Type 0 where

@@ -21,21 +21,21 @@ pub record Took (old new : Link) (gained : List ℕ) : Type 0 where
   pub sent : new.sent ≡ old.sent
 
 -- the octets got wait behind those that waited, but for a line that was dropped in front
-pub record Takes (before : Waiting) (dropped : List ℕ) (after : Waiting) (gained : List ℕ) : Type 0 where
+pub record Queues (before : Waiting) (dropped : List ℕ) (after : Waiting) (gained : List ℕ) : Type 0 where
   pub octets : before.octets ++ gained ≡ dropped ++ after.octets
   pub left : length gained + after.left ≡ before.left
 
 -- a line waits, one of more than 510 octets was dropped, or no whole line will come
 abbrev pub Hears : Link → Waiting → Result Heard ServerFault → Link → Waiting → Type 0
 Hears old before (Ok (Line n)) new after =
-    (gained : List ℕ) × Took old new gained × Takes before [] after gained × HasLine 512 after.octets n
+    (gained : List ℕ) × Took old new gained × Queues before [] after gained × HasLine 512 after.octets n
 Hears old before (Ok LongLine) new after =
-    (gained line : List ℕ) × Took old new gained × Takes before (ended line) after gained × IsLine line × (510 < length line)
+    (gained line : List ℕ) × Took old new gained × Queues before (ended line) after gained × IsLine line × (510 < length line)
 Hears old before (Ok End) new after =
-    (gained rest : List ℕ) × Took old new gained × Takes before rest after gained × IsLine (rest ++ after.octets)
+    (gained rest : List ℕ) × Took old new gained × Queues before rest after gained × IsLine (rest ++ after.octets)
     × ((new.ended ≡ true) ⊎ (after.left ≡ 0))
 Hears old before (Err fault) new after =
-    (fault ≡ ReadFailed) × ((gained dropped : List ℕ) × Took old new gained × Takes before dropped after gained)
+    (fault ≡ ReadFailed) × ((gained dropped : List ℕ) × Took old new gained × Queues before dropped after gained)
 
 -- nothing more came because nothing comes any more, or because no more may be taken
 abbrev pub TakesMore : Result Bool ServerFault → ℕ → Link → Type 0
@@ -64,14 +64,14 @@ PartSent {D} sound mail old lines sent last =
     × (answer ≡ front ++ rest) × (sent ≡ whole ++ front))
 
 -- what went out for these lines, and which server is left, where this rest was got behind them
-abbrev pub Sent : {D : Type 0} → (D → Type 0) → (D → Mail) → Machine D → List (List ℕ) → List ℕ → List ℕ → Result (Unit {0}) ServerFault → Machine D → Type 0
+abbrev pub WentOut : {D : Type 0} → (D → Type 0) → (D → Mail) → Machine D → List (List ℕ) → List ℕ → List ℕ → Result (Unit {0}) ServerFault → Machine D → Type 0
 -- all was answered while the server was open
-Sent sound mail old lines rest sent (Ok done) new =
+WentOut sound mail old lines rest sent (Ok done) new =
     AllSent sound mail old lines sent new × ((is_open new.state ≡ false) ⊎ IsLine rest)
-Sent sound mail old lines rest sent (Err ReadFailed) new = AllSent sound mail old lines sent new
-Sent sound mail old lines rest sent (Err WriteFailed) new = PartSent sound mail old lines sent new
+WentOut sound mail old lines rest sent (Err ReadFailed) new = AllSent sound mail old lines sent new
+WentOut sound mail old lines rest sent (Err WriteFailed) new = PartSent sound mail old lines sent new
 -- memory was wanting for the greeting, or for one more answer
-Sent {D} sound mail old lines rest sent (Err NoMemory) new =
+WentOut {D} sound mail old lines rest sent (Err NoMemory) new =
     ((sent ≡ []) × (lines ≡ []) × (new ≡ old))
     ⊎ ((last : Machine D) × AllSent sound mail old lines sent last × SameServer sound mail last new)
 
@@ -86,7 +86,7 @@ pub record Served {D : Type 0} (sound : D → Type 0) (mail : D → Mail) (old :
   pub heard : gained ≡ flat_map ended lines ++ rest
   pub out : List ℕ
   pub sent : after.sent ≡ before.sent ++ out
-  pub answered : Sent sound mail old lines rest out result new
+  pub answered : WentOut sound mail old lines rest out result new
   -- Ok only where the server is closed, nothing comes any more, or the bound is reached
   pub ends : result ≡ Ok tt → (is_open new.state ≡ false) ⊎ ((after.ended ≡ true) ⊎ (length gained ≡ 16777216))
 

@@ -24,6 +24,6 @@ ends_open (byte ∷ []) = not (byte == 10)
 ends_open (byte ∷ other ∷ rest) = ends_open (other ∷ rest)
 
 -- these bytes were counted: what they add, and whether their last line has no end yet
-pub record Counts (count : SizeCount) (bytes : List ℕ) : Type 0 where
+pub record CountsText (count : SizeCount) (bytes : List ℕ) : Type 0 where
   pub octets : count.octets ≡ capped (sum_by weight bytes)
   pub in_line : count.in_line ≡ ends_open bytes

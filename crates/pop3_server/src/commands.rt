@@ -73,10 +73,9 @@ fn top<D: Maildrop>(
     ensures tied { Tied (D.sound drop.new) (D.mail drop.new) (Transaction rows.now) }
     ensures err { IfErr result (λ e. (e ≡ ServerFault.NoMemory) × Unanswered D.sound D.mail drop.old drop.new) }
 {
-    if rows.place(number).is_none() {
+    let Some(i) = rows.place(number) else {
         return Ok(say(alloc, b"-ERR no such message")?);
-    }
-    let i = number as usize - 1;
+    };
     let unavailable = say(alloc, b"-ERR message unavailable")?;
     match drop.text(i) {
         Ok(text) => say_top(alloc, count, text.as_slice()),

@@ -1,7 +1,7 @@
 //! Maildrops: messages that a server lists, gives and removes (RFC 1939, section 4).
 ghost use Rattle.std.specs.Prelude.{◌≡◌, ℕ, ◌≤◌, IsTrue, IfOk, IfErr, map, vec_len};
 ghost use Rattle.pop3_wire.specs.Fields.{is_legal_id};
-ghost use Rattle.pop3_server.specs.Maildrop.{Mail, Listed, counted, AreDistinct, HasPlace, Lists, Gives, Removes, Tallies};
+ghost use Rattle.pop3_server.specs.Maildrop.{Mail, Listed, counted, AreDistinct, HasPlace, ListsMessages, Gives, Removes, Tallies};
 
 use pop3_wire::Bytes;
 use std::alloc::{AllocError, AllocFailed};
@@ -110,7 +110,7 @@ pub trait Maildrop {
         ensures distinct { sound self.new → IfOk result (λ entries. AreDistinct (map (λ (e : Listed). e.uid) entries.items)) }
         ensures tally { Tallies (mail self.old) result (mail self.new) }
         ensures removes_none { (mail self.new).removals ≡ (mail self.old).removals }
-        ensures lists { sound self.new → sound self.old × Lists (mail self.old) result (mail self.new) };
+        ensures lists { sound self.new → sound self.old × ListsMessages (mail self.old) result (mail self.new) };
 
     /// The text of the message at a place, its lines ended by LF.
     fn text(&mut self, i: usize) -> Result<Vec<u8>, DropFault>

@@ -4,7 +4,7 @@ ghost use Rattle.std.specs.List.{Contains};
 ghost use Rattle.pop3_wire.specs.Fields.{is_legal_id};
 ghost use Rattle.pop3_wire.specs.World.{Message};
 ghost use Rattle.pop3_server.specs.Size.{size_of};
-ghost use Rattle.pop3_server.specs.Maildrop.{Mail, Listed, counted, there, ids, entry_of, AreDistinct, HasPlace, Lists, Gives, Removes, Tallies};
+ghost use Rattle.pop3_server.specs.Maildrop.{Mail, Listed, counted, there, ids, entry_of, AreDistinct, HasPlace, ListsMessages, Gives, Removes, Tallies};
 
 use crate::maildrop::{DropFault, Entry, MAX_COUNT, MAX_SIZE, Maildrop};
 use crate::size::size_of;

@@ -1,7 +1,7 @@
 //! Sizes of texts, in octets as they go over the wire without stuffing: each line's end counts as
 //! two, and a last piece without LF is a line (RFC 1939, section 11).
 ghost use Rattle.std.specs.Prelude.{◌≡◌, ◌++◌, ℕ, List, [], Bool, true, false, ◌+◌, if◌then◌else◌};
-ghost use Rattle.pop3_server.specs.Size.{Counts, weight, size_of, capped};
+ghost use Rattle.pop3_server.specs.Size.{CountsText, weight, size_of, capped};
 
 /// A count of a text that is read piece by piece.
 #[derive(Clone, Copy)]
@@ -20,7 +20,7 @@ fn weight_of(byte: u8) -> u64
 impl SizeCount {
     /// The count of the empty text.
     pub fn new() -> SizeCount
-        ensures { Counts result [] }
+        ensures { CountsText result [] }
     {
         SizeCount {
             octets: 0,
@@ -30,7 +30,7 @@ impl SizeCount {
 
     /// Counts one more piece.
     pub fn add(&mut self, piece: &[u8])
-        ensures { (before : List ℕ) → Counts self.old before → Counts self.new (before ++ piece.now) }
+        ensures { (before : List ℕ) → CountsText self.old before → CountsText self.new (before ++ piece.now) }
     {
         for byte in piece {
             self.octets = self.octets.saturating_add(weight_of(*byte));
@@ -40,7 +40,7 @@ impl SizeCount {
 
     /// The size of what was counted.
     pub fn size(&self) -> u64
-        ensures { (text : List ℕ) → Counts self.now text → result ≡ capped (size_of text) }
+        ensures { (text : List ℕ) → CountsText self.now text → result ≡ capped (size_of text) }
     {
         if self.in_line {
             self.octets.saturating_add(2)

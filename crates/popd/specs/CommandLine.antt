@@ -37,7 +37,7 @@ abbrev pub positionals : List Row → List (List ℕ)
 positionals rows = unwrap_or (all_of (codes "rest") rows) []
 
 -- the matches ask for this
-pub record Asks (rows : List Row) (words : Words) : Type 0 where
+pub record AsksFor (rows : List Row) (words : Words) : Type 0 where
   pub listen : option_map string_bytes words.listen ≡ first_of (codes "listen") rows
   pub connections : Numbers (one_of (codes "connections") rows) words.connections
   pub rehearse : words.rehearse ≡ nat_lt 0 (count_of (codes "rehearse") rows)

@@ -2,7 +2,7 @@
 ghost use Rattle.std.specs.Prelude.{◌≡◌, IfOk, false, map, option_map};
 ghost use Rattle.std.specs.String.{string_bytes};
 ghost use Rattle.clap.specs.Words.{FailsBy, app_of, fault_of, found_of, matches_of, rows_of, rule_of};
-ghost use Rattle.popd.specs.CommandLine.{Asks, connections_rule, listen_rule, popd, positionals, rehearse_rule, rest_rule};
+ghost use Rattle.popd.specs.CommandLine.{AsksFor, connections_rule, listen_rule, popd, positionals, rehearse_rule, rest_rule};
 
 use clap::error::ErrorKind;
 use clap::{Arg, ArgAction, ArgMatches, Command, Error, value_parser};
@@ -109,7 +109,7 @@ fn positionals(alloc: Global, matches: &ArgMatches<'_>) -> Result<Vec<String>, A
 
 /// What clap's matches ask for.
 fn words_of(alloc: Global, matches: &ArgMatches<'_>) -> Result<Words, AllocError>
-    ensures { IfOk result (Asks (rows_of (found_of matches.now))) }
+    ensures { IfOk result (AsksFor (rows_of (found_of matches.now))) }
 {
     Ok(Words {
         listen: copy(alloc, matches.get_str("listen"))?,
@@ -123,7 +123,7 @@ fn words_of(alloc: Global, matches: &ArgMatches<'_>) -> Result<Words, AllocError
 /// mistake, or is of the kind OutOfMemory.
 pub fn read_words(alloc: Global, words: &[String]) -> Result<Words, Error>
     ensures faults { FailsBy (fault_of popd (map string_bytes words.now)) result }
-    ensures asks { IfOk result (Asks (matches_of popd (map string_bytes words.now))) }
+    ensures asks { IfOk result (AsksFor (matches_of popd (map string_bytes words.now))) }
 {
     let matches = command(alloc)?.try_get_matches_from(words)?;
     Ok(words_of(alloc, &matches)?)

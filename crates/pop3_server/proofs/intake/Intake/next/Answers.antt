@@ -1,6 +1,6 @@
 use Rattle.std.proofs.Common.{◌<◌, ◌++◌, [], length, sym, ap, subst, Ok}
 use Rattle.pop3_server.specs.Got.{Waiting}
-use Rattle.pop3_server.specs.Serving.{Takes}
+use Rattle.pop3_server.specs.Serving.{Queues}
 use Rattle.pop3_server.proofs.ServeIntakeLemmas.{took_on, takes_piece, still_none, still_short, all_waits}
 use Rattle.pop3_server.proofs.intake.Intake.next.Goals as goal
 
@@ -14,7 +14,7 @@ returns-then-not-came-clause-hears g c = λ s.
     let none = still_none c.line_end.new.self c.more.new.self takes.0 takes.2 nothing c.in_default.ensures.none in
     let line = all_waits c.more.new.self.octets none (still_short c.line_end.new.self c.more.new.self takes.0 takes.2 nothing short) in
     let why = rw c.if-not-came.true at more.3 in
-    let taken = subst (λ (w : Waiting). Takes c.args.self.now [] w inv.2.0) (sym c.line_end.ensures.same) inv.2.2 in (
+    let taken = subst (λ (w : Waiting). Queues c.args.self.now [] w inv.2.0) (sym c.line_end.ensures.same) inv.2.2 in (
       inv.0,
       g.met.W.Wire.leads_on _ _ _ inv.1 more.1,
       (
