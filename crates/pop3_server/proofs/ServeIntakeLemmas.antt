@@ -1,15 +1,12 @@
 -- Octets that are dropped in pieces and make one line.
-use Rattle.std.proofs.Common.{◌≡◌, ◌<◌, ◌≤◌, ◌+◌, ◌*◌, ℕ, zero, suc, List, [], ◌∷◌, ◌++◌, length, take, drop, refl, sym, ap, subst, ◌∙◌, arith, append_assoc, length-append, length-take-le, take-append-drop, Result, Ok, Err}
+use Rattle.std.proofs.Common.{◌≡◌, ◌<◌, ◌≤◌, ◌+◌, ◌*◌, ℕ, zero, suc, List, [], ◌∷◌, ◌++◌, length, take, drop, refl, sym, ap, subst, ◌∙◌, arith, append_assoc, length-append, length-take-le, take-append-drop}
 use Rattle.std.proofs.lemmas.List.{take_all, append-nil, length-drop}
 use Rattle.pop3_wire.specs.Line.{crlf, IsLine, ended}
 use Rattle.pop3_wire.specs.Link.{Link}
 use Rattle.pop3_wire.specs.Place.{HasLine, HasNoLine}
 use Rattle.pop3_wire.proofs.LineLemmas.{IsLine-front, IsLine-back}
-use Rattle.pop3_server.specs.declared.fault.ServerFault.{ServerFault}
-use Rattle.pop3_server.specs.declared.intake.Heard.{Heard}
-use Rattle.pop3_server.specs.declared.intake.Heard.TheVariants.{Line, LongLine, End}
 use Rattle.pop3_server.specs.Got.{Waiting}
-use Rattle.pop3_server.specs.Serving.{Took, Queues, Hears}
+use Rattle.pop3_server.specs.Serving.{Took, Queues}
 
 -- two pieces that share an octet are a line if both are
 no_split : (part back : List ℕ) (b : ℕ) → IsLine (part ++ b ∷ []) → IsLine (b ∷ back) → (front rest : List ℕ) → part ++ b ∷ back ≡ front ++ (crlf ++ rest) → ⊥

@@ -208,7 +208,11 @@ fn rset(alloc: Global, rows: &mut Rows) -> Result<Vec<u8>, ServerFault>
 }
 
 /// QUIT: removes the marked messages. Both replies are made before one is removed.
-fn quit<D: Maildrop>(alloc: Global, drop: &mut D, rows: &[MessageRow]) -> Result<Vec<u8>, ServerFault>
+fn quit<D: Maildrop>(
+    alloc: Global,
+    drop: &mut D,
+    rows: &[MessageRow],
+) -> Result<Vec<u8>, ServerFault>
     requires { Tied (D.sound drop.old) (D.mail drop.old) (Transaction rows.now) }
     ensures ok { IfOk result (λ reply. Answers D.sound D.mail (Leave rows.now) drop.old reply.items Closed drop.new) }
     ensures err { IfErr result (λ e. (e ≡ ServerFault.NoMemory) × (drop.new ≡ drop.old)) }

@@ -12,10 +12,10 @@ mod maildir_names;
 mod maildrop;
 mod memory_drop;
 mod reply;
+mod rows;
 mod server;
 mod serving;
 mod size;
-mod rows;
 mod state;
 
 pub use fault::ServerFault;

@@ -61,7 +61,12 @@ pub fn say_uid(alloc: Global, number: u32, row: &MessageRow) -> Result<Vec<u8>, 
 }
 
 /// Puts a message's line of LIST behind what stands there.
-fn put_size(reply: &mut Vec<u8>, alloc: Global, number: usize, row: &MessageRow) -> Result<(), ServerFault>
+fn put_size(
+    reply: &mut Vec<u8>,
+    alloc: Global,
+    number: usize,
+    row: &MessageRow,
+) -> Result<(), ServerFault>
     ensures ok { IfOk result (λ _. reply.new.items ≡ reply.old.items ++ said (scan_line number row.now)) }
     ensures err { IfErr result (λ e. e ≡ ServerFault.NoMemory) }
 {
@@ -72,7 +77,12 @@ fn put_size(reply: &mut Vec<u8>, alloc: Global, number: usize, row: &MessageRow)
 }
 
 /// Puts a message's line of UIDL behind what stands there.
-fn put_uid(reply: &mut Vec<u8>, alloc: Global, number: usize, row: &MessageRow) -> Result<(), ServerFault>
+fn put_uid(
+    reply: &mut Vec<u8>,
+    alloc: Global,
+    number: usize,
+    row: &MessageRow,
+) -> Result<(), ServerFault>
     ensures ok { IfOk result (λ _. reply.new.items ≡ reply.old.items ++ said (uid_line number row.now)) }
     ensures err { IfErr result (λ e. e ≡ ServerFault.NoMemory) }
 {

@@ -4,10 +4,10 @@ ghost use Rattle.pop3_wire.specs.CommandLine.{command_of};
 ghost use Rattle.pop3_server.specs.declared.state.State.TheVariants.{Authorization};
 ghost use Rattle.pop3_server.specs.ServerMachine.{Answers, Unanswered, deed, greeting, is_open, next_of};
 
+use crate::commands::{Step, authorize, transact};
 use crate::fault::ServerFault;
 use crate::maildrop::Maildrop;
 use crate::reply::say;
-use crate::commands::{Step, authorize, transact};
 use crate::state::State;
 use pop3_wire::{Command, WireFault, read_command};
 use std::alloc::Global;
