@@ -1,5 +1,5 @@
 -- What the calls that a fuse refuses leave behind it.
-use Rattle.std.proofs.Common.{◌≡◌, ℕ, ◌+◌, List, ◌++◌, Option, Result, Ok, Err, ◌∙◌, ap, append_assoc}
+use Rattle.std.proofs.Common.{◌≡◌, ℕ, ◌+◌, List, ◌++◌, Option, Result, Ok, Err, ◌∙◌, ap, subst, sym, append_assoc}
 use Rattle.mail_store.specs.declared.fault.StoreFault.{StoreFault}
 use Rattle.mail_store.specs.declared.fault.StoreFault.TheVariants.{Refused}
 use Rattle.mail_store.specs.Maildir.{Maildir, File, Adds}
@@ -20,9 +20,11 @@ front_appended old new bytes part rest n (Err fault) e a = λ was h.
     )
 
 -- nothing was added: the file begun has the bytes that it had
-pub nothing_added : (m : Maildir) (bytes : List ℕ) (n : ℕ)
-    → Adds {T = Unit {0}} (record m { failures = n }) bytes (Err Refused) (record m { failures = n + 1 })
-nothing_added m bytes n = λ f h. (
-  f.content,
-  ap (λ (b : Option File). record { there = m.there; in_new = m.in_new; in_cur = m.in_cur; begun = b; failures = n + 1 }) h,
-)
+pub nothing_added : {T : Type 0} (m : Maildir) (bytes : List ℕ) (n : ℕ) (answer : Result T StoreFault) (fault : StoreFault) → answer ≡ Err fault
+    → Adds (record m { failures = n }) bytes answer (record m { failures = n + 1 })
+nothing_added {T} m bytes n answer fault e =
+    subst (λ (r : Result T StoreFault). Adds (record m { failures = n }) bytes r (record m { failures = n + 1 })) (sym e)
+    (λ f h. (
+      f.content,
+      ap (λ (b : Option File). record { there = m.there; in_new = m.in_new; in_cur = m.in_cur; begun = b; failures = n + 1 }) h,
+    ))

@@ -1,17 +1,19 @@
 -- What a set of bases says of the files whose names it came from.
 use Rattle.std.proofs.Common.{◌≡◌, ℕ, ◌+◌, ◌<◌, Bool, true, false, cond, List, [], ◌∷◌, ◌++◌, length, take, get_or, map, refl, sym, ap, ◌∙◌, arith, inl, inr, String, string_bytes}
-use Rattle.std.specs.Prelude.{◌||◌, bytes_eq, IsPermutation, HoldsAt}
+use Rattle.std.specs.Prelude.{◌||◌, ◌&&◌, bytes_eq, IsPermutation, HoldsAt}
 use Rattle.std.specs.List.{list_any}
 use Rattle.std.proofs.lemmas.Bool.{cases_Bool, false_from_ne_true, true≢false}
 use Rattle.std.proofs.lemmas.List.{take_more, map-append, length-map, get_or-map}
 use Rattle.std.proofs.lemmas.List.Folds.{list_any-append, list_any_at}
 use Rattle.std.proofs.lemmas.List.Sorted.{list_any-IsPermutation}
 use Rattle.std.proofs.lemmas.Slice.Eq.{bytes_eq-Decides}
-use Rattle.fetch_rules.specs.Listing.{Item}
-use Rattle.mail_store.specs.Maildir.{Maildir, File, file, name_in, names_of, IsInNew}
-use Rattle.mail_store.specs.FileName.{base, name_of, names_id, is_held, IsAccountText}
-use Rattle.mail_store.proofs.NameLemmas.{base-name_of}
-use Rattle.mail_store.specs.Held.{flags_of}
+use Rattle.mail_terms.specs.Listing.{Item, has_item}
+use Rattle.mail_terms.specs.UniqueId.{IsLegalId}
+use Rattle.mail_store.specs.Maildir.{Maildir, File, file, name_in, names_of, IsInNew, with_file}
+use Rattle.mail_terms.specs.MaildirName.{base}
+use Rattle.mail_store.specs.FileName.{name_of, names_id, is_held, IsAccountText}
+use Rattle.mail_store.proofs.NameLemmas.{HaveRanges, base-name_of, name_of-injective}
+use Rattle.mail_store.specs.Held.{flags_of, has_flagged}
 
 -- ---- one more name
 
@@ -108,3 +110,70 @@ held_where_in_new account uid maildir a c =
     ap (names_id account uid) named ∙ (bytes_eq-Decides q (base q)).1 (sym (base-name_of account uid a)) in
     list_any-append test maildir.in_new maildir.in_cur
     ∙ ap (λ b. b || list_any test maildir.in_cur) (list_any_at test maildir.in_new c.0 nothing inside found)
+
+-- ---- one more file
+
+name_eq : HaveRanges → (account a b : List ℕ) → IsLegalId a → IsLegalId b → bytes_eq (name_of account b) (name_of account a) ≡ bytes_eq b a
+name_eq ranges account a b la lb =
+    elim (cases_Bool (bytes_eq b a)) [
+      | inl same ↦ (bytes_eq-Decides (name_of account b) (name_of account a)).1 (ap (name_of account) ((bytes_eq-Decides b a).0 same)) ∙ sym same
+      | inr apart ↦
+          false_from_ne_true (bytes_eq (name_of account b) (name_of account a))
+          (λ same. true≢false (sym ((bytes_eq-Decides b a).1 (name_of-injective ranges account b a lb la ((bytes_eq-Decides (name_of account b) (name_of account a)).0 same))) ∙ apart))
+          ∙ sym apart
+    ]
+
+or_shuffle : (n e c : Bool) → ((n || (e || false)) || c) ≡ ((n || c) || e)
+or_shuffle true true true = refl
+or_shuffle true true false = refl
+or_shuffle true false true = refl
+or_shuffle true false false = refl
+or_shuffle false true true = refl
+or_shuffle false true false = refl
+or_shuffle false false true = refl
+or_shuffle false false false = refl
+
+-- a file that came into `new` under an id's name makes that id held, and no other
+pub held_with_file : HaveRanges → (account a b content : List ℕ) (maildir : Maildir) → IsAccountText account → IsLegalId a → IsLegalId b
+    → is_held account (with_file maildir (file (name_of account a) content)) b ≡ (is_held account maildir b || bytes_eq b a)
+held_with_file ranges account a b content maildir h la lb =
+    let test : File → Bool = λ (f : File). names_id account b f.name in
+    let f = file (name_of account a) content in
+    let N = maildir.in_new in
+    let C = maildir.in_cur in
+    let one : test f ≡ bytes_eq b a = ap (bytes_eq (name_of account b)) (base-name_of account a h) ∙ name_eq ranges account a b la lb in
+    list_any-append test (N ++ f ∷ []) C
+    ∙ ap (λ k. k || list_any test C) (list_any-append test N (f ∷ []))
+    ∙ ap (λ e. (list_any test N || (e || false)) || list_any test C) one
+    ∙ or_shuffle (list_any test N) (bytes_eq b a) (list_any test C)
+    ∙ ap (λ k. k || bytes_eq b a) (sym (list_any-append test N C))
+
+-- ---- flags of a listing
+
+and_swap : (a b : Bool) → (a && b) ≡ (b && a)
+and_swap true true = refl
+and_swap true false = refl
+and_swap false true = refl
+and_swap false false = refl
+
+-- the item of an id, in front of items of which it is known whether they have the id
+and_more : (flag same among held : Bool) → (same ≡ true → flag ≡ held) → ((same && flag) || (among && held)) ≡ ((same || among) && held)
+and_more true true among true agree = refl
+and_more true true among false agree = absurd (true≢false (agree refl))
+and_more false true among true agree = absurd (true≢false (sym (agree refl)))
+and_more false true true false agree = refl
+and_more false true false false agree = refl
+and_more true false true held agree = refl
+and_more true false false held agree = refl
+and_more false false true held agree = refl
+and_more false false false held agree = refl
+
+pub flagged_where_held : (account : List ℕ) (maildir : Maildir) (items : List Item) (uid : List ℕ)
+    → has_flagged items (flags_of account maildir items) uid ≡ (has_item items uid && is_held account maildir uid)
+flagged_where_held account maildir [] uid = refl
+flagged_where_held account maildir (item ∷ items) uid =
+    ap (λ b. (is_held account maildir item.uid && bytes_eq item.uid uid) || b) (flagged_where_held account maildir items uid)
+    ∙ ap (λ b. b || (has_item items uid && is_held account maildir uid))
+    (and_swap (is_held account maildir item.uid) (bytes_eq item.uid uid) ∙ ap (λ b. b && is_held account maildir item.uid) (bytes_eq-sym item.uid uid))
+    ∙ and_more (is_held account maildir item.uid) (bytes_eq uid item.uid) (has_item items uid) (is_held account maildir uid)
+    (λ same. ap (is_held account maildir) (sym ((bytes_eq-Decides uid item.uid).0 same)))

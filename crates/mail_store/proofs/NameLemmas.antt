@@ -1,8 +1,8 @@
 -- Names of files: they hold no colon, and different ids have different names.
-use Rattle.std.proofs.Common.{◌≡◌, ℕ, suc, ◌/◌, ◌%◌, ◌<◌, ◌≤◌, true, false, List, [], ◌∷◌, ◌++◌, length, take, get_or, slice_index, refl, sym, ap, ◌∙◌, arith, Ok, Err, Result, inl, inr}
-use Rattle.std.specs.Prelude.{All, MatchResult, IsOk, IfOk, IfNone, MatchOption, Option, Some, None, Vec, ◌≢◌}
+use Rattle.std.proofs.Common.{◌≡◌, ℕ, suc, ◌/◌, ◌%◌, ◌<◌, ◌≤◌, ◌+◌, Bool, true, false, cond, List, [], ◌∷◌, ◌++◌, length, take, get_or, slice_index, refl, sym, ap, ◌∙◌, arith, Ok, Err, Result, inl, inr}
+use Rattle.std.specs.Prelude.{All, MatchResult, IsOk, IfOk, IfNone, MatchOption, Option, Some, None, Vec, ◌≢◌, not}
 use Rattle.std.specs.Borrow.{Bor}
-use Rattle.std.specs.List.{AllPass}
+use Rattle.std.specs.List.{AllPass, position_or_len}
 use Rattle.std.specs.Str.{IsAscii}
 use Rattle.std.proofs.lemmas.Bool.{cases_lt}
 use Rattle.std.proofs.lemmas.List.{append_cancel_left, take_all, get_or_past, length-append, append_assoc}
@@ -11,8 +11,9 @@ use Rattle.std.proofs.lemmas.List.Sums.{AllPass-from_list_all, position_or_len_i
 use Rattle.hex.specs.Hex.{encode_lower, encode_with, lower_digits, IsBytes, decode_of}
 use Rattle.hex.specs.declared.error.FromHexError.{FromHexError}
 use Rattle.hex.proofs.HexLemmas.{decode_of-encode_lower, length-encode_with}
-use Rattle.fetch_rules.specs.LegalId.{IsLegalId}
-use Rattle.mail_store.specs.FileName.{base, is_colon, is_lower_hex_digit, name_of, IsAccountText}
+use Rattle.mail_terms.specs.UniqueId.{IsLegalId, HasIdRanges}
+use Rattle.mail_terms.specs.MaildirName.{base, is_colon}
+use Rattle.mail_store.specs.FileName.{is_lower_hex_digit, name_of, IsAccountText}
 
 -- ---- digits
 
@@ -75,13 +76,33 @@ base-name_of account uid h =
     (λ k d lt. digit_is_no_colon (get_or account k d) (h.1 k d lt))
     (All-cons (λ x. is_colon x ≡ false) 46 (encode_lower uid) refl (digits_have_no_colon uid)))
 
+-- a colon in front leaves nothing, another byte stays
+base-cons : (x : ℕ) (xs : List ℕ) → base (x ∷ xs) ≡ cond (is_colon x) [] (x ∷ base xs)
+base-cons x xs = cut (is_colon x) (position_or_len is_colon xs)
+  where
+    cut : (colon : Bool) (n : ℕ) → take (cond (not colon) (1 + n) 0) (x ∷ xs) ≡ cond colon [] (x ∷ take n xs)
+    cut true n = refl
+    cut false n =
+        let more : 1 + n ≡ suc n = omega arith in
+        ap (λ (k : ℕ). take k (x ∷ xs)) more
+
+-- marks behind a name, from a colon on, are cut off with it
+pub base-marked : (name marks : List ℕ) → base (name ++ 58 ∷ marks) ≡ base name
+base-marked [] marks = refl
+base-marked (x ∷ xs) marks =
+    base-cons x (xs ++ 58 ∷ marks) ∙ ap (λ (ys : List ℕ). cond (is_colon x) [] (x ∷ ys)) (base-marked xs marks) ∙ sym (base-cons x xs)
+
 -- ---- different names
 
+-- what the law of legal ids says
+abbrev pub HaveRanges : Type 0
+HaveRanges = (id : List ℕ) → IsLegalId id → HasIdRanges id
+
 -- a legal id is made of bytes
-pub IsBytes-legal : (uid : List ℕ) → IsLegalId uid → IsBytes uid
-IsBytes-legal uid legal k =
+pub IsBytes-legal : HaveRanges → (uid : List ℕ) → IsLegalId uid → IsBytes uid
+IsBytes-legal ranges uid legal k =
     elim (cases_lt k (length uid)) [
-      | inl inside ↦ let range = legal.2 k 0 inside in omega (arith, range.1)
+      | inl inside ↦ let range = (ranges uid legal).characters k 0 inside in omega (arith, range.1)
       | inr past ↦ let e = get_or_past uid k 0 past in omega (arith, e)
     ]
 
@@ -93,12 +114,12 @@ abbrev tail_of : List ℕ → List ℕ
 tail_of [] = []
 tail_of (x ∷ xs) = xs
 
-pub name_of-injective : (account a b : List ℕ) → IsLegalId a → IsLegalId b → name_of account a ≡ name_of account b → a ≡ b
+pub name_of-injective : HaveRanges → (account a b : List ℕ) → IsLegalId a → IsLegalId b → name_of account a ≡ name_of account b → a ≡ b
 unfolding bytes_or
-name_of-injective account a b la lb same =
+name_of-injective ranges account a b la lb same =
     let digits : 46 ∷ encode_lower a ≡ 46 ∷ encode_lower b = append_cancel_left account (46 ∷ encode_lower a) (46 ∷ encode_lower b) same in
     let texts : encode_lower a ≡ encode_lower b = ap tail_of digits in
-    ap (bytes_or []) (sym (decode_of-encode_lower a (IsBytes-legal a la)) ∙ ap decode_of texts ∙ decode_of-encode_lower b (IsBytes-legal b lb))
+    ap (bytes_or []) (sym (decode_of-encode_lower a (IsBytes-legal ranges a la)) ∙ ap decode_of texts ∙ decode_of-encode_lower b (IsBytes-legal ranges b lb))
 
 -- ---- account texts
 
@@ -120,24 +141,24 @@ IsOk-from_cases (Err e) P Q R h q = absurd (h.0 q)
 
 -- ---- lengths
 
-pub length-name_of : (account uid : List ℕ) → IsAccountText account → IsLegalId uid → length (name_of account uid) ≤ 205
-length-name_of account uid a legal =
-    omega (arith, length-append account (46 ∷ encode_lower uid), length-encode_with lower_digits uid, a.0, legal.1)
+pub length-name_of : HaveRanges → (account uid : List ℕ) → IsAccountText account → IsLegalId uid → length (name_of account uid) ≤ 205
+length-name_of ranges account uid a legal =
+    omega (arith, length-append account (46 ∷ encode_lower uid), length-encode_with lower_digits uid, a.0, (ranges uid legal).short)
 
 -- ---- reading names back
 
 -- the text of a legal id reads as that id
-pub decode_of-legal : (uid digits : List ℕ) → IsLegalId uid → encode_lower uid ≡ digits → decode_of digits ≡ Ok uid
-decode_of-legal uid digits legal same = ap decode_of (sym same) ∙ decode_of-encode_lower uid (IsBytes-legal uid legal)
+pub decode_of-legal : HaveRanges → (uid digits : List ℕ) → IsLegalId uid → encode_lower uid ≡ digits → decode_of digits ≡ Ok uid
+decode_of-legal ranges uid digits legal same = ap decode_of (sym same) ∙ decode_of-encode_lower uid (IsBytes-legal ranges uid legal)
 
 -- a text that reads as some bytes is the text of no other legal id
-pub one_reading : (bytes uid digits : List ℕ) → decode_of digits ≡ Ok bytes → IsLegalId uid → encode_lower uid ≡ digits → uid ≡ bytes
+pub one_reading : HaveRanges → (bytes uid digits : List ℕ) → decode_of digits ≡ Ok bytes → IsLegalId uid → encode_lower uid ≡ digits → uid ≡ bytes
 unfolding bytes_or
-one_reading bytes uid digits read legal same = ap (bytes_or []) (sym (decode_of-legal uid digits legal same) ∙ read)
+one_reading ranges bytes uid digits read legal same = ap (bytes_or []) (sym (decode_of-legal ranges uid digits legal same) ∙ read)
 
 -- a text that doesn't read as bytes is the text of no legal id
-pub no_reading : (e : FromHexError) (uid digits : List ℕ) → decode_of digits ≡ Err e → IsLegalId uid → encode_lower uid ≡ digits → ⊥
-no_reading e uid digits read legal same = ok_is_no_err uid e (sym (decode_of-legal uid digits legal same) ∙ read)
+pub no_reading : HaveRanges → (e : FromHexError) (uid digits : List ℕ) → decode_of digits ≡ Err e → IsLegalId uid → encode_lower uid ≡ digits → ⊥
+no_reading ranges e uid digits read legal same = ok_is_no_err uid e (sym (decode_of-legal ranges uid digits legal same) ∙ read)
   where
     ok_is_no_err : (bytes : List ℕ) (e : FromHexError) → Ok bytes ≡ Err e → ⊥
     ok_is_no_err bytes e h = cc

@@ -1,8 +1,9 @@
 -- The names of an account's files in a Maildir, and which ids they hold.
-use Rattle.std.specs.Prelude.{◌≡◌, ℕ, List, [], ◌∷◌, ◌++◌, length, Bool, ◌==◌, nat_le, ◌&&◌, ◌||◌, bytes_eq, decimal}
-use Rattle.std.specs.List.{AllPass, before_first, list_any}
+use Rattle.std.specs.Prelude.{◌≡◌, ℕ, List, [], ◌∷◌, ◌++◌, length, Bool, nat_le, ◌&&◌, ◌||◌, bytes_eq, decimal}
+use Rattle.std.specs.List.{AllPass, list_any}
 use Rattle.hex.specs.Hex.{encode_lower}
 use Rattle.sha2.specs.Sha256.{sha256}
+use Rattle.mail_terms.specs.MaildirName.{base}
 use Rattle.mail_store.specs.Maildir.{Maildir, File}
 
 -- the text by which accounts are told apart: the digest of server, NUL, port, NUL, user name in
@@ -23,14 +24,6 @@ IsAccountText text = (length text ≡ 64) × AllPass is_lower_hex_digit text
 -- hexadecimal
 abbrev pub name_of : List ℕ → List ℕ → List ℕ
 name_of account uid = account ++ 46 ∷ encode_lower uid
-
--- whether a byte is a colon
-abbrev pub is_colon : ℕ → Bool
-is_colon byte = byte == 58
-
--- what stands before the first colon of a name: readers of a Maildir put their marks behind it
-abbrev pub base : List ℕ → List ℕ
-base name = before_first is_colon name
 
 -- whether the name's base is the name of the id's file
 abbrev pub names_id : List ℕ → List ℕ → List ℕ → Bool

@@ -3,7 +3,8 @@ use Rattle.std.specs.Prelude.{◌≡◌, ℕ, ◌-◌, ◌/◌, ◌<◌, ◌==�
 use Rattle.mail_store.specs.declared.fault.StoreFault.{StoreFault}
 use Rattle.mail_store.specs.declared.fault.StoreFault.TheVariants.{Refused}
 use Rattle.mail_store.specs.declared.fused.Fused.{Fused}
-use Rattle.mail_store.specs.Refusals.{Tallies, greatest_count}
+use Rattle.mail_terms.specs.FailureCount.{Tallies, refuses, greatest_count}
+use Rattle.mail_store.specs.Fault.{is_refusal}
 use Rattle.mail_store.specs.Maildir.{Maildir, Settles, dropped}
 use Rattle.mail_store.specs.FlatFile.{Stored, Appends, Replaces}
 
@@ -41,7 +42,7 @@ pub record Burns {D T : Type 0} (count : D → ℕ) (old : Fused D) (result : Re
   pub used : new.passes_left ≡ old.passes_left - 1
   pub blown : old.passes_left ≡ 0 → result ≡ Err Refused
   pub once : new.takes_effect ≡ (if old.passes_left == 0 then false else old.takes_effect)
-  pub passed : 0 < old.passes_left → Tallies (count old.device) result (count new.device)
+  pub passed : 0 < old.passes_left → Tallies (refuses is_refusal result) (count old.device) (count new.device)
 
 -- a `settle` that the fuse refuses: the device settled the file, or gave it up
 abbrev pub SettlesBehind : Bool → Maildir → Maildir → Type 0

@@ -1,6 +1,7 @@
 -- What `held` answers of a Maildir.
-use Rattle.std.specs.Prelude.{◌≡◌, ℕ, List, map, Bool, false, Result, Ok, Err, Vec, ◌⊎◌}
-use Rattle.fetch_rules.specs.Listing.{Item}
+use Rattle.std.specs.Prelude.{◌≡◌, ℕ, List, map, Bool, true, false, ◌&&◌, bytes_eq, zip, Result, Ok, Err, Vec, ◌⊎◌}
+use Rattle.std.specs.List.{list_any}
+use Rattle.mail_terms.specs.Listing.{Item, has_item}
 use Rattle.mail_store.specs.declared.fault.StoreFault.{StoreFault}
 use Rattle.mail_store.specs.declared.fault.StoreFault.TheVariants.{Missing, Refused, NotMbox, NoMemory}
 use Rattle.mail_store.specs.Maildir.{Maildir, counted}
@@ -10,10 +11,15 @@ use Rattle.mail_store.specs.FileName.{is_held}
 abbrev pub flags_of : List ℕ → Maildir → List Item → List Bool
 flags_of account maildir items = map (λ (item : Item). is_held account maildir item.uid) items
 
--- `held`: a flag for each item; `new` or `cur` isn't there; or a call was refused
+-- `held`: `new` and `cur` are there, and there is a flag for each item; `new` or `cur` isn't there; or a call was refused
 abbrev pub Finds : {B : Type 0} → List ℕ → Maildir → List Item → Result (Vec Bool B) StoreFault → Maildir → Type 0
-Finds account old items (Ok flags) new = (flags.items ≡ flags_of account old items) × (new ≡ old)
+Finds account old items (Ok flags) new =
+    (flags.items ≡ flags_of account old items) × (new ≡ old) × (old.there.new ≡ true) × (old.there.cur ≡ true)
 Finds account old items (Err Missing) new = ((old.there.new ≡ false) ⊎ (old.there.cur ≡ false)) × (new ≡ old)
 Finds account old items (Err Refused) new = new ≡ counted old
 Finds account old items (Err NotMbox) new = ⊥
 Finds account old items (Err NoMemory) new = new ≡ old
+
+-- whether some item of this id is flagged
+abbrev pub has_flagged : List Item → List Bool → List ℕ → Bool
+has_flagged items flags uid = list_any (λ flagged. flagged.1 && bytes_eq flagged.0.uid uid) (zip items flags)

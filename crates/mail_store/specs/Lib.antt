@@ -1,4 +1,4 @@
-pub mod Refusals
+pub mod Fault
 pub mod Maildir
 pub mod FlatFile
 pub mod Fuse

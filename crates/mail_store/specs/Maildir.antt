@@ -1,6 +1,7 @@
 -- What each call of a Maildir device does, for either outcome, as a relation between the Maildir
 -- before and after the call.
-use Rattle.std.specs.Prelude.{◌≡◌, ◌≢◌, ℕ, ◌+◌, List, [], ◌∷◌, ◌++◌, map, Bool, false, true, Option, Some, None, option_map, Result, Ok, Err, ◌⊎◌, Vec, String, string_bytes, IsPermutation, Contains, AllPairs}
+use Rattle.std.specs.Prelude.{◌≡◌, ℕ, ◌+◌, List, [], ◌∷◌, ◌++◌, map, Bool, false, true, Option, Some, None, option_map, Result, Ok, Err, ◌⊎◌, Vec, String, string_bytes, IsPermutation, Contains}
+use Rattle.mail_terms.specs.Distinct.{AreDistinct}
 use Rattle.mail_store.specs.declared.fault.StoreFault.{StoreFault}
 use Rattle.mail_store.specs.declared.fault.StoreFault.TheVariants.{Missing, Refused, NotMbox, NoMemory}
 use Rattle.mail_store.specs.declared.maildir.disk.Folder.{Folder}
@@ -43,7 +44,7 @@ file_of pair = file (string_bytes pair.0) pair.1.items
 
 -- no two files that a device in memory keeps have one name
 abbrev pub HaveDistinctNames : {A B : Type 0} → List (String A × Vec ℕ B) → Type 0
-HaveDistinctNames pairs = AllPairs (λ p q. string_bytes p.0 ≢ string_bytes q.0) pairs
+HaveDistinctNames pairs = AreDistinct (names_of (map file_of pairs))
 
 -- the files of a folder
 abbrev pub files_in : Maildir → Folder → List File
@@ -66,10 +67,6 @@ dropped old = record old { begun = None }
 -- the file stands in `new`, behind the others, and none is being written
 abbrev pub with_file : Maildir → File → Maildir
 with_file old f = record old { in_new = old.in_new ++ f ∷ []; begun = None }
-
--- no name stands twice
-abbrev pub AreDistinct : List (List ℕ) → Type 0
-AreDistinct names = AllPairs (λ a b. a ≢ b) names
 
 -- the name of the file that is being written, if there is one
 abbrev pub name_begun : Maildir → Option (List ℕ)

@@ -1,8 +1,12 @@
 //! A device that refuses every call after the first few.
 
+ghost use Rattle.mail_store.specs.Fault.{is_refusal};
+
 use crate::fault::StoreFault;
 use crate::file::flat_file::{Edges, FlatFile};
 use crate::maildir::disk::{Folder, MaildirDisk};
+use crate::refusal::{admit, refuse};
+use mail_terms::FailureCount;
 
 /// A device that passes its first calls on to another one and then refuses every call, so that each
 /// place where a device can fail can be tried. It counts the refusals of both.
@@ -11,12 +15,12 @@ pub struct Fused<D> {
     device: D,
     passes_left: u64,
     takes_effect: bool,
-    failures: u64,
+    failures: FailureCount,
 }
 
 impl<D> Fused<D> {
-    ghost use Rattle.std.specs.Prelude.{◌≡◌, ◌+◌, ◌<◌, false};
-    ghost use Rattle.mail_store.specs.Refusals.{Tallies, greatest_count};
+    ghost use Rattle.std.specs.Prelude.{◌≡◌, ◌+◌, ◌-◌, ◌<◌, false, IfErr, OnErr, OnOk};
+    ghost use Rattle.mail_terms.specs.FailureCount.{Tallies, refuses, greatest_count};
     ghost use Rattle.mail_store.specs.Fuse.{device_of, passes_left, effect_is_due, refusals};
 
     /// Passes `passes` calls that answer a `Result` on to the device, and refuses every later one.
@@ -33,7 +37,7 @@ impl<D> Fused<D> {
             device,
             passes_left: passes,
             takes_effect,
-            failures: 0,
+            failures: FailureCount::new(),
         }
     }
 
@@ -57,29 +61,41 @@ impl<D> Fused<D> {
         device
     }
 
+    // Uses up a pass, or refuses where none is left.
+    fn pass(&mut self) -> Result<(), StoreFault>
+        requires { self.old.failures < greatest_count }
+        ensures passed { OnOk result ((0 < self.old.passes_left)
+            × (self.new ≡ record self.old { passes_left = self.old.passes_left - 1 })) }
+        ensures fault { IfErr result (λ fault. fault ≡ StoreFault.Refused) }
+        ensures blown { OnErr result ((self.old.passes_left ≡ 0)
+            × (self.new ≡ record self.old { failures = self.old.failures + 1; takes_effect = false })) }
+    {
+        if self.passes_left == 0 {
+            return Err(self.blow());
+        }
+        self.passes_left -= 1;
+        Ok(())
+    }
+
     // Counts a refusal of the fuse's own, after which no other takes effect.
-    fn refuse(&mut self) -> StoreFault
+    fn blow(&mut self) -> StoreFault
         requires { self.old.failures < greatest_count }
         ensures fault { result ≡ StoreFault.Refused }
         ensures counted { self.new ≡ record self.old { failures = self.old.failures + 1; takes_effect = false } }
     {
         self.takes_effect = false;
-        self.failures += 1;
-        StoreFault::Refused
+        refuse(&mut self.failures)
     }
 
     // Counts what the device answered, where it refused.
     fn tally<T>(&mut self, answer: Result<T, StoreFault>) -> Result<T, StoreFault>
         requires { self.old.failures < greatest_count }
         ensures answer { result ≡ answer }
-        ensures count { Tallies self.old.failures answer self.new.failures }
+        ensures count { Tallies (refuses is_refusal answer) self.old.failures self.new.failures }
         ensures others { self.new ≡ record self.old { failures = self.new.failures } }
     {
         match answer {
-            Err(StoreFault::Refused) => {
-                self.failures += 1;
-                Err(StoreFault::Refused)
-            }
+            Err(StoreFault::Refused) => Err(refuse(&mut self.failures)),
             other => other,
         }
     }
@@ -87,8 +103,10 @@ impl<D> Fused<D> {
 
 impl<D: MaildirDisk> MaildirDisk for Fused<D> {
     ghost use Rattle.std.specs.Prelude.{◌≡◌, ◌<◌, IfErr, IfOk, IsSome, OnErr, OnOk, Some, None, map, string_bytes};
-    ghost use Rattle.mail_store.specs.Refusals.{Tallies, IsDeviceFault, greatest_count};
-    ghost use Rattle.mail_store.specs.Maildir.{File, AreDistinct, IsInNew, Lists, Begins, Adds, Settles, dropped, name_begun};
+    ghost use Rattle.mail_terms.specs.FailureCount.{Tallies, refuses, greatest_count};
+    ghost use Rattle.mail_terms.specs.Distinct.{AreDistinct};
+    ghost use Rattle.mail_store.specs.Fault.{IsDeviceFault};
+    ghost use Rattle.mail_store.specs.Maildir.{File, IsInNew, Lists, Begins, Adds, Settles, dropped, name_begun};
     ghost use Rattle.mail_store.specs.Fuse.{device_of, passes_left, effect_is_due, refusals, fused_maildir, FusedIsSound, Burns, SettlesBehind};
 
     ghost maildir = { λ f. fused_maildir D.maildir f };
@@ -100,17 +118,12 @@ impl<D: MaildirDisk> MaildirDisk for Fused<D> {
             × Lists (fused_maildir D.maildir self.old) folder result (fused_maildir D.maildir self.new) }
         ensures once { FusedIsSound D.sound self.new → IfOk result (λ names. AreDistinct (map string_bytes names.items)) }
         ensures fault { IfErr result IsDeviceFault }
-        ensures count { Tallies (refusals self.old) result (refusals self.new) }
+        ensures count { Tallies (refuses is_refusal result) (refusals self.old) (refusals self.new) }
         ensures burns { refusals self.old < greatest_count → Burns (λ d. (D.maildir d).failures) self.old result self.new }
         ensures behind { passes_left self.old ≡ 0 → device_of self.new ≡ device_of self.old }
     {
-        if self.failures == u64::MAX {
-            return Err(StoreFault::Refused);
-        }
-        if self.passes_left == 0 {
-            return Err(self.refuse());
-        }
-        self.passes_left -= 1;
+        admit(&self.failures)?;
+        self.pass()?;
         let answer = self.device.names(folder);
         self.tally(answer)
     }
@@ -122,17 +135,12 @@ impl<D: MaildirDisk> MaildirDisk for Fused<D> {
         ensures begun { OnOk result (name_begun (D.maildir (device_of self.new)) ≡ Some name.now) }
         ensures not_begun { OnErr result ((D.maildir (device_of self.new)).begun ≡ (D.maildir (device_of self.old)).begun) }
         ensures fault { IfErr result IsDeviceFault }
-        ensures count { Tallies (refusals self.old) result (refusals self.new) }
+        ensures count { Tallies (refuses is_refusal result) (refusals self.old) (refusals self.new) }
         ensures burns { refusals self.old < greatest_count → Burns (λ d. (D.maildir d).failures) self.old result self.new }
         ensures behind { passes_left self.old ≡ 0 → device_of self.new ≡ device_of self.old }
     {
-        if self.failures == u64::MAX {
-            return Err(StoreFault::Refused);
-        }
-        if self.passes_left == 0 {
-            return Err(self.refuse());
-        }
-        self.passes_left -= 1;
+        admit(&self.failures)?;
+        self.pass()?;
         let answer = self.device.begin(name);
         self.tally(answer)
     }
@@ -143,17 +151,12 @@ impl<D: MaildirDisk> MaildirDisk for Fused<D> {
             × Adds (fused_maildir D.maildir self.old) bytes.now result (fused_maildir D.maildir self.new) }
         ensures begun { name_begun (D.maildir (device_of self.new)) ≡ name_begun (D.maildir (device_of self.old)) }
         ensures fault { IfErr result (λ e. e ≡ StoreFault.Refused) }
-        ensures count { Tallies (refusals self.old) result (refusals self.new) }
+        ensures count { Tallies (refuses is_refusal result) (refusals self.old) (refusals self.new) }
         ensures burns { refusals self.old < greatest_count → Burns (λ d. (D.maildir d).failures) self.old result self.new }
         ensures behind { passes_left self.old ≡ 0 → device_of self.new ≡ device_of self.old }
     {
-        if self.failures == u64::MAX {
-            return Err(StoreFault::Refused);
-        }
-        if self.passes_left == 0 {
-            return Err(self.refuse());
-        }
-        self.passes_left -= 1;
+        admit(&self.failures)?;
+        self.pass()?;
         let answer = self.device.add(bytes);
         self.tally(answer)
     }
@@ -166,40 +169,46 @@ impl<D: MaildirDisk> MaildirDisk for Fused<D> {
             × Settles (fused_maildir D.maildir self.old) result (fused_maildir D.maildir self.new) }
         ensures none_begun { (D.maildir (device_of self.new)).begun ≡ None }
         ensures fault { IfErr result (λ e. e ≡ StoreFault.Refused) }
-        ensures count { Tallies (refusals self.old) result (refusals self.new) }
+        ensures count { Tallies (refuses is_refusal result) (refusals self.old) (refusals self.new) }
         ensures burns { refusals self.old < greatest_count → Burns (λ d. (D.maildir d).failures) self.old result self.new }
         ensures behind { passes_left self.old ≡ 0 → FusedIsSound D.sound self.new
             → SettlesBehind (effect_is_due self.old) (D.maildir (device_of self.old)) (D.maildir (device_of self.new)) }
     {
-        if self.failures == u64::MAX {
+        if let Err(fault) = admit(&self.failures) {
             self.device.abandon();
-            return Err(StoreFault::Refused);
+            return Err(fault);
         }
-        if self.passes_left > 0 {
-            self.passes_left -= 1;
-            let answer = self.device.settle();
-            return self.tally(answer);
-        }
-        if self.takes_effect {
+        if self.passes_left == 0 && self.takes_effect {
             let _ = self.device.settle();
-            return Err(self.refuse());
+            return Err(self.blow());
         }
-        self.device.abandon();
-        Err(self.refuse())
+        if let Err(fault) = self.pass() {
+            self.device.abandon();
+            return Err(fault);
+        }
+        let answer = self.device.settle();
+        self.tally(answer)
     }
 
-    fn abandon(&mut self) {
+    fn abandon(&mut self)
+        ensures drops { FusedIsSound D.sound self.new → FusedIsSound D.sound self.old
+            × (fused_maildir D.maildir self.new ≡ dropped (fused_maildir D.maildir self.old)) }
+        ensures none_begun { (D.maildir (device_of self.new)).begun ≡ None }
+        ensures count { refusals self.new ≡ refusals self.old }
+        ensures fuse { self.new ≡ record self.old { device = self.new.device } }
+    {
         self.device.abandon();
     }
 
     fn failures(&self) -> u64 {
-        self.failures
+        self.failures.count()
     }
 }
 
 impl<D: FlatFile> FlatFile for Fused<D> {
     ghost use Rattle.std.specs.Prelude.{◌≡◌, ◌<◌, IfErr, IsSome};
-    ghost use Rattle.mail_store.specs.Refusals.{Tallies, IsDeviceFault, greatest_count};
+    ghost use Rattle.mail_terms.specs.FailureCount.{Tallies, refuses, greatest_count};
+    ghost use Rattle.mail_store.specs.Fault.{IsDeviceFault};
     ghost use Rattle.mail_store.specs.FlatFile.{Loads, Measures, Appends, Cuts, Replaces, HasBytes};
     ghost use Rattle.mail_store.specs.Fuse.{device_of, passes_left, effect_is_due, refusals, fused_file, FusedIsSound, Burns, AppendsBehind, ReplacesBehind};
 
@@ -211,17 +220,12 @@ impl<D: FlatFile> FlatFile for Fused<D> {
         ensures loads { FusedIsSound D.sound self.new → FusedIsSound D.sound self.old
             × Loads (fused_file D.stored self.old) result (fused_file D.stored self.new) }
         ensures fault { IfErr result IsDeviceFault }
-        ensures count { Tallies (refusals self.old) result (refusals self.new) }
+        ensures count { Tallies (refuses is_refusal result) (refusals self.old) (refusals self.new) }
         ensures burns { refusals self.old < greatest_count → Burns (λ d. (D.stored d).failures) self.old result self.new }
         ensures behind { passes_left self.old ≡ 0 → device_of self.new ≡ device_of self.old }
     {
-        if self.failures == u64::MAX {
-            return Err(StoreFault::Refused);
-        }
-        if self.passes_left == 0 {
-            return Err(self.refuse());
-        }
-        self.passes_left -= 1;
+        admit(&self.failures)?;
+        self.pass()?;
         let answer = self.device.load();
         self.tally(answer)
     }
@@ -230,17 +234,12 @@ impl<D: FlatFile> FlatFile for Fused<D> {
         ensures measures { FusedIsSound D.sound self.new → FusedIsSound D.sound self.old
             × Measures (fused_file D.stored self.old) result (fused_file D.stored self.new) }
         ensures fault { IfErr result IsDeviceFault }
-        ensures count { Tallies (refusals self.old) result (refusals self.new) }
+        ensures count { Tallies (refuses is_refusal result) (refusals self.old) (refusals self.new) }
         ensures burns { refusals self.old < greatest_count → Burns (λ d. (D.stored d).failures) self.old result self.new }
         ensures behind { passes_left self.old ≡ 0 → device_of self.new ≡ device_of self.old }
     {
-        if self.failures == u64::MAX {
-            return Err(StoreFault::Refused);
-        }
-        if self.passes_left == 0 {
-            return Err(self.refuse());
-        }
-        self.passes_left -= 1;
+        admit(&self.failures)?;
+        self.pass()?;
         let answer = self.device.edges();
         self.tally(answer)
     }
@@ -250,24 +249,19 @@ impl<D: FlatFile> FlatFile for Fused<D> {
         ensures appends { FusedIsSound D.sound self.new → FusedIsSound D.sound self.old
             × Appends (fused_file D.stored self.old) bytes.now result (fused_file D.stored self.new) }
         ensures fault { IfErr result (λ e. e ≡ StoreFault.Refused) }
-        ensures count { Tallies (refusals self.old) result (refusals self.new) }
+        ensures count { Tallies (refuses is_refusal result) (refusals self.old) (refusals self.new) }
         ensures burns { refusals self.old < greatest_count → Burns (λ d. (D.stored d).failures) self.old result self.new }
         ensures behind { passes_left self.old ≡ 0 → FusedIsSound D.sound self.new
             → AppendsBehind (effect_is_due self.old) (D.stored (device_of self.old)) bytes.now (D.stored (device_of self.new)) }
     {
-        if self.failures == u64::MAX {
-            return Err(StoreFault::Refused);
-        }
-        if self.passes_left > 0 {
-            self.passes_left -= 1;
-            let answer = self.device.append(bytes);
-            return self.tally(answer);
-        }
-        if self.takes_effect {
+        admit(&self.failures)?;
+        if self.passes_left == 0 && self.takes_effect {
             let _ = self.device.append(&bytes[..bytes.len() / 2]);
-            return Err(self.refuse());
+            return Err(self.blow());
         }
-        Err(self.refuse())
+        self.pass()?;
+        let answer = self.device.append(bytes);
+        self.tally(answer)
     }
 
     fn cut_to(&mut self, len: u64) -> Result<(), StoreFault>
@@ -275,17 +269,12 @@ impl<D: FlatFile> FlatFile for Fused<D> {
         ensures cuts { FusedIsSound D.sound self.new → FusedIsSound D.sound self.old
             × Cuts (fused_file D.stored self.old) len result (fused_file D.stored self.new) }
         ensures fault { IfErr result (λ e. e ≡ StoreFault.Refused) }
-        ensures count { Tallies (refusals self.old) result (refusals self.new) }
+        ensures count { Tallies (refuses is_refusal result) (refusals self.old) (refusals self.new) }
         ensures burns { refusals self.old < greatest_count → Burns (λ d. (D.stored d).failures) self.old result self.new }
         ensures behind { passes_left self.old ≡ 0 → device_of self.new ≡ device_of self.old }
     {
-        if self.failures == u64::MAX {
-            return Err(StoreFault::Refused);
-        }
-        if self.passes_left == 0 {
-            return Err(self.refuse());
-        }
-        self.passes_left -= 1;
+        admit(&self.failures)?;
+        self.pass()?;
         let answer = self.device.cut_to(len);
         self.tally(answer)
     }
@@ -294,27 +283,22 @@ impl<D: FlatFile> FlatFile for Fused<D> {
         ensures replaces { FusedIsSound D.sound self.new → FusedIsSound D.sound self.old
             × Replaces (fused_file D.stored self.old) bytes.now result (fused_file D.stored self.new) }
         ensures fault { IfErr result (λ e. e ≡ StoreFault.Refused) }
-        ensures count { Tallies (refusals self.old) result (refusals self.new) }
+        ensures count { Tallies (refuses is_refusal result) (refusals self.old) (refusals self.new) }
         ensures burns { refusals self.old < greatest_count → Burns (λ d. (D.stored d).failures) self.old result self.new }
         ensures behind { passes_left self.old ≡ 0 → FusedIsSound D.sound self.new
             → ReplacesBehind (effect_is_due self.old) (D.stored (device_of self.old)) bytes.now (D.stored (device_of self.new)) }
     {
-        if self.failures == u64::MAX {
-            return Err(StoreFault::Refused);
-        }
-        if self.passes_left > 0 {
-            self.passes_left -= 1;
-            let answer = self.device.replace(bytes);
-            return self.tally(answer);
-        }
-        if self.takes_effect {
+        admit(&self.failures)?;
+        if self.passes_left == 0 && self.takes_effect {
             let _ = self.device.replace(bytes);
-            return Err(self.refuse());
+            return Err(self.blow());
         }
-        Err(self.refuse())
+        self.pass()?;
+        let answer = self.device.replace(bytes);
+        self.tally(answer)
     }
 
     fn failures(&self) -> u64 {
-        self.failures
+        self.failures.count()
     }
 }

@@ -6,7 +6,8 @@ mod fault;
 mod file;
 mod fused;
 mod maildir;
-mod sync;
+mod refusal;
+mod system;
 
 pub use account::{AccountId, account_id};
 pub use fault::StoreFault;
@@ -17,10 +18,11 @@ pub use fused::Fused;
 pub use maildir::delivery::deliver;
 pub use maildir::disk::{Folder, MaildirDisk};
 pub use maildir::folder::FolderMaildir;
-pub use maildir::held::held;
+pub use maildir::held::{flags_tell_what_is_held, held};
 pub use maildir::memory::MemoryMaildir;
 pub use maildir::names::{
-    base, file_name, names_are_bases, names_differ, uid_of, unheld_ids_are_not_in_new,
+    file_name, marks_keep_the_base, names_are_bases, names_differ, one_more_is_held, uid_of,
+    unheld_ids_are_not_in_new,
 };
 
 #[cfg(test)]

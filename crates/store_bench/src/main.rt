@@ -4,8 +4,8 @@
 ghost use Rattle.std.specs.Prelude.{◌≡◌, IfOk, length};
 
 use anyhow::{Result, ensure};
-use fetch_rules::{Listing, ScanRow, UidRow, have_legal_ids, is_legal_id};
 use mail_store::{FolderMaildir, account_id, deliver, file_name, held};
+use mail_terms::{Listing, ScanRow, UidRow, have_legal_ids, is_legal_id};
 use std::alloc::Global;
 use std::env;
 use std::time::{CpuClock, Instant};

@@ -16,7 +16,8 @@ pub struct Edges {
 /// A device that keeps one file, and that can refuse any call.
 pub trait FlatFile {
     ghost use Rattle.std.specs.Prelude.{◌≡◌, IfErr, IsSome};
-    ghost use Rattle.mail_store.specs.Refusals.{Tallies, IsDeviceFault};
+    ghost use Rattle.mail_terms.specs.FailureCount.{Tallies, refuses};
+    ghost use Rattle.mail_store.specs.Fault.{is_refusal, IsDeviceFault};
     ghost use Rattle.mail_store.specs.FlatFile.{Stored, Loads, Measures, Appends, Cuts, Replaces, HasBytes};
 
     // What is known of the file.
@@ -31,7 +32,7 @@ pub trait FlatFile {
         ensures loads { sound self.new → sound self.old
             × Loads (stored self.old) result (stored self.new) }
         ensures fault { IfErr result IsDeviceFault }
-        ensures count { Tallies (stored self.old).failures result (stored self.new).failures };
+        ensures count { Tallies (refuses is_refusal result) (stored self.old).failures (stored self.new).failures };
 
     /// The size of the file, its first five bytes and its last two. Missing where there is none,
     /// else Refused.
@@ -39,7 +40,7 @@ pub trait FlatFile {
         ensures measures { sound self.new → sound self.old
             × Measures (stored self.old) result (stored self.new) }
         ensures fault { IfErr result IsDeviceFault }
-        ensures count { Tallies (stored self.old).failures result (stored self.new).failures };
+        ensures count { Tallies (refuses is_refusal result) (stored self.old).failures (stored self.new).failures };
 
     /// Puts bytes behind those of the file. The only fault is Refused: a front of the bytes may
     /// then stand there. A good `load`, `edges` or `replace` tells that the file is there.
@@ -48,7 +49,7 @@ pub trait FlatFile {
         ensures appends { sound self.new → sound self.old
             × Appends (stored self.old) bytes.now result (stored self.new) }
         ensures fault { IfErr result (λ e. e ≡ StoreFault.Refused) }
-        ensures count { Tallies (stored self.old).failures result (stored self.new).failures };
+        ensures count { Tallies (refuses is_refusal result) (stored self.old).failures (stored self.new).failures };
 
     /// Cuts the file to its first `len` bytes. The only fault is Refused: the file is then as it
     /// was, or cut. `edges` tells the file's size.
@@ -57,7 +58,7 @@ pub trait FlatFile {
         ensures cuts { sound self.new → sound self.old
             × Cuts (stored self.old) len result (stored self.new) }
         ensures fault { IfErr result (λ e. e ≡ StoreFault.Refused) }
-        ensures count { Tallies (stored self.old).failures result (stored self.new).failures };
+        ensures count { Tallies (refuses is_refusal result) (stored self.old).failures (stored self.new).failures };
 
     /// Makes these bytes the file's, whether or not there is a file. The only fault is Refused:
     /// the file is then as it was, or has these bytes.
@@ -65,7 +66,7 @@ pub trait FlatFile {
         ensures replaces { sound self.new → sound self.old
             × Replaces (stored self.old) bytes.now result (stored self.new) }
         ensures fault { IfErr result (λ e. e ≡ StoreFault.Refused) }
-        ensures count { Tallies (stored self.old).failures result (stored self.new).failures };
+        ensures count { Tallies (refuses is_refusal result) (stored self.old).failures (stored self.new).failures };
 
     /// How many calls were refused.
     fn failures(&self) -> u64

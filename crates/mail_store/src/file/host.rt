@@ -1,11 +1,13 @@
 //! A file of the file system.
 
 ghost use Rattle.std.specs.Prelude.{◌≡◌, ◌<◌, ◌+◌};
-ghost use Rattle.mail_store.specs.Refusals.{greatest_count};
+ghost use Rattle.mail_terms.specs.FailureCount.{greatest_count};
 
 use crate::fault::StoreFault;
 use crate::file::flat_file::{Edges, FlatFile};
-use crate::sync::{flush_folder, folder_of};
+use crate::refusal::{admit, refuse};
+use crate::system::{flush_folder, folder_of, make_file};
+use mail_terms::FailureCount;
 use std::fs::{OpenFile, OpenOptions};
 use std::io::{ErrorKind, Read, Seek, SeekFrom, Write};
 use std::rt::Files;
@@ -14,12 +16,12 @@ use std::{fs, io};
 /// A file of the file system. Nothing is known of what the system does.
 ///
 /// Each write is flushed before it is answered. `replace` writes the bytes to the path with `.tmp`
-/// behind it, and renames that file.
+/// behind it, which its owner alone can read (mode 0600), and renames that file.
 #[derive(Drop)]
 pub struct HostFile<'a, R: Files + AllocGlobal + Clone + Drop> {
     rt: &'a R,
     path: String,
-    failures: u64,
+    failures: FailureCount,
 }
 
 impl<'a, R: Files + AllocGlobal + Clone + Drop> HostFile<'a, R> {
@@ -32,7 +34,7 @@ impl<'a, R: Files + AllocGlobal + Clone + Drop> HostFile<'a, R> {
         HostFile {
             rt,
             path,
-            failures: 0,
+            failures: FailureCount::new(),
         }
     }
 
@@ -72,20 +74,11 @@ impl<'a, R: Files + AllocGlobal + Clone + Drop> HostFile<'a, R> {
     fn put_in_place(&self, bytes: &[u8]) -> io::Result<()> {
         let path = self.path.as_str();
         let beside = format!(in self.rt.alloc(); "{path}.tmp")?;
-        let mut file = fs::create(self.rt, beside.as_str())?;
+        let mut file = make_file(self.rt, beside.as_str())?;
         file.write_all(bytes)?;
         file.sync_all()?;
         fs::rename(self.rt, beside.as_str(), path)?;
         flush_folder(self.rt, folder_of(path))
-    }
-
-    fn refuse(&mut self) -> StoreFault
-        requires { self.old.failures < greatest_count }
-        ensures fault { result ≡ StoreFault.Refused }
-        ensures counted { self.new ≡ record self.old { failures = self.old.failures + 1 } }
-    {
-        self.failures += 1;
-        StoreFault::Refused
     }
 }
 
@@ -98,58 +91,48 @@ impl<'a, R: Files + AllocGlobal + Clone + Drop> FlatFile for HostFile<'a, R> {
     ghost sound = { λ _. ⊥ };
 
     fn load(&mut self) -> Result<Vec<u8>, StoreFault> {
-        if self.failures == u64::MAX {
-            return Err(StoreFault::Refused);
-        }
+        admit(&self.failures)?;
         match fs::read(self.rt, self.path.as_str()) {
             Ok(bytes) => Ok(bytes),
             Err(fault) if fault.kind() == ErrorKind::NotFound => Err(StoreFault::Missing),
-            Err(_) => Err(self.refuse()),
+            Err(_) => Err(refuse(&mut self.failures)),
         }
     }
 
     fn edges(&mut self) -> Result<Edges, StoreFault> {
-        if self.failures == u64::MAX {
-            return Err(StoreFault::Refused);
-        }
+        admit(&self.failures)?;
         match self.read_edges() {
             Ok(edges) => Ok(edges),
             Err(fault) if fault.kind() == ErrorKind::NotFound => Err(StoreFault::Missing),
-            Err(_) => Err(self.refuse()),
+            Err(_) => Err(refuse(&mut self.failures)),
         }
     }
 
     fn append(&mut self, bytes: &[u8]) -> Result<(), StoreFault> {
-        if self.failures == u64::MAX {
-            return Err(StoreFault::Refused);
-        }
+        admit(&self.failures)?;
         match self.append_to(bytes) {
             Ok(()) => Ok(()),
-            Err(_) => Err(self.refuse()),
+            Err(_) => Err(refuse(&mut self.failures)),
         }
     }
 
     fn cut_to(&mut self, len: u64) -> Result<(), StoreFault> {
-        if self.failures == u64::MAX {
-            return Err(StoreFault::Refused);
-        }
+        admit(&self.failures)?;
         match self.cut(len) {
             Ok(()) => Ok(()),
-            Err(_) => Err(self.refuse()),
+            Err(_) => Err(refuse(&mut self.failures)),
         }
     }
 
     fn replace(&mut self, bytes: &[u8]) -> Result<(), StoreFault> {
-        if self.failures == u64::MAX {
-            return Err(StoreFault::Refused);
-        }
+        admit(&self.failures)?;
         match self.put_in_place(bytes) {
             Ok(()) => Ok(()),
-            Err(_) => Err(self.refuse()),
+            Err(_) => Err(refuse(&mut self.failures)),
         }
     }
 
     fn failures(&self) -> u64 {
-        self.failures
+        self.failures.count()
     }
 }

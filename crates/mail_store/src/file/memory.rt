@@ -1,11 +1,13 @@
 //! A file in memory.
 
 ghost use Rattle.std.specs.Prelude.{◌≡◌, ◌<◌, ◌+◌, [], slice_index, option_map};
-ghost use Rattle.mail_store.specs.Refusals.{greatest_count};
+ghost use Rattle.mail_terms.specs.FailureCount.{greatest_count};
 ghost use Rattle.mail_store.specs.FlatFile.{edges_of};
 
 use crate::fault::StoreFault;
 use crate::file::flat_file::{Edges, FlatFile};
+use crate::refusal::{admit, refuse};
+use mail_terms::FailureCount;
 use std::alloc::Global;
 use std::marker::Model;
 
@@ -14,7 +16,7 @@ use std::marker::Model;
 pub struct MemoryFile {
     alloc: Global,
     content: Option<Vec<u8>>,
-    failures: u64,
+    failures: FailureCount,
 }
 
 impl Model for MemoryFile {
@@ -35,7 +37,7 @@ impl MemoryFile {
         MemoryFile {
             alloc,
             content: Some(Vec::new(alloc)),
-            failures: 0,
+            failures: FailureCount::new(),
         }
     }
 
@@ -47,7 +49,7 @@ impl MemoryFile {
         MemoryFile {
             alloc,
             content: None,
-            failures: 0,
+            failures: FailureCount::new(),
         }
     }
 
@@ -59,15 +61,6 @@ impl MemoryFile {
             Some(bytes) => Some(bytes.as_slice()),
             None => None,
         }
-    }
-
-    fn refuse(&mut self) -> StoreFault
-        requires { self.old.failures < greatest_count }
-        ensures fault { result ≡ StoreFault.Refused }
-        ensures counted { self.new ≡ record self.old { failures = self.old.failures + 1 } }
-    {
-        self.failures += 1;
-        StoreFault::Refused
     }
 }
 
@@ -108,7 +101,8 @@ fn edges_of(bytes: &[u8]) -> Edges
 
 impl FlatFile for MemoryFile {
     ghost use Rattle.std.specs.Prelude.{◌≡◌, ◌≢◌, ◌<◌, IfErr, IsOk};
-    ghost use Rattle.mail_store.specs.Refusals.{Tallies, IsDeviceFault, greatest_count};
+    ghost use Rattle.mail_terms.specs.FailureCount.{Tallies, refuses, greatest_count};
+    ghost use Rattle.mail_store.specs.Fault.{is_refusal, IsDeviceFault};
     ghost use Rattle.mail_store.specs.FlatFile.{Measures, Cuts, HasBytes};
 
     ghost stored = { λ f. f };
@@ -116,15 +110,13 @@ impl FlatFile for MemoryFile {
     ghost sound = { λ f. f.failures < greatest_count };
 
     fn load(&mut self) -> Result<Vec<u8>, StoreFault> {
-        if self.failures == u64::MAX {
-            return Err(StoreFault::Refused);
-        }
+        admit(&self.failures)?;
         let Some(bytes) = &self.content else {
             return Err(StoreFault::Missing);
         };
         match bytes.clone() {
             Ok(copy) => Ok(copy),
-            Err(_) => Err(self.refuse()),
+            Err(_) => Err(refuse(&mut self.failures)),
         }
     }
 
@@ -133,12 +125,10 @@ impl FlatFile for MemoryFile {
         ensures measures { self.new.failures < greatest_count → (self.old.failures < greatest_count)
             × Measures self.old result self.new }
         ensures fault { IfErr result IsDeviceFault }
-        ensures count { Tallies self.old.failures result self.new.failures }
+        ensures count { Tallies (refuses is_refusal result) self.old.failures self.new.failures }
         ensures answers { self.old.failures < greatest_count → result ≢ Err StoreFault.Refused }
     {
-        if self.failures == u64::MAX {
-            return Err(StoreFault::Refused);
-        }
+        admit(&self.failures)?;
         match &self.content {
             Some(bytes) => Ok(edges_of(bytes.as_slice())),
             None => Err(StoreFault::Missing),
@@ -146,15 +136,13 @@ impl FlatFile for MemoryFile {
     }
 
     fn append(&mut self, bytes: &[u8]) -> Result<(), StoreFault> {
-        if self.failures == u64::MAX {
-            return Err(StoreFault::Refused);
-        }
+        admit(&self.failures)?;
         let Some(content) = &mut self.content else {
             unreachable!()
         };
         match content.extend_from_slice(bytes) {
             Ok(()) => Ok(()),
-            Err(_) => Err(self.refuse()),
+            Err(_) => Err(refuse(&mut self.failures)),
         }
     }
 
@@ -164,12 +152,10 @@ impl FlatFile for MemoryFile {
         ensures cuts { self.new.failures < greatest_count → (self.old.failures < greatest_count)
             × Cuts self.old len result self.new }
         ensures fault { IfErr result (λ e. e ≡ StoreFault.Refused) }
-        ensures count { Tallies self.old.failures result self.new.failures }
+        ensures count { Tallies (refuses is_refusal result) self.old.failures self.new.failures }
         ensures answers { self.old.failures < greatest_count → IsOk result }
     {
-        if self.failures == u64::MAX {
-            return Err(StoreFault::Refused);
-        }
+        admit(&self.failures)?;
         let Some(content) = &mut self.content else {
             unreachable!()
         };
@@ -178,19 +164,17 @@ impl FlatFile for MemoryFile {
     }
 
     fn replace(&mut self, bytes: &[u8]) -> Result<(), StoreFault> {
-        if self.failures == u64::MAX {
-            return Err(StoreFault::Refused);
-        }
+        admit(&self.failures)?;
         match Vec::from_slice(self.alloc, bytes) {
             Ok(content) => {
                 self.content = Some(content);
                 Ok(())
             }
-            Err(_) => Err(self.refuse()),
+            Err(_) => Err(refuse(&mut self.failures)),
         }
     }
 
     fn failures(&self) -> u64 {
-        self.failures
+        self.failures.count()
     }
 }

@@ -1,7 +1,8 @@
 //! Delivery of one text to a Maildir.
 
 ghost use Rattle.std.specs.Prelude.{◌≡◌, IfErr, None};
-ghost use Rattle.mail_store.specs.Refusals.{Tallies, IsDeviceFault};
+ghost use Rattle.mail_terms.specs.FailureCount.{Tallies, refuses};
+ghost use Rattle.mail_store.specs.Fault.{is_refusal, IsDeviceFault};
 ghost use Rattle.mail_store.specs.Maildir.{IsInNew, Delivers, file};
 
 use crate::fault::StoreFault;
@@ -20,7 +21,7 @@ pub fn deliver<D: MaildirDisk>(disk: &mut D, name: &str, text: &[u8]) -> Result<
         × Delivers (D.maildir disk.old) (file name.now text.now) result (D.maildir disk.new) }
     ensures none_begun { (D.maildir disk.old).begun ≡ None → (D.maildir disk.new).begun ≡ None }
     ensures fault { IfErr result IsDeviceFault }
-    ensures count { Tallies (D.maildir disk.old).failures result (D.maildir disk.new).failures }
+    ensures count { Tallies (refuses is_refusal result) (D.maildir disk.old).failures (D.maildir disk.new).failures }
 {
     disk.begin(name)?;
     if text.is_empty() {

@@ -17,8 +17,10 @@ pub enum Folder {
 /// stands in `new`, whole. No other call changes `new` or `cur`.
 pub trait MaildirDisk {
     ghost use Rattle.std.specs.Prelude.{◌≡◌, IfErr, IfOk, IsSome, OnErr, OnOk, Some, None, map, string_bytes};
-    ghost use Rattle.mail_store.specs.Refusals.{Tallies, IsDeviceFault};
-    ghost use Rattle.mail_store.specs.Maildir.{Maildir, File, AreDistinct, IsInNew, Lists, Begins, Adds, Settles, dropped, name_begun};
+    ghost use Rattle.mail_terms.specs.FailureCount.{Tallies, refuses};
+    ghost use Rattle.mail_terms.specs.Distinct.{AreDistinct};
+    ghost use Rattle.mail_store.specs.Fault.{is_refusal, IsDeviceFault};
+    ghost use Rattle.mail_store.specs.Maildir.{Maildir, File, IsInNew, Lists, Begins, Adds, Settles, dropped, name_begun};
 
     // What is known of the Maildir. Whether a file is begun, its name and the count of refusals are
     // known of every device, whatever else is.
@@ -35,9 +37,9 @@ pub trait MaildirDisk {
             × Lists (maildir self.old) folder result (maildir self.new) }
         ensures once { sound self.new → IfOk result (λ names. AreDistinct (map string_bytes names.items)) }
         ensures fault { IfErr result IsDeviceFault }
-        ensures count { Tallies (maildir self.old).failures result (maildir self.new).failures };
+        ensures count { Tallies (refuses is_refusal result) (maildir self.old).failures (maildir self.new).failures };
 
-    /// Begins an empty file of this name in `tmp`; an older file of that name there is emptied.
+    /// Begins an empty file of this name in `tmp`; an older file of that name there is replaced.
     /// Missing where `tmp` isn't there, else Refused; after a fault none is begun. `abandon` makes
     /// sure that none is begun.
     fn begin(&mut self, name: &str) -> Result<(), StoreFault>
@@ -47,7 +49,7 @@ pub trait MaildirDisk {
         ensures begun { OnOk result (name_begun (maildir self.new) ≡ Some name.now) }
         ensures not_begun { OnErr result ((maildir self.new).begun ≡ (maildir self.old).begun) }
         ensures fault { IfErr result IsDeviceFault }
-        ensures count { Tallies (maildir self.old).failures result (maildir self.new).failures };
+        ensures count { Tallies (refuses is_refusal result) (maildir self.old).failures (maildir self.new).failures };
 
     /// Puts bytes behind those of the file begun. The only fault is Refused: the file is then still
     /// begun, with any bytes. A good `begin` makes sure that one is begun.
@@ -57,7 +59,7 @@ pub trait MaildirDisk {
             × Adds (maildir self.old) bytes.now result (maildir self.new) }
         ensures begun { name_begun (maildir self.new) ≡ name_begun (maildir self.old) }
         ensures fault { IfErr result (λ e. e ≡ StoreFault.Refused) }
-        ensures count { Tallies (maildir self.old).failures result (maildir self.new).failures };
+        ensures count { Tallies (refuses is_refusal result) (maildir self.old).failures (maildir self.new).failures };
 
     /// Puts the file begun into `new`. The only fault is Refused: the file is then not in `new`, or
     /// in `new` and whole. Either way none is begun afterwards. `names` tells whether a name is in
@@ -69,7 +71,7 @@ pub trait MaildirDisk {
             × Settles (maildir self.old) result (maildir self.new) }
         ensures none_begun { (maildir self.new).begun ≡ None }
         ensures fault { IfErr result (λ e. e ≡ StoreFault.Refused) }
-        ensures count { Tallies (maildir self.old).failures result (maildir self.new).failures };
+        ensures count { Tallies (refuses is_refusal result) (maildir self.old).failures (maildir self.new).failures };
 
     /// Gives up the file begun, if there is one.
     fn abandon(&mut self)

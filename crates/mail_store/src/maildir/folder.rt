@@ -1,11 +1,13 @@
 //! A Maildir in a folder of the file system.
 
 ghost use Rattle.std.specs.Prelude.{◌≡◌, ◌<◌, ◌+◌, IfOk, string_bytes};
-ghost use Rattle.mail_store.specs.Refusals.{greatest_count};
+ghost use Rattle.mail_terms.specs.FailureCount.{greatest_count};
 
 use crate::fault::StoreFault;
 use crate::maildir::disk::{Folder, MaildirDisk};
-use crate::sync::flush_folder;
+use crate::refusal::{admit, refuse};
+use crate::system::{flush_folder, make_file};
+use mail_terms::FailureCount;
 use std::fs::OpenFile;
 use std::io::{ErrorKind, Write};
 use std::rt::Files;
@@ -21,14 +23,15 @@ struct Begun<F: Drop> {
 /// A Maildir in a folder of the file system, which must hold the folders `tmp`, `new` and `cur`;
 /// none of them is made. Nothing is known of what the system does; which file is begun is known.
 ///
-/// A file is flushed before it is renamed into `new`, and then `new` is flushed, where the system
+/// A file is made so that its owner alone can read it (mode 0600). It is flushed before it is renamed
+/// into `new`, and then `new` is flushed, where the system
 /// flushes folders, so that a delivered text outlives a loss of power.
 #[derive(Drop)]
 pub struct FolderMaildir<'a, R: Files + AllocGlobal + Clone + Drop> {
     rt: &'a R,
     path: String,
     begun: Option<Begun<R::File>>,
-    failures: u64,
+    failures: FailureCount,
 }
 
 impl<'a, R: Files + AllocGlobal + Clone + Drop> FolderMaildir<'a, R> {
@@ -43,7 +46,7 @@ impl<'a, R: Files + AllocGlobal + Clone + Drop> FolderMaildir<'a, R> {
             rt,
             path,
             begun: None,
-            failures: 0,
+            failures: FailureCount::new(),
         }
     }
 
@@ -99,7 +102,7 @@ impl<'a, R: Files + AllocGlobal + Clone + Drop> FolderMaildir<'a, R> {
             return Err(io::Error::from(ErrorKind::InvalidInput));
         }
         let name = String::from_str(self.rt.alloc(), name)?;
-        let file = fs::create(self.rt, self.file_path("tmp", name.as_str())?)?;
+        let file = make_file(self.rt, self.file_path("tmp", name.as_str())?.as_str())?;
         Ok(Begun { file, name })
     }
 
@@ -134,15 +137,6 @@ impl<'a, R: Files + AllocGlobal + Clone + Drop> FolderMaildir<'a, R> {
             let _ = fs::remove_file(self.rt, path);
         }
     }
-
-    fn refuse(&mut self) -> StoreFault
-        requires { self.old.failures < greatest_count }
-        ensures fault { result ≡ StoreFault.Refused }
-        ensures counted { self.new ≡ record self.old { failures = self.old.failures + 1 } }
-    {
-        self.failures += 1;
-        StoreFault::Refused
-    }
 }
 
 /// Whether a name stands for a file of the folder itself that readers of a Maildir look at: it
@@ -161,9 +155,7 @@ impl<'a, R: Files + AllocGlobal + Clone + Drop> MaildirDisk for FolderMaildir<'a
     ghost sound = { λ _. ⊥ };
 
     fn names(&mut self, folder: Folder) -> Result<Vec<String>, StoreFault> {
-        if self.failures == u64::MAX {
-            return Err(StoreFault::Refused);
-        }
+        admit(&self.failures)?;
         let folder = match folder {
             Folder::New => "new",
             Folder::Cur => "cur",
@@ -171,16 +163,14 @@ impl<'a, R: Files + AllocGlobal + Clone + Drop> MaildirDisk for FolderMaildir<'a
         match self.read_names(folder) {
             Ok(names) => Ok(names),
             Err(_) if self.lacks(folder) => Err(StoreFault::Missing),
-            Err(_) => Err(self.refuse()),
+            Err(_) => Err(refuse(&mut self.failures)),
         }
     }
 
     fn begin(&mut self, name: &str) -> Result<(), StoreFault> {
-        if self.failures == u64::MAX {
-            return Err(StoreFault::Refused);
-        }
+        admit(&self.failures)?;
         if self.begun.is_some() {
-            return Err(self.refuse());
+            return Err(refuse(&mut self.failures));
         }
         match self.create(name) {
             Ok(begun) => {
@@ -188,38 +178,36 @@ impl<'a, R: Files + AllocGlobal + Clone + Drop> MaildirDisk for FolderMaildir<'a
                 Ok(())
             }
             Err(_) if self.lacks("tmp") => Err(StoreFault::Missing),
-            Err(_) => Err(self.refuse()),
+            Err(_) => Err(refuse(&mut self.failures)),
         }
     }
 
     fn add(&mut self, bytes: &[u8]) -> Result<(), StoreFault> {
-        if self.failures == u64::MAX {
-            return Err(StoreFault::Refused);
-        }
+        admit(&self.failures)?;
         let Some(mut unfinished) = self.begun.take() else {
-            return Err(self.refuse());
+            return Err(refuse(&mut self.failures));
         };
         let answer = unfinished.file.write_all(bytes);
         self.begun = Some(unfinished);
         match answer {
             Ok(()) => Ok(()),
-            Err(_) => Err(self.refuse()),
+            Err(_) => Err(refuse(&mut self.failures)),
         }
     }
 
     fn settle(&mut self) -> Result<(), StoreFault> {
-        if self.failures == u64::MAX {
+        if let Err(fault) = admit(&self.failures) {
             self.abandon();
-            return Err(StoreFault::Refused);
+            return Err(fault);
         }
         let Some(begun) = self.begun.take() else {
-            return Err(self.refuse());
+            return Err(refuse(&mut self.failures));
         };
         match self.move_into_new(&begun) {
             Ok(()) => Ok(()),
             Err(_) => {
                 self.remove_from_tmp(begun);
-                Err(self.refuse())
+                Err(refuse(&mut self.failures))
             }
         }
     }
@@ -231,6 +219,6 @@ impl<'a, R: Files + AllocGlobal + Clone + Drop> MaildirDisk for FolderMaildir<'a
     }
 
     fn failures(&self) -> u64 {
-        self.failures
+        self.failures.count()
     }
 }

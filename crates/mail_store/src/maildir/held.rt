@@ -1,17 +1,21 @@
 //! Which messages of a listing a Maildir holds already.
 
-ghost use Rattle.std.specs.Prelude.{◌≡◌, List, ℕ, ◌++◌, ◌||◌, map, length, vec_len, string_bytes, bytes_eq, IfOk, OnOk, ◌≢◌};
+ghost use Rattle.std.specs.Prelude.{◌≡◌, List, ℕ, ◌++◌, ◌||◌, ◌&&◌, map, length, vec_len, string_bytes, bytes_eq, IfOk, OnOk, ◌≢◌};
 ghost use Rattle.std.specs.List.{list_any};
 ghost use Rattle.std.specs.BTreeSet.{contains_text};
-ghost use Rattle.mail_store.specs.Refusals.{Tallies};
-ghost use Rattle.mail_store.specs.FileName.{base, name_of};
-ghost use Rattle.mail_store.specs.Held.{Finds};
+ghost use Rattle.mail_terms.specs.FailureCount.{Tallies, refuses};
+ghost use Rattle.mail_terms.specs.MaildirName.{base};
+ghost use Rattle.mail_store.specs.Fault.{is_refusal};
+ghost use Rattle.mail_store.specs.FileName.{name_of, is_held};
+ghost use Rattle.mail_terms.specs.Listing.{Item, has_item};
+ghost use Rattle.mail_store.specs.Maildir.{Maildir};
+ghost use Rattle.mail_store.specs.Held.{Finds, flags_of, has_flagged};
 
 use crate::account::AccountId;
 use crate::fault::StoreFault;
 use crate::maildir::disk::{Folder, MaildirDisk};
 use crate::maildir::names;
-use fetch_rules::Listing;
+use mail_terms::Listing;
 use std::alloc::{AllocError, Global};
 use std::collections::BTreeSet;
 
@@ -25,7 +29,7 @@ fn add_bases(
         ≡ (contains_text bases.old q || list_any (λ name. bytes_eq q (base (string_bytes name))) names.now)) }
 {
     for name in names {
-        let base = String::from_str(alloc, names::base(name.as_str()))?;
+        let base = String::from_str(alloc, mail_terms::base(name.as_str()))?;
         bases.insert(base)?;
     }
     Ok(())
@@ -48,6 +52,12 @@ fn flags_of(
     Ok(flags)
 }
 
+/// Of the flags that `held` answers, one of an id is set exactly where the id is listed and held.
+pub fn flags_tell_what_is_held()
+    ensures { (account : List ℕ) (maildir : Maildir) (items : List Item) (uid : List ℕ)
+        → has_flagged items (flags_of account maildir items) uid ≡ (has_item items uid && is_held account maildir uid) }
+{}
+
 /// Whether the id of each item of the listing is held: its file name is the base of a name in `new`
 /// or `cur`. The flags are in the listing's order. Missing where `new` or `cur` isn't there,
 /// Refused where the device refused, NoMemory where memory ran out. The Maildir stays as it was.
@@ -62,7 +72,7 @@ pub fn held<D: MaildirDisk>(
 ) -> Result<Vec<bool>, StoreFault>
     ensures finds { D.sound disk.new → D.sound disk.old
         × Finds account.now (D.maildir disk.old) listing.now result (D.maildir disk.new) }
-    ensures count { Tallies (D.maildir disk.old).failures result (D.maildir disk.new).failures }
+    ensures count { Tallies (refuses is_refusal result) (D.maildir disk.old).failures (D.maildir disk.new).failures }
     ensures length { IfOk result (λ flags. vec_len flags ≡ length listing.now) }
     ensures fault { result ≢ Err StoreFault.NotMbox }
 {

@@ -6,6 +6,8 @@ ghost use Rattle.mail_store.specs.Maildir.{names_of, file_of};
 
 use crate::fault::StoreFault;
 use crate::maildir::disk::{Folder, MaildirDisk};
+use crate::refusal::{admit, refuse};
+use mail_terms::FailureCount;
 use std::alloc::{AllocError, Global};
 use std::marker::Model;
 
@@ -16,7 +18,7 @@ pub struct MemoryMaildir {
     in_new: Vec<(String, Vec<u8>)>,
     in_cur: Vec<(String, Vec<u8>)>,
     begun: Option<(String, Vec<u8>)>,
-    failures: u64,
+    failures: FailureCount,
 }
 
 impl Model for MemoryMaildir {
@@ -38,7 +40,7 @@ impl Model for MemoryMaildir {
 
 impl MemoryMaildir {
     ghost use Rattle.std.specs.Prelude.{◌≡◌, ◌<◌, ◌+◌, ◌↔◌, [], None, map, slice_index, Contains, IsTrue, IsSome};
-    ghost use Rattle.mail_store.specs.Refusals.{greatest_count};
+    ghost use Rattle.mail_terms.specs.FailureCount.{greatest_count};
     ghost use Rattle.mail_store.specs.Maildir.{Maildir, File, HaveDistinctNames, file_of, files_in, names_of, all_there, counted, Moves};
 
     /// A Maildir without files.
@@ -51,7 +53,7 @@ impl MemoryMaildir {
             in_new: Vec::new(alloc),
             in_cur: Vec::new(alloc),
             begun: None,
-            failures: 0,
+            failures: FailureCount::new(),
         }
     }
 
@@ -104,15 +106,6 @@ impl MemoryMaildir {
         self.in_cur.push((moved, content)).unwrap();
         Ok(true)
     }
-
-    fn refuse(&mut self) -> StoreFault
-        requires { self.old.failures < greatest_count }
-        ensures fault { result ≡ StoreFault.Refused }
-        ensures counted { self.new ≡ counted self.old }
-    {
-        self.failures += 1;
-        StoreFault::Refused
-    }
 }
 
 /// The place of a file of this name, if there is one.
@@ -148,59 +141,53 @@ fn names_of(alloc: Global, files: &[(String, Vec<u8>)]) -> Result<Vec<String>, A
 
 impl MaildirDisk for MemoryMaildir {
     ghost use Rattle.std.specs.Prelude.{◌<◌};
-    ghost use Rattle.mail_store.specs.Refusals.{greatest_count};
+    ghost use Rattle.mail_terms.specs.FailureCount.{greatest_count};
 
     ghost maildir = { λ d. d };
 
     ghost sound = { λ d. d.failures < greatest_count };
 
     fn names(&mut self, folder: Folder) -> Result<Vec<String>, StoreFault> {
-        if self.failures == u64::MAX {
-            return Err(StoreFault::Refused);
-        }
+        admit(&self.failures)?;
         match names_of(self.alloc, self.files(folder)) {
             Ok(names) => Ok(names),
-            Err(_) => Err(self.refuse()),
+            Err(_) => Err(refuse(&mut self.failures)),
         }
     }
 
     fn begin(&mut self, name: &str) -> Result<(), StoreFault> {
-        if self.failures == u64::MAX {
-            return Err(StoreFault::Refused);
-        }
+        admit(&self.failures)?;
         match String::from_str(self.alloc, name) {
             Ok(name) => {
                 self.begun = Some((name, Vec::new(self.alloc)));
                 Ok(())
             }
-            Err(_) => Err(self.refuse()),
+            Err(_) => Err(refuse(&mut self.failures)),
         }
     }
 
     fn add(&mut self, bytes: &[u8]) -> Result<(), StoreFault> {
-        if self.failures == u64::MAX {
-            return Err(StoreFault::Refused);
-        }
+        admit(&self.failures)?;
         let Some((_, content)) = &mut self.begun else {
             unreachable!()
         };
         match content.extend_from_slice(bytes) {
             Ok(()) => Ok(()),
-            Err(_) => Err(self.refuse()),
+            Err(_) => Err(refuse(&mut self.failures)),
         }
     }
 
     fn settle(&mut self) -> Result<(), StoreFault> {
-        if self.failures == u64::MAX {
+        if let Err(fault) = admit(&self.failures) {
             self.abandon();
-            return Err(StoreFault::Refused);
+            return Err(fault);
         }
         let Some(file) = self.begun.take() else {
             unreachable!()
         };
         match self.in_new.push(file) {
             Ok(()) => Ok(()),
-            Err(_) => Err(self.refuse()),
+            Err(_) => Err(refuse(&mut self.failures)),
         }
     }
 
@@ -209,6 +196,6 @@ impl MaildirDisk for MemoryMaildir {
     }
 
     fn failures(&self) -> u64 {
-        self.failures
+        self.failures.count()
     }
 }

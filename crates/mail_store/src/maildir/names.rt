@@ -1,26 +1,16 @@
 //! The names of an account's files in a Maildir.
 
-ghost use Rattle.std.specs.Prelude.{◌≡◌, false, ℕ, ◌≢◌, ◌≤◌, List, ◌∷◌, ◌++◌, length, IfOk, IfSome, IfNone, MatchOption, string_bytes};
+ghost use Rattle.std.specs.Prelude.{◌≡◌, false, ℕ, ◌≢◌, ◌≤◌, List, ◌∷◌, ◌++◌, length, ◌||◌, bytes_eq, IfOk, IfSome, IfNone, MatchOption, string_bytes};
 ghost use Rattle.hex.specs.Hex.{encode_lower};
-ghost use Rattle.fetch_rules.specs.LegalId.{IsLegalId};
-ghost use Rattle.mail_store.specs.FileName.{IsAccountText, base, is_held, name_of};
-ghost use Rattle.mail_store.specs.Maildir.{Maildir, IsInNew};
+ghost use Rattle.mail_terms.specs.UniqueId.{IsLegalId};
+ghost use Rattle.mail_terms.specs.MaildirName.{base};
+ghost use Rattle.mail_store.specs.FileName.{IsAccountText, is_held, name_of};
+ghost use Rattle.mail_store.specs.Maildir.{Maildir, IsInNew, file, with_file};
 
 use crate::account::AccountId;
-use fetch_rules::is_legal_id;
 use hex::FromHexError;
+use mail_terms::{base, is_legal_id, legal_ids_have_ranges};
 use std::alloc::{AllocError, Global};
-
-/// What stands before the first colon of a name in `new` or `cur`; readers of a Maildir put their
-/// marks behind it.
-pub fn base(name: &str) -> &str
-    ensures { result.now ≡ base name.now }
-{
-    match name.split_once(':') {
-        Some((base, _)) => base,
-        None => name,
-    }
-}
 
 /// The name of the file that holds an id: the account's 64 digits, a full stop, and the id in
 /// lower-case hexadecimal. It has at most 205 bytes, and is its own base. `is_legal_id` tells
@@ -30,6 +20,7 @@ pub fn file_name(alloc: Global, account: &AccountId, uid: &[u8]) -> Result<Strin
     ensures name { IfOk result (λ name. string_bytes name ≡ name_of account.now uid.now) }
     ensures short { IfOk result (λ name. length (string_bytes name) ≤ 205) }
 {
+    legal_ids_have_ranges();
     let digits = hex::encode(alloc, uid)?;
     let mut name = String::from_str(alloc, account.as_str())?;
     name.push('.')?;
@@ -40,12 +31,27 @@ pub fn file_name(alloc: Global, account: &AccountId, uid: &[u8]) -> Result<Strin
 /// Two ids of one account have different names.
 pub fn names_differ()
     ensures { (account a b : List ℕ) → IsLegalId a → IsLegalId b → name_of account a ≡ name_of account b → a ≡ b }
-{}
+{
+    legal_ids_have_ranges();
+}
 
 /// The base of an id's name is the name: it holds no colon.
 pub fn names_are_bases()
     ensures { (account uid : List ℕ) → IsAccountText account → base (name_of account uid) ≡ name_of account uid }
 {}
+
+/// A mark behind a name, which begins with a colon, doesn't change its base.
+pub fn marks_keep_the_base()
+    ensures { (name marks : List ℕ) → base (name ++ 58 ∷ marks) ≡ base name }
+{}
+
+/// A file that comes into `new` under the name of an id makes that id held, and no other.
+pub fn one_more_is_held()
+    ensures { (account a b content : List ℕ) (maildir : Maildir) → IsAccountText account → IsLegalId a → IsLegalId b
+        → is_held account (with_file maildir (file (name_of account a) content)) b ≡ (is_held account maildir b || bytes_eq b a) }
+{
+    legal_ids_have_ranges();
+}
 
 /// No file of `new` has the name of an id that isn't held, so a text may be delivered under it.
 pub fn unheld_ids_are_not_in_new()
@@ -73,6 +79,7 @@ fn decode_id(alloc: Global, digits: &[u8]) -> Result<Option<Vec<u8>>, AllocError
     ensures some { IfOk result (λ id. IfSome id (λ uid. IsLegalId uid.items × (encode_lower uid.items ≡ digits.now))) }
     ensures none { IfOk result (λ id. IfNone id ((uid : List ℕ) → IsLegalId uid → encode_lower uid ≢ digits.now)) }
 {
+    legal_ids_have_ranges();
     let uid = match hex::decode(alloc, digits) {
         Ok(uid) => uid,
         Err(fault) => {

@@ -1,7 +1,7 @@
 //! Names of files, against digests and texts from outside.
 
-use crate::{AccountId, account_id, base, file_name, uid_of};
-use fetch_rules::{Listing, ScanRow, UidRow, have_legal_ids, is_legal_id};
+use crate::{AccountId, account_id, file_name, uid_of};
+use mail_terms::{Listing, ScanRow, UidRow, base, have_legal_ids, is_legal_id};
 use std::alloc::{AllocError, Global};
 use std::test::Fail;
 

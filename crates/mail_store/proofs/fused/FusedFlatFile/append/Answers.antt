@@ -4,13 +4,13 @@ use Rattle.mail_store.specs.declared.fused.Fused.{Fused}
 use Rattle.mail_store.proofs.FusedCalls.{front_appended}
 use Rattle.mail_store.proofs.fused.FusedFlatFile.append.Goals as goal
 
-pub returns-then-self-2-clause-appends : goal.returns-then-self-2-clause-appends
-returns-then-self-2-clause-appends g c = λ k.
-    let keeps = subst (λ (f : Fused (g.row.D).Denot). g.D.FlatFile.sound f.device) c.refuse.ensures.counted k.0 in
+pub returns-then-self-clause-appends : goal.returns-then-self-clause-appends
+returns-then-self-clause-appends g c = λ k.
+    let keeps = subst (λ (f : Fused (g.row.D).Denot). g.D.FlatFile.sound f.device) c.blow.ensures.counted k.0 in
     let inner = c.append.ensures.appends keeps in
-    let count : c.refuse.new.self.failures ≡ c.args.self.now.failures + 1 = ap (λ (f : Fused (g.row.D).Denot). f.failures) c.refuse.ensures.counted in
+    let count : c.blow.new.self.failures ≡ c.args.self.now.failures + 1 = ap (λ (f : Fused (g.row.D).Denot). f.failures) c.blow.ensures.counted in
     let half = length c.args.bytes.now / 2 in
-    rw c.refuse.ensures.counted (
+    rw c.blow.ensures.counted (
       (inner.0, omega (arith, k.1, count)),
       front_appended (g.D.FlatFile.stored c.args.self.now.device) (g.D.FlatFile.stored c.append.new.self)
           c.args.bytes.now (take half c.args.bytes.now) (drop half c.args.bytes.now) c.args.self.now.failures c.append.result

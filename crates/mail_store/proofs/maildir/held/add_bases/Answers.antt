@@ -4,7 +4,7 @@ use Rattle.std.specs.List.{list_any}
 use Rattle.std.specs.BTreeSet.{contains_text}
 use Rattle.std.proofs.lemmas.List.Folds.{list_any_more}
 use Rattle.std.proofs.lemmas.Map.Text.{btree_set_updates_text}
-use Rattle.mail_store.specs.FileName.{base}
+use Rattle.mail_terms.specs.MaildirName.{base}
 use Rattle.mail_store.proofs.HeldLemmas.{one_more}
 use Rattle.mail_store.proofs.maildir.held.add_bases.Goals as goal
 

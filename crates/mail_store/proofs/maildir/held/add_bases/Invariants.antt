@@ -2,7 +2,7 @@ use Rattle.std.proofs.Common.{◌≡◌, ℕ, List, take, string_bytes}
 use Rattle.std.specs.Prelude.{◌||◌, bytes_eq}
 use Rattle.std.specs.List.{list_any}
 use Rattle.std.specs.BTreeSet.{contains_text}
-use Rattle.mail_store.specs.FileName.{base}
+use Rattle.mail_terms.specs.MaildirName.{base}
 use Rattle.mail_store.proofs.maildir.held.add_bases.Given as goal
 
 -- the set has what it had, and the bases of the names in front

@@ -1,6 +1,6 @@
 use Rattle.std.proofs.Common.{◌≡◌, map, take}
 use Rattle.std.specs.BTreeSet.{contains_text}
-use Rattle.fetch_rules.specs.Listing.{Item}
+use Rattle.mail_terms.specs.Listing.{Item}
 use Rattle.mail_store.specs.FileName.{name_of}
 use Rattle.mail_store.proofs.maildir.held.flags_of.Given as goal
 

@@ -1,11 +1,11 @@
-use Rattle.std.proofs.Common.{◌≡◌, ◌∙◌, false, List, ℕ, ap, subst, map, String, Global, string_bytes}
+use Rattle.std.proofs.Common.{◌≡◌, ◌∙◌, false, true, List, ℕ, ap, subst, map, String, Global, string_bytes}
 use Rattle.std.specs.Prelude.{◌||◌, bytes_eq, IsPermutation}
 use Rattle.std.specs.List.{list_any}
 use Rattle.std.specs.BTreeSet.{contains_text}
 use Rattle.std.specs.Ordering.{is_eq, nat_cmp}
 use Rattle.std.specs.Cmp.Lexicographic.{slice_cmp}
 use Rattle.mail_store.specs.Maildir.{Maildir, names_of}
-use Rattle.mail_store.specs.FileName.{base}
+use Rattle.mail_terms.specs.MaildirName.{base}
 use Rattle.mail_store.proofs.HeldLemmas.{flags_found}
 use Rattle.mail_store.proofs.maildir.held.held.Goals as goal
 
@@ -28,5 +28,7 @@ returns-clause-finds g c = λ k.
             new.1.1 (subst (λ (m : Maildir). IsPermutation (names_of m.in_cur) (map string_bytes c.in_ok-cur.cur.items)) new.1.2 cur.1.1)
             c.in_ok-flags_of.ensures,
         cur.1.2 ∙ new.1.2,
+        new.1.0,
+        subst (λ (m : Maildir). m.there.cur ≡ true) new.1.2 cur.1.0,
       ),
     )

@@ -12,4 +12,4 @@ returns-clause-short c =
     c.in_ok-push_str.ensures.bytes c.in_ok-push.ensures.bytes (c.in_ok-push.ensures.ascii (lit< tt))
     (c.in_ok-name.ensures.ok ∙ c.as_str.ensures.text) (c.as_str-2.ensures.value ∙ c.in_ok-digits.ensures) in
     subst (λ (bytes : List ℕ). length bytes ≤ 205) (sym named)
-    (length-name_of c.args.account.now c.args.uid.now c.as_str.ensures.digits c.requires)
+    (length-name_of c.legal_ids_have_ranges.ensures c.args.account.now c.args.uid.now c.as_str.ensures.digits c.requires)

@@ -1,5 +1,5 @@
 use Rattle.std.proofs.Common.{◌∙◌, sym}
-use Rattle.mail_store.specs.FileName.{base}
+use Rattle.mail_terms.specs.MaildirName.{base}
 use Rattle.mail_store.proofs.NameLemmas.{none_named}
 use Rattle.mail_store.proofs.maildir.names.uid_of.Goals as goal
 

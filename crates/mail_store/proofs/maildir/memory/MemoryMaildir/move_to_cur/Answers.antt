@@ -1,10 +1,9 @@
 use Rattle.std.proofs.Common.{◌≡◌, ◌∙◌, ◌<◌, ℕ, List, [], ◌∷◌, ◌++◌, length, map, cond, refl, sym, ap, subst, inl, inr, String, Vec, Global, string_bytes}
 use Rattle.std.specs.Prelude.{Contains, HoldsAt, is_ok, option_map, ◌≢◌}
 use Rattle.std.proofs.lemmas.Bool.{both_ways}
-use Rattle.std.proofs.lemmas.List.Quantifiers.{all_pairs_remove}
 use Rattle.mail_store.specs.Maildir.{Maildir, Takes, HaveDistinctNames, file_of, names_of, all_there}
 use Rattle.mail_store.proofs.MoveLemmas.{about_cur, about_new, taken}
-use Rattle.mail_store.proofs.DistinctNames.{HaveDistinctNames-push}
+use Rattle.mail_store.proofs.DistinctNames.{HaveDistinctNames-push, HaveDistinctNames-remove}
 use Rattle.mail_store.proofs.maildir.memory.MemoryMaildir.move_to_cur.Goals as goal
 
 -- a file in memory: its name and its bytes
@@ -67,6 +66,6 @@ invariant_of-self-2 c =
     (subst (λ (n : List ℕ). Contains (names_of (map file_of c.deref.result.now)) n) (sym c.as_str.ensures.value)
     (subst (λ (pairs : List Pair). Contains (names_of (map file_of pairs)) (string_bytes c.push_str.new.self)) (sym c.deref.ensures.value) h))) in (
       subst (λ (pairs : List Pair). HaveDistinctNames pairs) (sym c.remove-content.ensures.items)
-          (all_pairs_remove (λ (p q : Pair). string_bytes p.0 ≢ string_bytes q.0) c.self.inside.in_new.items c.in-Some.place found.0 c.self.invariant.0),
+          (HaveDistinctNames-remove c.self.inside.in_new.items c.in-Some.place found.0 c.self.invariant.0),
       subst (λ (pairs : List Pair). HaveDistinctNames pairs) (sym pushed) (HaveDistinctNames-push c.self.inside.in_cur.items made c.self.invariant.1 free),
     )

@@ -1,5 +1,5 @@
 use Rattle.std.proofs.Common.{rules, ◌≡◌, ◌<◌, ◌++◌, ◌∷◌, [], ℕ, List, Some, refl, sym, subst, String, Vec, Global}
-use Rattle.mail_store.specs.Refusals.{greatest_count}
+use Rattle.mail_terms.specs.FailureCount.{greatest_count}
 use Rattle.mail_store.specs.Maildir.{HaveDistinctNames}
 use Rattle.mail_store.proofs.DistinctNames.{HaveDistinctNames-push, begun_is_new}
 use Rattle.mail_store.proofs.maildir.memory.MemoryMaildirMaildirDisk.settle.Goals as goal

@@ -1,0 +1,15 @@
+-- The faults that a device may answer, and which of them is a refusal.
+use Rattle.std.specs.Prelude.{◌≡◌, Bool, true, false, ◌⊎◌}
+use Rattle.mail_store.specs.declared.fault.StoreFault.{StoreFault}
+use Rattle.mail_store.specs.declared.fault.StoreFault.TheVariants.{Missing, Refused, NotMbox, NoMemory}
+
+-- whether the device refused the call: such an answer is counted
+abbrev pub is_refusal : StoreFault → Bool
+is_refusal Missing = false
+is_refusal Refused = true
+is_refusal NotMbox = false
+is_refusal NoMemory = false
+
+-- the fault of a call that needs a folder or a file to be there
+abbrev pub IsDeviceFault : StoreFault → Type 0
+IsDeviceFault fault = (fault ≡ Missing) ⊎ (fault ≡ Refused)
