@@ -1,10 +1,10 @@
 #!/usr/bin/env python3
-"""The sample rc file of docs/ is the text that the tests of fetch_rules read."""
+"""The sample rc file of docs/ is the text that the tests of rc_file read."""
 import pathlib
 import sys
 
 top = pathlib.Path(__file__).resolve().parent.parent
 sample = (top / "docs/getmailrc.sample").read_text()
-tests = (top / "crates/fetch_rules/src/rc/tests.rt").read_text()
+tests = (top / "crates/rc_file/src/file/tests.rt").read_text()
 if f'"{sample}";' not in tests:
-    sys.exit("docs/getmailrc.sample and the text in crates/fetch_rules/src/rc/tests.rt differ")
+    sys.exit("docs/getmailrc.sample and the text in crates/rc_file/src/file/tests.rt differ")

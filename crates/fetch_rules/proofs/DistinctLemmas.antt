@@ -2,16 +2,16 @@
 use Rattle.std.proofs.Common.{◌≡◌, ◌≢◌, ℕ, ◌<◌, ◌+◌, ◌-◌, List, Bool, true, false, ◌&&◌, length, get_or, take, sym, ◌∙◌, ap, subst, arith}
 use Rattle.std.specs.Prelude.{bytes_eq, filter, All}
 use Rattle.std.proofs.lemmas.Bool.{not_from_false}
-use Rattle.std.proofs.lemmas.List.{get_or-take, get_or_default, length-take}
+use Rattle.std.proofs.lemmas.List.{get_or-map, get_or-take, get_or_default, length-map, length-take}
 use Rattle.std.proofs.lemmas.List.Elements.{All-weaker}
 use Rattle.std.proofs.lemmas.List.Folds.{list_any_none}
 use Rattle.std.proofs.lemmas.List.FromFn.{length-enumerate_from, get_or-enumerate_from}
 use Rattle.fetch_rules.proofs.FilterLemmas.{filter_same}
 use Rattle.fetch_rules.proofs.IdLemmas.{test_from_other}
-use Rattle.fetch_rules.specs.Listing.{Item, HasDistinctIds}
+use Rattle.mail_terms.specs.Listing.{Item, HasDistinctIds, numbered, has_item, is_first}
 use Rattle.fetch_rules.specs.Record.{Row}
-use Rattle.fetch_rules.specs.Wanted.{numbered, has_item, is_first, is_asked_for, is_candidate, candidates}
-use Rattle.fetch_rules.specs.declared.settings.Settings.{Settings}
+use Rattle.fetch_rules.specs.Wanted.{is_asked_for, is_candidate, candidates}
+use Rattle.rc_file.specs.declared.settings.Settings.{Settings}
 
 -- a message with its number
 abbrev Message : Type 0
@@ -22,11 +22,17 @@ has_item-none : (uid : List ℕ) (items : List Item) → All (λ item. item.uid 
 has_item-none uid items others = list_any_none (λ (item : Item). bytes_eq uid item.uid) items
     (All-weaker (λ item. item.uid ≢ uid) (λ item. bytes_eq uid item.uid ≡ false) (λ item other. test_from_other uid item.uid (λ same. other (sym same))) items others)
 
+-- two messages
+other_ids : (listing : List Item) (j k : ℕ) (e : Item) → HasDistinctIds listing → j < k → k < length listing → (get_or listing j e).uid ≢ (get_or listing k e).uid
+other_ids listing j k e distinct before inside same =
+    distinct j k e.uid before (omega (arith, inside, length-map listing (λ (item : Item). item.uid)))
+    (get_or-map (λ (item : Item). item.uid) listing j e e.uid (omega (arith, before, inside)) ∙ same ∙ sym (get_or-map (λ (item : Item). item.uid) listing k e e.uid inside))
+
 earlier_differ : (listing : List Item) (k : ℕ) (d : Item) → HasDistinctIds listing → k < length listing → All (λ item. item.uid ≢ (get_or listing k d).uid) (take k listing)
 earlier_differ listing k d distinct inside = λ j e within.
     let before : j < k = omega (arith, within, length-take k listing) in
     subst (λ (item : Item). item.uid ≢ (get_or listing k d).uid) (sym (get_or-take k listing j e before))
-    (subst (λ (item : Item). (get_or listing j e).uid ≢ item.uid) (get_or_default listing k e d inside) (distinct j k e before inside))
+    (subst (λ (item : Item). (get_or listing j e).uid ≢ item.uid) (get_or_default listing k e d inside) (other_ids listing j k e distinct before inside))
 
 are_first : (listing : List Item) → HasDistinctIds listing → All (λ message. is_first listing message ≡ true) (numbered listing)
 are_first listing distinct = λ k d inside.

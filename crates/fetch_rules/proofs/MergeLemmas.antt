@@ -10,7 +10,7 @@ use Rattle.std.proofs.lemmas.Slice.Zip.{length-zip, get_or-zip}
 use Rattle.std.proofs.Math.Bool.{or_assoc, or-false}
 use Rattle.std.proofs.lemmas.Bool.{true≢false}
 use Rattle.fetch_rules.proofs.RecordLemmas.{with_delivered-false}
-use Rattle.fetch_rules.specs.Listing.{Item}
+use Rattle.mail_terms.specs.Listing.{Item}
 use Rattle.fetch_rules.specs.Record.{Row, IsRecord, is_of, with_delivered, marked, is_held, with_held, new_ids, undelivered, merged}
 
 -- a held item with this id

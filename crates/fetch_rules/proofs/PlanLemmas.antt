@@ -9,11 +9,11 @@ use Rattle.std.proofs.lemmas.List.Folds.{list_any_none}
 use Rattle.std.proofs.lemmas.List.FromFn.{length-enumerate_from, get_or-enumerate_from}
 use Rattle.std.proofs.lemmas.List.Sums.{sum_by-cons, sum_by_more, count_by-le-length, length-filter}
 use Rattle.fetch_rules.proofs.FilterLemmas.{filter_keeps, filter_leaves}
-use Rattle.fetch_rules.specs.Listing.{Item}
+use Rattle.mail_terms.specs.Listing.{Item, numbered}
 use Rattle.fetch_rules.specs.Record.{Row}
-use Rattle.fetch_rules.specs.Wanted.{numbered, is_candidate, at_most, wanted}
+use Rattle.fetch_rules.specs.Wanted.{is_candidate, at_most, wanted}
 use Rattle.fetch_rules.specs.Plan.{is_among, is_deleted, step_of, planned, retrieved}
-use Rattle.fetch_rules.specs.declared.settings.Settings.{Settings}
+use Rattle.rc_file.specs.declared.settings.Settings.{Settings}
 use Rattle.fetch_rules.specs.declared.steps.Step.{Step}
 
 -- a message with its number

@@ -1,5 +1,5 @@
 -- The lines of the record's file: how they are cut, and that a file stands for one record at most.
-use Rattle.std.proofs.Common.{◌≡◌, ◌≢◌, ℕ, ◌+◌, List, [], ◌∷◌, ◌++◌, Bool, true, false, Some, Bor, take, length, get_or, refl, sym, ◌∙◌, ap, subst, drop, append_assoc, inl, inr, arith, length-append}
+use Rattle.std.proofs.Common.{◌≡◌, ◌≢◌, ℕ, ◌≤◌, ◌+◌, List, [], ◌∷◌, ◌++◌, Bool, true, false, Some, Bor, take, length, get_or, refl, sym, ◌∙◌, ap, subst, drop, append_assoc, inl, inr, arith, length-append}
 use Rattle.std.specs.Prelude.{All, flat_map, min, ◌==◌, nat_eq, MatchOption}
 use Rattle.std.specs.Cmp.Lexicographic.{pointwise}
 use Rattle.std.specs.List.{AllByRecursion}
@@ -14,12 +14,11 @@ use Rattle.std.proofs.lemmas.List.Folds.{list_any_at, Any-from_list_any}
 use Rattle.std.proofs.lemmas.List.Quantifiers.{all_pairs_push}
 use Rattle.std.proofs.lemmas.Fmt.{decimal_injective}
 use Rattle.std.proofs.lemmas.Bool.{true≢false}
-use Rattle.fetch_rules.specs.LegalId.{IsIdCharacter}
 use Rattle.fetch_rules.specs.Record.{Row, IsRow, IsRecord, is_of, has_row}
 use Rattle.fetch_rules.specs.RecordFile.{header, state_of, line_of, StandsFor, BeginsWith, line_after, HasBadRow, HasRepeatedId, IsFaultOf}
 use Rattle.fetch_rules.specs.declared.seen.SeenFault.{SeenFault}
 use Rattle.fetch_rules.specs.declared.seen.SeenFault.TheVariants.{BadHeader, BadRow, RepeatedId, NoMemory}
-use Rattle.fetch_rules.proofs.IdLemmas.{same_from_test, test_from_same}
+use Rattle.fetch_rules.proofs.IdLemmas.{id_characters, id_some, same_from_test, test_from_same}
 use Rattle.fetch_rules.proofs.NumeralLemmas.{no_space-decimal}
 
 -- no space stands in the bytes
@@ -46,7 +45,7 @@ uncut a y xs none e = go a (subst HasNoSpace e none)
     go (c ∷ front) none' = go front none'.1
 
 pub HasNoSpace-uid : (row : Row) → IsRow row → HasNoSpace row.uid
-HasNoSpace-uid row is = recursion_from_All _ row.uid (All-weaker IsIdCharacter (λ byte. byte ≢ 32) (λ byte within same. absurd (omega (arith, within.0, same))) row.uid is.legal.2)
+HasNoSpace-uid row is = recursion_from_All _ row.uid (All-weaker (λ byte. (0x21 ≤ byte) × (byte ≤ 0x7E)) (λ byte. byte ≢ 32) (λ byte within same. absurd (omega (arith, within.0, same))) row.uid (id_characters row.uid is.legal))
 
 pub HasNoSpace-decimal : (row : Row) → IsRow row → HasNoSpace (decimal row.first_seen)
 HasNoSpace-decimal row is = recursion_from_All _ _ (no_space-decimal row.first_seen is.fits)
@@ -122,7 +121,7 @@ not_empty (x ∷ xs) empty is e same = cc
 
 -- a file stands for one record at most
 nonempty : (row : Row) (behind : List ℕ) → IsRow row → line_of row ++ behind ≡ [] → ⊥
-nonempty row behind is e = omega (arith, is.legal.0, ap length e, ap length (line_split row behind), length-append row.uid (32 ∷ (decimal row.first_seen ++ 32 ∷ (state_of row.delivered ++ behind))))
+nonempty row behind is e = omega (arith, id_some row.uid is.legal, ap length e, ap length (line_split row behind), length-append row.uid (32 ∷ (decimal row.first_seen ++ 32 ∷ (state_of row.delivered ++ behind))))
 
 record Follows (rows front : List Row) (rest : List ℕ) : Type 0 where
   more : List Row

@@ -1,6 +1,6 @@
 -- Which messages are to be deleted for their age.
 use Rattle.std.specs.Prelude.{ℕ, ◌-◌, ◌*◌, Bool, not, ◌&&◌, ◌||◌, ◌==◌, nat_le}
-use Rattle.fetch_rules.specs.declared.settings.Settings.{Settings}
+use Rattle.rc_file.specs.declared.settings.Settings.{Settings}
 
 -- all are to be deleted, or those first seen so many days ago, where 0 sets no age; a clock that
 -- went back makes no message older

@@ -1,11 +1,11 @@
 -- What is done with each message of a listing.
 use Rattle.std.specs.Prelude.{ℕ, Bool, ◌&&◌, ◌||◌, ◌==◌, List, map, filter, zip, unwrap_or}
 use Rattle.std.specs.List.{list_any}
-use Rattle.fetch_rules.specs.Listing.{Item}
+use Rattle.mail_terms.specs.Listing.{Item, numbered, is_first, is_last}
 use Rattle.fetch_rules.specs.Record.{Row, is_delivered, first_seen_of}
-use Rattle.fetch_rules.specs.Wanted.{numbered, is_first, is_last, wanted}
+use Rattle.fetch_rules.specs.Wanted.{wanted}
 use Rattle.fetch_rules.specs.Due.{is_due}
-use Rattle.fetch_rules.specs.declared.settings.Settings.{Settings}
+use Rattle.rc_file.specs.declared.settings.Settings.{Settings}
 use Rattle.fetch_rules.specs.declared.steps.Step.{Step}
 
 -- whether a message of this number is among these

@@ -2,8 +2,8 @@
 -- A message is known by its unique-id (RFC 1939, section 7, UIDL).
 use Rattle.std.specs.Prelude.{◌≢◌, ℕ, ◌<◌, ◌^◌, Bool, false, ◌&&◌, ◌||◌, not, List, [], ◌∷◌, ◌++◌, Option, map, filter, find, zip, All, AllPairs, bytes_eq, option_map}
 use Rattle.std.specs.List.{list_any}
-use Rattle.fetch_rules.specs.LegalId.{IsLegalId}
-use Rattle.fetch_rules.specs.Listing.{Item}
+use Rattle.mail_terms.specs.UniqueId.{IsLegalId}
+use Rattle.mail_terms.specs.Listing.{Item}
 
 -- one message: its id, the second since 1970 at which it was first listed, and whether it was
 -- delivered

@@ -1,25 +1,8 @@
 -- Which messages of a listing are fetched.
-use Rattle.std.specs.Prelude.{◌≡◌, ℕ, ◌-◌, Bool, not, ◌&&◌, ◌||◌, ◌==◌, nat_le, List, take, drop, filter, bytes_eq, if◌then◌else◌}
-use Rattle.std.specs.List.{list_any, enumerate_from}
-use Rattle.fetch_rules.specs.Listing.{Item, HasDistinctIds}
+use Rattle.std.specs.Prelude.{◌≡◌, ℕ, Bool, not, ◌&&◌, ◌||◌, ◌==◌, nat_le, List, take, filter, if◌then◌else◌}
+use Rattle.mail_terms.specs.Listing.{Item, HasDistinctIds, numbered, is_first}
 use Rattle.fetch_rules.specs.Record.{Row, is_delivered}
-use Rattle.fetch_rules.specs.declared.settings.Settings.{Settings}
-
--- each message with its number, counted from 1
-abbrev pub numbered : List Item → List (ℕ × Item)
-numbered listing = enumerate_from 1 listing
-
--- whether an item of these has the id
-abbrev pub has_item : List Item → List ℕ → Bool
-has_item items uid = list_any (λ item. bytes_eq uid item.uid) items
-
--- whether no earlier message has the id
-abbrev pub is_first : List Item → ℕ × Item → Bool
-is_first listing message = not (has_item (take (message.0 - 1) listing) message.1.uid)
-
--- whether no later message has the id
-abbrev pub is_last : List Item → ℕ × Item → Bool
-is_last listing message = not (has_item (drop message.0 listing) message.1.uid)
+use Rattle.rc_file.specs.declared.settings.Settings.{Settings}
 
 -- whether a size is within the limit, where 0 sets none
 abbrev pub is_within : ℕ → ℕ → Bool

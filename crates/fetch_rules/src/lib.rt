@@ -1,26 +1,24 @@
-//! What a POP3 retriever decides, as rules over values: the settings of an rc file, which messages of
-//! a maildrop are fetched, which are deleted, and what is remembered from one session to the next.
-//! Nothing here waits for anybody: no call reads a file, a socket or the clock.
+//! What a POP3 retriever decides, as rules over values: which messages of a maildrop are fetched, which
+//! are deleted, and what is remembered from one session to the next. Settings come from `rc_file`, and
+//! listings from `mail_terms`. Nothing here waits for anybody: no call reads a file, a socket or the
+//! clock.
 #![tactic(auto)]
 
-pub mod flags;
-pub mod legal_id;
-pub mod listing;
-mod numbering;
-pub mod rc;
-pub mod seen;
-pub mod settings;
-pub mod steps;
-pub mod texts;
+mod laws;
+#[cfg(test)]
+mod listing;
+mod seen;
+mod steps;
 
-pub use flags::{Flags, override_with};
-pub use legal_id::is_legal_id;
-pub use listing::{Listing, ListingFault, MESSAGE_LIMIT, ScanRow, UidRow, have_legal_ids};
-pub use rc::fault::RcFault;
-pub use rc::key::{Key, Section};
-pub use rc::read_rc;
-pub use rc::warning::Warning;
+pub use laws::{
+    firsts_are_fetched, held_is_delivered, listed_has_row, marked_is_delivered, marked_keeps_rows,
+};
+pub use mail_terms::{
+    Listing, ListingFault, MESSAGE_LIMIT, ScanRow, UidRow, have_legal_ids, is_legal_id,
+};
+pub use rc_file::{
+    Dest, Flags, Key, RcFault, Section, Settings, Warning, full_path, override_with, rc_text,
+    read_rc, warning_text,
+};
 pub use seen::{Seen, SeenFault};
-pub use settings::{Dest, Settings, full_path};
 pub use steps::{Step, distinct_messages_are_filtered, plan};
-pub use texts::{rc_text, warning_text};

@@ -2,13 +2,13 @@
 
 ghost use Rattle.std.specs.Prelude.{◌≡◌, ◌≢◌, [], length, map, true, not, position, All, OnErr, OnOk, IfOk};
 ghost use Rattle.std.specs.Bool.{OnTrue, OnFalse};
-ghost use Rattle.fetch_rules.specs.LegalId.{IsLegalId};
+ghost use Rattle.mail_terms.specs.UniqueId.{IsLegalId};
 ghost use Rattle.fetch_rules.specs.Record.{IsRow, IsRecord, is_of, has_row, is_delivered, first_seen_of, marked, with_held, new_ids, undelivered, merged};
 
 mod fields;
 mod file;
 
-use crate::listing::Listing;
+use mail_terms::Listing;
 use std::alloc::{AllocError, AllocFailed, Global};
 use std::marker::Model;
 use thiserror::Error;

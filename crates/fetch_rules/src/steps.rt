@@ -5,9 +5,9 @@ ghost use Rattle.fetch_rules.specs.Wanted.{is_candidate, wanted, DistinctAreFilt
 ghost use Rattle.fetch_rules.specs.Due.{is_due};
 ghost use Rattle.fetch_rules.specs.Plan.{is_deleted, planned, retrieved};
 
-use crate::listing::Listing;
 use crate::seen::Seen;
-use crate::settings::Settings;
+use mail_terms::Listing;
+use rc_file::Settings;
 use std::alloc::{AllocError, Global};
 
 const SECONDS_PER_DAY: u64 = 86_400;

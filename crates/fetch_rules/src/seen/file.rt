@@ -8,7 +8,7 @@ ghost use Rattle.fetch_rules.specs.RecordFile.{header, state_of, line_of, file_o
 
 use super::fields::{cut_at, read_number};
 use super::{Row, Seen, SeenFault, has_row};
-use crate::legal_id::is_legal_id;
+use mail_terms::is_legal_id;
 use std::alloc::{AllocError, Global};
 
 /// The line of the header.

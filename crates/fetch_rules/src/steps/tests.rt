@@ -1,6 +1,6 @@
 use super::*;
 use crate::listing::tests::listing_of;
-use crate::settings::Dest;
+use rc_file::Dest;
 use std::test::Fail;
 
 /// Settings with nothing asked for: new messages alone, nothing deleted, no limits.

@@ -1,6 +1,6 @@
 use Rattle.std.proofs.Common.{◌∙◌, sym, subst}
 use Rattle.std.proofs.lemmas.Bool.{true≢false}
-use Rattle.fetch_rules.specs.LegalId.{IsLegalId}
+use Rattle.mail_terms.specs.UniqueId.{IsLegalId}
 use Rattle.fetch_rules.proofs.RecordFileLemmas.{not_line-no_uid, not_line-no_number, uid_of_line, number_of_line}
 use Rattle.fetch_rules.proofs.seen.file.read_row.Goals as goal
 
@@ -10,7 +10,7 @@ returns-in_err-uid-clause-none c = rw c.from_residual.ensures (λ row behind is 
 pub returns-then-not-is_legal_id-clause-none : goal.returns-then-not-is_legal_id-clause-none
 returns-then-not-is_legal_id-clause-none c = λ row behind is line.
     let parts = uid_of_line _ _ _ row behind c.in_ok-uid.ensures.found c.in_ok-uid.ensures.first is line in
-    true≢false (sym (c.is_legal_id.ensures.1 (subst IsLegalId (sym parts.0) is.legal)) ∙ c.if-not-is_legal_id.true)
+    true≢false (sym (c.is_legal_id.ensures ∙ subst IsLegalId (sym parts.0) is.legal) ∙ c.if-not-is_legal_id.true)
 
 pub returns-in_err-number-clause-none : goal.returns-in_err-number-clause-none
 returns-in_err-number-clause-none c = rw c.from_residual-in_err-number.ensures (λ row behind is line.

@@ -1,0 +1,63 @@
+-- A plan fetches only messages whose id no earlier message has.
+use Rattle.std.proofs.Common.{◌≡◌, ◌<◌, ◌+◌, ◌-◌, ℕ, Bool, true, false, List, [], ◌∷◌, ◌++◌, map, take, get_or, length, refl, sym, ap, ◌∙◌, arith, append_assoc, length-append}
+use Rattle.std.specs.Prelude.{◌&&◌, not}
+use Rattle.std.specs.List.{enumerate_from}
+use Rattle.std.proofs.lemmas.Bool.{true≢false}
+use Rattle.std.proofs.lemmas.List.{take_at}
+use Rattle.std.proofs.lemmas.List.FromFn.{get_or-enumerate_from}
+use Rattle.mail_terms.specs.Listing.{Item, has_item, numbered, is_first}
+use Rattle.fetch_rules.specs.Record.{Row}
+use Rattle.fetch_rules.specs.Wanted.{is_asked_for, is_candidate}
+use Rattle.fetch_rules.specs.Plan.{planned, step_of}
+use Rattle.fetch_rules.specs.Laws.{FetchesFirsts}
+use Rattle.rc_file.specs.declared.settings.Settings.{Settings}
+use Rattle.fetch_rules.proofs.PlanLemmas.{is_among-at_most}
+
+both_true : (a b : Bool) → (a && b) ≡ true → (a ≡ true) × (b ≡ true)
+both_true true b e = (refl, e)
+both_true false b e = absurd (true≢false (sym e))
+
+not_true : (a : Bool) → not a ≡ true → a ≡ false
+not_true true e = sym e
+not_true false e = refl
+
+-- the plan fetches only such messages
+first_of : (settings : Settings) (rows : List Row) (front is : List Item) (i : Item) (now : ℕ)
+    → (step_of settings rows (front ++ i ∷ is) now (length front + 1, i)).retrieve ≡ true → has_item front i.uid ≡ false
+first_of settings rows front is i now fetched =
+    not_true (has_item front i.uid)
+    (ap (λ (l : List Item). not (has_item l i.uid)) (sym whole) ∙ (both_true (is_first listing (length front + 1, i)) (is_asked_for settings rows (length front + 1, i)) candidate).0)
+  where
+    listing : List Item
+    listing = front ++ i ∷ is
+
+    inside : length front < length (front ++ i ∷ is)
+    inside = omega (arith, length-append front (i ∷ is))
+
+    whole : take (length front + 1 - 1) (front ++ i ∷ is) ≡ front
+    whole = ap (λ (n : ℕ). take n (front ++ i ∷ is)) (omega arith) ∙ take_at front (i ∷ is) (length front) refl
+
+    at : (d : ℕ × Item) → get_or (numbered (front ++ i ∷ is)) (length front) d ≡ (length front + 1, i)
+    at d = get_or-enumerate_from 1 (front ++ i ∷ is) (length front) d inside ∙ ap (λ (n : ℕ). let m : ℕ × Item = (n, get_or (front ++ i ∷ is) (length front) d.1) in m) (omega arith)
+        ∙ ap (λ (item : Item). let m : ℕ × Item = (length front + 1, item) in m) (middle front)
+      where
+        middle : (front : List Item) → get_or (front ++ i ∷ is) (length front) d.1 ≡ i
+        middle [] = refl
+        middle (x ∷ xs) = middle xs
+
+    candidate : is_candidate settings rows (front ++ i ∷ is) (length front + 1, i) ≡ true
+    candidate = ap (is_candidate settings rows (front ++ i ∷ is)) (sym (at (0, i)))
+        ∙ (both_true (is_candidate settings rows (front ++ i ∷ is) (get_or (numbered (front ++ i ∷ is)) (length front) (0, i))) _
+        (sym (is_among-at_most (is_candidate settings rows (front ++ i ∷ is)) settings.max_count (length front) (front ++ i ∷ is) (0, i) inside) ∙ fetched)).0
+
+firsts_from : (settings : Settings) (rows : List Row) (listing front rest : List Item) (now k : ℕ) → listing ≡ front ++ rest → k ≡ length front + 1
+    → FetchesFirsts front (map (step_of settings rows listing now) (enumerate_from k rest)) rest
+firsts_from settings rows listing front [] now k is at = tt
+firsts_from settings rows listing front (i ∷ rest) now k is at = (
+  λ fetched. first_of settings rows front rest i now
+      (ap (λ (l : List Item). (step_of settings rows l now (length front + 1, i)).retrieve) (sym is) ∙ ap (λ (n : ℕ). (step_of settings rows listing now (n, i)).retrieve) (sym at) ∙ fetched),
+  firsts_from settings rows listing (front ++ i ∷ []) rest now (k + 1) (is ∙ sym (append_assoc front (i ∷ []) rest)) (omega (arith, at, length-append front (i ∷ []))),
+)
+
+pub firsts_planned : (settings : Settings) (rows : List Row) (listing : List Item) (now : ℕ) → FetchesFirsts [] (planned settings rows listing now) listing
+firsts_planned settings rows listing now = firsts_from settings rows listing [] listing now 1 refl (omega arith)

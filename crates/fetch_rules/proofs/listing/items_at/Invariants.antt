@@ -1,6 +1,0 @@
-use Rattle.std.proofs.Common.{◌≡◌, length}
-use Rattle.fetch_rules.specs.Listing.{AreAt}
-use Rattle.fetch_rules.proofs.listing.items_at.Given as goal
-
-abbrev pub invariant-loop-index : goal.invariant-loop-index
-invariant-loop-index l = (length l.items.items ≡ l.index) × AreAt l.uids l.uid_places l.sizes l.size_places l.items.items

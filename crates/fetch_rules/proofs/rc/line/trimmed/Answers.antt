@@ -1,9 +1,0 @@
-use Rattle.std.proofs.Common.{◌<◌, ℕ, subst, sym}
-use Rattle.std.specs.Str.{IsCharBoundary}
-use Rattle.fetch_rules.proofs.RcLineLemmas.{front_boundary}
-use Rattle.fetch_rules.proofs.rc.line.trimmed.Goals as goal
-
-pub range_from-requires : goal.range_from-requires
-range_from-requires c =
-    let same = sym c.front_blanks.ensures.count in
-    subst (λ (n : ℕ). 0 < n → IsCharBoundary c.args.text.now n) same (front_boundary c.args.text.now c.utf8.text)

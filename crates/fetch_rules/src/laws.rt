@@ -1,0 +1,39 @@
+//! Laws of the record and of plans, for the crates above: a function here does nothing, and its
+//! contract is the law.
+
+ghost use Rattle.std.specs.Prelude.{◌≡◌, ℕ, ◌&&◌, ◌||◌, Bool, List, [], bytes_eq};
+ghost use Rattle.mail_terms.specs.Listing.{Item, has_item};
+ghost use Rattle.fetch_rules.specs.Laws.{FetchesFirsts};
+ghost use Rattle.fetch_rules.specs.Plan.{planned};
+ghost use Rattle.fetch_rules.specs.Record.{Row, has_row, is_delivered, is_held, marked, merged};
+
+use rc_file::Settings;
+
+/// A plan fetches only messages whose id no earlier message has, so no id twice.
+pub fn firsts_are_fetched()
+    ensures { (settings : Settings) (rows : List Row) (listing : List Item) (now : ℕ) → FetchesFirsts [] (planned settings rows listing now) listing }
+{}
+
+/// After a merge an id is recorded as delivered where it was before, or is held.
+pub fn held_is_delivered()
+    ensures { (rows : List Row) (listing : List Item) (held : List Bool) (now : ℕ) (uid : List ℕ)
+        → is_delivered (merged rows listing held now) uid ≡ is_delivered rows uid || is_held listing held uid }
+{}
+
+/// After a merge an id has a row where it had one before, or is listed.
+pub fn listed_has_row()
+    ensures { (rows : List Row) (listing : List Item) (held : List Bool) (now : ℕ) (uid : List ℕ)
+        → has_row (merged rows listing held now) uid ≡ has_row rows uid || has_item listing uid }
+{}
+
+/// After a mark an id is recorded as delivered where it was before, or has a row and is the one
+/// that was marked.
+pub fn marked_is_delivered()
+    ensures { (rows : List Row) (uid other : List ℕ)
+        → is_delivered (marked rows uid) other ≡ is_delivered rows other || (has_row rows other && bytes_eq uid other) }
+{}
+
+/// After a mark the same ids have rows.
+pub fn marked_keeps_rows()
+    ensures { (rows : List Row) (uid other : List ℕ) → has_row (marked rows uid) other ≡ has_row rows other }
+{}

@@ -1,0 +1,8 @@
+mod FaultLemmas
+mod LineLemmas
+mod RcMeaningLemmas
+mod RowLemmas
+mod SectionReadingLemmas
+mod TextLemmas
+mod ValueLemmas
+mod WarningLemmas

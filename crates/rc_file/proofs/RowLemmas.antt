@@ -1,0 +1,190 @@
+-- Reading a file line by line gives its rows.
+use Rattle.std.proofs.Common.{◌≡◌, ℕ, ◌+◌, ◌-◌, ◌<◌, ◌≤◌, suc, zero, Result, Ok, Err, List, [], ◌∷◌, ◌++◌, length, take, get_or, set, map, true, false, Option, Some, None, sym, ap, ◌∙◌, refl, arith}
+use Rattle.std.proofs.lemmas.List.{append-nil, append_assoc, map-append}
+use Rattle.std.specs.Char.{to_ascii_lowercase}
+use Rattle.rc_file.specs.LineRules.{RcLine, skipped, more, section, key, bad}
+use Rattle.rc_file.specs.FileRows.{RcRow, section_row, key_row, bad_row, added, rows_from}
+use Rattle.rc_file.specs.RcMeaning.{first_bad}
+use Rattle.rc_file.specs.RowReading.{row_of, row_at, rows_in, continued_row, continued, section_in, last_section, is_key_row, ends_in_key, file_rows, AddsText, TakesLine}
+use Rattle.rc_file.specs.declared.fault.RcFault.{RcFault}
+use Rattle.rc_file.specs.declared.fault.RcFault.TheVariants.{TooLong, BadLine, MissingSection, MissingKey, UnknownType, BadValue, Unsupported, BadPath, Contradiction, NoMemory}
+use Rattle.rc_file.specs.declared.row.ReadRow.{ReadRow}
+use Rattle.rc_file.specs.declared.row.Entry.{Entry}
+
+-- what is asked of the last of some rows
+
+pub continued-last : (rows : List RcRow) (row : RcRow) (text : List ℕ) → continued (rows ++ (row ∷ [])) text ≡ rows ++ (continued_row row text ∷ [])
+continued-last [] row text = refl
+continued-last (first ∷ []) row text = refl
+continued-last (first ∷ next ∷ rows) row text = ap (λ (l : List RcRow). first ∷ l) (continued-last (next ∷ rows) row text)
+
+pub last_section-last : (rows : List RcRow) (row : RcRow) → last_section (rows ++ (row ∷ [])) ≡ section_in row
+last_section-last [] row = refl
+last_section-last (first ∷ []) row = refl
+last_section-last (first ∷ next ∷ rows) row = last_section-last (next ∷ rows) row
+
+pub ends_in_key-last : (rows : List RcRow) (row : RcRow) → ends_in_key (rows ++ (row ∷ [])) ≡ is_key_row row
+ends_in_key-last [] row = refl
+ends_in_key-last (first ∷ []) row = refl
+ends_in_key-last (first ∷ next ∷ rows) row = ends_in_key-last (next ∷ rows) row
+
+continued_row-nil : (row : RcRow) → continued_row row [] ≡ row
+continued_row-nil (section_row n name) = refl
+continued_row-nil (key_row n name word value) = ap (λ (v : List ℕ). key_row n name word v) (append-nil value)
+continued_row-nil (bad_row n) = refl
+
+pub continued-nil : (rows : List RcRow) → continued rows [] ≡ rows
+continued-nil [] = refl
+continued-nil (row ∷ []) = ap (λ (r : RcRow). r ∷ []) (continued_row-nil row)
+continued-nil (row ∷ next ∷ rows) = ap (λ (l : List RcRow). row ∷ l) (continued-nil (next ∷ rows))
+
+-- each kind of line
+
+pub file_rows-skipped : (rows : List RcRow) (n : ℕ) (lines : List RcLine) → file_rows rows n (skipped ∷ lines) ≡ file_rows rows (n + 1) lines
+unfolding file_rows
+file_rows-skipped rows n lines = refl
+
+pub file_rows-section : (rows : List RcRow) (n : ℕ) (name : List ℕ) (lines : List RcLine) → file_rows rows n (section name ∷ lines) ≡ file_rows (rows ++ (section_row n name ∷ [])) (n + 1) lines
+unfolding file_rows
+file_rows-section rows n name lines =
+    rw (continued-nil rows, continued-last rows (section_row n name) (added lines), last_section-last rows (section_row n name), ends_in_key-last rows (section_row n name))
+    (sym (append_assoc rows (section_row n name ∷ []) (rows_from (Some name) false (n + 1) lines)))
+
+pub file_rows-key : (rows : List RcRow) (n : ℕ) (name word value : List ℕ) (lines : List RcLine) → last_section rows ≡ Some name
+    → file_rows rows n (key word value ∷ lines) ≡ file_rows (rows ++ (key_row n name (map to_ascii_lowercase word) value ∷ [])) (n + 1) lines
+unfolding file_rows
+file_rows-key rows n name word value lines within =
+    rw (within, continued-nil rows, continued-last rows (key_row n name (map to_ascii_lowercase word) value) (added lines), last_section-last rows (key_row n name (map to_ascii_lowercase word) value), ends_in_key-last rows (key_row n name (map to_ascii_lowercase word) value))
+    (sym (append_assoc rows (key_row n name (map to_ascii_lowercase word) (value ++ added lines) ∷ []) (rows_from (Some name) true (n + 1) lines)))
+
+pub file_rows-more : (rows : List RcRow) (row : RcRow) (n : ℕ) (text : List ℕ) (lines : List RcLine) → is_key_row row ≡ true
+    → file_rows (rows ++ (row ∷ [])) n (more text ∷ lines) ≡ file_rows (rows ++ (continued_row row (10 ∷ text) ∷ [])) (n + 1) lines
+unfolding file_rows
+file_rows-more rows (section_row m name) n text lines is_key = absurd (none is_key)
+  where
+    none : false ≡ true → ⊥
+    none h = cc
+file_rows-more rows (bad_row m) n text lines is_key = absurd (none is_key)
+  where
+    none : false ≡ true → ⊥
+    none h = cc
+file_rows-more rows (key_row m name word value) n text lines is_key =
+    rw (
+      continued-last rows (key_row m name word value) (10 ∷ (text ++ added lines)),
+      last_section-last rows (key_row m name word value),
+      ends_in_key-last rows (key_row m name word value),
+      continued-last rows (key_row m name word (value ++ (10 ∷ text))) (added lines),
+      last_section-last rows (key_row m name word (value ++ (10 ∷ text))),
+      ends_in_key-last rows (key_row m name word (value ++ (10 ∷ text))),
+    )
+    (ap (λ (v : List ℕ). (rows ++ (key_row m name word v ∷ [])) ++ rows_from (Some name) true (n + 1) lines) (sym (append_assoc value (10 ∷ text) (added lines))))
+
+-- rows that were read are never bad
+first_bad-read : (read : List ReadRow) (text : List ℕ) (more_rows : List RcRow) → first_bad (continued (rows_in read) text ++ more_rows) ≡ first_bad more_rows
+first_bad-read [] text others = refl
+first_bad-read (row ∷ []) text others = last_read row.line row.section.now row.entry text others
+  where
+    last_read : (n : ℕ) (name : List ℕ) (entry : Option Entry) (text : List ℕ) (others : List RcRow) → first_bad (continued_row (row_at n name entry) text ∷ others) ≡ first_bad others
+    last_read n name None text others = refl
+    last_read n name (Some entry) text others = refl
+first_bad-read (row ∷ next ∷ read) text others =
+    read_before row.line row.section.now row.entry (continued (rows_in (next ∷ read)) text ++ others) ∙ first_bad-read (next ∷ read) text others
+  where
+    read_before : (n : ℕ) (name : List ℕ) (entry : Option Entry) (others : List RcRow) → first_bad (row_at n name entry ∷ others) ≡ first_bad others
+    read_before n name None others = refl
+    read_before n name (Some entry) others = refl
+
+pub first_bad-bad : (read : List ReadRow) (n : ℕ) (lines : List RcLine) → first_bad (file_rows (rows_in read) n (bad ∷ lines)) ≡ Some (BadLine n)
+unfolding file_rows
+first_bad-bad read n lines = first_bad-read read [] _
+
+pub first_bad-more : (read : List ReadRow) (n : ℕ) (text : List ℕ) (lines : List RcLine) → ends_in_key (rows_in read) ≡ false → first_bad (file_rows (rows_in read) n (more text ∷ lines)) ≡ Some (BadLine n)
+unfolding file_rows
+first_bad-more read n text lines none = first_bad-read read _ _ ∙ rw none
+
+pub first_bad-key : (read : List ReadRow) (n : ℕ) (word value : List ℕ) (lines : List RcLine) → last_section (rows_in read) ≡ None → first_bad (file_rows (rows_in read) n (key word value ∷ lines)) ≡ Some (BadLine n)
+unfolding file_rows
+first_bad-key read n word value lines none = first_bad-read read [] _ ∙ rw none
+
+-- the last of some rows, by its place
+pub split_last : (read : List ReadRow) (k : ℕ) (row : ReadRow) → row ≡ get_or read k row → suc k ≡ length read → read ≡ take k read ++ (row ∷ [])
+split_last [] k row same at_end = absurd (omega arith)
+split_last (x ∷ []) zero row same at_end = ap (λ (r : ReadRow). r ∷ []) (sym same)
+split_last (x ∷ y ∷ xs) zero row same at_end = absurd (omega arith)
+split_last (x ∷ xs) (suc k) row same at_end = ap (λ (l : List ReadRow). x ∷ l) (split_last xs k row same (omega arith))
+
+pub set_last : (read : List ReadRow) (k : ℕ) (row : ReadRow) → suc k ≡ length read → set read k row ≡ take k read ++ (row ∷ [])
+set_last [] k row at_end = absurd (omega arith)
+set_last (x ∷ []) zero row at_end = refl
+set_last (x ∷ y ∷ xs) zero row at_end = absurd (omega arith)
+set_last (x ∷ xs) (suc k) row at_end = ap (λ (l : List ReadRow). x ∷ l) (set_last xs k row (omega arith))
+
+pub rows_in-push : (old new : List ReadRow) (row : ReadRow) → new ≡ old ++ (row ∷ []) → rows_in new ≡ rows_in old ++ (row_of row ∷ [])
+rows_in-push old new row e = ap rows_in e ∙ map-append row_of old (row ∷ [])
+
+section_in-row_of : (n : ℕ) (name : List ℕ) (entry : Option Entry) → section_in (row_at n name entry) ≡ Some name
+section_in-row_of n name None = refl
+section_in-row_of n name (Some entry) = refl
+
+pub last_section-read : (read : List ReadRow) (k : ℕ) (row : ReadRow) → row ≡ get_or read k row → suc k ≡ length read → last_section (rows_in read) ≡ Some row.section.now
+last_section-read read k row same at_end =
+    ap last_section (rows_in-push (take k read) read row (split_last read k row same at_end))
+    ∙ last_section-last (rows_in (take k read)) (row_of row)
+    ∙ section_in-row_of row.line row.section.now row.entry
+
+pub ends_in_key-read : (read : List ReadRow) (k : ℕ) (row : ReadRow) → row ≡ get_or read k row → suc k ≡ length read → ends_in_key (rows_in read) ≡ is_key_row (row_of row)
+ends_in_key-read read k row same at_end =
+    ap ends_in_key (rows_in-push (take k read) read row (split_last read k row same at_end))
+    ∙ ends_in_key-last (rows_in (take k read)) (row_of row)
+
+pub rows_in-none : (read : List ReadRow) → length read ≡ 0 → rows_in read ≡ []
+rows_in-none [] e = refl
+rows_in-none (row ∷ read) e = absurd (omega arith)
+
+pub key_misplaced : (read slice : List ReadRow) → slice ≡ read → length slice ≤ 0 → last_section (rows_in read) ≡ None
+key_misplaced read slice same none = ap last_section (rows_in-none read (omega (arith, ap (λ (l : List ReadRow). length l) same)))
+
+pub key_placed : (read slice : List ReadRow) (row : ReadRow) → slice ≡ read → 0 < length slice → row ≡ get_or slice (length slice - 1) row → last_section (rows_in read) ≡ Some row.section.now
+key_placed read slice row same some found =
+    let at_end : suc (length slice - 1) ≡ length slice = omega arith in
+    ap (λ (l : List ReadRow). last_section (rows_in l)) (sym same) ∙ last_section-read slice (length slice - 1) row found at_end
+
+-- a line goes on with the last row's value
+pub more_taken : (read : List ReadRow) (k : ℕ) (row new : ReadRow) (n : ℕ) (text : List ℕ) (result : Result (Unit {0}) RcFault)
+    → row ≡ get_or read k row → suc k ≡ length read → AddsText (row_of row) n text result (row_of new) → TakesLine read n (more text) result (set read k new)
+more_taken read k row new n text (Ok done) same at_end h = λ lines.
+    ap (λ (rows : List RcRow). file_rows rows n (more text ∷ lines)) (rows_in-push (take k read) read row (split_last read k row same at_end))
+    ∙ file_rows-more (rows_in (take k read)) (row_of row) n text lines h.0
+    ∙ ap (λ (r : RcRow). file_rows (rows_in (take k read) ++ (r ∷ [])) (n + 1) lines) (sym h.1)
+    ∙ ap (λ (rows : List RcRow). file_rows rows (n + 1) lines) (sym (rows_in-push (take k read) (set read k new) new (set_last read k new at_end)))
+more_taken read k row new n text (Err NoMemory) same at_end h = λ lines. tt
+more_taken read k row new n text (Err TooLong) same at_end h = λ lines.
+    first_bad-more read n text lines (ends_in_key-read read k row same at_end ∙ h.0) ∙ ap (λ (e : RcFault). Some e) (sym h.1)
+more_taken read k row new n text (Err (BadLine a)) same at_end h = λ lines.
+    first_bad-more read n text lines (ends_in_key-read read k row same at_end ∙ h.0) ∙ ap (λ (e : RcFault). Some e) (sym h.1)
+more_taken read k row new n text (Err (MissingSection a)) same at_end h = λ lines.
+    first_bad-more read n text lines (ends_in_key-read read k row same at_end ∙ h.0) ∙ ap (λ (e : RcFault). Some e) (sym h.1)
+more_taken read k row new n text (Err (MissingKey a)) same at_end h = λ lines.
+    first_bad-more read n text lines (ends_in_key-read read k row same at_end ∙ h.0) ∙ ap (λ (e : RcFault). Some e) (sym h.1)
+more_taken read k row new n text (Err (UnknownType a)) same at_end h = λ lines.
+    first_bad-more read n text lines (ends_in_key-read read k row same at_end ∙ h.0) ∙ ap (λ (e : RcFault). Some e) (sym h.1)
+more_taken read k row new n text (Err (BadValue a)) same at_end h = λ lines.
+    first_bad-more read n text lines (ends_in_key-read read k row same at_end ∙ h.0) ∙ ap (λ (e : RcFault). Some e) (sym h.1)
+more_taken read k row new n text (Err (Unsupported a)) same at_end h = λ lines.
+    first_bad-more read n text lines (ends_in_key-read read k row same at_end ∙ h.0) ∙ ap (λ (e : RcFault). Some e) (sym h.1)
+more_taken read k row new n text (Err BadPath) same at_end h = λ lines.
+    first_bad-more read n text lines (ends_in_key-read read k row same at_end ∙ h.0) ∙ ap (λ (e : RcFault). Some e) (sym h.1)
+more_taken read k row new n text (Err Contradiction) same at_end h = λ lines.
+    first_bad-more read n text lines (ends_in_key-read read k row same at_end ∙ h.0) ∙ ap (λ (e : RcFault). Some e) (sym h.1)
+
+pub more_misplaced : (read : List ReadRow) → length read ≡ 0 → ends_in_key (rows_in read) ≡ false
+more_misplaced read none = ap ends_in_key (rows_in-none read none)
+
+-- before the first line, and after the last
+pub file_rows-start : (lines : List RcLine) → rows_from None false 1 lines ≡ file_rows [] 1 lines
+unfolding file_rows
+file_rows-start lines = refl
+
+pub file_rows-end : (rows : List RcRow) (n : ℕ) → file_rows rows n [] ≡ rows
+unfolding file_rows
+file_rows-end rows n = append-nil (continued rows []) ∙ continued-nil rows

@@ -1,0 +1,10 @@
+use Rattle.std.proofs.Common.{drop, map}
+use Rattle.std.specs.List.{filter}
+use Rattle.rc_file.specs.RcMeaning.{has_no_effect, warned, warnings_in}
+use Rattle.rc_file.specs.RowReading.{rows_in}
+use Rattle.rc_file.specs.WarningSearch.{IsFinding, warning_of}
+use Rattle.rc_file.proofs.warning.find_warnings.Given as goal
+
+abbrev pub invariant-loop-row : goal.invariant-loop-row
+invariant-loop-row l =
+    IsFinding (warnings_in (rows_in l.rows)) (map warned (filter has_no_effect (rows_in (drop l.row-index l.rows)))) (map warning_of l.warnings.items) l.told

@@ -1,0 +1,101 @@
+-- The keys that have an effect, as a table, and the forms of their values.
+use Rattle.std.specs.Prelude.{ℕ, Bool, ◌&&◌, ◌||◌, List, [], ◌∷◌, ◌++◌, map, nat_le, if◌then◌else◌, Option, Some, None, codes}
+use Rattle.std.specs.Char.{to_ascii_lowercase}
+use Rattle.std.specs.List.{list_any}
+use Rattle.std.specs.Str.{bytes_eq}
+use Rattle.std.specs.Str.Parse.{digits_value}
+use Rattle.mail_terms.specs.Credential.{is_credential}
+use Rattle.mail_terms.specs.Numeral.{is_numeral}
+use Rattle.rc_file.specs.Settings.{is_server, is_maildir_path, is_mboxrd_path}
+use Rattle.rc_file.specs.declared.key.Key.{Key}
+use Rattle.rc_file.specs.declared.key.Key.TheVariants.{RetrieverKind, UseApop, Server, Port, Username, Password, DestinationKind, Path, ReadAll, Delete, DeleteAfter, MaxSize, MaxCount, Verbose}
+use Rattle.rc_file.specs.declared.fault.RcFault.{RcFault}
+use Rattle.rc_file.specs.declared.fault.RcFault.TheVariants.{UnknownType, BadValue, Unsupported, BadPath}
+
+-- the form of a key's values: one of these words; a boolean; a boolean that may not be true; a number from low to high;
+-- the name of a server; a username or a password; a path
+pub data Form : Type 0 where
+  kind : List (List ℕ) → Form
+  boolean : Form
+  never : Form
+  number : ℕ → ℕ → Form
+  server : Form
+  credential : Form
+  path : Form
+
+-- the section in which a key stands, its name there, the form of its values, and what counts where it has no row; with no
+-- such default it must have one
+pub record Rule : Type 0 where
+  pub section : List ℕ
+  pub name : List ℕ
+  pub form : Form
+  pub default : Option (List ℕ)
+
+abbrev pub without_default : List ℕ → List ℕ → Form → Rule
+without_default within word values = record { section = within; name = word; form = values; default = None }
+
+abbrev pub with_default : List ℕ → List ℕ → Form → List ℕ → Rule
+with_default within word values text = record { section = within; name = word; form = values; default = Some text }
+
+-- the sections in which keys stand
+abbrev pub retriever_section : List ℕ
+retriever_section = codes "retriever"
+
+abbrev pub destination_section : List ℕ
+destination_section = codes "destination"
+
+abbrev pub option_section : List ℕ
+option_section = codes "options"
+
+-- the table
+abbrev pub rule : Key → Rule
+rule RetrieverKind = without_default retriever_section (codes "type") (kind (codes "SimplePOP3Retriever" ∷ []))
+rule UseApop = with_default retriever_section (codes "use_apop") never (codes "false")
+rule Server = without_default retriever_section (codes "server") server
+rule Port = with_default retriever_section (codes "port") (number 1 65535) (codes "110")
+rule Username = without_default retriever_section (codes "username") credential
+rule Password = without_default retriever_section (codes "password") credential
+rule DestinationKind = without_default destination_section (codes "type") (kind (codes "Maildir" ∷ codes "Mboxrd" ∷ []))
+rule Path = without_default destination_section (codes "path") path
+rule ReadAll = with_default option_section (codes "read_all") boolean (codes "true")
+rule Delete = with_default option_section (codes "delete") boolean (codes "false")
+rule DeleteAfter = with_default option_section (codes "delete_after") (number 0 4294967295) (codes "0")
+rule MaxSize = with_default option_section (codes "max_message_size") (number 0 18446744073709551615) (codes "0")
+rule MaxCount = with_default option_section (codes "max_messages_per_session") (number 0 18446744073709551615) (codes "0")
+rule Verbose = with_default option_section (codes "verbose") (number 0 18446744073709551615) (codes "1")
+
+-- the keys of the table, in the order in which they are judged
+abbrev pub retriever_keys : List Key
+retriever_keys = RetrieverKind ∷ UseApop ∷ Server ∷ Port ∷ Username ∷ Password ∷ []
+
+abbrev pub destination_keys : List Key
+destination_keys = DestinationKind ∷ Path ∷ []
+
+abbrev pub option_keys : List Key
+option_keys = ReadAll ∷ Delete ∷ DeleteAfter ∷ MaxSize ∷ MaxCount ∷ Verbose ∷ []
+
+abbrev pub all_keys : List Key
+all_keys = retriever_keys ++ (destination_keys ++ option_keys)
+
+-- the words for yes and for no, in any case
+abbrev pub is_word : List ℕ → List ℕ → Bool
+is_word text word = bytes_eq (map to_ascii_lowercase text) word
+
+abbrev pub is_yes : List ℕ → Bool
+is_yes text = list_any (is_word text) (codes "1" ∷ codes "yes" ∷ codes "true" ∷ codes "on" ∷ [])
+
+abbrev pub is_no : List ℕ → Bool
+is_no text = list_any (is_word text) (codes "0" ∷ codes "no" ∷ codes "false" ∷ codes "off" ∷ [])
+
+abbrev pub is_number : ℕ → ℕ → List ℕ → Bool
+is_number low high text = is_numeral text && nat_le low (digits_value 10 text) && nat_le (digits_value 10 text) high
+
+-- what is wrong with a key's value; `folder` says that the destination is a Maildir
+abbrev pub value_fault : Form → Key → Bool → List ℕ → Option RcFault
+value_fault (kind words) key folder text = if list_any (bytes_eq text) words then None else Some (UnknownType key)
+value_fault boolean key folder text = if is_yes text || is_no text then None else Some (BadValue key)
+value_fault never key folder text = if is_yes text then Some (Unsupported key) else if is_no text then None else Some (BadValue key)
+value_fault (number low high) key folder text = if is_number low high text then None else Some (BadValue key)
+value_fault server key folder text = if is_server text then None else Some (BadValue key)
+value_fault credential key folder text = if is_credential text then None else Some (BadValue key)
+value_fault path key folder text = if (if folder then is_maildir_path text else is_mboxrd_path text) then None else Some BadPath

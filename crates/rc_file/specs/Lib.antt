@@ -1,0 +1,13 @@
+pub mod Answer
+pub mod FileRows
+pub mod Flags
+pub mod JudgedLine
+pub mod KeyReading
+pub mod KeyTable
+pub mod LineRules
+pub mod RcMeaning
+pub mod RcText
+pub mod RowReading
+pub mod SectionReading
+pub mod Settings
+pub mod WarningSearch

@@ -1,0 +1,171 @@
+//! The flags of a command line, which go before the rc file.
+ghost use Rattle.std.specs.Prelude.{◌≡◌, ◌↔◌, false, IfErr, IfOk, IsOk};
+ghost use Rattle.rc_file.specs.Flags.{is_contradiction, louder, overridden, switched};
+ghost use Rattle.rc_file.specs.Settings.{IsValid, content_of};
+
+use crate::fault::RcFault;
+use crate::settings::Settings;
+
+/// Which flags were given.
+#[derive(Clone, Copy, Debug, PartialEq, Eq)]
+pub struct Flags {
+    /// `--all`: fetch messages that were fetched before.
+    pub all: bool,
+    /// `--new`: fetch new messages alone.
+    pub new_only: bool,
+    /// `--delete`: delete messages that are held from the server.
+    pub delete: bool,
+    /// `--dont-delete`: don't delete them, unless `delete_after` says so.
+    pub dont_delete: bool,
+    /// `--quiet`: tell nothing.
+    pub quiet: bool,
+    /// How often `--verbose` was given.
+    pub verbose: u8,
+}
+
+/// The settings, changed as the flags say: `all` and `new_only` set `read_all`; `delete` and
+/// `dont_delete` set `delete` and leave `delete_after`; `quiet` sets `verbose` to 0, and each
+/// `--verbose` adds one, up to 2. Two flags that ask for opposite things are refused as
+/// Contradiction; the settings are then given up. Takes no memory.
+pub fn override_with(settings: Settings, flags: Flags) -> Result<Settings, RcFault>
+    ensures given { IsOk result ↔ (is_contradiction flags ≡ false) }
+    ensures content { IfOk result (λ new. content_of new ≡ overridden (content_of settings) flags) }
+    ensures err { IfErr result (λ fault. fault ≡ RcFault.Contradiction) }
+    ensures valid { IsValid settings → IfOk result (λ new. IsValid new) }
+{
+    if is_contradiction(flags) {
+        return Err(RcFault::Contradiction);
+    }
+    Ok(Settings {
+        server: settings.server,
+        port: settings.port,
+        username: settings.username,
+        password: settings.password,
+        dest: settings.dest,
+        read_all: switched(flags.all, flags.new_only, settings.read_all),
+        delete: switched(flags.delete, flags.dont_delete, settings.delete),
+        delete_after: settings.delete_after,
+        max_size: settings.max_size,
+        max_count: settings.max_count,
+        verbose: louder(flags.quiet, flags.verbose, settings.verbose),
+    })
+}
+
+fn is_contradiction(flags: Flags) -> bool
+    ensures { result ≡ is_contradiction flags }
+{
+    flags.all && flags.new_only
+        || flags.delete && flags.dont_delete
+        || flags.quiet && flags.verbose > 0
+}
+
+fn switched(on: bool, off: bool, value: bool) -> bool
+    ensures { result ≡ switched on off value }
+{
+    if on {
+        true
+    } else if off {
+        false
+    } else {
+        value
+    }
+}
+
+fn louder(quiet: bool, more: u8, verbose: u8) -> u8
+    ensures { result ≡ louder quiet more verbose }
+{
+    if quiet {
+        0
+    } else if more == 0 {
+        verbose
+    } else {
+        verbose.saturating_add(more).min(2)
+    }
+}
+
+#[cfg(test)]
+mod tests {
+    use super::*;
+    use crate::settings::Dest;
+    use std::alloc::{AllocError, Global};
+    use std::test::Fail;
+
+    const NONE: Flags = Flags {
+        all: false,
+        new_only: false,
+        delete: false,
+        dont_delete: false,
+        quiet: false,
+        verbose: 0,
+    };
+
+    fn sample(alloc: Global) -> Result<Settings, AllocError> {
+        Ok(Settings {
+            server: String::from_str(alloc, "s")?,
+            port: 110,
+            username: String::from_str(alloc, "u")?,
+            password: String::from_str(alloc, "p")?,
+            dest: Dest::Maildir(String::from_str(alloc, "m/")?),
+            read_all: true,
+            delete: false,
+            delete_after: 7,
+            max_size: 0,
+            max_count: 0,
+            verbose: 1,
+        })
+    }
+
+    #[test]
+    fn changes_what_flags_name(rt: HostRuntime) -> Result<(), Fail> {
+        let flags = Flags {
+            new_only: true,
+            delete: true,
+            verbose: 3,
+            ..NONE
+        };
+        let settings = override_with(sample(rt.alloc())?, flags)?;
+        assert!(rt; !settings.read_all && settings.delete);
+        assert_eq!(rt; settings.verbose, 2);
+        assert_eq!(rt; settings.delete_after, 7);
+        let settings = override_with(
+            settings,
+            Flags {
+                all: true,
+                dont_delete: true,
+                quiet: true,
+                ..NONE
+            },
+        )?;
+        assert!(rt; settings.read_all && !settings.delete);
+        assert_eq!(rt; settings.verbose, 0);
+        assert_eq!(rt; settings.delete_after, 7);
+        Ok(())
+    }
+
+    #[test]
+    fn refuses_opposite_flags(rt: HostRuntime) -> Result<(), Fail> {
+        for flags in [
+            Flags {
+                all: true,
+                new_only: true,
+                ..NONE
+            },
+            Flags {
+                delete: true,
+                dont_delete: true,
+                ..NONE
+            },
+            Flags {
+                quiet: true,
+                verbose: 1,
+                ..NONE
+            },
+        ] {
+            match override_with(sample(rt.alloc())?, flags) {
+                Ok(_) => assert!(rt; false, "accepted {flags:?}"),
+                Err(fault) => assert_eq!(rt; fault, RcFault::Contradiction),
+            }
+        }
+        Ok(())
+    }
+}

@@ -1,0 +1,176 @@
+//! Values of keys, each read by its form.
+ghost use Rattle.std.specs.Prelude.{◌≡◌, ◌≤◌, ◌&&◌, map, nat_le, IfOk, IsTrue, Some, None, true, if◌then◌else◌};
+ghost use Rattle.std.specs.Char.{is_ascii_digit, to_ascii_lowercase};
+ghost use Rattle.std.specs.List.{list_all};
+ghost use Rattle.std.specs.Str.Parse.{digits_value};
+ghost use Rattle.mail_terms.specs.Credential.{is_credential};
+ghost use Rattle.mail_terms.specs.Numeral.{is_numeral};
+ghost use Rattle.rc_file.specs.KeyTable.{
+  rule,
+  boolean,
+  never,
+  number,
+  server,
+  credential,
+  is_word,
+  is_yes,
+  is_no,
+  value_fault,
+};
+ghost use Rattle.rc_file.specs.RcMeaning.{fault_at, is_true, number_of, text_of};
+ghost use Rattle.rc_file.specs.KeyReading.{ReadsAs, ReadsText};
+ghost use Rattle.rc_file.specs.RowReading.{rows_in};
+ghost use Rattle.rc_file.specs.Settings.{is_server};
+
+use crate::fault::RcFault;
+use crate::key::Key;
+use crate::row::ReadRow;
+use crate::settings::is_server;
+use crate::value::required;
+use mail_terms::is_credential;
+
+/// The value of a key that holds a boolean.
+pub(crate) fn read_boolean(rows: &[ReadRow<'_>], key: Key) -> Result<bool, RcFault>
+    requires { (rule key).form ≡ boolean }
+    ensures { ReadsAs (fault_at (rows_in rows.now) key) (is_true (rows_in rows.now) key) result }
+{
+    parse_boolean(key, required(rows, key)?)
+}
+
+fn parse_boolean(key: Key, text: &str) -> Result<bool, RcFault>
+    ensures { ReadsAs (value_fault boolean key true text.now) (is_yes text.now) result }
+{
+    if is_yes(text) {
+        Ok(true)
+    } else if is_no(text) {
+        Ok(false)
+    } else {
+        Err(RcFault::BadValue(key))
+    }
+}
+
+/// Refuses a key that holds a boolean where that is true.
+pub(crate) fn refuse_true(rows: &[ReadRow<'_>], key: Key) -> Result<(), RcFault>
+    requires { (rule key).form ≡ never }
+    ensures { ReadsAs (fault_at (rows_in rows.now) key) tt result }
+{
+    parse_no(key, required(rows, key)?)
+}
+
+fn parse_no(key: Key, text: &str) -> Result<(), RcFault>
+    ensures { ReadsAs (value_fault never key true text.now) tt result }
+{
+    if is_yes(text) {
+        Err(RcFault::Unsupported(key))
+    } else if is_no(text) {
+        Ok(())
+    } else {
+        Err(RcFault::BadValue(key))
+    }
+}
+
+fn is_yes(text: &str) -> bool
+    ensures { result ≡ is_yes text.now }
+{
+    is_word(text, "1") || is_word(text, "yes") || is_word(text, "true") || is_word(text, "on")
+}
+
+fn is_no(text: &str) -> bool
+    ensures { result ≡ is_no text.now }
+{
+    is_word(text, "0") || is_word(text, "no") || is_word(text, "false") || is_word(text, "off")
+}
+
+fn is_word(text: &str, word: &str) -> bool
+    requires { map to_ascii_lowercase word.now ≡ word.now }
+    ensures { result ≡ is_word text.now word.now }
+{
+    text.eq_ignore_ascii_case(word)
+}
+
+/// The value of a key that holds a number from `low` to `high`.
+pub(crate) fn read_number(
+    rows: &[ReadRow<'_>],
+    key: Key,
+    low: u64,
+    high: u64,
+) -> Result<u64, RcFault>
+    requires { (rule key).form ≡ number low high }
+    ensures value { ReadsAs (fault_at (rows_in rows.now) key) (number_of (rows_in rows.now) key) result }
+    ensures within { IfOk result (λ n. (low ≤ n) × (n ≤ high)) }
+{
+    parse_within(key, required(rows, key)?, low, high)
+}
+
+fn parse_within(key: Key, text: &str, low: u64, high: u64) -> Result<u64, RcFault>
+    ensures value { ReadsAs (value_fault (number low high) key true text.now) (digits_value 10 text.now) result }
+    ensures within { IfOk result (λ n. (low ≤ n) × (n ≤ high)) }
+{
+    match parse_number(text) {
+        Some(n) if low <= n && n <= high => Ok(n),
+        _ => Err(RcFault::BadValue(key)),
+    }
+}
+
+/// The number that 1 to 20 digits write.
+fn parse_number(text: &str) -> Option<u64>
+    ensures { result ≡ (if is_numeral text.now && nat_le (digits_value 10 text.now) 18446744073709551615 then Some (digits_value 10 text.now) else None) }
+{
+    if is_numeral(text) {
+        text.parse().ok()
+    } else {
+        None
+    }
+}
+
+fn is_numeral(text: &str) -> bool
+    ensures { result ≡ is_numeral text.now }
+{
+    !text.is_empty() && text.len() <= 20 && has_digits_alone(text.as_bytes())
+}
+
+fn has_digits_alone(bytes: &[u8]) -> bool
+    ensures { result ≡ list_all is_ascii_digit bytes.now }
+{
+    bytes.iter().all(|byte| byte.is_ascii_digit())
+}
+
+/// The name of the server.
+pub(crate) fn read_server<'r>(rows: &'r [ReadRow<'_>], key: Key) -> Result<&'r str, RcFault>
+    requires { (rule key).form ≡ server }
+    ensures reads { ReadsText (fault_at (rows_in rows.now) key) (text_of (rows_in rows.now) key) result }
+    ensures valid { IfOk result (λ text. IsTrue (is_server text.now)) }
+{
+    check_server(key, required(rows, key)?)
+}
+
+fn check_server(key: Key, text: &str) -> Result<&str, RcFault>
+    ensures reads { ReadsText (value_fault server key true text.now) text.now result }
+    ensures valid { IfOk result (λ text. IsTrue (is_server text.now)) }
+{
+    if is_server(text) {
+        Ok(text)
+    } else {
+        Err(RcFault::BadValue(key))
+    }
+}
+
+/// The username or the password.
+pub(crate) fn read_credential<'r>(rows: &'r [ReadRow<'_>], key: Key) -> Result<&'r str, RcFault>
+    requires { (rule key).form ≡ credential }
+    ensures reads { ReadsText (fault_at (rows_in rows.now) key) (text_of (rows_in rows.now) key) result }
+    ensures valid { IfOk result (λ text. IsTrue (is_credential text.now)) }
+{
+    check_credential(key, required(rows, key)?)
+}
+
+fn check_credential(key: Key, text: &str) -> Result<&str, RcFault>
+    ensures reads { ReadsText (value_fault credential key true text.now) text.now result }
+    ensures valid { IfOk result (λ text. IsTrue (is_credential text.now)) }
+{
+    if is_credential(text.as_bytes()) {
+        Ok(text)
+    } else {
+        Err(RcFault::BadValue(key))
+    }
+}

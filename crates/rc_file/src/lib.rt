@@ -1,0 +1,24 @@
+//! The settings of a POP3 retriever: its rc file, read and judged, and the flags of a command line,
+//! which go before it. No call reads a file or prints: bytes, values and texts come in and go out.
+#![tactic(auto)]
+
+mod account;
+mod fault;
+mod file;
+mod flags;
+mod form;
+mod key;
+mod line;
+mod row;
+mod settings;
+mod text;
+mod value;
+mod warning;
+
+pub use fault::RcFault;
+pub use file::{RC_LIMIT, read_rc};
+pub use flags::{Flags, override_with};
+pub use key::{Key, Section};
+pub use settings::{Dest, Settings, full_path};
+pub use text::{rc_text, warning_text, warnings_hide_values};
+pub use warning::Warning;

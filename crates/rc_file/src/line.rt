@@ -1,0 +1,155 @@
+//! What each line of an rc file is, wherever it stands.
+ghost use Rattle.std.specs.Prelude.{◌≡◌, ◌≤◌, ◌==◌, length, slice_index};
+ghost use Rattle.std.specs.List.{position, prefix_len, suffix_len};
+ghost use Rattle.rc_file.specs.LineRules.{
+  is_blank,
+  is_sign,
+  is_skipped,
+  trimmed,
+  before_blanks,
+  section_line,
+  key_line,
+  judge,
+};
+ghost use Rattle.rc_file.specs.JudgedLine.{line_of};
+
+use std::str;
+
+/// A line, by the rule that it falls under.
+pub(crate) enum JudgedLine<'a> {
+    /// Empty, blanks alone, or a comment.
+    Skipped,
+    /// A line that goes on with a value.
+    More(&'a str),
+    /// A section line, with the section's name.
+    Section(&'a str),
+    /// A key and its value.
+    Key(&'a str, &'a str),
+    /// A line that no rule fits.
+    Bad,
+}
+
+/// What the line is by the first of the five rules that fits it: a line that isn't UTF-8 is bad;
+/// one that is empty, blank or a comment is skipped; one that begins with a blank goes on with a
+/// value; one that begins with `[` is a section line; any other is a key line.
+pub(crate) fn judge(bytes: &[u8]) -> JudgedLine<'_>
+    ensures { line_of result ≡ judge bytes.now }
+{
+    let Ok(line) = str::from_utf8(bytes) else {
+        return JudgedLine::Bad;
+    };
+    if is_skipped(line) {
+        JudgedLine::Skipped
+    } else if begins_with_blank(line) {
+        JudgedLine::More(trimmed(line))
+    } else if begins_with_bracket(line) {
+        section_line(without_end_blanks(line))
+    } else {
+        key_line(line)
+    }
+}
+
+fn is_blank(byte: u8) -> bool
+    ensures { result ≡ is_blank byte }
+{
+    byte == b' ' || byte == b'\t'
+}
+
+/// How many blanks the text begins with.
+fn front_blanks(text: &str) -> usize
+    ensures count { result ≡ prefix_len is_blank text.now }
+    ensures within { result ≤ length text.now }
+{
+    text.as_bytes()
+        .iter()
+        .take_while(|byte| is_blank(**byte))
+        .count()
+}
+
+/// How many blanks the text ends with.
+fn end_blanks(text: &str) -> usize
+    ensures count { result ≡ suffix_len is_blank text.now }
+    ensures within { result ≤ length text.now }
+{
+    text.as_bytes()
+        .iter()
+        .rev()
+        .take_while(|byte| is_blank(**byte))
+        .count()
+}
+
+/// Whether the line is empty, blanks alone or a comment.
+fn is_skipped(line: &str) -> bool
+    ensures { result ≡ is_skipped line.now }
+{
+    match &line.as_bytes()[front_blanks(line)..] {
+        [] | [b'#' | b';', ..] => true,
+        _ => false,
+    }
+}
+
+fn begins_with_blank(line: &str) -> bool
+    ensures { result ≡ is_blank (slice_index line.now 0) }
+{
+    match line.as_bytes() {
+        [first, ..] => is_blank(*first),
+        [] => false,
+    }
+}
+
+fn begins_with_bracket(line: &str) -> bool
+    ensures { result ≡ (slice_index line.now 0 == 91) }
+{
+    match line.as_bytes() {
+        [first, ..] => *first == b'[',
+        [] => false,
+    }
+}
+
+/// The text without the blanks at its end.
+fn without_end_blanks(text: &str) -> &str
+    ensures { result.now ≡ before_blanks text.now }
+{
+    &text[..text.len() - end_blanks(text)]
+}
+
+/// The text without the blanks at its ends.
+fn trimmed(text: &str) -> &str
+    ensures { result.now ≡ trimmed text.now }
+{
+    without_end_blanks(&text[front_blanks(text)..])
+}
+
+/// The section that a line names which begins with `[` and ends with no blank.
+fn section_line(line: &str) -> JudgedLine<'_>
+    requires { slice_index line.now 0 ≡ 91 }
+    ensures { line_of result ≡ section_line line.now }
+{
+    match line.as_bytes() {
+        [_, _, .., b']'] => JudgedLine::Section(&line[1..line.len() - 1]),
+        _ => JudgedLine::Bad,
+    }
+}
+
+/// The key before the first `=` or `:`, and the value after it.
+fn key_line(line: &str) -> JudgedLine<'_>
+    ensures { line_of result ≡ key_line line.now }
+{
+    let Some(end) = sign_place(line) else {
+        return JudgedLine::Bad;
+    };
+    let key = trimmed(&line[..end]);
+    if key.is_empty() {
+        return JudgedLine::Bad;
+    }
+    JudgedLine::Key(key, trimmed(&line[end + 1..]))
+}
+
+/// The place of the first `=` or `:`.
+fn sign_place(line: &str) -> Option<usize>
+    ensures { result ≡ position is_sign line.now }
+{
+    line.as_bytes()
+        .iter()
+        .position(|byte| *byte == b'=' || *byte == b':')
+}

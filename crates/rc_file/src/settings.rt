@@ -1,0 +1,148 @@
+//! What the user asked for: the account, where its messages go, and which of them.
+ghost use Rattle.std.specs.Prelude.{◌≡◌, ◌↔◌, ◌++◌, drop, if◌then◌else◌, IfOk, IsTrue};
+ghost use Rattle.std.specs.String.{string_bytes};
+ghost use Rattle.std.specs.List.{list_all};
+ghost use Rattle.rc_file.specs.Settings.{begins_at_home, is_server_byte, is_path_byte, is_server, is_path, is_maildir_path, is_mboxrd_path, is_destination, destination_of, IsValid};
+
+use mail_terms::is_credential;
+use std::alloc::{AllocError, Global};
+
+/// What the rc file and the command line ask for. Any values can be put together here;
+/// [`Settings::is_valid`] tells whether they are such as an rc file may give.
+#[derive(Drop)]
+pub struct Settings {
+    /// The server's name or address: not empty, neither LF nor NUL.
+    pub server: String,
+    /// The server's TCP port, 1 to 65,535.
+    pub port: u16,
+    /// The argument of USER: 1 to 500 bytes, neither CR, LF nor NUL.
+    pub username: String,
+    /// The argument of PASS: 1 to 500 bytes, neither CR, LF nor NUL.
+    pub password: String,
+    /// Where messages are stored.
+    pub dest: Dest,
+    /// Messages that were fetched before are fetched again.
+    pub read_all: bool,
+    /// Messages that are held are deleted from the server.
+    pub delete: bool,
+    /// Messages that are held are deleted this many days after they were first seen, at most
+    /// 4,294,967,295; 0 for never.
+    pub delete_after: u64,
+    /// Larger messages, in octets as the server lists them, are passed over; 0 for no limit.
+    pub max_size: u64,
+    /// At most this many messages are fetched in a session; 0 for no limit.
+    pub max_count: u64,
+    /// How much is told: 0 nothing, 1 what was done, 2 also what was passed over.
+    pub verbose: u8,
+}
+
+/// Where messages are stored, with the path as it was written.
+#[derive(Drop)]
+pub enum Dest {
+    /// A Maildir, whose path ends in `/`.
+    Maildir(String),
+    /// A file in the form mboxrd, whose path doesn't end in `/`.
+    Mboxrd(String),
+}
+
+impl Settings {
+    /// Whether the settings hold only values that an rc file may give.
+    pub fn is_valid(&self) -> bool
+        ensures { IsTrue result ↔ IsValid self.now }
+    {
+        is_server(self.server.as_str())
+            && self.port >= 1
+            && is_credential(self.username.as_bytes())
+            && is_credential(self.password.as_bytes())
+            && is_destination(&self.dest)
+            && self.delete_after <= 4_294_967_295
+            && self.verbose <= 2
+    }
+}
+
+/// Whether the text may name a server.
+pub(crate) fn is_server(text: &str) -> bool
+    ensures { result ≡ is_server text.now }
+{
+    !text.is_empty() && has_server_bytes(text.as_bytes())
+}
+
+fn has_server_bytes(bytes: &[u8]) -> bool
+    ensures { result ≡ list_all is_server_byte bytes.now }
+{
+    bytes.iter().all(|byte| *byte != b'\n' && *byte != 0)
+}
+
+/// Whether the text may be a path.
+fn is_path(path: &str) -> bool
+    ensures { result ≡ is_path path.now }
+{
+    let bytes = path.as_bytes();
+    !bytes.is_empty()
+        && has_path_bytes(bytes)
+        && (!bytes.starts_with(b"~") || bytes.starts_with(b"~/"))
+}
+
+fn has_path_bytes(bytes: &[u8]) -> bool
+    ensures { result ≡ list_all is_path_byte bytes.now }
+{
+    bytes
+        .iter()
+        .all(|byte| *byte != b'\n' && *byte != 0 && *byte != b'$')
+}
+
+/// Whether the text may be the path of a Maildir.
+pub(crate) fn is_maildir_path(path: &str) -> bool
+    ensures { result ≡ is_maildir_path path.now }
+{
+    is_path(path) && path.as_bytes().ends_with(b"/")
+}
+
+/// Whether the text may be the path of an mboxrd file.
+pub(crate) fn is_mboxrd_path(path: &str) -> bool
+    ensures { result ≡ is_mboxrd_path path.now }
+{
+    is_path(path) && !path.as_bytes().ends_with(b"/")
+}
+
+fn is_destination(dest: &Dest) -> bool
+    ensures { result ≡ is_destination (destination_of dest.now) }
+{
+    match dest {
+        Dest::Maildir(path) => is_maildir_path(path.as_str()),
+        Dest::Mboxrd(path) => is_mboxrd_path(path.as_str()),
+    }
+}
+
+/// The path that is meant: one that begins with `~/` begins in the home, and is `home` followed by
+/// the path from its `/`; any other is itself.
+pub fn full_path(alloc: Global, path: &str, home: &str) -> Result<String, AllocError>
+    ensures { IfOk result (λ full. string_bytes full ≡ (if begins_at_home path.now then home.now ++ drop 1 path.now else path.now)) }
+{
+    if !path.as_bytes().starts_with(b"~/") {
+        return String::from_str(alloc, path);
+    }
+    let mut full = String::from_str(alloc, home)?;
+    full.push_str(&path[1..])?;
+    Ok(full)
+}
+
+#[cfg(test)]
+mod tests {
+    use super::*;
+    use std::test::Fail;
+
+    #[test]
+    fn begins_in_the_home(rt: HostRuntime) -> Result<(), Fail> {
+        for (path, wanted) in [
+            ("~/Maildir/", "/home/fred/Maildir/"),
+            ("/var/mail/fred", "/var/mail/fred"),
+            ("a/~/b", "a/~/b"),
+            ("~fred/m/", "~fred/m/"),
+        ] {
+            let full = full_path(rt.alloc(), path, "/home/fred")?;
+            assert_eq!(rt; full.as_str(), wanted);
+        }
+        Ok(())
+    }
+}

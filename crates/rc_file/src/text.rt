@@ -1,0 +1,133 @@
+//! How faults and warnings of an rc file are told. Nothing of a value stands in them, so that no
+//! password does.
+ghost use Rattle.std.specs.Prelude.{◌≡◌, ◌++◌, List, map, IfOk};
+ghost use Rattle.rc_file.specs.RcMeaning.{warnings_in};
+ghost use Rattle.rc_file.specs.FileRows.{RcRow};
+ghost use Rattle.std.specs.String.{string_bytes};
+ghost use Rattle.rc_file.specs.RcText.{
+  key_text,
+  key_warning,
+  rc_text,
+  section_warning,
+  warning_text,
+  without_value,
+};
+ghost use Rattle.rc_file.specs.WarningSearch.{warning_of};
+
+use crate::fault::RcFault;
+use crate::key::Key;
+use crate::warning::Warning;
+use std::alloc::{AllocError, Global};
+
+/// The text of a fault, without a line end.
+pub fn rc_text(alloc: Global, fault: &RcFault) -> Result<String, AllocError>
+    ensures { IfOk result (λ text. string_bytes text ≡ rc_text fault.now) }
+{
+    match *fault {
+        RcFault::TooLong => String::from_str(alloc, "rc file too long"),
+        RcFault::BadLine(line) => format!(in alloc; "rc file line {line} not understood"),
+        RcFault::MissingSection(section) => {
+            let name = section.name();
+            format!(in alloc; "section [{name}] missing")
+        }
+        RcFault::MissingKey(key) => key_text(alloc, key, " missing"),
+        RcFault::UnknownType(key) => key_text(alloc, key, " unknown"),
+        RcFault::BadValue(key) => key_text(alloc, key, " has a bad value"),
+        RcFault::Unsupported(key) => key_text(alloc, key, " unsupported"),
+        RcFault::BadPath => String::from_str(alloc, "destination.path has a bad form"),
+        RcFault::Contradiction => String::from_str(alloc, "opposite flags"),
+        RcFault::NoMemory => String::from_str(alloc, "out of memory"),
+    }
+}
+
+/// A key with its section, and what is said of it.
+fn key_text(alloc: Global, key: Key, said: &str) -> Result<String, AllocError>
+    ensures { IfOk result (λ text. string_bytes text ≡ key_text key ++ said.now) }
+{
+    let section = key.section();
+    let name = key.name();
+    format!(in alloc; "{section}.{name}{said}")
+}
+
+/// The text of a warning, without a line end.
+pub fn warning_text(alloc: Global, warning: &Warning) -> Result<String, AllocError>
+    ensures { IfOk result (λ text. string_bytes text ≡ warning_text (warning_of warning.now)) }
+{
+    let section = warning.section.as_str();
+    if warning.key.is_empty() {
+        section_warning(alloc, warning.line, section)
+    } else {
+        key_warning(alloc, warning.line, section, warning.key.as_str())
+    }
+}
+
+fn section_warning(alloc: Global, line: u32, section: &str) -> Result<String, AllocError>
+    ensures { IfOk result (λ text. string_bytes text ≡ section_warning line section.now) }
+{
+    format!(in alloc; "warning: line {line}: section [{section}] has no effect")
+}
+
+fn key_warning(alloc: Global, line: u32, section: &str, key: &str) -> Result<String, AllocError>
+    ensures { IfOk result (λ text. string_bytes text ≡ key_warning line section.now key.now) }
+{
+    format!(in alloc; "warning: line {line}: {section}.{key} has no effect")
+}
+
+/// A law: no warning depends on a value of the file, a password among them.
+pub fn warnings_hide_values()
+    ensures { (rows : List RcRow) → warnings_in (map without_value rows) ≡ warnings_in rows }
+{}
+
+#[cfg(test)]
+mod tests {
+    use super::*;
+    use crate::key::Section;
+    use std::test::Fail;
+
+    #[test]
+    fn tells_faults(rt: HostRuntime) -> Result<(), Fail> {
+        for (fault, wanted) in [
+            (RcFault::TooLong, "rc file too long"),
+            (RcFault::BadLine(4), "rc file line 4 not understood"),
+            (
+                RcFault::MissingSection(Section::Destination),
+                "section [destination] missing",
+            ),
+            (RcFault::MissingKey(Key::Server), "retriever.server missing"),
+            (
+                RcFault::UnknownType(Key::RetrieverKind),
+                "retriever.type unknown",
+            ),
+            (
+                RcFault::BadValue(Key::MaxCount),
+                "options.max_messages_per_session has a bad value",
+            ),
+            (
+                RcFault::Unsupported(Key::UseApop),
+                "retriever.use_apop unsupported",
+            ),
+            (RcFault::BadPath, "destination.path has a bad form"),
+            (RcFault::Contradiction, "opposite flags"),
+            (RcFault::NoMemory, "out of memory"),
+        ] {
+            let text = rc_text(rt.alloc(), &fault)?;
+            assert_eq!(rt; text.as_str(), wanted);
+        }
+        Ok(())
+    }
+
+    #[test]
+    fn tells_a_section_of_no_effect(rt: HostRuntime) -> Result<(), Fail> {
+        let warning = Warning {
+            line: 9,
+            section: String::from_str(rt.alloc(), "filter-1")?,
+            key: String::new(rt.alloc()),
+        };
+        let text = warning_text(rt.alloc(), &warning)?;
+        assert_eq!(rt;
+            text.as_str(),
+            "warning: line 9: section [filter-1] has no effect"
+        );
+        Ok(())
+    }
+}

@@ -1,0 +1,124 @@
+//! What of an rc file has no effect.
+ghost use Rattle.std.specs.Prelude.{◌≡◌, map, IfOk, OnOk};
+ghost use Rattle.std.specs.Str.{bytes_eq};
+ghost use Rattle.rc_file.specs.KeyTable.{rule};
+ghost use Rattle.rc_file.specs.RcMeaning.{
+  has_no_effect,
+  is_known_key,
+  is_known_section,
+  is_named,
+  warned,
+  warnings_in,
+};
+ghost use Rattle.rc_file.specs.RowReading.{row_of, rows_in};
+ghost use Rattle.rc_file.specs.WarningSearch.{Tells, warning_of};
+
+use crate::key::Key;
+use crate::row::ReadRow;
+use std::alloc::{AllocError, Global};
+use std::collections::HashSet;
+
+/// A section or a key of an rc file that has no effect, at the line where it first stands.
+#[derive(Drop)]
+pub struct Warning {
+    /// The line's number, counted from 1.
+    pub line: u32,
+    /// The section's name.
+    pub section: String,
+    /// The key, in ASCII lower case; empty where the whole section has no effect.
+    pub key: String,
+}
+
+/// What has no effect, in the order of lines, each section and each key once.
+pub(crate) fn find_warnings(alloc: Global, rows: &[ReadRow<'_>]) -> Result<Vec<Warning>, AllocError>
+    ensures { IfOk result (λ found. map warning_of found.items ≡ warnings_in (rows_in rows.now)) }
+{
+    let mut told = HashSet::new(alloc);
+    let mut warnings = Vec::new(alloc);
+    for row in rows {
+        if row.has_no_effect() {
+            tell(alloc, row, &mut told, &mut warnings)?;
+        }
+    }
+    Ok(warnings)
+}
+
+/// Tells a row, but where one of its name was told.
+fn tell<'r>(
+    alloc: Global,
+    row: &'r ReadRow<'_>,
+    told: &mut HashSet<(&'r str, &'r str)>,
+    warnings: &mut Vec<Warning>,
+) -> Result<(), AllocError>
+    ensures { OnOk result (Tells (warned (row_of row.now)) (map warning_of warnings.old.items) told.old (map warning_of warnings.new.items) told.new) }
+{
+    if !told.insert(row.name())? {
+        return Ok(());
+    }
+    warnings.push(row.warning(alloc)?)?;
+    Ok(())
+}
+
+impl ReadRow<'_> {
+    /// Whether the row is a line of a section that has no effect, or of a key that has none though
+    /// its section has.
+    fn has_no_effect(&self) -> bool
+        ensures { result ≡ has_no_effect (row_of self.now) }
+    {
+        match &self.entry {
+            None => !is_known_section(self.section),
+            Some(entry) => {
+                is_known_section(self.section) && !is_known_key(self.section, entry.key.as_str())
+            }
+        }
+    }
+
+    /// The section and the key; no key for a section line.
+    fn name(&self) -> (&str, &str)
+        ensures section { result.0.now ≡ (warned (row_of self.now)).section }
+        ensures key { result.1.now ≡ (warned (row_of self.now)).key }
+    {
+        match &self.entry {
+            None => (self.section, ""),
+            Some(entry) => (self.section, entry.key.as_str()),
+        }
+    }
+
+    /// The row as a warning.
+    fn warning(&self, alloc: Global) -> Result<Warning, AllocError>
+        ensures { IfOk result (λ warning. warning_of warning ≡ warned (row_of self.now)) }
+    {
+        let (section, key) = self.name();
+        Ok(Warning {
+            line: self.line,
+            section: String::from_str(alloc, section)?,
+            key: String::from_str(alloc, key)?,
+        })
+    }
+}
+
+fn is_known_section(name: &str) -> bool
+    ensures { result ≡ is_known_section name.now }
+{
+    Key::ALL.iter().any(|key| key.is_of_section(name))
+}
+
+fn is_known_key(section: &str, name: &str) -> bool
+    ensures { result ≡ is_known_key section.now name.now }
+{
+    Key::ALL.iter().any(|key| key.is_named(section, name))
+}
+
+impl Key {
+    fn is_of_section(self, name: &str) -> bool
+        ensures { result ≡ bytes_eq name.now (rule self).section }
+    {
+        name == self.section()
+    }
+
+    fn is_named(self, section: &str, name: &str) -> bool
+        ensures { result ≡ is_named section.now name.now self }
+    {
+        section == self.section() && name == self.name()
+    }
+}
