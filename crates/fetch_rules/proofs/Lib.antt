@@ -2,6 +2,7 @@ mod DistinctLemmas
 mod FilterLemmas
 mod FirstLemmas
 mod IdLemmas
+mod JoinLemmas
 mod LawLemmas
 mod MergeLemmas
 mod NewIdLemmas

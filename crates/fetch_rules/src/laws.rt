@@ -1,12 +1,13 @@
-//! Laws of the record and of plans, for the crates above: a function here does nothing, and its
+//! Laws of listings, the record and plans, for the crates above: a function here does nothing, and its
 //! contract is the law.
 
 ghost use Rattle.std.specs.Prelude.{◌≡◌, ℕ, ◌&&◌, ◌||◌, Bool, List, [], bytes_eq};
-ghost use Rattle.mail_terms.specs.Listing.{Item, has_item};
+ghost use Rattle.mail_terms.specs.Listing.{Item, Joins, has_item};
 ghost use Rattle.fetch_rules.specs.Laws.{FetchesFirsts};
 ghost use Rattle.fetch_rules.specs.Plan.{planned};
 ghost use Rattle.fetch_rules.specs.Record.{Row, has_row, is_delivered, is_held, marked, merged};
 
+use mail_terms::{ScanRow, UidRow};
 use rc_file::Settings;
 
 /// A plan fetches only messages whose id no earlier message has, so no id twice.
@@ -36,4 +37,9 @@ pub fn marked_is_delivered()
 /// After a mark the same ids have rows.
 pub fn marked_keeps_rows()
     ensures { (rows : List Row) (uid other : List ℕ) → has_row (marked rows uid) other ≡ has_row rows other }
+{}
+
+/// The rows of UIDL and of LIST are joined in one way.
+pub fn rows_join_in_one_way()
+    ensures { (n : ℕ) (uids : List UidRow) (sizes : List ScanRow) (one other : List Item) → Joins n uids sizes one → Joins n uids sizes other → one ≡ other }
 {}

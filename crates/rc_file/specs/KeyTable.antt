@@ -7,6 +7,7 @@ use Rattle.std.specs.Str.Parse.{digits_value}
 use Rattle.mail_terms.specs.Credential.{is_credential}
 use Rattle.mail_terms.specs.Numeral.{is_numeral}
 use Rattle.rc_file.specs.Settings.{is_server, is_maildir_path, is_mboxrd_path}
+use Rattle.rc_file.specs.declared.settings.TheConstants.{DELETE_AFTER_LIMIT}
 use Rattle.rc_file.specs.declared.key.Key.{Key}
 use Rattle.rc_file.specs.declared.key.Key.TheVariants.{RetrieverKind, UseApop, Server, Port, Username, Password, DestinationKind, Path, ReadAll, Delete, DeleteAfter, MaxSize, MaxCount, Verbose}
 use Rattle.rc_file.specs.declared.fault.RcFault.{RcFault}
@@ -59,7 +60,7 @@ rule DestinationKind = without_default destination_section (codes "type") (kind 
 rule Path = without_default destination_section (codes "path") path
 rule ReadAll = with_default option_section (codes "read_all") boolean (codes "true")
 rule Delete = with_default option_section (codes "delete") boolean (codes "false")
-rule DeleteAfter = with_default option_section (codes "delete_after") (number 0 4294967295) (codes "0")
+rule DeleteAfter = with_default option_section (codes "delete_after") (number 0 DELETE_AFTER_LIMIT) (codes "0")
 rule MaxSize = with_default option_section (codes "max_message_size") (number 0 18446744073709551615) (codes "0")
 rule MaxCount = with_default option_section (codes "max_messages_per_session") (number 0 18446744073709551615) (codes "0")
 rule Verbose = with_default option_section (codes "verbose") (number 0 18446744073709551615) (codes "1")

@@ -14,6 +14,7 @@ use Rattle.rc_file.specs.declared.fault.RcFault.TheVariants.{TooLong, BadLine, M
 use Rattle.rc_file.specs.declared.key.Key.{Key}
 use Rattle.rc_file.specs.declared.key.Key.TheVariants.{Server, Port, Username, Password, ReadAll, Delete, DeleteAfter, MaxSize, MaxCount, Verbose}
 use Rattle.rc_file.specs.declared.settings.Dest.{Dest}
+use Rattle.rc_file.specs.declared.settings.TheConstants.{DELETE_AFTER_LIMIT}
 use Rattle.rc_file.specs.declared.settings.Settings.{Settings}
 
 -- the first of these keys that is faulty
@@ -59,7 +60,7 @@ pub record IsOptions (rows : List RcRow) (options : Options) : Type 0 where
   pub max_size_is : options.max_size ≡ number_of rows MaxSize
   pub max_count_is : options.max_count ≡ number_of rows MaxCount
   pub verbose_is : options.verbose ≡ min (number_of rows Verbose) 2
-  pub delete_after_valid : options.delete_after ≤ 4294967295
+  pub delete_after_valid : options.delete_after ≤ DELETE_AFTER_LIMIT
   pub verbose_valid : options.verbose ≤ 2
 
 pub record IsSettings (rows : List RcRow) (settings : Settings) : Type 0 where

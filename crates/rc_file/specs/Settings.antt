@@ -3,6 +3,7 @@ use Rattle.std.specs.Prelude.{ℕ, ◌≤◌, Bool, not, ◌&&◌, List, length,
 use Rattle.std.specs.List.{list_all, starts_with, ends_with}
 use Rattle.std.specs.String.{string_bytes}
 use Rattle.mail_terms.specs.Credential.{is_credential}
+use Rattle.rc_file.specs.declared.settings.TheConstants.{DELETE_AFTER_LIMIT}
 use Rattle.rc_file.specs.declared.settings.Settings.{Settings}
 use Rattle.rc_file.specs.declared.settings.Dest.{Dest}
 use Rattle.rc_file.specs.declared.settings.Dest.TheVariants.{Maildir, Mboxrd}
@@ -87,5 +88,5 @@ pub record IsValid (settings : Settings) : Type 0 where
   pub valid_username : IsTrue (is_credential (string_bytes settings.username))
   pub valid_password : IsTrue (is_credential (string_bytes settings.password))
   pub valid_dest : IsTrue (is_destination (destination_of settings.dest))
-  pub valid_delete_after : settings.delete_after ≤ 4294967295
+  pub valid_delete_after : settings.delete_after ≤ DELETE_AFTER_LIMIT
   pub valid_verbose : settings.verbose ≤ 2

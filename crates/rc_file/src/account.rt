@@ -18,7 +18,7 @@ use crate::fault::RcFault;
 use crate::form::{read_boolean, read_credential, read_number, read_server, refuse_true};
 use crate::key::Key;
 use crate::row::ReadRow;
-use crate::settings::{Dest, Settings, is_maildir_path, is_mboxrd_path};
+use crate::settings::{DELETE_AFTER_LIMIT, Dest, Settings, is_maildir_path, is_mboxrd_path};
 use crate::value::required;
 use std::alloc::Global;
 
@@ -152,7 +152,7 @@ fn read_options(rows: &[ReadRow<'_>]) -> Result<Options, RcFault>
 {
     let read_all = read_boolean(rows, Key::ReadAll)?;
     let delete = read_boolean(rows, Key::Delete)?;
-    let delete_after = read_number(rows, Key::DeleteAfter, 0, 4_294_967_295)?;
+    let delete_after = read_number(rows, Key::DeleteAfter, 0, DELETE_AFTER_LIMIT)?;
     let max_size = read_number(rows, Key::MaxSize, 0, u64::MAX)?;
     let max_count = read_number(rows, Key::MaxCount, 0, u64::MAX)?;
     let verbose = read_number(rows, Key::Verbose, 0, u64::MAX)?;

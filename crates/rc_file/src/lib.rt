@@ -19,6 +19,6 @@ pub use fault::RcFault;
 pub use file::{RC_LIMIT, read_rc};
 pub use flags::{Flags, override_with};
 pub use key::{Key, Section};
-pub use settings::{Dest, Settings, full_path};
+pub use settings::{DELETE_AFTER_LIMIT, Dest, Settings, full_path};
 pub use text::{rc_text, warning_text, warnings_hide_values};
 pub use warning::Warning;

@@ -7,6 +7,9 @@ ghost use Rattle.rc_file.specs.Settings.{begins_at_home, is_server_byte, is_path
 use mail_terms::is_credential;
 use std::alloc::{AllocError, Global};
 
+/// The most days that [`Settings::delete_after`] may have.
+pub const DELETE_AFTER_LIMIT: u64 = 4_294_967_295;
+
 /// What the rc file and the command line ask for. Any values can be put together here;
 /// [`Settings::is_valid`] tells whether they are such as an rc file may give.
 #[derive(Drop)]
@@ -26,7 +29,7 @@ pub struct Settings {
     /// Messages that are held are deleted from the server.
     pub delete: bool,
     /// Messages that are held are deleted this many days after they were first seen, at most
-    /// 4,294,967,295; 0 for never.
+    /// [`DELETE_AFTER_LIMIT`]; 0 for never.
     pub delete_after: u64,
     /// Larger messages, in octets as the server lists them, are passed over; 0 for no limit.
     pub max_size: u64,
@@ -55,7 +58,7 @@ impl Settings {
             && is_credential(self.username.as_bytes())
             && is_credential(self.password.as_bytes())
             && is_destination(&self.dest)
-            && self.delete_after <= 4_294_967_295
+            && self.delete_after <= DELETE_AFTER_LIMIT
             && self.verbose <= 2
     }
 }
