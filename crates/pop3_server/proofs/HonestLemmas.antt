@@ -1,11 +1,12 @@
 -- The server's conversations are honest: how its rows follow the messages and their marks, and what each answer says.
 use Rattle.std.proofs.Common.{◌≡◌, ◌≢◌, ◌⊎◌, inl, inr, ◌<◌, ◌≤◌, ◌+◌, ◌-◌, ◌*◌, ◌^◌, ℕ, zero, suc, Bool, true, false, cond, List, [], ◌∷◌, ◌++◌, map, length, refl, sym, ap, subst, ◌∙◌, arith, append_assoc, Some, None, ne_eqb}
 use Rattle.std.specs.Prelude.{codes, not, slice_get, slice_set, if◌then◌else◌}
-use Rattle.std.specs.List.{flat_map, AllByRecursion, AllZip, count_by, list_all}
+use Rattle.std.specs.List.{flat_map, All, AllByRecursion, AllZip, count_by, list_all}
 use Rattle.std.specs.Fmt.{decimal}
 use Rattle.std.specs.Char.{is_ascii_digit}
 use Rattle.std.proofs.lemmas.Bool.{cond-true, cond-false}
 use Rattle.std.proofs.lemmas.Bool.Decides.{eqb_tells, nat_tests}
+use Rattle.std.proofs.lemmas.List.Elements.{recursion_from_All}
 use Rattle.std.proofs.lemmas.List.Sums.{sum_by-cons}
 use Rattle.std.proofs.lemmas.List.Recursion.{is_count_by}
 use Rattle.std.proofs.lemmas.List.Sorted.{IsPermutation-refl}
@@ -16,13 +17,41 @@ use Rattle.pop3_wire.specs.Line.{crlf, ended}
 use Rattle.pop3_wire.specs.Body.{dot, IsContent, unstuffed}
 use Rattle.pop3_wire.specs.Reply.{without_space}
 use Rattle.pop3_wire.specs.Fields.{number_and_size, number_and_id, is_legal_id}
-use Rattle.pop3_wire.specs.World.{Message}
+use Rattle.pop3_wire.specs.World.{Message, IsMessage}
 use Rattle.pop3_wire.specs.Honest.{Says, SaysAnything, IsUnmarked, unmarked_from, IsScanRow, IsUidRow, ListsAll, Reply, no_marks}
 use Rattle.pop3_wire.proofs.HonestRows.{scan_read, uid_read, is_no_lf, line_without_lf, no_lf_append, no_lf_decimal, no_lf_id, digit_first}
 use Rattle.pop3_server.specs.declared.rows.MessageRow.{MessageRow}
-use Rattle.pop3_server.specs.Maildrop.{entry_of}
-use Rattle.pop3_server.specs.ServerMachine.{said, is_left, left_count, left_size, left_total, unless_marked, row_at, mark_at, unmarked, row_of, scan_line, uid_line, lines_from, listed}
-use Rattle.pop3_server.specs.HonestServer.{IsServed, AreServed}
+use Rattle.pop3_server.specs.Maildrop.{entry_of, max_count, max_size}
+use Rattle.pop3_server.specs.ServerMachine.{said, is_left, left_count, left_size, left_total, unless_marked, row_at, mark_at, unmarked, row_of, scan_line, uid_line, lines_from, listed, IsSmall, KeepLimits}
+
+-- ---- messages that PASS listed
+
+-- a message of a world, of a size that a server lists
+pub record IsServed (message : Message) : Type 0 where
+  pub is_message : IsMessage message
+  pub within : message.size ≤ max_size
+
+-- messages as a server lists them
+pub record AreServed (messages : List Message) : Type 0 where
+  pub served : AllByRecursion IsServed messages
+  pub few : length messages ≤ max_count
+
+all_served : (ms : List Message) → AllByRecursion IsMessage ms → AllByRecursion IsSmall (map row_of ms) → AllByRecursion IsServed ms
+all_served [] messages small = tt
+all_served (m ∷ ms) messages small = (record { is_message = messages.0; within = small.0 }, all_served ms messages.1 small.1)
+
+rows_length : (ms : List Message) → length (map row_of ms) ≡ length ms
+rows_length [] = refl
+rows_length (m ∷ ms) = let ih = rows_length ms in omega arith
+
+pub are_served : (ms : List Message) (rows : List MessageRow) → AllByRecursion IsMessage ms → KeepLimits rows → rows ≡ map row_of ms → AreServed ms
+are_served ms rows messages limits is =
+    let few : length rows ≤ 100000 = limits.few in
+    let count : length rows ≡ length ms = ap length is ∙ rows_length ms in
+    record {
+      served = all_served ms messages (recursion_from_All IsSmall (map row_of ms) (subst (All IsSmall) is limits.small));
+      few = omega arith;
+    }
 
 -- ---- the rows of messages under their marks
 

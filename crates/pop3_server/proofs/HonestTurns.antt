@@ -13,7 +13,7 @@ use Rattle.pop3_wire.specs.Line.{ended}
 use Rattle.pop3_wire.specs.Body.{Body}
 use Rattle.pop3_wire.specs.Commands.{line_of, can_be_sent}
 use Rattle.pop3_wire.specs.Stuffed.{lines_of_text, stuffed_lines}
-use Rattle.pop3_wire.specs.World.{Message}
+use Rattle.pop3_wire.specs.World.{Message, IsMessage}
 use Rattle.pop3_wire.specs.Honest.{Says, SaysAnything, IsUnmarked, IsScanRow, IsUidRow, Grants, Reply, Replies, no_marks}
 use Rattle.pop3_wire.proofs.HonestRows.{scan_read, is_no_lf, no_lf_append, no_lf_decimal}
 use Rattle.pop3_wire.proofs.StuffLemmas.{stuffed_is_body}
@@ -25,14 +25,15 @@ use Rattle.pop3_server.specs.declared.state.State.TheVariants.{Authorization, Tr
 use Rattle.pop3_server.specs.Maildrop.{Mail, there}
 use Rattle.pop3_server.specs.ServerMachine.{Machine, Deed, Say, Open, Give, Leave, Does, Opens, RemovesMarked, deed, is_open, said, left_count, left_total, mark_at, unmarked, row_of, scan_line, uid_line, octets_line, give, dele, in_authorization, in_transaction, greeting}
 use Rattle.pop3_server.specs.AnswersLines.{AnswersLines}
-use Rattle.pop3_server.specs.HonestServer.{IsOfSession, IsAsked, AreServed, lines_of, IsHonest}
-use Rattle.pop3_server.proofs.HonestLemmas.{row_with, rows_with, fresh_rows, fresh_length, cleared_rows, cleared_length, marked_rows, marked_length, found, served_at, text_at, counted_left, total_left, ok_says, granted, refused, scan_rows, uid_rows, lists_all}
+use Rattle.pop3_server.specs.HonestServer.{IsOfSession, IsAsked, lines_of, IsHonest, AreLeft, Gone}
+use Rattle.pop3_server.proofs.GoneLemmas.{there_some, none_gone, left_by_quit}
+use Rattle.pop3_server.proofs.HonestLemmas.{AreServed, are_served, row_with, rows_with, fresh_rows, fresh_length, cleared_rows, cleared_length, marked_rows, marked_length, found, served_at, text_at, counted_left, total_left, ok_says, granted, refused, scan_rows, uid_rows, lists_all}
 
 -- where the server stands with these messages, when these are marked
 abbrev pub Stands : List Message → State → Mail → List Bool → Type 0
 Stands ms (Authorization kept) mail marks = (there mail.slots ≡ ms) × (marks ≡ no_marks ms)
-Stands ms (Transaction rows) mail marks = (mail.slots ≡ map Some ms) × (length marks ≡ length ms) × (rows ≡ rows_with ms marks)
-Stands ms Closed mail marks = Unit {0}
+Stands ms (Transaction rows) mail marks = (mail.slots ≡ map Some ms) × (length marks ≡ length ms) × (rows ≡ rows_with ms marks) × AreServed ms
+Stands ms Closed mail marks = AreLeft ms marks (there mail.slots)
 
 -- an honest reply, after which the server stands there
 abbrev pub Replied : List Message → List Bool → Command → List ℕ → State → Mail → Type 0
@@ -57,69 +58,66 @@ says_yes mail ms marks after_marks c old answer after state next new does none g
 -- ---- AUTHORIZATION
 
 opened : {D : Type 0} (sound : D → Type 0) (mail : D → Mail) (ms : List Message) (word : List ℕ) (old : D) (answer : List ℕ) (next : State) (new : D)
-    → AreServed ms → there (mail old).slots ≡ ms → sound new → Opens sound mail old answer next new → Replied ms (no_marks ms) (Pass word) answer next (mail new)
-opened sound mail ms word old answer next new served same s (inl (is, state, known)) =
+    → AllByRecursion IsMessage ms → there (mail old).slots ≡ ms → sound new → Opens sound mail old answer next new → Replied ms (no_marks ms) (Pass word) answer next (mail new)
+opened sound mail ms word old answer next new messages same s (inl (is, state, known)) =
     let drop = (known s).1 in (
       no_marks ms,
       refused ms (no_marks ms) (Pass word) answer (codes " maildrop unavailable") is refl,
       subst (λ (st : State). Stands ms st (mail new) (no_marks ms)) (sym state) (ap (λ (m : Mail). there m.slots) drop ∙ same, refl),
     )
-opened sound mail ms word old answer next new served same s (inr (rows, is, state, known)) =
+opened sound mail ms word old answer next new messages same s (inr (rows, limits, is, state, known)) =
     let drop = (known s).1 in
-    let few : length ms ≤ 100000 = served.few in
-    let count : length rows ≡ length ms = ap length (drop.1 ∙ ap (map row_of) same) ∙ map_length ms in
+    let same_rows : rows ≡ map row_of ms = drop.1 ∙ ap (map row_of) same in
+    let few : length rows ≤ 100000 = limits.few in
     let digits : list_all is_no_lf (decimal (length rows)) ≡ true = no_lf_decimal (length rows) (omega arith) in
     let none : list_all is_no_lf ((32 ∷ decimal (length rows)) ++ codes " messages") ≡ true = no_lf_append (32 ∷ decimal (length rows)) (codes " messages") (no_lf_append (32 ∷ []) (decimal (length rows)) refl digits) refl in (
       no_marks ms,
       inr (granted answer ((32 ∷ decimal (length rows)) ++ codes " messages") is none, refl),
       subst (λ (st : State). Stands ms st (mail new) (no_marks ms)) (sym state)
-          (ap (λ (m : Mail). m.slots) drop.0 ∙ ap (map Some) same, fresh_length ms, drop.1 ∙ ap (map row_of) same ∙ fresh_rows ms),
+          (ap (λ (m : Mail). m.slots) drop.0 ∙ ap (map Some) same, fresh_length ms, same_rows ∙ fresh_rows ms, are_served ms rows messages limits same_rows),
     )
-  where
-    map_length : (ms : List Message) → length (map row_of ms) ≡ length ms
-    map_length [] = refl
-    map_length (m ∷ ms) = let ih = map_length ms in omega arith
 
 passed : {D : Type 0} (sound : D → Type 0) (mail : D → Mail) (ms : List Message) (word : List ℕ) (old : D) (answer : List ℕ) (next : State) (new : D)
-    → AreServed ms → there (mail old).slots ≡ ms → sound new → (right : Bool)
+    → AllByRecursion IsMessage ms → there (mail old).slots ≡ ms → sound new → (right : Bool)
     → Does sound mail (cond right Open (Say (said (codes "-ERR refused")) (Authorization None))) old answer next new → Replied ms (no_marks ms) (Pass word) answer next (mail new)
-passed sound mail ms word old answer next new served same s true does = opened sound mail ms word old answer next new served same s does
-passed sound mail ms word old answer next new served same s false does =
+passed sound mail ms word old answer next new messages same s true does = opened sound mail ms word old answer next new messages same s does
+passed sound mail ms word old answer next new messages same s false does =
     says_no mail ms (no_marks ms) (Pass word) old answer (codes " refused") (Authorization None) next new does refl (same, refl)
 
 in_auth : {D : Type 0} (sound : D → Type 0) (mail : D → Mail) (ms : List Message) (user pass : List ℕ) (kept : Option (List ℕ)) (c : Command) (old : D) (answer : List ℕ) (next : State) (new : D)
-    → AreServed ms → there (mail old).slots ≡ ms → sound new → IsOfSession c → Does sound mail (in_authorization user pass kept c) old answer next new → Replied ms (no_marks ms) c answer next (mail new)
-in_auth sound mail ms user pass kept (User name) old answer next new served same s asked does =
+    → AllByRecursion IsMessage ms → there (mail old).slots ≡ ms → sound new → IsOfSession c → Does sound mail (in_authorization user pass kept c) old answer next new → Replied ms (no_marks ms) c answer next (mail new)
+in_auth sound mail ms user pass kept (User name) old answer next new messages same s asked does =
     says_yes mail ms (no_marks ms) (no_marks ms) (User name) old answer (codes " send PASS") (Authorization (Some name)) next new does refl (λ says. (says, refl)) (same, refl)
-in_auth sound mail ms user pass None (Pass word) old answer next new served same s asked does =
+in_auth sound mail ms user pass None (Pass word) old answer next new messages same s asked does =
     says_no mail ms (no_marks ms) (Pass word) old answer (codes " USER first") (Authorization None) next new does refl (same, refl)
-in_auth sound mail ms user pass (Some name) (Pass word) old answer next new served same s asked does =
-    passed sound mail ms word old answer next new served same s (bytes_eq name user && bytes_eq word pass) does
-in_auth sound mail ms user pass kept Quit old answer next new served same s asked does =
-    says_yes mail ms (no_marks ms) (no_marks ms) Quit old answer (codes " bye") Closed next new does refl (λ says. (says, refl)) tt
-in_auth sound mail ms user pass kept Stat old answer next new served same s asked does = says_no mail ms (no_marks ms) Stat old answer (codes " not now") (Authorization kept) next new does refl (same, refl)
-in_auth sound mail ms user pass kept UidlAll old answer next new served same s asked does = says_no mail ms (no_marks ms) UidlAll old answer (codes " not now") (Authorization kept) next new does refl (same, refl)
-in_auth sound mail ms user pass kept (UidlOne n) old answer next new served same s asked does = absurd asked
-in_auth sound mail ms user pass kept ListAll old answer next new served same s asked does = says_no mail ms (no_marks ms) ListAll old answer (codes " not now") (Authorization kept) next new does refl (same, refl)
-in_auth sound mail ms user pass kept (ListOne n) old answer next new served same s asked does = absurd asked
-in_auth sound mail ms user pass kept (Retr n) old answer next new served same s asked does = says_no mail ms (no_marks ms) (Retr n) old answer (codes " not now") (Authorization kept) next new does refl (same, refl)
-in_auth sound mail ms user pass kept (Dele n) old answer next new served same s asked does = says_no mail ms (no_marks ms) (Dele n) old answer (codes " not now") (Authorization kept) next new does refl (same, refl)
-in_auth sound mail ms user pass kept Rset old answer next new served same s asked does = says_no mail ms (no_marks ms) Rset old answer (codes " not now") (Authorization kept) next new does refl (same, refl)
-in_auth sound mail ms user pass kept Noop old answer next new served same s asked does = says_no mail ms (no_marks ms) Noop old answer (codes " not now") (Authorization kept) next new does refl (same, refl)
-in_auth sound mail ms user pass kept (Top n k) old answer next new served same s asked does = absurd asked
+in_auth sound mail ms user pass (Some name) (Pass word) old answer next new messages same s asked does =
+    passed sound mail ms word old answer next new messages same s (bytes_eq name user && bytes_eq word pass) does
+in_auth sound mail ms user pass kept Quit old answer next new messages same s asked does =
+    says_yes mail ms (no_marks ms) (no_marks ms) Quit old answer (codes " bye") Closed next new does refl (λ says. (says, refl))
+    (subst (AreLeft ms (no_marks ms)) (sym same) (none_gone ms (no_marks ms) (fresh_length ms)))
+in_auth sound mail ms user pass kept Stat old answer next new messages same s asked does = says_no mail ms (no_marks ms) Stat old answer (codes " not now") (Authorization kept) next new does refl (same, refl)
+in_auth sound mail ms user pass kept UidlAll old answer next new messages same s asked does = says_no mail ms (no_marks ms) UidlAll old answer (codes " not now") (Authorization kept) next new does refl (same, refl)
+in_auth sound mail ms user pass kept (UidlOne n) old answer next new messages same s asked does = absurd asked
+in_auth sound mail ms user pass kept ListAll old answer next new messages same s asked does = says_no mail ms (no_marks ms) ListAll old answer (codes " not now") (Authorization kept) next new does refl (same, refl)
+in_auth sound mail ms user pass kept (ListOne n) old answer next new messages same s asked does = absurd asked
+in_auth sound mail ms user pass kept (Retr n) old answer next new messages same s asked does = says_no mail ms (no_marks ms) (Retr n) old answer (codes " not now") (Authorization kept) next new does refl (same, refl)
+in_auth sound mail ms user pass kept (Dele n) old answer next new messages same s asked does = says_no mail ms (no_marks ms) (Dele n) old answer (codes " not now") (Authorization kept) next new does refl (same, refl)
+in_auth sound mail ms user pass kept Rset old answer next new messages same s asked does = says_no mail ms (no_marks ms) Rset old answer (codes " not now") (Authorization kept) next new does refl (same, refl)
+in_auth sound mail ms user pass kept Noop old answer next new messages same s asked does = says_no mail ms (no_marks ms) Noop old answer (codes " not now") (Authorization kept) next new does refl (same, refl)
+in_auth sound mail ms user pass kept (Top n k) old answer next new messages same s asked does = absurd asked
 
 -- ---- TRANSACTION
 
 InRows : List Message → List Bool → Mail → Type 0
-InRows ms marks mail = (mail.slots ≡ map Some ms) × (length marks ≡ length ms)
+InRows ms marks mail = (mail.slots ≡ map Some ms) × (length marks ≡ length ms) × AreServed ms
 
-made_rows : (ms : List Message) (marks : List Bool) (mail : Mail) → mail.slots ≡ map Some ms → length marks ≡ length ms → InRows ms marks mail
+made_rows : (ms : List Message) (marks : List Bool) (mail : Mail) → mail.slots ≡ map Some ms → length marks ≡ length ms → AreServed ms → InRows ms marks mail
 unfolding InRows
-made_rows ms marks mail a b = (a, b)
+made_rows ms marks mail a b served = (a, b, served)
 
 stands_in : (ms : List Message) (marks : List Bool) (mail : Mail) → InRows ms marks mail → Stands ms (Transaction (rows_with ms marks)) mail marks
 unfolding InRows
-stands_in ms marks mail h = (h.0, h.1, refl)
+stands_in ms marks mail h = (h.0, h.1, refl, h.2)
 
 -- RETR of an unmarked message
 gave : {D : Type 0} (sound : D → Type 0) (mail : D → Mail) (ms : List Message) (marks : List Bool) (k : ℕ) (m : Message) (old : D) (answer : List ℕ) (next : State) (new : D)
@@ -130,7 +128,7 @@ gave sound mail ms marks k m old answer next new served rows s at (state, inl (i
     let drop = (known s).1 in (
       marks,
       refused ms marks (Retr k) answer (codes " message unavailable") is refl,
-      subst (λ (st : State). Stands ms st (mail new) marks) (sym state) (ap (λ (x : Mail). x.slots) drop ∙ rows.0, rows.1, refl),
+      subst (λ (st : State). Stands ms st (mail new) marks) (sym state) (ap (λ (x : Mail). x.slots) drop ∙ rows.0, rows.1, refl, rows.2),
     )
 gave sound mail ms marks k m old answer next new served rows s at (state, inr (text, is, known)) =
     let drop = (known s).1 in
@@ -152,15 +150,16 @@ gave sound mail ms marks k m old answer next new served rows s at (state, inr (t
         body,
         refl,
       ),
-      subst (λ (st : State). Stands ms st (mail new) marks) (sym state) (ap (λ (x : Mail). x.slots) drop.0 ∙ rows.0, rows.1, refl),
+      subst (λ (st : State). Stands ms st (mail new) marks) (sym state) (ap (λ (x : Mail). x.slots) drop.0 ∙ rows.0, rows.1, refl, rows.2),
     )
 
-left : {D : Type 0} (sound : D → Type 0) (mail : D → Mail) (ms : List Message) (marks : List Bool) (rows : List MessageRow) (old : D) (answer : List ℕ) (next : State) (new : D)
-    → (next ≡ Closed) × RemovesMarked sound mail rows old answer new → Replied ms marks Quit answer next (mail new)
-left sound mail ms marks rows old answer next new (state, (true, is, known)) =
-    (marks, inr (granted answer (codes " bye") is refl, refl), subst (λ (st : State). Stands ms st (mail new) marks) (sym state) tt)
-left sound mail ms marks rows old answer next new (state, (false, is, known)) =
-    (marks, refused ms marks Quit answer (codes " some messages not removed") is refl, subst (λ (st : State). Stands ms st (mail new) marks) (sym state) tt)
+left : {D : Type 0} (sound : D → Type 0) (mail : D → Mail) (ms : List Message) (marks : List Bool) (old : D) (answer : List ℕ) (next : State) (new : D)
+    → InRows ms marks (mail old) → sound new → (next ≡ Closed) × RemovesMarked sound mail (rows_with ms marks) old answer new → Replied ms marks Quit answer next (mail new)
+unfolding InRows
+left sound mail ms marks old answer next new rows s (state, (true, is, known)) =
+    (marks, inr (granted answer (codes " bye") is refl, refl), subst (λ (st : State). Stands ms st (mail new) marks) (sym state) (left_by_quit ms marks (mail old) (mail new) true rows.1 rows.0 (known s).1))
+left sound mail ms marks old answer next new rows s (state, (false, is, known)) =
+    (marks, refused ms marks Quit answer (codes " some messages not removed") is refl, subst (λ (st : State). Stands ms st (mail new) marks) (sym state) (left_by_quit ms marks (mail old) (mail new) false rows.1 rows.0 (known s).1))
 
 abbrev counted_with : ℕ → ℕ → Result (ℕ × ℕ) WireFault
 counted_with total count = Ok (count, total)
@@ -204,13 +203,13 @@ marked : {D : Type 0} (sound : D → Type 0) (mail : D → Mail) (ms : List Mess
 unfolding InRows
 marked sound mail ms marks k m old answer next new rows at does =
     says_yes mail ms marks (slice_set marks (k - 1) true) (Dele k) old answer (codes " marked") (Transaction (mark_at (rows_with ms marks) (k - 1))) next new does refl
-    (λ says. (m, says, at, refl)) (rows.0, marked_length marks (k - 1) ∙ rows.1, marked_rows ms marks (k - 1))
+    (λ says. (m, says, at, refl)) (rows.0, marked_length marks (k - 1) ∙ rows.1, marked_rows ms marks (k - 1), rows.2)
 
 -- RSET
 cleared : {D : Type 0} (sound : D → Type 0) (mail : D → Mail) (ms : List Message) (marks : List Bool) (old : D)
     → InRows ms marks (mail old) → Stands ms (Transaction (map unmarked (rows_with ms marks))) (mail old) (map (λ _. false) marks)
 unfolding InRows
-cleared sound mail ms marks old rows = (rows.0, cleared_length marks ∙ rows.1, cleared_rows ms marks)
+cleared sound mail ms marks old rows = (rows.0, cleared_length marks ∙ rows.1, cleared_rows ms marks, rows.2)
 
 in_trans : {D : Type 0} (sound : D → Type 0) (mail : D → Mail) (ms : List Message) (marks : List Bool) (c : Command) (old : D) (answer : List ℕ) (next : State) (new : D)
     → AreServed ms → InRows ms marks (mail old) → sound new → IsOfSession c → Does sound mail (in_transaction (rows_with ms marks) c) old answer next new → Replied ms marks c answer next (mail new)
@@ -249,23 +248,23 @@ in_trans sound mail ms marks Rset old answer next new served rows s asked does =
 in_trans sound mail ms marks Noop old answer next new served rows s asked does =
     says_yes mail ms marks marks Noop old answer [] (Transaction (rows_with ms marks)) next new does refl (λ says. (says, refl)) (stands_in ms marks (mail old) rows)
 in_trans sound mail ms marks (Top n k) old answer next new served rows s asked does = absurd asked
-in_trans sound mail ms marks Quit old answer next new served rows s asked does = left sound mail ms marks (rows_with ms marks) old answer next new does
+in_trans sound mail ms marks Quit old answer next new served rows s asked does = left sound mail ms marks old answer next new rows s does
 
 -- ---- all answers in order
 
 replied : {D : Type 0} (sound : D → Type 0) (mail : D → Mail) (ms : List Message) (marks : List Bool) (user pass : List ℕ) (state : State) (c : Command) (old : D) (answer : List ℕ) (next : State) (new : D)
-    → AreServed ms → is_open state ≡ true → Stands ms state (mail old) marks → sound new → IsOfSession c → Does sound mail (deed user pass state (Ok c)) old answer next new → Replied ms marks c answer next (mail new)
-replied sound mail ms marks user pass (Authorization kept) c old answer next new served opened stands s asked does =
-    subst (λ (bs : List Bool). Replied ms bs c answer next (mail new)) (sym stands.1) (in_auth sound mail ms user pass kept c old answer next new served stands.0 s asked does)
-replied sound mail ms marks user pass (Transaction rows) c old answer next new served opened stands s asked does =
-    in_trans sound mail ms marks c old answer next new served (made_rows ms marks (mail old) stands.0 stands.1) s asked
+    → AllByRecursion IsMessage ms → is_open state ≡ true → Stands ms state (mail old) marks → sound new → IsOfSession c → Does sound mail (deed user pass state (Ok c)) old answer next new → Replied ms marks c answer next (mail new)
+replied sound mail ms marks user pass (Authorization kept) c old answer next new messages opened stands s asked does =
+    subst (λ (bs : List Bool). Replied ms bs c answer next (mail new)) (sym stands.1) (in_auth sound mail ms user pass kept c old answer next new messages stands.0 s asked does)
+replied sound mail ms marks user pass (Transaction rows) c old answer next new messages opened stands s asked does =
+    in_trans sound mail ms marks c old answer next new stands.3 (made_rows ms marks (mail old) stands.0 stands.1 stands.3) s asked
     (subst (λ (rs : List MessageRow). Does sound mail (in_transaction rs c) old answer next new) stands.2 does)
-replied sound mail ms marks user pass Closed c old answer next new served opened stands s asked does = absurd (let e : false ≡ true = opened in cc)
+replied sound mail ms marks user pass Closed c old answer next new messages opened stands s asked does = absurd (let e : false ≡ true = opened in cc)
 
 did_sound : {D : Type 0} (sound : D → Type 0) (mail : D → Mail) (asked : Deed) (old : D) (answer : List ℕ) (next : State) (new : D) → Does sound mail asked old answer next new → sound new → sound old
 did_sound sound mail (Say bytes state) old answer next new does s = subst sound does.2 s
 did_sound sound mail Open old answer next new (inl (is, state, known)) s = (known s).0
-did_sound sound mail Open old answer next new (inr (rows, is, state, known)) s = (known s).0
+did_sound sound mail Open old answer next new (inr (rows, limits, is, state, known)) s = (known s).0
 did_sound sound mail (Give rows i line top) old answer next new (state, inl (is, known)) s = (known s).0
 did_sound sound mail (Give rows i line top) old answer next new (state, inr (text, is, known)) s = (known s).0
 did_sound sound mail (Leave rows) old answer next new (state, (all, is, known)) s = (known s).0
@@ -276,29 +275,50 @@ run_sound sound mail old new (line ∷ lines) answers (first, rest, next, is, tu
     did_sound sound mail _ old.drop first next.state next.drop turn.answers.does (run_sound sound mail next new lines rest run s)
 
 all_replied : {D : Type 0} (sound : D → Type 0) (mail : D → Mail) (ms : List Message) (marks : List Bool) (commands : List Command) (old new : Machine D) (answers : List ℕ)
-    → AreServed ms → AllByRecursion IsAsked commands → AnswersLines sound mail old (lines_of commands) answers new → sound new.drop → Stands ms old.state (mail old.drop) marks
-    → (last : List Bool) × Replies ms marks commands answers last
-all_replied sound mail ms marks [] old new answers served asked run s stands = (marks, (run.0, refl))
-all_replied sound mail ms marks (c ∷ commands) old new answers served asked (first, rest, next, is, turn, run) s stands =
+    → AllByRecursion IsMessage ms → AllByRecursion IsAsked commands → AnswersLines sound mail old (lines_of commands) answers new → sound new.drop → Stands ms old.state (mail old.drop) marks
+    → (last : List Bool) × Replies ms marks commands answers last × Stands ms new.state (mail new.drop) last
+all_replied sound mail ms marks [] old new answers messages asked run s stands =
+    (marks, (run.0, refl), subst (λ (m : Machine _). Stands ms m.state (mail m.drop) marks) (sym run.1) stands)
+all_replied sound mail ms marks (c ∷ commands) old new answers messages asked (first, rest, next, is, turn, run) s stands =
     let sound_next = run_sound sound mail next new (lines_of commands) rest run s in
     let does = subst (λ (r : Result Command WireFault). Does sound mail (deed old.user old.pass old.state r) old.drop first next.state next.drop) (round_trip c asked.0.numbers asked.0.sendable) turn.answers.does in
-    let one = replied sound mail ms marks old.user old.pass old.state c old.drop first next.state next.drop served turn.was_open stands sound_next asked.0.of_session does in
-    let more = all_replied sound mail ms one.0 commands next new rest served asked.1 run s one.2 in
-    (more.0, (first, rest, one.0, is, one.1, more.1))
+    let one = replied sound mail ms marks old.user old.pass old.state c old.drop first next.state next.drop messages turn.was_open stands sound_next asked.0.of_session does in
+    let more = all_replied sound mail ms one.0 commands next new rest messages asked.1 run s one.2 in
+    (more.0, (first, rest, one.0, is, one.1, more.1), more.2)
 
-flat_lines : (commands : List Command) → flat_map ended (lines_of commands) ≡ flat_map (λ c. ended (line_of c)) commands
+pub flat_lines : (commands : List Command) → flat_map ended (lines_of commands) ≡ flat_map (λ c. ended (line_of c)) commands
 flat_lines [] = refl
 flat_lines (c ∷ commands) = ap (λ (l : List ℕ). ended (line_of c) ++ l) (flat_lines commands)
 
-all_sendable : (commands : List Command) → AllByRecursion IsAsked commands → AllByRecursion (λ c. can_be_sent c ≡ true) commands
+pub all_sendable : (commands : List Command) → AllByRecursion IsAsked commands → AllByRecursion (λ c. can_be_sent c ≡ true) commands
 all_sendable [] all = tt
 all_sendable (c ∷ commands) all = (all.0.sendable, all_sendable commands all.1)
 
-pub is_honest : {D : Type 0} (sound : D → Type 0) (mail : D → Mail) → IsHonest sound mail
-is_honest sound mail old new commands answers state asked run s served =
-    let ms = there (mail old.drop).slots in
+gone_at : (ms : List Message) (marks : List Bool) (state : State) (mail : Mail) → Stands ms state mail marks → Gone ms marks state (there mail.slots)
+gone_at ms marks (Authorization kept) mail stands =
+    record { left = subst (AreLeft ms marks) (sym stands.0) (none_gone ms marks (ap length stands.1 ∙ fresh_length ms)); before_quit = λ _. stands.0 }
+gone_at ms marks (Transaction rows) mail stands =
+    let same : there mail.slots ≡ ms = ap there stands.0 ∙ there_some ms in
+    record { left = subst (AreLeft ms marks) (sym same) (none_gone ms marks stands.1); before_quit = λ _. same }
+gone_at ms marks Closed mail stands = record { left = stands; before_quit = λ e. absurd (let h : false ≡ true = e in cc) }
+
+-- what was answered is honest, and what is gone then was marked
+abbrev pub AnswersHonestly : {D : Type 0} → (D → Type 0) → (D → Mail) → Type 0
+AnswersHonestly {D} sound mail = (old new : Machine D) (commands : List Command) (answers : List ℕ)
+    → old.state ≡ Authorization None → AllByRecursion IsAsked commands → AnswersLines sound mail old (lines_of commands) answers new
+    → sound new.drop → AllByRecursion IsMessage (there (mail old.drop).slots)
+    → (marks : List Bool) × Replies (there (mail old.drop).slots) (no_marks (there (mail old.drop).slots)) commands answers marks
+    × Gone (there (mail old.drop).slots) marks new.state (there (mail new.drop).slots)
+
+pub answers_honestly : {D : Type 0} (sound : D → Type 0) (mail : D → Mail) → AnswersHonestly sound mail
+answers_honestly sound mail old new commands answers state asked run s messages =
     let stands = subst (λ (st : State). Stands (there (mail old.drop).slots) st (mail old.drop) (no_marks (there (mail old.drop).slots))) (sym state) (refl, refl) in
-    let all = all_replied sound mail (there (mail old.drop).slots) (no_marks (there (mail old.drop).slots)) commands old new answers served asked run s stands in (
+    let all = all_replied sound mail (there (mail old.drop).slots) (no_marks (there (mail old.drop).slots)) commands old new answers messages asked run s stands in
+    (all.0, all.1, gone_at (there (mail old.drop).slots) all.0 new.state (mail new.drop) all.2)
+
+pub is_honest : {D : Type 0} (sound : D → Type 0) (mail : D → Mail) → IsHonest sound mail
+is_honest sound mail old new commands answers state asked run s messages =
+    let all = answers_honestly sound mail old new commands answers state asked run s messages in (
       all.0,
       record {
         status = Positive;
@@ -311,4 +331,5 @@ is_honest sound mail old new commands answers state asked run s served =
         later = [];
         begins = sym (append-nil (greeting ++ answers));
       },
+      all.2,
     )

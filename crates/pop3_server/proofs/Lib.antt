@@ -1,5 +1,7 @@
 pub mod DigestLemmas
+pub mod GoneLemmas
 pub mod HonestLemmas
+pub mod HonestLoopLemmas
 pub mod HonestTurns
 pub mod LeaveLemmas
 pub mod LoopLemmas

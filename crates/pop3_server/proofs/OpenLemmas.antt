@@ -6,7 +6,7 @@ use Rattle.pop3_wire.specs.World.{Message}
 use Rattle.pop3_server.specs.declared.rows.MessageRow.{MessageRow}
 use Rattle.pop3_server.specs.declared.state.State.TheVariants.{Transaction}
 use Rattle.pop3_server.specs.Maildrop.{Listed, Mail, there, entry_of, ListsMessages}
-use Rattle.pop3_server.specs.ServerMachine.{row_of, row_of_entry, said, Answers, Unanswered, Open, Tied}
+use Rattle.pop3_server.specs.ServerMachine.{row_of, row_of_entry, said, Answers, Unanswered, Open, Tied, KeepLimits}
 use Rattle.pop3_server.proofs.SlotLemmas.{there_map}
 
 rows_of : (ms : List Message) → map row_of_entry (map entry_of ms) ≡ map row_of ms
@@ -27,11 +27,11 @@ module _ {D Z : Type 0} (sound : D → Type 0) (mail : D → Mail) (old new : D)
     messages = λ s. let l = lists s in (l.0, ap (λ (m : Mail). there m.slots) l.1.0 ∙ there_map (there (mail old).slots));
   }
 
-  pub answers_open : (rows : List MessageRow) (answer : List ℕ) → rows ≡ map row_of_entry entries.items → (mail new).removals ≡ (mail old).removals
+  pub answers_open : (rows : List MessageRow) (answer : List ℕ) → rows ≡ map row_of_entry entries.items → KeepLimits rows → (mail new).removals ≡ (mail old).removals
       → answer ≡ said (codes "+OK " ++ decimal (length rows) ++ codes " messages") → Answers sound mail Open old answer (Transaction rows) new
-  answers_open rows answer are removals says = record {
+  answers_open rows answer are limits removals says = record {
     removals = removals;
-    does = inr (rows, says, refl, λ s. let l = lists s in (l.0, (l.1.0, are ∙ ap (map row_of_entry) l.1.1 ∙ rows_of (there (mail old).slots))));
+    does = inr (rows, limits, says, refl, λ s. let l = lists s in (l.0, (l.1.0, are ∙ ap (map row_of_entry) l.1.1 ∙ rows_of (there (mail old).slots))));
   }
 
   pub tied_open : (rows : List MessageRow) → rows ≡ map row_of_entry entries.items → Tied (sound new) (mail new) (Transaction rows)

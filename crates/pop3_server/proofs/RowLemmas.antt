@@ -1,7 +1,10 @@
 -- Rows, marked and unmarked.
-use Rattle.std.proofs.Common.{◌≡◌, ℕ, zero, suc, ◌<◌, true, List, [], ◌∷◌, map, length, get_or, Some, slice_set, slice_get, refl, ap, arith}
+use Rattle.std.proofs.Common.{◌≡◌, ℕ, zero, suc, ◌<◌, ◌≤◌, true, List, [], ◌∷◌, ◌++◌, map, length, get_or, Some, slice_set, slice_get, refl, ap, arith}
 use Rattle.pop3_server.specs.declared.rows.MessageRow.{MessageRow}
-use Rattle.pop3_server.specs.ServerMachine.{marked, unmarked, mark_at}
+use Rattle.std.specs.List.{All}
+use Rattle.std.proofs.lemmas.List.Elements.{All-push}
+use Rattle.pop3_server.specs.Maildrop.{max_size}
+use Rattle.pop3_server.specs.ServerMachine.{marked, unmarked, mark_at, IsSmall}
 
 -- a row that is written back with its mark
 pub set_mark : (rows : List MessageRow) (i : ℕ) (row : MessageRow) → row ≡ get_or rows i row → i < length rows → slice_set rows i (record { entry = row.entry; marked = true }) ≡ mark_at rows i
@@ -21,3 +24,7 @@ pub row_of_unmark : (rows : List MessageRow) (k : ℕ) (row : MessageRow) → sl
 row_of_unmark [] k row h = (row, h)
 row_of_unmark (first ∷ rows) zero row h = (first, refl)
 row_of_unmark (first ∷ rows) (suc k) row h = row_of_unmark rows k row h
+
+-- one more row within the limit
+pub small_push : (rows : List MessageRow) (row : MessageRow) → All IsSmall rows → row.entry.size ≤ max_size → All IsSmall (rows ++ row ∷ [])
+small_push rows row all small = All-push IsSmall rows row all small

@@ -1,5 +1,5 @@
 -- Conversations of the server by the commands of a session are honest.
-use Rattle.std.specs.Prelude.{◌≡◌, ◌≤◌, ℕ, Bool, true, List, ◌++◌, map, length, None}
+use Rattle.std.specs.Prelude.{◌≡◌, ◌⊎◌, ℕ, Bool, true, List, [], ◌∷◌, ◌++◌, map, None}
 use Rattle.std.specs.List.{flat_map, AllByRecursion}
 use Rattle.pop3_wire.specs.declared.command.Command.{Command}
 use Rattle.pop3_wire.specs.declared.command.Command.TheVariants.{User, Pass, Stat, UidlAll, UidlOne, ListAll, ListOne, Retr, Dele, Rset, Noop, Top, Quit}
@@ -8,9 +8,10 @@ use Rattle.pop3_wire.specs.Commands.{line_of, can_be_sent}
 use Rattle.pop3_wire.specs.CommandLine.{HasNumbers}
 use Rattle.pop3_wire.specs.World.{Message, IsMessage}
 use Rattle.pop3_wire.specs.Honest.{Honest}
+use Rattle.pop3_server.specs.declared.state.State.{State}
 use Rattle.pop3_server.specs.declared.state.State.TheVariants.{Authorization}
 use Rattle.pop3_server.specs.Maildrop.{Mail, there}
-use Rattle.pop3_server.specs.ServerMachine.{Machine, greeting}
+use Rattle.pop3_server.specs.ServerMachine.{Machine, greeting, is_open}
 use Rattle.pop3_server.specs.AnswersLines.{AnswersLines}
 
 -- what a session sends: the commands of its plan, and RSET
@@ -35,22 +36,25 @@ pub record IsAsked (command : Command) : Type 0 where
   pub numbers : HasNumbers command
   pub sendable : can_be_sent command ≡ true
 
--- a message of a world, of a size that a server lists
-pub record IsServed (message : Message) : Type 0 where
-  pub is_message : IsMessage message
-  pub within : message.size ≤ 134217728
-
--- messages as a server lists them
-pub record AreServed (messages : List Message) : Type 0 where
-  pub served : AllByRecursion IsServed messages
-  pub few : length messages ≤ 100000
-
 abbrev pub lines_of : List Command → List (List ℕ)
 lines_of commands = map line_of commands
 
--- a new server's greeting and its answers to these commands are an honest conversation over its maildrop's messages
+-- of these messages those are there that aren't marked, and any of the marked ones, in their order
+abbrev pub AreLeft : List Message → List Bool → List Message → Type 0
+AreLeft [] marks after = after ≡ []
+AreLeft (m ∷ ms) [] after = ⊥
+AreLeft (m ∷ ms) (mark ∷ marks) after = ((rest : List Message) × (after ≡ m ∷ rest) × AreLeft ms marks rest) ⊎ ((mark ≡ true) × AreLeft ms marks after)
+
+-- only marked messages are gone, and none while the server is open
+pub record Gone (before : List Message) (marks : List Bool) (state : State) (after : List Message) : Type 0 where
+  pub left : AreLeft before marks after
+  pub before_quit : is_open state ≡ true → after ≡ before
+
+-- a new server's greeting and its answers to these commands are an honest conversation over its maildrop's messages,
+-- and what is gone then was marked
 abbrev pub IsHonest : {D : Type 0} → (D → Type 0) → (D → Mail) → Type 0
 IsHonest {D} sound mail = (old new : Machine D) (commands : List Command) (answers : List ℕ)
     → old.state ≡ Authorization None → AllByRecursion IsAsked commands → AnswersLines sound mail old (lines_of commands) answers new
-    → sound new.drop → AreServed (there (mail old.drop).slots)
+    → sound new.drop → AllByRecursion IsMessage (there (mail old.drop).slots)
     → (marks : List Bool) × Honest (there (mail old.drop).slots) (flat_map ended (lines_of commands)) (greeting ++ answers) marks
+    × Gone (there (mail old.drop).slots) marks new.state (there (mail new.drop).slots)

@@ -1,5 +1,6 @@
 pub mod AnswersLines
 pub mod Got
+pub mod HonestLoop
 pub mod HonestServer
 pub mod LoopLaws
 pub mod LoopLink

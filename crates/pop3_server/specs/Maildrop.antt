@@ -5,6 +5,13 @@ use Rattle.pop3_wire.specs.World.{Message}
 use Rattle.pop3_server.specs.declared.maildrop.DropFault.{DropFault}
 use Rattle.pop3_server.specs.declared.maildrop.DropFault.TheVariants.{Refused, NoMemory}
 
+-- how many messages a listing may have, and of how many octets each
+abbrev pub max_count : ℕ
+max_count = 100000
+
+abbrev pub max_size : ℕ
+max_size = 134217728
+
 -- what a listing says of a message
 pub record Listed : Type 0 where
   pub uid : List ℕ

@@ -5,8 +5,9 @@ use Rattle.pop3_server.specs.declared.maildrop.DropFault.{DropFault}
 use Rattle.pop3_server.specs.MaildirNames.{base_of, id_of}
 use Rattle.pop3_server.specs.Maildrop.{Listed, Mail}
 
--- the names of the files of the last good listing, by their places; and the two counts
+-- its path; the names of the files of the last good listing, by their places; and the two counts
 pub record RealMaildir : Type 0 where
+  pub path : List ℕ
   pub names : List (List ℕ)
   pub failures : ℕ
   pub removals : ℕ

@@ -1,6 +1,6 @@
 -- The server as a machine: a state and a line, the answer and the next state (RFC 1939, sections 4 to 7).
-use Rattle.std.specs.Prelude.{◌≡◌, ◌⊎◌, ◌==◌, ℕ, zero, suc, ◌+◌, ◌-◌, Bool, true, false, not, ◌&&◌, List, [], ◌∷◌, ◌++◌, map, length, Option, Some, None, Result, Ok, Err, slice_get, codes, bytes_eq, if◌then◌else◌}
-use Rattle.std.specs.List.{count_by, sum_by}
+use Rattle.std.specs.Prelude.{◌≡◌, ◌⊎◌, ◌≤◌, ◌==◌, ℕ, zero, suc, ◌+◌, ◌-◌, Bool, true, false, not, ◌&&◌, List, [], ◌∷◌, ◌++◌, map, length, Option, Some, None, Result, Ok, Err, slice_get, codes, bytes_eq, if◌then◌else◌}
+use Rattle.std.specs.List.{All, count_by, sum_by}
 use Rattle.std.specs.Fmt.{decimal}
 use Rattle.pop3_wire.specs.declared.command.Command.{Command}
 use Rattle.pop3_wire.specs.declared.command.Command.TheVariants.{User, Pass, Stat, UidlAll, UidlOne, ListAll, ListOne, Retr, Dele, Rset, Noop, Top, Quit}
@@ -12,7 +12,7 @@ use Rattle.pop3_wire.specs.World.{Message}
 use Rattle.pop3_server.specs.declared.rows.MessageRow.{MessageRow}
 use Rattle.pop3_server.specs.declared.state.State.{State}
 use Rattle.pop3_server.specs.declared.state.State.TheVariants.{Authorization, Transaction, Closed}
-use Rattle.pop3_server.specs.Maildrop.{Listed, Mail, there, entry_of, HasPlace, counted, refusing, asked, removed}
+use Rattle.pop3_server.specs.Maildrop.{Listed, Mail, there, entry_of, HasPlace, counted, refusing, asked, removed, max_count, max_size}
 
 -- ---- the rows: the messages as PASS found them, and their marks
 
@@ -54,6 +54,14 @@ row_of_entry entry = record { entry = entry; marked = false }
 
 abbrev pub row_of : Message → MessageRow
 row_of message = row_of_entry (entry_of message)
+
+abbrev pub IsSmall : MessageRow → Type 0
+IsSmall row = row.entry.size ≤ max_size
+
+-- no more rows than a listing may have, and no greater ones
+pub record KeepLimits (rows : List MessageRow) : Type 0 where
+  pub few : length rows ≤ max_count
+  pub small : All IsSmall rows
 
 -- ---- the answers
 
@@ -186,12 +194,13 @@ AsksRemovals old Open new = new.removals ≡ old.removals
 AsksRemovals old (Give rows i line top) new = new.removals ≡ old.removals
 AsksRemovals old (Leave rows) new = new.removals ≡ with_marked rows old.removals
 
--- the maildrop refused its listing, or there are as many rows as messages, nothing marked
+-- the maildrop refused its listing; or there are as many rows as messages, nothing marked, and they keep to the limits
+-- whatever the maildrop
 abbrev pub Opens : {D : Type 0} → (D → Type 0) → (D → Mail) → D → List ℕ → State → D → Type 0
 Opens sound mail old answer next new =
     ((answer ≡ said (codes "-ERR maildrop unavailable")) × (next ≡ Authorization None)
     × Known sound mail old new (λ before after. after ≡ refusing before))
-    ⊎ ((rows : List MessageRow) × (answer ≡ said (codes "+OK " ++ decimal (length rows) ++ codes " messages"))
+    ⊎ ((rows : List MessageRow) × KeepLimits rows × (answer ≡ said (codes "+OK " ++ decimal (length rows) ++ codes " messages"))
     × (next ≡ Transaction rows)
     × Known sound mail old new (λ before after. (after ≡ record before { slots = map Some (there before.slots) })
     × (rows ≡ map row_of (there before.slots))))

@@ -1,11 +1,18 @@
-//! That the server is honest: a law over its definitions.
+//! That the server is honest: laws over its definitions.
 ghost use Rattle.pop3_server.specs.HonestServer.{IsHonest};
+ghost use Rattle.pop3_server.specs.HonestLoop.{GivesHonest};
 
 use crate::maildrop::Maildrop;
 
 /// A new server's greeting and its answers to any commands that a session sends, one after another,
-/// are an honest conversation over the messages of its maildrop, where these are of a world and
-/// within the server's limits.
+/// are an honest conversation over the messages of its maildrop; while the server is open all of
+/// these are there, and behind QUIT only marked ones may be gone, the others in their order.
 pub fn conversations_are_honest<D: Maildrop>()
     ensures { IsHonest D.sound D.mail }
+{}
+
+/// The same of a [`LoopWire`](crate::LoopWire) to a new server, for whole commands of a session and
+/// a part of one more, also where the link went down.
+pub fn loops_are_honest<D: Maildrop>()
+    ensures { GivesHonest D.sound D.mail }
 {}

@@ -19,7 +19,7 @@ mod size;
 mod state;
 
 pub use fault::ServerFault;
-pub use honesty::conversations_are_honest;
+pub use honesty::{conversations_are_honest, loops_are_honest};
 pub use laws::quit_leaves_few;
 pub use loop_wire::LoopWire;
 pub use maildir_drop::MaildirDrop;

@@ -185,7 +185,7 @@ impl<D: Maildrop> Wire for LoopWire<D> {
             × Serves D.sound D.mail self.old self.new × Sends self.old.link bytes.now result self.new.link }
         // A good call has answered every whole line that was sent to an open server; behind a
         // refused one all calls are refused.
-        ensures answered { IfOk result (λ _. (self.new.down ≡ false) × IsAnswered self.new) }
+        ensures answered { IfOk result (λ _. (self.old.down ≡ false) × (self.new.down ≡ false) × IsAnswered self.new) }
         ensures down { IfErr result (λ _. self.new.down ≡ true) }
     {
         if self.down {
@@ -206,7 +206,8 @@ impl<D: Maildrop> Wire for LoopWire<D> {
         ensures counted { Tallies self.old.link.failures result self.new.link.failures }
         ensures got { self.new.link.failures < greatest_count → (self.old.link.failures < greatest_count)
             × Serves D.sound D.mail self.old self.new × Receives self.old.link result buf.new self.new.link }
-        // It is refused only behind a refused call, and 0 says that nothing is left.
+        // It is refused behind a refused call and there alone, and 0 says that nothing is left.
+        ensures up { IfOk result (λ _. (self.old.down ≡ false) × (self.new.down ≡ false)) }
         ensures down { IfErr result (λ _. (self.old.down ≡ true) × (self.new.down ≡ true)) }
         ensures gives { IfOk result (λ n. self.old.left ≡ take n buf.new ++ self.new.left) }
         ensures ends { IfOk result (λ n. n ≡ 0 → self.new.left ≡ []) }

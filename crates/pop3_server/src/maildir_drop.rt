@@ -2,6 +2,7 @@
 //! those whose names begin with a full stop left out (the Maildir format: a name up to its first
 //! colon stays, and flags follow).
 ghost use Rattle.std.specs.Prelude.{◌≡◌, ◌≤◌, vec_len, IfOk, IfErr, []};
+ghost use Rattle.std.specs.String.{string_bytes};
 ghost use Rattle.pop3_server.specs.Maildrop.{CountsFault, Tallies, counted};
 ghost use Rattle.pop3_server.specs.RealMaildir.{mail_of, names_of, HaveIds, ListsNames};
 
@@ -14,8 +15,8 @@ use std::io::{self, ErrorKind, Read};
 use std::marker::Model;
 use std::rt::Files;
 
-/// A Maildir in a real folder. Nothing is known of what it holds: contracts see the names of the
-/// files that were listed, and the counts.
+/// A Maildir in a real folder. Nothing is known of what it holds: contracts see its path, the names of
+/// the files that were listed, and the counts.
 #[derive(Drop)]
 pub struct MaildirDrop<'a, R: Files + AllocGlobal + Clone + Drop> {
     rt: &'a R,
@@ -26,11 +27,13 @@ pub struct MaildirDrop<'a, R: Files + AllocGlobal + Clone + Drop> {
 }
 
 impl<'a, R: Files + AllocGlobal + Clone + Drop> Model for MaildirDrop<'a, R> {
+    ghost use Rattle.std.specs.String.{string_bytes};
     ghost use Rattle.pop3_server.specs.RealMaildir.{RealMaildir, names_of};
 
     ghost Value = { RealMaildir };
 
     ghost view = { λ d. record {
+      path = string_bytes d.path;
       names = names_of d.files.items;
       failures = d.failures;
       removals = d.removals;
@@ -81,7 +84,7 @@ struct Listing {
 impl<'a, R: Files + AllocGlobal + Clone + Drop> MaildirDrop<'a, R> {
     /// The maildrop of the Maildir at this path, which must have the folders `new` and `cur`.
     pub fn at(rt: &'a R, path: String) -> MaildirDrop<'a, R>
-        ensures { result ≡ record { names = []; failures = 0; removals = 0 } }
+        ensures { result ≡ record { path = string_bytes path; names = []; failures = 0; removals = 0 } }
     {
         MaildirDrop {
             rt,
@@ -225,6 +228,7 @@ impl<'a, R: Files + AllocGlobal + Clone + Drop> Maildrop for MaildirDrop<'a, R> 
         ensures tally { Tallies (mail_of self.old) result (mail_of self.new) }
         ensures removes_none { self.new.removals ≡ self.old.removals }
         ensures names { ListsNames self.old result self.new }
+        ensures path { self.new.path ≡ self.old.path }
     {
         if self.failures == u64::MAX {
             return Err(DropFault::Refused);
@@ -259,7 +263,7 @@ impl<'a, R: Files + AllocGlobal + Clone + Drop> Maildrop for MaildirDrop<'a, R> 
         ensures err { IfErr result (λ e. e ≡ DropFault.Refused) }
         ensures tally { Tallies (mail_of self.old) result (mail_of self.new) }
         ensures asks { self.new.removals ≡ counted self.old.removals }
-        ensures names { self.new.names ≡ self.old.names }
+        ensures others { (self.new.path ≡ self.old.path) × (self.new.names ≡ self.old.names) }
     {
         self.removals = self.removals.saturating_add(1);
         if self.failures == u64::MAX {

@@ -58,13 +58,13 @@ pub struct Entry {
 impl Model for Entry {
     ghost use Rattle.std.specs.Prelude.{◌≤◌, IsTrue};
     ghost use Rattle.pop3_wire.specs.Fields.{is_legal_id};
-    ghost use Rattle.pop3_server.specs.Maildrop.{Listed};
+    ghost use Rattle.pop3_server.specs.Maildrop.{Listed, max_size};
 
     ghost Value = { Listed };
 
     ghost view = { λ e. record { uid = e.uid; size = e.size } };
 
-    ghost invariant = { λ e. IsTrue (is_legal_id e.uid) × (e.size ≤ 134217728) };
+    ghost invariant = { λ e. IsTrue (is_legal_id e.uid) × (e.size ≤ max_size) };
 }
 
 impl Entry {

@@ -126,13 +126,13 @@ pub struct MemoryDrop {
 
 impl Model for MemoryDrop {
     ghost use Rattle.std.specs.Prelude.{◌≤◌, length};
-    ghost use Rattle.pop3_server.specs.Maildrop.{Mail, there, ids, AreDistinct};
+    ghost use Rattle.pop3_server.specs.Maildrop.{Mail, there, ids, AreDistinct, max_count};
 
     ghost Value = { Mail };
 
     ghost view = { λ d. record { slots = d.slots.items; failures = 0; removals = d.removals } };
 
-    ghost invariant = { λ d. AreDistinct (ids d.slots.items) × (length (there d.slots.items) ≤ 100000) };
+    ghost invariant = { λ d. AreDistinct (ids d.slots.items) × (length (there d.slots.items) ≤ max_count) };
 }
 
 impl MemoryDrop {

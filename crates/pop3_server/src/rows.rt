@@ -1,7 +1,7 @@
 //! The messages as PASS found them, in order of their numbers (RFC 1939, section 4).
 ghost use Rattle.std.specs.Prelude.{◌≡◌, ◌≤◌, ◌<◌, ◌+◌, ◌-◌, ℕ, List, map, length, slice_get, Some, None, MatchOption, IfOk, vec_len};
 ghost use Rattle.pop3_server.specs.declared.rows.MessageRow.{MessageRow};
-ghost use Rattle.pop3_server.specs.ServerMachine.{row_at, row_of_entry, mark_at, unmarked, left_count, left_total};
+ghost use Rattle.pop3_server.specs.ServerMachine.{row_at, row_of_entry, mark_at, unmarked, left_count, left_total, IsSmall, KeepLimits};
 
 use crate::maildrop::{Entry, MAX_COUNT, MAX_SIZE};
 use pop3_wire::Bytes;
@@ -24,22 +24,27 @@ pub struct Rows {
 impl Model for Rows {
     ghost use Rattle.std.specs.Prelude.{◌≤◌, List, length};
     ghost use Rattle.pop3_server.specs.declared.rows.MessageRow.{MessageRow};
+    ghost use Rattle.pop3_server.specs.Maildrop.{max_count};
 
     ghost Value = { List MessageRow };
 
     ghost view = { λ r. r.rows.items };
 
-    ghost invariant = { λ r. length r.rows.items ≤ 100000 };
+    ghost invariant = { λ r. length r.rows.items ≤ max_count };
 }
 
 impl Rows {
     /// The rows of a listing, nothing marked.
+    #[tactic(auto, using(crate::proofs::RowLemmas::small_push))]
     pub fn of(alloc: Global, entries: Vec<Entry>) -> Result<Rows, AllocError>
         requires { vec_len entries ≤ MAX_COUNT }
-        ensures { IfOk result (λ rows. rows ≡ map row_of_entry entries.items) }
+        ensures rows { IfOk result (λ rows. rows ≡ map row_of_entry entries.items) }
+        ensures limits { IfOk result (λ rows. KeepLimits rows) }
     {
         let mut rows = Vec::with_capacity(alloc, entries.len())?;
         for entry in entries {
+            // The clause hands on the limit that the entry keeps to.
+            let _size = entry.size();
             rows.push(MessageRow {
                 entry,
                 marked: false,

@@ -1,5 +1,5 @@
 -- What clap's matches of the command line are.
-use Rattle.std.proofs.Common.{◌≡◌, ◌∙◌, ◌<◌, ℕ, List, [], Option, None, Some, Result, Ok, Err, true, ap, refl}
+use Rattle.std.proofs.Common.{◌≡◌, ◌∙◌, ℕ, List, Option, None, Some, Result, Ok, Err, true, ap, refl}
 use Rattle.std.specs.Prelude.{unwrap_or}
 use Rattle.std.specs.Str.Parse.{ParsesUnsigned}
 use Rattle.clap.specs.Words.{App, HasMatchesOf, ReadsOne, found_of, is_simple, is_simple_and_free, matches_of, rows_of}

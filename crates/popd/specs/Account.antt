@@ -1,11 +1,14 @@
 -- Whose mail is served.
-use Rattle.std.specs.Prelude.{◌≡◌, ℕ, List}
+use Rattle.std.specs.Prelude.{◌≡◌, ℕ, true, List, Some, option_map, slice_get}
 use Rattle.std.specs.String.{string_bytes}
 use Rattle.popd.specs.Password.{password_of}
+use Rattle.popd.specs.Failures.{has_right_count}
 use Rattle.popd.specs.declared.account.Account.{Account}
+use Rattle.popd.specs.declared.words.Words.{Words}
 
--- the account of this user, with the password of a password file of these octets, and this Maildir
-pub record IsAccount (account : Account) (name file path : List ℕ) : Type 0 where
-  pub user : account.user.items ≡ name
+-- the words name this account: its user first and its Maildir last; and a password file of these octets has its password
+pub record IsAccount (words : Words) (file : List ℕ) (account : Account) : Type 0 where
+  pub count : has_right_count words ≡ true
+  pub user : option_map string_bytes (slice_get words.rest.items 0) ≡ Some account.user.items
   pub password : account.password.items ≡ password_of file
-  pub maildir : string_bytes account.maildir ≡ path
+  pub maildir : option_map string_bytes (slice_get words.rest.items 2) ≡ Some (string_bytes account.maildir)

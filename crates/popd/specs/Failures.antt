@@ -1,7 +1,6 @@
 -- How the program ends: the exit status, and what each failure says of the words.
-use Rattle.std.specs.Prelude.{◌≡◌, ◌≢◌, ◌==◌, ◌||◌, ℕ, Bool, true, false, not, List, map, Some, Result, Ok, Err, is_some, option_map, slice_get, length, if◌then◌else◌}
+use Rattle.std.specs.Prelude.{◌≡◌, ◌≢◌, ◌==◌, ◌||◌, ℕ, Bool, true, false, not, List, Some, Result, Ok, Err, is_some, option_map, slice_get, length, if◌then◌else◌}
 use Rattle.std.specs.String.{string_bytes}
-use Rattle.pop3_server.specs.declared.fault.ServerFault.{ServerFault}
 use Rattle.pop3_server.specs.declared.fault.ServerFault.TheVariants.{NoMemory}
 use Rattle.popd.specs.declared.failure.Failure.{Failure}
 use Rattle.popd.specs.declared.failure.Failure.TheVariants.{WrongCount, CannotRead, CannotListen, Fault}

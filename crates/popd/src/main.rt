@@ -14,12 +14,12 @@ mod words;
 
 use crate::account::read_account;
 use crate::failure::{Failure, end, failure_of};
-use crate::rehearsal::rehearse;
+use crate::rehearsal::rehearsal_server;
 use crate::serving::{listen, serve_streams};
 use crate::words::{Words, read_words};
 use clap::Error;
 use clap::error::ErrorKind;
-use pop3_server::{MaildirDrop, ServerFault};
+use pop3_server::ServerFault;
 use std::env;
 use std::process::ExitCode;
 
@@ -44,18 +44,13 @@ fn run<'a>(rt: &HostRuntime, words: &'a Words) -> Result<(), Failure<'a>>
         if !words.rest.is_empty() {
             return Err(Failure::WrongCount);
         }
-        return Ok(rehearse(rt)?);
+        let server = rehearsal_server(rt.alloc())?;
+        return Ok(serve_streams(rt, server)?);
     }
-    let [user, passfile, maildir] = words.rest.as_slice() else {
-        return Err(Failure::WrongCount);
-    };
-    let account = read_account(rt, user.as_str(), passfile.as_str(), maildir.as_str())?;
+    let account = read_account(rt, words)?;
     match &words.listen {
         Some(address) => listen(rt, address.as_str(), words.connections, &account),
-        None => {
-            let maildrop = MaildirDrop::at(rt, account.maildir);
-            Ok(serve_streams(rt, maildrop, account.user, account.password)?)
-        }
+        None => Ok(serve_streams(rt, account.into_server(rt))?),
     }
 }
 

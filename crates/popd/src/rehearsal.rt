@@ -1,9 +1,9 @@
 //! The rehearsal: two small messages, served to user `u` with password `p`.
-ghost use Rattle.std.specs.Prelude.{◌≡◌, IfOk};
+ghost use Rattle.std.specs.Prelude.{◌≡◌, IfOk, codes};
 ghost use Rattle.popd.specs.Rehearsal.{rehearsal};
+ghost use Rattle.popd.specs.Start.{at_start};
 
-use crate::serving::serve_streams;
-use pop3_server::{MemoryDrop, ServerFault};
+use pop3_server::{MemoryDrop, Server};
 use std::alloc::{AllocError, Global};
 
 /// Two small messages: one with a line that begins with a full stop, and one of two lines behind
@@ -17,11 +17,12 @@ pub fn rehearsal_drop(alloc: Global) -> Result<MemoryDrop, AllocError>
     Ok(maildrop)
 }
 
-/// Serves the rehearsal's maildrop over standard input and output.
-pub fn rehearse(rt: &HostRuntime) -> Result<(), ServerFault> {
-    let alloc = rt.alloc();
+/// The rehearsal's server at the start of a session.
+pub fn rehearsal_server(alloc: Global) -> Result<Server<MemoryDrop>, AllocError>
+    ensures { IfOk result (λ server. server ≡ at_start (codes "u") (codes "p") rehearsal) }
+{
     let maildrop = rehearsal_drop(alloc)?;
     let user = Vec::from_slice(alloc, b"u")?;
     let password = Vec::from_slice(alloc, b"p")?;
-    serve_streams(rt, maildrop, user, password)
+    Ok(Server::new(alloc, maildrop, user, password))
 }

@@ -1,58 +1,35 @@
 //! Serving over standard input and output, and over TCP, one connection after the other.
-ghost use Rattle.std.specs.Prelude.{◌≡◌, ◌⊎◌, IfErr};
-ghost use Rattle.pop3_wire.specs.Link.{Tallies};
-ghost use Rattle.pop3_server.specs.ServerMachine.{Machine};
-ghost use Rattle.pop3_server.specs.Serving.{Served, refusal_of};
-ghost use Rattle.popd.specs.Start.{at_start};
+ghost use Rattle.std.specs.Prelude.{◌≡◌, ◌⊎◌, true, IfErr};
+ghost use Rattle.pop3_server.specs.ServerMachine.{is_open};
 
 use crate::account::Account;
 use crate::failure::{Failure, failure_of, tell};
-use pop3_server::{MaildirDrop, Maildrop, Server, ServerFault, serve};
-use pop3_wire::{StreamWire, Wire};
-use std::alloc::Global;
+use pop3_server::{Maildrop, Server, ServerFault, serve};
+use pop3_wire::StreamWire;
 use std::net::{TcpListener, TcpStream};
 
-/// Serves a link with a maildrop, to this user with this password, by a server of its own.
-pub fn serve_link<D: Maildrop + Drop, W: Wire>(
-    alloc: Global,
-    maildrop: D,
-    user: Vec<u8>,
-    password: Vec<u8>,
-    wire: &mut W,
-) -> Result<(), ServerFault>
-    ensures counted { Tallies (W.seen wire.old).failures (refusal_of result) (W.seen wire.new).failures }
-    ensures served { W.sound wire.new → W.sound wire.old × W.leads_to wire.old wire.new
-        × ((last : Machine D) × Served D.sound D.mail (at_start user.items password.items maildrop)
-        (W.seen wire.old) result last (W.seen wire.new)) }
-{
-    let mut server = Server::new(alloc, maildrop, user, password);
-    serve(&mut server, wire)
-}
-
-/// Serves standard input and output.
+/// Serves standard input and output with this server.
 pub fn serve_streams<D: Maildrop + Drop>(
     rt: &HostRuntime,
-    maildrop: D,
-    user: Vec<u8>,
-    password: Vec<u8>,
-) -> Result<(), ServerFault> {
+    mut server: Server<D>,
+) -> Result<(), ServerFault>
+    requires { is_open server.state ≡ true }
+{
     let mut wire = StreamWire::new(rt.stdin(), rt.stdout());
-    serve_link(rt.alloc(), maildrop, user, password, &mut wire)
+    serve(&mut server, &mut wire)
 }
 
-/// Serves one connection, over the Maildir as it is then.
+/// Serves one connection with a server of its own, over the Maildir as it is then.
 fn serve_stream(
     rt: &HostRuntime,
     stream: &TcpStream,
     account: &Account,
 ) -> Result<(), ServerFault> {
-    let alloc = rt.alloc();
-    let account = account.copy(alloc)?;
+    let mut server = account.copy(rt.alloc())?.into_server(rt);
     // A connection without it still works, only slower.
     let _ = stream.set_nodelay(true);
-    let maildrop = MaildirDrop::at(rt, account.maildir);
     let mut wire = StreamWire::new(stream, stream);
-    serve_link(alloc, maildrop, account.user, account.password, &mut wire)
+    serve(&mut server, &mut wire)
 }
 
 /// Serves so many connections to an address, one after the other. A fault on one of them, or in

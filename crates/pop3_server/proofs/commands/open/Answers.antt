@@ -18,9 +18,9 @@ returns-in_err-reply-clause-err g c =
 
 pub returns-clause-ok : goal.returns-clause-ok
 returns-clause-ok g c = λ state.
-    answers_open g.D.Maildrop.sound g.D.Maildrop.mail c.args.drop.now c.entries.new.self c.in-Ok.entries c.in-Ok.ensures.lists c.in_ok-rows.rows c.in_ok-reply.reply.items c.in_ok-rows.ensures c.in-Ok.ensures.removes_none
+    answers_open g.D.Maildrop.sound g.D.Maildrop.mail c.args.drop.now c.entries.new.self c.in-Ok.entries c.in-Ok.ensures.lists c.in_ok-rows.rows c.in_ok-reply.reply.items c.in_ok-rows.ensures.rows c.in_ok-rows.ensures.limits c.in-Ok.ensures.removes_none
     (c.in_ok-reply.ensures.ok ∙ ap (λ rows. said (codes "+OK " ++ decimal (length rows) ++ codes " messages")) c.as_slice.ensures.value)
 
 pub returns-clause-tied : goal.returns-clause-tied
 returns-clause-tied g c = λ state.
-    tied_open g.D.Maildrop.sound g.D.Maildrop.mail c.args.drop.now c.entries.new.self c.in-Ok.entries c.in-Ok.ensures.lists c.in_ok-rows.rows c.in_ok-rows.ensures
+    tied_open g.D.Maildrop.sound g.D.Maildrop.mail c.args.drop.now c.entries.new.self c.in-Ok.entries c.in-Ok.ensures.lists c.in_ok-rows.rows c.in_ok-rows.ensures.rows
