@@ -1,34 +1,40 @@
 -- Taking a body from a link, piece by piece.
-use Rattle.std.proofs.Common.{◌≡◌, ◌≢◌, ◌<◌, ◌≤◌, ◌+◌, ◌-◌, ℕ, List, [], ◌++◌, length, take, drop, refl, sym, ap, subst, ◌∙◌, arith, append_assoc, take-append-drop, length-append, length-take-le}
+use Rattle.std.proofs.Common.{◌≡◌, ◌≢◌, ◌<◌, ◌≤◌, ◌+◌, ◌-◌, ℕ, List, [], ◌++◌, length, take, drop, refl, sym, ap, subst, ◌∙◌, arith, Ok, append_assoc, take-append-drop, length-append, length-take-le}
 use Rattle.std.proofs.lemmas.List.{append-nil, take_at}
 use Rattle.pop3_wire.specs.Body.{HasNoBody}
 use Rattle.pop3_wire.specs.Link.{Link}
-use Rattle.pop3_wire.specs.Place.{at, GoesOn}
-use Rattle.pop3_wire.specs.Bodies.{Drew, DrawsNothing, BodyCause, Leaves}
+use Rattle.pop3_wire.specs.Place.{Place, at, GoesOn}
+use Rattle.pop3_wire.specs.Bodies.{Drew, DrawsNothing, BodyCause, Leaves, Rest, rest_of, UnderWay, ReadsBody}
 use Rattle.pop3_wire.specs.declared.body_reader.BodyFault.{BodyFault}
 use Rattle.pop3_wire.specs.declared.body_reader.BodyFault.TheVariants.{Ended, Failed, TooLong, NoMemory}
 use Rattle.pop3_wire.specs.declared.unstuffer.Spot.{Spot}
-use Rattle.pop3_wire.specs.declared.unstuffer.Spot.TheVariants.{Done}
+use Rattle.pop3_wire.specs.declared.unstuffer.Spot.TheVariants.{Start, Done}
 use Rattle.pop3_wire.specs.Unstuffing.{Reaches}
-use Rattle.pop3_wire.proofs.UnstuffingLemmas.{reached_no_body}
-
--- a part of a body was used: these octets lead to the spot, and all that came is what was used and what waits
-pub record InBody {W : Type 0} (sound : W → Type 0) (leads_to : W → W → Type 0) (seen : W → Link) (limit : ℕ)
-    (wire : W) (reader : List ℕ) (wire' : W) (reader' : List ℕ) (spot : Spot) (left : ℕ) (text : List ℕ) : Type 0 where
-  pub used : List ℕ
-  pub gained : List ℕ
-  pub reached : Reaches spot used text
-  pub sizes : length used + left ≡ limit
-  pub heard : reader ++ gained ≡ used ++ reader'
-  pub link : sound wire' → sound wire × leads_to wire wire' × Drew (seen wire) (seen wire') gained × GoesOn (seen wire) (seen wire')
+use Rattle.pop3_wire.proofs.UnstuffingLemmas.{reached_no_body, partly_none}
 
 -- so far what was used is within the limit, and the rest waits
-pub leaves : {W : Type 0} (sound : W → Type 0) (leads_to : W → W → Type 0) (seen : W → Link) (limit : ℕ)
-    (a : W) (w : List ℕ) (b : W) (waits : List ℕ) (spot : Spot) (left : ℕ) (text : List ℕ)
-    → InBody sound leads_to seen limit a w b waits spot left text → sound b → Leaves limit (at (seen a) w) (at (seen b) waits)
-leaves sound leads_to seen limit a w b waits spot left text now s =
-    let sizes : length now.used + left ≡ limit = now.sizes in
-    record { gained = now.gained; used = now.used; got = (now.link s).2.got; within = omega arith; heard = now.heard }
+pub leaves : (limit : ℕ) (old new : Place) (body : Rest) (text : List ℕ) → UnderWay limit old new body text → Leaves limit old new
+leaves limit old new body text now =
+    let sizes : length now.used + body.left ≡ limit = now.sizes in
+    record { gained = now.gained; used = now.used; got = now.drew.got; within = omega arith; heard = now.heard }
+
+-- nothing was read yet
+pub under_way_none : (limit : ℕ) (place : Place) → UnderWay limit place place (rest_of Start limit) []
+under_way_none limit place = record {
+  used = [];
+  gained = [];
+  reached = partly_none;
+  sizes = omega arith;
+  heard = append-nil place.waiting;
+  drew = record { got = sym (append-nil place.link.got); sent = refl };
+  steady = record { ended = refl; failures = refl };
+}
+
+-- at the end the body was read
+pub took_body : (limit : ℕ) (old new : Place) (body : Rest) (text : List ℕ) → UnderWay limit old new body text → body.spot ≡ Done → ReadsBody limit old (Ok text) new
+took_body limit old new body text now done =
+    let sizes : length now.used + body.left ≡ limit = now.sizes in
+    (now.gained, now.drew, now.steady, record { body = now.used; is = subst (λ (s : Spot). Reaches s now.used text) done now.reached; within = omega arith; heard = now.heard })
 
 pub drew_on : (a b c : Link) (g h : List ℕ) → Drew a b g → Drew b c h → Drew a c (g ++ h)
 drew_on a b c g h first then =
@@ -82,31 +88,48 @@ cause_of_limit limit spot w gained used waits text reached other size heard =
     (subst HasNoBody (sym front) (reached_no_body spot used text reached other), omega arith)
 
 -- one more piece was drawn, and some of what waited was used
-pub in_body_on : {W : Type 0} (sound : W → Type 0) (leads_to : W → W → Type 0) (seen : W → Link)
-    → ((u v w : W) → leads_to u v → leads_to v w → leads_to u w)
-    → (limit : ℕ) (a : W) (w : List ℕ) (b : W) (waits : List ℕ) (spot : Spot) (left : ℕ) (text : List ℕ)
-    → InBody sound leads_to seen limit a w b waits spot left text
-    → (c : W) (waits1 waits2 : List ℕ) (n : ℕ) (spot' : Spot) (text' : List ℕ)
-    → ((more : List ℕ) × (waits1 ≡ waits ++ more) × (0 < length waits1)
-    × (sound c → sound b × leads_to b c × Drew (seen b) (seen c) more × GoesOn (seen b) (seen c)))
-    → n ≤ left → n ≤ length waits1 → waits2 ≡ drop n waits1
-    → ((bytes known : List ℕ) → text ≡ known → Reaches spot bytes known → Reaches spot' (bytes ++ take n waits1) text')
-    → InBody sound leads_to seen limit a w c waits2 spot' (left - n) text'
-in_body_on sound leads_to seen trans limit a w b waits spot left text now c waits1 waits2 n spot' text' drawn small fits rest reaches =
+pub under_way_on : (limit : ℕ) (old : Place) (link : Link) (waits : List ℕ) (body : Rest) (text : List ℕ) → UnderWay limit old (at link waits) body text
+    → (link' : Link) (more waits1 waits2 : List ℕ) (n : ℕ) (spot' : Spot) (put : List ℕ)
+    → waits1 ≡ waits ++ more → Drew link link' more → GoesOn link link'
+    → n ≤ body.left → n ≤ length waits1 → waits2 ≡ drop n waits1
+    → ((bytes known : List ℕ) → Reaches body.spot bytes known → Reaches spot' (bytes ++ take n waits1) (known ++ put))
+    → UnderWay limit old (at link' waits2) (rest_of spot' (body.left - n)) (text ++ put)
+under_way_on limit old link waits body text now link' more waits1 waits2 n spot' put drawn drew steady small fits rest reaches =
     record {
       used = now.used ++ take n waits1;
-      gained = now.gained ++ drawn.0;
-      reached = reaches now.used text refl now.reached;
+      gained = now.gained ++ more;
+      reached = reaches now.used text now.reached;
       sizes = sizes;
-      heard = subst (λ (l : List ℕ). w ++ (now.gained ++ drawn.0) ≡ (now.used ++ take n l) ++ drop n l) (sym drawn.1) (heard_on w now.gained drawn.0 now.used waits n now.heard)
+      heard = subst (λ (l : List ℕ). old.waiting ++ (now.gained ++ more) ≡ (now.used ++ take n l) ++ drop n l) (sym drawn) (heard_on old.waiting now.gained more now.used waits n now.heard)
           ∙ ap (λ (l : List ℕ). (now.used ++ take n waits1) ++ l) (sym rest);
-      link = λ s. let later = drawn.3 s in let earlier = now.link later.0 in
-          (earlier.0, trans a b c earlier.1 later.1, drew_on (seen a) (seen b) (seen c) now.gained drawn.0 earlier.2 later.2, goes_on (seen a) (seen b) (seen c) earlier.3 later.3);
+      drew = drew_on old.link link link' now.gained more now.drew drew;
+      steady = goes_on old.link link link' now.steady steady;
     }
   where
-    sizes : length (now.used ++ take n waits1) + (left - n) ≡ limit
+    sizes : length (now.used ++ take n waits1) + (body.left - n) ≡ limit
     sizes =
         let all : length (now.used ++ take n waits1) ≡ length now.used + length (take n waits1) = length-append now.used (take n waits1) in
         let part : length (take n waits1) ≡ n = length-take-le n waits1 fits in
-        let before = now.sizes in
+        let before : length now.used + body.left ≡ limit = now.sizes in
         omega arith
+
+-- nothing came
+pub under_way_ends : (limit : ℕ) (old : Place) (link : Link) (waits : List ℕ) (body : Rest) (text : List ℕ) → UnderWay limit old (at link waits) body text
+    → body.spot ≢ Done → 0 < body.left → (fault : BodyFault) (link' : Link) (waits' : List ℕ) → waits ≡ [] → waits' ≡ [] → DrawsNothing fault link link'
+    → Leaves limit old (at link' waits') × ((gained : List ℕ) × Drew old.link link' gained × BodyCause limit fault old.link link' (old.waiting ++ gained))
+under_way_ends limit old link waits body text now other some fault link' waits' none none' nothing =
+    let cause = cause_of_nothing fault limit body.left body.spot old.link link link' old.waiting now.gained now.used text
+    now.reached other now.sizes some (now.heard ∙ ap (λ (l : List ℕ). now.used ++ l) none) now.drew now.steady nothing in
+    let sizes : length now.used + body.left ≡ limit = now.sizes in (
+      record { gained = now.gained; used = now.used; got = cause.0.got; within = omega arith; heard = now.heard ∙ ap (λ (l : List ℕ). now.used ++ l) (none ∙ sym none') },
+      (now.gained, cause.0, cause.1),
+    )
+
+-- no more octets may be taken
+pub under_way_too_long : (limit : ℕ) (old new : Place) (body : Rest) (text : List ℕ) → UnderWay limit old new body text → body.spot ≢ Done → body.left ≡ 0
+    → Leaves limit old new × ((gained : List ℕ) × Drew old.link new.link gained × BodyCause limit TooLong old.link new.link (old.waiting ++ gained))
+under_way_too_long limit old new body text now other none =
+    let sizes : length now.used + body.left ≡ limit = now.sizes in
+    let whole : length now.used ≡ limit = omega arith in
+    let cause = cause_of_limit limit body.spot old.waiting now.gained now.used new.waiting text now.reached other whole now.heard in
+    (leaves limit old new body text now, (now.gained, now.drew, (cause.0, cause.1, now.steady)))

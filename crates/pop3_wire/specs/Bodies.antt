@@ -3,6 +3,9 @@ use Rattle.std.specs.Prelude.{◌≡◌, ◌+◌, ◌<◌, ◌≤◌, ℕ, true,
 use Rattle.pop3_wire.specs.Body.{Body, HasNoBody}
 use Rattle.pop3_wire.specs.Link.{Link}
 use Rattle.pop3_wire.specs.Place.{Place, GoesOn}
+use Rattle.pop3_wire.specs.Unstuffing.{Reaches}
+use Rattle.pop3_wire.specs.declared.body_reader.Piece.{Piece}
+use Rattle.pop3_wire.specs.declared.unstuffer.Spot.{Spot}
 use Rattle.pop3_wire.specs.declared.body_reader.BodyFault.{BodyFault}
 use Rattle.pop3_wire.specs.declared.body_reader.BodyFault.TheVariants.{Ended, Failed, TooLong, NoMemory}
 
@@ -43,6 +46,30 @@ BodyCause limit NoMemory old new bytes = GoesOn old new
 abbrev pub ReadsBody : ℕ → Place → Result (List ℕ) BodyFault → Place → Type 0
 ReadsBody limit old (Ok text) new = (gained : List ℕ) × Drew old.link new.link gained × GoesOn old.link new.link × TookBody limit old new text gained
 ReadsBody limit old (Err fault) new = (gained : List ℕ) × Drew old.link new.link gained × BodyCause limit fault old.link new.link (old.waiting ++ gained)
+
+-- where in a body its reader stands, and how many octets it may still take
+pub record Rest : Type 0 where
+  pub spot : Spot
+  pub left : ℕ
+
+abbrev pub rest_of : Spot → ℕ → Rest
+rest_of spot left = record { spot = spot; left = left }
+
+-- a body is under way, or at its end: of what waited and was gained so much was used, it gives this much of the text, and the rest waits
+pub record UnderWay (limit : ℕ) (old new : Place) (body : Rest) (text : List ℕ) : Type 0 where
+  pub used : List ℕ
+  pub gained : List ℕ
+  pub reached : Reaches body.spot used text
+  pub sizes : length used + body.left ≡ limit
+  pub heard : old.waiting ++ gained ≡ used ++ new.waiting
+  pub drew : Drew old.link new.link gained
+  pub steady : GoesOn old.link new.link
+
+-- a body that is under way goes on: a piece of the text is put behind what was known, or there is none, and why
+abbrev pub TakesPiece : ℕ → Place → List ℕ → Result Piece BodyFault → List ℕ → Place → Rest → Type 0
+TakesPiece limit start text (Ok piece) out new body = UnderWay limit start new body (text ++ take piece.put out)
+TakesPiece limit start text (Err fault) out new body = Leaves limit start new
+    × ((gained : List ℕ) × Drew start.link new.link gained × BodyCause limit fault start.link new.link (start.waiting ++ gained))
 
 -- the items of a vector that a call gave
 abbrev pub items_of : {A Z E : Type 0} → Result (Vec A Z) E → Result (List A) E

@@ -7,6 +7,7 @@ pub mod Honest
 pub mod Line
 pub mod Link
 pub mod Place
+pub mod Reading
 pub mod Reply
 pub mod Script
 pub mod Stuffed

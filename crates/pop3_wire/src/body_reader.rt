@@ -1,15 +1,16 @@
 //! Taking one body from a link, into its text (RFC 1939, section 3).
-ghost use Rattle.std.specs.Prelude.{◌≡◌, ◌≢◌, ◌≤◌, ◌<◌, ◌+◌, ◌-◌, ◌++◌, ℕ, List, [], length, take, drop, min, IfOk, IfErr, OnOk, OnErr};
-ghost use Rattle.pop3_wire.specs.Bodies.{Drew, DrawsNothing, Leaves, ReadsBody, items_of, refusal_of};
+ghost use Rattle.std.specs.Prelude.{◌≡◌, ◌≢◌, ◌≤◌, ◌<◌, ◌+◌, ◌-◌, ◌++◌, ◌↔◌, ℕ, List, [], length, take, drop, min, IsTrue, IfOk, IfErr, OnOk, OnErr};
+ghost use Rattle.pop3_wire.specs.Bodies.{Drew, DrawsNothing, Leaves, ReadsBody, UnderWay, TakesPiece, rest_of, items_of, refusal_of};
 ghost use Rattle.pop3_wire.specs.Link.{Tallies};
-ghost use Rattle.pop3_wire.specs.Place.{at, GoesOn};
+ghost use Rattle.pop3_wire.specs.Place.{Place, at, GoesOn};
 ghost use Rattle.pop3_wire.specs.Unstuffing.{Reaches};
-ghost use Rattle.pop3_wire.specs.declared.unstuffer.Spot.TheVariants.{Done};
+ghost use Rattle.pop3_wire.specs.declared.unstuffer.Spot.TheVariants.{Start, Done};
 
 use crate::line_reader::LineReader;
-use crate::unstuffer::Unstuffer;
+use crate::unstuffer::{Fed, Unstuffer};
 use crate::wire::Wire;
 use std::alloc::{AllocError, Global};
+use std::marker::Model;
 use thiserror::Error;
 
 /// Why there is no text.
@@ -43,6 +44,7 @@ impl From<AllocError> for BodyFault {
 /// Takes from the link where nothing waits, so that something does.
 fn draw<W: Wire>(wire: &mut W, reader: &mut LineReader) -> Result<(), BodyFault>
     ensures counted { Tallies (W.seen wire.old).failures (refusal_of result) (W.seen wire.new).failures }
+    ensures frugal { IfErr result (λ fault. fault ≢ BodyFault.NoMemory) }
     ensures ok { OnOk result ((gained : List ℕ) × (reader.new ≡ reader.old ++ gained) × (0 < length reader.new)
         × (W.sound wire.new → W.sound wire.old × W.leads_to wire.old wire.new
         × Drew (W.seen wire.old) (W.seen wire.new) gained × GoesOn (W.seen wire.old) (W.seen wire.new))) }
@@ -61,25 +63,101 @@ fn draw<W: Wire>(wire: &mut W, reader: &mut LineReader) -> Result<(), BodyFault>
 }
 
 /// Uses what waits, as far as it belongs to the body and stays within `left` octets, and puts what
-/// it adds to the text behind it, by way of `out`. It says how many octets that were.
+/// it adds to the text into `out`.
 fn use_waiting(
     reader: &mut LineReader,
     unstuffer: &mut Unstuffer,
     left: usize,
     out: &mut [u8; 4097],
-    text: &mut Vec<u8>,
-) -> Result<usize, AllocError>
-    ensures used { IfOk result (λ used. (used ≤ left) × (used ≤ length reader.old) × (reader.new ≡ drop used reader.old)) }
-    ensures whole { IfOk result (λ used. unstuffer.new ≢ Done → used ≡ min left (length reader.old)) }
-    ensures reached { IfOk result (λ used. (bytes known : List ℕ) → text.old.items ≡ known → Reaches unstuffer.old bytes known
-        → Reaches unstuffer.new (bytes ++ take used reader.old) text.new.items) }
-    ensures err { OnErr result (reader.new ≡ reader.old) }
+) -> Fed
+    ensures used { (result.used ≤ left) × (result.used ≤ length reader.old) × (reader.new ≡ drop result.used reader.old) }
+    ensures put { result.put ≤ length out.new }
+    ensures whole { unstuffer.new ≢ Done → result.used ≡ min left (length reader.old) }
+    ensures ended { IsTrue result.ended ↔ (unstuffer.new ≡ Done) }
+    ensures reached { (bytes known : List ℕ) → Reaches unstuffer.old bytes known
+        → Reaches unstuffer.new (bytes ++ take result.used reader.old) (known ++ take result.put out.new) }
 {
     let length = left.min(reader.waiting().len());
     let fed = unstuffer.feed(&reader.waiting()[..length], out);
-    text.extend_from_slice(&out[..fed.put])?;
     reader.skip(fed.used);
-    Ok(fed.used)
+    fed
+}
+
+/// What one piece of a body brought.
+#[derive(Clone, Copy, Debug, PartialEq, Eq)]
+pub struct Piece {
+    /// How many octets of the text were put into the buffer.
+    pub put: usize,
+    /// Whether the body ended.
+    pub ended: bool,
+}
+
+/// Takes one body from a link, piece by piece, end mark included. It takes no memory.
+#[derive(Drop)]
+pub struct BodyReader {
+    unstuffer: Unstuffer,
+    left: usize,
+}
+
+impl Model for BodyReader {
+    ghost use Rattle.pop3_wire.specs.Bodies.{Rest, rest_of};
+
+    ghost Value = { Rest };
+
+    ghost view = { λ b. rest_of b.unstuffer b.left };
+}
+
+impl BodyReader {
+    /// A reader of a body of at most `limit` octets, of which nothing was read yet.
+    pub fn new(limit: usize) -> BodyReader
+        ensures value { result ≡ rest_of Start limit }
+        ensures starts { (place : Place) → UnderWay limit place place result [] }
+    {
+        BodyReader {
+            unstuffer: Unstuffer::new(),
+            left: limit,
+        }
+    }
+
+    /// Whether the body has ended.
+    pub fn has_ended(&self) -> bool
+        ensures { IsTrue result ↔ (self.now.spot ≡ Done) }
+    {
+        self.unstuffer.has_ended()
+    }
+
+    /// Takes one more piece, in at most one `recv`, and puts what it adds to the text into the
+    /// buffer. It asks the link for no more than the body needs.
+    pub fn next<W: Wire>(
+        &mut self,
+        wire: &mut W,
+        reader: &mut LineReader,
+        out: &mut [u8; 4097],
+    ) -> Result<Piece, BodyFault>
+        requires { self.old.spot ≢ Done }
+        ensures counted { Tallies (W.seen wire.old).failures (refusal_of result) (W.seen wire.new).failures }
+        ensures fits { IfOk result (λ piece. piece.put ≤ length out.new) }
+        ensures ended { IfOk result (λ piece. IsTrue piece.ended ↔ (self.new.spot ≡ Done)) }
+        ensures less { OnOk result (self.new.spot ≢ Done → self.new.left < self.old.left) }
+        ensures frugal { IfErr result (λ fault. fault ≢ BodyFault.NoMemory) }
+        ensures same { OnErr result (self.new ≡ self.old) }
+        ensures takes { W.sound wire.new → W.sound wire.old × W.leads_to wire.old wire.new
+            × ((limit : ℕ) (start : Place) (text : List ℕ) → UnderWay limit start (at (W.seen wire.old) reader.old) self.old text
+            → TakesPiece limit start text result out.new (at (W.seen wire.new) reader.new) self.new) }
+    {
+        if self.left == 0 {
+            return Err(BodyFault::TooLong);
+        }
+        if let Err(fault) = draw(wire, reader) {
+            return Err(fault);
+        }
+        let fed = use_waiting(reader, &mut self.unstuffer, self.left, out);
+        self.left -= fed.used;
+        Ok(Piece {
+            put: fed.put,
+            ended: fed.ended,
+        })
+    }
 }
 
 /// Takes one body from the link, end mark included, and answers its text. It asks the link for no
@@ -97,21 +175,17 @@ pub fn read_body<W: Wire>(
         × ReadsBody limit (at (W.seen wire.old) reader.old) (items_of result) (at (W.seen wire.new) reader.new) }
     ensures rest { W.sound wire.new → Leaves limit (at (W.seen wire.old) reader.old) (at (W.seen wire.new) reader.new) }
 {
-    let mut unstuffer = Unstuffer::new();
+    let mut body = BodyReader::new(limit);
     let mut out = [0u8; 4097];
     let mut text = Vec::new(alloc);
-    let mut left = limit;
     'pieces: loop {
-        if let Err(fault) = draw(wire, reader) {
-            return Err(fault);
-        }
-        let used = use_waiting(reader, &mut unstuffer, left, &mut out, &mut text)?;
-        left -= used;
-        if unstuffer.has_ended() {
+        let piece = match body.next(wire, reader, &mut out) {
+            Ok(piece) => piece,
+            Err(fault) => return Err(fault),
+        };
+        text.extend_from_slice(&out[..piece.put])?;
+        if piece.ended {
             return Ok(text);
-        }
-        if left == 0 {
-            return Err(BodyFault::TooLong);
         }
     }
 }

@@ -20,7 +20,7 @@ mod unstuffer;
 mod wire;
 
 pub use body::{is_end_mark, unstuff, without_dot};
-pub use body_reader::{BodyFault, read_body};
+pub use body_reader::{BodyFault, BodyReader, Piece, read_body};
 pub use bytes::Bytes;
 pub use command::{Command, command_bytes};
 pub use command_line::{read_as_written, read_command};

@@ -1,13 +1,15 @@
-use Rattle.std.proofs.Common.{◌≢◌, ◌<◌, ◌≡◌}
+use Rattle.std.proofs.Common.{◌≢◌, ◌≡◌}
+use Rattle.pop3_wire.specs.Place.{at}
+use Rattle.pop3_wire.specs.Bodies.{UnderWay}
 use Rattle.pop3_wire.specs.declared.unstuffer.Spot.TheVariants.{Done}
-use Rattle.pop3_wire.proofs.BodiesLemmas.{InBody}
 use Rattle.pop3_wire.proofs.body_reader.read_body.Given as goal
 
 abbrev pub invariant-pieces : goal.invariant-pieces
 invariant-pieces g l =
     ((g.W.Wire.seen l.wire).failures ≡ (g.W.Wire.seen l.fn.wire).failures)
-    × (l.unstuffer ≢ Done) × (0 < l.left)
-    × InBody g.W.Wire.sound g.W.Wire.leads_to g.W.Wire.seen l.fn.limit l.fn.wire l.fn.reader l.wire l.reader l.unstuffer l.left l.text.items
+    × (l.body.spot ≢ Done)
+    × (g.W.Wire.sound l.wire → g.W.Wire.sound l.fn.wire × g.W.Wire.leads_to l.fn.wire l.wire
+    × UnderWay l.fn.limit (at (g.W.Wire.seen l.fn.wire) l.fn.reader) (at (g.W.Wire.seen l.wire) l.reader) l.body l.text.items)
 
 abbrev pub decreases-pieces : goal.decreases-pieces
-decreases-pieces g l = l.left
+decreases-pieces g l = l.body.left

@@ -1,0 +1,398 @@
+-- How the parts of a turn make a turn, and turns a conversation.
+use Rattle.std.proofs.Common.{◌≡◌, inl, inr, ◌<◌, ◌≤◌, ◌+◌, ℕ, false, List, [], ◌∷◌, ◌++◌, length, take, drop, min, get_or, lit<, None, Some, Result, Ok, Err, refl, sym, ap, subst, ◌∙◌, arith, append_assoc, length-append, codes}
+use Rattle.std.proofs.lemmas.Bool.{false≢true}
+use Rattle.std.proofs.lemmas.List.{append-nil, take_all, length-take}
+use Rattle.std.specs.List.{flat_map, AllZip}
+use Rattle.pop3_wire.specs.Line.{crlf, IsLine, ended}
+use Rattle.pop3_wire.specs.Reply.{IsFirstLine, without_space}
+use Rattle.pop3_wire.specs.Reading.{WholeReply, reply_bytes}
+use Rattle.pop3_wire.specs.Body.{body_of}
+use Rattle.pop3_wire.specs.Bodies.{Drew}
+use Rattle.pop3_wire.specs.declared.reply.Status.{Status}
+use Rattle.std.proofs.lemmas.Grind.{flat_map-append}
+use Rattle.pop3_wire.specs.declared.reply.Status.TheVariants.{Positive, Negative}
+use Rattle.pop3_wire.specs.Commands.{line_of}
+use Rattle.pop3_wire.specs.Link.{Link}
+use Rattle.pop3_wire.specs.Place.{Place, at, GoesOn, Gains, HasLine, HasNoLine}
+use Rattle.pop3_client.specs.declared.fault.Asked.{Asked}
+use Rattle.pop3_client.specs.declared.fault.Fault.{Fault}
+use Rattle.pop3_client.specs.declared.fault.Fault.TheVariants.{ConnectionEnded, ReadFailed, WriteFailed, ReplyTooLong, BadReply, Refused, BadListing, ListingsDisagree, TooMany, TextTooLong, NoMemory}
+use Rattle.pop3_client.specs.Turns.{Turn, turn_bytes, asking, Names, stat, uidl, list, rset, quit, tells_count, gives_body, Fits, IsBody, IsGood, line_limit, IsShort, most}
+use Rattle.pop3_client.specs.Causes.{Cause, Begins, FirstLine}
+use Rattle.pop3_client.specs.Conversation.{Opened, Talked, NoLineCause, Takes, Heard, Broke, Stopped, Sent, TellsFew, Asks, Tells, Talks}
+use Rattle.pop3_client.proofs.MostLemmas.{most_least}
+
+pub none_in_all : (limit : ℕ) (bytes : List ℕ) → HasNoLine limit bytes → length bytes < limit → IsLine bytes
+none_in_all limit bytes none short = subst IsLine (take_all limit bytes (omega arith)) none.none
+
+-- no line came, so no reply did
+pub no_line_no_reply : (fault : Fault) (turn : Turn) (old new : Link) (bytes : List ℕ) → NoLineCause fault old new bytes → Cause fault turn old new bytes
+no_line_no_reply ConnectionEnded turn old new bytes why = (why.0, inl why.1)
+no_line_no_reply ReadFailed turn old new bytes why = (why.0, inl why.1)
+no_line_no_reply WriteFailed turn old new bytes why = why
+no_line_no_reply ReplyTooLong turn old new bytes why = inl why
+no_line_no_reply BadReply turn old new bytes why = absurd why
+no_line_no_reply (Refused to) turn old new bytes why = absurd why
+no_line_no_reply BadListing turn old new bytes why = absurd why
+no_line_no_reply ListingsDisagree turn old new bytes why = why
+no_line_no_reply TooMany turn old new bytes why = absurd why
+no_line_no_reply TextTooLong turn old new bytes why = absurd why
+no_line_no_reply NoMemory turn old new bytes why = absurd why
+
+-- a cause is told of the failures before it alone
+pub cause_since : (fault : Fault) (turn : Turn) (old said new : Link) (bytes : List ℕ) → said.failures ≡ old.failures → Cause fault turn said new bytes → Cause fault turn old new bytes
+cause_since ConnectionEnded turn old said new bytes same why = why
+cause_since ReadFailed turn old said new bytes same why = (subst (λ (n : ℕ). n < new.failures) same why.0, why.1)
+cause_since WriteFailed turn old said new bytes same why = why
+cause_since ReplyTooLong turn old said new bytes same why = why
+cause_since BadReply turn old said new bytes same why = why
+cause_since (Refused to) turn old said new bytes same why = why
+cause_since BadListing turn old said new bytes same why = why
+cause_since ListingsDisagree turn old said new bytes same why = why
+cause_since TooMany turn old said new bytes same why = why
+cause_since TextTooLong turn old said new bytes same why = why
+cause_since NoMemory turn old said new bytes same why = why
+
+-- a line that waits is an ended line in front
+pub line_waits : (limit n : ℕ) (bytes : List ℕ) → HasLine limit bytes n → bytes ≡ ended (take n bytes) ++ drop (n + 2) bytes
+line_waits limit n bytes has = has.whole ∙ sym (append_assoc (take n bytes) crlf (drop (n + 2) bytes))
+
+pub line_short : (n : ℕ) (bytes : List ℕ) → HasLine line_limit bytes n → IsShort (take n bytes)
+line_short n bytes has =
+    let small : n + 2 ≤ line_limit = has.within in
+    let part : length (take n bytes) ≡ min n (length bytes) = length-take n bytes in
+    omega arith
+
+-- a turn was sent whole, and its first line taken
+pub opened : (turn : Turn) (old : Place) (said : Link) (mid : Place) (gained : List ℕ) (n : ℕ) (rest : List ℕ)
+    → said ≡ record old.link { sent = old.link.sent ++ turn_bytes turn } → Gains (at said old.waiting) mid gained
+    → HasLine line_limit mid.waiting n → GoesOn said mid.link
+    → IsFirstLine (take n mid.waiting) Positive rest → Fits turn rest
+    → Opened turn (take n mid.waiting) old (at mid.link (drop (n + 2) mid.waiting))
+opened turn old said mid gained n rest is gains has steady positive fits =
+    record {
+      gained = gained;
+      rest = rest;
+      sent = gains.sent ∙ ap (λ (l : Link). l.sent) is;
+      got = gains.got ∙ ap (λ (l : Link). l.got ++ gained) is;
+      heard = sym gains.waiting ∙ line_waits line_limit n mid.waiting has;
+      is = has.line;
+      short = line_short n mid.waiting has;
+      positive = positive;
+      fits = fits;
+      steady = record {
+        ended = steady.ended ∙ ap (λ (l : Link). l.ended) is;
+        failures = steady.failures ∙ ap (λ (l : Link). l.failures) is;
+      };
+    }
+
+-- what is used before a fault that is no refusal
+pub takes_other : (fault : Fault) (used : List ℕ) → ((to : Asked) → fault ≡ Refused to → ⊥) → Takes fault used
+takes_other ConnectionEnded used other = tt
+takes_other ReadFailed used other = tt
+takes_other WriteFailed used other = tt
+takes_other ReplyTooLong used other = tt
+takes_other BadReply used other = tt
+takes_other (Refused to) used other = absurd (other to refl)
+takes_other BadListing used other = tt
+takes_other ListingsDisagree used other = tt
+takes_other TooMany used other = tt
+takes_other TextTooLong used other = tt
+takes_other NoMemory used other = tt
+
+pub drew_of : (old new : Place) (gained : List ℕ) → Gains old new gained → Drew old.link new.link gained
+drew_of old new gained gains = record { got = gains.got; sent = gains.sent }
+
+-- no line came
+pub heard_none : (fault : Fault) (turn : Turn) (old new : Place) (gained : List ℕ) → Gains old new gained
+    → NoLineCause fault old.link new.link new.waiting → Heard turn old (Err fault) new
+heard_none fault turn old new gained gains why =
+    let here = subst (NoLineCause fault old.link new.link) gains.waiting why in
+    record {
+      gained = gained;
+      used = [];
+      sent = gains.sent;
+      got = gains.got;
+      heard = sym gains.waiting;
+      within = omega arith;
+      cause = no_line_no_reply fault turn old.link new.link (old.waiting ++ gained) here;
+      takes = takes_other fault [] (λ to is. subst (λ (f : Fault). NoLineCause f old.link new.link (old.waiting ++ gained)) is here);
+    }
+
+-- a line came
+module _ (turn : Turn) (old mid : Place) (gained : List ℕ) (n : ℕ) (gains : Gains old mid gained) (has : HasLine line_limit mid.waiting n) where
+  came : old.waiting ++ gained ≡ ended (take n mid.waiting) ++ drop (n + 2) mid.waiting
+  came = sym gains.waiting ∙ line_waits line_limit n mid.waiting has
+
+  pub first_came : FirstLine (old.waiting ++ gained) (take n mid.waiting)
+  first_came = record { after = drop (n + 2) mid.waiting; is = has.line; short = line_short n mid.waiting has; whole = came }
+
+  pub heard_refused : (to : Asked) (rest : List ℕ) → Names to turn → IsFirstLine (take n mid.waiting) Negative rest
+      → Heard turn old (Err (Refused to)) (at mid.link (drop (n + 2) mid.waiting))
+  heard_refused to rest names first =
+      let short : length (take n mid.waiting) + 2 ≤ line_limit = line_short n mid.waiting has in
+      let size : length (ended (take n mid.waiting)) ≡ length (take n mid.waiting) + 2 = length-append (take n mid.waiting) crlf in
+      record {
+        gained = gained;
+        used = ended (take n mid.waiting);
+        sent = gains.sent;
+        got = gains.got;
+        heard = came;
+        within = omega arith;
+        cause = (names, (take n mid.waiting, rest, first_came, first));
+        takes = (take n mid.waiting, has.line, refl);
+      }
+
+  -- the line isn't good, and still waits
+  pub heard_unused : (fault : Fault) → Cause fault turn old.link mid.link (old.waiting ++ gained) → ((to : Asked) → fault ≡ Refused to → ⊥) → Heard turn old (Err fault) mid
+  heard_unused fault cause other = record {
+    gained = gained;
+    used = [];
+    sent = gains.sent;
+    got = gains.got;
+    heard = sym gains.waiting;
+    within = omega arith;
+    cause = cause;
+    takes = takes_other fault [] other;
+  }
+
+  pub heard_bad : ((status : Status) (rest : List ℕ) → IsFirstLine (take n mid.waiting) status rest → ⊥) → Heard turn old (Err BadReply) mid
+  heard_bad none = record {
+    gained = gained;
+    used = [];
+    sent = gains.sent;
+    got = gains.got;
+    heard = sym gains.waiting;
+    within = omega arith;
+    cause = (take n mid.waiting, first_came, none Negative, λ rest first. absurd (none Positive rest first));
+    takes = tt;
+  }
+
+-- a turn was sent whole, and its reply isn't good
+pub broke_there : (turn : Turn) (old : Place) (said : Link) (new : Place) (fault : Fault)
+    → said ≡ record old.link { sent = old.link.sent ++ turn_bytes turn } → Heard turn (at said old.waiting) (Err fault) new → Broke turn old new fault
+broke_there turn old said new fault is heard =
+    let least : line_limit ≤ most turn = most_least turn in
+    let small : length heard.used ≤ line_limit = heard.within in
+    inr (inl record {
+      gained = heard.gained;
+      used = heard.used;
+      sent = heard.sent ∙ ap (λ (l : Link). l.sent) is;
+      got = heard.got ∙ ap (λ (l : Link). l.got ++ heard.gained) is;
+      heard = heard.heard;
+      within = omega arith;
+      cause = cause_since fault turn old.link said new.link (old.waiting ++ heard.gained) (ap (λ (l : Link). l.failures) is) heard.cause;
+      takes = heard.takes;
+    })
+
+-- the lines that are constants
+pub stat_bytes : codes "STAT" ++ crlf ≡ turn_bytes stat
+unfolding line_of
+stat_bytes = refl
+
+pub whole_stat : (link : Link) → record link { sent = link.sent ++ (codes "STAT" ++ crlf) } ≡ record link { sent = link.sent ++ turn_bytes stat }
+whole_stat link = ap (λ (b : List ℕ). record link { sent = link.sent ++ b }) stat_bytes
+
+pub uidl_bytes : codes "UIDL" ++ crlf ≡ turn_bytes uidl
+unfolding line_of
+uidl_bytes = refl
+
+pub list_bytes : codes "LIST" ++ crlf ≡ turn_bytes list
+unfolding line_of
+list_bytes = refl
+
+pub rset_bytes : codes "RSET" ++ crlf ≡ turn_bytes rset
+unfolding line_of
+rset_bytes = refl
+
+pub quit_bytes : codes "QUIT" ++ crlf ≡ turn_bytes quit
+unfolding line_of
+quit_bytes = refl
+
+-- nothing is sent for the greeting
+pub nothing_said : (link : Link) → link ≡ record link { sent = link.sent ++ [] }
+nothing_said link = ap (λ (s : List ℕ). record link { sent = s }) (sym (append-nil link.sent))
+
+-- a turn wasn't sent whole
+pub broke_saying : (turn : Turn) (old new : Place) (fault : Fault) → Sent (turn_bytes turn) old.link (Err fault) new.link → new.waiting ≡ old.waiting → Broke turn old new fault
+broke_saying turn old new fault said waits =
+    let is = said.1.3 in
+    let risen : new.link.failures ≡ old.link.failures + 1 = ap (λ (l : Link). l.failures) is in
+    inl (
+      said.0,
+      record {
+        front = said.1.0;
+        rest = said.1.1;
+        split = said.1.2;
+        sent = ap (λ (l : Link). l.sent) is;
+        got = ap (λ (l : Link). l.got) is;
+        waiting = waits;
+        risen = omega arith;
+      },
+    )
+
+heads_apart : (x y : ℕ) → x < y → (a b : List ℕ) → x ∷ a ≡ y ∷ b → ⊥
+heads_apart x y less a b e = let same : x ≡ y = ap (λ (l : List ℕ). get_or l 0 x) e in absurd (omega arith)
+
+-- a first line is of one status and has one rest
+pub not_negative : (line r rest : List ℕ) → IsFirstLine line Positive r → IsFirstLine line Negative rest → ⊥
+not_negative line r rest first read = heads_apart 43 45 (lit< tt) (79 ∷ 75 ∷ first.0) (69 ∷ 82 ∷ 82 ∷ read.0) (sym first.1 ∙ read.1)
+
+pub positive_of : (line : List ℕ) (status : Status) (r rest : List ℕ) → IsFirstLine line Positive r → IsFirstLine line status rest → IsFirstLine line Positive rest
+positive_of line Positive r rest first read = read
+positive_of line Negative r rest first read = absurd (not_negative line r rest first read)
+
+pub same_rest : (line r rest : List ℕ) → IsFirstLine line Positive r → IsFirstLine line Positive rest → r ≡ rest
+same_rest line r rest first read = first.2 ∙ ap without_space (ap (drop 3) (sym first.1 ∙ read.1)) ∙ sym read.2
+
+-- why STAT's line isn't good
+pub few_cause : (fault : Fault) (old new : Link) (line bytes : List ℕ) → FirstLine bytes line
+    → TellsFew line (Err fault) → Cause fault stat old new bytes × ((to : Asked) → fault ≡ Refused to → ⊥)
+few_cause BadReply old new line bytes first why = ((line, first, why.0, λ rest read. (refl, why.1 rest read)), λ to is. cc)
+few_cause TooMany old new line bytes first why = (inl (refl, (line, why.0, why.1, why.2, first, why.3, why.4, why.5)), λ to is. cc)
+few_cause ConnectionEnded old new line bytes first why = absurd why
+few_cause ReadFailed old new line bytes first why = absurd why
+few_cause WriteFailed old new line bytes first why = absurd why
+few_cause ReplyTooLong old new line bytes first why = absurd why
+few_cause (Refused to) old new line bytes first why = absurd why
+few_cause BadListing old new line bytes first why = absurd why
+few_cause ListingsDisagree old new line bytes first why = absurd why
+few_cause TextTooLong old new line bytes first why = absurd why
+few_cause NoMemory old new line bytes first why = absurd why
+
+pub few_heard : (fault : Fault) (said mid : Place) (gained : List ℕ) (n : ℕ) → Gains said mid gained → HasLine line_limit mid.waiting n
+    → TellsFew (take n mid.waiting) (Err fault) → Heard stat said (Err fault) mid
+few_heard fault said mid gained n gains has why =
+    let cause = few_cause fault said.link mid.link (take n mid.waiting) (said.waiting ++ gained) (first_came stat said mid gained n gains has) why in
+    heard_unused stat said mid gained n gains has fault cause.0 cause.1
+
+-- ---- turns in a row
+
+goes_on : (a b c : Link) → GoesOn a b → GoesOn b c → GoesOn a c
+goes_on a b c first then = record { ended = then.ended ∙ first.ended; failures = then.failures ∙ first.failures }
+
+pub talked_none : (place : Place) → Talked [] [] place place
+talked_none place = record {
+  gained = [];
+  sent = sym (append-nil place.link.sent);
+  got = sym (append-nil place.link.got);
+  heard = append-nil place.waiting;
+  good = tt;
+  steady = record { ended = refl; failures = refl };
+}
+
+good_on : (xs ys : List Turn) (ls ms : List WholeReply) → AllZip IsGood xs ls → AllZip IsGood ys ms → AllZip IsGood (xs ++ ys) (ls ++ ms)
+good_on [] ys [] ms first then = then
+good_on [] ys (l ∷ ls) ms first then = absurd first
+good_on (x ∷ xs) ys [] ms first then = absurd first
+good_on (x ∷ xs) ys (l ∷ ls) ms first then = (first.0, good_on xs ys ls ms first.1 then)
+
+pub talked_on : (xs ys : List Turn) (ls ms : List WholeReply) (a b c : Place) → Talked xs ls a b → Talked ys ms b c → Talked (xs ++ ys) (ls ++ ms) a c
+talked_on xs ys ls ms a b c first then = record {
+  gained = first.gained ++ then.gained;
+  sent = then.sent ∙ ap (λ (s : List ℕ). s ++ asking ys) first.sent ∙ append_assoc a.link.sent (asking xs) (asking ys)
+      ∙ ap (λ (s : List ℕ). a.link.sent ++ s) (sym (flat_map-append turn_bytes xs ys));
+  got = then.got ∙ ap (λ (s : List ℕ). s ++ then.gained) first.got ∙ append_assoc a.link.got first.gained then.gained;
+  heard = sym (append_assoc a.waiting first.gained then.gained) ∙ ap (λ (s : List ℕ). s ++ then.gained) first.heard
+      ∙ append_assoc (flat_map reply_bytes ls) b.waiting then.gained ∙ ap (λ (s : List ℕ). flat_map reply_bytes ls ++ s) then.heard
+      ∙ sym (append_assoc (flat_map reply_bytes ls) (flat_map reply_bytes ms) c.waiting)
+      ∙ ap (λ (s : List ℕ). s ++ c.waiting) (sym (flat_map-append reply_bytes ls ms));
+  good = good_on xs ys ls ms first.good then.good;
+  steady = goes_on a.link b.link c.link first.steady then.steady;
+}
+
+-- a reply of one line
+pub talked_line : (turn : Turn) (line : List ℕ) (old new : Place) → Opened turn line old new → gives_body turn ≡ false
+    → Talked (turn ∷ []) (record { first = line; body = None } ∷ []) old new
+talked_line turn line old new begun none = record {
+  gained = begun.gained;
+  sent = begun.sent ∙ ap (λ (s : List ℕ). old.link.sent ++ s) (sym (append-nil (turn_bytes turn)));
+  got = begun.got;
+  heard = begun.heard ∙ ap (λ (s : List ℕ). s ++ new.waiting) (sym (append-nil (ended line ++ []) ∙ append-nil (ended line)));
+  good = (record { rest = begun.rest; line = begun.is; short = begun.short; positive = begun.positive; fits = begun.fits; body = none }, tt);
+  steady = begun.steady;
+}
+
+-- a reply with a body
+pub talked_body : (turn : Turn) (line : List ℕ) (old mid new : Place) (lines : List (List ℕ)) (gained : List ℕ) → Opened turn line old mid
+    → Drew mid.link new.link gained → GoesOn mid.link new.link → mid.waiting ++ gained ≡ body_of lines ++ new.waiting
+    → IsBody turn (Some lines) → Talked (turn ∷ []) (record { first = line; body = Some lines } ∷ []) old new
+talked_body turn line old mid new lines gained begun drew steady heard is = record {
+  gained = begun.gained ++ gained;
+  sent = drew.sent ∙ begun.sent ∙ ap (λ (s : List ℕ). old.link.sent ++ s) (sym (append-nil (turn_bytes turn)));
+  got = drew.got ∙ ap (λ (s : List ℕ). s ++ gained) begun.got ∙ append_assoc old.link.got begun.gained gained;
+  heard = heard_behind line old mid gained begun.gained begun.heard ∙ ap (λ (s : List ℕ). ended line ++ s) heard
+      ∙ sym (append_assoc (ended line) (body_of lines) new.waiting)
+      ∙ ap (λ (s : List ℕ). s ++ new.waiting) (sym (append-nil (ended line ++ body_of lines)));
+  good = (record { rest = begun.rest; line = begun.is; short = begun.short; positive = begun.positive; fits = begun.fits; body = is }, tt);
+  steady = goes_on old.link mid.link new.link begun.steady steady;
+}
+  where
+    heard_behind : (line : List ℕ) (old mid : Place) (gained first : List ℕ) → old.waiting ++ first ≡ ended line ++ mid.waiting
+        → old.waiting ++ (first ++ gained) ≡ ended line ++ (mid.waiting ++ gained)
+    heard_behind line old mid gained first e =
+        sym (append_assoc old.waiting first gained) ∙ ap (λ (s : List ℕ). s ++ gained) e ∙ append_assoc (ended line) mid.waiting gained
+
+-- a turn whose first line is good broke behind it
+pub broke_behind : (turn : Turn) (line : List ℕ) (old mid new : Place) (gained used : List ℕ) (fault : Fault) → Opened turn line old mid
+    → Drew mid.link new.link gained → Cause fault turn mid.link new.link (ended line ++ (mid.waiting ++ gained))
+    → mid.waiting ++ gained ≡ used ++ new.waiting → line_limit + length used ≤ most turn → ((to : Asked) → fault ≡ Refused to → ⊥) → Broke turn old new fault
+broke_behind turn line old mid new gained used fault begun drew why rest small other =
+    let short : length line + 2 ≤ line_limit = begun.short in
+    let size : length (ended line) ≡ length line + 2 = length-append line crlf in
+    let all : length (ended line ++ used) ≡ length (ended line) + length used = length-append (ended line) used in
+    inr (inl record {
+      gained = begun.gained ++ gained;
+      used = ended line ++ used;
+      sent = drew.sent ∙ begun.sent;
+      got = drew.got ∙ ap (λ (s : List ℕ). s ++ gained) begun.got ∙ append_assoc old.link.got begun.gained gained;
+      heard = heard ∙ ap (λ (s : List ℕ). ended line ++ s) rest ∙ sym (append_assoc (ended line) used new.waiting);
+      within = omega arith;
+      cause = cause_since fault turn old.link mid.link new.link (old.waiting ++ (begun.gained ++ gained)) begun.steady.failures
+          (subst (Cause fault turn mid.link new.link) (sym heard) why);
+      takes = takes_other fault (ended line ++ used) other;
+    })
+  where
+    heard : old.waiting ++ (begun.gained ++ gained) ≡ ended line ++ (mid.waiting ++ gained)
+    heard = sym (append_assoc old.waiting begun.gained gained) ∙ ap (λ (s : List ℕ). s ++ gained) begun.heard ∙ append_assoc (ended line) mid.waiting gained
+
+pub stopped_first : (turn : Turn) (turns : List Turn) (old new : Place) (fault : Fault) → Broke turn old new fault → Stopped (turn ∷ turns) old new fault
+stopped_first turn turns old new fault broke =
+    record { done = []; replies = []; next = turn; later = turns; mid = old; split = refl; talked = talked_none old; broke = broke }
+
+pub stopped_next : (turn : Turn) (turns : List Turn) (reply : WholeReply) (a b new : Place) (fault : Fault)
+    → Talked (turn ∷ []) (reply ∷ []) a b → Stopped turns b new fault → Stopped (turn ∷ turns) a new fault
+stopped_next turn turns reply a b new fault first then = record {
+  done = turn ∷ then.done;
+  replies = reply ∷ then.replies;
+  next = then.next;
+  later = then.later;
+  mid = then.mid;
+  split = ap (λ (ts : List Turn). turn ∷ ts) then.split;
+  talked = talked_on (turn ∷ []) then.done (reply ∷ []) then.replies a b then.mid first then.talked;
+  broke = then.broke;
+}
+
+-- but for STAT's, nothing is asked of the rest of a first line
+pub fits_other : (turn : Turn) (rest : List ℕ) → tells_count turn ≡ false → Fits turn rest
+fits_other turn rest other is = absurd (false≢true (sym other ∙ is))
+
+-- a turn begins its reply
+pub begins_of : (turn : Turn) (line : List ℕ) (old mid : Place) (after : List ℕ) → Opened turn line old mid → Begins (ended line ++ after) after
+begins_of turn line old mid after begun = record { line = line; rest = begun.rest; is = begun.is; short = begun.short; whole = refl; positive = begun.positive }
+
+-- a turn with a reply of one line was talked, or it broke
+pub asks_tells : (turn : Turn) (old new : Place) (result : Result (Unit {0}) Fault) → gives_body turn ≡ false → Asks turn old result new → Tells turn old result new
+asks_tells turn old new (Ok done) none asks = (record { first = asks.0; body = None }, talked_line turn asks.0 old new asks.1 none)
+asks_tells turn old new (Err fault) none asks = asks
+
+-- one turn is a conversation
+pub tells_talks : (turn : Turn) (old new : Place) (result : Result (Unit {0}) Fault) → Tells turn old result new → Talks (turn ∷ []) old result new
+tells_talks turn old new (Ok done) tells = (tells.0 ∷ [], tells.1)
+tells_talks turn old new (Err fault) tells = stopped_first turn [] old new fault tells
+
+-- a turn in front of a conversation
+pub tells_then : (turn : Turn) (turns : List Turn) (old mid new : Place) (reply : WholeReply) (result : Result (Unit {0}) Fault)
+    → Talked (turn ∷ []) (reply ∷ []) old mid → Talks turns mid result new → Talks (turn ∷ turns) old result new
+tells_then turn turns old mid new reply (Ok done) first then = (reply ∷ then.0, talked_on (turn ∷ []) turns (reply ∷ []) then.0 old mid new first then.1)
+tells_then turn turns old mid new reply (Err fault) first then = stopped_next turn turns reply old mid new fault first then

@@ -1,0 +1,57 @@
+-- A text under way, told of its reply.
+use Rattle.std.proofs.Common.{◌≡◌, inr, ◌<◌, ◌≤◌, ◌+◌, ℕ, List, ◌++◌, length, Some, Ok, refl, sym, ap, subst, ◌∙◌, arith}
+use Rattle.std.proofs.lemmas.List.{append_cancel_left}
+use Rattle.pop3_wire.specs.Line.{ended}
+use Rattle.pop3_wire.specs.Body.{Body, body_of}
+use Rattle.pop3_wire.specs.Place.{Place}
+use Rattle.pop3_wire.specs.Bodies.{Rest, Leaves, Drew, BodyCause}
+use Rattle.pop3_wire.specs.Unstuffing.{Reaches}
+use Rattle.pop3_wire.specs.declared.body_reader.BodyFault.TheVariants.{Ended, Failed, TooLong}
+use Rattle.pop3_wire.specs.declared.unstuffer.Spot.{Spot}
+use Rattle.pop3_wire.specs.declared.unstuffer.Spot.TheVariants.{Done}
+use Rattle.pop3_client.specs.declared.fault.Asked.{Asked}
+use Rattle.pop3_client.specs.declared.fault.Fault.{Fault}
+use Rattle.pop3_client.specs.declared.fault.Fault.TheVariants.{ConnectionEnded, ReadFailed, TextTooLong, Refused}
+use Rattle.pop3_client.specs.Turns.{text_limit, retr}
+use Rattle.pop3_client.specs.Causes.{Cause}
+use Rattle.pop3_client.specs.Conversation.{Opened, Broke, Tells}
+use Rattle.pop3_client.specs.Texts.{Fetched, Fetching}
+use Rattle.pop3_client.proofs.TalkLemmas.{talked_body, broke_behind, begins_of}
+
+-- a text that has ended was taken whole
+pub fetched : (number : ℕ) (old new : Place) (body : Rest) (text : List ℕ) → Fetching (retr number) old new body text → body.spot ≡ Done → Fetched (retr number) old text new
+fetched number old new body text now done =
+    let is : Body now.under.used text = subst (λ (s : Spot). Reaches s now.under.used text) done now.under.reached in
+    let sizes : length now.under.used + body.left ≡ text_limit = now.under.sizes in
+    let whole : now.under.used ≡ body_of is.lines = is.whole in
+    let same : length now.under.used ≡ length (body_of is.lines) = ap length whole in (
+      record { first = now.line; body = Some is.lines },
+      talked_body (retr number) now.line old now.mid new is.lines now.under.gained now.opened now.under.drew now.under.steady
+          (now.under.heard ∙ ap (λ (b : List ℕ). b ++ new.waiting) whole) (is.content, omega arith),
+      is.read,
+    )
+
+pub dropped : (number : ℕ) (old new : Place) (body : Rest) (text : List ℕ) → Fetching (retr number) old new body text → body.spot ≡ Done → Tells (retr number) old (Ok tt) new
+dropped number old new body text now done = let whole = fetched number old new body text now done in (whole.0, whole.1)
+
+-- a text under way broke
+module _ (number : ℕ) (start mid new : Place) (line : List ℕ) (begun : Opened (retr number) line start mid) (leaves : Leaves text_limit mid new) (gained : List ℕ)
+    (drew : Drew mid.link new.link gained) where
+  there : (fault : Fault) → Cause fault (retr number) mid.link new.link (ended line ++ (mid.waiting ++ gained)) → ((to : Asked) → fault ≡ Refused to → ⊥) → Broke (retr number) start new fault
+  there fault cause other =
+      let within : length leaves.used ≤ text_limit = leaves.within in
+      let same : leaves.gained ≡ gained = append_cancel_left mid.link.got leaves.gained gained (sym leaves.got ∙ drew.got) in
+      broke_behind (retr number) line start mid new gained leaves.used fault begun drew cause (subst (λ (g : List ℕ). mid.waiting ++ g ≡ leaves.used ++ new.waiting) same leaves.heard) (omega arith) other
+
+  pub broke_ended : BodyCause text_limit Ended mid.link new.link (mid.waiting ++ gained) → Broke (retr number) start new ConnectionEnded
+  broke_ended why = there ConnectionEnded (why.2, inr (mid.waiting ++ gained, begins_of (retr number) line start mid (mid.waiting ++ gained) begun, (why.0, why.1))) (λ to is. cc)
+
+  pub broke_failed : BodyCause text_limit Failed mid.link new.link (mid.waiting ++ gained) → Broke (retr number) start new ReadFailed
+  broke_failed why =
+      let risen : new.link.failures ≡ mid.link.failures + 1 = why.3 in
+      let more : mid.link.failures < new.link.failures = omega arith in
+      there ReadFailed (more, inr (mid.waiting ++ gained, begins_of (retr number) line start mid (mid.waiting ++ gained) begun, (why.0, why.1))) (λ to is. cc)
+
+  pub broke_too_long : BodyCause text_limit TooLong mid.link new.link (mid.waiting ++ gained) → Broke (retr number) start new TextTooLong
+  broke_too_long why =
+      there TextTooLong ((number, refl), (mid.waiting ++ gained, begins_of (retr number) line start mid (mid.waiting ++ gained) begun, why.0, why.1)) (λ to is. cc)

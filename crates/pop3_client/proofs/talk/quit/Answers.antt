@@ -1,0 +1,13 @@
+use Rattle.std.proofs.Common.{inl, refl}
+use Rattle.pop3_wire.specs.Place.{at}
+use Rattle.pop3_client.specs.Turns.{quit}
+use Rattle.pop3_client.proofs.TalkLemmas.{asks_tells, quit_bytes}
+use Rattle.pop3_client.proofs.talk.quit.Goals as goal
+
+pub returns-clause-tells : goal.returns-clause-tells
+returns-clause-tells g c sound =
+    let asks = c.ask.ensures.asks sound in (
+      asks.0,
+      asks.1,
+      asks_tells quit (at (g.W.Wire.seen c.args.wire.now) c.args.reader.now) (at (g.W.Wire.seen c.ask.new.wire) c.ask.new.reader) c.ask.result refl (asks.2 quit (inl refl) refl quit_bytes),
+    )

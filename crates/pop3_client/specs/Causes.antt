@@ -1,0 +1,94 @@
+-- Why a reply isn't whole and good: what the octets that came of it show.
+use Rattle.std.specs.Prelude.{◌≡◌, ◌⊎◌, ◌<◌, ◌≤◌, ℕ, true, List, ◌++◌, length, take, Some, Ok, IsOk}
+use Rattle.std.specs.List.{flat_map, AllByRecursion}
+use Rattle.pop3_wire.specs.Line.{IsLine, ended}
+use Rattle.pop3_wire.specs.Body.{IsContent, HasNoBody}
+use Rattle.pop3_wire.specs.Reply.{IsFirstLine}
+use Rattle.pop3_wire.specs.declared.reply.Status.TheVariants.{Positive, Negative}
+use Rattle.pop3_wire.specs.Fields.{number_and_size}
+use Rattle.pop3_wire.specs.Link.{Link}
+use Rattle.pop3_wire.specs.Place.{HasNoLine}
+use Rattle.pop3_wire.specs.declared.command.Command.TheVariants.{UidlAll, ListAll, Retr}
+use Rattle.pop3_client.specs.declared.fault.Fault.{Fault}
+use Rattle.pop3_client.specs.declared.fault.Fault.TheVariants.{ConnectionEnded, ReadFailed, WriteFailed, ReplyTooLong, BadReply, Refused, BadListing, ListingsDisagree, TooMany, TextTooLong, NoMemory}
+use Rattle.pop3_client.specs.Turns.{Turn, Names, tells_count, retr, line_limit, text_limit, row_limit, IsShort, IsListing, IsRow}
+
+-- the octets begin with a positive first line, and this follows it
+pub record Begins (bytes after : List ℕ) : Type 0 where
+  pub line : List ℕ
+  pub rest : List ℕ
+  pub is : IsLine line
+  pub short : IsShort line
+  pub whole : bytes ≡ ended line ++ after
+  pub positive : IsFirstLine line Positive rest
+
+-- the octets begin with these rows of a listing, no more than can be, and this follows them
+pub record HasRows (turn : Turn) (bytes after : List ℕ) (lines : List (List ℕ)) : Type 0 where
+  pub listing : IsListing turn
+  pub content : AllByRecursion IsContent lines
+  pub short : AllByRecursion IsShort lines
+  pub rows : AllByRecursion (IsRow turn) lines
+  pub few : length lines ≤ row_limit
+  pub whole : bytes ≡ flat_map ended lines ++ after
+
+-- a line is under way, and may still end within the limit
+abbrev pub IsPartOfLine : List ℕ → Type 0
+IsPartOfLine bytes = IsLine bytes × (length bytes < line_limit)
+
+-- good rows of a listing, and a part of its next line
+abbrev pub IsPartOfListing : Turn → List ℕ → Type 0
+IsPartOfListing turn bytes = (behind : List ℕ) × (lines : List (List ℕ)) × HasRows turn bytes behind lines × IsPartOfLine behind
+
+-- a body is under way: all of it that has come is good, and it may still end within the limit
+abbrev pub IsPartOfBody : Turn → List ℕ → Type 0
+IsPartOfBody (Some UidlAll) bytes = IsPartOfListing (Some UidlAll) bytes
+IsPartOfBody (Some ListAll) bytes = IsPartOfListing (Some ListAll) bytes
+IsPartOfBody (Some (Retr number)) bytes = HasNoBody bytes × (length bytes < text_limit)
+IsPartOfBody _ bytes = ⊥
+
+-- a reply is under way: its first line, or the body behind a positive one
+abbrev pub NotWhole : Turn → List ℕ → Type 0
+NotWhole turn bytes = IsPartOfLine bytes ⊎ ((after : List ℕ) × Begins bytes after × IsPartOfBody turn after)
+
+-- where a line should stand, as many octets as its limit hold none
+abbrev pub IsOverlong : List ℕ → Type 0
+IsOverlong bytes = HasNoLine line_limit bytes × (line_limit ≤ length bytes)
+
+-- a line that stands behind good rows of a listing, so many of them
+pub record NextLine (turn : Turn) (bytes row : List ℕ) (rows : ℕ) : Type 0 where
+  pub after : List ℕ
+  pub behind : List ℕ
+  pub lines : List (List ℕ)
+  pub begins : Begins bytes after
+  pub has : HasRows turn after (ended row ++ behind) lines
+  pub count : length lines ≡ rows
+  pub content : IsContent row
+  pub short : IsShort row
+
+-- the first line, where it stands whole
+pub record FirstLine (bytes line : List ℕ) : Type 0 where
+  pub after : List ℕ
+  pub is : IsLine line
+  pub short : IsShort line
+  pub whole : bytes ≡ ended line ++ after
+
+-- why a reply isn't good, where these octets have come of it
+abbrev pub Cause : Fault → Turn → Link → Link → List ℕ → Type 0
+Cause ConnectionEnded turn old new bytes = (new.ended ≡ true) × NotWhole turn bytes
+Cause ReadFailed turn old new bytes = (old.failures < new.failures) × NotWhole turn bytes
+Cause WriteFailed turn old new bytes = ⊥
+Cause ReplyTooLong turn old new bytes = IsOverlong bytes
+    ⊎ ((after behind : List ℕ) × (lines : List (List ℕ)) × Begins bytes after × HasRows turn after behind lines × IsOverlong behind)
+Cause BadReply turn old new bytes = (line : List ℕ) × FirstLine bytes line
+    × ((rest : List ℕ) → IsFirstLine line Negative rest → ⊥)
+    × ((rest : List ℕ) → IsFirstLine line Positive rest → (tells_count turn ≡ true) × (IsOk (number_and_size rest) → ⊥))
+Cause (Refused to) turn old new bytes = Names to turn × ((line rest : List ℕ) × FirstLine bytes line × IsFirstLine line Negative rest)
+Cause BadListing turn old new bytes = (row : List ℕ) × (rows : ℕ) × NextLine turn bytes row rows × (rows < row_limit) × (IsRow turn row → ⊥)
+Cause ListingsDisagree turn old new bytes = ⊥
+Cause TooMany turn old new bytes =
+    ((tells_count turn ≡ true) × ((line rest : List ℕ) × (count size : ℕ) × FirstLine bytes line
+    × IsFirstLine line Positive rest × (number_and_size rest ≡ Ok (count, size)) × (row_limit < count)))
+    ⊎ ((row : List ℕ) × NextLine turn bytes row row_limit)
+Cause TextTooLong turn old new bytes = ((number : ℕ) × (turn ≡ retr number)) × ((after : List ℕ) × Begins bytes after
+    × HasNoBody (take text_limit after) × (text_limit ≤ length after))
+Cause NoMemory turn old new bytes = (row : List ℕ) × (rows : ℕ) × NextLine turn bytes row rows × (rows < row_limit) × IsRow turn row

@@ -1,0 +1,221 @@
+-- A conversation: turns and the replies to them, whole and in order, or the place where it stopped (RFC 1939, section 3).
+use Rattle.std.specs.Prelude.{◌≡◌, ◌⊎◌, ◌+◌, ◌<◌, ◌≤◌, ℕ, Bool, true, false, List, [], ◌∷◌, ◌++◌, length, take, None, Some, Result, Ok, Err, IsOk}
+use Rattle.std.specs.List.{flat_map, AllZip}
+use Rattle.pop3_wire.specs.Line.{IsLine, ended}
+use Rattle.pop3_wire.specs.Reply.{IsFirstLine}
+use Rattle.pop3_wire.specs.Reading.{WholeReply, reply_bytes}
+use Rattle.pop3_wire.specs.declared.reply.Status.TheVariants.{Positive, Negative}
+use Rattle.pop3_wire.specs.declared.command.Command.TheVariants.{Retr, Dele}
+use Rattle.pop3_wire.specs.Fields.{number_and_size}
+use Rattle.pop3_wire.specs.Link.{Link}
+use Rattle.pop3_wire.specs.Place.{Place, GoesOn, Gains, HasLine}
+use Rattle.pop3_client.specs.declared.fault.Fault.{Fault}
+use Rattle.pop3_client.specs.declared.fault.Asked.TheVariants.{Quit as ByQuit}
+use Rattle.pop3_client.specs.declared.fault.Fault.TheVariants.{ConnectionEnded, ReadFailed, WriteFailed, ReplyTooLong, BadReply, Refused, BadListing, ListingsDisagree, TooMany, TextTooLong, NoMemory}
+use Rattle.pop3_client.specs.Turns.{Turn, turn_bytes, asking, greeting, user, pass, stat, rset, quit, line_limit, row_limit, IsShort, most, Fits, IsGood}
+use Rattle.pop3_client.specs.Causes.{IsPartOfLine, IsOverlong, Cause}
+
+-- these were sent, and in order each was answered by its reply, whole and good; that none is sent before the reply to the one before it shows where turns stop (`Stopped`)
+pub record Talked (turns : List Turn) (replies : List WholeReply) (old new : Place) : Type 0 where
+  pub gained : List ℕ
+  pub sent : new.link.sent ≡ old.link.sent ++ asking turns
+  pub got : new.link.got ≡ old.link.got ++ gained
+  pub heard : old.waiting ++ gained ≡ flat_map reply_bytes replies ++ new.waiting
+  pub good : AllZip IsGood turns replies
+  pub steady : GoesOn old.link new.link
+
+-- the turn was sent, and its first line, positive and of use, was taken
+pub record Opened (turn : Turn) (line : List ℕ) (old new : Place) : Type 0 where
+  pub gained : List ℕ
+  pub rest : List ℕ
+  pub sent : new.link.sent ≡ old.link.sent ++ turn_bytes turn
+  pub got : new.link.got ≡ old.link.got ++ gained
+  pub heard : old.waiting ++ gained ≡ ended line ++ new.waiting
+  pub is : IsLine line
+  pub short : IsShort line
+  pub positive : IsFirstLine line Positive rest
+  pub fits : Fits turn rest
+  pub steady : GoesOn old.link new.link
+
+-- whether memory may be wanting before the turn: not for what is sent as a constant, nor for USER and PASS, which are made before the greeting
+abbrev pub may_want : Turn → Bool
+may_want None = true
+may_want (Some (Retr number)) = true
+may_want (Some (Dele number)) = true
+may_want _ = false
+
+-- a negative reply is taken whole; of what was used before any other fault nothing more is said
+abbrev pub Takes : Fault → List ℕ → Type 0
+Takes (Refused to) used = (line : List ℕ) × IsLine line × (used ≡ ended line)
+Takes _ used = Unit {0}
+
+-- a part of the turn was sent, and the call was refused
+pub record SentInPart (turn : Turn) (old new : Place) : Type 0 where
+  pub front : List ℕ
+  pub rest : List ℕ
+  pub split : turn_bytes turn ≡ front ++ rest
+  pub sent : new.link.sent ≡ old.link.sent ++ front
+  pub got : new.link.got ≡ old.link.got
+  pub waiting : new.waiting ≡ old.waiting
+  pub risen : old.link.failures < new.link.failures
+
+-- the turn was sent whole, and its reply isn't whole or isn't good; so much of it was used, and the rest waits
+pub record NotAnswered (turn : Turn) (old new : Place) (fault : Fault) : Type 0 where
+  pub gained : List ℕ
+  pub used : List ℕ
+  pub sent : new.link.sent ≡ old.link.sent ++ turn_bytes turn
+  pub got : new.link.got ≡ old.link.got ++ gained
+  pub heard : old.waiting ++ gained ≡ used ++ new.waiting
+  pub within : length used ≤ most turn
+  pub cause : Cause fault turn old.link new.link (old.waiting ++ gained)
+  pub takes : Takes fault used
+
+-- a turn broke: not all of it was sent, it wasn't answered well, or memory was wanting before it, and nothing changed
+abbrev pub Broke : Turn → Place → Place → Fault → Type 0
+Broke turn old new fault =
+    ((fault ≡ WriteFailed) × SentInPart turn old new)
+    ⊎ NotAnswered turn old new fault
+    ⊎ ((fault ≡ NoMemory) × (may_want turn ≡ true) × (new ≡ old))
+
+-- some of the turns were talked, and the next one broke
+pub record Stopped (turns : List Turn) (old new : Place) (fault : Fault) : Type 0 where
+  pub done : List Turn
+  pub replies : List WholeReply
+  pub next : Turn
+  pub later : List Turn
+  pub mid : Place
+  pub split : turns ≡ done ++ (next ∷ later)
+  pub talked : Talked done replies old mid
+  pub broke : Broke next mid new fault
+
+-- these turns were talked, or the conversation stopped at one of them
+abbrev pub Talks : List Turn → Place → Result (Unit {0}) Fault → Place → Type 0
+Talks turns old (Ok done) new = (replies : List WholeReply) × Talked turns replies old new
+Talks turns old (Err fault) new = Stopped turns old new fault
+
+-- the first line of a turn's reply was taken, or the turn broke
+abbrev pub Asks : Turn → Place → Result (Unit {0}) Fault → Place → Type 0
+Asks turn old (Ok done) new = (line : List ℕ) × Opened turn line old new
+Asks turn old (Err fault) new = Broke turn old new fault
+
+-- a turn was talked, or it broke
+abbrev pub Tells : Turn → Place → Result (Unit {0}) Fault → Place → Type 0
+Tells turn old (Ok done) new = (reply : WholeReply) × Talked (turn ∷ []) (reply ∷ []) old new
+Tells turn old (Err fault) new = Broke turn old new fault
+
+-- a reply to STAT tells this count
+abbrev pub TellsCount : WholeReply → ℕ → Type 0
+TellsCount reply count = (rest : List ℕ) × (size : ℕ) × IsFirstLine reply.first Positive rest × (number_and_size rest ≡ Ok (count, size))
+
+-- STAT was talked, and its reply tells this count; or it broke
+abbrev pub Counts : Place → Result ℕ Fault → Place → Type 0
+Counts old (Ok count) new = (reply : WholeReply) × Talked (stat ∷ []) (reply ∷ []) old new × TellsCount reply count
+Counts old (Err fault) new = Broke stat old new fault
+
+-- logging in
+abbrev pub login : List ℕ → List ℕ → List Turn
+login name password = greeting ∷ user name ∷ pass password ∷ []
+
+-- the turns that are talked after a fault: QUIT after a refused command that isn't QUIT, nothing otherwise
+abbrev pub tail_of : Fault → List Turn
+tail_of (Refused ByQuit) = []
+tail_of (Refused asked) = quit ∷ []
+tail_of _ = []
+
+-- the turns that undo what was marked, and end
+abbrev pub undoing : List Turn
+undoing = rset ∷ quit ∷ []
+
+-- the most octets that are taken for the replies to these turns
+abbrev pub most_of : List Turn → ℕ
+most_of [] = 0
+most_of (turn ∷ turns) = most turn + most_of turns
+
+-- a front of the next of these turns' octets
+abbrev pub IsFrontOfNext : List ℕ → List Turn → Type 0
+IsFrontOfNext part [] = part ≡ []
+IsFrontOfNext part (next ∷ later) = (more : List ℕ) × (turn_bytes next ≡ part ++ more)
+
+-- what was sent is the octets of the first of these turns, to each of which its whole and good reply stands in what came, and a front of the next one's; and no more was taken than the most of all of them
+pub record Paced (turns : List Turn) (old new : Place) : Type 0 where
+  pub done : List Turn
+  pub rest : List Turn
+  pub part : List ℕ
+  pub replies : List WholeReply
+  pub gained : List ℕ
+  pub after : List ℕ
+  pub split : turns ≡ done ++ rest
+  pub begun : IsFrontOfNext part rest
+  pub sent : new.link.sent ≡ old.link.sent ++ (asking done ++ part)
+  pub front : (later : List ℕ) × (asking turns ≡ (asking done ++ part) ++ later)
+  pub got : new.link.got ≡ old.link.got ++ gained
+  pub good : AllZip IsGood done replies
+  pub heard : old.waiting ++ gained ≡ flat_map reply_bytes replies ++ after
+  pub within : length old.waiting + length gained ≤ most_of turns + length new.waiting
+
+-- each conversation, whole or stopped, is paced
+abbrev pub ConversationsArePaced : Type 0
+ConversationsArePaced = (turns : List Turn) (old new : Place) (result : Result (Unit {0}) Fault) → Talks turns old result new → Paced turns old new
+
+-- ---- the parts of a turn
+
+-- why no line waits, where these octets wait
+abbrev pub NoLineCause : Fault → Link → Link → List ℕ → Type 0
+NoLineCause ConnectionEnded old new bytes = (new.ended ≡ true) × IsPartOfLine bytes
+NoLineCause ReadFailed old new bytes = (old.failures < new.failures) × IsPartOfLine bytes
+NoLineCause ReplyTooLong old new bytes = IsOverlong bytes
+NoLineCause _ old new bytes = ⊥
+
+-- a line waits, or why none does
+abbrev pub Waits : Place → Result ℕ Fault → Place → Type 0
+Waits old (Ok n) new = HasLine line_limit new.waiting n × GoesOn old.link new.link
+Waits old (Err fault) new = NoLineCause fault old.link new.link new.waiting
+
+-- a reply isn't good from its first line on: nothing was sent, and so much was used
+pub record NotHeard (turn : Turn) (old new : Place) (fault : Fault) : Type 0 where
+  pub gained : List ℕ
+  pub used : List ℕ
+  pub sent : new.link.sent ≡ old.link.sent
+  pub got : new.link.got ≡ old.link.got ++ gained
+  pub heard : old.waiting ++ gained ≡ used ++ new.waiting
+  pub within : length used ≤ line_limit
+  pub cause : Cause fault turn old.link new.link (old.waiting ++ gained)
+  pub takes : Takes fault used
+
+-- a positive first line waits, or why none does
+abbrev pub Heard : Turn → Place → Result ℕ Fault → Place → Type 0
+Heard turn old (Ok n) new = (gained : List ℕ) × Gains old new gained × HasLine line_limit new.waiting n × GoesOn old.link new.link
+    × ((rest : List ℕ) × IsFirstLine (take n new.waiting) Positive rest)
+Heard turn old (Err fault) new = NotHeard turn old new fault
+
+-- octets were sent whole, or a prefix of them and the call was refused
+abbrev pub Sent : List ℕ → Link → Result (Unit {0}) Fault → Link → Type 0
+Sent bytes old (Ok done) new = new ≡ record old { sent = old.sent ++ bytes }
+Sent bytes old (Err fault) new = (fault ≡ WriteFailed)
+    × ((front rest : List ℕ) × (bytes ≡ front ++ rest) × (new ≡ record old { sent = old.sent ++ front; failures = old.failures + 1 }))
+
+-- a positive first line tells a count of at most 100,000 messages, or why it doesn't
+abbrev pub TellsFew : List ℕ → Result ℕ Fault → Type 0
+TellsFew line (Ok count) = (rest : List ℕ) × (size : ℕ) × IsFirstLine line Positive rest × (number_and_size rest ≡ Ok (count, size)) × (count ≤ row_limit)
+TellsFew line (Err BadReply) = ((rest : List ℕ) → IsFirstLine line Negative rest → ⊥)
+    × ((rest : List ℕ) → IsFirstLine line Positive rest → IsOk (number_and_size rest) → ⊥)
+TellsFew line (Err TooMany) = (rest : List ℕ) × (count size : ℕ) × IsFirstLine line Positive rest × (number_and_size rest ≡ Ok (count, size)) × (row_limit < count)
+TellsFew line (Err _) = ⊥
+
+-- whether a fault is a refused call of the link
+abbrev pub refusal : Fault → Result (Unit {0}) Fault
+refusal ReadFailed = Err ReadFailed
+refusal WriteFailed = Err WriteFailed
+refusal ConnectionEnded = Ok tt
+refusal ReplyTooLong = Ok tt
+refusal BadReply = Ok tt
+refusal (Refused to) = Ok tt
+refusal BadListing = Ok tt
+refusal ListingsDisagree = Ok tt
+refusal TooMany = Ok tt
+refusal TextTooLong = Ok tt
+refusal NoMemory = Ok tt
+
+abbrev pub refusal_of : {A : Type 0} → Result A Fault → Result (Unit {0}) Fault
+refusal_of (Ok done) = Ok tt
+refusal_of (Err fault) = refusal fault

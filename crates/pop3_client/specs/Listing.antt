@@ -1,0 +1,113 @@
+-- The rows of listings, and how two listings are joined with STAT's count (RFC 1939, sections 5 and 7).
+use Rattle.std.specs.Prelude.{◌≡◌, ◌≢◌, ◌⊎◌, ◌<◌, ◌≤◌, ℕ, true, List, [], ◌∷◌, ◌++◌, length, take, Option, None, Some, Result, Ok, Err, Vec}
+use Rattle.std.specs.List.{AllByRecursion, AllZip}
+use Rattle.pop3_wire.specs.Line.{ended}
+use Rattle.pop3_wire.specs.Body.{IsContent, unstuffed, body_of, dot}
+use Rattle.pop3_wire.specs.Fields.{number_and_size, number_and_id}
+use Rattle.pop3_wire.specs.Reading.{WholeReply}
+use Rattle.pop3_wire.specs.Link.{Link}
+use Rattle.pop3_wire.specs.Place.{Place, GoesOn, Gains, HasLine}
+use Rattle.pop3_wire.specs.Bodies.{Drew}
+use Rattle.mail_terms.specs.Listing.{Item, Agree, Joins}
+use Rattle.mail_terms.specs.declared.listing.UidRow.{UidRow}
+use Rattle.mail_terms.specs.declared.listing.ScanRow.{ScanRow}
+use Rattle.pop3_client.specs.declared.fault.Fault.{Fault}
+use Rattle.pop3_client.specs.declared.fault.Fault.TheVariants.{ConnectionEnded, ReadFailed, ReplyTooLong, BadListing, ListingsDisagree, TooMany, NoMemory}
+use Rattle.pop3_client.specs.Turns.{Turn, uidl, list, line_limit, row_limit, IsShort, IsRow, LinesFit}
+use Rattle.pop3_client.specs.Causes.{IsPartOfListing, HasRows, IsOverlong}
+use Rattle.pop3_client.specs.Conversation.{NoLineCause, Talked, Stopped, Broke}
+
+-- the row that a line of UIDL stands for, and that of LIST
+abbrev pub IsUidRow : List ℕ → UidRow → Type 0
+IsUidRow line row = number_and_id (unstuffed line) ≡ Ok (row.number, row.uid.items)
+
+abbrev pub IsScanRow : List ℕ → ScanRow → Type 0
+IsScanRow line row = number_and_size (unstuffed line) ≡ Ok (row.number, row.size)
+
+-- the lines of a reply's body stand for these rows
+abbrev pub HasListing : {R : Type 0} → (List ℕ → R → Type 0) → WholeReply → List R → Type 0
+HasListing IsThisRow reply rows = (lines : List (List ℕ)) × (reply.body ≡ Some lines) × AllZip IsThisRow lines rows
+
+-- both listings were asked for and taken, whole
+pub record Listed (old new : Place) (uids : List UidRow) (sizes : List ScanRow) : Type 0 where
+  pub first : WholeReply
+  pub second : WholeReply
+  pub talked : Talked (uidl ∷ list ∷ []) (first ∷ second ∷ []) old new
+  pub names : HasListing IsUidRow first uids
+  pub octets : HasListing IsScanRow second sizes
+
+-- both listings were taken, and these are the messages, joined; or the conversation stopped; or the listings don't join with the count; or memory was wanting to join them, before anything else was sent
+abbrev pub Lists : ℕ → Place → Result (List Item) Fault → Place → Type 0
+Lists count old (Ok items) new = (uids : List UidRow) × (sizes : List ScanRow) × Listed old new uids sizes × Joins count uids sizes items
+Lists count old (Err fault) new = Stopped (uidl ∷ list ∷ []) old new fault
+    ⊎ ((fault ≡ ListingsDisagree) × ((uids : List UidRow) × (sizes : List ScanRow) × Listed old new uids sizes × (Agree count uids sizes → ⊥)))
+    ⊎ ((fault ≡ NoMemory) × ((uids : List UidRow) × (sizes : List ScanRow) × Listed old new uids sizes))
+
+-- ---- the parts of a listing
+
+-- why no row and no end mark waits, where so many rows were taken before
+abbrev pub RowCause : Fault → ℕ → Link → Link → List ℕ → Type 0
+RowCause ConnectionEnded rows old new bytes = NoLineCause ConnectionEnded old new bytes
+RowCause ReadFailed rows old new bytes = NoLineCause ReadFailed old new bytes
+RowCause ReplyTooLong rows old new bytes = IsOverlong bytes
+RowCause TooMany rows old new bytes = (row behind : List ℕ) × (row_limit ≤ rows) × IsContent row × IsShort row × (bytes ≡ ended row ++ behind)
+RowCause _ rows old new bytes = ⊥
+
+-- a row waits, or the end mark was taken, or why neither
+abbrev pub NextRow : ℕ → Place → Result (Option ℕ) Fault → Place → Type 0
+NextRow rows old (Ok None) new = (gained : List ℕ) × Drew old.link new.link gained × GoesOn old.link new.link
+    × (old.waiting ++ gained ≡ ended dot ++ new.waiting)
+NextRow rows old (Ok (Some n)) new = (gained : List ℕ) × Gains old new gained × GoesOn old.link new.link
+    × HasLine line_limit new.waiting n × (take n new.waiting ≢ dot)
+NextRow rows old (Err fault) new = (gained : List ℕ) × Gains old new gained × RowCause fault rows old.link new.link new.waiting
+
+-- a row behind so many others
+pub record RowBehind (turn : Turn) (after row : List ℕ) (rows : ℕ) : Type 0 where
+  pub behind : List ℕ
+  pub lines : List (List ℕ)
+  pub has : HasRows turn after (ended row ++ behind) lines
+  pub count : length lines ≡ rows
+  pub content : IsContent row
+  pub short : IsShort row
+
+-- why a listing isn't good, where these octets follow its first line
+abbrev pub RowsCause : Fault → Turn → Link → Link → List ℕ → Type 0
+RowsCause ConnectionEnded turn old new after = (new.ended ≡ true) × IsPartOfListing turn after
+RowsCause ReadFailed turn old new after = (old.failures < new.failures) × IsPartOfListing turn after
+RowsCause ReplyTooLong turn old new after = (behind : List ℕ) × (lines : List (List ℕ)) × HasRows turn after behind lines × IsOverlong behind
+RowsCause BadListing turn old new after = (row : List ℕ) × (rows : ℕ) × RowBehind turn after row rows × (rows < row_limit) × (IsRow turn row → ⊥)
+RowsCause TooMany turn old new after = (row : List ℕ) × RowBehind turn after row row_limit
+RowsCause NoMemory turn old new after = (row : List ℕ) × (rows : ℕ) × RowBehind turn after row rows × (rows < row_limit) × IsRow turn row
+RowsCause _ turn old new after = ⊥
+
+-- the lines of a listing were taken, its end mark included
+pub record TookLines (turn : Turn) (old new : Place) (lines : List (List ℕ)) : Type 0 where
+  pub gained : List ℕ
+  pub drew : Drew old.link new.link gained
+  pub steady : GoesOn old.link new.link
+  pub content : AllByRecursion IsContent lines
+  pub fit : LinesFit turn lines
+  pub heard : old.waiting ++ gained ≡ body_of lines ++ new.waiting
+
+-- why the rows behind a first line weren't taken; so much of them was used
+pub record NotTaken (turn : Turn) (old new : Place) (fault : Fault) : Type 0 where
+  pub gained : List ℕ
+  pub used : List (List ℕ)
+  pub drew : Drew old.link new.link gained
+  pub cause : RowsCause fault turn old.link new.link (old.waiting ++ gained)
+  pub has : HasRows turn (old.waiting ++ gained) new.waiting used
+
+-- the rows behind a first line were taken, or why not
+abbrev pub TakesRows : {R : Type 0} → Turn → (List ℕ → R → Type 0) → Place → Result (List R) Fault → Place → Type 0
+TakesRows turn IsThisRow old (Ok rows) new = (lines : List (List ℕ)) × TookLines turn old new lines × AllZip IsThisRow lines rows
+TakesRows turn IsThisRow old (Err fault) new = NotTaken turn old new fault
+
+-- a listing was asked for and taken, or its turn broke
+abbrev pub ListsRows : {R : Type 0} → Turn → (List ℕ → R → Type 0) → Place → Result (List R) Fault → Place → Type 0
+ListsRows turn IsThisRow old (Ok rows) new = (reply : WholeReply) × Talked (turn ∷ []) (reply ∷ []) old new × HasListing IsThisRow reply rows
+ListsRows turn IsThisRow old (Err fault) new = Broke turn old new fault
+
+-- the items of a vector that a call gave
+abbrev pub items_of : {A Z E : Type 0} → Result (Vec A Z) E → Result (List A) E
+items_of (Ok v) = Ok v.items
+items_of (Err e) = Err e

@@ -1,0 +1,37 @@
+-- The text of a message, piece by piece.
+use Rattle.std.specs.Prelude.{◌≡◌, ℕ, List, [], ◌∷◌, ◌++◌, take, Option, None, Some, Result, Ok, Err, IsTrue}
+use Rattle.pop3_wire.specs.Body.{text_of}
+use Rattle.pop3_wire.specs.Place.{Place}
+use Rattle.pop3_wire.specs.Reading.{WholeReply}
+use Rattle.pop3_wire.specs.Bodies.{Rest, UnderWay}
+use Rattle.pop3_wire.specs.declared.body_reader.Piece.{Piece}
+use Rattle.pop3_client.specs.declared.fault.Fault.{Fault}
+use Rattle.pop3_client.specs.Turns.{Turn, text_limit}
+use Rattle.pop3_client.specs.Conversation.{Talked, Opened, Broke}
+
+-- the text that a reply's body carries
+abbrev pub body_text : Option (List (List ℕ)) → List ℕ
+body_text None = []
+body_text (Some lines) = text_of lines
+
+-- a text was asked for, and taken to its end
+abbrev pub Fetched : Turn → Place → List ℕ → Place → Type 0
+Fetched turn old text new = (reply : WholeReply) × Talked (turn ∷ []) (reply ∷ []) old new × (text ≡ body_text reply.body)
+
+-- a text is under way, or at its end: the first line of the reply was taken, and so much of its body, which gives this much of the text
+pub record Fetching (turn : Turn) (old new : Place) (body : Rest) (text : List ℕ) : Type 0 where
+  pub line : List ℕ
+  pub mid : Place
+  pub opened : Opened turn line old mid
+  pub under : UnderWay text_limit mid new body text
+
+-- a text was asked for, and is under way; or its turn broke
+abbrev pub Opens : Turn → Place → Result Rest Fault → Place → Type 0
+Opens turn old (Ok body) new = Fetching turn old new body []
+Opens turn old (Err fault) new = Broke turn old new fault
+
+-- a text that is under way goes on, and is whole where it ended; or its turn broke
+abbrev pub FetchesPiece : Turn → Place → List ℕ → Result Piece Fault → List ℕ → Place → Rest → Type 0
+FetchesPiece turn start text (Ok piece) out new body = Fetching turn start new body (text ++ take piece.put out)
+    × (IsTrue piece.ended → Fetched turn start (text ++ take piece.put out) new)
+FetchesPiece turn start text (Err fault) out new body = Broke turn start new fault

@@ -1,0 +1,141 @@
+-- The turns of a conversation, and the replies that let it go on (RFC 1939, section 3).
+use Rattle.std.specs.Prelude.{◌≡◌, ◌⊎◌, ◌+◌, ◌*◌, ◌≤◌, ℕ, Bool, true, false, List, [], length, Option, None, Some, Ok, IsOk}
+use Rattle.std.specs.List.{flat_map, AllByRecursion}
+use Rattle.pop3_wire.specs.Line.{IsLine, ended}
+use Rattle.pop3_wire.specs.Body.{IsContent, unstuffed, body_of}
+use Rattle.pop3_wire.specs.Reply.{IsFirstLine}
+use Rattle.pop3_wire.specs.Reading.{WholeReply, has_body}
+use Rattle.pop3_wire.specs.declared.reply.Status.TheVariants.{Positive}
+use Rattle.pop3_wire.specs.Fields.{number_and_size, number_and_id}
+use Rattle.pop3_wire.specs.Commands.{line_of}
+use Rattle.pop3_wire.specs.declared.command.Command.{Command}
+use Rattle.pop3_wire.specs.declared.command.Command.TheVariants.{User, Pass, Stat, UidlAll, ListAll, Retr, Dele, Rset, Quit}
+use Rattle.pop3_client.specs.declared.fault.Asked.{Asked}
+use Rattle.pop3_client.specs.declared.fault.Asked.TheVariants.{Greeting as ByGreeting, User as ByUser, Pass as ByPass, Stat as ByStat, Uidl as ByUidl, Retr as ByRetr, Dele as ByDele, Quit as ByQuit}
+use Rattle.pop3_client.specs.declared.fault.Asked.TheVariants.{List as ByList}
+
+-- a turn: the command that is sent, none for the greeting
+abbrev pub Turn : Type 0
+Turn = Option Command
+
+-- the octets that are sent for it
+abbrev pub turn_bytes : Turn → List ℕ
+turn_bytes None = []
+turn_bytes (Some command) = ended (line_of command)
+
+-- all that is sent for these turns
+abbrev pub asking : List Turn → List ℕ
+asking turns = flat_map turn_bytes turns
+
+abbrev pub greeting : Turn
+greeting = None
+
+abbrev pub user : List ℕ → Turn
+user name = Some (User name)
+
+abbrev pub pass : List ℕ → Turn
+pass password = Some (Pass password)
+
+abbrev pub stat : Turn
+stat = Some Stat
+
+abbrev pub uidl : Turn
+uidl = Some UidlAll
+
+abbrev pub list : Turn
+list = Some ListAll
+
+abbrev pub retr : ℕ → Turn
+retr number = Some (Retr number)
+
+abbrev pub dele : ℕ → Turn
+dele number = Some (Dele number)
+
+abbrev pub rset : Turn
+rset = Some Rset
+
+abbrev pub quit : Turn
+quit = Some Quit
+
+-- the turn whose refusal is told under this name; a refused RSET is told by nobody, and goes with QUIT
+abbrev pub Names : Asked → Turn → Type 0
+Names ByGreeting turn = turn ≡ greeting
+Names ByUser turn = (name : List ℕ) × (turn ≡ user name)
+Names ByPass turn = (password : List ℕ) × (turn ≡ pass password)
+Names ByStat turn = turn ≡ stat
+Names ByUidl turn = turn ≡ uidl
+Names ByList turn = turn ≡ list
+Names (ByRetr number) turn = turn ≡ retr number
+Names (ByDele number) turn = turn ≡ dele number
+Names ByQuit turn = (turn ≡ quit) ⊎ (turn ≡ rset)
+
+-- ---- limits
+
+-- the longest line in octets, its CR LF included, and the longest body, its end mark included
+abbrev pub line_limit : ℕ
+line_limit = 2048
+
+abbrev pub text_limit : ℕ
+text_limit = 268435456
+
+-- the most rows of a listing
+abbrev pub row_limit : ℕ
+row_limit = 100000
+
+-- with its CR LF a line stays within the limit
+abbrev pub IsShort : List ℕ → Type 0
+IsShort line = length line + 2 ≤ line_limit
+
+-- the most octets that are taken for a turn's reply: a listing's rows and its end mark are lines
+abbrev pub most : Turn → ℕ
+most (Some UidlAll) = line_limit + line_limit * (row_limit + 1)
+most (Some ListAll) = line_limit + line_limit * (row_limit + 1)
+most (Some (Retr number)) = line_limit + text_limit
+most _ = line_limit
+
+-- ---- replies that let the session go on
+
+-- whether the rest of a positive first line tells how many messages there are
+abbrev pub tells_count : Turn → Bool
+tells_count (Some Stat) = true
+tells_count _ = false
+
+-- what that rest has to be: it tells a count of at most 100,000 messages
+abbrev pub Fits : Turn → List ℕ → Type 0
+Fits turn rest = tells_count turn ≡ true → (count size : ℕ) × (number_and_size rest ≡ Ok (count, size)) × (count ≤ row_limit)
+
+-- whether a positive reply has a body
+abbrev pub gives_body : Turn → Bool
+gives_body None = false
+gives_body (Some command) = has_body command
+
+-- a listing is asked for
+abbrev pub IsListing : Turn → Type 0
+IsListing turn = (turn ≡ uidl) ⊎ (turn ≡ list)
+
+-- a line of a listing stands for a row
+abbrev pub IsRow : Turn → List ℕ → Type 0
+IsRow (Some UidlAll) line = IsOk (number_and_id (unstuffed line))
+IsRow (Some ListAll) line = IsOk (number_and_size (unstuffed line))
+IsRow _ line = ⊥
+
+-- what the lines of a body have to be
+abbrev pub LinesFit : Turn → List (List ℕ) → Type 0
+LinesFit (Some UidlAll) lines = (length lines ≤ row_limit) × AllByRecursion IsShort lines × AllByRecursion (IsRow uidl) lines
+LinesFit (Some ListAll) lines = (length lines ≤ row_limit) × AllByRecursion IsShort lines × AllByRecursion (IsRow list) lines
+LinesFit (Some (Retr number)) lines = length (body_of lines) ≤ text_limit
+LinesFit _ lines = ⊥
+
+-- the body of a reply, where it has to have one
+abbrev pub IsBody : Turn → Option (List (List ℕ)) → Type 0
+IsBody turn None = gives_body turn ≡ false
+IsBody turn (Some lines) = AllByRecursion IsContent lines × LinesFit turn lines
+
+-- a whole and positive reply that lets the session go on
+pub record IsGood (turn : Turn) (reply : WholeReply) : Type 0 where
+  pub rest : List ℕ
+  pub line : IsLine reply.first
+  pub short : IsShort reply.first
+  pub positive : IsFirstLine reply.first Positive rest
+  pub fits : Fits turn rest
+  pub body : IsBody turn reply.body

@@ -1,0 +1,108 @@
+//! What a session asks, and why it is cut.
+ghost use Rattle.std.specs.Prelude.{◌≡◌};
+ghost use Rattle.pop3_client.specs.Fault.{number_of};
+
+use std::alloc::{AllocError, AllocFailed};
+use thiserror::Error;
+
+/// What a reply answers.
+#[derive(Clone, Copy, Debug, PartialEq, Eq)]
+pub enum Asked {
+    /// Nothing: the greeting comes unasked.
+    Greeting,
+    /// `USER`
+    User,
+    /// `PASS`
+    Pass,
+    /// `STAT`
+    Stat,
+    /// `UIDL`
+    Uidl,
+    /// `LIST`
+    List,
+    /// `RETR`, with a message's number
+    Retr(u32),
+    /// `DELE`, with a message's number
+    Dele(u32),
+    /// `QUIT`
+    Quit,
+}
+
+/// Why a session is cut. Each has a number, which `cut N` shows.
+#[derive(Clone, Copy, Debug, PartialEq, Eq, Error)]
+pub enum Fault {
+    /// 1: the link gave 0 octets, and the reply isn't whole.
+    #[error("connection ended by the server")]
+    ConnectionEnded,
+    /// 2: the link refused a `recv`.
+    #[error("reading from the server failed")]
+    ReadFailed,
+    /// 3: the link refused a `send`.
+    #[error("writing to the server failed")]
+    WriteFailed,
+    /// 4: 2,048 octets hold no whole line.
+    #[error("reply line too long")]
+    ReplyTooLong,
+    /// 5: a first line is neither positive nor negative, or doesn't carry what STAT asks.
+    #[error("reply not understood")]
+    BadReply,
+    /// 6: the reply to this is negative.
+    #[error("server refused a command")]
+    Refused(Asked),
+    /// 7: a row of a listing can't be read.
+    #[error("listing not understood")]
+    BadListing,
+    /// 8: both listings are whole, and don't fit the count and one another.
+    #[error("listings disagree")]
+    ListingsDisagree,
+    /// 9: there are more than 100,000 messages.
+    #[error("too many messages")]
+    TooMany,
+    /// 10: 268,435,456 octets hold no whole body.
+    #[error("message too long")]
+    TextTooLong,
+    /// 13: a growth was refused.
+    #[error("out of memory")]
+    NoMemory,
+}
+
+impl From<AllocError> for Fault {
+    ghost use Rattle.std.specs.Prelude.{◌≡◌};
+    ghost use Rattle.pop3_client.specs.declared.fault.Fault.TheVariants.{NoMemory};
+
+    ghost from_gives = { λ _ e. e ≡ NoMemory };
+
+    fn from(_error: AllocError) -> Fault {
+        Fault::NoMemory
+    }
+}
+
+impl<T: Drop> From<AllocFailed<T>> for Fault {
+    ghost use Rattle.std.specs.Prelude.{◌≡◌};
+    ghost use Rattle.pop3_client.specs.declared.fault.Fault.TheVariants.{NoMemory};
+
+    ghost from_gives = { λ _ e. e ≡ NoMemory };
+
+    fn from(_error: AllocFailed<T>) -> Fault {
+        Fault::NoMemory
+    }
+}
+
+/// The number of a fault.
+pub fn fault_number(fault: Fault) -> u8
+    ensures { result ≡ number_of fault }
+{
+    match fault {
+        Fault::ConnectionEnded => 1,
+        Fault::ReadFailed => 2,
+        Fault::WriteFailed => 3,
+        Fault::ReplyTooLong => 4,
+        Fault::BadReply => 5,
+        Fault::Refused(_) => 6,
+        Fault::BadListing => 7,
+        Fault::ListingsDisagree => 8,
+        Fault::TooMany => 9,
+        Fault::TextTooLong => 10,
+        Fault::NoMemory => 13,
+    }
+}
