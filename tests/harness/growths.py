@@ -1,14 +1,9 @@
 """Running a program with its first, its second and each further growth of memory refused, until none is."""
 
-import subprocess
-import tempfile
-from contextlib import contextmanager
 from dataclasses import dataclass
 from pathlib import Path
 
-from harness import programs
-
-SOURCE = programs.ROOT / "tests" / "refuse_growth.c"
+from harness import preload
 
 # A program of this size that grows more often than this on a short input grows without end.
 MOST_GROWTHS = 2000
@@ -34,19 +29,9 @@ class Refusal:
         self.note.unlink(missing_ok=True)
 
 
-@contextmanager
-def library():
-    """The library that refuses, built in a folder of its own."""
-    with tempfile.TemporaryDirectory() as folder:
-        built = Path(folder) / "refuse_growth.so"
-        subprocess.run(["cc", "-O1", "-Wall", "-Werror", "-shared", "-fPIC", "-o", built, SOURCE, "-ldl"], check=True,
-                       timeout=programs.SECONDS)
-        yield built
-
-
 def refusals():
     """One refusal for each growth in turn; the last one that is given out came too late to refuse anything."""
-    with library() as built:
+    with preload.library("refuse_growth") as built:
         for number in range(1, MOST_GROWTHS):
             refusal = Refusal(number, built.parent / f"refused-{number}", built)
             yield refusal

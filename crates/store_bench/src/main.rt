@@ -1,10 +1,11 @@
-//! Times two calls of `mail_store` on a Maildir in a folder. `bench/mail_store.py` runs it.
+//! Times two calls of `mail_store` on a Maildir in a folder, for `bench/mail_store.py`, and rewrites a
+//! file. The tests from outside watch what it asks of the system.
 #![tactic(auto)]
 
 ghost use Rattle.std.specs.Prelude.{◌≡◌, IfOk, length};
 
 use anyhow::{Result, ensure};
-use mail_store::{FolderMaildir, account_id, deliver, file_name, held};
+use mail_store::{FlatFile, FolderMaildir, HostFile, account_id, deliver, file_name, held};
 use mail_terms::{Listing, ScanRow, UidRow, have_legal_ids, is_legal_id};
 use std::alloc::Global;
 use std::env;
@@ -68,8 +69,22 @@ fn time_deliver(rt: &HostRuntime, path: &str, count: u32) -> Result<()> {
     Ok(())
 }
 
+/// Replaces a file by a text of 2,048 bytes, puts another one behind it and cuts that off again,
+/// `count` times.
+fn rewrite(rt: &HostRuntime, path: &str, count: u32) -> Result<()> {
+    let text = [b'x'; 2048];
+    let mut file = HostFile::at(rt, String::from_str(rt.alloc(), path)?);
+    for _ in 0..count {
+        file.replace(text.as_slice())?;
+        file.append(text.as_slice())?;
+        file.cut_to(2048)?;
+    }
+    println!(rt; "{count}")?;
+    Ok(())
+}
+
 fn tell_usage(rt: &HostRuntime) -> Result<()> {
-    println!(rt; "usage: store_bench held|deliver MAILDIR COUNT")?;
+    println!(rt; "usage: store_bench held|deliver|rewrite PATH COUNT")?;
     Ok(())
 }
 
@@ -83,6 +98,7 @@ fn main(rt: HostRuntime) -> Result<()> {
     match words[1].as_str() {
         "held" => time_held(&rt, path, count),
         "deliver" => time_deliver(&rt, path, count),
+        "rewrite" => rewrite(&rt, path, count),
         _ => tell_usage(&rt),
     }
 }

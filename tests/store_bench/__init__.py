@@ -1,0 +1,1 @@
+"""Tests of the stores over real folders, by the small program of their benchmark."""

@@ -1,0 +1,63 @@
+"""One run of the stores' small program in a folder of its own, and what it asked of the system."""
+
+import hashlib
+import tempfile
+from pathlib import Path
+
+from harness import preload, programs
+
+SIZE = 2048
+TEXT = b"x" * SIZE
+ACCOUNT = hashlib.sha256(b"bench\x00110\x00bench").hexdigest()
+
+
+def name_of(number):
+    """The name of the file of a message, as the program delivers it."""
+    return ACCOUNT + "." + f"id-{number:05}".encode().hex()
+
+
+def make_maildir(path):
+    for name in ("tmp", "new", "cur"):
+        (path / name).mkdir(parents=True)
+
+
+def folder_for(test):
+    """An empty folder, by its whole path, which is there until the test is over."""
+    folder = tempfile.TemporaryDirectory()
+    test.addCleanup(folder.cleanup)
+    return Path(folder.name).resolve()
+
+
+class Watcher:
+    """Runs the program with its calls written down, each of its writes cut in two and one call refused."""
+
+    def __init__(self, library):
+        self.library = library
+
+    def run(self, work, word, path, count, refused=None):
+        """The run, and the calls: word, outcome and paths, taken from the folder `work`."""
+        note = work / "note"
+        note.unlink(missing_ok=True)
+        changes = {"LD_PRELOAD": str(self.library), "WATCH_NOTE": str(note)}
+        if refused is not None:
+            changes["WATCH_REFUSED"] = str(refused)
+        run = programs.run("store_bench", word, str(path), str(count), **changes)
+        lines = note.read_text().splitlines() if note.exists() else []
+        return run, [tuple(part.removeprefix(f"{work}/") for part in line.split("\t") if part) for line in lines]
+
+
+def watcher_for(tests):
+    """A `Watcher`, whose library is there until the class of tests is over."""
+    library = preload.library("watch_files")
+    watcher = Watcher(library.__enter__())
+    tests.addClassCleanup(library.__exit__, None, None, None)
+    return watcher
+
+
+def written(calls, path):
+    """How many bytes the writes at the front of the calls put into the file, and the calls behind them."""
+    count, place = 0, 0
+    while place < len(calls) and calls[place][0] == "write" and calls[place][2] == path:
+        count += int(calls[place][1])
+        place += 1
+    return count, calls[place:]

@@ -1,0 +1,124 @@
+/* Writes down what a program does to regular files and folders, cuts its writes in two, and refuses one of its calls.
+
+       cc -O1 -shared -fPIC -o watch_files.so watch_files.c -ldl
+       WATCH_NOTE=note WATCH_REFUSED=2 LD_PRELOAD=./watch_files.so PROGRAM ..
+
+   Each write, fsync, rename and unlink adds a line to the file `note`: its word, how many bytes were written or the
+   word `refused` or `failed` or `done`, and the paths, with tabs between. A write to a regular file takes the first
+   half of its bytes only, so that the program has to write the rest itself. Of the calls of fsync and rename the
+   second, here, answers -1 with EIO and does nothing; without WATCH_REFUSED none is refused. */
+
+#define _GNU_SOURCE
+#include <dlfcn.h>
+#include <errno.h>
+#include <fcntl.h>
+#include <limits.h>
+#include <stdio.h>
+#include <stdlib.h>
+#include <string.h>
+#include <sys/stat.h>
+#include <unistd.h>
+
+static ssize_t (*next_write)(int, const void *, size_t);
+static int (*next_fsync)(int);
+static int (*next_rename)(const char *, const char *);
+static int (*next_unlink)(const char *);
+static int note = -1;
+static long refused_call = -1;
+static long calls_seen = 0;
+
+__attribute__((constructor)) static void begin(void)
+{
+    const char *path = getenv("WATCH_NOTE");
+    const char *number = getenv("WATCH_REFUSED");
+
+    next_write = dlsym(RTLD_NEXT, "write");
+    next_fsync = dlsym(RTLD_NEXT, "fsync");
+    next_rename = dlsym(RTLD_NEXT, "rename");
+    next_unlink = dlsym(RTLD_NEXT, "unlink");
+    refused_call = number ? atol(number) : -1;
+    if (path)
+        note = open(path, O_WRONLY | O_CREAT | O_APPEND | O_CLOEXEC, 0600);
+}
+
+static void write_down(const char *word, const char *outcome, const char *first, const char *second)
+{
+    char line[3 * PATH_MAX];
+    int length = snprintf(line, sizeof line, "%s\t%s\t%s\t%s\n", word, outcome, first, second);
+
+    if (note >= 0 && next_write(note, line, length) != length)
+        abort();
+}
+
+/* The path of an open file. */
+static const char *path_of(int descriptor, char path[PATH_MAX])
+{
+    char link[64];
+    ssize_t length;
+
+    snprintf(link, sizeof link, "/proc/self/fd/%d", descriptor);
+    length = readlink(link, path, PATH_MAX - 1);
+    path[length < 0 ? 0 : length] = 0;
+    return path;
+}
+
+/* Counts a call of fsync or rename, and tells whether it is the one to refuse. */
+static int is_refused(void)
+{
+    if (++calls_seen != refused_call)
+        return 0;
+    errno = EIO;
+    return 1;
+}
+
+static const char *outcome_of(int answer)
+{
+    return answer == 0 ? "done" : "failed";
+}
+
+ssize_t write(int descriptor, const void *bytes, size_t size)
+{
+    struct stat about;
+    char path[PATH_MAX], count[32];
+    ssize_t written;
+
+    if (fstat(descriptor, &about) != 0 || !S_ISREG(about.st_mode))
+        return next_write(descriptor, bytes, size);
+    written = next_write(descriptor, bytes, size > 1 ? size / 2 : size);
+    snprintf(count, sizeof count, "%zd", written);
+    write_down("write", count, path_of(descriptor, path), "");
+    return written;
+}
+
+int fsync(int descriptor)
+{
+    char path[PATH_MAX];
+    int refused = is_refused();
+    int answer = refused ? -1 : next_fsync(descriptor);
+    int fault = errno;
+
+    write_down("fsync", refused ? "refused" : outcome_of(answer), path_of(descriptor, path), "");
+    errno = fault;
+    return answer;
+}
+
+int rename(const char *from, const char *to)
+{
+    int refused = is_refused();
+    int answer = refused ? -1 : next_rename(from, to);
+    int fault = errno;
+
+    write_down("rename", refused ? "refused" : outcome_of(answer), from, to);
+    errno = fault;
+    return answer;
+}
+
+int unlink(const char *path)
+{
+    int answer = next_unlink(path);
+    int fault = errno;
+
+    write_down("unlink", outcome_of(answer), path, "");
+    errno = fault;
+    return answer;
+}
