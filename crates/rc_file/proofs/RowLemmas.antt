@@ -1,5 +1,5 @@
 -- Reading a file line by line gives its rows.
-use Rattle.std.proofs.Common.{◌≡◌, ℕ, ◌+◌, ◌-◌, ◌<◌, ◌≤◌, suc, zero, Result, Ok, Err, List, [], ◌∷◌, ◌++◌, length, take, get_or, set, map, true, false, Option, Some, None, sym, ap, ◌∙◌, refl, arith}
+use Rattle.std.proofs.Common.{◌≡◌, ℕ, ◌+◌, ◌-◌, ◌<◌, ◌≤◌, suc, zero, Result, Ok, Err, List, [], ◌∷◌, ◌++◌, length, take, get_or, set, map, true, false, Option, Some, None, sym, ap, ◌∙◌, refl, inl, inr, arith}
 use Rattle.std.proofs.lemmas.List.{append-nil, append_assoc, map-append}
 use Rattle.std.specs.Char.{to_ascii_lowercase}
 use Rattle.rc_file.specs.LineRules.{RcLine, skipped, more, section, key, bad}
@@ -7,7 +7,7 @@ use Rattle.rc_file.specs.FileRows.{RcRow, section_row, key_row, bad_row, added, 
 use Rattle.rc_file.specs.RcMeaning.{first_bad}
 use Rattle.rc_file.specs.RowReading.{row_of, row_at, rows_in, continued_row, continued, section_in, last_section, is_key_row, ends_in_key, file_rows, AddsText, TakesLine}
 use Rattle.rc_file.specs.declared.fault.RcFault.{RcFault}
-use Rattle.rc_file.specs.declared.fault.RcFault.TheVariants.{TooLong, BadLine, MissingSection, MissingKey, UnknownType, BadValue, Unsupported, BadPath, Contradiction, NoMemory}
+use Rattle.rc_file.specs.declared.fault.RcFault.TheVariants.{BadLine}
 use Rattle.rc_file.specs.declared.row.ReadRow.{ReadRow}
 use Rattle.rc_file.specs.declared.row.Entry.{Entry}
 
@@ -157,25 +157,9 @@ more_taken read k row new n text (Ok done) same at_end h = λ lines.
     ∙ file_rows-more (rows_in (take k read)) (row_of row) n text lines h.0
     ∙ ap (λ (r : RcRow). file_rows (rows_in (take k read) ++ (r ∷ [])) (n + 1) lines) (sym h.1)
     ∙ ap (λ (rows : List RcRow). file_rows rows (n + 1) lines) (sym (rows_in-push (take k read) (set read k new) new (set_last read k new at_end)))
-more_taken read k row new n text (Err NoMemory) same at_end h = λ lines. tt
-more_taken read k row new n text (Err TooLong) same at_end h = λ lines.
-    first_bad-more read n text lines (ends_in_key-read read k row same at_end ∙ h.0) ∙ ap (λ (e : RcFault). Some e) (sym h.1)
-more_taken read k row new n text (Err (BadLine a)) same at_end h = λ lines.
-    first_bad-more read n text lines (ends_in_key-read read k row same at_end ∙ h.0) ∙ ap (λ (e : RcFault). Some e) (sym h.1)
-more_taken read k row new n text (Err (MissingSection a)) same at_end h = λ lines.
-    first_bad-more read n text lines (ends_in_key-read read k row same at_end ∙ h.0) ∙ ap (λ (e : RcFault). Some e) (sym h.1)
-more_taken read k row new n text (Err (MissingKey a)) same at_end h = λ lines.
-    first_bad-more read n text lines (ends_in_key-read read k row same at_end ∙ h.0) ∙ ap (λ (e : RcFault). Some e) (sym h.1)
-more_taken read k row new n text (Err (UnknownType a)) same at_end h = λ lines.
-    first_bad-more read n text lines (ends_in_key-read read k row same at_end ∙ h.0) ∙ ap (λ (e : RcFault). Some e) (sym h.1)
-more_taken read k row new n text (Err (BadValue a)) same at_end h = λ lines.
-    first_bad-more read n text lines (ends_in_key-read read k row same at_end ∙ h.0) ∙ ap (λ (e : RcFault). Some e) (sym h.1)
-more_taken read k row new n text (Err (Unsupported a)) same at_end h = λ lines.
-    first_bad-more read n text lines (ends_in_key-read read k row same at_end ∙ h.0) ∙ ap (λ (e : RcFault). Some e) (sym h.1)
-more_taken read k row new n text (Err BadPath) same at_end h = λ lines.
-    first_bad-more read n text lines (ends_in_key-read read k row same at_end ∙ h.0) ∙ ap (λ (e : RcFault). Some e) (sym h.1)
-more_taken read k row new n text (Err Contradiction) same at_end h = λ lines.
-    first_bad-more read n text lines (ends_in_key-read read k row same at_end ∙ h.0) ∙ ap (λ (e : RcFault). Some e) (sym h.1)
+more_taken read k row new n text (Err fault) same at_end (inl full) = λ lines. inl full
+more_taken read k row new n text (Err fault) same at_end (inr h) = λ lines.
+    inr (first_bad-more read n text lines (ends_in_key-read read k row same at_end ∙ h.0) ∙ ap (λ (e : RcFault). Some e) (sym h.1))
 
 pub more_misplaced : (read : List ReadRow) → length read ≡ 0 → ends_in_key (rows_in read) ≡ false
 more_misplaced read none = ap ends_in_key (rows_in-none read none)

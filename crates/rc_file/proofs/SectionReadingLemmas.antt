@@ -1,12 +1,11 @@
 -- The first faulty key, from the faults of single keys.
-use Rattle.std.proofs.Common.{◌≡◌, ℕ, List, [], ◌∷◌, ◌++◌, map, true, false, Option, Some, None, Result, Ok, Err, ap, sym, refl, ◌∙◌}
+use Rattle.std.proofs.Common.{◌≡◌, ℕ, List, [], ◌∷◌, ◌++◌, map, true, false, Option, Some, None, Result, Ok, Err, ap, sym, refl, ◌∙◌, inl, inr}
 use Rattle.rc_file.specs.SectionReading.{key_fault, MakesDestination, ReadsDestination}
 use Rattle.rc_file.specs.KeyTable.{value_fault, path}
 use Rattle.rc_file.specs.RcMeaning.{fault_at, first_fault, is_folder, value_of}
 use Rattle.rc_file.specs.FileRows.{RcRow}
 use Rattle.rc_file.specs.Settings.{maildir, mboxrd, is_destination}
 use Rattle.rc_file.specs.declared.fault.RcFault.{RcFault}
-use Rattle.rc_file.specs.declared.fault.RcFault.TheVariants.{TooLong, BadLine, MissingSection, MissingKey, UnknownType, BadValue, Unsupported, BadPath, Contradiction, NoMemory}
 use Rattle.rc_file.specs.declared.key.Key.{Key}
 use Rattle.rc_file.specs.declared.key.Key.TheVariants.{DestinationKind, Path}
 use Rattle.rc_file.specs.declared.settings.Dest.{Dest}
@@ -64,16 +63,10 @@ maildir_read rows text (Ok dest) found kind folder h = record {
   dest_is = h.0 ∙ ap maildir (text_found rows Path text found) ∙ rw folder;
   dest_valid = ap is_destination h.0 ∙ h.1;
 }
-maildir_read rows text (Err BadPath) found kind folder h = key_fault-next rows DestinationKind (Path ∷ []) kind ∙ key_fault-here rows Path [] BadPath (sym (path_fault rows text found) ∙ rw (folder, h))
-maildir_read rows text (Err NoMemory) found kind folder h = tt
-maildir_read rows text (Err TooLong) found kind folder h = absurd h
-maildir_read rows text (Err (BadLine a)) found kind folder h = absurd h
-maildir_read rows text (Err (MissingSection a)) found kind folder h = absurd h
-maildir_read rows text (Err (MissingKey a)) found kind folder h = absurd h
-maildir_read rows text (Err (UnknownType a)) found kind folder h = absurd h
-maildir_read rows text (Err (BadValue a)) found kind folder h = absurd h
-maildir_read rows text (Err (Unsupported a)) found kind folder h = absurd h
-maildir_read rows text (Err Contradiction) found kind folder h = absurd h
+maildir_read rows text (Err fault) found kind folder (inl full) = inl full
+maildir_read rows text (Err fault) found kind folder (inr bad) =
+    inr (key_fault-next rows DestinationKind (Path ∷ []) kind
+    ∙ key_fault-here rows Path [] fault (sym (path_fault rows text found) ∙ rw (folder, bad.1) (ap (λ (f : RcFault). Some f) (sym bad.0))))
 
 pub mboxrd_read : (rows : List RcRow) (text : List ℕ) (result : Result Dest RcFault) → value_of rows Path ≡ Some text → fault_at rows DestinationKind ≡ None → is_folder rows ≡ false → MakesDestination (mboxrd text) result → ReadsDestination rows result
 mboxrd_read rows text (Ok dest) found kind folder h = record {
@@ -81,13 +74,7 @@ mboxrd_read rows text (Ok dest) found kind folder h = record {
   dest_is = h.0 ∙ ap mboxrd (text_found rows Path text found) ∙ rw folder;
   dest_valid = ap is_destination h.0 ∙ h.1;
 }
-mboxrd_read rows text (Err BadPath) found kind folder h = key_fault-next rows DestinationKind (Path ∷ []) kind ∙ key_fault-here rows Path [] BadPath (sym (path_fault rows text found) ∙ rw (folder, h))
-mboxrd_read rows text (Err NoMemory) found kind folder h = tt
-mboxrd_read rows text (Err TooLong) found kind folder h = absurd h
-mboxrd_read rows text (Err (BadLine a)) found kind folder h = absurd h
-mboxrd_read rows text (Err (MissingSection a)) found kind folder h = absurd h
-mboxrd_read rows text (Err (MissingKey a)) found kind folder h = absurd h
-mboxrd_read rows text (Err (UnknownType a)) found kind folder h = absurd h
-mboxrd_read rows text (Err (BadValue a)) found kind folder h = absurd h
-mboxrd_read rows text (Err (Unsupported a)) found kind folder h = absurd h
-mboxrd_read rows text (Err Contradiction) found kind folder h = absurd h
+mboxrd_read rows text (Err fault) found kind folder (inl full) = inl full
+mboxrd_read rows text (Err fault) found kind folder (inr bad) =
+    inr (key_fault-next rows DestinationKind (Path ∷ []) kind
+    ∙ key_fault-here rows Path [] fault (sym (path_fault rows text found) ∙ rw (folder, bad.1) (ap (λ (f : RcFault). Some f) (sym bad.0))))

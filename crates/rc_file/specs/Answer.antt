@@ -1,26 +1,17 @@
 -- What an answer to an rc file has to be.
-use Rattle.std.specs.Prelude.{◌≡◌, List, map, Option, Some, None, Result, Ok, Err, Vec}
+use Rattle.std.specs.Prelude.{◌≡◌, ◌⊎◌, List, map, Option, Some, None, Result, Ok, Err, Vec}
 use Rattle.std.specs.declared.alloc.Global.{Global}
 use Rattle.rc_file.specs.RcMeaning.{Warned}
 use Rattle.rc_file.specs.WarningSearch.{warning_of}
 use Rattle.rc_file.specs.Settings.{Content, content_of}
 use Rattle.rc_file.specs.declared.fault.RcFault.{RcFault}
-use Rattle.rc_file.specs.declared.fault.RcFault.TheVariants.{TooLong, BadLine, MissingSection, MissingKey, UnknownType, BadValue, Unsupported, BadPath, Contradiction, NoMemory}
+use Rattle.rc_file.specs.declared.fault.RcFault.TheVariants.{NoMemory}
 use Rattle.rc_file.specs.declared.warning.Warning.{Warning}
 use Rattle.rc_file.specs.declared.settings.Settings.{Settings}
 
 -- the fault is what is meant, or a growth was refused
 abbrev pub IsFaultMeant : Option RcFault → RcFault → Type 0
-IsFaultMeant meant TooLong = meant ≡ Some TooLong
-IsFaultMeant meant (BadLine line) = meant ≡ Some (BadLine line)
-IsFaultMeant meant (MissingSection section) = meant ≡ Some (MissingSection section)
-IsFaultMeant meant (MissingKey key) = meant ≡ Some (MissingKey key)
-IsFaultMeant meant (UnknownType key) = meant ≡ Some (UnknownType key)
-IsFaultMeant meant (BadValue key) = meant ≡ Some (BadValue key)
-IsFaultMeant meant (Unsupported key) = meant ≡ Some (Unsupported key)
-IsFaultMeant meant BadPath = meant ≡ Some BadPath
-IsFaultMeant meant Contradiction = meant ≡ Some Contradiction
-IsFaultMeant meant NoMemory = Unit {0}
+IsFaultMeant meant fault = (fault ≡ NoMemory) ⊎ (meant ≡ Some fault)
 
 -- the fault of a result
 abbrev pub fault_in : {T : Type 0} → Result T RcFault → Option RcFault

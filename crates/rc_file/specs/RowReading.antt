@@ -1,5 +1,5 @@
 -- The rows of the program as values, and what it has read of a file.
-use Rattle.std.specs.Prelude.{◌≡◌, ℕ, ◌+◌, Bool, true, false, List, [], ◌∷◌, ◌++◌, map, Option, Some, None, Result, Ok, Err, Vec}
+use Rattle.std.specs.Prelude.{◌≡◌, ◌⊎◌, ℕ, ◌+◌, Bool, true, false, List, [], ◌∷◌, ◌++◌, map, Option, Some, None, Result, Ok, Err, Vec}
 use Rattle.std.specs.declared.alloc.Global.{Global}
 use Rattle.std.specs.String.{string_bytes}
 use Rattle.rc_file.specs.Answer.{IsFaultMeant}
@@ -36,8 +36,7 @@ is_key_row (bad_row line) = false
 -- a line is put behind the row's value, or there is none, or a growth was refused
 abbrev pub AddsText : RcRow → ℕ → List ℕ → Result (Unit {0}) RcFault → RcRow → Type 0
 AddsText old number text (Ok done) new = (is_key_row old ≡ true) × (new ≡ continued_row old (10 ∷ text))
-AddsText old number text (Err NoMemory) new = Unit {0}
-AddsText old number text (Err fault) new = (is_key_row old ≡ false) × (fault ≡ BadLine number)
+AddsText old number text (Err fault) new = (fault ≡ NoMemory) ⊎ ((is_key_row old ≡ false) × (fault ≡ BadLine number))
 
 -- the rows with this text behind the value of the last
 abbrev pub continued : List RcRow → List ℕ → List RcRow

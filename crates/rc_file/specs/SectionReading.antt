@@ -1,5 +1,5 @@
 -- What the readers of the sections answer.
-use Rattle.std.specs.Prelude.{◌≡◌, ◌≤◌, List, map, min, Option, None, Result, Ok, Err, false, IsTrue}
+use Rattle.std.specs.Prelude.{◌≡◌, ◌≤◌, ◌⊎◌, List, map, min, Option, None, Result, Ok, Err, false, IsTrue}
 use Rattle.std.specs.String.{string_bytes}
 use Rattle.mail_terms.specs.Credential.{is_credential}
 use Rattle.rc_file.specs.KeyTable.{retriever_keys, destination_keys, option_keys, all_keys}
@@ -10,7 +10,7 @@ use Rattle.rc_file.specs.Settings.{Destination, is_server, is_destination, desti
 use Rattle.rc_file.specs.declared.account.Options.{Options}
 use Rattle.rc_file.specs.declared.account.Retriever.{Retriever}
 use Rattle.rc_file.specs.declared.fault.RcFault.{RcFault}
-use Rattle.rc_file.specs.declared.fault.RcFault.TheVariants.{TooLong, BadLine, MissingSection, MissingKey, UnknownType, BadValue, Unsupported, BadPath, Contradiction, NoMemory}
+use Rattle.rc_file.specs.declared.fault.RcFault.TheVariants.{BadPath, NoMemory}
 use Rattle.rc_file.specs.declared.key.Key.{Key}
 use Rattle.rc_file.specs.declared.key.Key.TheVariants.{Server, Port, Username, Password, ReadAll, Delete, DeleteAfter, MaxSize, MaxCount, Verbose}
 use Rattle.rc_file.specs.declared.settings.Dest.{Dest}
@@ -33,19 +33,10 @@ pub record IsRetriever (rows : List RcRow) (retriever : Retriever) : Type 0 wher
   pub username_valid : IsTrue (is_credential (string_bytes retriever.username))
   pub password_valid : IsTrue (is_credential (string_bytes retriever.password))
 
--- the destination is this one, if its path is of the form that its type wants
+-- the destination is this one, if its path is of the form that its type wants, or a growth was refused
 abbrev pub MakesDestination : Destination → Result Dest RcFault → Type 0
 MakesDestination wanted (Ok dest) = (destination_of dest ≡ wanted) × IsTrue (is_destination wanted)
-MakesDestination wanted (Err BadPath) = is_destination wanted ≡ false
-MakesDestination wanted (Err NoMemory) = Unit {0}
-MakesDestination wanted (Err TooLong) = ⊥
-MakesDestination wanted (Err (BadLine line)) = ⊥
-MakesDestination wanted (Err (MissingSection section)) = ⊥
-MakesDestination wanted (Err (MissingKey key)) = ⊥
-MakesDestination wanted (Err (UnknownType key)) = ⊥
-MakesDestination wanted (Err (BadValue key)) = ⊥
-MakesDestination wanted (Err (Unsupported key)) = ⊥
-MakesDestination wanted (Err Contradiction) = ⊥
+MakesDestination wanted (Err fault) = (fault ≡ NoMemory) ⊎ ((fault ≡ BadPath) × (is_destination wanted ≡ false))
 
 pub record IsDestination (rows : List RcRow) (dest : Dest) : Type 0 where
   pub sound : key_fault rows destination_keys ≡ None

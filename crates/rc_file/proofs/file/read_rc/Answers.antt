@@ -1,4 +1,4 @@
-use Rattle.std.proofs.Common.{List, ap, sym, ◌∙◌, arith}
+use Rattle.std.proofs.Common.{List, ap, sym, ◌∙◌, inr, arith}
 use Rattle.std.proofs.lemmas.Result.{err_from_is_err_and}
 use Rattle.rc_file.specs.SectionReading.{key_fault}
 use Rattle.rc_file.specs.Answer.{fault_in}
@@ -13,7 +13,7 @@ use Rattle.rc_file.proofs.RcMeaningLemmas.{too_long_meant, bad_meant, retriever_
 use Rattle.rc_file.proofs.file.read_rc.Goals as goal
 
 pub returns-then-bytes-gt-RC_LIMIT-clause-meaning : goal.returns-then-bytes-gt-RC_LIMIT-clause-meaning
-returns-then-bytes-gt-RC_LIMIT-clause-meaning c = too_long_meant c.args.bytes.now (omega arith)
+returns-then-bytes-gt-RC_LIMIT-clause-meaning c = inr (too_long_meant c.args.bytes.now (omega arith))
 
 pub returns-in_err-rows-clause-meaning : goal.returns-in_err-rows-clause-meaning
 returns-in_err-rows-clause-meaning c =

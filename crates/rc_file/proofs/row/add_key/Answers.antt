@@ -1,4 +1,4 @@
-use Rattle.std.proofs.Common.{List, ℕ, [], ◌∷◌, ◌++◌, ◌+◌, ◌∙◌, ap, sym}
+use Rattle.std.proofs.Common.{List, ℕ, [], ◌∷◌, ◌++◌, ◌+◌, ◌∙◌, ap, sym, inr}
 use Rattle.std.specs.String.{string_bytes}
 use Rattle.rc_file.specs.FileRows.{RcRow, key_row}
 use Rattle.rc_file.specs.RowReading.{rows_in, file_rows}
@@ -7,8 +7,8 @@ use Rattle.rc_file.proofs.row.add_key.Goals as goal
 
 pub returns-in_default : goal.returns-in_default
 returns-in_default c =
-    λ lines. first_bad-key c.args.rows.now.items c.args.number c.args.word.now c.args.value.now lines
-    (key_misplaced c.args.rows.now.items c.deref.result.now c.deref.ensures.value c.in_default.ensures.item.3)
+    λ lines. inr (first_bad-key c.args.rows.now.items c.args.number c.args.word.now c.args.value.now lines
+    (key_misplaced c.args.rows.now.items c.deref.result.now c.deref.ensures.value c.in_default.ensures.item.3))
 
 pub returns : goal.returns
 returns c =

@@ -1,4 +1,4 @@
-use Rattle.std.proofs.Common.{◌∙◌, ap, ◌∷◌}
+use Rattle.std.proofs.Common.{◌∙◌, ap, ◌∷◌, inr}
 use Rattle.rc_file.specs.JudgedLine.{line_of}
 use Rattle.rc_file.specs.RcMeaning.{first_bad}
 use Rattle.rc_file.specs.RowReading.{rows_in, file_rows}
@@ -13,5 +13,5 @@ returns-in-Skipped c =
 
 pub returns-in-Bad : goal.returns-in-Bad
 returns-in-Bad c =
-    λ lines. ap (λ (line : JudgedLine). first_bad (file_rows (rows_in c.args.rows.now.items) c.args.number (line_of line ∷ lines))) c.in-Bad.is
-    ∙ first_bad-bad c.args.rows.now.items c.args.number lines
+    λ lines. inr (ap (λ (line : JudgedLine). first_bad (file_rows (rows_in c.args.rows.now.items) c.args.number (line_of line ∷ lines))) c.in-Bad.is
+    ∙ first_bad-bad c.args.rows.now.items c.args.number lines)

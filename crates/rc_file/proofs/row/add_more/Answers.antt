@@ -1,4 +1,4 @@
-use Rattle.std.proofs.Common.{arith, vec_len, ◌-◌, refl}
+use Rattle.std.proofs.Common.{arith, vec_len, ◌-◌, refl, inr}
 use Rattle.rc_file.proofs.RowLemmas.{more_taken, more_misplaced, first_bad-more}
 use Rattle.rc_file.proofs.row.add_more.Goals as goal
 
@@ -9,5 +9,5 @@ returns-in-Some c =
 
 pub returns-in-None : goal.returns-in-None
 returns-in-None c =
-    λ lines. first_bad-more c.args.rows.now.items c.args.number c.args.text.now lines
-    (more_misplaced c.args.rows.now.items (omega (arith, c.args.rows.now.ok.0, c.in-None.ensures.item.3)))
+    λ lines. inr (first_bad-more c.args.rows.now.items c.args.number c.args.text.now lines
+    (more_misplaced c.args.rows.now.items (omega (arith, c.args.rows.now.ok.0, c.in-None.ensures.item.3))))
