@@ -1,0 +1,241 @@
+-- Files of a Maildir: which ids they hold, what a delivery adds, and what a reader's move leaves.
+use Rattle.std.proofs.Common.{◌≡◌, ◌≤◌, ◌+◌, inl, inr, ℕ, suc, List, [], ◌∷◌, ◌++◌, Bool, true, false, not, cond, ◌&&◌, length, take, map, refl, sym, ◌∙◌, ap, subst, arith, append_assoc, length-append}
+use Rattle.std.specs.Prelude.{bytes_eq}
+use Rattle.std.specs.List.{filter, list_any, AllByRecursion, prefix_len}
+use Rattle.std.proofs.lemmas.Bool.{both_ways, cases_Bool, false_from_ne_true}
+use Rattle.mail_terms.specs.UniqueId.{is_legal_id}
+use Rattle.pop3_wire.specs.World.{Message}
+use Rattle.mail_store.specs.Maildir.{Maildir, File, file}
+use Rattle.mail_terms.specs.MaildirName.{base, is_colon}
+use Rattle.mail_store.specs.FileName.{name_of, names_id, is_held, IsAccountText}
+use Rattle.mail_store.proofs.NameLemmas.{base-name_of, name_of-injective}
+use Rattle.run_law.specs.Mails.{has_id, ids_of, texts_of}
+use Rattle.std.proofs.lemmas.List.Elements.{filter-append}
+use Rattle.run_law.specs.Accounts.{Account, files, copies, TakesOut, Renames, Moves, count_files, IsOther, KeepsOthers}
+use Rattle.run_law.proofs.Lists.{any-append, any_filter, any_swap, is_some, swap}
+use Rattle.run_law.proofs.Ids.{bytes_same, bytes_self, legal_is, has_texts}
+
+-- ---- held
+
+pub held_copies : (account : List ℕ) (state : Account) (id : List ℕ) → is_held account state.maildir id ≡ is_some (copies (files state) (name_of account id))
+held_copies account state id =
+    let p : File → Bool = λ (f : File). names_id account id f.name in
+    any-append p state.maildir.in_new state.maildir.in_cur
+    ∙ any_swap (list_any p state.maildir.in_new) (list_any p state.maildir.in_cur)
+    ∙ sym (any-append p state.maildir.in_cur state.maildir.in_new)
+    ∙ any_filter p (λ (f : File). f.content) (files state)
+
+-- what is held is what is done
+pub held_done : (account : List ℕ) (state : Account) (done : List Message) (id : List ℕ) → copies (files state) (name_of account id) ≡ texts_of done id
+    → is_held account state.maildir id ≡ has_id (ids_of done) id
+held_done account state done id e = held_copies account state id ∙ ap is_some e ∙ sym (has_texts done id)
+
+-- ---- copies
+
+pub copies-append : (fs gs : List File) (name : List ℕ) → copies (fs ++ gs) name ≡ copies fs name ++ copies gs name
+copies-append [] gs name = refl
+copies-append (f ∷ fs) gs name = by (bytes_eq name (base f.name)) (copies-append fs gs name)
+  where
+    test : File → Bool
+    test g = bytes_eq name (base g.name)
+
+    by : (b : Bool) → copies (fs ++ gs) name ≡ copies fs name ++ copies gs name
+        → map (λ (g : File). g.content) (cond b (f ∷ filter (λ (g : File). bytes_eq name (base g.name)) (fs ++ gs)) (filter (λ (g : File). bytes_eq name (base g.name)) (fs ++ gs)))
+        ≡ map (λ (g : File). g.content) (cond b (f ∷ filter (λ (g : File). bytes_eq name (base g.name)) fs) (filter (λ (g : File). bytes_eq name (base g.name)) fs)) ++ copies gs name
+    by true ih = ap (λ l. f.content ∷ l) ih
+    by false ih = ih
+
+-- the file of a message
+abbrev pub message_file : List ℕ → Message → File
+message_file account m = file (name_of account m.uid) m.text
+
+pub same_name : (account a b : List ℕ) → IsAccountText account → is_legal_id a ≡ true → is_legal_id b ≡ true
+    → bytes_eq (name_of account a) (base (name_of account b)) ≡ bytes_eq a b
+same_name account a b text la lb =
+    ap (bytes_eq (name_of account a)) (base-name_of account b text)
+    ∙ elim (cases_Bool (bytes_eq a b)) [
+      | inl same ↦ ap (λ x. bytes_eq (name_of account a) (name_of account x)) (sym (bytes_same a b same)) ∙ bytes_self (name_of account a) ∙ sym same
+      | inr other ↦ false_from_ne_true _ (λ t. both_ways (bytes_eq a b) other
+          (ap (bytes_eq a) (sym (name_of-injective legal_is account a b la lb (bytes_same _ _ t))) ∙ bytes_self a)) ∙ sym other
+    ]
+
+pub copies_messages : (account : List ℕ) (ms : List Message) (id : List ℕ) → IsAccountText account → is_legal_id id ≡ true
+    → AllByRecursion (λ (m : Message). is_legal_id m.uid ≡ true) ms → copies (map (message_file account) ms) (name_of account id) ≡ texts_of ms id
+copies_messages account [] id text l h = refl
+copies_messages account (m ∷ ms) id text l h =
+    ap (λ b. map (λ (g : File). g.content) (cond b (message_file account m ∷ rest) rest)) (same_name account id m.uid text l h.0)
+    ∙ by (bytes_eq id m.uid) (copies_messages account ms id text l h.1)
+  where
+    rest : List File
+    rest = filter (λ (g : File). bytes_eq (name_of account id) (base g.name)) (map (message_file account) ms)
+
+    by : (b : Bool) → map (λ (g : File). g.content) rest ≡ texts_of ms id
+        → map (λ (g : File). g.content) (cond b (message_file account m ∷ rest) rest)
+        ≡ map (λ (k : Message). k.text) (cond b (m ∷ filter (λ (k : Message). bytes_eq id k.uid) ms) (filter (λ (k : Message). bytes_eq id k.uid) ms))
+    by true ih = ap (λ t. m.text ∷ t) ih
+    by false ih = ih
+
+-- ---- bases
+
+base-cons : (x : ℕ) (xs : List ℕ) → base (x ∷ xs) ≡ cond (is_colon x) [] (x ∷ base xs)
+base-cons x xs = by (is_colon x)
+  where
+    count : ℕ
+    count = prefix_len (λ y. not (is_colon y)) xs
+
+    by : (b : Bool) → take (cond (not b) (1 + count) 0) (x ∷ xs) ≡ cond b [] (x ∷ take count xs)
+    by true = refl
+    by false = ap (λ k. take k (x ∷ xs)) (let e : 1 + count ≡ suc count = omega arith in e)
+
+pub base_with : (name suffix : List ℕ) → base (name ++ 58 ∷ suffix) ≡ base name
+base_with [] suffix = base-cons 58 suffix
+base_with (x ∷ xs) suffix = base-cons x (xs ++ 58 ∷ suffix) ∙ ap (λ t. cond (is_colon x) [] (x ∷ t)) (base_with xs suffix) ∙ sym (base-cons x xs)
+
+pub base_base : (name : List ℕ) → base (base name) ≡ base name
+base_base [] = refl
+base_base (x ∷ xs) = ap base (base-cons x xs) ∙ by (is_colon x) refl (base_base xs) ∙ sym (base-cons x xs)
+  where
+    by : (b : Bool) → is_colon x ≡ b → base (base xs) ≡ base xs → base (cond b [] (x ∷ base xs)) ≡ cond b [] (x ∷ base xs)
+    by true e ih = refl
+    by false e ih = base-cons x (base xs) ∙ ap (λ b. cond b [] (x ∷ base (base xs))) e ∙ ap (λ t. x ∷ t) ih
+
+-- ---- moves
+
+copies_around : (front back : List File) (f : File) (name : List ℕ) → copies (front ++ f ∷ back) name ≡ copies front name ++ (copies (f ∷ []) name ++ copies back name)
+copies_around front back f name = copies-append front (f ∷ back) name ∙ ap (λ k. copies front name ++ k) (copies-append (f ∷ []) back name)
+
+copies_renamed : (f g : File) (name : List ℕ) → base f.name ≡ base g.name → f.content ≡ g.content → copies (f ∷ []) name ≡ copies (g ∷ []) name
+copies_renamed f g name b c =
+    ap (λ n. map (λ (k : File). k.content) (cond (bytes_eq name n) (f ∷ []) [])) b ∙ by (bytes_eq name (base g.name))
+  where
+    by : (t : Bool) → map (λ (k : File). k.content) (cond t (f ∷ []) []) ≡ map (λ (k : File). k.content) (cond t (g ∷ []) [])
+    by true = ap (λ x. x ∷ []) c
+    by false = refl
+
+insert_last : {X : Type 0} (a b x : List X) → length (a ++ (x ++ b)) ≤ 1 → a ++ (x ++ b) ≡ (a ++ b) ++ x
+insert_last a b x l = ap (λ k. a ++ k) (swap x b (omega (arith, l, length-append a (x ++ b)))) ∙ sym (append_assoc a b x)
+
+inserted : {X : Type 0} (a b c d x : List X) → a ++ b ≡ c ++ d → length (a ++ (x ++ b)) ≤ 1 → c ++ (x ++ d) ≡ a ++ (x ++ b)
+inserted a b c d x e l =
+    let total : length (c ++ (x ++ d)) ≤ 1 = omega (arith, l, length-append a (x ++ b), length-append x b, length-append c (x ++ d), length-append x d, ap length e, length-append a b, length-append c d) in
+    insert_last c d x total ∙ ap (λ k. k ++ x) (sym e) ∙ sym (insert_last a b x l)
+
+-- a file is taken out and put anywhere, with the same base and content
+pub copies_moved : (front back first last : List File) (f g : File) (name : List ℕ) → front ++ back ≡ first ++ last → base f.name ≡ base g.name → f.content ≡ g.content
+    → length (copies (front ++ f ∷ back) name) ≤ 1 → copies (first ++ g ∷ last) name ≡ copies (front ++ f ∷ back) name
+copies_moved front back first last f g name e b c l =
+    copies_around first last g name
+    ∙ ap (λ k. copies first name ++ (k ++ copies last name)) (sym (copies_renamed f g name b c))
+    ∙ inserted (copies front name) (copies back name) (copies first name) (copies last name) (copies (f ∷ []) name)
+    (sym (copies-append front back name) ∙ ap (λ k. copies k name) e ∙ copies-append first last name)
+    (subst (λ (k : List (List ℕ)). length k ≤ 1) (copies_around front back f name) l)
+    ∙ sym (copies_around front back f name)
+
+-- every move is one file that is taken out and put in
+pub record OneMoves (before after : Account) : Type 0 where
+  pub front : List File
+  pub back : List File
+  pub first : List File
+  pub last : List File
+  pub old : File
+  pub new : File
+  pub was : files before ≡ front ++ old ∷ back
+  pub others : front ++ back ≡ first ++ last
+  pub is : files after ≡ first ++ new ∷ last
+  pub base_same : base old.name ≡ base new.name
+  pub content_same : old.content ≡ new.content
+  pub rows : after.rows ≡ before.rows
+
+one_taken : (before after : Account) → TakesOut before after → OneMoves before after
+one_taken before after t = record {
+  front = before.maildir.in_cur ++ t.taken.front;
+  back = t.taken.back;
+  first = before.maildir.in_cur;
+  last = t.taken.front ++ t.taken.back;
+  old = file t.name t.taken.content;
+  new = file (t.name ++ 58 ∷ t.suffix) t.taken.content;
+  was = ap (λ l. before.maildir.in_cur ++ l) t.taken.was ∙ sym (append_assoc before.maildir.in_cur t.taken.front (file t.name t.taken.content ∷ t.taken.back));
+  others = append_assoc before.maildir.in_cur t.taken.front t.taken.back;
+  is = ap (λ (m : Maildir). m.in_cur ++ m.in_new) t.taken.is
+      ∙ append_assoc before.maildir.in_cur (file (t.name ++ 58 ∷ t.suffix) t.taken.content ∷ []) (t.taken.front ++ t.taken.back);
+  base_same = sym (base_with t.name t.suffix);
+  content_same = refl;
+  rows = t.rows;
+}
+
+one_renamed : (before after : Account) → Renames before after → OneMoves before after
+one_renamed before after r = record {
+  front = r.front;
+  back = r.back ++ before.maildir.in_new;
+  first = r.first;
+  last = r.last ++ before.maildir.in_new;
+  old = r.moved;
+  new = file (base r.moved.name ++ 58 ∷ r.suffix) r.moved.content;
+  was = ap (λ l. l ++ before.maildir.in_new) r.was ∙ append_assoc r.front (r.moved ∷ r.back) before.maildir.in_new;
+  others = sym (append_assoc r.front r.back before.maildir.in_new) ∙ ap (λ l. l ++ before.maildir.in_new) r.others ∙ append_assoc r.first r.last before.maildir.in_new;
+  is = ap (λ l. l ++ after.maildir.in_new) r.is ∙ ap (λ l. (r.first ++ file (base r.moved.name ++ 58 ∷ r.suffix) r.moved.content ∷ r.last) ++ l) r.in_new
+      ∙ append_assoc r.first (file (base r.moved.name ++ 58 ∷ r.suffix) r.moved.content ∷ r.last) before.maildir.in_new;
+  base_same = sym (base_with (base r.moved.name) r.suffix ∙ base_base r.moved.name);
+  content_same = refl;
+  rows = r.rows;
+}
+
+pub one_moves : (before after : Account) → Moves before after → OneMoves before after
+one_moves before after (inl t) = one_taken before after t
+one_moves before after (inr r) = one_renamed before after r
+
+pub copies_after : (before after : Account) (o : OneMoves before after) (name : List ℕ) → length (copies (files before) name) ≤ 1 → copies (files after) name ≡ copies (files before) name
+copies_after before after o name l =
+    ap (λ fs. copies fs name) o.is
+    ∙ copies_moved o.front o.back o.first o.last o.old o.new name o.others o.base_same o.content_same (subst (λ (fs : List File). length (copies fs name) ≤ 1) o.was l)
+    ∙ ap (λ fs. copies fs name) (sym o.was)
+
+-- ---- files of other names
+
+abbrev pub is_counted : List ℕ → List ℕ → File → Bool
+is_counted name content f = bytes_eq name (base f.name) && bytes_eq content f.content
+
+count-append : (fs gs : List File) (name content : List ℕ) → count_files (fs ++ gs) name content ≡ count_files fs name content + count_files gs name content
+count-append fs gs name content = ap length (filter-append (is_counted name content) fs gs) ∙ length-append (filter (is_counted name content) fs) (filter (is_counted name content) gs)
+
+count_same : (f g : File) (name content : List ℕ) → base f.name ≡ base g.name → f.content ≡ g.content → count_files (f ∷ []) name content ≡ count_files (g ∷ []) name content
+count_same f g name content b c =
+    ap (λ n. length (cond (bytes_eq name n && bytes_eq content f.content) (f ∷ []) [])) b
+    ∙ ap (λ t. length (cond (bytes_eq name (base g.name) && bytes_eq content t) (f ∷ []) [])) c
+    ∙ by (bytes_eq name (base g.name) && bytes_eq content g.content)
+  where
+    by : (t : Bool) → length (cond t (f ∷ []) []) ≡ length (cond t (g ∷ []) [])
+    by true = refl
+    by false = refl
+
+pub moves_keep : (account : List ℕ) (before after : Account) → OneMoves before after → KeepsOthers account before after
+moves_keep account before after o name content other =
+    ap (λ fs. count_files fs name content) o.is ∙ moved ∙ ap (λ fs. count_files fs name content) (sym o.was)
+  where
+    moved : count_files (o.first ++ o.new ∷ o.last) name content ≡ count_files (o.front ++ o.old ∷ o.back) name content
+    moved =
+        let a : count_files (o.first ++ o.new ∷ o.last) name content ≡ count_files o.first name content + count_files (o.new ∷ o.last) name content = count-append o.first (o.new ∷ o.last) name content in
+        let b : count_files (o.new ∷ o.last) name content ≡ count_files (o.new ∷ []) name content + count_files o.last name content = count-append (o.new ∷ []) o.last name content in
+        let c : count_files (o.front ++ o.old ∷ o.back) name content ≡ count_files o.front name content + count_files (o.old ∷ o.back) name content = count-append o.front (o.old ∷ o.back) name content in
+        let d : count_files (o.old ∷ o.back) name content ≡ count_files (o.old ∷ []) name content + count_files o.back name content = count-append (o.old ∷ []) o.back name content in
+        let e : count_files o.front name content + count_files o.back name content ≡ count_files o.first name content + count_files o.last name content =
+        sym (count-append o.front o.back name content) ∙ ap (λ fs. count_files fs name content) o.others ∙ count-append o.first o.last name content in
+        let f : count_files (o.old ∷ []) name content ≡ count_files (o.new ∷ []) name content = count_same o.old o.new name content o.base_same o.content_same in
+        omega arith
+
+none_counted : (account : List ℕ) (ms : List Message) (name content : List ℕ) → IsAccountText account → IsOther account name
+    → AllByRecursion (λ (m : Message). is_legal_id m.uid ≡ true) ms → count_files (map (message_file account) ms) name content ≡ 0
+none_counted account [] name content text other h = refl
+none_counted account (m ∷ ms) name content text other h =
+    ap (λ b. length (cond (b && bytes_eq content m.text) (message_file account m ∷ filter (is_counted name content) (map (message_file account) ms)) (filter (is_counted name content) (map (message_file account) ms))))
+    (ap (bytes_eq name) (base-name_of account m.uid text) ∙ other m.uid h.0)
+    ∙ none_counted account ms name content text other h.1
+
+pub deliveries_keep : (account : List ℕ) (before after : Account) (ms : List Message) → IsAccountText account
+    → AllByRecursion (λ (m : Message). is_legal_id m.uid ≡ true) ms → files after ≡ files before ++ map (message_file account) ms → KeepsOthers account before after
+deliveries_keep account before after ms text h is name content other =
+    let a : count_files (files before ++ map (message_file account) ms) name content ≡ count_files (files before) name content + count_files (map (message_file account) ms) name content =
+    count-append (files before) (map (message_file account) ms) name content in
+    let b : count_files (map (message_file account) ms) name content ≡ 0 = none_counted account ms name content text other h in
+    let c : count_files (files after) name content ≡ count_files (files before ++ map (message_file account) ms) name content = ap (λ fs. count_files fs name content) is in
+    omega arith

@@ -1,0 +1,178 @@
+-- Ids of messages, and what a filter or a front keeps of them.
+use Rattle.std.proofs.Common.{◌≡◌, ◌≤◌, inl, inr, ℕ, zero, suc, List, [], ◌∷◌, ◌++◌, Bool, true, false, cond, ◌&&◌, ◌||◌, length, take, map, refl, sym, ◌∙◌, ap, subst, arith}
+use Rattle.std.specs.Prelude.{bytes_eq, Contains}
+use Rattle.std.specs.List.{filter, list_all, AllByRecursion}
+use Rattle.std.proofs.lemmas.Bool.{and_parts, both_ways, or_parts, or_cases, or_from, cases_Bool, false_from_ne_true, leb-true, ltb-true}
+use Rattle.std.proofs.lemmas.Slice.Eq.{bytes_eq-Decides}
+use Rattle.std.proofs.lemmas.List.Folds.{Any-from_list_any}
+use Rattle.std.proofs.lemmas.List.Sums.{AllPass-from_list_all}
+use Rattle.mail_terms.specs.UniqueId.{is_id_byte}
+use Rattle.pop3_wire.specs.World.{Message, HasDistinctIds}
+use Rattle.mail_terms.specs.UniqueId.{IsLegalId, HasIdRanges}
+use Rattle.run_law.specs.Mails.{has_id, ids_of, texts_of}
+use Rattle.run_law.proofs.Lists.{filter-map, any-map, any_filter, is_some}
+
+pub bytes_same : (a b : List ℕ) → bytes_eq a b ≡ true → a ≡ b
+bytes_same a b test = (bytes_eq-Decides a b).0 test
+
+pub bytes_self : (a : List ℕ) → bytes_eq a a ≡ true
+bytes_self a = (bytes_eq-Decides a a).1 refl
+
+pub bytes_swap : (a b : List ℕ) → bytes_eq a b ≡ bytes_eq b a
+bytes_swap a b = elim (cases_Bool (bytes_eq a b)) [
+  | inl t ↦ t ∙ sym ((bytes_eq-Decides b a).1 (sym (bytes_same a b t)))
+  | inr f ↦ f ∙ sym (false_from_ne_true _ (λ t. both_ways (bytes_eq a b) f ((bytes_eq-Decides a b).1 (sym (bytes_same b a t)))))
+]
+
+-- the length of a legal id, and its characters
+pub legal_is : (id : List ℕ) → IsLegalId id → HasIdRanges id
+legal_is id h =
+    let outer = and_parts _ (list_all is_id_byte id) h in
+    let inner = and_parts _ _ outer.0 in
+    let some : 1 ≤ length id = let l = ltb-true 0 (length id) inner.0 in omega (arith, l) in
+    let short : length id ≤ 70 = leb-true (length id) 70 inner.1 in
+    record {
+      some = some;
+      short = short;
+      characters = λ k d lt. let parts = and_parts _ _ (AllPass-from_list_all is_id_byte id outer.1 k d lt) in (leb-true 33 _ parts.0, leb-true _ 126 parts.1);
+    }
+
+-- ---- is an id among these
+
+has_cond : (q : Bool) (x : List ℕ) (f : List (List ℕ)) (id : List ℕ) → has_id (cond q (x ∷ f) f) id ≡ cond q (bytes_eq id x || has_id f id) (has_id f id)
+has_cond true x f id = refl
+has_cond false x f id = refl
+
+filtered_table : (q e h g p : Bool) → (e ≡ true → q ≡ p) → g ≡ (h && p) → cond q (e || g) g ≡ ((e || h) && p)
+filtered_table true true h g true s i = refl
+filtered_table true true h g false s i = absurd (both_ways false refl (sym (s refl)))
+filtered_table true false h g p s i = i
+filtered_table false true h g true s i = absurd (both_ways false refl (s refl))
+filtered_table false true true g false s i = i
+filtered_table false true false g false s i = i
+filtered_table false false h g p s i = i
+
+pub has_filtered : (p : List ℕ → Bool) (ids : List (List ℕ)) (id : List ℕ) → has_id (filter p ids) id ≡ (has_id ids id && p id)
+has_filtered p [] id = refl
+has_filtered p (x ∷ xs) id =
+    has_cond (p x) x (filter p xs) id
+    ∙ filtered_table (p x) (bytes_eq id x) (has_id xs id) (has_id (filter p xs) id) (p id) (λ e. ap p (sym (bytes_same id x e))) (has_filtered p xs id)
+
+pub ids_filtered : (p : List ℕ → Bool) (ms : List Message) (id : List ℕ) → has_id (ids_of (filter (λ (m : Message). p m.uid) ms)) id ≡ (has_id (ids_of ms) id && p id)
+ids_filtered p ms id = ap (λ l. has_id l id) (sym (filter-map p (λ (m : Message). m.uid) ms)) ∙ has_filtered p (ids_of ms) id
+
+pub has_texts : (ms : List Message) (id : List ℕ) → has_id (ids_of ms) id ≡ is_some (texts_of ms id)
+has_texts ms id = any-map (bytes_eq id) (λ (m : Message). m.uid) ms ∙ any_filter (λ (m : Message). bytes_eq id m.uid) (λ (m : Message). m.text) ms
+
+pub ids-append : (ms ns : List Message) → ids_of (ms ++ ns) ≡ ids_of ms ++ ids_of ns
+ids-append [] ns = refl
+ids-append (m ∷ ms) ns = ap (λ l. m.uid ∷ l) (ids-append ms ns)
+
+has_append : (xs ys : List (List ℕ)) (id : List ℕ) → has_id (xs ++ ys) id ≡ (has_id xs id || has_id ys id)
+has_append [] ys id = refl
+has_append (x ∷ xs) ys id = ap (λ b. bytes_eq id x || b) (has_append xs ys id) ∙ by (bytes_eq id x)
+  where
+    by : (b : Bool) → (b || (has_id xs id || has_id ys id)) ≡ ((b || has_id xs id) || has_id ys id)
+    by true = refl
+    by false = refl
+
+pub ids_both : (ms ns : List Message) (id : List ℕ) → has_id (ids_of (ms ++ ns)) id ≡ (has_id (ids_of ms) id || has_id (ids_of ns) id)
+ids_both ms ns id = ap (λ l. has_id l id) (ids-append ms ns) ∙ has_append (ids_of ms) (ids_of ns) id
+
+pub texts-append : (ms ns : List Message) (id : List ℕ) → texts_of (ms ++ ns) id ≡ texts_of ms id ++ texts_of ns id
+texts-append [] ns id = refl
+texts-append (m ∷ ms) ns id = by (bytes_eq id m.uid) (texts-append ms ns id)
+  where
+    by : (b : Bool) → texts_of (ms ++ ns) id ≡ texts_of ms id ++ texts_of ns id
+        → map (λ (k : Message). k.text) (cond b (m ∷ filter (λ (k : Message). bytes_eq id k.uid) (ms ++ ns)) (filter (λ (k : Message). bytes_eq id k.uid) (ms ++ ns)))
+        ≡ map (λ (k : Message). k.text) (cond b (m ∷ filter (λ (k : Message). bytes_eq id k.uid) ms) (filter (λ (k : Message). bytes_eq id k.uid) ms)) ++ texts_of ns id
+    by true ih = ap (λ l. m.text ∷ l) ih
+    by false ih = ih
+
+-- what holds of each message's id holds of any id among them
+pub all_at : (P : List ℕ → Type 0) (ms : List Message) (id : List ℕ) → AllByRecursion (λ (m : Message). P m.uid) ms → has_id (ids_of ms) id ≡ true → P id
+all_at P [] id h e = absurd (both_ways false refl e)
+all_at P (m ∷ ms) id h e = elim (or_cases (bytes_eq id m.uid) (has_id (ids_of ms) id) e) [
+  | inl same ↦ subst P (sym (bytes_same id m.uid same)) h.0
+  | inr more ↦ all_at P ms id h.1 more
+]
+
+pub all_ids_at : (P : List ℕ → Type 0) (ids : List (List ℕ)) (id : List ℕ) → AllByRecursion P ids → has_id ids id ≡ true → P id
+all_ids_at P [] id h e = absurd (both_ways false refl e)
+all_ids_at P (x ∷ xs) id h e = elim (or_cases (bytes_eq id x) (has_id xs id) e) [
+  | inl same ↦ subst P (sym (bytes_same id x same)) h.0
+  | inr more ↦ all_ids_at P xs id h.1 more
+]
+
+-- each message's id is among them
+pub each_in : (ms : List Message) → AllByRecursion (λ (m : Message). has_id (ids_of ms) m.uid ≡ true) ms
+each_in ms = go ms (λ id e. e)
+  where
+    go : (l : List Message) → ((id : List ℕ) → has_id (ids_of l) id ≡ true → has_id (ids_of ms) id ≡ true) → AllByRecursion (λ (m : Message). has_id (ids_of ms) m.uid ≡ true) l
+    go [] f = tt
+    go (m ∷ l) f = (
+      f m.uid (ap (λ b. b || has_id (ids_of l) m.uid) (bytes_self m.uid)),
+      go l (λ id e. f id (ap (λ b. bytes_eq id m.uid || b) e ∙ by (bytes_eq id m.uid))),
+    )
+      where
+        by : (b : Bool) → (b || true) ≡ true
+        by true = refl
+        by false = refl
+
+-- ---- distinct ids
+
+abbrev pub Distinct : List (List ℕ) → Type 0
+Distinct [] = Unit {0}
+Distinct (id ∷ ids) = (has_id ids id ≡ false) × Distinct ids
+
+contains_from : (ids : List (List ℕ)) (id : List ℕ) → has_id ids id ≡ true → Contains ids id
+contains_from ids id t =
+    let a = Any-from_list_any (bytes_eq id) ids t in
+    subst (Contains ids) (sym (bytes_same id a.1 a.4)) (a.0, a.2, a.3)
+
+pub distinct_is : (ms : List Message) → HasDistinctIds ms → Distinct (ids_of ms)
+distinct_is [] h = tt
+distinct_is (m ∷ ms) h = (false_from_ne_true _ (λ t. h.0 (contains_from (ids_of ms) m.uid t)), distinct_is ms h.1)
+
+none_take : (n : ℕ) (ms : List Message) (id : List ℕ) → has_id (ids_of ms) id ≡ false → has_id (ids_of (take n ms)) id ≡ false
+none_take zero ms id e = refl
+none_take (suc n) [] id e = refl
+none_take (suc n) (m ∷ ms) id e = let parts = or_parts _ _ e in or_from _ _ parts.0 (none_take n ms id parts.1)
+
+pub distinct_take : (n : ℕ) (ms : List Message) → Distinct (ids_of ms) → Distinct (ids_of (take n ms))
+distinct_take zero ms d = tt
+distinct_take (suc n) [] d = tt
+distinct_take (suc n) (m ∷ ms) d = (none_take n ms m.uid d.0, distinct_take n ms d.1)
+
+none_filter : (p : Message → Bool) (ms : List Message) (id : List ℕ) → has_id (ids_of ms) id ≡ false → has_id (ids_of (filter p ms)) id ≡ false
+none_filter p [] id e = refl
+none_filter p (m ∷ ms) id e = let parts = or_parts _ _ e in by (p m) parts.0 (none_filter p ms id parts.1)
+  where
+    by : (b : Bool) → bytes_eq id m.uid ≡ false → has_id (ids_of (filter p ms)) id ≡ false → has_id (ids_of (cond b (m ∷ filter p ms) (filter p ms))) id ≡ false
+    by true o ih = or_from _ _ o ih
+    by false o ih = ih
+
+pub distinct_filter : (p : Message → Bool) (ms : List Message) → Distinct (ids_of ms) → Distinct (ids_of (filter p ms))
+distinct_filter p [] d = tt
+distinct_filter p (m ∷ ms) d = by (p m) (none_filter p ms m.uid d.0) (distinct_filter p ms d.1)
+  where
+    by : (b : Bool) → has_id (ids_of (filter p ms)) m.uid ≡ false → Distinct (ids_of (filter p ms)) → Distinct (ids_of (cond b (m ∷ filter p ms) (filter p ms)))
+    by true o ih = (o, ih)
+    by false o ih = ih
+
+no_texts : (ms : List Message) (id : List ℕ) → has_id (ids_of ms) id ≡ false → texts_of ms id ≡ []
+no_texts [] id e = refl
+no_texts (m ∷ ms) id e = let parts = or_parts _ _ e in
+    ap (λ b. map (λ (k : Message). k.text) (cond b (m ∷ filter (λ (k : Message). bytes_eq id k.uid) ms) (filter (λ (k : Message). bytes_eq id k.uid) ms))) parts.0
+    ∙ no_texts ms id parts.1
+
+pub lone : (ms : List Message) (id : List ℕ) → Distinct (ids_of ms) → length (texts_of ms id) ≤ 1
+lone [] id d = omega arith
+lone (m ∷ ms) id d = by (bytes_eq id m.uid) refl (lone ms id d.1)
+  where
+    by : (b : Bool) → bytes_eq id m.uid ≡ b → length (texts_of ms id) ≤ 1
+        → length (map (λ (k : Message). k.text) (cond b (m ∷ filter (λ (k : Message). bytes_eq id k.uid) ms) (filter (λ (k : Message). bytes_eq id k.uid) ms))) ≤ 1
+    by true e ih =
+        let none : texts_of ms id ≡ [] = no_texts ms id (ap (λ i. has_id (ids_of ms) i) (bytes_same id m.uid e) ∙ d.0) in
+        omega (arith, ap length none)
+    by false e ih = ih

@@ -1,0 +1,118 @@
+-- The law over runs, by induction over the events.
+use Rattle.std.proofs.Common.{◌≡◌, ◌≤◌, inl, inr, ℕ, List, [], ◌∷◌, ◌++◌, true, false, length, take, refl, sym, ◌∙◌, ap, subst, arith, length-append}
+use Rattle.std.specs.List.{AllByRecursion}
+use Rattle.std.proofs.lemmas.Bool.{both_ways, or_parts, or_from}
+use Rattle.std.proofs.lemmas.List.{append-nil, take_at}
+use Rattle.mail_terms.specs.UniqueId.{is_legal_id}
+use Rattle.pop3_wire.specs.World.{Message}
+use Rattle.fetch_rules.specs.Record.{is_delivered}
+use Rattle.mail_store.specs.FileName.{is_held, name_of}
+use Rattle.run_law.specs.Mails.{has_id, ids_of, is_selected, selected, texts_of}
+use Rattle.run_law.specs.Accounts.{Account, files, copies, count_files}
+use Rattle.run_law.specs.Steps.{Leaves}
+use Rattle.run_law.specs.Runs.{Frame, IsFrame, Situation, Visit, Event, Visited, Moved, Visits, Run, Kept, after_event, Promises, KeptStaysKept, KeptHoldsExactly}
+use Rattle.run_law.proofs.Ids.{Distinct, distinct_is, distinct_filter, lone}
+use Rattle.run_law.proofs.Files.{held_done, one_moves, OneMoves, copies_after, moves_keep}
+use Rattle.run_law.proofs.VisitKept.{visit_kept, deletes_held, keeps_others, leaves_out}
+
+-- ---- an account whose files and rows stay
+
+abbrev HasSameFiles : Account → Account → Type 0
+HasSameFiles before after = (after.maildir.in_new ≡ before.maildir.in_new) × (after.maildir.in_cur ≡ before.maildir.in_cur)
+
+same_files : (before after : Account) → HasSameFiles before after → files after ≡ files before
+same_files before after h = ap (λ c. c ++ after.maildir.in_new) h.1 ∙ ap (λ n. before.maildir.in_cur ++ n) h.0
+
+none_vanish : (ids : List (List ℕ)) (begun : List (List ℕ)) → begun ≡ [] → AllByRecursion (λ id. has_id begun id ≡ true) ids → ids ≡ []
+none_vanish [] begun e h = refl
+none_vanish (id ∷ ids) begun e h = absurd (both_ways false refl (sym (ap (λ l. has_id l id) e) ∙ h.0))
+
+left_kept : (frame : Frame) (before : Situation) (v : Visit) → Kept frame before → Leaves before.account v.effect v.after
+    → AllByRecursion (λ id. has_id v.effect.begun id ≡ true) v.vanished → Kept frame (after_event before (Visited v))
+left_kept frame before v kept h vanished = record {
+  done = kept.done;
+  rest = kept.rest;
+  prefix = kept.prefix;
+  holds = λ id l. ap (λ f. copies f (name_of frame.account id)) (same_files before.account v.after (h.in_new, h.in_cur)) ∙ kept.holds id l;
+  recorded = λ id e. kept.recorded id (ap (λ r. is_delivered r id) (sym h.rows) ∙ e);
+  gone = subst (AllByRecursion (λ id. has_id (ids_of kept.done) id ≡ true)) (sym (append-nil before.gone) ∙ ap (λ l. before.gone ++ l) (sym (none_vanish v.vanished v.effect.begun h.begun vanished))) kept.gone;
+}
+
+left_promises : (frame : Frame) (before : Situation) (v : Visit) → Leaves before.account v.effect v.after → Promises frame before (Visited v)
+left_promises frame before v h = (
+  (λ ended. absurd (both_ways v.effect.ended h.ended ended)),
+  subst (AllByRecursion (λ id. is_held frame.account v.after.maildir id ≡ true)) (sym h.begun) tt,
+  λ name content other. ap (λ fs. count_files fs name content) (same_files before.account v.after (h.in_new, h.in_cur)),
+)
+
+-- ---- each id has one copy at most
+
+done_distinct : (frame : Frame) → IsFrame frame → (done rest : List Message) → selected frame.max_size frame.all ≡ done ++ rest → Distinct (ids_of done)
+done_distinct frame is done rest e =
+    front done rest (subst (λ (l : List Message). Distinct (ids_of l)) e (distinct_filter (is_selected frame.max_size) frame.all (distinct_is frame.all is.world.distinct)))
+  where
+    none : (xs ys : List Message) (id : List ℕ) → has_id (ids_of (xs ++ ys)) id ≡ false → has_id (ids_of xs) id ≡ false
+    none [] ys id h = refl
+    none (x ∷ xs) ys id h = let parts = or_parts _ _ h in or_from _ _ parts.0 (none xs ys id parts.1)
+
+    front : (xs ys : List Message) → Distinct (ids_of (xs ++ ys)) → Distinct (ids_of xs)
+    front [] ys d = tt
+    front (x ∷ xs) ys d = (none xs ys x.uid d.0, front xs ys d.1)
+
+one_copy : (frame : Frame) (state : Situation) → IsFrame frame → (kept : Kept frame state) → (id : List ℕ) → is_legal_id id ≡ true → length (copies (files state.account) (name_of frame.account id)) ≤ 1
+one_copy frame state is kept id l =
+    subst (λ (c : List (List ℕ)). length c ≤ 1) (sym (kept.holds id l)) (lone kept.done id (done_distinct frame is kept.done kept.rest kept.prefix))
+
+moved_kept : (frame : Frame) (before : Situation) (after : Account) → IsFrame frame → Kept frame before → OneMoves before.account after → Kept frame (after_event before (Moved after))
+moved_kept frame before after is kept o = record {
+  done = kept.done;
+  rest = kept.rest;
+  prefix = kept.prefix;
+  holds = λ id l. copies_after before.account after o (name_of frame.account id) (one_copy frame before is kept id l) ∙ kept.holds id l;
+  recorded = λ id e. kept.recorded id (ap (λ r. is_delivered r id) (sym o.rows) ∙ e);
+  gone = kept.gone;
+}
+
+-- ---- one event
+
+visited : (frame : Frame) (before : Situation) (v : Visit) → IsFrame frame → Kept frame before → Visits frame before v
+    → Kept frame (after_event before (Visited v)) × Promises frame before (Visited v)
+visited frame before v is kept h = elim h.step [
+  | inl left ↦ (left_kept frame before v kept left h.vanished, left_promises frame before v left)
+  | inr (stores, honest) ↦ (
+    visit_kept frame is before v kept h.same stores honest h.vanished,
+    (
+      leaves_out frame is before v kept h.same stores honest,
+      deletes_held frame is before v kept h.same stores honest,
+      keeps_others frame is before v kept h.same stores honest,
+    ),
+  )
+]
+
+pub happened : (frame : Frame) (before : Situation) (event : Event) → IsFrame frame → Kept frame before → Run frame before (event ∷ [])
+    → Kept frame (after_event before event) × Promises frame before event
+happened frame before (Visited v) is kept h = visited frame before v is kept h.0
+happened frame before (Moved after) is kept h =
+    let o = one_moves before.account after h.0 in
+    (moved_kept frame before after is kept o, moves_keep frame.account before.account after o)
+
+pub kept_states : KeptStaysKept
+kept_states frame start [] is kept run = (kept, tt)
+kept_states frame start (event ∷ events) is kept run =
+    let one = happened frame start event is kept (run.0, tt) in
+    let more = kept_states frame (after_event start event) events is one.0 run.1 in
+    (more.0, (one.1, one.0, more.1))
+
+-- ---- the headline's words
+
+pub holds_exactly : KeptHoldsExactly
+holds_exactly frame state is kept = record {
+  j = length kept.done;
+  below = let e = ap length kept.prefix in omega (arith, e, length-append kept.done kept.rest);
+  contents = λ id l. kept.holds id l ∙ ap (λ (ms : List Message). texts_of ms id) (sym front);
+  ids = λ id l. held_done frame.account state.account kept.done id (kept.holds id l) ∙ ap (λ (ms : List Message). has_id (ids_of ms) id) (sym front);
+  once = λ id l. one_copy frame state is kept id l;
+}
+  where
+    front : take (length kept.done) (selected frame.max_size frame.all) ≡ kept.done
+    front = ap (take (length kept.done)) kept.prefix ∙ take_at kept.done kept.rest (length kept.done) refl

@@ -1,0 +1,169 @@
+-- A session over an honest link is a visit of the law over runs.
+use Rattle.std.proofs.Common.{◌≡◌, ◌⊎◌, inl, inr, ◌-◌, ℕ, zero, suc, List, [], ◌∷◌, ◌++◌, Bool, true, false, length, map, take, refl, sym, ◌∙◌, ap, subst, Some, slice_get, slice_set}
+use Rattle.std.specs.List.{AllByRecursion}
+use Rattle.std.proofs.lemmas.Bool.{both_ways}
+use Rattle.pop3_wire.specs.declared.command.Command.{Command}
+use Rattle.pop3_wire.specs.declared.command.Command.TheVariants.{User, Pass, Stat, UidlAll, UidlOne, ListAll, ListOne, Retr, Dele, Rset, Noop, Top, Quit}
+use Rattle.pop3_wire.specs.World.{Message, maildrop_of}
+use Rattle.pop3_wire.specs.Honest.{Grants, Replies, no_marks}
+use Rattle.mail_terms.specs.Listing.{Item}
+use Rattle.rc_file.specs.declared.settings.Settings.{Settings}
+use Rattle.run_law.specs.Mails.{has_id, item_of, listing_of}
+use Rattle.run_law.specs.Accounts.{Account}
+use Rattle.run_law.specs.Steps.{Effect, IsHonest, AreTexts, wanted_at}
+use Rattle.run_law.specs.Readings.{AreGranted, IsNumbered, MarksAreAsked}
+use Rattle.run_law.specs.Runs.{Frame, Situation, Visit, Visited, Moved, Visits}
+use Rattle.run_law.specs.Sessions.{IsBegun, Reads, Session, IsMarked, Served, Link, Linked, Shifted, after_link, Links, LinksKeep}
+use Rattle.run_law.proofs.Sent.{same_commands}
+use Rattle.run_law.proofs.Replied.{honest_is_granted}
+use Rattle.run_law.proofs.Listed.{texts_are_messages, listing_is_maildrop}
+use Rattle.run_law.proofs.Laws.{happened}
+
+-- ---- marks
+
+set_marks : (marks : List Bool) (i place : ℕ) → slice_get (slice_set marks i true) place ≡ Some true → (slice_get marks place ≡ Some true) ⊎ (i ≡ place)
+set_marks [] i place e = inl e
+set_marks (b ∷ marks) zero zero e = inr refl
+set_marks (b ∷ marks) zero (suc place) e = inl e
+set_marks (b ∷ marks) (suc i) zero e = inl e
+set_marks (b ∷ marks) (suc i) (suc place) e = elim (set_marks marks i place e) [
+  | inl old ↦ inl old
+  | inr same ↦ inr (ap suc same)
+]
+
+none_true : {X : Type 0} (xs : List X) (place : ℕ) → slice_get (map (λ _. false) xs) place ≡ Some true → ⊥
+none_true [] place e = absurd cc
+none_true (x ∷ xs) zero e = absurd cc
+none_true (x ∷ xs) (suc place) e = none_true xs place e
+
+-- a mark was there before, or a DELE of its number is among the commands
+abbrev IsAsked : List Command → ℕ → Type 0
+IsAsked commands place = (front behind : List Command) × (number : ℕ) × (commands ≡ front ++ Dele number ∷ behind) × (number - 1 ≡ place)
+
+kept_mark : (marks next : List Bool) (command : Command) (commands : List Command) (place : ℕ) → next ≡ marks → slice_get next place ≡ Some true
+    → (slice_get marks place ≡ Some true) ⊎ IsAsked (command ∷ commands) place
+kept_mark marks next command commands place same e = inl (ap (λ (m : List Bool). slice_get m place) (sym same) ∙ e)
+
+one_mark : (drop : List Message) (marks : List Bool) (command : Command) (commands : List Command) (bytes : List ℕ) (next : List Bool) (place : ℕ)
+    → Grants drop marks command bytes next → slice_get next place ≡ Some true → (slice_get marks place ≡ Some true) ⊎ IsAsked (command ∷ commands) place
+one_mark drop marks (User name) commands bytes next place g e = kept_mark marks next (User name) commands place g.1 e
+one_mark drop marks (Pass word) commands bytes next place g e = kept_mark marks next (Pass word) commands place g.1 e
+one_mark drop marks Stat commands bytes next place g e = kept_mark marks next Stat commands place g.4 e
+one_mark drop marks UidlAll commands bytes next place g e = kept_mark marks next UidlAll commands place g.5 e
+one_mark drop marks (UidlOne n) commands bytes next place g e = absurd g
+one_mark drop marks ListAll commands bytes next place g e = kept_mark marks next ListAll commands place g.5 e
+one_mark drop marks (ListOne n) commands bytes next place g e = absurd g
+one_mark drop marks (Retr n) commands bytes next place g e = kept_mark marks next (Retr n) commands place g.7 e
+one_mark drop marks (Dele n) commands bytes next place g e = elim (set_marks marks (n - 1) place (ap (λ (m : List Bool). slice_get m place) (sym g.3) ∙ e)) [
+  | inl old ↦ inl old
+  | inr same ↦ inr ([], commands, n, refl, same)
+]
+one_mark drop marks Rset commands bytes next place g e = absurd (none_true marks place (ap (λ (m : List Bool). slice_get m place) (sym g.1) ∙ e))
+one_mark drop marks Noop commands bytes next place g e = kept_mark marks next Noop commands place g.1 e
+one_mark drop marks (Top n k) commands bytes next place g e = absurd g
+one_mark drop marks Quit commands bytes next place g e = kept_mark marks next Quit commands place g.1 e
+
+marks_from : (drop : List Message) (marks last : List Bool) (commands : List Command) (bytes : List ℕ) (place : ℕ) → Replies drop marks commands bytes last → slice_get last place ≡ Some true
+    → (slice_get marks place ≡ Some true) ⊎ IsAsked commands place
+marks_from drop marks last [] bytes place said e = inl (ap (λ (m : List Bool). slice_get m place) (sym said.1) ∙ e)
+marks_from drop marks last (command ∷ commands) bytes place said e = elim (marks_from drop said.2 last commands said.1 place said.5 e) [
+  | inr later ↦ inr (command ∷ later.0, later.1, later.2, ap (λ (cs : List Command). command ∷ cs) later.3, later.4)
+  | inl here ↦ elim said.4 [
+    | inl refused ↦ kept_mark marks said.2 command commands place refused.1 here
+    | inr grants ↦ one_mark drop marks command commands said.0 said.2 place grants here
+  ]
+]
+
+pub marks_are_asked : MarksAreAsked
+marks_are_asked drop sent got marks honest place e = elim (marks_from drop (no_marks drop) marks honest.commands honest.replies place honest.replied e) [
+  | inl old ↦ absurd (none_true drop place old)
+  | inr asked ↦ asked
+]
+
+-- ---- what went was begun
+
+begun_at : (listing : List Item) (begun : List (List ℕ)) (front behind : List Command) (number : ℕ) → AllByRecursion (IsBegun listing begun) (front ++ Dele number ∷ behind)
+    → (item : Item) × (slice_get listing (number - 1) ≡ Some item) × (has_id begun item.uid ≡ true)
+begun_at listing begun [] behind number h = h.0
+begun_at listing begun (command ∷ front) behind number h = begun_at listing begun front behind number h.1
+
+item_at : (drop : List Message) (place : ℕ) (m : Message) → slice_get drop place ≡ Some m → slice_get (listing_of drop) place ≡ Some (item_of m)
+item_at [] place m e = absurd cc
+item_at (x ∷ drop) zero m e = let same : x ≡ m = cc in ap (λ (y : Message). Some (item_of y)) same
+item_at (x ∷ drop) (suc place) m e = item_at drop place m e
+
+same_item : (a b : Item) → Some a ≡ Some b → a ≡ b
+same_item a b e = cc
+
+module _ (settings : Settings) (account : List ℕ) (before : Account) (sent got : List ℕ) (effect : Effect) (after : Account) (drop : List Message) (vanished : List (List ℕ))
+    (session : Session settings account before sent got effect after) (served : Served drop sent got vanished) where
+  same : served.honest.commands ≡ session.commands
+  same = same_commands served.honest.commands session.commands served.honest.asked.part session.asked.part served.numbers session.numbers served.honest.asked.sendable session.asked.sendable
+      served.honest.asked.no_line session.asked.no_line (sym served.honest.asked.whole ∙ session.asked.whole)
+
+  -- where the listing is the maildrop's, or nothing was begun
+  went_begun : (listing_is : (effect.begun ≡ []) ⊎ (effect.listing ≡ listing_of drop)) (id : List ℕ) → IsMarked drop served.marks id → has_id effect.begun id ≡ true
+  went_begun listing_is id m =
+      let asked = marks_are_asked drop sent got served.marks served.honest m.0 m.2 in
+      let begun = begun_at effect.listing effect.begun asked.0 asked.1 asked.2 (subst (AllByRecursion (IsBegun effect.listing effect.begun)) (sym same ∙ asked.3) session.begun) in
+      elim listing_is [
+        | inl none ↦ absurd (both_ways false refl (sym (ap (λ b. has_id b begun.0.uid) none) ∙ begun.2))
+        | inr is ↦
+            let item : begun.0 ≡ item_of m.1 = same_item begun.0 (item_of m.1) (sym begun.1 ∙ ap (slice_get effect.listing) asked.4 ∙ ap (λ l. slice_get l m.0) is ∙ item_at drop m.0 m.1 m.3) in
+            ap (has_id effect.begun) (sym (ap (λ (i : Item). i.uid) item ∙ m.4)) ∙ begun.2
+      ]
+
+  all_went : {P Q : List ℕ → Type 0} → ((id : List ℕ) → P id → Q id) → (ids : List (List ℕ)) → AllByRecursion P ids → AllByRecursion Q ids
+  all_went f [] h = tt
+  all_went f (id ∷ ids) h = (f id h.0, all_went f ids h.1)
+
+  pub vanished_begun : (effect.begun ≡ []) ⊎ (effect.listing ≡ listing_of drop) → AllByRecursion (λ id. has_id effect.begun id ≡ true) vanished
+  vanished_begun listing_is = all_went (went_begun listing_is) vanished served.marked
+
+  pub session_honest : Reads settings account before session.commands sent got effect → IsHonest settings account before drop effect
+  session_honest r = record { listing = listing; texts = subst (AreTexts drop (wanted_at settings account before effect)) (sym r.texts) (texts r.found (wanted_at settings account before effect) r.numbers numbered) }
+    where
+      granted : AreGranted drop (no_marks drop) (User r.name ∷ Pass r.word ∷ Stat ∷ UidlAll ∷ ListAll ∷ r.more) (r.user ∷ r.pass ∷ r.stat ∷ r.uidl ∷ r.list ∷ r.replies)
+      granted = honest_is_granted drop sent got served.marks (User r.name ∷ Pass r.word ∷ Stat ∷ UidlAll ∷ ListAll ∷ r.more) (r.user ∷ r.pass ∷ r.stat ∷ r.uidl ∷ r.list ∷ r.replies) served.honest served.numbers r.talked
+
+      listing : effect.listing ≡ listing_of drop
+      listing = listing_is_maildrop drop r.name r.word r.more r.user r.pass r.stat r.uidl r.list r.replies effect.listing r.talked.good granted r.listed
+
+      numbered : AllByRecursion (IsNumbered drop) r.found
+      numbered = texts_are_messages drop (no_marks drop) (User r.name ∷ Pass r.word ∷ Stat ∷ UidlAll ∷ ListAll ∷ r.more) (r.user ∷ r.pass ∷ r.stat ∷ r.uidl ∷ r.list ∷ r.replies) r.found r.talked.good granted r.retrieves
+
+      texts : (found : List (ℕ × List ℕ)) (wanted : List (ℕ × Item)) → map (λ (p : ℕ × List ℕ). p.0) found ≡ map (λ (p : ℕ × Item). p.0) (take (length found) wanted)
+          → AllByRecursion (IsNumbered drop) found → AreTexts drop wanted (map (λ (p : ℕ × List ℕ). p.1) found)
+      texts [] wanted e h = tt
+      texts (f ∷ found) [] e h = absurd cc
+      texts (f ∷ found) (w ∷ wanted) e h =
+          let head : f.0 ≡ w.0 = cc in
+          ((h.0.0, ap (λ n. slice_get drop (n - 1)) (sym head) ∙ h.0.1, h.0.2), texts found wanted (let tail : map (λ (p : ℕ × List ℕ). p.0) found ≡ map (λ (p : ℕ × Item). p.0) (take (length found) wanted) = cc in tail) h.1)
+
+abbrev pub visit_of : Link → Effect → Visit
+visit_of link effect = record { settings = link.settings; come = link.come; effect = effect; vanished = link.vanished; after = link.after }
+
+pub visits : (frame : Frame) (before : Situation) (link : Link) → (l : Links frame before link) → Visits frame before (visit_of link l.effect)
+visits frame before link l = elim l.session.step [
+  | inl left ↦ record {
+    same = l.same;
+    step = inl left;
+    vanished = vanished_begun link.settings frame.account before.account link.sent link.got l.effect link.after (maildrop_of frame.all link.come before.gone) link.vanished l.session l.served (inl left.begun);
+  }
+  | inr (stores, reads) ↦
+      let honest = session_honest link.settings frame.account before.account link.sent link.got l.effect link.after (maildrop_of frame.all link.come before.gone) link.vanished l.session l.served reads in
+      record {
+        same = l.same;
+        step = inr (stores, honest);
+        vanished = vanished_begun link.settings frame.account before.account link.sent link.got l.effect link.after (maildrop_of frame.all link.come before.gone) link.vanished l.session l.served (inr honest.listing);
+      }
+]
+
+pub links_keep : LinksKeep
+links_keep frame start [] is kept run = kept
+links_keep frame start (Linked link ∷ events) is kept run =
+    let one = happened frame start (Visited (visit_of link run.0.effect)) is kept (visits frame start link run.0, tt) in
+    (kept, (run.0.effect, run.0.session, one.1), links_keep frame (after_link start (Linked link)) events is one.0 run.1)
+links_keep frame start (Shifted after ∷ events) is kept run =
+    let one = happened frame start (Moved after) is kept (run.0, tt) in
+    (kept, one.1, links_keep frame (after_link start (Shifted after)) events is one.0 run.1)

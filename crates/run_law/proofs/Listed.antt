@@ -1,0 +1,239 @@
+-- What the replies to STAT, UIDL, LIST and RETR say of an honest server's maildrop.
+use Rattle.std.proofs.Common.{◌≡◌, ◌-◌, ◌+◌, ◌<◌, ℕ, zero, suc, List, [], ◌∷◌, ◌++◌, Bool, not, cond, length, map, get_or, refl, sym, ◌∙◌, ap, subst, arith, append_assoc, Some, Ok, Result, Contains}
+use Rattle.std.specs.List.{AllByRecursion, AllZip, enumerate_from, count_by}
+use Rattle.std.specs.List.Sorted.{IsPermutation}
+use Rattle.std.proofs.lemmas.List.{ext_get_or, length-map, get_or-map, get_or_default, append-nil, append_cancel_left}
+use Rattle.std.proofs.lemmas.List.Sorted.{Contains-permutation}
+use Rattle.std.proofs.lemmas.List.FromFn.{length-enumerate_from, get_or-enumerate_from}
+use Rattle.std.proofs.lemmas.List.Recursion.{is_count_by}
+use Rattle.pop3_wire.specs.declared.command.Command.{Command}
+use Rattle.pop3_wire.specs.declared.command.Command.TheVariants.{User, Pass, Stat, UidlAll, UidlOne, ListAll, ListOne, Retr, Dele, Rset, Noop, Top, Quit}
+use Rattle.pop3_wire.specs.declared.fault.WireFault.{WireFault}
+use Rattle.pop3_wire.specs.declared.reply.Status.TheVariants.{Positive}
+use Rattle.pop3_wire.specs.Line.{crlf, IsLine, ended}
+use Rattle.pop3_wire.specs.Body.{IsContent, unstuffed, Body}
+use Rattle.pop3_wire.specs.Reply.{IsFirstLine, without_space, indicator}
+use Rattle.pop3_wire.specs.Fields.{number_and_size}
+use Rattle.pop3_wire.specs.World.{Message}
+use Rattle.pop3_wire.specs.Honest.{SaysAnything, ListsAll, IsScanRow, IsUidRow, unmarked_from, Grants, no_marks}
+use Rattle.pop3_wire.proofs.LineLemmas.{first_line_same}
+use Rattle.pop3_wire.proofs.BodyLemmas.{one_body}
+use Rattle.mail_terms.specs.Listing.{Item}
+use Rattle.mail_terms.specs.declared.listing.UidRow.{UidRow}
+use Rattle.mail_terms.specs.declared.listing.ScanRow.{ScanRow}
+use Rattle.run_law.specs.Mails.{item_of, listing_of}
+use Rattle.run_law.specs.Readings.{Heard, body_bytes, heard_bytes, IsBody, IsGood, IsNumbered, TextsAreMessages, IsUidLine, IsScanLine, TellsCount, ListingIsMaildrop}
+use Rattle.run_law.proofs.Replied.{same_lines}
+
+-- ---- texts
+
+behind_first : (a b x y : List ℕ) → IsLine a → IsLine b → ended a ++ x ≡ ended b ++ y → x ≡ y
+behind_first a b x y la lb e = (first_line_same a b x y la lb (sym (assoc a x) ∙ e ∙ assoc b y)).1
+  where
+    assoc : (l z : List ℕ) → ended l ++ z ≡ l ++ (crlf ++ z)
+    assoc l z = append_assoc l crlf z
+
+-- the text of a granted RETR is its message's
+pub text_is : (drop : List Message) (marks next : List Bool) (number : ℕ) (reply : Heard) (text : List ℕ) → IsGood (Retr number) reply
+    → Grants drop marks (Retr number) (heard_bytes reply) next → Body (body_bytes reply.body) text → IsNumbered drop (number, text)
+text_is drop marks next number reply text good g body =
+    let behind : g.1 ≡ body_bytes reply.body = behind_first g.4.1.line reply.first g.1 (body_bytes reply.body) g.4.1.is_line good.line
+    (ap (λ f. f ++ g.1) (sym g.4.1.whole) ∙ sym g.3) in
+    let same = one_body (body_bytes reply.body) g.1 text g.2.text [] [] body g.6 (ap (λ b. b ++ []) (sym behind)) in
+    (g.2, g.5.there, same.1)
+
+pub texts_are_messages : TextsAreMessages
+texts_are_messages drop marks commands [] found good are found_is = subst (AllByRecursion (IsNumbered drop)) (sym found_is) tt
+texts_are_messages drop marks [] (reply ∷ replies) found good are found_is = absurd good
+texts_are_messages drop marks (Retr number ∷ commands) (reply ∷ replies) found good are found_is =
+    subst (AllByRecursion (IsNumbered drop)) (sym found_is.3)
+    (text_is drop marks are.0 number reply found_is.0 good.0 are.1 found_is.2, texts_are_messages drop are.0 commands replies found_is.1 good.1 are.2 found_is.4)
+texts_are_messages drop marks (User name ∷ commands) (reply ∷ replies) found good are found_is = texts_are_messages drop are.0 commands replies found good.1 are.2 found_is
+texts_are_messages drop marks (Pass word ∷ commands) (reply ∷ replies) found good are found_is = texts_are_messages drop are.0 commands replies found good.1 are.2 found_is
+texts_are_messages drop marks (Stat ∷ commands) (reply ∷ replies) found good are found_is = texts_are_messages drop are.0 commands replies found good.1 are.2 found_is
+texts_are_messages drop marks (UidlAll ∷ commands) (reply ∷ replies) found good are found_is = texts_are_messages drop are.0 commands replies found good.1 are.2 found_is
+texts_are_messages drop marks (UidlOne n ∷ commands) (reply ∷ replies) found good are found_is = texts_are_messages drop are.0 commands replies found good.1 are.2 found_is
+texts_are_messages drop marks (ListAll ∷ commands) (reply ∷ replies) found good are found_is = texts_are_messages drop are.0 commands replies found good.1 are.2 found_is
+texts_are_messages drop marks (ListOne n ∷ commands) (reply ∷ replies) found good are found_is = texts_are_messages drop are.0 commands replies found good.1 are.2 found_is
+texts_are_messages drop marks (Dele n ∷ commands) (reply ∷ replies) found good are found_is = texts_are_messages drop are.0 commands replies found good.1 are.2 found_is
+texts_are_messages drop marks (Rset ∷ commands) (reply ∷ replies) found good are found_is = texts_are_messages drop are.0 commands replies found good.1 are.2 found_is
+texts_are_messages drop marks (Noop ∷ commands) (reply ∷ replies) found good are found_is = texts_are_messages drop are.0 commands replies found good.1 are.2 found_is
+texts_are_messages drop marks (Top n k ∷ commands) (reply ∷ replies) found good are found_is = texts_are_messages drop are.0 commands replies found good.1 are.2 found_is
+texts_are_messages drop marks (Quit ∷ commands) (reply ∷ replies) found good are found_is = texts_are_messages drop are.0 commands replies found good.1 are.2 found_is
+
+-- ---- rows
+
+fresh : (n : ℕ) (ms : List Message) → unmarked_from n ms (no_marks ms) ≡ enumerate_from n ms
+fresh n [] = refl
+fresh n (m ∷ ms) = ap (λ (l : List (ℕ × Message)). (n, m) ∷ l) (fresh (n + 1) ms)
+
+unmarked_count : List Bool → ℕ
+unmarked_count [] = 0
+unmarked_count (b ∷ bs) = cond (not b) (1 + unmarked_count bs) (unmarked_count bs)
+
+all_unmarked : (ms : List Message) → unmarked_count (no_marks ms) ≡ length ms
+unfolding unmarked_count
+all_unmarked [] = refl
+all_unmarked (m ∷ ms) = let ih = all_unmarked ms in omega arith
+
+counted : (bs : List Bool) → unmarked_count bs ≡ count_by not bs
+unfolding unmarked_count
+counted bs = is_count_by unmarked_count not refl (λ x xs. refl) bs
+
+pub fresh_count : (ms : List Message) → count_by not (no_marks ms) ≡ length ms
+fresh_count ms = sym (counted (no_marks ms)) ∙ all_unmarked ms
+
+-- rows of UIDL in the words of the session, against those of the server, over the same lines
+abbrev uid_pair : ℕ → List ℕ → ℕ × List ℕ
+uid_pair n x = (n, x)
+
+abbrev ok_uid : ℕ × List ℕ → Result (ℕ × List ℕ) WireFault
+ok_uid p = Ok p
+
+same_uid : (n m : ℕ) (x y : List ℕ) → ok_uid (n, x) ≡ ok_uid (m, y) → (n ≡ m) × (x ≡ y)
+same_uid n m x y e = let both : uid_pair n x ≡ uid_pair m y = cc in (ap (λ (p : ℕ × List ℕ). p.0) both, ap (λ (p : ℕ × List ℕ). p.1) both)
+
+abbrev scan_pair : ℕ → ℕ → ℕ × ℕ
+scan_pair n x = (n, x)
+
+abbrev ok_scan : ℕ × ℕ → Result (ℕ × ℕ) WireFault
+ok_scan p = Ok p
+
+same_scan : (n m x y : ℕ) → ok_scan (n, x) ≡ ok_scan (m, y) → (n ≡ m) × (x ≡ y)
+same_scan n m x y e = let both : scan_pair n x ≡ scan_pair m y = cc in (ap (λ (p : ℕ × ℕ). p.0) both, ap (λ (p : ℕ × ℕ). p.1) both)
+
+-- a row says its message's number and what a listing tells of it
+abbrev Tells : {R V : Type 0} → (R → ℕ) → (R → V) → (Message → V) → ℕ × Message → R → Type 0
+Tells number value of q row = (number row ≡ q.0) × (value row ≡ of q.1)
+
+abbrev uid_number : UidRow → ℕ
+uid_number row = row.number
+
+abbrev uid_value : UidRow → List ℕ
+uid_value row = row.uid.items
+
+abbrev scan_number : ScanRow → ℕ
+scan_number row = row.number
+
+abbrev scan_value : ScanRow → ℕ
+scan_value row = row.size
+
+abbrev uid_in : Message → List ℕ
+uid_in m = m.uid
+
+abbrev size_in : Message → ℕ
+size_in m = m.size
+
+-- rows as the session reads them, against those that the server wrote, over the same lines
+both_read : {R V : Type 0} (IsLineOf : List ℕ → R → Type 0) (IsRowOf : ℕ × Message → List ℕ → Type 0) (number : R → ℕ) (value : R → V) (of : Message → V)
+    → ((q : ℕ × Message) (line : List ℕ) (row : R) → IsRowOf q (unstuffed line) → IsLineOf line row → Tells number value of q row)
+    → (numbered : List (ℕ × Message)) (lines : List (List ℕ)) (rows : List R) → AllZip IsRowOf numbered (map unstuffed lines) → AllZip IsLineOf lines rows
+    → AllZip (Tells number value of) numbered rows
+both_read IsLineOf IsRowOf number value of f [] [] [] h k = tt
+both_read IsLineOf IsRowOf number value of f [] [] (row ∷ rows) h k = absurd k
+both_read IsLineOf IsRowOf number value of f [] (line ∷ lines) rows h k = absurd h
+both_read IsLineOf IsRowOf number value of f (q ∷ qs) [] rows h k = absurd h
+both_read IsLineOf IsRowOf number value of f (q ∷ qs) (line ∷ lines) [] h k = absurd k
+both_read IsLineOf IsRowOf number value of f (q ∷ qs) (line ∷ lines) (row ∷ rows) h k = (f q line row h.0 k.0, both_read IsLineOf IsRowOf number value of f qs lines rows h.1 k.1)
+
+zip_at : {X R : Type 0} (P : X → R → Type 0) (xs : List X) (rows : List R) → AllZip P xs rows → (j : ℕ) (d : X) → j < length xs
+    → (row : R) × (j < length rows) × (get_or rows j row ≡ row) × P (get_or xs j d) row
+zip_at P [] rows h j d l = absurd (omega arith)
+zip_at P (x ∷ xs) [] h j d l = absurd h
+zip_at P (x ∷ xs) (row ∷ rows) h zero d l = (row, omega arith, refl, h.0)
+zip_at P (x ∷ xs) (row ∷ rows) h (suc j) d l =
+    let r = zip_at P xs rows h.1 j d (omega (arith, l)) in (r.0, (let b = r.1 in omega (arith, b)), r.2, r.3)
+
+-- each message has a row, wherever it stands
+abbrev pair_of : ℕ → Message → ℕ × Message
+pair_of n m = (n, m)
+
+row_of_place : {R V : Type 0} (number : R → ℕ) (value : R → V) (of : Message → V) (drop : List Message) (numbered : List (ℕ × Message)) (rows : List R)
+    → IsPermutation (enumerate_from 1 drop) numbered → AllZip (Tells number value of) numbered rows → (k : ℕ) (d : Message) → k < length drop
+    → (j : ℕ) × (row : R) × (j < length rows) × (get_or rows j row ≡ row) × (number row ≡ 1 + k) × (value row ≡ of (get_or drop k d))
+row_of_place number value of drop numbered rows same zip k d inside =
+    let q : ℕ × Message = (1 + k, get_or drop k d) in
+    let there : Contains (enumerate_from 1 drop) q = (k, (omega (arith, inside, length-enumerate_from 1 drop)), get_or-enumerate_from 1 drop k q inside ∙ placed q.1) in
+    let c = Contains-permutation (enumerate_from 1 drop) numbered q same there in
+    let r = zip_at (Tells number value of) numbered rows zip c.0 q c.1 in
+    (c.0, r.0, r.1, r.2, r.3.0 ∙ ap (λ (p : ℕ × Message). p.0) c.2, r.3.1 ∙ ap (λ (p : ℕ × Message). of p.1) c.2)
+  where
+    placed : (e : Message) → pair_of (1 + k) (get_or drop k e) ≡ pair_of (1 + k) (get_or drop k d)
+    placed e = ap (pair_of (1 + k)) (get_or_default drop k e d inside)
+
+-- ---- the three replies
+
+-- the lines of a listing are those that the server wrote
+listed_lines : (IsRow : ℕ × Message → List ℕ → Type 0) (command : Command) (drop : List Message) (marks : List Bool) (reply : Heard) (first body : List ℕ) (lines : List (List ℕ))
+    → IsGood command reply → heard_bytes reply ≡ first ++ body → SaysAnything Positive first → (l : ListsAll IsRow drop marks body) → reply.body ≡ Some lines
+    → AllZip IsRow l.numbered (map unstuffed lines)
+listed_lines IsRow command drop marks reply first body lines good whole says l is =
+    subst (λ (ls : List (List ℕ)). AllZip IsRow l.numbered (map unstuffed ls)) same l.rows
+  where
+    behind : body ≡ body_bytes reply.body
+    behind = behind_first says.1.line reply.first body (body_bytes reply.body) says.1.is_line good.line (ap (λ f. f ++ body) (sym says.1.whole) ∙ sym whole)
+
+    content : AllByRecursion IsContent lines
+    content = (subst (IsBody command) is good.body).1
+
+    same : l.lines ≡ lines
+    same = (same_lines l.lines lines [] [] l.content content (ap (λ b. b ++ []) (sym l.whole ∙ behind ∙ ap body_bytes is))).0
+
+-- STAT's count
+rest_same : (line rest other : List ℕ) → IsFirstLine line Positive rest → IsFirstLine line Positive other → rest ≡ other
+rest_same line rest other p q = p.2 ∙ ap without_space (append_cancel_left (indicator Positive) p.0 q.0 (sym p.1 ∙ q.1)) ∙ sym q.2
+
+count_same : (drop : List Message) (marks next : List Bool) (stat : Heard) (count : ℕ) → IsGood Stat stat → Grants drop marks Stat (heard_bytes stat) next → TellsCount stat count
+    → count ≡ count_by not marks
+count_same drop marks next stat count good g tells =
+    let line : g.2.line ≡ stat.first = (first_line_same g.2.line stat.first [] (body_bytes stat.body) g.2.is_line good.line
+    (ap (λ l. g.2.line ++ l) (append-nil crlf) ∙ sym g.2.whole ∙ append_assoc stat.first crlf (body_bytes stat.body))).0 in
+    let rest : tells.0 ≡ g.0 = rest_same stat.first tells.0 g.0 tells.2 (subst (λ l. IsFirstLine l Positive g.0) line g.2.first) in
+    (same_scan count (count_by not marks) tells.1 g.1 (sym tells.3 ∙ ap number_and_size rest ∙ g.3)).0
+
+nobody : Message
+nobody = record { uid = []; size = 0; text = [] }
+
+same_item : (i : Item) (m : Message) → i.uid ≡ m.uid → i.size ≡ m.size → i ≡ item_of m
+same_item i m p q = λ t. record { uid = p t; size = q t }
+
+pub listing_is_maildrop : ListingIsMaildrop
+listing_is_maildrop drop name word commands user pass stat uidl list replies items good are listed =
+    ext_get_or (item_of nobody) items (listing_of drop) (total ∙ sym (length-map drop item_of))
+    (λ k l. let inside : k < length drop = omega (arith, l, total) in
+    same_item (get_or items k (item_of nobody)) (get_or drop k nobody) (uid_at k inside) (size_at k inside) ∙ sym (get_or-map item_of drop k nobody (item_of nobody) inside))
+  where
+    -- the marks stay
+    marks_two : are.2.0 ≡ no_marks drop
+    marks_two = are.2.1.1 ∙ are.1.1
+
+    marks_three : are.2.2.0 ≡ no_marks drop
+    marks_three = are.2.2.1.4 ∙ marks_two
+
+    marks_four : are.2.2.2.0 ≡ no_marks drop
+    marks_four = are.2.2.2.1.5 ∙ marks_three
+
+    total : length items ≡ length drop
+    total = listed.joined.count ∙ count_same drop are.2.0 are.2.2.0 stat listed.count good.1.1.0 are.2.2.1 listed.counts ∙ ap (count_by not) marks_two ∙ fresh_count drop
+
+    uid_at : (k : ℕ) → k < length drop → (get_or items k (item_of nobody)).uid ≡ (get_or drop k nobody).uid
+    uid_at k inside =
+        let g = are.2.2.2.1 in
+        let zip = listed_lines IsUidRow UidlAll drop are.2.2.0 uidl g.0 g.1 listed.named.0 good.1.1.1.0 g.2 g.3 g.4 listed.named.1 in
+        let pairs = both_read IsUidLine IsUidRow uid_number uid_value uid_in (λ q line row h r. same_uid _ _ _ _ (sym r ∙ h)) g.4.numbered listed.named.0 listed.uids zip listed.named.2 in
+        let same : IsPermutation (enumerate_from 1 drop) g.4.numbered = subst (λ (l : List (ℕ × Message)). IsPermutation l g.4.numbered) (ap (unmarked_from 1 drop) marks_three ∙ fresh 1 drop) g.4.all in
+        let r = row_of_place uid_number uid_value uid_in drop g.4.numbered listed.uids same pairs k nobody inside in
+        let number : r.1.number - 1 ≡ k = let n = r.4 in omega (arith, n) in
+        ap (λ j. (get_or items j (item_of nobody)).uid) (sym number ∙ ap (λ (row : UidRow). row.number - 1) (sym r.3))
+        ∙ listed.joined.ids r.0 r.1 r.2 (item_of nobody) ∙ ap (λ (row : UidRow). row.uid.items) r.3 ∙ r.5
+
+    size_at : (k : ℕ) → k < length drop → (get_or items k (item_of nobody)).size ≡ (get_or drop k nobody).size
+    size_at k inside =
+        let g = are.2.2.2.2.1 in
+        let zip = listed_lines IsScanRow ListAll drop are.2.2.2.0 list g.0 g.1 listed.sized.0 good.1.1.1.1.0 g.2 g.3 g.4 listed.sized.1 in
+        let pairs = both_read IsScanLine IsScanRow scan_number scan_value size_in (λ q line row h r. same_scan _ _ _ _ (sym r ∙ h)) g.4.numbered listed.sized.0 listed.sizes zip listed.sized.2 in
+        let same : IsPermutation (enumerate_from 1 drop) g.4.numbered = subst (λ (l : List (ℕ × Message)). IsPermutation l g.4.numbered) (ap (unmarked_from 1 drop) marks_four ∙ fresh 1 drop) g.4.all in
+        let r = row_of_place scan_number scan_value size_in drop g.4.numbered listed.sizes same pairs k nobody inside in
+        let number : r.1.number - 1 ≡ k = let n = r.4 in omega (arith, n) in
+        ap (λ j. (get_or items j (item_of nobody)).size) (sym number ∙ ap (λ (row : ScanRow). row.number - 1) (sym r.3))
+        ∙ listed.joined.octets r.0 r.1 r.2 (item_of nobody) ∙ ap (λ (row : ScanRow). row.size) r.3 ∙ r.5

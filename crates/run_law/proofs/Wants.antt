@@ -1,0 +1,191 @@
+-- Which messages of a maildrop are wanted, and which texts belong to them.
+use Rattle.std.proofs.Common.{◌≡◌, ◌≤◌, ◌≢◌, ◌+◌, ◌-◌, ℕ, zero, suc, List, [], ◌∷◌, ◌++◌, Bool, true, false, not, cond, ◌&&◌, ◌||◌, ◌==◌, length, take, drop, map, refl, sym, ◌∙◌, ap, arith, append_assoc, take-append-drop, Some, slice_get}
+use Rattle.std.specs.Prelude.{bytes_eq, zip}
+use Rattle.std.specs.List.{filter, enumerate_from, AllByRecursion}
+use Rattle.std.proofs.lemmas.Bool.{both_ways, or_parts}
+use Rattle.std.proofs.lemmas.List.{take-map, append-nil}
+use Rattle.std.proofs.lemmas.List.Elements.{All-from_recursion}
+use Rattle.std.proofs.lemmas.List.Kept.{AllPairs-cons}
+use Rattle.pop3_wire.specs.World.{Message}
+use Rattle.mail_terms.specs.Listing.{Item, HasDistinctIds}
+use Rattle.fetch_rules.specs.Record.{Row, is_delivered}
+use Rattle.fetch_rules.specs.Wanted.{is_within, is_asked_for, candidates, at_most, wanted}
+use Rattle.rc_file.specs.declared.settings.Settings.{Settings}
+use Rattle.run_law.proofs.DistinctLemmas.{candidates-distinct}
+use Rattle.mail_store.specs.Maildir.{Maildir}
+use Rattle.mail_store.specs.FileName.{is_held}
+use Rattle.run_law.specs.Mails.{has_id, ids_of, item_of, listing_of}
+use Rattle.run_law.specs.Steps.{AreTexts, file_for, is_unheld, ids_wanted}
+use Rattle.run_law.specs.Runs.{past_limit}
+use Rattle.run_law.proofs.Lists.{filter-map, map-map, all_take, all_filter}
+use Rattle.run_law.proofs.Ids.{Distinct, bytes_self}
+use Rattle.run_law.proofs.Files.{message_file}
+
+-- ---- the listing of distinct messages
+
+others : (m : Message) (ms : List Message) → has_id (ids_of ms) m.uid ≡ false → AllByRecursion (λ (id : List ℕ). m.uid ≢ id) (map (λ (i : Item). i.uid) (listing_of ms))
+others m [] e = tt
+others m (x ∷ ms) e =
+    let parts = or_parts _ _ e in
+    (λ same. both_ways (bytes_eq m.uid x.uid) parts.0 (ap (bytes_eq m.uid) (sym same) ∙ bytes_self m.uid), others m ms parts.1)
+
+pub listing_distinct : (ms : List Message) → Distinct (ids_of ms) → HasDistinctIds (listing_of ms)
+listing_distinct [] d = λ i j e before inside. absurd (omega arith)
+listing_distinct (m ∷ ms) d =
+    AllPairs-cons (λ (a b : List ℕ). a ≢ b) m.uid (map (λ (i : Item). i.uid) (listing_of ms))
+    (All-from_recursion (λ (id : List ℕ). m.uid ≢ id) (map (λ (i : Item). i.uid) (listing_of ms)) (others m ms d.0))
+    (listing_distinct ms d.1)
+
+-- ---- numbered messages
+
+abbrev pub num_item : ℕ × Message → ℕ × Item
+num_item q = (q.0, item_of q.1)
+
+abbrev pub asked : Settings → List Row → Message → Bool
+asked settings rows m = is_within settings.max_size m.size && (settings.read_all || not (is_delivered rows m.uid))
+
+abbrev pub offered : Settings → List Row → List Message → List Message
+offered settings rows ms = filter (asked settings rows) ms
+
+abbrev pub wants : Settings → List Row → List Message → List Message
+wants settings rows ms = at_most settings.max_count (offered settings rows ms)
+
+abbrev pub offered_by_number : Settings → List Row → List Message → List (ℕ × Message)
+offered_by_number settings rows ms = filter (λ (q : ℕ × Message). asked settings rows q.1) (enumerate_from 1 ms)
+
+abbrev pub wants_by_number : Settings → List Row → List Message → List (ℕ × Message)
+wants_by_number settings rows ms = at_most settings.max_count (offered_by_number settings rows ms)
+
+enumerate_map : (n : ℕ) (ms : List Message) → enumerate_from n (listing_of ms) ≡ map num_item (enumerate_from n ms)
+enumerate_map n [] = refl
+enumerate_map n (m ∷ ms) = ap (λ (l : List (ℕ × Item)). (n, item_of m) ∷ l) (enumerate_map (n + 1) ms)
+
+pub at_most-map : {X Y : Type 0} (f : X → Y) (n : ℕ) (xs : List X) → at_most n (map f xs) ≡ map f (at_most n xs)
+at_most-map f n xs = by (n == 0)
+  where
+    by : (b : Bool) → cond b (map f xs) (take n (map f xs)) ≡ map f (cond b xs (take n xs))
+    by true = refl
+    by false = take-map f n xs
+
+pub candidates_are : (settings : Settings) (rows : List Row) (ms : List Message) → Distinct (ids_of ms)
+    → candidates settings rows (listing_of ms) ≡ map num_item (offered_by_number settings rows ms)
+candidates_are settings rows ms d =
+    candidates-distinct settings rows (listing_of ms) (listing_distinct ms d)
+    ∙ ap (filter (is_asked_for settings rows)) (enumerate_map 1 ms)
+    ∙ filter-map (is_asked_for settings rows) num_item (enumerate_from 1 ms)
+
+pub wanted_are : (settings : Settings) (rows : List Row) (ms : List Message) → Distinct (ids_of ms)
+    → wanted settings rows (listing_of ms) ≡ map num_item (wants_by_number settings rows ms)
+wanted_are settings rows ms d = ap (at_most settings.max_count) (candidates_are settings rows ms d) ∙ at_most-map num_item settings.max_count (offered_by_number settings rows ms)
+
+abbrev pub snd : ℕ × Message → Message
+snd q = q.1
+
+snds : (p : Message → Bool) (n : ℕ) (ms : List Message) → map snd (filter (λ (q : ℕ × Message). p q.1) (enumerate_from n ms)) ≡ filter p ms
+snds p n [] = refl
+snds p n (m ∷ ms) = by (p m) (snds p (n + 1) ms)
+  where
+    rest : List (ℕ × Message)
+    rest = filter (λ (q : ℕ × Message). p q.1) (enumerate_from (n + 1) ms)
+
+    by : (b : Bool) → map snd rest ≡ filter p ms → map snd (cond b ((n, m) ∷ rest) rest) ≡ cond b (m ∷ filter p ms) (filter p ms)
+    by true ih = ap (λ l. m ∷ l) ih
+    by false ih = ih
+
+pub offered_snd : (settings : Settings) (rows : List Row) (ms : List Message) → map snd (offered_by_number settings rows ms) ≡ offered settings rows ms
+offered_snd settings rows ms = snds (asked settings rows) 1 ms
+
+pub wants_snd : (settings : Settings) (rows : List Row) (ms : List Message) → map snd (wants_by_number settings rows ms) ≡ wants settings rows ms
+wants_snd settings rows ms = sym (at_most-map snd settings.max_count (offered_by_number settings rows ms)) ∙ ap (at_most settings.max_count) (offered_snd settings rows ms)
+
+-- ---- each stands at its number
+
+abbrev pub Placed : List Message → ℕ × Message → Type 0
+Placed ms q = slice_get ms (q.0 - 1) ≡ Some q.1
+
+placed_from : (all ms : List Message) (k : ℕ) → ((i : ℕ) (m : Message) → slice_get ms i ≡ Some m → slice_get all (k + i) ≡ Some m) → AllByRecursion (Placed all) (enumerate_from (k + 1) ms)
+placed_from all [] k f = tt
+placed_from all (m ∷ ms) k f = (
+  ap (slice_get all) (let e : k + 1 - 1 ≡ k + 0 = omega arith in e) ∙ f 0 m refl,
+  placed_from all ms (k + 1) (λ i x e. ap (slice_get all) (let n : k + 1 + i ≡ k + suc i = omega arith in n) ∙ f (suc i) x e),
+)
+
+all_at_most : {X : Type 0} (P : X → Type 0) (n : ℕ) (xs : List X) → AllByRecursion P xs → AllByRecursion P (at_most n xs)
+all_at_most P n xs h = by (n == 0)
+  where
+    by : (b : Bool) → AllByRecursion P (cond b xs (take n xs))
+    by true = h
+    by false = all_take P n xs h
+
+pub wants_placed : (settings : Settings) (rows : List Row) (ms : List Message) → AllByRecursion (Placed ms) (wants_by_number settings rows ms)
+wants_placed settings rows ms =
+    all_at_most (Placed ms) settings.max_count (offered_by_number settings rows ms)
+    (all_filter (Placed ms) (λ (q : ℕ × Message). asked settings rows q.1) (enumerate_from 1 ms)
+    (placed_from ms ms 0 (λ i m e. ap (slice_get ms) (let n : 0 + i ≡ i = omega arith in n) ∙ e)))
+
+-- ---- texts
+
+abbrev pub with_text : ℕ × Message → (ℕ × Item) × List ℕ
+with_text q = (num_item q, q.1.text)
+
+same_some : (a b : Message) → Some a ≡ Some b → a ≡ b
+same_some a b e = cc
+
+pub zipped : (drop' : List Message) (qs : List (ℕ × Message)) (texts : List (List ℕ)) (n : ℕ) → AllByRecursion (Placed drop') qs
+    → AreTexts drop' (map num_item qs) texts → n ≤ length texts → zip (take n (map num_item qs)) texts ≡ map with_text (take n qs)
+zipped drop' qs texts zero h t l = refl
+zipped drop' [] texts (suc n) h t l = refl
+zipped drop' (q ∷ qs) [] (suc n) h t l = absurd (omega arith)
+zipped drop' (q ∷ qs) (text ∷ texts) (suc n) h t l =
+    let same : t.0.0 ≡ q.1 = same_some _ _ (sym t.0.1 ∙ h.0) in
+    let is : text ≡ q.1.text = t.0.2 ∙ ap (λ (m : Message). m.text) same in
+    ap (λ x. (num_item q, x) ∷ zip (take n (map num_item qs)) texts) is
+    ∙ ap (λ l. with_text q ∷ l) (zipped drop' qs texts n h.1 t.1 (omega (arith, l)))
+
+-- what is stored of numbered messages is a filter of the messages
+pub stored_files : (account : List ℕ) (maildir : Maildir) (qs : List (ℕ × Message))
+    → map (file_for account) (filter (is_unheld account maildir) (map with_text qs))
+    ≡ map (message_file account) (filter (λ (m : Message). not (is_held account maildir m.uid)) (map snd qs))
+stored_files account maildir qs =
+    ap (map (file_for account)) (filter-map (is_unheld account maildir) with_text qs)
+    ∙ map-map (file_for account) with_text kept
+    ∙ sym (map-map (message_file account) snd kept)
+    ∙ ap (map (message_file account)) (sym (filter-map (λ (m : Message). not (is_held account maildir m.uid)) snd qs))
+  where
+    kept : List (ℕ × Message)
+    kept = filter (λ (q : ℕ × Message). not (is_held account maildir q.1.uid)) qs
+
+-- the ids of numbered messages
+pub ids_are : (qs : List (ℕ × Message)) → ids_wanted (map num_item qs) ≡ ids_of (map snd qs)
+ids_are qs = map-map (λ (p : ℕ × Item). p.1.uid) num_item qs ∙ sym (map-map (λ (m : Message). m.uid) snd qs)
+
+-- ---- fronts
+
+pub begins : {X : Type 0} (n limit : ℕ) (xs : List X) → take n (at_most limit xs) ++ (drop n (at_most limit xs) ++ past_limit limit xs) ≡ xs
+begins n limit xs =
+    sym (append_assoc (take n (at_most limit xs)) (drop n (at_most limit xs)) (past_limit limit xs))
+    ∙ ap (λ l. l ++ past_limit limit xs) (take-append-drop n (at_most limit xs))
+    ∙ by (limit == 0)
+  where
+    by : (b : Bool) → cond b xs (take limit xs) ++ cond b [] (drop limit xs) ≡ xs
+    by true = append-nil xs
+    by false = take-append-drop limit xs
+
+drop-map : {X Y : Type 0} (f : X → Y) (k : ℕ) (l : List X) → drop k (map f l) ≡ map f (drop k l)
+drop-map f zero l = refl
+drop-map f (suc k) [] = refl
+drop-map f (suc k) (x ∷ l) = drop-map f k l
+
+pub past-map : {X Y : Type 0} (f : X → Y) (n : ℕ) (xs : List X) → past_limit n (map f xs) ≡ map f (past_limit n xs)
+past-map f n xs = by (n == 0)
+  where
+    by : (b : Bool) → cond b [] (drop n (map f xs)) ≡ map f (cond b [] (drop n xs))
+    by true = refl
+    by false = drop-map f n xs
+
+pub both_parts : {X : Type 0} (limit : ℕ) (xs : List X) → at_most limit xs ++ past_limit limit xs ≡ xs
+both_parts limit xs = by (limit == 0)
+  where
+    by : (b : Bool) → cond b xs (take limit xs) ++ cond b [] (drop limit xs) ≡ xs
+    by true = append-nil xs
+    by false = take-append-drop limit xs

@@ -1,0 +1,9 @@
+pub mod Accounts
+pub mod Chains
+pub mod Mails
+pub mod Plans
+pub mod Readings
+pub mod Runs
+pub mod Sessions
+pub mod Steps
+pub mod Told

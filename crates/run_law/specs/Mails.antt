@@ -1,0 +1,31 @@
+-- The messages of a maildrop: their ids, their listing, and which of them are selected.
+use Rattle.std.specs.Prelude.{ℕ, Bool, List, map, bytes_eq}
+use Rattle.std.specs.List.{filter, list_any}
+use Rattle.mail_terms.specs.Listing.{Item}
+use Rattle.fetch_rules.specs.Wanted.{is_within}
+use Rattle.pop3_wire.specs.World.{Message}
+
+-- whether an id is one of these
+abbrev pub has_id : List (List ℕ) → List ℕ → Bool
+has_id ids id = list_any (bytes_eq id) ids
+
+abbrev pub ids_of : List Message → List (List ℕ)
+ids_of ms = map (λ (m : Message). m.uid) ms
+
+-- what a listing says of a message
+abbrev pub item_of : Message → Item
+item_of m = record { uid = m.uid; size = m.size }
+
+abbrev pub listing_of : List Message → List Item
+listing_of ms = map item_of ms
+
+-- the messages whose listed size is within the limit, where 0 sets none
+abbrev pub is_selected : ℕ → Message → Bool
+is_selected limit m = is_within limit m.size
+
+abbrev pub selected : ℕ → List Message → List Message
+selected limit ms = filter (is_selected limit) ms
+
+-- the texts of the messages that have the id
+abbrev pub texts_of : List Message → List ℕ → List (List ℕ)
+texts_of ms id = map (λ (m : Message). m.text) (filter (λ (m : Message). bytes_eq id m.uid) ms)

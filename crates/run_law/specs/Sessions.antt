@@ -1,0 +1,102 @@
+-- Sessions told by what their links gained, and runs of them over one world.
+use Rattle.std.specs.Prelude.{◌≡◌, ◌⊎◌, ◌-◌, ℕ, Bool, true, List, [], ◌∷◌, ◌++◌, map, take, length, Some, slice_get}
+use Rattle.std.specs.List.{AllByRecursion}
+use Rattle.pop3_wire.specs.declared.command.Command.{Command}
+use Rattle.pop3_wire.specs.declared.command.Command.TheVariants.{User, Pass, Stat, UidlAll, ListAll, Dele, Quit}
+use Rattle.pop3_wire.specs.CommandLine.{HasNumbers}
+use Rattle.pop3_wire.specs.Honest.{Asked, Honest}
+use Rattle.pop3_wire.specs.World.{Message, maildrop_of}
+use Rattle.mail_terms.specs.Listing.{Item}
+use Rattle.rc_file.specs.declared.settings.Settings.{Settings}
+use Rattle.run_law.specs.Mails.{has_id}
+use Rattle.run_law.specs.Accounts.{Account, Moves}
+use Rattle.run_law.specs.Steps.{Effect, Leaves, Stores, wanted_at}
+use Rattle.run_law.specs.Readings.{Heard, Talked, Retrieves, IsListed}
+use Rattle.run_law.specs.Runs.{Frame, IsFrame, Situation, Visited, Moved, Kept, Promises}
+
+-- a DELE that was sent whole is among those begun, by the id of its number
+abbrev pub IsBegun : List Item → List (List ℕ) → Command → Type 0
+IsBegun listing begun (Dele number) = (item : Item) × (slice_get listing (number - 1) ≡ Some item) × (has_id begun item.uid ≡ true)
+IsBegun listing begun _ = Unit {0}
+
+-- what was read in the replies: the listing, and the texts of the first of the wanted messages
+pub record Reads (settings : Settings) (account : List ℕ) (before : Account) (commands : List Command) (sent got : List ℕ) (effect : Effect) : Type 0 where
+  pub name : List ℕ
+  pub word : List ℕ
+  pub more : List Command
+  pub commands_are : commands ≡ User name ∷ Pass word ∷ Stat ∷ UidlAll ∷ ListAll ∷ more
+  pub user : Heard
+  pub pass : Heard
+  pub stat : Heard
+  pub uidl : Heard
+  pub list : Heard
+  pub replies : List Heard
+  pub talked : Talked (User name ∷ Pass word ∷ Stat ∷ UidlAll ∷ ListAll ∷ more) (user ∷ pass ∷ stat ∷ uidl ∷ list ∷ replies) sent got
+  pub listed : IsListed stat uidl list effect.listing
+  pub found : List (ℕ × List ℕ)
+  pub retrieves : Retrieves (User name ∷ Pass word ∷ Stat ∷ UidlAll ∷ ListAll ∷ more) (user ∷ pass ∷ stat ∷ uidl ∷ list ∷ replies) found
+  pub texts : effect.texts ≡ map (λ (p : ℕ × List ℕ). p.1) found
+  pub numbers : map (λ (p : ℕ × List ℕ). p.0) found ≡ map (λ (p : ℕ × Item). p.0) (take (length found) (wanted_at settings account before effect))
+
+-- a session by what its link gained: it changed nothing, or it read the replies and stored texts
+pub record Session (settings : Settings) (account : List ℕ) (before : Account) (sent got : List ℕ) (effect : Effect) (after : Account) : Type 0 where
+  pub commands : List Command
+  pub asked : Asked commands sent
+  pub numbers : AllByRecursion HasNumbers commands
+  pub begun : AllByRecursion (IsBegun effect.listing effect.begun) commands
+  pub step : Leaves before effect after ⊎ (Stores settings account before effect after × Reads settings account before commands sent got effect)
+
+-- the id is that of a message that is marked
+abbrev pub IsMarked : List Message → List Bool → List ℕ → Type 0
+IsMarked drop marks id = (place : ℕ) × (message : Message) × (slice_get marks place ≡ Some true) × (slice_get drop place ≡ Some message) × (message.uid ≡ id)
+
+-- the link was honest, and of the messages that were marked after QUIT these went
+pub record Served (drop : List Message) (sent got : List ℕ) (vanished : List (List ℕ)) : Type 0 where
+  pub marks : List Bool
+  pub honest : Honest drop sent got marks
+  pub numbers : AllByRecursion HasNumbers honest.commands
+  pub quits : (vanished ≡ []) ⊎ ((front behind : List Command) × (honest.commands ≡ front ++ Quit ∷ behind))
+  pub marked : AllByRecursion (IsMarked drop marks) vanished
+
+-- one session over its link
+pub record Link : Type 0 where
+  pub settings : Settings
+  pub come : ℕ
+  pub sent : List ℕ
+  pub got : List ℕ
+  pub vanished : List (List ℕ)
+  pub after : Account
+
+pub data LinkEvent : Type 0 where
+  Linked : Link → LinkEvent
+  Shifted : Account → LinkEvent
+
+abbrev pub after_link : Situation → LinkEvent → Situation
+after_link before (Linked link) = record { account = link.after; gone = before.gone ++ link.vanished }
+after_link before (Shifted after) = record before { account = after }
+
+-- a session that its code did, over an honest link
+pub record Links (frame : Frame) (before : Situation) (link : Link) : Type 0 where
+  pub same : link.settings.max_size ≡ frame.max_size
+  pub effect : Effect
+  pub session : Session link.settings frame.account before.account link.sent link.got effect link.after
+  pub served : Served (maildrop_of frame.all link.come before.gone) link.sent link.got link.vanished
+
+-- each event follows from where the one before ended
+abbrev pub LinkRun : Frame → Situation → List LinkEvent → Type 0
+LinkRun frame before [] = Unit {0}
+LinkRun frame before (Linked link ∷ events) = Links frame before link × LinkRun frame (after_link before (Linked link)) events
+LinkRun frame before (Shifted after ∷ events) = Moves before.account after × LinkRun frame (after_link before (Shifted after)) events
+
+-- each session did something that keeps its promises, and each state is kept
+abbrev pub AllKept : Frame → Situation → List LinkEvent → Type 0
+AllKept frame before [] = Kept frame before
+AllKept frame before (Linked link ∷ events) = Kept frame before
+    × ((effect : Effect) × Session link.settings frame.account before.account link.sent link.got effect link.after
+    × Promises frame before (Visited (record { settings = link.settings; come = link.come; effect = effect; vanished = link.vanished; after = link.after })))
+    × AllKept frame (after_link before (Linked link)) events
+AllKept frame before (Shifted after ∷ events) = Kept frame before × Promises frame before (Moved after) × AllKept frame (after_link before (Shifted after)) events
+
+-- the headline over links
+abbrev pub LinksKeep : Type 0
+LinksKeep = (frame : Frame) (start : Situation) (events : List LinkEvent) → IsFrame frame → Kept frame start → LinkRun frame start events → AllKept frame start events

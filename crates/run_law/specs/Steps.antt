@@ -1,0 +1,88 @@
+-- What one session did to an account, told of states and lists of texts, and not of octets.
+use Rattle.std.specs.Prelude.{◌≡◌, ◌⊎◌, ◌≤◌, ◌-◌, ℕ, Bool, true, false, not, List, [], ◌∷◌, ◌++◌, map, take, zip, length, Some, slice_get}
+use Rattle.std.specs.List.{filter, AllByRecursion}
+use Rattle.mail_terms.specs.Listing.{Item}
+use Rattle.fetch_rules.specs.Record.{Row, is_delivered, marked, merged}
+use Rattle.fetch_rules.specs.Wanted.{wanted}
+use Rattle.rc_file.specs.declared.settings.Settings.{Settings}
+use Rattle.mail_store.specs.Maildir.{Maildir, File, file}
+use Rattle.mail_store.specs.FileName.{name_of, is_held}
+use Rattle.mail_store.specs.Held.{flags_of}
+use Rattle.pop3_wire.specs.World.{Message}
+use Rattle.run_law.specs.Mails.{listing_of}
+use Rattle.run_law.specs.Accounts.{Account}
+
+-- what of a session the law over runs speaks of
+pub record Effect : Type 0 where
+  pub now : ℕ
+  -- the joined listing
+  pub listing : List Item
+  -- the texts of the RETR replies that stand whole, in order
+  pub texts : List (List ℕ)
+  -- the ids for which a DELE was begun
+  pub begun : List (List ℕ)
+  -- whether the outcome is Ended
+  pub ended : Bool
+
+-- the record once the listing and the files were merged into it
+abbrev pub merged_rows : List ℕ → Account → Effect → List Row
+merged_rows account before effect = merged before.rows effect.listing (flags_of account before.maildir effect.listing) effect.now
+
+-- the messages that are fetched, with their numbers
+abbrev pub wanted_at : Settings → List ℕ → Account → Effect → List (ℕ × Item)
+wanted_at settings account before effect = wanted settings (merged_rows account before effect) effect.listing
+
+-- the ids of numbered messages
+abbrev pub ids_wanted : List (ℕ × Item) → List (List ℕ)
+ids_wanted messages = map (λ (p : ℕ × Item). p.1.uid) messages
+
+-- the rows, with delivered set for these ids, one after another
+abbrev pub marked_all : List Row → List (List ℕ) → List Row
+marked_all rows [] = rows
+marked_all rows (uid ∷ uids) = marked_all (marked rows uid) uids
+
+-- the file of a message and its text
+abbrev pub file_for : List ℕ → (ℕ × Item) × List ℕ → File
+file_for account pair = file (name_of account pair.0.1.uid) pair.1
+
+-- whether the message of a pair isn't held
+abbrev pub is_unheld : List ℕ → Maildir → (ℕ × Item) × List ℕ → Bool
+is_unheld account maildir pair = not (is_held account maildir pair.0.1.uid)
+
+-- nothing of the account was changed
+pub record Leaves (before : Account) (effect : Effect) (after : Account) : Type 0 where
+  pub rows : after.rows ≡ before.rows
+  pub in_new : after.maildir.in_new ≡ before.maildir.in_new
+  pub in_cur : after.maildir.in_cur ≡ before.maildir.in_cur
+  pub begun : effect.begun ≡ []
+  pub ended : effect.ended ≡ false
+
+-- the listing was joined, and as many of the wanted messages were stored and recorded
+pub record Stores (settings : Settings) (account : List ℕ) (before : Account) (effect : Effect) (after : Account) : Type 0 where
+  -- how many of the wanted are held, and how many of these are recorded
+  pub stored : ℕ
+  pub recorded : ℕ
+  pub order : recorded ≤ stored
+  pub fetched : stored ≤ length effect.texts
+  pub in_new : after.maildir.in_new ≡ before.maildir.in_new
+      ++ map (file_for account) (filter (is_unheld account before.maildir) (zip (take stored (wanted_at settings account before effect)) effect.texts))
+  pub in_cur : after.maildir.in_cur ≡ before.maildir.in_cur
+  pub rows : (after.rows ≡ before.rows)
+      ⊎ (after.rows ≡ marked_all (merged_rows account before effect) (ids_wanted (take recorded (wanted_at settings account before effect))))
+  pub begun : AllByRecursion (λ id. is_delivered after.rows id ≡ true) effect.begun
+  pub ended : effect.ended ≡ true → length (wanted_at settings account before effect) ≤ stored
+
+-- the text is that of the message of this number, counted from 1
+abbrev pub IsTextOf : List Message → ℕ × Item → List ℕ → Type 0
+IsTextOf drop wanted text = (message : Message) × (slice_get drop (wanted.0 - 1) ≡ Some message) × (text ≡ message.text)
+
+-- the texts are those of the first of these messages
+abbrev pub AreTexts : List Message → List (ℕ × Item) → List (List ℕ) → Type 0
+AreTexts drop wanted [] = Unit {0}
+AreTexts drop [] (text ∷ texts) = ⊥
+AreTexts drop (first ∷ wanted) (text ∷ texts) = IsTextOf drop first text × AreTexts drop wanted texts
+
+-- the server was honest: the listing is the maildrop's, and the texts are those of the wanted messages
+pub record IsHonest (settings : Settings) (account : List ℕ) (before : Account) (drop : List Message) (effect : Effect) : Type 0 where
+  pub listing : effect.listing ≡ listing_of drop
+  pub texts : AreTexts drop (wanted_at settings account before effect) effect.texts

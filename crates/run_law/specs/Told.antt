@@ -1,0 +1,34 @@
+-- A session told with its numbers: how many texts count as retrieved, and how many are recorded.
+use Rattle.std.specs.Prelude.{◌≡◌, ◌⊎◌, ◌+◌, ℕ, true, List, ◌++◌, map, take, zip, length}
+use Rattle.std.specs.List.{filter, AllByRecursion}
+use Rattle.fetch_rules.specs.Record.{is_delivered}
+use Rattle.rc_file.specs.declared.settings.Settings.{Settings}
+use Rattle.run_law.specs.Accounts.{Account}
+use Rattle.run_law.specs.Steps.{Effect, Stores, file_for, is_unheld, wanted_at, merged_rows, ids_wanted, marked_all}
+
+-- `new` gained the files of the first n of the wanted messages that weren't held
+abbrev pub Adds : Settings → List ℕ → Account → Effect → ℕ → Account → Type 0
+Adds settings account before effect n after = after.maildir.in_new ≡ before.maildir.in_new
+    ++ map (file_for account) (filter (is_unheld account before.maildir) (zip (take n (wanted_at settings account before effect)) effect.texts))
+
+-- the record is the merged one, with delivered set for the first n of the wanted messages
+abbrev pub Records : Settings → List ℕ → Account → Effect → ℕ → Account → Type 0
+Records settings account before effect n after =
+    after.rows ≡ marked_all (merged_rows account before effect) (ids_wanted (take n (wanted_at settings account before effect)))
+
+-- `retrieved` is k; where which fault allows one less or more is said with the faults
+pub record Told (settings : Settings) (account : List ℕ) (before : Account) (effect : Effect) (after : Account) : Type 0 where
+  pub k : ℕ
+  pub j : ℕ
+  pub number : (k ≡ length effect.texts) ⊎ (k + 1 ≡ length effect.texts)
+  pub maildir : Adds settings account before effect k after ⊎ ((k + 1 ≡ length effect.texts) × Adds settings account before effect (k + 1) after)
+  pub in_cur : after.maildir.in_cur ≡ before.maildir.in_cur
+  pub marks : (j ≡ k) ⊎ (j + 1 ≡ k)
+  pub rows : Records settings account before effect j after ⊎ (after.rows ≡ before.rows)
+  pub begun : AllByRecursion (λ id. is_delivered after.rows id ≡ true) effect.begun
+  pub ended : effect.ended ≡ true → k ≡ length (wanted_at settings account before effect)
+
+-- a law: a session so told is one that the law over runs takes
+abbrev pub ToldStores : Type 0
+ToldStores = (settings : Settings) (account : List ℕ) (before : Account) (effect : Effect) (after : Account)
+    → Told settings account before effect after → Stores settings account before effect after

@@ -1,0 +1,74 @@
+//! The law over runs of sessions: from a kept state every list of sessions and moves leads to a kept one.
+#![tactic(auto)]
+
+ghost use Rattle.run_law.specs.Runs.{CanEnd, KeptHoldsExactly, KeptStaysKept, StartsKept, WantsNext};
+ghost use Rattle.run_law.specs.Readings.{HonestIsGranted, ListingIsMaildrop, MarksAreAsked, TextsAreMessages};
+ghost use Rattle.run_law.specs.Chains.{ChainsKeep};
+ghost use Rattle.run_law.specs.Plans.{PlanGivesNumbers};
+ghost use Rattle.run_law.specs.Sessions.{LinksKeep};
+ghost use Rattle.run_law.specs.Told.{ToldStores};
+
+/// From a kept state every list of sessions and moves leads to a kept state, and each session keeps its promises.
+pub fn kept_states()
+    ensures { KeptStaysKept }
+{}
+
+/// A kept state holds exactly the first of the selected messages, each once.
+pub fn holds_exactly()
+    ensures { KeptHoldsExactly }
+{}
+
+/// An account with an empty record and no file of its own is kept while nothing is gone.
+pub fn starts_kept()
+    ensures { StartsKept }
+{}
+
+/// Of an honest conversation each whole and positive reply is what the command asks of the maildrop.
+pub fn honest_is_granted()
+    ensures { HonestIsGranted }
+{}
+
+/// Of granted replies the text of each RETR is its message's.
+pub fn texts_are_messages()
+    ensures { TextsAreMessages }
+{}
+
+/// Of granted replies a joined listing is the maildrop's.
+pub fn listing_is_maildrop()
+    ensures { ListingIsMaildrop }
+{}
+
+/// What is marked at the end of an honest conversation was asked for by DELE.
+pub fn marks_are_asked()
+    ensures { MarksAreAsked }
+{}
+
+/// Over honest links, from a kept state, every list of sessions and moves leads through kept states.
+pub fn links_keep()
+    ensures { LinksKeep }
+{}
+
+/// In every situation a session can end.
+pub fn can_end()
+    ensures { CanEnd }
+{}
+
+/// In a kept state what is wanted is the next of the selected messages that have come.
+pub fn wants_next()
+    ensures { WantsNext }
+{}
+
+/// The texts that a session retrieves are those of the first of the wanted messages.
+pub fn plan_gives_numbers()
+    ensures { PlanGivesNumbers }
+{}
+
+/// From a kept account, over honest links, a list of sessions leaves a kept account.
+pub fn chains_keep()
+    ensures { ChainsKeep }
+{}
+
+/// A session told with its numbers is one that the law over runs takes.
+pub fn told_stores()
+    ensures { ToldStores }
+{}
