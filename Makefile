@@ -13,7 +13,7 @@ SHELL := /bin/bash
 # The programs among the crates that crates.txt lists.
 crates := $(shell sed -e 's/\#.*//' -e 's/:.*//' crates.txt)
 programs := $(filter getmail popd,$(crates))
-benches := $(addprefix bench-,$(filter getmail popd store_bench,$(crates)))
+benches := $(addprefix bench-,$(filter getmail popd store_bench client_bench,$(crates)))
 
 .PHONY: all rehearse check test bench clean $(programs) $(benches)
 .NOTPARALLEL:
@@ -47,7 +47,11 @@ bench-getmail: getmail
 bench-popd: popd
 	@python3 bench/popd.py
 
-# The stores are measured through a small program of their own.
+# The client's conversation and the stores are measured through small programs of their own.
+bench-client_bench:
+	cd crates/client_bench && rt run > /dev/null
+	@python3 bench/pop3_client.py
+
 bench-store_bench:
 	cd crates/store_bench && rt run > /dev/null
 	@python3 bench/mail_store.py

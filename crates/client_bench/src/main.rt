@@ -1,0 +1,53 @@
+//! Holds a conversation with its standard input as the server, fetches each message piece by piece,
+//! and prints how many messages and how many octets of text there were. `bench/pop3_client.py` runs
+//! it.
+#![tactic(auto)]
+
+use anyhow::Result;
+use pop3_client::{count, fault_number, list, log_in, next_piece, open, quit};
+use pop3_wire::{LineReader, StreamWire, Wire};
+use std::alloc::Global;
+use std::io;
+
+/// The octets of a message's text.
+fn text_length<W: Wire>(
+    alloc: Global,
+    wire: &mut W,
+    reader: &mut LineReader,
+    number: u32,
+) -> Result<u64, pop3_client::Fault> {
+    let mut body = open(alloc, wire, reader, number)?;
+    let mut out = [0u8; 4097];
+    let mut length = 0u64;
+    for _ in 0..u64::MAX {
+        if body.has_ended() {
+            break;
+        }
+        let piece = next_piece(wire, reader, &mut body, &mut out)?;
+        length = length.saturating_add(piece.put as u64);
+    }
+    Ok(length)
+}
+
+/// How many messages there are, and how many octets their texts have together.
+fn fetch_all<W: Wire>(alloc: Global, wire: &mut W) -> Result<(u32, u64), pop3_client::Fault> {
+    let mut reader = LineReader::new();
+    log_in(alloc, wire, &mut reader, b"u", b"p")?;
+    let told = count(wire, &mut reader)?;
+    let listing = list(alloc, wire, &mut reader, told)?;
+    let mut octets = 0u64;
+    for index in 0..listing.len() {
+        octets = octets.saturating_add(text_length(alloc, wire, &mut reader, index + 1)?);
+    }
+    quit(wire, &mut reader)?;
+    Ok((listing.len(), octets))
+}
+
+fn main(rt: HostRuntime) -> Result<()> {
+    let mut wire = StreamWire::new(rt.stdin(), io::sink());
+    match fetch_all(rt.alloc(), &mut wire) {
+        Ok((messages, octets)) => println!(rt; "{messages} {octets}")?,
+        Err(fault) => println!(rt; "cut {}", fault_number(fault))?,
+    }
+    Ok(())
+}
