@@ -1,5 +1,5 @@
 //! The settings that the rows of an rc file give.
-ghost use Rattle.std.specs.Prelude.{◌≡◌, true, codes};
+ghost use Rattle.std.specs.Prelude.{true, codes};
 ghost use Rattle.rc_file.specs.SectionReading.{
   MakesDestination,
   ReadsRetriever,
