@@ -42,11 +42,3 @@ may_settle old m f e free = (
   ap (λ (d : Maildir). d.begun) e,
   λ h. free (subst (λ (d : Maildir). IsInNew d f.name) e h),
 )
-
--- a refused `add` after a good `begin`, and then `abandon`, leave nothing but the count
-pub given_up : (old m n new : Maildir) (name bytes : List ℕ) (fault : StoreFault)
-    → m ≡ record old { begun = Some (file name []) } → Adds {T = Unit {0}} m bytes (Err fault) n → new ≡ dropped n
-    → new ≡ counted (dropped old)
-given_up old m n new name bytes fault e a d =
-    let told = a (file name []) (ap (λ (d : Maildir). d.begun) e) in
-    d ∙ ap dropped told.1 ∙ ap (λ (d : Maildir). counted (dropped d)) e

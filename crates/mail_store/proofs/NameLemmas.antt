@@ -13,7 +13,7 @@ use Rattle.hex.specs.declared.error.FromHexError.{FromHexError}
 use Rattle.hex.proofs.HexLemmas.{decode_of-encode_lower, length-encode_with}
 use Rattle.mail_terms.specs.UniqueId.{IsLegalId, HasIdRanges}
 use Rattle.mail_terms.specs.MaildirName.{base, is_colon}
-use Rattle.mail_store.specs.FileName.{is_lower_hex_digit, name_of, IsAccountText}
+use Rattle.mail_store.specs.FileName.{is_lower_hex_digit, longest_name, name_of, IsAccountText}
 
 -- ---- digits
 
@@ -141,7 +141,7 @@ IsOk-from_cases (Err e) P Q R h q = absurd (h.0 q)
 
 -- ---- lengths
 
-pub length-name_of : HaveRanges → (account uid : List ℕ) → IsAccountText account → IsLegalId uid → length (name_of account uid) ≤ 205
+pub length-name_of : HaveRanges → (account uid : List ℕ) → IsAccountText account → IsLegalId uid → length (name_of account uid) ≤ longest_name
 length-name_of ranges account uid a legal =
     omega (arith, length-append account (46 ∷ encode_lower uid), length-encode_with lower_digits uid, a.0, (ranges uid legal).short)
 

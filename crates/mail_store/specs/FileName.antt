@@ -25,6 +25,10 @@ IsAccountText text = (length text ≡ 64) × AllPass is_lower_hex_digit text
 abbrev pub name_of : List ℕ → List ℕ → List ℕ
 name_of account uid = account ++ 46 ∷ encode_lower uid
 
+-- the bytes of the longest such name: 64 digits, a full stop, and two digits for each of 70 characters
+abbrev pub longest_name : ℕ
+longest_name = 205
+
 -- whether the name's base is the name of the id's file
 abbrev pub names_id : List ℕ → List ℕ → List ℕ → Bool
 names_id account uid name = bytes_eq (name_of account uid) (base name)

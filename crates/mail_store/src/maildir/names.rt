@@ -4,7 +4,7 @@ ghost use Rattle.std.specs.Prelude.{◌≡◌, false, ℕ, ◌≢◌, ◌≤◌,
 ghost use Rattle.hex.specs.Hex.{encode_lower};
 ghost use Rattle.mail_terms.specs.UniqueId.{IsLegalId};
 ghost use Rattle.mail_terms.specs.MaildirName.{base};
-ghost use Rattle.mail_store.specs.FileName.{IsAccountText, is_held, name_of};
+ghost use Rattle.mail_store.specs.FileName.{IsAccountText, is_held, longest_name, name_of};
 ghost use Rattle.mail_store.specs.Maildir.{Maildir, IsInNew, file, with_file};
 
 use crate::account::AccountId;
@@ -18,7 +18,7 @@ use std::alloc::{AllocError, Global};
 pub fn file_name(alloc: Global, account: &AccountId, uid: &[u8]) -> Result<String, AllocError>
     requires { IsLegalId uid.now }
     ensures name { IfOk result (λ name. string_bytes name ≡ name_of account.now uid.now) }
-    ensures short { IfOk result (λ name. length (string_bytes name) ≤ 205) }
+    ensures short { IfOk result (λ name. length (string_bytes name) ≤ longest_name) }
 {
     legal_ids_have_ranges();
     let digits = hex::encode(alloc, uid)?;
