@@ -1,19 +1,23 @@
 #!/bin/bash
-# The gate: every proof from nothing with `rt ci`, then the tests from outside over the programs that it built.
-# The last line is that of `rt ci`, 'N passed, 0 failed', and stands there only where the tests from outside passed too.
+# The gate: what can be told in a second, then every proof from nothing with `rt ci`, then the tests from outside over
+# the programs that it built. The last line is that of `rt ci`, 'N passed, 0 failed', and stands there only where all
+# else passed too.
 set -euo pipefail
 cd "$(dirname "$0")/.."
 
 log=$(mktemp)
 trap 'rm -f "$log"' EXIT
+TIMEFORMAT='rt ci took %0U s of processor time, in %0R s'
 
-rt ci | tee "$log"
+python3 tests/check_edits.py
+python3 tests/test_sample.py
+
+time rt ci | tee "$log"
 verdict=$(tail -n 1 "$log")
 if [[ ! $verdict =~ ^[0-9]+\ passed,\ 0\ failed$ ]]; then
     echo "the gate: the last line of 'rt ci' tells of no success" >&2
     exit 1
 fi
 
-python3 tests/test_sample.py
 python3 tests/run.py
 echo "$verdict"

@@ -87,7 +87,8 @@ class Words(unittest.TestCase):
     def test_words_without_effect(self):
         for words in (["--rehearse"], ["--rehearse", "--rehearse"], ["--rehearse", "--listen", "nonsense"],
                       ["--rehearse", "--connections", "0"], ["--connections", "0", *self.served],
-                      ["--connections", "4294967295", *self.served], ["--", *self.served]):
+                      ["--connections", "4294967295", *self.served], ["--", *self.served],
+                      ["u", "--connections", "0", *self.served[1:]], [*self.served, "--connections", "3"]):
             with self.subTest(words):
                 self.assertEqual(self.run_popd(*words), programs.Run(0, READY, b""))
 

@@ -4,8 +4,6 @@
 
 mod fault;
 mod first;
-#[cfg(test)]
-mod first_tests;
 mod listing;
 mod rehearsal;
 mod talk;

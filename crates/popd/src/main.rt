@@ -88,10 +88,3 @@ fn main(rt: HostRuntime) -> ExitCode {
     };
     ExitCode::from(status)
 }
-
-#[cfg(test)]
-mod password_tests;
-#[cfg(test)]
-mod rehearsal_tests;
-#[cfg(test)]
-mod words_tests;

@@ -1,0 +1,70 @@
+#!/usr/bin/env python3
+"""Looks in a second at what the gate would tell of after many minutes, or not at all.
+
+- Each wrong body, `crates/NAME/must-fail/*.edit`, can be applied: its file is there, and each text that it replaces
+  stands there exactly once, after the pairs before it. Its name is of small letters, digits and hyphens.
+- No program has a `#[test]`, and no library once there is a crate `tests` above them: a crate with tests of its own is
+  proved twice, and a program is tested from outside.
+"""
+
+import re
+import sys
+from pathlib import Path
+
+CRATES = Path(__file__).resolve().parent.parent / "crates"
+
+
+def faults_of_edit(edit):
+    """Why the edit can't be applied, a line for each reason."""
+    if not re.fullmatch(r"[a-z0-9]+(-[a-z0-9]+)*\.edit", edit.name):
+        yield "its name is not of small letters, digits and hyphens"
+    crate, texts, path, old = edit.parent.parent, {}, None, None
+    for line in edit.read_text().splitlines():
+        if line.startswith("file: "):
+            path = crate / line.removeprefix("file: ").strip()
+            if path not in texts:
+                if not path.is_file():
+                    yield f"there is no file {path.relative_to(crate)}"
+                    return
+                texts[path] = path.read_text()
+        elif line.startswith("old: "):
+            old = line.removeprefix("old: ")
+        elif line.startswith("new:"):
+            if path is None or old is None:
+                yield "a line 'new:' stands before its 'file:' or 'old:'"
+                return
+            count = texts[path].count(old)
+            if count != 1:
+                yield f"{path.relative_to(crate)} has {count} times, and not once: {old.strip()}"
+                return
+            texts[path] = texts[path].replace(old, line.removeprefix("new:").removeprefix(" "))
+            old = None
+    if not texts or old is not None:
+        yield "it replaces nothing"
+    elif all(path.read_text() == text for path, text in texts.items()):
+        yield "it changes nothing"
+
+
+def edit_faults():
+    for edit in sorted(CRATES.glob("*/must-fail/*.edit")):
+        for fault in faults_of_edit(edit):
+            yield f"{edit.relative_to(CRATES)}: {fault}"
+
+
+def test_faults():
+    libraries_too = (CRATES / "tests").is_dir()
+    for file in sorted(CRATES.glob("*/src/**/*.rt")):
+        crate = file.relative_to(CRATES).parts[0]
+        looked_at = libraries_too or (CRATES / crate / "src/main.rt").is_file()
+        if crate != "tests" and looked_at and re.search(r"^\s*#\[(test|cfg\(test\))\]", file.read_text(), re.MULTILINE):
+            yield f"{file.relative_to(CRATES)}: a test stands here"
+
+
+def main():
+    faults = [*edit_faults(), *test_faults()]
+    print(*faults, sep="\n", end="\n" if faults else "")
+    return 1 if faults else 0
+
+
+if __name__ == "__main__":
+    sys.exit(main())
