@@ -13,9 +13,10 @@ SHELL := /bin/bash
 # The programs among the crates that crates.txt lists.
 crates := $(shell sed -e 's/\#.*//' -e 's/:.*//' crates.txt)
 programs := $(filter getmail popd,$(crates))
+watched := $(filter store_bench,$(crates))
 benches := $(addprefix bench-,$(filter getmail popd store_bench client_bench,$(crates)))
 
-.PHONY: all rehearse check test bench clean $(programs) $(benches)
+.PHONY: all rehearse check test bench clean $(programs) $(watched) $(benches)
 .NOTPARALLEL:
 
 all: $(programs)
@@ -35,7 +36,11 @@ rehearse:
 check:
 	@tests/gate.sh
 
-test: all
+# The tests from outside also run the small program of the stores' benchmark.
+$(watched):
+	cd crates/$@ && rt run > /dev/null
+
+test: all $(watched)
 	python3 tests/test_sample.py
 	python3 tests/run.py
 
@@ -52,8 +57,7 @@ bench-client_bench:
 	cd crates/client_bench && rt run > /dev/null
 	@python3 bench/pop3_client.py
 
-bench-store_bench:
-	cd crates/store_bench && rt run > /dev/null
+bench-store_bench: store_bench
 	@python3 bench/mail_store.py
 
 clean:
