@@ -24,6 +24,7 @@ fn open_by<W: Wire>(
 ) -> Result<BodyReader, Fault>
     ensures counted { Tallies (W.seen wire.old).failures (refusal_of result) (W.seen wire.new).failures }
     ensures open { IfOk result (λ body. body.spot ≢ Done) }
+    ensures within { IfOk result (λ body. body.left ≤ 268435456) }
     ensures opens { W.sound wire.new → W.sound wire.old × W.leads_to wire.old wire.new
         × (line.now ≡ turn_bytes (retr number) → Opens (retr number) (at (W.seen wire.old) reader.old) result (at (W.seen wire.new) reader.new)) }
 {
@@ -43,6 +44,7 @@ pub fn open<W: Wire>(
 ) -> Result<BodyReader, Fault>
     ensures counted { Tallies (W.seen wire.old).failures (refusal_of result) (W.seen wire.new).failures }
     ensures open { IfOk result (λ body. body.spot ≢ Done) }
+    ensures within { IfOk result (λ body. body.left ≤ 268435456) }
     ensures opens { W.sound wire.new → W.sound wire.old × W.leads_to wire.old wire.new
         × Opens (retr number) (at (W.seen wire.old) reader.old) result (at (W.seen wire.new) reader.new) }
 {

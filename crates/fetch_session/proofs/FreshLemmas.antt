@@ -1,0 +1,126 @@
+-- Which ids stay fresh while others are stored.
+use Rattle.std.proofs.Common.{◌≡◌, ◌≢◌, inl, inr, ◌<◌, ◌≤◌, ◌+◌, ℕ, zero, suc, Bool, true, false, List, [], ◌∷◌, ◌++◌, drop, get_or, length, None, refl, sym, ap, subst, ◌∙◌, arith, append_assoc}
+use Rattle.std.specs.Prelude.{◌||◌, bytes_eq}
+use Rattle.std.specs.List.{AllByRecursion, list_any}
+use Rattle.std.proofs.lemmas.Bool.{false_from_ne_true}
+use Rattle.std.proofs.lemmas.Grind.{flat_map-append}
+use Rattle.std.proofs.lemmas.Slice.Eq.{bytes_eq-Decides}
+use Rattle.mail_terms.specs.UniqueId.{IsLegalId}
+use Rattle.mail_terms.specs.Listing.{Item}
+use Rattle.fetch_rules.specs.declared.steps.Step.{Step}
+use Rattle.mail_store.specs.Maildir.{Maildir, File, file, with_file}
+use Rattle.mail_store.specs.FileName.{name_of, names_id, is_held, IsAccountText}
+use Rattle.fetch_session.specs.Tasks.{Task, ids_in, ids_ahead, AreFresh, fetching, deleting, tasks_in, tasks_planned}
+use Rattle.fetch_session.specs.Stores.{Grows, GrowsBy, Rests}
+
+-- what is held goes by the names in `new` and `cur` alone
+held_by_files : (account uid : List ℕ) (a b : Maildir) → b.in_new ≡ a.in_new → b.in_cur ≡ a.in_cur → is_held account b uid ≡ is_held account a uid
+held_by_files account uid a b news curs =
+    ap (λ (l : List File). list_any (λ (f : File). names_id account uid f.name) (l ++ b.in_cur)) news
+    ∙ ap (λ (l : List File). list_any (λ (f : File). names_id account uid f.name) (a.in_new ++ l)) curs
+
+-- a file under the name of an id makes that id held, and no other
+abbrev pub OneMore : Type 0
+OneMore = (account a b content : List ℕ) (maildir : Maildir) → IsAccountText account → IsLegalId a → IsLegalId b
+    → is_held account (with_file maildir (file (name_of account a) content)) b ≡ (is_held account maildir b || bytes_eq b a)
+
+still_free : OneMore → (account uid other : List ℕ) (a b : Maildir) → IsAccountText account → IsLegalId uid → IsLegalId other → other ≢ uid → Grows (name_of account uid) a b
+    → is_held account a other ≡ false → is_held account b other ≡ false
+still_free law account uid other a b text legal legal' apart grows free =
+    elim grows.in_new [
+      | inl same ↦ held_by_files account other a b same grows.in_cur ∙ free
+      | inr more ↦
+          held_by_files account other (with_file a (file (name_of account uid) more.0)) b more.1 grows.in_cur
+          ∙ law account uid other more.0 a text legal legal'
+          ∙ ap (λ (k : Bool). k || bytes_eq other uid) free
+          ∙ false_from_ne_true (bytes_eq other uid) (λ same. apart ((bytes_eq-Decides other uid).0 same))
+    ]
+
+fresh_grows : OneMore → (account uid : List ℕ) (uids : List (List ℕ)) (a b : Maildir) → IsAccountText account → IsLegalId uid → AllByRecursion (λ (other : List ℕ). other ≢ uid) uids
+    → Grows (name_of account uid) a b → AreFresh account a uids → AreFresh account b uids
+fresh_grows law account uid [] a b text legal apart grows fresh = tt
+fresh_grows law account uid (x ∷ xs) a b text legal apart grows fresh =
+    (fresh.0, still_free law account uid x a b text legal fresh.0 apart.0 grows fresh.1, fresh.2, fresh_grows law account uid xs a b text legal apart.1 grows fresh.3)
+
+fresh_rests : (account : List ℕ) (uids : List (List ℕ)) (a b : Maildir) → Rests a b → AreFresh account a uids → AreFresh account b uids
+fresh_rests account [] a b rests fresh = tt
+fresh_rests account (x ∷ xs) a b rests fresh =
+    (fresh.0, held_by_files account x a b rests.in_new rests.in_cur ∙ fresh.1, fresh.2, fresh_rests account xs a b rests fresh.3)
+
+pub fresh_on : OneMore → (account : List ℕ) (uids later : List (List ℕ)) (a b : Maildir) → IsAccountText account → GrowsBy account uids a b → AreFresh account a (uids ++ later) → AreFresh account b later
+fresh_on law account [] later a b text grows fresh = fresh_rests account later a b grows fresh
+fresh_on law account (uid ∷ []) later a b text grows fresh = fresh_grows law account uid later a b text fresh.0 fresh.2 grows fresh.3
+fresh_on law account (uid ∷ other ∷ more) later a b text grows fresh = absurd grows
+
+pub fresh_front : (account : List ℕ) (uids later : List (List ℕ)) (a : Maildir) → AreFresh account a (uids ++ later) → length uids ≤ 1 → AreFresh account a uids
+fresh_front account [] later a fresh few = tt
+fresh_front account (uid ∷ []) later a fresh few = (fresh.0, fresh.1, tt, tt)
+fresh_front account (uid ∷ other ∷ more) later a fresh few = absurd (omega arith)
+
+pub grows_calm : (account : List ℕ) (uids : List (List ℕ)) (a b : Maildir) → GrowsBy account uids a b → b.begun ≡ None
+grows_calm account [] a b grows = grows.calm
+grows_calm account (uid ∷ []) a b grows = grows.calm
+grows_calm account (uid ∷ other ∷ more) a b grows = absurd grows
+
+fetching_few : (retrieve held : Bool) (number : ℕ) (uid : List ℕ) (size : ℕ) → length (ids_ahead (fetching retrieve held number uid size)) ≤ 1
+fetching_few true true number uid size = omega arith
+fetching_few true false number uid size = omega arith
+fetching_few false held number uid size = omega arith
+
+no_ids_deleting : (delete : Bool) (number : ℕ) → ids_ahead (deleting delete number) ≡ []
+no_ids_deleting true number = refl
+no_ids_deleting false number = refl
+
+pub ahead : (step : Step) (item : Item) (held : Bool) (later : List Task)
+    → ids_ahead (tasks_in step item held ++ later) ≡ ids_ahead (fetching step.retrieve held step.number item.uid item.size) ++ ids_ahead later
+ahead step item held later =
+    let front = fetching step.retrieve held step.number item.uid item.size in
+    flat_map-append ids_in (tasks_in step item held) later
+    ∙ ap (λ (l : List (List ℕ)). l ++ ids_ahead later) (flat_map-append ids_in front (deleting step.delete step.number))
+    ∙ append_assoc (ids_ahead front) (ids_ahead (deleting step.delete step.number)) (ids_ahead later)
+    ∙ ap (λ (l : List (List ℕ)). ids_ahead front ++ (l ++ ids_ahead later)) (no_ids_deleting step.delete step.number)
+
+-- one step's ids are fresh, and after it those of the others are
+pub fresh_step : (account : List ℕ) (step : Step) (item : Item) (held : Bool) (later : List Task) (a : Maildir) → AreFresh account a (ids_ahead (tasks_in step item held ++ later))
+    → AreFresh account a (ids_ahead (fetching step.retrieve held step.number item.uid item.size))
+fresh_step account step item held later a fresh =
+    fresh_front account (ids_ahead (fetching step.retrieve held step.number item.uid item.size)) (ids_ahead later) a (subst (AreFresh account a) (ahead step item held later) fresh)
+    (fetching_few step.retrieve held step.number item.uid item.size)
+
+pub fresh_later : OneMore → (account : List ℕ) (step : Step) (item : Item) (held : Bool) (later : List Task) (a b : Maildir) → IsAccountText account
+    → GrowsBy account (ids_ahead (fetching step.retrieve held step.number item.uid item.size)) a b → AreFresh account a (ids_ahead (tasks_in step item held ++ later))
+    → AreFresh account b (ids_ahead later)
+fresh_later law account step item held later a b text grows fresh =
+    fresh_on law account (ids_ahead (fetching step.retrieve held step.number item.uid item.size)) (ids_ahead later) a b text grows (subst (AreFresh account a) (ahead step item held later) fresh)
+
+-- the tasks left from the i-th step on
+left : (steps : List Step) (items : List Item) (held : List Bool) (i : ℕ) (s : Step) (t : Item) (h : Bool) → i < length steps → i < length items → i < length held
+    → tasks_planned (drop i steps) (drop i items) (drop i held)
+    ≡ tasks_in (get_or steps i s) (get_or items i t) (get_or held i h) ++ tasks_planned (drop (suc i) steps) (drop (suc i) items) (drop (suc i) held)
+left [] items held i s t h a b c = absurd (omega arith)
+left (x ∷ xs) [] held i s t h a b c = absurd (omega arith)
+left (x ∷ xs) (y ∷ ys) [] i s t h a b c = absurd (omega arith)
+left (x ∷ xs) (y ∷ ys) (z ∷ zs) zero s t h a b c = refl
+left (x ∷ xs) (y ∷ ys) (z ∷ zs) (suc i) s t h a b c = left xs ys zs i s t h (omega arith) (omega arith) (omega arith)
+
+item_is : (item : Item) (uid : List ℕ) (size : ℕ) → uid ≡ item.uid → size ≡ item.size → item ≡ record { uid = uid; size = size }
+item_is item uid size u s =
+    ap (λ (k : List ℕ). let m : Item = record { uid = k; size = item.size } in m) (sym u) ∙ ap (λ (k : ℕ). let m : Item = record { uid = uid; size = k } in m) (sym s)
+
+pub no_item : Item
+no_item = record { uid = []; size = 0 }
+
+pub no_step : Step
+no_step = record { number = 0; retrieve = false; delete = false }
+
+pub tasks_left : (steps : List Step) (items : List Item) (held : List Bool) (i : ℕ) (uid : List ℕ) (size : ℕ) → i < length steps → i < length items → i < length held
+    → uid ≡ (get_or items i no_item).uid → size ≡ (get_or items i no_item).size
+    → tasks_planned (drop i steps) (drop i items) (drop i held)
+    ≡ tasks_in (get_or steps i (record { number = 0; retrieve = false; delete = false })) (record { uid = uid; size = size }) (get_or held i false)
+    ++ tasks_planned (drop (i + 1) steps) (drop (i + 1) items) (drop (i + 1) held)
+tasks_left steps items held i uid size a b c u s =
+    let next : suc i ≡ i + 1 = omega arith in
+    let step = get_or steps i (record { number = 0; retrieve = false; delete = false }) in
+    left steps items held i (record { number = 0; retrieve = false; delete = false }) no_item false a b c
+    ∙ ap (λ (item : Item). tasks_in step item (get_or held i false) ++ tasks_planned (drop (suc i) steps) (drop (suc i) items) (drop (suc i) held)) (item_is (get_or items i no_item) uid size u s)
+    ∙ ap (λ (n : ℕ). tasks_in step (record { uid = uid; size = size }) (get_or held i false) ++ tasks_planned (drop n steps) (drop n items) (drop n held)) next

@@ -1,0 +1,14 @@
+pub mod TurnLemmas
+pub mod RecordLemmas
+pub mod SceneLemmas
+pub mod StoreLemmas
+pub mod TakeLemmas
+pub mod FreshLemmas
+pub mod PlanLemmas
+pub mod ReadLemmas
+pub mod CarryLemmas
+pub mod TailLemmas
+pub mod StepLemmas
+pub mod ReportLemmas
+pub mod SessionLemmas
+pub mod OpeningLemmas

@@ -1,0 +1,48 @@
+-- How logging in, the count and the listings make the beginning.
+use Rattle.std.proofs.Common.{inl, inr, ℕ, List, [], ◌∷◌, ◌++◌, Result, Ok, Err}
+use Rattle.pop3_wire.specs.Place.{Place}
+use Rattle.pop3_wire.specs.Reading.{WholeReply}
+use Rattle.mail_terms.specs.Listing.{Item}
+use Rattle.mail_terms.specs.declared.listing.UidRow.{UidRow}
+use Rattle.mail_terms.specs.declared.listing.ScanRow.{ScanRow}
+use Rattle.pop3_client.specs.declared.fault.Fault.{Fault}
+use Rattle.pop3_client.specs.Turns.{stat, uidl, list}
+use Rattle.pop3_client.specs.Conversation.{Talked, Stopped, Broke, TellsCount, login}
+use Rattle.pop3_client.specs.Listing.{Listed, Lists}
+use Rattle.fetch_session.specs.Openings.{Opened, Enters}
+use Rattle.fetch_session.proofs.TurnLemmas.{talked_on, stopped_first, stopped_before, stopped_behind}
+
+module _ (name password : List ℕ) (a b c d : Place) (welcome : List WholeReply) (entered : Talked (login name password) welcome a b) where
+  -- the count wasn't told
+  pub not_counted : (fault : Fault) → Broke stat b c fault → Enters name password a (Err fault) c
+  not_counted fault broke = inl (stopped_behind (login name password) (stat ∷ uidl ∷ list ∷ []) welcome a b c fault entered (stopped_first stat (uidl ∷ list ∷ []) b c fault broke))
+
+  counted_too : (counted : WholeReply) → Talked (stat ∷ []) (counted ∷ []) b c → Talked (login name password ++ stat ∷ []) (welcome ++ counted ∷ []) a c
+  counted_too counted talked = talked_on (login name password) (stat ∷ []) welcome (counted ∷ []) a b c entered talked
+
+  all_opened : (counted : WholeReply) (count : ℕ) (uids : List UidRow) (sizes : List ScanRow) → Talked (stat ∷ []) (counted ∷ []) b c → TellsCount counted count → Listed c d uids sizes
+      → Opened name password a d count uids sizes
+  all_opened counted count uids sizes talked tells listed = record {
+    welcome = welcome;
+    counted = counted;
+    named = listed.first;
+    sized = listed.second;
+    talked = talked_on (login name password) (stat ∷ uidl ∷ list ∷ []) welcome (counted ∷ listed.first ∷ listed.second ∷ []) a b d entered
+        (talked_on (stat ∷ []) (uidl ∷ list ∷ []) (counted ∷ []) (listed.first ∷ listed.second ∷ []) b c d talked listed.talked);
+    tells = tells;
+    names = listed.names;
+    octets = listed.octets;
+  }
+
+  pub listed_too : (counted : WholeReply) (count : ℕ) (result : Result (List Item) Fault) → Talked (stat ∷ []) (counted ∷ []) b c → TellsCount counted count → Lists count c result d
+      → Enters name password a result d
+  listed_too counted count (Ok items) talked tells (uids, sizes, listed, joins) = (count, uids, sizes, all_opened counted count uids sizes talked tells listed, joins)
+  listed_too counted count (Err fault) talked tells (inl stopped) =
+      inl (stopped_behind (login name password) (stat ∷ uidl ∷ list ∷ []) welcome a b d fault entered
+      (stopped_behind (stat ∷ []) (uidl ∷ list ∷ []) (counted ∷ []) b c d fault talked stopped))
+  listed_too counted count (Err fault) talked tells (inr (inl (is, (uids, sizes, listed, never)))) = inr (inl (is, (count, uids, sizes, all_opened counted count uids sizes talked tells listed, never)))
+  listed_too counted count (Err fault) talked tells (inr (inr (is, (uids, sizes, listed)))) = inr (inr (is, (count, uids, sizes, all_opened counted count uids sizes talked tells listed)))
+
+-- logging in stopped
+pub not_entered : (name password : List ℕ) (a b : Place) (fault : Fault) → Stopped (login name password) a b fault → Enters name password a (Err fault) b
+not_entered name password a b fault stopped = inl (stopped_before (login name password) (stat ∷ uidl ∷ list ∷ []) a b fault stopped)

@@ -1,0 +1,93 @@
+-- What storing a text leaves.
+use Rattle.std.proofs.Common.{◌≡◌, inl, inr, ◌≤◌, ◌+◌, ℕ, List, [], ◌∷◌, ◌++◌, length, take, Option, None, Some, Result, Ok, Err, refl, sym, ap, subst, ◌∙◌, arith, length-append}
+use Rattle.std.proofs.lemmas.List.{length-take-le}
+use Rattle.mail_store.specs.Maildir.{Maildir, File, file, with_file, dropped, counted}
+use Rattle.fetch_session.specs.declared.fault.Fault.{Fault}
+use Rattle.fetch_session.specs.declared.fault.Cut.{Cut}
+use Rattle.fetch_session.specs.Faults.{fault_of, cut_of}
+use Rattle.pop3_wire.specs.Place.{Place}
+use Rattle.pop3_wire.specs.Bodies.{Rest}
+use Rattle.pop3_wire.specs.declared.unstuffer.Spot.TheVariants.{Done}
+use Rattle.pop3_client.specs.declared.fault.Fault.{Fault as TalkFault}
+use Rattle.pop3_client.specs.Conversation.{Broke}
+use Rattle.pop3_client.specs.Turns.{retr}
+use Rattle.fetch_session.specs.Stores.{Gained, Grows, begun_with, Starts, Puts, Ends, RefusesText, StopsStoring, StoresText, StopsReading}
+
+pub gained_file : (old new : Maildir) (f : File) → new ≡ with_file old f → Gained old new (f ∷ [])
+gained_file old new f is =
+    let same : new.failures ≡ old.failures = ap (λ (m : Maildir). m.failures) is in
+    record {
+      in_new = ap (λ (m : Maildir). m.in_new) is;
+      in_cur = ap (λ (m : Maildir). m.in_cur) is;
+      there = ap (λ (m : Maildir). m.there) is;
+      calm = λ calm. ap (λ (m : Maildir). m.begun) is;
+      failures = omega arith;
+    }
+
+grown : (old new mid : Maildir) (name content : List ℕ) → new ≡ mid → mid.begun ≡ None → mid.in_cur ≡ old.in_cur
+    → mid.in_new ≡ old.in_new ++ file name content ∷ [] → Grows name old new
+grown old new mid name content is calm cur more = record {
+  calm = ap (λ (m : Maildir). m.begun) is ∙ calm;
+  in_cur = ap (λ (m : Maildir). m.in_cur) is ∙ cur;
+  in_new = inr (content, ap (λ (m : Maildir). m.in_new) is ∙ more);
+}
+
+pub not_grown : (old new : Maildir) (name : List ℕ) → old.begun ≡ None → new ≡ old → Grows name old new
+not_grown old new name calm is = record {
+  calm = ap (λ (m : Maildir). m.begun) is ∙ calm;
+  in_cur = ap (λ (m : Maildir). m.in_cur) is;
+  in_new = inl (ap (λ (m : Maildir). m.in_new) is);
+}
+
+-- ---- a text, piece by piece
+
+dropped_calm : (old : Maildir) → old.begun ≡ None → dropped old ≡ old
+dropped_calm old calm = ap (λ (b : Option File). let m : Maildir = record old { begun = b } in m) (sym calm)
+
+pub refused_start : (old new : Maildir) (name : List ℕ) (rest : Rest) (fault : Fault) → old.begun ≡ None → Starts old name (Err fault) new → RefusesText old name rest [] fault new
+refused_start old new name rest fault calm (inl missing) = inl missing
+refused_start old new name rest fault calm (inr same) = inr (same.0, inl (same.1 ∙ ap counted (sym (dropped_calm old calm))))
+
+pub stopped_store : (old now new : Maildir) (name text : List ℕ) (cut : Cut) (fault : Fault) → old.begun ≡ None → now ≡ begun_with old (file name text) → new ≡ dropped now → cut ≡ cut_of fault None
+    → StopsStoring name old text cut.fault cut.rest new
+stopped_store old now new name text cut fault calm was is plain =
+    subst (λ (c : Cut). StopsStoring name old text c.fault c.rest new) (sym plain) (is ∙ ap dropped was ∙ dropped_calm old calm)
+
+pub stopped_read : (n : ℕ) (start new : Place) (text : List ℕ) (cut : Cut) (fault : Fault) (why : TalkFault) → cut ≡ cut_of fault None → fault ≡ fault_of why → Broke (retr n) start new why
+    → StopsReading n start text cut.fault cut.rest new
+stopped_read n start new text cut fault why plain is broke = subst (λ (c : Cut). StopsReading n start text c.fault c.rest new) (sym plain) (why, is, broke)
+
+pub refused_piece : (old now new : Maildir) (name text bytes more : List ℕ) (rest : Rest) (fault : Fault) → now ≡ begun_with old (file name text) → Puts now bytes (Err fault) new → RefusesText old name rest more fault new
+refused_piece old now new name text bytes more rest fault was puts =
+    inr (puts.0, inl (puts.1 (file name text) (ap (λ (m : Maildir). m.begun) was) ∙ ap (λ (m : Maildir). counted (dropped m)) was))
+
+pub put_on : (old now new : Maildir) (name text bytes : List ℕ) → now ≡ begun_with old (file name text) → Puts now bytes (Ok tt) new → new ≡ begun_with old (file name (text ++ bytes))
+put_on old now new name text bytes was puts = puts (file name text) (ap (λ (m : Maildir). m.begun) was) ∙ ap (λ (m : Maildir). begun_with m (file name (text ++ bytes))) was
+
+pub settled : (old now new : Maildir) (name text : List ℕ) → now ≡ begun_with old (file name text) → Ends now (Ok tt) new → new ≡ with_file old (file name text)
+settled old now new name text was ends = ends (file name text) (ap (λ (m : Maildir). m.begun) was) ∙ ap (λ (m : Maildir). with_file m (file name text)) was
+
+pub refused_end : (old now new : Maildir) (name text : List ℕ) (rest : Rest) (fault : Fault) → now ≡ begun_with old (file name text) → rest.spot ≡ Done → Ends now (Err fault) new → RefusesText old name rest text fault new
+refused_end old now new name text rest fault was done ends =
+    inr (
+      ends.0,
+      elim (ends.1 (file name text) (ap (λ (m : Maildir). m.begun) was)) [
+        | inl is ↦ inl (is ∙ ap (λ (m : Maildir). counted (dropped m)) was)
+        | inr is ↦ inr (done, is ∙ ap (λ (m : Maildir). counted (with_file m (file name text))) was)
+      ],
+    )
+
+stops_grows : (old new : Maildir) (name text : List ℕ) (fault : Fault) (rest : Option Rest) → old.begun ≡ None → StopsStoring name old text fault rest new → Grows name old new
+stops_grows old new name text fault None calm is = not_grown old new name calm is
+stops_grows old new name text fault (Some rest) calm (inl missing) = not_grown old new name calm missing.2
+stops_grows old new name text fault (Some rest) calm (inr (why, inl is)) =
+    record { calm = ap (λ (m : Maildir). m.begun) is; in_cur = ap (λ (m : Maildir). m.in_cur) is; in_new = inl (ap (λ (m : Maildir). m.in_new) is) }
+stops_grows old new name text fault (Some rest) calm (inr (why, inr there)) = grown old new (counted (with_file old (file name text))) name text there.1 refl refl refl
+
+pub stores_grows : (old new : Maildir) (name text : List ℕ) (r : Result ℕ Cut) → old.begun ≡ None → StoresText name old text r new → Grows name old new
+stores_grows old new name text (Ok octets) calm is = grown old new (with_file old (file name text)) name text is.0 refl refl refl
+stores_grows old new name text (Err cut) calm is = stops_grows old new name text cut.fault cut.rest calm is
+
+-- a text that grew by the first of some bytes is so much longer
+pub longer : (n put : ℕ) (text out : List ℕ) → n ≡ length text → put ≤ length out → n + put ≡ length (text ++ take put out)
+longer n put text out is within = omega (arith, is, length-append text (take put out), length-take-le put out within)

@@ -1,0 +1,176 @@
+-- How one text is taken.
+use Rattle.std.proofs.Common.{◌≡◌, inl, inr, ℕ, Bool, true, false, List, [], ◌∷◌, ◌++◌, length, None, Some, Option, Ok, Err, refl, sym, ap, subst, ◌∙◌, arith}
+use Rattle.pop3_wire.specs.Place.{Place}
+use Rattle.fetch_rules.specs.Record.{Row, marked}
+use Rattle.mail_store.specs.Maildir.{Maildir, File, file, with_file}
+use Rattle.mail_store.specs.FlatFile.{Stored}
+use Rattle.mail_store.specs.FileName.{name_of}
+use Rattle.pop3_client.specs.declared.fault.Fault.{Fault as TalkFault}
+use Rattle.pop3_client.specs.declared.fault.Fault.TheVariants.{NoMemory as NoTalkMemory}
+use Rattle.pop3_client.specs.Turns.{Turn, retr, dele}
+use Rattle.pop3_wire.specs.Reading.{WholeReply}
+use Rattle.pop3_client.specs.Conversation.{Talked, Broke}
+use Rattle.pop3_client.specs.Texts.{body_text}
+use Rattle.fetch_session.specs.declared.fault.Fault.{Fault}
+use Rattle.fetch_session.specs.declared.fault.Fault.TheVariants.{NoMemory}
+use Rattle.fetch_session.specs.declared.fault.Cut.{Cut}
+use Rattle.fetch_session.specs.declared.report.ReportLine.{ReportLine}
+use Rattle.fetch_session.specs.declared.report.ReportLine.TheVariants.{Delivered, Held, Skipped, Deleted}
+use Rattle.fetch_session.specs.Faults.{fault_of, cut_of}
+use Rattle.pop3_wire.specs.Bodies.{Rest}
+use Rattle.fetch_session.specs.Tasks.{Task, stores, skips, rereads, deletes, turns_in, file_from, delivered, fetching, deleting}
+use Rattle.fetch_session.specs.Stores.{RefusesText, StopsStoring, StoresText, StopsReading, ReadsText, PassesText}
+use Rattle.fetch_session.specs.Records.{Steady, Saves}
+use Rattle.fetch_session.specs.Scenes.{scene, AllWent, Stops, Takes}
+use Rattle.std.specs.Prelude.{not}
+use Rattle.std.proofs.lemmas.Bool.{true≢false}
+use Rattle.fetch_session.proofs.TurnLemmas.{talked_none}
+use Rattle.fetch_session.proofs.SceneLemmas.{gained_none}
+use Rattle.fetch_session.proofs.StoreLemmas.{gained_file}
+
+-- the conversation broke
+pub text_broken : (account : List ℕ) (task : Task) (turn : Turn) (a b : Place) (maildir : Maildir) (file : Stored) (rows : List Row) (lines : List ReportLine) (why : TalkFault) (fault : Fault) (cut : Cut)
+    → turns_in task ≡ turn ∷ [] → cut ≡ cut_of fault None → fault ≡ fault_of why → Broke turn a b why → Stops account task (scene a maildir file rows lines) cut (scene b maildir file rows lines)
+text_broken account task turn a b maildir file rows lines why fault cut takes plain is broke =
+    inl (record {
+      none = ap (λ (c : Cut). c.rest) plain;
+      turn = turn;
+      why = why;
+      takes = takes;
+      is = ap (λ (c : Cut). c.fault) plain ∙ is;
+      broke = broke;
+      maildir = refl;
+      file = refl;
+      rows = refl;
+      lines = refl;
+    })
+
+-- a line couldn't be made
+pub text_wanting : (account : List ℕ) (n : ℕ) (uid : List ℕ) (a : Place) (maildir : Maildir) (file : Stored) (rows : List Row) (lines : List ReportLine) (cut : Cut) → cut ≡ cut_of NoMemory None
+    → Stops account (stores n uid) (scene a maildir file rows lines) cut (scene a maildir file rows lines)
+text_wanting account n uid a maildir file rows lines cut plain =
+    text_broken account (stores n uid) (retr n) a a maildir file rows lines NoTalkMemory NoMemory cut refl plain refl (inr (inr (refl, refl, refl)))
+
+-- it wasn't stored
+pub text_stops : (account : List ℕ) (n : ℕ) (uid text name : List ℕ) (a b : Place) (maildir maildir' : Maildir) (file' : Stored) (rows : List Row) (lines : List ReportLine) (cut : Cut)
+    → name ≡ name_of account uid → StoresText name maildir text (Err cut) maildir' → ReadsText n a text (Err cut) b
+    → Stops account (stores n uid) (scene a maildir file' rows lines) cut (scene b maildir' file' rows lines)
+text_stops account n uid text name a b maildir maildir' file' rows lines cut named stores' reads = by_rest cut.fault cut.rest stores' reads
+  where
+    by_rest : (fault : Fault) (rest : Option Rest) → StopsStoring name maildir text fault rest maildir' → StopsReading n a text fault rest b
+        → Stops account (stores n uid) (scene a maildir file' rows lines) (cut_of fault rest) (scene b maildir' file' rows lines)
+    by_rest fault None same broke =
+        inl (record { none = refl; turn = retr n; why = broke.0; takes = refl; is = broke.1; broke = broke.2; maildir = same; file = refl; rows = refl; lines = refl })
+    by_rest fault (Some rest) refuses reads =
+        inr (inl (record {
+          number = n;
+          uid = uid;
+          rest = rest;
+          text = text;
+          is = refl;
+          under_way = refl;
+          fetching = reads.0;
+          whole = reads.1;
+          refuses = subst (λ (k : List ℕ). RefusesText maildir k rest text fault maildir') named refuses;
+          file = refl;
+          rows = refl;
+          lines = refl;
+        }))
+
+-- the line of a text is its reply's
+same_line : (n octets : ℕ) (text : List ℕ) (reply : WholeReply) → octets ≡ length text → text ≡ body_text reply.body → Delivered n octets ≡ delivered n reply
+same_line n octets text reply counted is = ap (λ (k : ℕ). Delivered n k) (counted ∙ ap (λ (t : List ℕ). length t) is)
+
+same_file : (account uid name text : List ℕ) (reply : WholeReply) → name ≡ name_of account uid → text ≡ body_text reply.body → file name text ≡ file_from account uid reply
+same_file account uid name text reply named is = ap (λ (k : List ℕ). file k text) named ∙ ap (λ (t : List ℕ). file (name_of account uid) t) is
+
+-- it was stored, and marked
+pub text_stored : (account : List ℕ) (n octets : ℕ) (uid text name : List ℕ) (a b : Place) (maildir maildir' : Maildir) (file' file'' : Stored) (rows rows' : List Row) (lines lines' : List ReportLine)
+    → name ≡ name_of account uid → StoresText name maildir text (Ok octets) maildir' → ReadsText n a text (Ok octets) b → rows' ≡ marked rows uid → Saves file' rows (marked rows uid) (Ok tt) file''
+    → lines' ≡ lines ++ Delivered n octets ∷ []
+    → Takes account (stores n uid) (scene a maildir file' rows lines) (Ok tt) (scene b maildir' file'' rows' lines')
+text_stored account n octets uid text name a b maildir maildir' file' file'' rows rows' lines lines' named stored reads mark saves told = (
+  reads.0 ∷ [],
+  record {
+    talked = reads.1;
+    stored = gained_file maildir maildir' (file_from account uid reads.0) (stored.0 ∙ ap (λ (f : File). with_file maildir f) (same_file account uid name text reads.0 named reads.2));
+    rows = mark;
+    saved = λ stood. subst (λ (r : List Row). Steady file''.content r) (sym mark) (saves.1 stood);
+    file_count = let same : file''.failures ≡ file'.failures = saves.0 in omega arith;
+    lines = told ∙ ap (λ (l : ReportLine). lines ++ l ∷ []) (same_line n octets text reads.0 stored.1 reads.2);
+  },
+)
+
+-- it was stored, and the record wasn't saved
+pub text_not_saved : (account : List ℕ) (n octets : ℕ) (uid text name : List ℕ) (a b : Place) (maildir maildir' : Maildir) (file' file'' : Stored) (rows rows' : List Row) (lines lines' : List ReportLine) (fault : Fault) (cut : Cut)
+    → name ≡ name_of account uid → StoresText name maildir text (Ok octets) maildir' → ReadsText n a text (Ok octets) b → Saves file' rows (marked rows uid) (Err fault) file''
+    → cut ≡ cut_of fault None → lines' ≡ lines ++ Delivered n octets ∷ []
+    → Stops account (stores n uid) (scene a maildir file' rows lines) cut (scene b maildir' file'' rows' lines')
+text_not_saved account n octets uid text name a b maildir maildir' file' file'' rows rows' lines lines' fault cut named stored reads saves plain told =
+    inr (inr (record {
+      none = ap (λ (c : Cut). c.rest) plain;
+      number = n;
+      uid = uid;
+      reply = reads.0;
+      is = refl;
+      talked = reads.1;
+      stored = gained_file maildir maildir' (file_from account uid reads.0) (stored.0 ∙ ap (λ (f : File). with_file maildir f) (same_file account uid name text reads.0 named reads.2));
+      saves = subst (λ (c : Cut). Saves file' rows (marked rows uid) (Err c.fault) file'') (sym plain) saves;
+      lines = told ∙ ap (λ (l : ReportLine). lines ++ l ∷ []) (same_line n octets text reads.0 stored.1 reads.2);
+    }))
+
+-- ---- the other tasks
+
+-- nothing is done for a message passed over
+pub skipped : (account : List ℕ) (number size : ℕ) (a : Place) (maildir : Maildir) (file : Stored) (rows : List Row) (lines lines' : List ReportLine) → lines' ≡ lines ++ Skipped number size ∷ []
+    → AllWent account (skips number size ∷ []) (scene a maildir file rows lines) (scene a maildir file rows lines')
+skipped account number size a maildir file rows lines lines' told = record {
+  dones = record { task = skips number size; replies = [] } ∷ [];
+  all = refl;
+  went = record { talked = talked_none a; stored = gained_none maildir; rows = refl; saved = λ stands. stands; file_count = omega arith; lines = told };
+}
+
+pub deleted : (account : List ℕ) (number : ℕ) (reply : WholeReply) (a b : Place) (maildir : Maildir) (file : Stored) (rows : List Row) (lines lines' : List ReportLine) → Talked (dele number ∷ []) (reply ∷ []) a b
+    → lines' ≡ lines ++ Deleted number ∷ []
+    → AllWent account (deletes number ∷ []) (scene a maildir file rows lines) (scene b maildir file rows lines')
+deleted account number reply a b maildir file rows lines lines' talked told = record {
+  dones = record { task = deletes number; replies = reply ∷ [] } ∷ [];
+  all = refl;
+  went = record { talked = talked; stored = gained_none maildir; rows = refl; saved = λ stands. stands; file_count = omega arith; lines = told };
+}
+
+pub reread_taken : (account : List ℕ) (number octets : ℕ) (uid : List ℕ) (a b : Place) (maildir : Maildir) (file : Stored) (rows : List Row) (lines lines' : List ReportLine) → PassesText number a (Ok octets) b
+    → lines' ≡ lines ++ Held number octets ∷ []
+    → Takes account (rereads number uid) (scene a maildir file rows lines) (Ok tt) (scene b maildir file rows lines')
+reread_taken account number octets uid a b maildir file rows lines lines' passes told =
+    (passes.0 ∷ [], record { talked = passes.1; stored = gained_none maildir; rows = refl; saved = λ stands. stands; file_count = omega arith; lines = told ∙ ap (λ (k : ℕ). lines ++ Held number k ∷ []) passes.2 })
+
+pub no_deletes : (wanted : Bool) (number : ℕ) → wanted ≡ false → deleting wanted number ≡ []
+no_deletes true number e = absurd (true≢false e)
+no_deletes false number e = refl
+
+pub one_delete : (wanted : Bool) (number : ℕ) → wanted ≡ true → deleting wanted number ≡ deletes number ∷ []
+one_delete true number e = refl
+one_delete false number e = absurd (true≢false (sym e))
+
+pub no_fetch : (retrieve held : Bool) (number : ℕ) (uid : List ℕ) (size : ℕ) → retrieve ≡ false → fetching retrieve held number uid size ≡ skips number size ∷ []
+no_fetch true held number uid size e = absurd (true≢false e)
+no_fetch false held number uid size e = refl
+
+pub one_reread : (retrieve held : Bool) (number : ℕ) (uid : List ℕ) (size : ℕ) → retrieve ≡ true → held ≡ true → fetching retrieve held number uid size ≡ rereads number uid ∷ []
+one_reread true true number uid size e h = refl
+one_reread true false number uid size e h = absurd (true≢false (sym h))
+one_reread false held number uid size e h = absurd (true≢false (sym e))
+
+pub one_store : (retrieve held : Bool) (number : ℕ) (uid : List ℕ) (size : ℕ) → retrieve ≡ true → held ≡ false → fetching retrieve held number uid size ≡ stores number uid ∷ []
+one_store true true number uid size e h = absurd (true≢false h)
+one_store true false number uid size e h = refl
+one_store false held number uid size e h = absurd (true≢false (sym e))
+
+pub was_true : (a : Bool) → not a ≡ false → a ≡ true
+was_true true e = refl
+was_true false e = absurd (true≢false e)
+
+pub was_false : (a : Bool) → not a ≡ true → a ≡ false
+was_false true e = absurd (true≢false (sym e))
+was_false false e = refl

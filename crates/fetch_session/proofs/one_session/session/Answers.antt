@@ -1,0 +1,44 @@
+use Rattle.std.proofs.Common.{subst}
+use Rattle.pop3_wire.specs.Place.{at}
+use Rattle.fetch_session.specs.Accounts.{digits_of}
+use Rattle.fetch_session.specs.Sessions.{noted, kept, Session}
+use Rattle.fetch_session.proofs.SessionLemmas.{cut_session, ended_session}
+use Rattle.fetch_session.proofs.one_session.session.Goals as goal
+
+pub returns-in-Err-clause-session : goal.returns-in-Err-clause-session
+returns-in-Err-clause-session g c = λ w d f.
+    let says = c.leave.ensures.leaves w in
+    let went = c.in-Err.ensures.proceeds says.0 d f in
+    let done = c.proceed.new in
+    let inside = c.account.inside in
+    let after = kept (g.D.MaildirDisk.maildir done.disk) (g.F.FlatFile.stored done.file) in
+    let new = at (g.W.Wire.seen c.leave.new.wire) c.leave.new.reader in
+    subst (λ h. g.W.Wire.sound c.args.wire.now × g.D.MaildirDisk.sound h.disk × g.F.FlatFile.sound h.file × g.W.Wire.leads_to c.args.wire.now c.leave.new.wire
+    × Session h.settings (digits_of h.settings) c.args.now (g.W.Wire.seen c.args.wire.now) (kept (g.D.MaildirDisk.maildir h.disk) (g.F.FlatFile.stored h.file)) c.tell.result new.link after) c.account.view_is (
+      went.0,
+      went.1,
+      went.2,
+      g.met.W.Wire.leads_on _ _ _ went.3 says.1,
+      cut_session inside.settings (digits_of inside.settings) inside.id c.args.now (g.W.Wire.seen c.args.wire.now) c.new-reader.result
+          (kept (g.D.MaildirDisk.maildir inside.disk) (g.F.FlatFile.stored inside.seen_file)) c.in-Err.cut
+          (at (g.W.Wire.seen done.wire) done.reader) new after (noted done.notes.total done.notes.skipped done.notes.lines.items) c.tell.result
+          c.account.invariant.1 c.new-reader.ensures went.4 says.2 c.tell.ensures,
+    )
+
+pub returns-clause-session : goal.returns-clause-session
+returns-clause-session g c = λ w d f.
+    let went = c.in_default.ensures.proceeds w d f in
+    let done = c.proceed.new in
+    let inside = c.account.inside in
+    let after = kept (g.D.MaildirDisk.maildir done.disk) (g.F.FlatFile.stored done.file) in
+    let mid = at (g.W.Wire.seen done.wire) done.reader in
+    subst (λ h. g.W.Wire.sound c.args.wire.now × g.D.MaildirDisk.sound h.disk × g.F.FlatFile.sound h.file × g.W.Wire.leads_to c.args.wire.now done.wire
+    × Session h.settings (digits_of h.settings) c.args.now (g.W.Wire.seen c.args.wire.now) (kept (g.D.MaildirDisk.maildir h.disk) (g.F.FlatFile.stored h.file)) c.tell-2.result mid.link after) c.account.view_is (
+      went.0,
+      went.1,
+      went.2,
+      went.3,
+      ended_session inside.settings (digits_of inside.settings) inside.id c.args.now (g.W.Wire.seen c.args.wire.now) c.new-reader.result
+          (kept (g.D.MaildirDisk.maildir inside.disk) (g.F.FlatFile.stored inside.seen_file)) mid after (noted done.notes.total done.notes.skipped done.notes.lines.items) c.tell-2.result
+          c.account.invariant.1 c.new-reader.ensures went.4 c.tell-2.ensures,
+    )

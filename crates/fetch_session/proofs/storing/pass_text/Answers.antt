@@ -1,0 +1,46 @@
+use Rattle.std.proofs.Common.{◌≡◌, ◌<◌, ◌++◌, length, take, arith, sym, ◌∙◌, ap}
+use Rattle.std.proofs.lemmas.Bool.{false≢true}
+use Rattle.fetch_session.proofs.StoreLemmas.{longer}
+use Rattle.fetch_session.proofs.storing.pass_text.Goals as goal
+
+pub returns-in-Err : goal.returns-in-Err
+returns-in-Err g c = record {
+  passes = λ w.
+      let took = c.in-Err.ensures.takes w in
+      let before = c.pieces.invariant.2 took.0 in (
+        before.0,
+        g.met.W.Wire.leads_on _ _ _ before.1 took.1,
+        λ number start now. let so_far = before.2 number start now in took.2 number start so_far.0 so_far.1,
+      );
+}
+
+pub returns-then-piece : goal.returns-then-piece
+returns-then-piece g c = record {
+  passes = λ w.
+      let took = c.in-Ok.ensures.takes w in
+      let before = c.pieces.invariant.2 took.0 in (
+        before.0,
+        g.met.W.Wire.leads_on _ _ _ before.1 took.1,
+        λ number start now.
+            let so_far = before.2 number start now in
+            let whole = (took.2 number start so_far.0 so_far.1).1 c.if-piece.true in
+            (whole.0, whole.1, longer c.pieces.length c.in-Ok.piece.put so_far.0 c.next_piece.new.out so_far.2 c.in-Ok.ensures.fits ∙ ap length whole.2),
+      );
+}
+
+pub pieces-preserved : goal.pieces-preserved
+pieces-preserved g c = (
+  λ done. false≢true (sym c.if-piece.false ∙ c.in-Ok.ensures.ended.1 done),
+  let long : length c.next_piece.new.out ≡ 4097 = c.next_piece.array_long in
+      let less : c.next_piece.new.body.left < c.pieces.rest.left = c.in-Ok.ensures.less (λ done. false≢true (sym c.if-piece.false ∙ c.in-Ok.ensures.ended.1 done)) in
+      omega (arith, c.pieces.invariant.1, c.in-Ok.ensures.fits, long, less),
+  λ w.
+      let took = c.in-Ok.ensures.takes w in
+      let before = c.pieces.invariant.2 took.0 in (
+        before.0,
+        g.met.W.Wire.leads_on _ _ _ before.1 took.1,
+        λ number start now.
+            let so_far = before.2 number start now in
+            (so_far.0 ++ take c.in-Ok.piece.put c.next_piece.new.out, (took.2 number start so_far.0 so_far.1).0, longer c.pieces.length c.in-Ok.piece.put so_far.0 c.next_piece.new.out so_far.2 c.in-Ok.ensures.fits),
+      ),
+)

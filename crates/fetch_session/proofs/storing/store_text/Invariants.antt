@@ -1,0 +1,21 @@
+use Rattle.std.proofs.Common.{◌≡◌, ◌≢◌, ◌≤◌, ◌+◌, ◌*◌, ℕ, List, []}
+use Rattle.pop3_wire.specs.Place.{Place, at}
+use Rattle.pop3_wire.specs.declared.unstuffer.Spot.TheVariants.{Done}
+use Rattle.pop3_client.specs.Turns.{retr}
+use Rattle.pop3_client.specs.Texts.{Fetching}
+use Rattle.mail_store.specs.Maildir.{file}
+use Rattle.fetch_session.specs.Stores.{begun_with}
+use Rattle.fetch_session.proofs.storing.store_text.Given as goal
+
+abbrev pub invariant-pieces : goal.invariant-pieces
+invariant-pieces g l =
+    (l.rest.spot ≢ Done)
+    × (l.length + 4097 * l.rest.left ≤ 4097 * 268435456)
+    × (g.D.MaildirDisk.sound l.disk → g.D.MaildirDisk.sound l.fn.disk
+    × ((text : List ℕ) × (g.D.MaildirDisk.maildir l.disk ≡ begun_with (g.D.MaildirDisk.maildir l.fn.disk) (file l.fn.name text)) × (l.length ≡ Rattle.std.specs.Prelude.length text)
+    × (g.W.Wire.sound l.wire → g.W.Wire.sound l.fn.wire × g.W.Wire.leads_to l.fn.wire l.wire
+    × ((number : ℕ) (start : Place) → Fetching (retr number) start (at (g.W.Wire.seen l.fn.wire) l.fn.reader) l.fn.body []
+    → Fetching (retr number) start (at (g.W.Wire.seen l.wire) l.reader) l.rest text))))
+
+abbrev pub decreases-pieces : goal.decreases-pieces
+decreases-pieces g l = l.rest.left

@@ -1,0 +1,12 @@
+pub mod Faults
+pub mod Tasks
+pub mod Stores
+pub mod Records
+pub mod Scenes
+pub mod Law
+pub mod Plans
+pub mod Tails
+pub mod Reports
+pub mod Openings
+pub mod Sessions
+pub mod Accounts

@@ -1,0 +1,110 @@
+-- What is done to the record and its file.
+use Rattle.std.specs.Prelude.{◌≡◌, ◌⊎◌, ◌<◌, ◌+◌, ℕ, Bool, false, List, [], ◌∷◌, Option, None, Some, Result, Ok, Err, Vec}
+use Rattle.mail_terms.specs.Listing.{Item}
+use Rattle.fetch_rules.specs.Record.{Row, marked, merged}
+use Rattle.fetch_rules.specs.RecordFile.{StandsFor, IsFaultOf, file_of}
+use Rattle.fetch_rules.specs.Plan.{planned}
+use Rattle.fetch_rules.specs.declared.seen.SeenFault.{SeenFault}
+use Rattle.fetch_rules.specs.declared.seen.SeenFault.TheVariants.{BadHeader, BadRow, RepeatedId, NoMemory as WantsMemory}
+use Rattle.rc_file.specs.declared.settings.Settings.{Settings}
+use Rattle.mail_store.specs.FlatFile.{Stored, holding, counted}
+use Rattle.mail_store.specs.Maildir.{Maildir}
+use Rattle.mail_store.specs.Held.{flags_of}
+use Rattle.fetch_session.specs.declared.fault.Fault.{Fault}
+use Rattle.fetch_session.specs.declared.fault.Fault.TheVariants.{StoreRefused, SeenRefused, BadSeen, NoMemory}
+use Rattle.fetch_session.specs.declared.fault.Why.TheVariants.{Missing, Refused}
+use Rattle.fetch_session.specs.declared.readiness.Ready.{Ready}
+
+-- a file stands for a record: none, like an empty one, for the empty record
+abbrev pub Keeps : Option (List ℕ) → List Row → Type 0
+Keeps None rows = rows ≡ []
+Keeps (Some bytes) rows = StandsFor bytes rows
+
+-- the same, and what is appended counts
+abbrev pub Steady : Option (List ℕ) → List Row → Type 0
+Steady content rows = Keeps content rows
+
+-- the record was written; or, refused, the file is as it was or has the record; or memory was wanting
+abbrev pub Writes : Stored → List Row → Result (Unit {0}) Fault → Stored → Type 0
+Writes old rows (Ok done) new = new ≡ holding old (file_of rows)
+Writes old rows (Err SeenRefused) new = (new ≡ counted old) ⊎ (new ≡ counted (holding old (file_of rows)))
+Writes old rows (Err NoMemory) new = new ≡ old
+Writes old rows (Err _) new = ⊥
+
+-- a changed record was saved; or, refused, the file stands for the one or the other; or nothing was done for want of memory
+abbrev pub Saves : Stored → List Row → List Row → Result (Unit {0}) Fault → Stored → Type 0
+Saves old was rows (Ok done) new = (new.failures ≡ old.failures) × (Steady old.content was → Steady new.content rows)
+Saves old was rows (Err SeenRefused) new = (new.failures ≡ old.failures + 1) × (Steady old.content was → Keeps new.content was ⊎ Keeps new.content rows)
+Saves old was rows (Err NoMemory) new = new ≡ old
+Saves old was rows (Err _) new = ⊥
+
+-- these ids were marked, one after the other
+abbrev pub marked_all : List Row → List (List ℕ) → List Row
+marked_all rows [] = rows
+marked_all rows (uid ∷ uids) = marked_all (marked rows uid) uids
+
+-- the line of a record's fault
+abbrev pub LineOf : SeenFault → ℕ → Type 0
+LineOf BadHeader line = line ≡ 1
+LineOf (BadRow at) line = line ≡ at
+LineOf (RepeatedId at) line = line ≡ at
+LineOf _ line = ⊥
+
+-- the record was read; or a call was refused, or the bytes stand for no record
+abbrev pub Reads : Stored → Result (List Row) Fault → Stored → Type 0
+Reads old (Ok rows) new = Keeps old.content rows × (new ≡ old)
+Reads old (Err SeenRefused) new = new ≡ counted old
+Reads old (Err (BadSeen line)) new = (bytes : List ℕ) × (why : SeenFault) × (old.content ≡ Some bytes) × IsFaultOf bytes why × LineOf why line × (new ≡ old)
+Reads old (Err NoMemory) new = new ≡ old
+Reads old (Err _) new = ⊥
+
+-- the fault that tells of a line of the record's file, or of want of memory
+abbrev pub IsLineFault : SeenFault → Fault → Type 0
+IsLineFault why (BadSeen line) = LineOf why line
+IsLineFault why NoMemory = why ≡ WantsMemory
+IsLineFault why _ = ⊥
+
+-- which messages are held was found; or a folder isn't there, or a call was refused
+abbrev pub FindsHeld : {Z : Type 0} → List ℕ → Maildir → List Item → Result (Vec Bool Z) Fault → Maildir → Type 0
+FindsHeld account old items (Ok flags) new = (flags.items ≡ flags_of account old items) × (new ≡ old)
+FindsHeld account old items (Err (StoreRefused Missing)) new = ((old.there.new ≡ false) ⊎ (old.there.cur ≡ false)) × (new ≡ old)
+FindsHeld account old items (Err (StoreRefused Refused)) new = new ≡ Rattle.mail_store.specs.Maildir.counted old
+FindsHeld account old items (Err NoMemory) new = new ≡ old
+FindsHeld account old items (Err _) new = ⊥
+
+-- what a session goes by: the listing's messages, the time, and which are held
+abbrev pub merged_now : List ℕ → Maildir → List Item → ℕ → List Row → List Row
+merged_now account maildir items now rows = merged rows items (flags_of account maildir items) now
+
+-- the record was read, merged and saved, and the plan made
+pub record IsReady (settings : Settings) (account : List ℕ) (items : List Item) (now : ℕ) (maildir : Maildir) (file : Stored) (ready : Ready) (maildir' : Maildir) (file' : Stored) : Type 0 where
+  pub was : List Row
+  pub stood : Keeps file.content was
+  pub held : ready.held.items ≡ flags_of account maildir items
+  pub rows : ready.seen ≡ merged_now account maildir items now was
+  pub steps : ready.steps.items ≡ planned settings ready.seen items now
+  pub saved : Steady file'.content ready.seen
+  pub file_count : file'.failures ≡ file.failures
+  pub maildir_is : maildir' ≡ maildir
+
+-- why it isn't ready
+abbrev pub UnreadyCause : Fault → Maildir → Stored → Maildir → Stored → Type 0
+UnreadyCause SeenRefused maildir file maildir' file' = (file.failures < file'.failures) × (maildir' ≡ maildir)
+UnreadyCause (BadSeen line) maildir file maildir' file' = Reads file (Err (BadSeen line)) file' × (maildir' ≡ maildir)
+UnreadyCause (StoreRefused Missing) maildir file maildir' file' = ((maildir.there.new ≡ false) ⊎ (maildir.there.cur ≡ false)) × (maildir' ≡ maildir)
+UnreadyCause (StoreRefused Refused) maildir file maildir' file' = maildir' ≡ Rattle.mail_store.specs.Maildir.counted maildir
+UnreadyCause NoMemory maildir file maildir' file' = maildir' ≡ maildir
+UnreadyCause _ maildir file maildir' file' = ⊥
+
+-- the file is as it was, or stands for the merged record
+abbrev pub IsMergedAtMost : List ℕ → List Item → ℕ → Maildir → Stored → Stored → Type 0
+IsMergedAtMost account items now maildir file file' = (file'.content ≡ file.content)
+    ⊎ ((was : List Row) × Keeps file.content was × (Keeps file'.content was ⊎ Keeps file'.content (merged_now account maildir items now was)))
+
+pub record Unready (account : List ℕ) (items : List Item) (now : ℕ) (maildir : Maildir) (file : Stored) (fault : Fault) (maildir' : Maildir) (file' : Stored) : Type 0 where
+  pub cause : UnreadyCause fault maildir file maildir' file'
+  pub content : IsMergedAtMost account items now maildir file file'
+
+abbrev pub Readies : Settings → List ℕ → List Item → ℕ → Maildir → Stored → Result Ready Fault → Maildir → Stored → Type 0
+Readies settings account items now maildir file (Ok ready) maildir' file' = IsReady settings account items now maildir file ready maildir' file'
+Readies settings account items now maildir file (Err fault) maildir' file' = Unready account items now maildir file fault maildir' file'

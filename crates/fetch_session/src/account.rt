@@ -1,0 +1,89 @@
+//! The account that sessions are for.
+ghost use Rattle.std.specs.Prelude.{◌≡◌, None};
+ghost use Rattle.rc_file.specs.Settings.{IsValid};
+ghost use Rattle.fetch_session.specs.Accounts.{disk_of};
+
+use fetch_rules::Settings;
+use mail_store::{AccountId, FlatFile, MaildirDisk, account_id};
+use std::alloc::Global;
+use std::marker::Model;
+
+/// Where texts are stored.
+pub enum Store<D> {
+    /// A Maildir.
+    Maildir(D),
+}
+
+/// An account: its settings, its store and the file of its record.
+///
+/// No file is begun in the store between sessions, and the settings hold only values that an rc file
+/// may give.
+pub struct Account<D: MaildirDisk, F: FlatFile> {
+    pub(crate) alloc: Global,
+    pub(crate) settings: Settings,
+    pub(crate) id: AccountId,
+    pub(crate) disk: D,
+    pub(crate) seen_file: F,
+}
+
+impl<D: MaildirDisk, F: FlatFile> Model for Account<D, F> {
+    ghost use Rattle.std.specs.Prelude.{◌≡◌, None};
+    ghost use Rattle.rc_file.specs.Settings.{IsValid};
+    ghost use Rattle.mail_store.specs.FileName.{IsAccountText, account_text};
+    ghost use Rattle.std.specs.String.{string_bytes};
+    ghost use Rattle.fetch_session.specs.Accounts.{Holding};
+
+    ghost Value = { Holding D F };
+
+    ghost view = { λ a. record { settings = a.settings; disk = a.disk; file = a.seen_file } };
+
+    ghost invariant = { λ a. IsValid a.settings × (a.id ≡ account_text (string_bytes a.settings.server) a.settings.port (string_bytes a.settings.username))
+        × (D.sound a.disk → (D.maildir a.disk).begun ≡ None) };
+}
+
+impl<D: MaildirDisk, F: FlatFile> Account<D, F> {
+    /// An account with these settings, over this store and this file of its record.
+    pub fn new(alloc: Global, settings: Settings, store: Store<D>, seen_file: F) -> Account<D, F>
+        requires valid { IsValid settings }
+        requires calm { D.sound (disk_of store) → (D.maildir (disk_of store)).begun ≡ None }
+        ensures { result ≡ record { settings = settings; disk = disk_of store; file = seen_file } }
+    {
+        let id = account_id(
+            settings.server.as_str(),
+            settings.port,
+            settings.username.as_str(),
+        );
+        let Store::Maildir(disk) = store;
+        Account {
+            alloc,
+            settings,
+            id,
+            disk,
+            seen_file,
+        }
+    }
+
+    /// The settings.
+    pub fn settings(&self) -> &Settings
+        ensures value { result.now ≡ self.now.settings }
+        ensures valid { IsValid result.now }
+    {
+        &self.settings
+    }
+
+    /// Takes the account apart.
+    pub fn into_parts(self) -> (Settings, Store<D>, F)
+        ensures parts { (result.0 ≡ self.settings) × (disk_of result.1 ≡ self.disk) × (result.2 ≡ self.file) }
+        ensures valid { IsValid result.0 }
+        ensures calm { D.sound (disk_of result.1) → (D.maildir (disk_of result.1)).begun ≡ None }
+    {
+        let Account {
+            alloc: _,
+            settings,
+            id: _,
+            disk,
+            seen_file,
+        } = self;
+        (settings, Store::Maildir(disk), seen_file)
+    }
+}

@@ -1,0 +1,21 @@
+//! One session of a POP3 retriever: what it asks, stores, remembers and deletes.
+#![tactic(auto)]
+
+mod account;
+mod fault;
+mod laws;
+mod one_session;
+mod opening;
+mod plans;
+mod readiness;
+mod record;
+mod report;
+mod steps;
+mod storing;
+mod tails;
+
+pub use account::{Account, Store};
+pub use fault::{Cut, Fault, Why};
+pub use laws::stopping_is_a_step;
+pub use one_session::session;
+pub use report::{Outcome, Report, ReportLine};

@@ -1,0 +1,128 @@
+//! One session, from its greeting to its end.
+ghost use Rattle.std.specs.Prelude.{◌≡◌, ◌≤◌, ◌*◌, [], None, length};
+ghost use Rattle.std.specs.Vec.{vec_len};
+ghost use Rattle.pop3_wire.specs.Place.{at};
+ghost use Rattle.rc_file.specs.Settings.{IsValid};
+ghost use Rattle.mail_store.specs.FileName.{IsAccountText};
+ghost use Rattle.fetch_session.specs.Accounts.{digits_of};
+ghost use Rattle.fetch_session.specs.Reports.{Reports};
+ghost use Rattle.fetch_session.specs.Sessions.{Proceeds, Session, noted, kept};
+
+use crate::account::Account;
+use crate::fault::{Cut, Fault, plain, told};
+use crate::opening::enter;
+use crate::plans::carry_out;
+use crate::report::{Outcome, Report, ReportLine, report_of};
+use crate::tails::leave;
+use fetch_rules::Settings;
+use mail_store::{AccountId, FlatFile, MaildirDisk};
+use pop3_wire::{LineReader, Wire};
+use std::alloc::Global;
+use std::vec::Vec;
+
+/// What a session notes for its report.
+#[derive(Drop)]
+struct Notes {
+    total: u32,
+    skipped: u32,
+    lines: Vec<ReportLine>,
+}
+
+/// What a session tells that came out so.
+fn tell(outcome: Outcome, notes: Notes) -> Report
+    requires { vec_len notes.lines ≤ 200000 }
+    ensures { Reports outcome notes.total notes.skipped notes.lines.items result }
+{
+    let Notes {
+        total,
+        skipped,
+        lines,
+    } = notes;
+    report_of(outcome, total, skipped, lines)
+}
+
+/// Logs in, deals with what is listed, and quits, or does as much as goes well.
+fn proceed<W: Wire, D: MaildirDisk, F: FlatFile>(
+    alloc: Global,
+    settings: &Settings,
+    account: &AccountId,
+    wire: &mut W,
+    reader: &mut LineReader,
+    disk: &mut D,
+    file: &mut F,
+    notes: &mut Notes,
+    now: u64,
+) -> Result<(), Cut>
+    requires valid { IsValid settings.now }
+    requires digits { IsAccountText account.now }
+    requires calm { D.sound disk.old → (D.maildir disk.old).begun ≡ None }
+    requires nothing { (notes.old.total ≡ 0) × (notes.old.skipped ≡ 0) × (notes.old.lines.items ≡ []) × (vec_len notes.old.lines ≡ 0) }
+    ensures few { vec_len notes.new.lines ≤ 200000 }
+    ensures calm { D.sound disk.new → D.sound disk.old × ((D.maildir disk.new).begun ≡ None) }
+    ensures proceeds { W.sound wire.new → D.sound disk.new → F.sound file.new
+        → W.sound wire.old × D.sound disk.old × F.sound file.old × W.leads_to wire.old wire.new
+        × Proceeds settings.now account.now now (at (W.seen wire.old) reader.old) (kept (D.maildir disk.old) (F.stored file.old)) result
+        (at (W.seen wire.new) reader.new) (kept (D.maildir disk.new) (F.stored file.new)) (noted notes.new.total notes.new.skipped notes.new.lines.items) }
+{
+    let listing = match enter(alloc, settings, wire, reader) {
+        Ok(listing) => listing,
+        Err(fault) => return Err(plain(told(fault))),
+    };
+    notes.total = listing.len();
+    if let Err(_) = notes.lines.reserve(2 * listing.len() as usize) {
+        return Err(plain(Fault::NoMemory));
+    }
+    carry_out(
+        alloc,
+        settings,
+        account,
+        wire,
+        reader,
+        disk,
+        file,
+        &mut notes.lines,
+        &mut notes.skipped,
+        &listing,
+        now,
+    )
+}
+
+/// Runs one session of an account over a link: it logs in, lists, stores what is wanted and isn't
+/// held, deletes what is due, and quits. `now` is in seconds since 1970.
+///
+/// The first fault cuts it. Whatever the server sends and whichever call is refused, no text that is
+/// stored is lost or changed.
+pub fn session<W: Wire, D: MaildirDisk, F: FlatFile>(
+    account: &mut Account<D, F>,
+    wire: &mut W,
+    now: u64,
+) -> Report
+    ensures settings { account.new.settings ≡ account.old.settings }
+    ensures session { W.sound wire.new → D.sound account.new.disk → F.sound account.new.file
+        → W.sound wire.old × D.sound account.old.disk × F.sound account.old.file × W.leads_to wire.old wire.new
+        × Session account.old.settings (digits_of account.old.settings) now (W.seen wire.old) (kept (D.maildir account.old.disk) (F.stored account.old.file))
+        result (W.seen wire.new) (kept (D.maildir account.new.disk) (F.stored account.new.file)) }
+{
+    let mut reader = LineReader::new();
+    let mut notes = Notes {
+        total: 0,
+        skipped: 0,
+        lines: Vec::new(account.alloc),
+    };
+    if let Err(cut) = proceed(
+        account.alloc,
+        &account.settings,
+        &account.id,
+        wire,
+        &mut reader,
+        &mut account.disk,
+        &mut account.seen_file,
+        &mut notes,
+        now,
+    ) {
+        let outcome = Outcome::Cut(cut.fault);
+        leave(wire, &mut reader, cut);
+        return tell(outcome, notes);
+    }
+    tell(Outcome::Ended, notes)
+}

@@ -1,0 +1,191 @@
+//! What a session tells of itself.
+ghost use Rattle.std.specs.Prelude.{◌≡◌, ◌≤◌, ◌+◌, ◌++◌, ◌∷◌, [], vec_len, length, filter, not};
+ghost use Rattle.std.specs.Vec.{vec_capacity};
+ghost use Rattle.fetch_session.specs.Reports.{HasRoom, is_deletion, is_taken, length_in, takes_back, kept_lines, retrieved_in, length_of, deleted_in, skipped_in, most_bytes, Reports};
+
+use crate::fault::Fault;
+use fetch_rules::Step;
+use std::vec::Vec;
+
+/// What was done with one message. Numbers count from 1.
+#[derive(Clone, Copy, Debug, PartialEq, Eq)]
+pub enum ReportLine {
+    /// Its text was fetched and stored. The length is in bytes, lines ended by LF.
+    Delivered { number: u32, length: u64 },
+    /// Its text was fetched, and the store held it already. The length is in bytes, lines ended by LF.
+    Held { number: u32, length: u64 },
+    /// It was passed over. The size is the listed one, in octets.
+    Skipped { number: u32, size: u64 },
+    /// It was deleted.
+    Deleted { number: u32 },
+}
+
+/// How a session came out.
+#[derive(Clone, Copy, Debug, PartialEq, Eq)]
+pub enum Outcome {
+    /// All that was planned was done.
+    Ended,
+    /// The session was cut.
+    Cut(Fault),
+}
+
+/// What a session did.
+#[derive(Drop)]
+pub struct Report {
+    /// How the session came out.
+    pub outcome: Outcome,
+    /// How many messages the server listed, 0 where the listings weren't joined.
+    pub total: u32,
+    /// How many texts were fetched to their end, and stored or held already.
+    pub retrieved: u32,
+    /// The lengths of these texts together, in bytes, lines ended by LF.
+    pub bytes: u64,
+    /// How many messages the plan passes over, whether or not the session came to them.
+    pub skipped: u32,
+    /// How many messages were deleted: 0 where the server was asked to take back its marks.
+    pub deleted: u32,
+    /// What was done, in order.
+    pub lines: Vec<ReportLine>,
+}
+
+/// Adds a line, for which there is room.
+pub(crate) fn note(lines: &mut Vec<ReportLine>, line: ReportLine)
+    requires { HasRoom lines.old 1 }
+    ensures items { lines.new.items ≡ lines.old.items ++ line ∷ [] }
+    ensures len { vec_len lines.new ≡ vec_len lines.old + 1 }
+    ensures capacity { vec_capacity lines.old ≤ vec_capacity lines.new }
+{
+    lines.push(line).unwrap();
+}
+
+impl ReportLine {
+    /// Whether it tells of a text that was fetched to its end.
+    fn is_taken(&self) -> bool
+        ensures { result ≡ is_taken self.now }
+    {
+        matches!(self, ReportLine::Delivered { .. } | ReportLine::Held { .. })
+    }
+
+    /// The length of the text that it tells of, in bytes, 0 where it tells of none.
+    fn length(&self) -> u64
+        ensures { result ≡ length_in self.now }
+    {
+        match self {
+            ReportLine::Delivered { length, .. } => *length,
+            ReportLine::Held { length, .. } => *length,
+            ReportLine::Skipped { .. } => 0,
+            ReportLine::Deleted { .. } => 0,
+        }
+    }
+
+    /// Whether it tells of a message that was deleted.
+    fn is_deletion(&self) -> bool
+        ensures { result ≡ is_deletion self.now }
+    {
+        matches!(self, ReportLine::Deleted { .. })
+    }
+}
+
+/// Whether the server is asked to take back its marks, so that nothing is deleted.
+fn takes_back(outcome: &Outcome) -> bool
+    ensures { result ≡ takes_back outcome.now }
+{
+    match outcome {
+        Outcome::Cut(Fault::StoreRefused(_)) => true,
+        Outcome::Cut(Fault::SeenRefused) => true,
+        Outcome::Cut(Fault::BadSeen(_)) => true,
+        _ => false,
+    }
+}
+
+/// How many texts were fetched to their end.
+fn retrieved_in(lines: &[ReportLine]) -> u32
+    requires { length lines.now ≤ 200000 }
+    ensures { result ≡ retrieved_in lines.now }
+{
+    let mut count = 0u32;
+    for line in lines {
+        if line.is_taken() {
+            count += 1;
+        }
+    }
+    count
+}
+
+/// How many messages were deleted.
+fn deleted_in(lines: &[ReportLine]) -> u32
+    requires { length lines.now ≤ 200000 }
+    ensures { result ≡ deleted_in lines.now }
+{
+    let mut count = 0u32;
+    for line in lines {
+        if line.is_deletion() {
+            count += 1;
+        }
+    }
+    count
+}
+
+/// The lengths of the texts that were fetched together, as far as 64 bits go.
+fn length_of(lines: &[ReportLine]) -> u64
+    ensures { result ≡ most_bytes (length_of lines.now) }
+{
+    let mut total = 0u64;
+    for line in lines {
+        total = total.saturating_add(line.length());
+    }
+    total
+}
+
+/// How many steps fetch nothing.
+pub(crate) fn skipped_in(steps: &[Step]) -> u32
+    requires { length steps.now ≤ 100000 }
+    ensures { result ≡ skipped_in steps.now }
+{
+    let mut count = 0u32;
+    for step in steps {
+        if !step.retrieve {
+            count += 1;
+        }
+    }
+    count
+}
+
+/// The lines that a report keeps: where the server is asked to take back its marks, not those of
+/// deletions.
+fn kept_lines(outcome: &Outcome, lines: Vec<ReportLine>) -> Vec<ReportLine>
+    ensures kept { result.items ≡ kept_lines outcome.now lines.items }
+    ensures fewer { length result.items ≤ length lines.items }
+{
+    if !takes_back(outcome) {
+        return lines;
+    }
+    let mut lines = lines;
+    lines.retain(|line| !line.is_deletion());
+    lines
+}
+
+/// What a session tells that came out so, of the lines that it noted.
+pub(crate) fn report_of(
+    outcome: Outcome,
+    total: u32,
+    skipped: u32,
+    lines: Vec<ReportLine>,
+) -> Report
+    requires { length lines.items ≤ 200000 }
+    ensures { Reports outcome total skipped lines.items result }
+{
+    let retrieved = retrieved_in(&lines);
+    let bytes = length_of(&lines);
+    let lines = kept_lines(&outcome, lines);
+    let deleted = deleted_in(&lines);
+    Report {
+        outcome,
+        total,
+        retrieved,
+        bytes,
+        skipped,
+        deleted,
+        lines,
+    }
+}

@@ -1,0 +1,140 @@
+//! How a text is taken: stored, or passed over where it is held already.
+ghost use Rattle.std.specs.Prelude.{◌≡◌, ◌≢◌, ◌≤◌, ℕ, List, [], None, IsSome, Some};
+ghost use Rattle.pop3_wire.specs.Place.{Place, at};
+ghost use Rattle.pop3_wire.specs.declared.unstuffer.Spot.TheVariants.{Done};
+ghost use Rattle.pop3_client.specs.Turns.{retr};
+ghost use Rattle.pop3_client.specs.Texts.{Fetching};
+ghost use Rattle.mail_store.specs.Maildir.{File, IsInNew, file};
+ghost use Rattle.fetch_session.specs.Stores.{Starts, Puts, Ends, StoresText, ReadsText, PassesText};
+
+use crate::fault::{Cut, Fault, Why, plain, told};
+use mail_store::{MaildirDisk, StoreFault};
+use pop3_client::{Fault as TalkFault, next_piece};
+use pop3_wire::{BodyReader, LineReader, Wire};
+
+/// Begins an empty file of this name.
+fn begin_file<D: MaildirDisk>(disk: &mut D, name: &str) -> Result<(), Fault>
+    requires { D.sound disk.old → (D.maildir disk.old).begun ≡ None }
+    ensures starts { D.sound disk.new → D.sound disk.old
+        × Starts (D.maildir disk.old) name.now result (D.maildir disk.new) }
+{
+    match disk.begin(name) {
+        Ok(()) => Ok(()),
+        Err(StoreFault::Missing) => Err(Fault::StoreRefused(Why::Missing)),
+        Err(_) => Err(Fault::StoreRefused(Why::Refused)),
+    }
+}
+
+/// Puts bytes, if there are any, behind those of the file begun. Where that is refused, none is
+/// begun any more.
+fn put_piece<D: MaildirDisk>(disk: &mut D, bytes: &[u8]) -> Result<(), Fault>
+    requires { D.sound disk.old → IsSome (D.maildir disk.old).begun }
+    ensures puts { D.sound disk.new → D.sound disk.old
+        × Puts (D.maildir disk.old) bytes.now result (D.maildir disk.new) }
+{
+    if bytes.is_empty() {
+        return Ok(());
+    }
+    match disk.add(bytes) {
+        Ok(()) => Ok(()),
+        Err(_) => {
+            disk.abandon();
+            Err(Fault::StoreRefused(Why::Refused))
+        }
+    }
+}
+
+/// Puts the file begun into `new`.
+fn settle_file<D: MaildirDisk>(disk: &mut D) -> Result<(), Fault>
+    requires { D.sound disk.old
+        → (f : File) × ((D.maildir disk.old).begun ≡ Some f) × (IsInNew (D.maildir disk.old) f.name → ⊥) }
+    ensures ends { D.sound disk.new → D.sound disk.old
+        × Ends (D.maildir disk.old) result (D.maildir disk.new) }
+{
+    match disk.settle() {
+        Ok(()) => Ok(()),
+        Err(_) => Err(Fault::StoreRefused(Why::Refused)),
+    }
+}
+
+/// Takes a text that is under way, stores it piece by piece under a name, and says how long it is,
+/// in bytes, lines ended by LF. It goes through two arrays, and is never kept whole.
+pub(crate) fn store_text<W: Wire, D: MaildirDisk>(
+    wire: &mut W,
+    reader: &mut LineReader,
+    disk: &mut D,
+    name: &str,
+    body: BodyReader,
+) -> Result<u64, Cut>
+    requires open { body.spot ≢ Done }
+    requires within { body.left ≤ 268435456 }
+    requires calm { D.sound disk.old → (D.maildir disk.old).begun ≡ None }
+    requires not_there { D.sound disk.old → IsInNew (D.maildir disk.old) name.now → ⊥ }
+    ensures stores { D.sound disk.new → D.sound disk.old
+        × ((text : List ℕ) × StoresText name.now (D.maildir disk.old) text result (D.maildir disk.new)
+        × (W.sound wire.new → W.sound wire.old × W.leads_to wire.old wire.new
+        × ((number : ℕ) (start : Place) → Fetching (retr number) start (at (W.seen wire.old) reader.old) body []
+        → ReadsText number start text result (at (W.seen wire.new) reader.new)))) }
+{
+    let mut rest = body;
+    if let Err(fault) = begin_file(disk, name) {
+        return Err(Cut {
+            fault,
+            rest: Some(rest),
+        });
+    }
+    let mut length = 0u64;
+    let mut out = [0u8; 4097];
+    'pieces: loop {
+        let piece = match next_piece(wire, reader, &mut rest, &mut out) {
+            Ok(piece) => piece,
+            Err(fault) => {
+                disk.abandon();
+                return Err(plain(told(fault)));
+            }
+        };
+        if let Err(fault) = put_piece(disk, &out[..piece.put]) {
+            return Err(Cut {
+                fault,
+                rest: Some(rest),
+            });
+        }
+        length += piece.put as u64;
+        if piece.ended {
+            return match settle_file(disk) {
+                Ok(()) => Ok(length),
+                Err(fault) => Err(Cut {
+                    fault,
+                    rest: Some(rest),
+                }),
+            };
+        }
+    }
+}
+
+/// Takes a text that is under way, drops it, and says how long it was, in bytes, lines ended by LF.
+pub(crate) fn pass_text<W: Wire>(
+    wire: &mut W,
+    reader: &mut LineReader,
+    body: BodyReader,
+) -> Result<u64, TalkFault>
+    requires open { body.spot ≢ Done }
+    requires within { body.left ≤ 268435456 }
+    ensures passes { W.sound wire.new → W.sound wire.old × W.leads_to wire.old wire.new
+        × ((number : ℕ) (start : Place) → Fetching (retr number) start (at (W.seen wire.old) reader.old) body []
+        → PassesText number start result (at (W.seen wire.new) reader.new)) }
+{
+    let mut rest = body;
+    let mut length = 0u64;
+    let mut out = [0u8; 4097];
+    'pieces: loop {
+        let piece = match next_piece(wire, reader, &mut rest, &mut out) {
+            Ok(piece) => piece,
+            Err(fault) => return Err(fault),
+        };
+        length += piece.put as u64;
+        if piece.ended {
+            return Ok(length);
+        }
+    }
+}
