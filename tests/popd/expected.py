@@ -7,6 +7,7 @@ after `+OK` and `-ERR` free; these are the ones that the server's table fixes.
 import hashlib
 import os
 import re
+import stat
 from dataclasses import dataclass, field
 
 LINE_LIMIT = 512
@@ -167,12 +168,13 @@ def uid_of(base):
 
 
 def is_listed(path):
+    """Whether this is a regular file, no link to one, whose name is text and begins with no full stop."""
     name = os.path.basename(path)
     try:
         name.decode()
     except UnicodeDecodeError:
         return False
-    return not name.startswith(b".") and os.path.isfile(path)
+    return not name.startswith(b".") and stat.S_ISREG(os.lstat(path).st_mode)
 
 
 def messages_of(folder):

@@ -51,11 +51,15 @@ NOT_LISTED = (
 
 
 def fill(maildir):
-    """Puts in all the files, and folders in place of files."""
+    """Puts in all the files, and what is no file in place of files."""
     for part, name, content in (*FILES, *NOT_LISTED):
         maildir.add(part, name, content)
     (maildir.folder / "new" / "folder").mkdir()
     (maildir.folder / "cur" / "1700000000.folder:2,S").mkdir()
+    (maildir.folder / "new" / "1700000014.link").symlink_to(maildir.passfile)
+    (maildir.folder / "cur" / "1700000015.link:2,S").symlink_to(maildir.folder / "new" / "B")
+    (maildir.folder / "new" / "1700000016.dangling").symlink_to(maildir.folder / "missing")
+    os.mkfifo(maildir.folder / "new" / "1700000017.pipe")
 
 
 class WholeMaildir(unittest.TestCase):

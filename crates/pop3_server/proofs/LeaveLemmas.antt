@@ -2,7 +2,8 @@
 use Rattle.std.proofs.Common.{◌≡◌, ◌&&◌, ℕ, zero, suc, ◌+◌, ◌<◌, Bool, true, false, List, [], ◌∷◌, length, drop, get_or, Option, Some, None, slice_get, slice_set, refl, sym, ◌∙◌, ap, inl, inr, arith, add-one, drop-cons, if◌then◌else◌}
 use Rattle.pop3_wire.specs.World.{Message}
 use Rattle.pop3_server.specs.declared.rows.MessageRow.{MessageRow}
-use Rattle.pop3_server.specs.Maildrop.{Mail, HasPlace, counted}
+use Rattle.mail_terms.specs.FailureCount.{counted_up}
+use Rattle.pop3_server.specs.Maildrop.{Mail, HasPlace}
 use Rattle.pop3_server.specs.ServerMachine.{Tries, with_marked}
 
 -- the rows from a place on begin with the row there
@@ -30,11 +31,11 @@ and_assoc false b c = refl
 
 -- a row that isn't marked stays, and so does the count
 pub count_stays : (row : MessageRow) (rows : List MessageRow) (count : ℕ) → row.marked ≡ false → with_marked (row ∷ rows) count ≡ with_marked rows count
-count_stays row rows count is = ap (λ marked. with_marked rows (if marked then counted count else count)) is
+count_stays row rows count is = ap (λ marked. with_marked rows (if marked then counted_up count else count)) is
 
 -- a marked row is asked for once
-pub count_goes : (row : MessageRow) (rows : List MessageRow) (count : ℕ) → row.marked ≡ true → with_marked (row ∷ rows) count ≡ with_marked rows (counted count)
-count_goes row rows count is = ap (λ marked. with_marked rows (if marked then counted count else count)) is
+pub count_goes : (row : MessageRow) (rows : List MessageRow) (count : ℕ) → row.marked ≡ true → with_marked (row ∷ rows) count ≡ with_marked rows (counted_up count)
+count_goes row rows count is = ap (λ marked. with_marked rows (if marked then counted_up count else count)) is
 
 pub and_true : (a : Bool) → (a && true) ≡ a
 and_true true = refl

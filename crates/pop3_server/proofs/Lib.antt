@@ -1,4 +1,5 @@
 pub mod DigestLemmas
+pub mod DistinctLemmas
 pub mod GoneLemmas
 pub mod HonestLemmas
 pub mod HonestLoopLemmas

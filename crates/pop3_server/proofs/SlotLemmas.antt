@@ -3,8 +3,10 @@ use Rattle.std.proofs.Common.{◌≡◌, ℕ, zero, suc, ◌+◌, ◌<◌, ◌�
 use Rattle.std.specs.List.{Contains, filter}
 use Rattle.std.proofs.lemmas.List.{take_more, append-nil, map-append, length-append}
 use Rattle.std.proofs.lemmas.List.Elements.{Contains-push_cases, Contains-append_left, Contains-append_right, Contains-append_cases}
+use Rattle.mail_terms.specs.Distinct.{AreDistinct}
 use Rattle.pop3_wire.specs.World.{Message}
-use Rattle.pop3_server.specs.Maildrop.{Listed, there, ids, entry_of, AreDistinct}
+use Rattle.pop3_server.specs.Maildrop.{Listed, there, ids, entry_of}
+use Rattle.pop3_server.proofs.DistinctLemmas.{distinct_head, distinct_tail, distinct_cons}
 
 -- ---- places in order
 
@@ -34,18 +36,8 @@ filter_there (Some m ∷ slots) = ap (λ l. Some m ∷ l) (filter_there slots)
 
 -- ---- ids that stand once
 
-no_in_nil : (uid : List ℕ) → Contains [] uid → ⊥
-no_in_nil uid h = omega (arith, h.1)
-
 pub ids-push : (slots : List (Option Message)) (m : Message) → ids (slots ++ Some m ∷ []) ≡ ids slots ++ m.uid ∷ []
 ids-push slots m = ap (map (λ (x : Message). x.uid)) (there-append slots (Some m ∷ [])) ∙ map-append (λ (x : Message). x.uid) (there slots) (m ∷ [])
-
-pub AreDistinct-push : (uids : List (List ℕ)) (uid : List ℕ) → AreDistinct uids → (Contains uids uid → ⊥) → AreDistinct (uids ++ uid ∷ [])
-AreDistinct-push [] uid distinct absent = (λ h. no_in_nil uid h, tt)
-AreDistinct-push (first ∷ uids) uid distinct absent = (
-  λ h. elim (Contains-push_cases uids uid first h) [ inl old ↦ distinct.0 old | inr same ↦ absent (0, omega arith, sym same) ],
-  AreDistinct-push uids uid distinct.1 (λ h. absent (Contains-append_right (first ∷ []) uids uid h)),
-)
 
 -- a removal leaves no new id
 left_ids : (slots : List (Option Message)) (i : ℕ) (uid : List ℕ) → Contains (ids (slice_set slots i None)) uid → Contains (ids slots) uid
@@ -62,10 +54,11 @@ left_ids (Some m ∷ slots) (suc i) uid h =
 pub AreDistinct-removed : (slots : List (Option Message)) (i : ℕ) → AreDistinct (ids slots) → AreDistinct (ids (slice_set slots i None))
 AreDistinct-removed [] i distinct = distinct
 AreDistinct-removed (None ∷ slots) zero distinct = distinct
-AreDistinct-removed (Some m ∷ slots) zero distinct = distinct.1
+AreDistinct-removed (Some m ∷ slots) zero distinct = distinct_tail m.uid (ids slots) distinct
 AreDistinct-removed (None ∷ slots) (suc i) distinct = AreDistinct-removed slots i distinct
 AreDistinct-removed (Some m ∷ slots) (suc i) distinct =
-    (λ h. distinct.0 (left_ids slots i m.uid h), AreDistinct-removed slots i distinct.1)
+    distinct_cons m.uid (ids (slice_set slots i None)) (λ h. distinct_head m.uid (ids slots) distinct (left_ids slots i m.uid h))
+    (AreDistinct-removed slots i (distinct_tail m.uid (ids slots) distinct))
 
 pub count-removed : (slots : List (Option Message)) (i : ℕ) → length (there (slice_set slots i None)) ≤ length (there slots)
 count-removed [] i = omega arith

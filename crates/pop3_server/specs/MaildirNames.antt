@@ -1,6 +1,5 @@
--- The folders of a Maildir, and the unique id of a file in one, by its name.
-use Rattle.std.specs.Prelude.{ℕ, ◌==◌, Bool, List, codes, if◌then◌else◌}
-use Rattle.std.specs.List.{before_first}
+-- The folders of a Maildir, and the unique-id of a file in one, by its name.
+use Rattle.std.specs.Prelude.{ℕ, List, codes, if◌then◌else◌}
 use Rattle.hex.specs.Hex.{encode_lower}
 use Rattle.sha2.specs.Sha256.{sha256}
 use Rattle.pop3_wire.specs.Fields.{is_legal_id}
@@ -10,13 +9,6 @@ use Rattle.pop3_server.specs.declared.maildir_names.Folder.TheVariants.{Cur, New
 abbrev pub folder_name : Folder → List ℕ
 folder_name Cur = codes "cur"
 folder_name New = codes "new"
-
--- the name without its flags: what stands before the first colon
-abbrev pub is_colon : ℕ → Bool
-is_colon byte = byte == 58
-
-abbrev pub base_of : List ℕ → List ℕ
-base_of name = before_first is_colon name
 
 -- the base itself where it is a legal id, else its digest in lower-case hexadecimal
 abbrev pub id_of : List ℕ → List ℕ

@@ -1,6 +1,6 @@
 -- A maildrop: what is known of it, and what each call does to it.
-use Rattle.std.specs.Prelude.{◌≡◌, ◌⊎◌, ℕ, ◌+◌, ◌-◌, ◌^◌, min, List, [], ◌∷◌, map, Option, Some, None, Result, Ok, Err, Vec, slice_get, slice_set}
-use Rattle.std.specs.List.{Contains}
+use Rattle.std.specs.Prelude.{◌≡◌, ◌⊎◌, ℕ, ◌+◌, Bool, true, false, List, [], ◌∷◌, map, Option, Some, None, Result, Ok, Err, Vec, slice_get, slice_set}
+use Rattle.mail_terms.specs.FailureCount.{counted_up}
 use Rattle.pop3_wire.specs.World.{Message}
 use Rattle.pop3_server.specs.declared.maildrop.DropFault.{DropFault}
 use Rattle.pop3_server.specs.declared.maildrop.DropFault.TheVariants.{Refused, NoMemory}
@@ -24,10 +24,6 @@ pub record Mail : Type 0 where
   pub failures : ℕ
   pub removals : ℕ
 
--- one more, as far as a count goes
-abbrev pub counted : ℕ → ℕ
-counted count = min (count + 1) (2 ^ 64 - 1)
-
 -- the messages that are there
 abbrev pub there : List (Option Message) → List Message
 there [] = []
@@ -42,11 +38,6 @@ ids slots = map (λ (message : Message). message.uid) (there slots)
 abbrev pub entry_of : Message → Listed
 entry_of message = record { uid = message.uid; size = message.size }
 
--- no id stands twice
-abbrev pub AreDistinct : List (List ℕ) → Type 0
-AreDistinct [] = Unit {0}
-AreDistinct (uid ∷ uids) = (Contains uids uid → ⊥) × AreDistinct uids
-
 -- a message stands at this place
 abbrev pub HasPlace : Mail → ℕ → Type 0
 HasPlace mail i = (message : Message) × (slice_get mail.slots i ≡ Some (Some message))
@@ -57,11 +48,11 @@ refusing old = record old { failures = old.failures + 1 }
 
 -- a removal was asked for, and nothing else changed
 abbrev pub asked : Mail → Mail
-asked old = record old { removals = counted old.removals }
+asked old = record old { removals = counted_up old.removals }
 
 -- a removal was asked for, and the message at the place is gone
 abbrev pub removed : Mail → ℕ → Mail
-removed old i = record old { slots = slice_set old.slots i None; removals = counted old.removals }
+removed old i = record old { slots = slice_set old.slots i None; removals = counted_up old.removals }
 
 -- a call that only reads gave nothing, and no message changed
 abbrev pub Denies : Mail → DropFault → Mail → Type 0
@@ -86,11 +77,7 @@ Removes old i (Ok done) new = new ≡ removed old i
 Removes old i (Err Refused) new = (new ≡ refusing (asked old)) ⊎ (new ≡ refusing (removed old i))
 Removes old i (Err NoMemory) new = ⊥
 
--- a refusal is counted, as far as the count goes, and nothing else is
-abbrev pub CountsFault : ℕ → DropFault → ℕ → Type 0
-CountsFault old Refused new = new ≡ counted old
-CountsFault old NoMemory new = new ≡ old
-
-abbrev pub Tallies : {T : Type 0} → Mail → Result T DropFault → Mail → Type 0
-Tallies old (Ok done) new = new.failures ≡ old.failures
-Tallies old (Err fault) new = CountsFault old.failures fault new.failures
+-- want of memory is told and not counted
+abbrev pub is_refusal : DropFault → Bool
+is_refusal Refused = true
+is_refusal NoMemory = false

@@ -2,7 +2,8 @@
 use Rattle.std.specs.Prelude.{◌≡◌, ℕ, List, [], map, string_bytes, Result, Ok, Err, Vec}
 use Rattle.pop3_server.specs.declared.maildir_drop.ListedFile.{ListedFile}
 use Rattle.pop3_server.specs.declared.maildrop.DropFault.{DropFault}
-use Rattle.pop3_server.specs.MaildirNames.{base_of, id_of}
+use Rattle.mail_terms.specs.MaildirName.{base}
+use Rattle.pop3_server.specs.MaildirNames.{id_of}
 use Rattle.pop3_server.specs.Maildrop.{Listed, Mail}
 
 -- its path; the names of the files of the last good listing, by their places; and the two counts
@@ -26,7 +27,7 @@ abbrev pub uid_of : Listed → List ℕ
 uid_of entry = entry.uid
 
 abbrev pub id_of_name : List ℕ → List ℕ
-id_of_name name = id_of (base_of name)
+id_of_name name = id_of (base name)
 
 -- each entry has the id of its file's name
 abbrev pub HaveIds : List Listed → List (List ℕ) → Type 0

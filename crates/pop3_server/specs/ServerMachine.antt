@@ -8,11 +8,12 @@ use Rattle.pop3_wire.specs.declared.fault.WireFault.{WireFault}
 use Rattle.pop3_wire.specs.Line.{crlf, ended}
 use Rattle.pop3_wire.specs.Body.{dot}
 use Rattle.pop3_wire.specs.Stuffed.{lines_of_text, stuffed_lines}
+use Rattle.mail_terms.specs.FailureCount.{counted_up}
 use Rattle.pop3_wire.specs.World.{Message}
 use Rattle.pop3_server.specs.declared.rows.MessageRow.{MessageRow}
 use Rattle.pop3_server.specs.declared.state.State.{State}
 use Rattle.pop3_server.specs.declared.state.State.TheVariants.{Authorization, Transaction, Closed}
-use Rattle.pop3_server.specs.Maildrop.{Listed, Mail, there, entry_of, HasPlace, counted, refusing, asked, removed, max_count, max_size}
+use Rattle.pop3_server.specs.Maildrop.{Listed, Mail, there, entry_of, HasPlace, refusing, asked, removed, max_count, max_size}
 
 -- ---- the rows: the messages as PASS found them, and their marks
 
@@ -185,7 +186,7 @@ pub data Empties : ℕ → List MessageRow → Mail → Bool → Mail → Type 0
 -- a count of removals, with one more for each marked row
 abbrev pub with_marked : List MessageRow → ℕ → ℕ
 with_marked [] count = count
-with_marked (row ∷ rows) count = with_marked rows (if row.marked then counted count else count)
+with_marked (row ∷ rows) count = with_marked rows (if row.marked then counted_up count else count)
 
 -- removals are asked for at QUIT alone, one for each marked message; so it is of every maildrop
 abbrev pub AsksRemovals : Mail → Deed → Mail → Type 0

@@ -1,5 +1,5 @@
 -- What serving a link does: lines are got, and their answers sent.
-use Rattle.std.specs.Prelude.{◌≡◌, ◌⊎◌, ◌≤◌, ◌<◌, ◌+◌, ℕ, Bool, true, false, List, [], ◌∷◌, ◌++◌, length, Result, Ok, Err}
+use Rattle.std.specs.Prelude.{◌≡◌, ◌⊎◌, ◌≤◌, ◌<◌, ◌+◌, ◌-◌, ℕ, Bool, true, false, List, [], ◌∷◌, ◌++◌, length, Result, Ok, Err}
 use Rattle.std.specs.List.{flat_map, AllByRecursion}
 use Rattle.pop3_wire.specs.Line.{IsLine, ended}
 use Rattle.pop3_wire.specs.Link.{Link}
@@ -13,6 +13,13 @@ use Rattle.pop3_server.specs.ServerMachine.{Machine, greeting, is_open}
 use Rattle.pop3_server.specs.AnswersLines.{AnswersLines, AnswersLine, SameServer}
 use Rattle.pop3_server.specs.Got.{Waiting}
 
+-- how long a line may be, its CR LF included, and how many octets are read of one connection
+abbrev pub max_line : ℕ
+max_line = 512
+
+abbrev pub max_octets : ℕ
+max_octets = 16777216
+
 -- ---- what comes in
 
 -- these octets were got, and nothing was sent
@@ -25,12 +32,12 @@ pub record Queues (before : Waiting) (dropped : List ℕ) (after : Waiting) (gai
   pub octets : before.octets ++ gained ≡ dropped ++ after.octets
   pub left : length gained + after.left ≡ before.left
 
--- a line waits, one of more than 510 octets was dropped, or no whole line will come
+-- a line waits, one that is too long was dropped, or no whole line will come
 abbrev pub Hears : Link → Waiting → Result Heard ServerFault → Link → Waiting → Type 0
 Hears old before (Ok (Line n)) new after =
-    (gained : List ℕ) × Took old new gained × Queues before [] after gained × HasLine 512 after.octets n
+    (gained : List ℕ) × Took old new gained × Queues before [] after gained × HasLine max_line after.octets n
 Hears old before (Ok LongLine) new after =
-    (gained line : List ℕ) × Took old new gained × Queues before (ended line) after gained × IsLine line × (510 < length line)
+    (gained line : List ℕ) × Took old new gained × Queues before (ended line) after gained × IsLine line × (max_line - 2 < length line)
 Hears old before (Ok End) new after =
     (gained rest : List ℕ) × Took old new gained × Queues before rest after gained × IsLine (rest ++ after.octets)
     × ((new.ended ≡ true) ⊎ (after.left ≡ 0))
@@ -45,7 +52,7 @@ TakesMore (Err fault) left link = Unit {0}
 
 -- where a line waits, it does so whatever is known of the link
 abbrev pub Found : Heard → Waiting → Type 0
-Found (Line n) waiting = HasLine 512 waiting.octets n
+Found (Line n) waiting = HasLine max_line waiting.octets n
 Found LongLine waiting = Unit {0}
 Found End waiting = Unit {0}
 
@@ -79,7 +86,7 @@ WentOut {D} sound mail old lines rest sent (Err NoMemory) new =
 pub record Served {D : Type 0} (sound : D → Type 0) (mail : D → Mail) (old : Machine D) (before : Link) (result : Result (Unit {0}) ServerFault) (new : Machine D) (after : Link) : Type 0 where
   pub gained : List ℕ
   pub got : after.got ≡ before.got ++ gained
-  pub bound : length gained ≤ 16777216
+  pub bound : length gained ≤ max_octets
   pub lines : List (List ℕ)
   pub rest : List ℕ
   pub each : AllByRecursion IsLine lines
@@ -88,7 +95,7 @@ pub record Served {D : Type 0} (sound : D → Type 0) (mail : D → Mail) (old :
   pub sent : after.sent ≡ before.sent ++ out
   pub answered : WentOut sound mail old lines rest out result new
   -- Ok only where the server is closed, nothing comes any more, or the bound is reached
-  pub ends : result ≡ Ok tt → (is_open new.state ≡ false) ⊎ ((after.ended ≡ true) ⊎ (length gained ≡ 16777216))
+  pub ends : result ≡ Ok tt → (is_open new.state ≡ false) ⊎ ((after.ended ≡ true) ⊎ (length gained ≡ max_octets))
 
 -- a fault of the link is a refused call of it, and there is no other
 abbrev pub refusal_of : Result (Unit {0}) ServerFault → Result (Unit {0}) ServerFault

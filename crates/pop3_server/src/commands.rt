@@ -4,7 +4,8 @@ ghost use Rattle.pop3_wire.specs.declared.command.Command.TheVariants.{Retr, Top
 ghost use Rattle.pop3_server.specs.declared.rows.MessageRow.{MessageRow};
 ghost use Rattle.pop3_server.specs.declared.state.State.{State};
 ghost use Rattle.pop3_server.specs.declared.state.State.TheVariants.{Authorization, Transaction, Closed};
-ghost use Rattle.pop3_server.specs.Maildrop.{HasPlace, counted};
+ghost use Rattle.mail_terms.specs.FailureCount.{counted_up};
+ghost use Rattle.pop3_server.specs.Maildrop.{HasPlace};
 ghost use Rattle.pop3_server.specs.ServerMachine.{Say, Open, Leave, Answers, SamePlaces, Unanswered, Tied, Tries, Empties, with_marked, in_authorization, in_transaction, next_of, said, of_row, row_at, scan_line, uid_line};
 
 use crate::fault::ServerFault;
@@ -87,7 +88,7 @@ fn top<D: Maildrop>(
 /// Removes one message, and says whether it was removed.
 fn remove_at<D: Maildrop>(drop: &mut D, i: usize) -> bool
     requires { D.sound drop.old → HasPlace (D.mail drop.old) i }
-    ensures asks { (D.mail drop.new).removals ≡ counted (D.mail drop.old).removals }
+    ensures asks { (D.mail drop.new).removals ≡ counted_up (D.mail drop.old).removals }
     ensures tries { D.sound drop.new → D.sound drop.old × Tries (D.mail drop.old) i result (D.mail drop.new) }
 {
     match drop.remove(i) {

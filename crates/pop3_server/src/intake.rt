@@ -46,7 +46,7 @@ impl Model for Intake {
 impl Intake {
     /// Nothing was got yet.
     pub fn new() -> Intake
-        ensures { result ≡ record { octets = []; left = 16777216 } }
+        ensures { result ≡ record { octets = []; left = MAX_OCTETS } }
     {
         Intake {
             reader: LineReader::new(),
@@ -72,15 +72,15 @@ impl Intake {
     /// How long the line is that waits, if one ends within [`MAX_LINE`].
     fn line_end(&mut self) -> Option<usize>
         ensures same { self.new ≡ self.old }
-        ensures found { IfSome result (HasLine 512 self.new.octets) }
-        ensures none { IfNone result (HasNoLine 512 self.new.octets) }
+        ensures found { IfSome result (HasLine MAX_LINE self.new.octets) }
+        ensures none { IfNone result (HasNoLine MAX_LINE self.new.octets) }
     {
         self.reader.line_end(MAX_LINE)
     }
 
     /// Takes what comes next, and says whether anything came.
     fn more<W: Wire>(&mut self, wire: &mut W) -> Result<bool, ServerFault>
-        requires { length self.old.octets < 512 }
+        requires { length self.old.octets < MAX_LINE }
         ensures counted { Tallies (W.seen wire.old).failures result (W.seen wire.new).failures }
         ensures err { IfErr result (λ e. e ≡ ServerFault.ReadFailed) }
         ensures takes { (piece : List ℕ) × (length piece + self.new.left ≡ self.old.left) × (self.new.octets ≡ self.old.octets ++ piece)
@@ -103,8 +103,8 @@ impl Intake {
 
     /// Drops the rest of a line that is too long, and its CR LF.
     fn long_line<W: Wire>(&mut self, wire: &mut W) -> Result<Heard, ServerFault>
-        requires none { HasNoLine 512 self.old.octets }
-        requires long { 512 ≤ length self.old.octets }
+        requires none { HasNoLine MAX_LINE self.old.octets }
+        requires long { MAX_LINE ≤ length self.old.octets }
         ensures counted { Tallies (W.seen wire.old).failures result (W.seen wire.new).failures }
         ensures err { IfErr result (λ e. e ≡ ServerFault.ReadFailed) }
         ensures found { IfOk result (λ heard. Found heard self.new) }

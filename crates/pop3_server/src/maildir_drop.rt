@@ -1,14 +1,17 @@
 //! A Maildir in a real folder as a maildrop. Its files are listed as they lie in `cur` and `new`,
 //! those whose names begin with a full stop left out (the Maildir format: a name up to its first
 //! colon stays, and flags follow).
-ghost use Rattle.std.specs.Prelude.{◌≡◌, ◌≤◌, vec_len, IfOk, IfErr, []};
+ghost use Rattle.std.specs.Prelude.{◌≡◌, ◌≤◌, map, vec_len, IfOk, IfErr, []};
 ghost use Rattle.std.specs.String.{string_bytes};
-ghost use Rattle.pop3_server.specs.Maildrop.{CountsFault, Tallies, counted};
-ghost use Rattle.pop3_server.specs.RealMaildir.{mail_of, names_of, HaveIds, ListsNames};
+ghost use Rattle.mail_terms.specs.Distinct.{AreDistinct};
+ghost use Rattle.mail_terms.specs.FailureCount.{Tallies, counted_up, refuses};
+ghost use Rattle.pop3_server.specs.Maildrop.{is_refusal};
+ghost use Rattle.pop3_server.specs.RealMaildir.{mail_of, names_of, uid_of, HaveIds, ListsNames};
 
-use crate::maildir_names::{Folder, MailFile, base, unique_id};
+use crate::maildir_names::{Folder, MailFile, unique_id};
 use crate::maildrop::{DropFault, Entry, MAX_COUNT, MAX_SIZE, Maildrop};
 use crate::size::SizeCount;
+use mail_terms::{FailureCount, base};
 use std::collections::BTreeSet;
 use std::fs;
 use std::io::{self, ErrorKind, Read};
@@ -22,7 +25,7 @@ pub struct MaildirDrop<'a, R: Files + AllocGlobal + Clone + Drop> {
     rt: &'a R,
     path: String,
     files: Vec<ListedFile>,
-    failures: u64,
+    failures: FailureCount,
     removals: u64,
 }
 
@@ -90,7 +93,7 @@ impl<'a, R: Files + AllocGlobal + Clone + Drop> MaildirDrop<'a, R> {
             rt,
             path,
             files: Vec::new(rt.alloc()),
-            failures: 0,
+            failures: FailureCount::new(),
             removals: 0,
         }
     }
@@ -126,7 +129,7 @@ impl<'a, R: Files + AllocGlobal + Clone + Drop> MaildirDrop<'a, R> {
                 continue;
             }
             found.push(MailFile {
-                base: Vec::from_slice(alloc, base(name.as_bytes()))?,
+                base: Vec::from_slice(alloc, base(name).as_bytes())?,
                 folder,
                 name: String::from_str(alloc, name)?,
             })?;
@@ -147,6 +150,7 @@ impl<'a, R: Files + AllocGlobal + Clone + Drop> MaildirDrop<'a, R> {
     #[tactic(auto, using(crate::proofs::MaildirLemmas::ids_push))]
     fn list(&self, found: Vec<MailFile>) -> io::Result<Listing>
         ensures within { IfOk result (λ listing. vec_len listing.entries ≤ MAX_COUNT) }
+        ensures distinct { IfOk result (λ listing. AreDistinct (map uid_of listing.entries.items)) }
         ensures names { IfOk result (λ listing. HaveIds listing.entries.items (names_of listing.files.items)) }
     {
         let alloc = self.rt.alloc();
@@ -158,8 +162,9 @@ impl<'a, R: Files + AllocGlobal + Clone + Drop> MaildirDrop<'a, R> {
                 break;
             }
             let MailFile { folder, name, .. } = file;
-            let uid = unique_id(alloc, base(name.as_bytes()))?;
-            if seen.contains(uid.as_slice()) {
+            let uid = unique_id(alloc, base(name.as_str()).as_bytes())?;
+            let key = Vec::from_slice(alloc, uid.as_slice())?;
+            if seen.contains(&key) {
                 continue;
             }
             let path = self.path_of(folder, name.as_str())?;
@@ -167,7 +172,7 @@ impl<'a, R: Files + AllocGlobal + Clone + Drop> MaildirDrop<'a, R> {
             if size > MAX_SIZE {
                 continue;
             }
-            seen.insert(Vec::from_slice(alloc, uid.as_slice())?)?;
+            seen.insert(key)?;
             entries.push(Entry::new(uid, size))?;
             files.push(ListedFile {
                 folder,
@@ -208,12 +213,12 @@ impl<'a, R: Files + AllocGlobal + Clone + Drop> MaildirDrop<'a, R> {
     /// refusal, which is counted.
     fn refuse(&mut self, error: io::Error) -> DropFault
         ensures others { self.new ≡ record self.old { failures = self.new.failures } }
-        ensures count { CountsFault self.old.failures result self.new.failures }
+        ensures count { Tallies (is_refusal result) self.old.failures self.new.failures }
     {
         if error.kind() == ErrorKind::OutOfMemory {
             return DropFault::NoMemory;
         }
-        self.failures = self.failures.saturating_add(1);
+        self.failures.count_up();
         DropFault::Refused
     }
 }
@@ -225,12 +230,13 @@ impl<'a, R: Files + AllocGlobal + Clone + Drop> Maildrop for MaildirDrop<'a, R> 
 
     fn entries(&mut self) -> Result<Vec<Entry>, DropFault>
         ensures within { IfOk result (λ entries. vec_len entries ≤ MAX_COUNT) }
-        ensures tally { Tallies (mail_of self.old) result (mail_of self.new) }
+        ensures distinct { IfOk result (λ entries. AreDistinct (map uid_of entries.items)) }
+        ensures tally { Tallies (refuses is_refusal result) self.old.failures self.new.failures }
         ensures removes_none { self.new.removals ≡ self.old.removals }
         ensures names { ListsNames self.old result self.new }
         ensures path { self.new.path ≡ self.old.path }
     {
-        if self.failures == u64::MAX {
+        if self.failures.is_full() {
             return Err(DropFault::Refused);
         }
         let listed = match self.find() {
@@ -247,10 +253,10 @@ impl<'a, R: Files + AllocGlobal + Clone + Drop> Maildrop for MaildirDrop<'a, R> 
     }
 
     fn text(&mut self, i: usize) -> Result<Vec<u8>, DropFault>
-        ensures tally { Tallies (mail_of self.old) result (mail_of self.new) }
+        ensures tally { Tallies (refuses is_refusal result) self.old.failures self.new.failures }
         ensures others { self.new ≡ record self.old { failures = self.new.failures } }
     {
-        if self.failures == u64::MAX {
+        if self.failures.is_full() {
             return Err(DropFault::Refused);
         }
         match self.read_file(i) {
@@ -261,24 +267,24 @@ impl<'a, R: Files + AllocGlobal + Clone + Drop> Maildrop for MaildirDrop<'a, R> 
 
     fn remove(&mut self, i: usize) -> Result<(), DropFault>
         ensures err { IfErr result (λ e. e ≡ DropFault.Refused) }
-        ensures tally { Tallies (mail_of self.old) result (mail_of self.new) }
-        ensures asks { self.new.removals ≡ counted self.old.removals }
+        ensures tally { Tallies (refuses is_refusal result) self.old.failures self.new.failures }
+        ensures asks { self.new.removals ≡ counted_up self.old.removals }
         ensures others { (self.new.path ≡ self.old.path) × (self.new.names ≡ self.old.names) }
     {
         self.removals = self.removals.saturating_add(1);
-        if self.failures == u64::MAX {
+        if self.failures.is_full() {
             return Err(DropFault::Refused);
         }
         match self.remove_file(i) {
             Ok(()) => Ok(()),
             Err(_) => {
-                self.failures += 1;
+                self.failures.count_up();
                 Err(DropFault::Refused)
             }
         }
     }
 
     fn failures(&self) -> u64 {
-        self.failures
+        self.failures.count()
     }
 }

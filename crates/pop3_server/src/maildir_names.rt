@@ -1,8 +1,8 @@
-//! Names of files in a Maildir: the part that stays, and the unique id that it stands for.
-ghost use Rattle.std.specs.Prelude.{◌≡◌, ◌≤◌, true, length, IsTrue, IfOk};
-ghost use Rattle.std.specs.List.{position_or_len, list_all};
+//! The folders and files of a Maildir, and the unique-id that a file's name stands for.
+ghost use Rattle.std.specs.Prelude.{◌≡◌, true, length, IsTrue, IfOk};
+ghost use Rattle.std.specs.List.{list_all};
 ghost use Rattle.pop3_wire.specs.Fields.{is_legal_id, is_id_byte};
-ghost use Rattle.pop3_server.specs.MaildirNames.{folder_name, is_colon, base_of, id_of};
+ghost use Rattle.pop3_server.specs.MaildirNames.{folder_name, id_of};
 ghost use Rattle.hex.specs.Hex.{encode_lower};
 ghost use Rattle.sha2.specs.Sha256.{sha256};
 
@@ -38,21 +38,6 @@ pub struct MailFile {
     pub name: String,
 }
 
-/// How many bytes stand before the first colon, or all where there is none.
-fn base_length(name: &[u8]) -> usize
-    ensures value { result ≡ position_or_len is_colon name.now }
-    ensures fits { result ≤ length name.now }
-{
-    name.iter().take_while(|byte| **byte != b':').count()
-}
-
-/// What stands before the first colon of a name, behind which flags stand.
-pub fn base(name: &[u8]) -> &[u8]
-    ensures { result.now ≡ base_of name.now }
-{
-    &name[..base_length(name)]
-}
-
 /// The 32 bytes of a digest in lower-case hexadecimal, which are characters of an id.
 fn hexadecimal(digest: &[u8]) -> [u8; 64]
     requires { length digest.now ≡ 32 }
@@ -75,7 +60,7 @@ fn digest(base: &[u8]) -> [u8; 64]
     hexadecimal(digest.as_slice())
 }
 
-/// The unique id of a base: the base itself where that is a legal id, else its SHA-256 in
+/// The unique-id of a base: the base itself where that is a legal id, else its SHA-256 in
 /// lower-case hexadecimal.
 pub fn unique_id(alloc: Global, base: &[u8]) -> Result<Bytes, AllocError>
     ensures value { IfOk result (λ id. id ≡ id_of base.now) }

@@ -1,7 +1,9 @@
 //! Maildrops: messages that a server lists, gives and removes (RFC 1939, section 4).
 ghost use Rattle.std.specs.Prelude.{◌≡◌, ℕ, ◌≤◌, IsTrue, IfOk, IfErr, map, vec_len};
 ghost use Rattle.pop3_wire.specs.Fields.{is_legal_id};
-ghost use Rattle.pop3_server.specs.Maildrop.{Mail, Listed, counted, AreDistinct, HasPlace, ListsMessages, Gives, Removes, Tallies};
+ghost use Rattle.mail_terms.specs.Distinct.{AreDistinct};
+ghost use Rattle.mail_terms.specs.FailureCount.{Tallies, counted_up, refuses};
+ghost use Rattle.pop3_server.specs.Maildrop.{Mail, Listed, HasPlace, ListsMessages, Gives, Removes, is_refusal};
 
 use pop3_wire::Bytes;
 use std::alloc::{AllocError, AllocFailed};
@@ -47,7 +49,7 @@ impl<T: Drop> From<AllocFailed<T>> for DropFault {
     }
 }
 
-/// What a listing says of a message: its unique id, a legal one, and its size in octets, each
+/// What a listing says of a message: its unique-id, a legal one, and its size in octets, each
 /// line's end counted as two, at most [`MAX_SIZE`].
 #[derive(Drop)]
 pub struct Entry {
@@ -77,7 +79,7 @@ impl Entry {
         Entry { uid, size }
     }
 
-    /// The unique id.
+    /// The unique-id.
     pub fn uid(&self) -> &[u8]
         ensures value { result.now ≡ self.now.uid }
         ensures legal { IsTrue (is_legal_id result.now) }
@@ -107,15 +109,15 @@ pub trait Maildrop {
     /// that in this list.
     fn entries(&mut self) -> Result<Vec<Entry>, DropFault>
         ensures within { IfOk result (λ entries. vec_len entries ≤ MAX_COUNT) }
-        ensures distinct { sound self.new → IfOk result (λ entries. AreDistinct (map (λ (e : Listed). e.uid) entries.items)) }
-        ensures tally { Tallies (mail self.old) result (mail self.new) }
+        ensures distinct { IfOk result (λ entries. AreDistinct (map (λ (e : Listed). e.uid) entries.items)) }
+        ensures tally { Tallies (refuses is_refusal result) (mail self.old).failures (mail self.new).failures }
         ensures removes_none { (mail self.new).removals ≡ (mail self.old).removals }
         ensures lists { sound self.new → sound self.old × ListsMessages (mail self.old) result (mail self.new) };
 
     /// The text of the message at a place, its lines ended by LF.
     fn text(&mut self, i: usize) -> Result<Vec<u8>, DropFault>
         requires { sound self.old → HasPlace (mail self.old) i }
-        ensures tally { Tallies (mail self.old) result (mail self.new) }
+        ensures tally { Tallies (refuses is_refusal result) (mail self.old).failures (mail self.new).failures }
         ensures removes_none { (mail self.new).removals ≡ (mail self.old).removals }
         ensures gives { sound self.new → sound self.old × Gives (mail self.old) i result (mail self.new) };
 
@@ -124,8 +126,8 @@ pub trait Maildrop {
     fn remove(&mut self, i: usize) -> Result<(), DropFault>
         requires { sound self.old → HasPlace (mail self.old) i }
         ensures err { IfErr result (λ e. e ≡ DropFault.Refused) }
-        ensures tally { Tallies (mail self.old) result (mail self.new) }
-        ensures asks { (mail self.new).removals ≡ counted (mail self.old).removals }
+        ensures tally { Tallies (refuses is_refusal result) (mail self.old).failures (mail self.new).failures }
+        ensures asks { (mail self.new).removals ≡ counted_up (mail self.old).removals }
         ensures removes { sound self.new → sound self.old × Removes (mail self.old) i result (mail self.new) };
 
     /// How many calls were refused, as far as the count goes.

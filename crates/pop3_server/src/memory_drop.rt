@@ -4,7 +4,9 @@ ghost use Rattle.std.specs.List.{Contains};
 ghost use Rattle.pop3_wire.specs.Fields.{is_legal_id};
 ghost use Rattle.pop3_wire.specs.World.{Message};
 ghost use Rattle.pop3_server.specs.Size.{size_of};
-ghost use Rattle.pop3_server.specs.Maildrop.{Mail, Listed, counted, there, ids, entry_of, AreDistinct, HasPlace, ListsMessages, Gives, Removes, Tallies};
+ghost use Rattle.mail_terms.specs.Distinct.{AreDistinct};
+ghost use Rattle.mail_terms.specs.FailureCount.{Tallies, counted_up, refuses};
+ghost use Rattle.pop3_server.specs.Maildrop.{Mail, Listed, there, ids, entry_of, HasPlace, ListsMessages, Gives, Removes, is_refusal};
 
 use crate::maildrop::{DropFault, Entry, MAX_COUNT, MAX_SIZE, Maildrop};
 use crate::size::size_of;
@@ -126,7 +128,8 @@ pub struct MemoryDrop {
 
 impl Model for MemoryDrop {
     ghost use Rattle.std.specs.Prelude.{◌≤◌, length};
-    ghost use Rattle.pop3_server.specs.Maildrop.{Mail, there, ids, AreDistinct, max_count};
+    ghost use Rattle.mail_terms.specs.Distinct.{AreDistinct};
+    ghost use Rattle.pop3_server.specs.Maildrop.{Mail, there, ids, max_count};
 
     ghost Value = { Mail };
 

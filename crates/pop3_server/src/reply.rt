@@ -49,7 +49,7 @@ pub fn say_size(alloc: Global, number: u32, row: &MessageRow) -> Result<Vec<u8>,
     Ok(format!(in alloc; "+OK {number} {size}\r\n")?.into_bytes())
 }
 
-/// A message's unique id, behind its number.
+/// A message's unique-id, behind its number.
 pub fn say_uid(alloc: Global, number: u32, row: &MessageRow) -> Result<Vec<u8>, ServerFault>
     ensures ok { IfOk result (λ reply. reply.items ≡ said (codes "+OK " ++ uid_line number row.now)) }
     ensures err { IfErr result (λ e. e ≡ ServerFault.NoMemory) }
@@ -110,7 +110,7 @@ pub fn say_sizes(alloc: Global, rows: &[MessageRow]) -> Result<Vec<u8>, ServerFa
     Ok(reply)
 }
 
-/// The unique ids of the messages that aren't marked.
+/// The unique-ids of the messages that aren't marked.
 pub fn say_uids(alloc: Global, rows: &[MessageRow]) -> Result<Vec<u8>, ServerFault>
     requires { length rows.now ≤ MAX_COUNT }
     ensures ok { IfOk result (λ reply. reply.items ≡ listed uid_line rows.now) }

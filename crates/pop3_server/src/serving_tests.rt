@@ -77,6 +77,7 @@ struct LockStep<'a> {
     given: usize,
     expected: usize,
     sent: usize,
+    sends: usize,
     early: bool,
     failures: u64,
 }
@@ -88,6 +89,7 @@ impl Drop for LockStep<'_> {
             given: _,
             expected: _,
             sent: _,
+            sends: _,
             early: _,
             failures: _,
         } = self;
@@ -103,6 +105,7 @@ impl Wire for LockStep<'_> {
 
     fn send(&mut self, bytes: &[u8]) -> Result<(), WireDown> {
         self.sent = self.sent.saturating_add(bytes.len());
+        self.sends = self.sends.saturating_add(1);
         Ok(())
     }
 
@@ -149,6 +152,7 @@ fn each_answer_is_sent_whole_before_more_is_asked(rt: HostRuntime) -> Result<(),
         given: 0,
         expected: 16,
         sent: 0,
+        sends: 0,
         early: false,
         failures: 0,
     };
@@ -157,6 +161,8 @@ fn each_answer_is_sent_whole_before_more_is_asked(rt: HostRuntime) -> Result<(),
     serve(&mut server, &mut wire)?;
     assert!(rt; !wire.early);
     assert_eq!(rt; wire.given, 5);
+    // the greeting, and one send for each answer
+    assert_eq!(rt; wire.sends, 6);
     assert_eq!(rt; wire.sent, wire.expected);
     Ok(())
 }

@@ -6,7 +6,7 @@ use Rattle.pop3_server.proofs.maildir_drop.MaildirDropMaildrop.TheImpl.Goals as 
 pub entries-tells : goal.entries-tells
 entries-tells g c = record {
   within = c.ensures.within;
-  distinct = λ sound. absurd sound;
+  distinct = c.ensures.distinct;
   tally = c.ensures.tally;
   removes_none = c.ensures.removes_none;
   lists = λ sound. absurd sound;

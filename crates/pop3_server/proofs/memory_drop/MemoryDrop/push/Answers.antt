@@ -1,7 +1,9 @@
-use Rattle.std.proofs.Common.{◌≡◌, ◌<◌, length, sym, ap, arith, subst}
+use Rattle.std.proofs.Common.{◌≡◌, ◌<◌, ℕ, List, length, sym, ap, arith, subst}
 use Rattle.std.specs.List.{Contains}
-use Rattle.pop3_server.specs.Maildrop.{Mail, there, ids, AreDistinct}
-use Rattle.pop3_server.proofs.SlotLemmas.{ids-push, count-push, AreDistinct-push}
+use Rattle.mail_terms.specs.Distinct.{AreDistinct}
+use Rattle.pop3_server.specs.Maildrop.{Mail, there, ids}
+use Rattle.pop3_server.proofs.SlotLemmas.{ids-push, count-push}
+use Rattle.pop3_server.proofs.DistinctLemmas.{distinct_push}
 use Rattle.pop3_server.proofs.memory_drop.MemoryDrop.push.Goals as goal
 
 pub invariant_of-self-2 : goal.invariant_of-self-2
@@ -13,4 +15,4 @@ invariant_of-self-2 c =
     let absent : Contains (ids slots) kept.uid → ⊥ =
     λ h. c.requires.absent (subst (λ u. Contains (ids c.args.self.now.slots) u) same (subst (λ s. Contains (ids s) kept.uid) slots_are h)) in
     let room : length (there slots) < 100000 = subst (λ s. length (there s) < 100000) (sym slots_are) c.requires.room in
-    rw c.in_ok-push.ensures.items (subst AreDistinct (sym (ids-push slots kept)) (AreDistinct-push (ids slots) kept.uid c.self.invariant.0 absent), let more = count-push slots kept in omega (arith, more, room))
+    rw c.in_ok-push.ensures.items (subst (λ (l : List (List ℕ)). AreDistinct l) (sym (ids-push slots kept)) (distinct_push (ids slots) kept.uid c.self.invariant.0 absent), let more = count-push slots kept in omega (arith, more, room))

@@ -1,7 +1,8 @@
-use Rattle.std.proofs.Common.{◌≡◌, length, map, Some, Option, List, is_some, sym, ◌∙◌, ap, arith, subst, rules}
+use Rattle.std.proofs.Common.{◌≡◌, ℕ, length, map, Some, Option, List, is_some, sym, ◌∙◌, ap, arith, subst, rules}
 use Rattle.std.proofs.lemmas.List.Elements.{filter_from_retain}
+use Rattle.mail_terms.specs.Distinct.{AreDistinct}
 use Rattle.pop3_wire.specs.World.{Message}
-use Rattle.pop3_server.specs.Maildrop.{Mail, Listed, there, ids, entry_of, AreDistinct}
+use Rattle.pop3_server.specs.Maildrop.{Mail, Listed, there, ids, entry_of}
 use Rattle.pop3_server.proofs.SlotLemmas.{there_map, ids_map, filter_there, ids-listed}
 use Rattle.pop3_server.proofs.memory_drop.MemoryDropMaildrop.entries.Goals as goal
 
@@ -10,7 +11,7 @@ kept_is c = filter_from_retain _ is_some (λ p x b q h. search rules) _ _ _ c.re
 
 pub invariant_of-self : goal.invariant_of-self
 invariant_of-self c =
-    (subst AreDistinct (sym (ap ids (kept_is c) ∙ ids_map (there c.self.inside.slots.items))) c.self.invariant.0, omega (arith, ap (λ s. length (there s)) (kept_is c), ap length (there_map (there c.self.inside.slots.items)), c.self.invariant.1))
+    (subst (λ (l : List (List ℕ)). AreDistinct l) (sym (ap ids (kept_is c) ∙ ids_map (there c.self.inside.slots.items))) c.self.invariant.0, omega (arith, ap (λ s. length (there s)) (kept_is c), ap length (there_map (there c.self.inside.slots.items)), c.self.invariant.1))
 
 slots_are : (c : goal.After-retain) → c.self.inside.slots.items ≡ c.args.self.now.slots
 slots_are c = ap (λ (m : Mail). m.slots) c.self.view_is
@@ -19,8 +20,8 @@ entries_are : (c : goal.After-retain) → c.in_ok-entries.entries.items ≡ map 
 entries_are c = c.in_ok-entries.ensures ∙ ap (λ s. map entry_of (there s)) c.as_slice.ensures.value
 
 pub returns-clause-distinct : goal.returns-clause-distinct
-returns-clause-distinct c = λ s.
-    subst AreDistinct (sym (ap (map (λ (e : Listed). e.uid)) (entries_are c) ∙ ids-listed (there c.self.inside.slots.items))) c.self.invariant.0
+returns-clause-distinct c =
+    subst (λ (l : List (List ℕ)). AreDistinct l) (sym (ap (map (λ (e : Listed). e.uid)) (entries_are c) ∙ ids-listed (there c.self.inside.slots.items))) c.self.invariant.0
 
 pub returns-clause-lists : goal.returns-clause-lists
 returns-clause-lists c = λ s.
