@@ -33,4 +33,7 @@ legal_of line row is =
     let whole = bind_ok (nothing_more id.0 (past is_in_field field.0)) _ row id.2 in
     let legal = if_ok _ (take_while is_in_field field.0) id.0 BadField id.1 in
     let same_id = if_ok _ id.0 whole.0 BadField whole.1 in
-    subst (λ (u : List ℕ). is_legal_id u ≡ true) (legal.1 ∙ same_id.1 ∙ ap (λ (r : ℕ × List ℕ). r.1) (same _ row _ _ whole.2 refl refl)) legal.0
+    let both : ℕ × List ℕ = (first.0.0, whole.0) in
+    let pair : both ≡ row = same both row _ _ whole.2 refl refl in
+    let id_is : whole.0 ≡ row.1 = ap (λ (r : ℕ × List ℕ). r.1) {x = both} {y = row} pair in
+    subst (λ (u : List ℕ). is_legal_id u ≡ true) (legal.1 ∙ same_id.1 ∙ id_is) legal.0
