@@ -3,8 +3,8 @@
 
 - Each wrong body, `crates/NAME/must-fail/*.edit`, can be applied: its file is there, and each text that it replaces
   stands there exactly once, after the pairs before it. Its name is of small letters, digits and hyphens.
-- No program has a `#[test]`, and no library once there is a crate `tests` above them: a crate with tests of its own is
-  proved twice, and a program is tested from outside.
+- No program has a `#[test]`, nor has a library with a folder in `crates/tests`: a crate with tests of its own is proved
+  twice.
 """
 
 import re
@@ -52,11 +52,10 @@ def edit_faults():
 
 
 def test_faults():
-    libraries_too = (CRATES / "tests").is_dir()
     for file in sorted(CRATES.glob("*/src/**/*.rt")):
         crate = file.relative_to(CRATES).parts[0]
-        looked_at = libraries_too or (CRATES / crate / "src/main.rt").is_file()
-        if crate != "tests" and looked_at and re.search(r"^\s*#\[(test|cfg\(test\))\]", file.read_text(), re.MULTILINE):
+        stand_above = (CRATES / "tests/src" / f"{crate}_tests").is_dir() or (CRATES / crate / "src/main.rt").is_file()
+        if stand_above and re.search(r"^\s*#\[(test|cfg\(test\))\]", file.read_text(), re.MULTILINE):
             yield f"{file.relative_to(CRATES)}: a test stands here"
 
 

@@ -213,6 +213,3 @@ impl Seen {
         Ok(added || marked)
     }
 }
-
-#[cfg(test)]
-mod tests;

@@ -100,6 +100,3 @@ pub fn plan(
 pub fn distinct_messages_are_filtered()
     ensures { DistinctAreFiltered }
 {}
-
-#[cfg(test)]
-mod tests;

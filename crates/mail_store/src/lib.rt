@@ -24,6 +24,3 @@ pub use maildir::names::{
     file_name, marks_keep_the_base, names_are_bases, names_differ, one_more_is_held, uid_of,
     unheld_ids_are_not_in_new,
 };
-
-#[cfg(test)]
-mod tests;

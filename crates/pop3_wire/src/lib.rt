@@ -38,12 +38,3 @@ pub use unstuffer::{
     Fed, Spot, Unstuffer, ends_with_body, holds_no_body, shows_a_beginning, starts_empty,
 };
 pub use wire::{Wire, WireDown};
-
-#[cfg(test)]
-mod command_tests;
-#[cfg(test)]
-mod link_tests;
-#[cfg(test)]
-mod reading_tests;
-#[cfg(test)]
-mod stuffing_tests;

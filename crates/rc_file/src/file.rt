@@ -45,6 +45,3 @@ pub fn read_rc(alloc: Global, bytes: &[u8]) -> Result<(Settings, Vec<Warning>), 
     let warnings = find_warnings(alloc, &rows)?;
     Ok((settings, warnings))
 }
-
-#[cfg(test)]
-mod tests;

@@ -129,23 +129,3 @@ pub fn full_path(alloc: Global, path: &str, home: &str) -> Result<String, AllocE
     full.push_str(&path[1..])?;
     Ok(full)
 }
-
-#[cfg(test)]
-mod tests {
-    use super::*;
-    use std::test::Fail;
-
-    #[test]
-    fn begins_in_the_home(rt: HostRuntime) -> Result<(), Fail> {
-        for (path, wanted) in [
-            ("~/Maildir/", "/home/fred/Maildir/"),
-            ("/var/mail/fred", "/var/mail/fred"),
-            ("a/~/b", "a/~/b"),
-            ("~fred/m/", "~fred/m/"),
-        ] {
-            let full = full_path(rt.alloc(), path, "/home/fred")?;
-            assert_eq!(rt; full.as_str(), wanted);
-        }
-        Ok(())
-    }
-}

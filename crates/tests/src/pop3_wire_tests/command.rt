@@ -1,9 +1,6 @@
 //! Vectors of command lines, with ample memory.
 
-use crate::bytes::Bytes;
-use crate::command::{Command, command_bytes};
-use crate::command_line::read_command;
-use crate::fault::WireFault;
+use pop3_wire::{Bytes, Command, WireFault, command_bytes, read_command};
 use std::test::Fail;
 
 /// The line of a command that can be sent, or its fault.

@@ -1,8 +1,6 @@
 //! Reply lines and bodies, against worked answers.
-use crate::body::unstuff;
-use crate::fault::WireFault;
-use crate::fields::{read_scan, read_stat, read_uid};
-use crate::reply::{Status, read_status};
+
+use pop3_wire::{Status, WireFault, read_scan, read_stat, read_status, read_uid, unstuff};
 use std::alloc::Global;
 use std::test::Fail;
 

@@ -1,28 +1,10 @@
 //! Links, and bodies that are taken from them, with ample memory.
 ghost use Rattle.std.specs.Prelude.{◌<◌};
 
-use crate::body_reader::{BodyFault, read_body};
-use crate::line_reader::LineReader;
-use crate::script_wire::ScriptWire;
-use crate::stream_wire::StreamWire;
-use crate::wire::Wire;
+use pop3_wire::{LineReader, ScriptWire, StreamWire, Wire, read_body};
 use std::alloc::Global;
 use std::io::BufWriter;
 use std::test::Fail;
-
-#[test]
-fn a_script_gives_pieces_and_takes_what_is_sent(rt: HostRuntime) -> Result<(), Fail> {
-    let alloc = rt.alloc();
-    let mut wire = ScriptWire::new(alloc, Vec::from_slice(alloc, b"abcde")?, 2);
-    let mut piece = [0; 4];
-    for length in [2, 2, 1, 0] {
-        assert!(rt; wire.recv(&mut piece) == Ok(length));
-    }
-    assert!(rt; wire.send(b"STAT\r\n").is_ok());
-    assert!(rt; wire.send(b"QUIT\r\n").is_ok());
-    assert_eq!(rt; wire.sent(), b"STAT\r\nQUIT\r\n".as_slice());
-    Ok(())
-}
 
 #[test]
 fn a_stream_is_flushed_at_each_send(rt: HostRuntime) -> Result<(), Fail> {
@@ -71,14 +53,5 @@ fn bodies_are_taken(rt: HostRuntime) -> Result<(), Fail> {
         assert!(rt; takes(alloc, b".\rx\r\n..\n.\r\r\n.\r\n", b"\rx\n.\n.\r\n", cut)?);
         assert!(rt; takes(alloc, body.as_slice(), text.as_slice(), cut)?);
     }
-    Ok(())
-}
-
-#[test]
-fn bodies_past_the_limit_are_not_taken(rt: HostRuntime) -> Result<(), Fail> {
-    let alloc = rt.alloc();
-    let mut wire = ScriptWire::new(alloc, Vec::from_slice(alloc, b"abc\r\n.\r\n")?, 3);
-    let mut reader = LineReader::new();
-    assert!(rt; read_body(alloc, &mut wire, &mut reader, 7).err() == Some(BodyFault::TooLong));
     Ok(())
 }

@@ -1,0 +1,100 @@
+//! Plans of sessions.
+
+use crate::mail_terms_tests::listing::listing_of;
+use fetch_rules::{Dest, Seen, Settings, plan};
+use std::alloc::Global;
+use std::test::Fail;
+
+/// Settings with nothing asked for: new messages alone, nothing deleted, no limits.
+fn settings(alloc: Global) -> Settings {
+    Settings {
+        server: String::new(alloc),
+        port: 110,
+        username: String::new(alloc),
+        password: String::new(alloc),
+        dest: Dest::Maildir(String::new(alloc)),
+        read_all: false,
+        delete: false,
+        delete_after: 0,
+        max_size: 0,
+        max_count: 0,
+        verbose: 1,
+    }
+}
+
+/// The steps of a session over messages of these ids and sizes: each number, with `f` where the
+/// message is fetched and `d` where it is deleted.
+fn steps(
+    alloc: Global,
+    settings: &Settings,
+    record: &str,
+    ids: &[(&str, u64)],
+    now: u64,
+) -> Result<String, Fail> {
+    let seen = Seen::read(alloc, record.as_bytes())?;
+    let listing = listing_of(alloc, ids)?;
+    let mut text = String::new(alloc);
+    for step in &plan(alloc, settings, &seen, &listing, now)? {
+        let number = step.number;
+        let fetched = if step.retrieve { "f" } else { "" };
+        let deleted = if step.delete { "d" } else { "" };
+        let told = format!(in alloc; " {number}{fetched}{deleted}")?;
+        text.push_str(told.as_str())?;
+    }
+    Ok(text)
+}
+
+#[test]
+fn counts_only_what_is_fetched_against_the_limit(rt: HostRuntime) -> Result<(), Fail> {
+    let mut settings = settings(rt.alloc());
+    settings.max_size = 100;
+    settings.max_count = 2;
+    let ids = [("a", 100), ("b", 101), ("c", 99)];
+    let planned = steps(rt.alloc(), &settings, "", &ids, 0)?;
+    assert_eq!(rt; planned.as_str(), " 1f 2 3f");
+    Ok(())
+}
+
+#[test]
+fn fetches_five_messages_in_three_sessions(rt: HostRuntime) -> Result<(), Fail> {
+    let alloc = rt.alloc();
+    let mut settings = settings(alloc);
+    settings.max_count = 2;
+    let listing = listing_of(alloc, &[("a", 1), ("b", 1), ("c", 1), ("d", 1), ("e", 1)])?;
+    assert!(rt; listing.len() == 5);
+    let mut seen = Seen::new(alloc);
+    assert!(rt; seen.merge(&listing, &[false; 5], 0)?);
+    for fetched in [[1, 2], [3, 4], [5, 5]] {
+        let steps = plan(alloc, &settings, &seen, &listing, 0)?;
+        for step in &steps {
+            assert_eq!(rt; step.retrieve, fetched.contains(&step.number));
+            let place = step.number.saturating_sub(1);
+            if step.retrieve && place < listing.len() {
+                assert!(rt; seen.mark(listing.uid(place)));
+            }
+        }
+    }
+    Ok(())
+}
+
+#[test]
+fn deletes_after_seven_days_and_never_while_the_clock_is_back(rt: HostRuntime) -> Result<(), Fail> {
+    let mut settings = settings(rt.alloc());
+    settings.delete_after = 7;
+    for (now, wanted) in [(999_999, " 1"), (1_604_799, " 1"), (1_604_800, " 1d")] {
+        let record = "getmail-seen 1\na 1000000 1\n";
+        let planned = steps(rt.alloc(), &settings, record, &[("a", 1)], now)?;
+        assert_eq!(rt; planned.as_str(), wanted);
+    }
+    Ok(())
+}
+
+#[test]
+fn never_deletes_a_repeated_id(rt: HostRuntime) -> Result<(), Fail> {
+    let mut settings = settings(rt.alloc());
+    settings.delete = true;
+    let ids = [("x", 1), ("x", 1), ("a", 1)];
+    let planned = steps(rt.alloc(), &settings, "", &ids, 0)?;
+    assert_eq!(rt; planned.as_str(), " 1f 2 3fd");
+    Ok(())
+}

@@ -1,0 +1,160 @@
+//! Delivery to a Maildir in memory and to one in a folder.
+
+use crate::mail_store_tests::name::{fred, name_of};
+use crate::mail_terms_tests::listing::listing_of;
+use mail_store::{
+    Folder, FolderMaildir, Fused, MaildirDisk, MemoryMaildir, StoreFault, deliver, held,
+};
+use std::fs;
+use std::test::Fail;
+
+#[test]
+fn delivers_to_a_maildir_in_memory(rt: HostRuntime) -> Result<(), Fail> {
+    for text in ["x\n", ""] {
+        let mut disk = MemoryMaildir::new(rt.alloc());
+        deliver(&mut disk, "one", text.as_bytes())?;
+        let files = disk.files(Folder::New);
+        assert_eq!(rt; files.len(), 1);
+        let (name, content) = &files[0];
+        assert!(rt; name.as_str() == "one" && content.as_slice() == text.as_bytes());
+    }
+    Ok(())
+}
+
+#[test]
+fn finds_what_a_reader_has_moved(rt: HostRuntime) -> Result<(), Fail> {
+    let alloc = rt.alloc();
+    let mut disk = MemoryMaildir::new(alloc);
+    let name = name_of(alloc, b"a")?;
+    deliver(&mut disk, name.as_str(), b"x\n")?;
+    assert!(rt; disk.move_to_cur(name.as_str(), ":2,S")?);
+    assert!(rt; disk.files(Folder::New).is_empty());
+    let flags = held(
+        alloc,
+        &mut disk,
+        &fred(),
+        &listing_of(alloc, &[("a", 5), ("b", 5)])?,
+    )?;
+    assert_eq!(rt; flags.as_slice(), [true, false].as_slice());
+    Ok(())
+}
+
+#[test]
+fn moves_no_file_over_another(rt: HostRuntime) -> Result<(), Fail> {
+    let mut disk = MemoryMaildir::new(rt.alloc());
+    deliver(&mut disk, "one", b"x\n")?;
+    assert!(rt; !disk.move_to_cur("two", ":2,S")?);
+    assert_eq!(rt; disk.files(Folder::New).len(), 1);
+    assert!(rt; disk.move_to_cur("one", ":2,S")?);
+    assert!(rt; !disk.is_begun() && !disk.has_file(Folder::New, "one"));
+    deliver(&mut disk, "one", b"y\n")?;
+    assert!(rt; !disk.move_to_cur("one", ":2,S")?);
+    assert_eq!(rt; disk.files(Folder::New).len(), 1);
+    Ok(())
+}
+
+/// A Maildir in a folder of the test's own, with these files.
+fn make_maildir(rt: &HostRuntime, path: &str, files: &[(&str, &str)]) -> Result<(), Fail> {
+    let _ = fs::remove_dir_all(rt, path);
+    fs::create_dir(rt, path)?;
+    for folder in ["tmp", "new", "cur"] {
+        let at = format!(in rt.alloc(); "{path}/{folder}")?;
+        fs::create_dir(rt, at.as_str())?;
+    }
+    for (name, content) in files {
+        let at = format!(in rt.alloc(); "{path}/{name}")?;
+        fs::write(rt, at.as_str(), content.as_bytes())?;
+    }
+    Ok(())
+}
+
+/// Each file of a folder, as its name and its content.
+fn files_of(rt: &HostRuntime, path: &str, folder: &str) -> Result<String, Fail> {
+    let mut text = String::new(rt.alloc());
+    let within = format!(in rt.alloc(); "{path}/{folder}")?;
+    for entry in fs::read_dir(rt, within.as_str())? {
+        let entry = entry?;
+        let name = entry.file_name();
+        let at = format!(in rt.alloc(); "{within}/{name}")?;
+        let content = fs::read_to_string(rt, at.as_str())?;
+        let told = format!(in rt.alloc(); "{folder}/{name}={content}")?;
+        text.push_str(told.as_str())?;
+    }
+    Ok(text)
+}
+
+/// Delivers `new` under a name to a Maildir with these files, and tells whether it was refused and
+/// what stands in `tmp` and in `new` then.
+fn delivered(rt: &HostRuntime, files: &[(&str, &str)], name: &str) -> Result<String, Fail> {
+    make_maildir(rt, "delivery", files)?;
+    let path = String::from_str(rt.alloc(), "delivery/")?;
+    let mut disk = FolderMaildir::at(rt, path);
+    let answer = match deliver(&mut disk, name, b"new") {
+        Ok(()) => "delivered",
+        Err(StoreFault::Refused) => "refused",
+        Err(_) => "another fault",
+    };
+    let in_tmp = files_of(rt, "delivery", "tmp")?;
+    let in_new = files_of(rt, "delivery", "new")?;
+    let failures = disk.failures();
+    fs::remove_dir_all(rt, "delivery")?;
+    Ok(format!(in rt.alloc(); "{answer} {failures} {in_tmp}{in_new}")?)
+}
+
+#[test]
+fn delivers_to_a_folder(rt: HostRuntime) -> Result<(), Fail> {
+    let rows = [
+        ("cur/other", "one", "delivered 0 new/one=new"),
+        ("tmp/one", "one", "delivered 0 new/one=new"),
+        ("new/one", "one", "refused 1 new/one=old"),
+        ("cur/other", "../one", "refused 1 "),
+        ("cur/other", ".one", "refused 1 "),
+        ("cur/other", "", "refused 1 "),
+    ];
+    for (old, name, wanted) in rows {
+        let found = delivered(&rt, &[(old, "old")], name)?;
+        assert_eq!(rt; found.as_str(), wanted, "of {name} beside {old}");
+    }
+    Ok(())
+}
+
+#[test]
+fn lists_files_alone(rt: HostRuntime) -> Result<(), Fail> {
+    make_maildir(
+        &rt,
+        "folder_names",
+        &[("new/.hidden", "x"), ("new/seen", "x")],
+    )?;
+    fs::create_dir(&rt, "folder_names/new/folder")?;
+    let mut disk = FolderMaildir::at(&rt, String::from_str(rt.alloc(), "folder_names")?);
+    let names = disk.names(Folder::New)?;
+    assert!(rt; names.len() == 1 && names[0].as_str() == "seen");
+    fs::remove_dir_all(&rt, "folder_names")?;
+    Ok(())
+}
+
+#[test]
+fn misses_folders_that_are_not_there(rt: HostRuntime) -> Result<(), Fail> {
+    let _ = fs::remove_dir_all(&rt, "folder_missing");
+    let mut disk = FolderMaildir::at(&rt, String::from_str(rt.alloc(), "folder_missing")?);
+    let listing = listing_of(rt.alloc(), &[("a", 5), ("b", 5)])?;
+    let found = held(rt.alloc(), &mut disk, &fred(), &listing).err();
+    assert_eq!(rt; found, Some(StoreFault::Missing));
+    assert_eq!(rt; disk.names(Folder::New).err(), Some(StoreFault::Missing));
+    assert_eq!(rt; disk.begin("one"), Err(StoreFault::Missing));
+    assert_eq!(rt; disk.failures(), 0);
+    Ok(())
+}
+
+#[test]
+fn looks_into_new_before_cur(rt: HostRuntime) -> Result<(), Fail> {
+    make_maildir(&rt, "folder_order", &[])?;
+    fs::remove_dir(&rt, "folder_order/new")?;
+    let folder = FolderMaildir::at(&rt, String::from_str(rt.alloc(), "folder_order")?);
+    let mut disk = Fused::new(folder, 1, false);
+    let listing = listing_of(rt.alloc(), &[("a", 5), ("b", 5)])?;
+    let found = held(rt.alloc(), &mut disk, &fred(), &listing).err();
+    assert_eq!(rt; found, Some(StoreFault::Missing));
+    fs::remove_dir_all(&rt, "folder_order")?;
+    Ok(())
+}

@@ -1,0 +1,60 @@
+//! Names of files, against digests and texts from outside.
+
+use mail_store::{AccountId, account_id, file_name, uid_of};
+use mail_terms::{base, is_legal_id};
+use std::alloc::Global;
+use std::test::Fail;
+
+/// The SHA-256 of `mail.example.org`, NUL, `110`, NUL, `fred`.
+const FRED: &str = "1d53aa641fcca1246692d2efb237b6d92298f9330900c9994d1975e0963f5d80";
+
+pub fn fred() -> AccountId {
+    account_id("mail.example.org", 110, "fred")
+}
+
+pub fn name_of(alloc: Global, uid: &[u8]) -> Result<String, Fail> {
+    if !is_legal_id(uid) {
+        return Err(Fail::new("no legal id"));
+    }
+    Ok(file_name(alloc, &fred(), uid)?)
+}
+
+#[test]
+fn names_files_by_account_and_id(rt: HostRuntime) -> Result<(), Fail> {
+    assert_eq!(rt; fred().as_str(), FRED);
+    assert!(rt; account_id("mail.example.org", 1, "10\0fred") != fred());
+    let name = name_of(rt.alloc(), b"a1")?;
+    let expected = format!(in rt.alloc(); "{FRED}.6131")?;
+    assert_eq!(rt; name.as_str(), expected.as_str());
+    let longest = name_of(rt.alloc(), [b'z'; 70].as_slice())?;
+    assert_eq!(rt; longest.len(), 205);
+    Ok(())
+}
+
+#[test]
+fn reads_ids_of_names(rt: HostRuntime) -> Result<(), Fail> {
+    let alloc = rt.alloc();
+    let rows = [
+        (".6131", Some("a1")),
+        (".6131:2,S", Some("a1")),
+        (".6A", None),
+        (".20", None),
+        (".6", None),
+        (".", None),
+        ("", None),
+    ];
+    for (end, id) in rows {
+        let name = format!(in alloc; "{FRED}{end}")?;
+        match (uid_of(alloc, &fred(), name.as_str())?, id) {
+            (Some(uid), Some(id)) => assert_eq!(rt; uid.as_slice(), id.as_bytes()),
+            (found, id) => assert_eq!(rt; found.is_some(), id.is_some(), "at {end}"),
+        }
+    }
+    assert!(rt; uid_of(alloc, &fred(), "1700000000.M1P2.host")?.is_none());
+    let other = account_id("mail.example.org", 110, "frida");
+    let name = name_of(alloc, b"a1")?;
+    assert!(rt; uid_of(alloc, &other, name.as_str())?.is_none());
+    assert_eq!(rt; base("a.b:2,S:x"), "a.b");
+    assert_eq!(rt; base("a.b"), "a.b");
+    Ok(())
+}

@@ -1,0 +1,3 @@
+//! Tests of `mail_terms`: listings and ids.
+
+pub mod listing;

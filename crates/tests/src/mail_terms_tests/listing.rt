@@ -1,0 +1,90 @@
+//! Listings, joined from rows.
+
+use mail_terms::{Listing, ListingFault, ScanRow, UidRow, have_legal_ids, is_legal_id};
+use std::alloc::{AllocError, Global};
+use std::test::Fail;
+
+/// A listing of these ids and sizes, numbered in this order.
+pub fn listing_of(alloc: Global, items: &[(&str, u64)]) -> Result<Listing, ListingFault> {
+    let mut uids = Vec::new(alloc);
+    let mut sizes = Vec::new(alloc);
+    let mut number = 0u32;
+    for (uid, size) in items {
+        number = number.saturating_add(1);
+        uids.push(uid_row(alloc, number, uid)?)?;
+        sizes.push(scan_row(number, *size))?;
+    }
+    if !have_legal_ids(&uids) {
+        return Err(ListingFault::Disagree);
+    }
+    Listing::join(alloc, number, &uids, &sizes)
+}
+
+fn uid_row(alloc: Global, number: u32, uid: &str) -> Result<UidRow, AllocError> {
+    Ok(UidRow {
+        number,
+        uid: Vec::from_slice(alloc, uid.as_bytes())?,
+    })
+}
+
+fn scan_row(number: u32, size: u64) -> ScanRow {
+    ScanRow { number, size }
+}
+
+/// Joins the rows of ids `a` and `b`, of these numbers, to sizes 5 and 6 of messages 1 and 2.
+fn joined(alloc: Global, a: u32, b: u32) -> Result<Listing, ListingFault> {
+    let uids = [uid_row(alloc, a, "a")?, uid_row(alloc, b, "b")?];
+    if !have_legal_ids(&uids) {
+        return Err(ListingFault::NoMemory);
+    }
+    Listing::join(alloc, 2, &uids, &[scan_row(1, 5), scan_row(2, 6)])
+}
+
+#[test]
+fn joins_rows_in_any_order(rt: HostRuntime) -> Result<(), Fail> {
+    for (a, b, first) in [(1, 2, b"a".as_slice()), (2, 1, b"b".as_slice())] {
+        let listing = joined(rt.alloc(), a, b)?;
+        assert_eq!(rt; listing.len(), 2);
+        assert!(rt; listing.uid(0) == first && listing.size(0) == 5 && listing.size(1) == 6);
+    }
+    assert_eq!(rt;
+        joined(rt.alloc(), 1, 3).err(),
+        Some(ListingFault::Disagree)
+    );
+    // too many messages are told before a row is looked at
+    let empty = Listing::join(rt.alloc(), 100_001, &[], &[]);
+    assert_eq!(rt; empty.err(), Some(ListingFault::TooMany));
+    Ok(())
+}
+
+#[test]
+fn joins_as_many_rows_as_a_listing_holds(rt: HostRuntime) -> Result<(), Fail> {
+    let alloc = rt.alloc();
+    let mut uids = Vec::new(alloc);
+    let mut sizes = Vec::new(alloc);
+    for number in 1..=100_000u32 {
+        uids.push(uid_row(alloc, 100_001 - number, "x")?)?;
+        sizes.push(scan_row(number, u64::from(number)))?;
+    }
+    assert!(rt; have_legal_ids(&uids));
+    let listing = Listing::join(alloc, 100_000, &uids, &sizes)?;
+    assert_eq!(rt; listing.len(), 100_000);
+    assert_eq!(rt; listing.size(99_999), 100_000);
+    Ok(())
+}
+
+#[test]
+fn tells_legal_ids(rt: HostRuntime) {
+    let rows = [
+        (b"whqtswO00WBw418f9t5JxYwZ".as_slice(), true),
+        ([b'!'; 70].as_slice(), true),
+        (b"~".as_slice(), true),
+        (b"".as_slice(), false),
+        ([b'!'; 71].as_slice(), false),
+        (b"a b".as_slice(), false),
+        (b"\x7F".as_slice(), false),
+    ];
+    for (id, legal) in rows {
+        assert_eq!(rt; is_legal_id(id), legal);
+    }
+}
