@@ -6,7 +6,8 @@ use Rattle.pop3_wire.specs.Body.{IsContent, unstuffed, body_of, HasNoBody}
 use Rattle.pop3_wire.specs.Reply.{IsFirstLine}
 use Rattle.pop3_wire.specs.declared.reply.Status.TheVariants.{Positive, Negative}
 use Rattle.pop3_wire.specs.Fields.{number_and_size, number_and_id}
-use Rattle.pop3_wire.specs.Link.{Link, Tallies}
+use Rattle.mail_terms.specs.FailureCount.{Tallies, is_refused}
+use Rattle.pop3_wire.specs.Link.{Link}
 use Rattle.pop3_wire.specs.Place.{Place, GoesOn, Gains, HasLine, HasNoLine}
 use Rattle.pop3_wire.specs.Bodies.{Drew}
 use Rattle.getmail.specs.declared.fault.Asked.{Asked}
@@ -316,5 +317,5 @@ Left _ old new = new ≡ old
 -- at most one refusal is counted where QUIT is said after a refused command, and none otherwise
 abbrev pub LeavesCount : Fault → ℕ → ℕ → Type 0
 LeavesCount (Refused Quit) old new = new ≡ old
-LeavesCount (Refused to) old new = (result : Result (Unit {0}) Fault) × Tallies old (refusal_of result) new
+LeavesCount (Refused to) old new = (result : Result (Unit {0}) Fault) × Tallies (is_refused (refusal_of result)) old new
 LeavesCount _ old new = new ≡ old

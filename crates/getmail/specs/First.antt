@@ -1,7 +1,8 @@
 -- The small session: what it says, what it answers, and where it stops.
 use Rattle.std.specs.Prelude.{◌≡◌, ◌⊎◌, ℕ, List, [], ◌∷◌, Option, None, Some, Result, Ok, Err, Vec}
 use Rattle.pop3_wire.specs.Body.{Body}
-use Rattle.pop3_wire.specs.Link.{Link, Tallies}
+use Rattle.mail_terms.specs.FailureCount.{Tallies, is_refused}
+use Rattle.pop3_wire.specs.Link.{Link}
 use Rattle.pop3_wire.specs.Place.{Place, at}
 use Rattle.getmail.specs.declared.fault.Fault.{Fault}
 use Rattle.getmail.specs.declared.fault.Fault.TheVariants.{ListingsDisagree}
@@ -67,7 +68,7 @@ Session old (Err number) new = (fault : Fault) × (mid : Place) × (waiting : Li
 abbrev pub SessionCount : {A : Type 0} → ℕ → Result A ℕ → ℕ → Type 0
 SessionCount old (Ok found) new = new ≡ old
 SessionCount old (Err number) new = (fault : Fault) × (mid : ℕ) × (number_of fault ≡ number)
-    × Tallies old (refusal fault) mid × LeavesCount fault mid new
+    × Tallies (is_refused (refusal fault)) old mid × LeavesCount fault mid new
 
 -- the id and the text that a call gave
 abbrev pub found_of : {Z Y E : Type 0} → Result (Option (Vec ℕ Z × Vec ℕ Y)) E → Result (Option (List ℕ × List ℕ)) E

@@ -1,7 +1,7 @@
 //! A small session: it logs in, lists, and fetches the one message that is there.
 ghost use Rattle.std.specs.Prelude.{◌≡◌, ◌≢◌, ◌↔◌, ℕ, List, [], map, IsTrue, is_some, Option, IfOk, IfErr};
 ghost use Rattle.pop3_wire.specs.Bodies.{items_of};
-ghost use Rattle.pop3_wire.specs.Link.{Tallies};
+ghost use Rattle.pop3_wire.specs.Link.{CountsFailure};
 ghost use Rattle.pop3_wire.specs.Place.{at};
 ghost use Rattle.getmail.specs.Conversation.{refusal_of, retr};
 ghost use Rattle.getmail.specs.Listing.{IsJoined, SizesFit, uid_pair, scan_pair, id_of};
@@ -52,7 +52,7 @@ fn joined(count: u32, uids: Vec<UidRow>, sizes: &[ScanRow]) -> Result<Option<Vec
 
 /// Logs in.
 fn log_in<W: Wire>(wire: &mut W, reader: &mut LineReader) -> Result<(), Fault>
-    ensures counted { Tallies (W.seen wire.old).failures (refusal_of result) (W.seen wire.new).failures }
+    ensures counted { CountsFailure (W.seen wire.old) (refusal_of result) (W.seen wire.new) }
     ensures talks { W.sound wire.new → W.sound wire.old × W.leads_to wire.old wire.new
         × Talks login (at (W.seen wire.old) reader.old) result (at (W.seen wire.new) reader.new) }
 {
@@ -74,7 +74,7 @@ fn look<W: Wire>(
     wire: &mut W,
     reader: &mut LineReader,
 ) -> Result<Option<Vec<u8>>, Fault>
-    ensures counted { Tallies (W.seen wire.old).failures (refusal_of result) (W.seen wire.new).failures }
+    ensures counted { CountsFailure (W.seen wire.old) (refusal_of result) (W.seen wire.new) }
     ensures looks { W.sound wire.new → W.sound wire.old × W.leads_to wire.old wire.new
         × Looks (at (W.seen wire.old) reader.old) (id_of result) (at (W.seen wire.new) reader.new) }
 {
@@ -95,7 +95,7 @@ fn look<W: Wire>(
 
 /// Asks for the text of the one message.
 fn fetch<W: Wire>(alloc: Global, wire: &mut W, reader: &mut LineReader) -> Result<Vec<u8>, Fault>
-    ensures counted { Tallies (W.seen wire.old).failures (refusal_of result) (W.seen wire.new).failures }
+    ensures counted { CountsFailure (W.seen wire.old) (refusal_of result) (W.seen wire.new) }
     ensures fetches { W.sound wire.new → W.sound wire.old × W.leads_to wire.old wire.new
         × Fetches retr (at (W.seen wire.old) reader.old) (items_of result) (at (W.seen wire.new) reader.new) }
 {
@@ -118,7 +118,7 @@ fn close<W: Wire>(
     reader: &mut LineReader,
     first: Option<Vec<u8>>,
 ) -> Result<Option<(Vec<u8>, Vec<u8>)>, Fault>
-    ensures counted { Tallies (W.seen wire.old).failures (refusal_of result) (W.seen wire.new).failures }
+    ensures counted { CountsFailure (W.seen wire.old) (refusal_of result) (W.seen wire.new) }
     ensures closes { W.sound wire.new → W.sound wire.old × W.leads_to wire.old wire.new
         × Closes (id_in first) (at (W.seen wire.old) reader.old) (found_of result) (at (W.seen wire.new) reader.new) }
 {
@@ -144,7 +144,7 @@ fn planned<W: Wire>(
     wire: &mut W,
     reader: &mut LineReader,
 ) -> Result<Option<(Vec<u8>, Vec<u8>)>, Fault>
-    ensures counted { Tallies (W.seen wire.old).failures (refusal_of result) (W.seen wire.new).failures }
+    ensures counted { CountsFailure (W.seen wire.old) (refusal_of result) (W.seen wire.new) }
     ensures plans { W.sound wire.new → W.sound wire.old × W.leads_to wire.old wire.new
         × Plans (at (W.seen wire.old) reader.old) (found_of result) (at (W.seen wire.new) reader.new) }
 {

@@ -1,6 +1,6 @@
 //! The listings of unique-ids and of sizes (RFC 1939, sections 5 and 7).
 ghost use Rattle.std.specs.Prelude.{◌≡◌, ◌≢◌, ◌≤◌, ◌<◌, ◌+◌, ◌++◌, ◌⊎◌, ℕ, List, [], length, take, drop, IfOk, IfErr, IfSome};
-ghost use Rattle.pop3_wire.specs.Link.{Tallies};
+ghost use Rattle.pop3_wire.specs.Link.{CountsFailure};
 ghost use Rattle.pop3_wire.specs.Place.{at, Gains, GoesOn, HasLine};
 ghost use Rattle.getmail.specs.Conversation.{refusal_of, turn_of, uidl, list};
 ghost use Rattle.getmail.specs.Listing.{IsUidRow, IsScanRow, uid_pair, scan_pair, uid_pairs, scan_pairs, NextRow, TakesRows, Lists};
@@ -36,7 +36,7 @@ fn next_row<W: Wire>(
     reader: &mut LineReader,
     rows: usize,
 ) -> Result<Option<usize>, Fault>
-    ensures counted { Tallies (W.seen wire.old).failures (refusal_of result) (W.seen wire.new).failures }
+    ensures counted { CountsFailure (W.seen wire.old) (refusal_of result) (W.seen wire.new) }
     ensures line { IfOk result (λ found. IfSome found (HasLine 2048 reader.new)) }
     ensures few { IfOk result (λ found. IfSome found (λ n. rows < 100000)) }
     ensures next { W.sound wire.new → W.sound wire.old × W.leads_to wire.old wire.new
@@ -88,7 +88,7 @@ fn uid_rows<W: Wire>(
     wire: &mut W,
     reader: &mut LineReader,
 ) -> Result<Vec<UidRow>, Fault>
-    ensures counted { Tallies (W.seen wire.old).failures (refusal_of result) (W.seen wire.new).failures }
+    ensures counted { CountsFailure (W.seen wire.old) (refusal_of result) (W.seen wire.new) }
     ensures takes { W.sound wire.new → W.sound wire.old × W.leads_to wire.old wire.new
         × TakesRows Asked.Uidl IsUidRow (at (W.seen wire.old) reader.old) (uid_pairs result) (at (W.seen wire.new) reader.new) }
 {
@@ -116,7 +116,7 @@ fn scan_rows<W: Wire>(
     wire: &mut W,
     reader: &mut LineReader,
 ) -> Result<Vec<ScanRow>, Fault>
-    ensures counted { Tallies (W.seen wire.old).failures (refusal_of result) (W.seen wire.new).failures }
+    ensures counted { CountsFailure (W.seen wire.old) (refusal_of result) (W.seen wire.new) }
     ensures takes { W.sound wire.new → W.sound wire.old × W.leads_to wire.old wire.new
         × TakesRows Asked.List IsScanRow (at (W.seen wire.old) reader.old) (scan_pairs result) (at (W.seen wire.new) reader.new) }
 {
@@ -144,7 +144,7 @@ pub fn uidl<W: Wire>(
     wire: &mut W,
     reader: &mut LineReader,
 ) -> Result<Vec<UidRow>, Fault>
-    ensures counted { Tallies (W.seen wire.old).failures (refusal_of result) (W.seen wire.new).failures }
+    ensures counted { CountsFailure (W.seen wire.old) (refusal_of result) (W.seen wire.new) }
     ensures lists { W.sound wire.new → W.sound wire.old × W.leads_to wire.old wire.new
         × Lists uidl IsUidRow (at (W.seen wire.old) reader.old) (uid_pairs result) (at (W.seen wire.new) reader.new) }
 {
@@ -160,7 +160,7 @@ pub fn list<W: Wire>(
     wire: &mut W,
     reader: &mut LineReader,
 ) -> Result<Vec<ScanRow>, Fault>
-    ensures counted { Tallies (W.seen wire.old).failures (refusal_of result) (W.seen wire.new).failures }
+    ensures counted { CountsFailure (W.seen wire.old) (refusal_of result) (W.seen wire.new) }
     ensures lists { W.sound wire.new → W.sound wire.old × W.leads_to wire.old wire.new
         × Lists list IsScanRow (at (W.seen wire.old) reader.old) (scan_pairs result) (at (W.seen wire.new) reader.new) }
 {

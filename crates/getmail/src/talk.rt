@@ -1,7 +1,7 @@
 //! One turn of a conversation: a command is sent, and the first line of its reply is read
 //! (RFC 1939, section 3).
 ghost use Rattle.std.specs.Prelude.{◌≡◌, ◌≢◌, ◌≤◌, ◌+◌, ◌++◌, ◌⊎◌, ℕ, List, [], length, take, drop, IfOk, IfErr};
-ghost use Rattle.pop3_wire.specs.Link.{Tallies};
+ghost use Rattle.pop3_wire.specs.Link.{CountsFailure};
 ghost use Rattle.pop3_wire.specs.Place.{at, Gains, GoesOn, HasLine};
 ghost use Rattle.pop3_wire.specs.Reply.{IsFirstLine};
 ghost use Rattle.pop3_wire.specs.Fields.{number_and_size};
@@ -12,7 +12,7 @@ use pop3_wire::{LineFault, LineReader, Status, Wire, read_stat, read_status};
 
 /// Takes from the link until a line of a reply waits, and says how long it is. It still waits then.
 pub fn next_line<W: Wire>(wire: &mut W, reader: &mut LineReader) -> Result<usize, Fault>
-    ensures counted { Tallies (W.seen wire.old).failures (refusal_of result) (W.seen wire.new).failures }
+    ensures counted { CountsFailure (W.seen wire.old) (refusal_of result) (W.seen wire.new) }
     ensures line { IfOk result (HasLine 2048 reader.new) }
     ensures waits { W.sound wire.new → W.sound wire.old × W.leads_to wire.old wire.new
         × ((gained : List ℕ) × Gains (at (W.seen wire.old) reader.old) (at (W.seen wire.new) reader.new) gained)
@@ -28,7 +28,7 @@ pub fn next_line<W: Wire>(wire: &mut W, reader: &mut LineReader) -> Result<usize
 
 /// Sends bytes.
 fn say<W: Wire>(wire: &mut W, bytes: &[u8]) -> Result<(), Fault>
-    ensures counted { Tallies (W.seen wire.old).failures (refusal_of result) (W.seen wire.new).failures }
+    ensures counted { CountsFailure (W.seen wire.old) (refusal_of result) (W.seen wire.new) }
     ensures sent { W.sound wire.new → W.sound wire.old × W.leads_to wire.old wire.new
         × Sent bytes.now (W.seen wire.old) result (W.seen wire.new) }
 {
@@ -41,7 +41,7 @@ fn say<W: Wire>(wire: &mut W, bytes: &[u8]) -> Result<(), Fault>
 /// Waits for a positive first line, and says how long it is. It still waits then. A negative one is
 /// a whole reply, and is taken.
 fn hear<W: Wire>(wire: &mut W, reader: &mut LineReader, asked: Asked) -> Result<usize, Fault>
-    ensures counted { Tallies (W.seen wire.old).failures (refusal_of result) (W.seen wire.new).failures }
+    ensures counted { CountsFailure (W.seen wire.old) (refusal_of result) (W.seen wire.new) }
     ensures line { IfOk result (HasLine 2048 reader.new) }
     ensures positive { IfOk result (λ n. (rest : List ℕ) × IsFirstLine (take n reader.new) Status.Positive rest) }
     ensures heard { W.sound wire.new → W.sound wire.old × W.leads_to wire.old wire.new
@@ -63,7 +63,7 @@ fn hear<W: Wire>(wire: &mut W, reader: &mut LineReader, asked: Asked) -> Result<
 
 /// Takes the greeting.
 pub fn greet<W: Wire>(wire: &mut W, reader: &mut LineReader) -> Result<(), Fault>
-    ensures counted { Tallies (W.seen wire.old).failures (refusal_of result) (W.seen wire.new).failures }
+    ensures counted { CountsFailure (W.seen wire.old) (refusal_of result) (W.seen wire.new) }
     ensures asks { W.sound wire.new → W.sound wire.old × W.leads_to wire.old wire.new
         × Asks greeting (at (W.seen wire.old) reader.old) result (at (W.seen wire.new) reader.new) }
 {
@@ -83,7 +83,7 @@ pub fn ask<W: Wire>(
     bytes: &[u8],
 ) -> Result<(), Fault>
     requires { asked ≢ Asked.Stat }
-    ensures counted { Tallies (W.seen wire.old).failures (refusal_of result) (W.seen wire.new).failures }
+    ensures counted { CountsFailure (W.seen wire.old) (refusal_of result) (W.seen wire.new) }
     ensures asks { W.sound wire.new → W.sound wire.old × W.leads_to wire.old wire.new
         × Asks (turn_of asked bytes.now) (at (W.seen wire.old) reader.old) result (at (W.seen wire.new) reader.new) }
 {
@@ -120,7 +120,7 @@ fn count_of(line: &[u8]) -> Result<u32, Fault>
 
 /// Asks how many messages there are.
 pub fn stat<W: Wire>(wire: &mut W, reader: &mut LineReader) -> Result<u32, Fault>
-    ensures counted { Tallies (W.seen wire.old).failures (refusal_of result) (W.seen wire.new).failures }
+    ensures counted { CountsFailure (W.seen wire.old) (refusal_of result) (W.seen wire.new) }
     ensures counts { W.sound wire.new → W.sound wire.old × W.leads_to wire.old wire.new
         × Counts stat (at (W.seen wire.old) reader.old) result (at (W.seen wire.new) reader.new) }
 {

@@ -2,7 +2,7 @@
 ghost use Rattle.std.specs.Prelude.{◌≡◌, ◌≤◌, ◌<◌, ◌⊎◌, ℕ, List, All, IfOk, IfErr, IfSome};
 ghost use Rattle.mail_terms.specs.Listing.{Agree, Joins};
 ghost use Rattle.mail_terms.specs.UniqueId.{IsLegalId};
-ghost use Rattle.pop3_wire.specs.Link.{Tallies};
+ghost use Rattle.pop3_wire.specs.Link.{CountsFailure};
 ghost use Rattle.pop3_wire.specs.Place.{at, HasLine};
 ghost use Rattle.pop3_client.specs.Turns.{uidl as uidl_turn, list as list_turn, row_limit, IsRow};
 ghost use Rattle.pop3_client.specs.Conversation.{refusal_of};
@@ -22,7 +22,7 @@ fn next_row<W: Wire>(
     reader: &mut LineReader,
     rows: usize,
 ) -> Result<Option<usize>, Fault>
-    ensures counted { Tallies (W.seen wire.old).failures (refusal_of result) (W.seen wire.new).failures }
+    ensures counted { CountsFailure (W.seen wire.old) (refusal_of result) (W.seen wire.new) }
     ensures line { IfOk result (λ found. IfSome found (HasLine 2048 reader.new)) }
     ensures few { IfOk result (λ found. IfSome found (λ n. rows < 100000)) }
     ensures next { W.sound wire.new → W.sound wire.old × W.leads_to wire.old wire.new
@@ -75,7 +75,7 @@ fn uid_rows<W: Wire>(
     wire: &mut W,
     reader: &mut LineReader,
 ) -> Result<Vec<UidRow>, Fault>
-    ensures counted { Tallies (W.seen wire.old).failures (refusal_of result) (W.seen wire.new).failures }
+    ensures counted { CountsFailure (W.seen wire.old) (refusal_of result) (W.seen wire.new) }
     ensures legal { IfOk result (λ rows. All (λ row. IsLegalId row.uid.items) rows.items) }
     ensures takes { W.sound wire.new → W.sound wire.old × W.leads_to wire.old wire.new
         × TakesRows uidl_turn IsUidRow (at (W.seen wire.old) reader.old) (items_of result) (at (W.seen wire.new) reader.new) }
@@ -104,7 +104,7 @@ fn scan_rows<W: Wire>(
     wire: &mut W,
     reader: &mut LineReader,
 ) -> Result<Vec<ScanRow>, Fault>
-    ensures counted { Tallies (W.seen wire.old).failures (refusal_of result) (W.seen wire.new).failures }
+    ensures counted { CountsFailure (W.seen wire.old) (refusal_of result) (W.seen wire.new) }
     ensures takes { W.sound wire.new → W.sound wire.old × W.leads_to wire.old wire.new
         × TakesRows list_turn IsScanRow (at (W.seen wire.old) reader.old) (items_of result) (at (W.seen wire.new) reader.new) }
 {
@@ -128,7 +128,7 @@ fn scan_rows<W: Wire>(
 
 /// Asks for the unique-ids (UIDL).
 fn uidl<W: Wire>(alloc: Global, wire: &mut W, reader: &mut LineReader) -> Result<Vec<UidRow>, Fault>
-    ensures counted { Tallies (W.seen wire.old).failures (refusal_of result) (W.seen wire.new).failures }
+    ensures counted { CountsFailure (W.seen wire.old) (refusal_of result) (W.seen wire.new) }
     ensures legal { IfOk result (λ rows. All (λ row. IsLegalId row.uid.items) rows.items) }
     ensures lists { W.sound wire.new → W.sound wire.old × W.leads_to wire.old wire.new
         × ListsRows uidl_turn IsUidRow (at (W.seen wire.old) reader.old) (items_of result) (at (W.seen wire.new) reader.new) }
@@ -145,7 +145,7 @@ fn sizes<W: Wire>(
     wire: &mut W,
     reader: &mut LineReader,
 ) -> Result<Vec<ScanRow>, Fault>
-    ensures counted { Tallies (W.seen wire.old).failures (refusal_of result) (W.seen wire.new).failures }
+    ensures counted { CountsFailure (W.seen wire.old) (refusal_of result) (W.seen wire.new) }
     ensures lists { W.sound wire.new → W.sound wire.old × W.leads_to wire.old wire.new
         × ListsRows list_turn IsScanRow (at (W.seen wire.old) reader.old) (items_of result) (at (W.seen wire.new) reader.new) }
 {
@@ -180,7 +180,7 @@ pub fn list<W: Wire>(
     count: u32,
 ) -> Result<Listing, Fault>
     requires { count ≤ row_limit }
-    ensures counted { Tallies (W.seen wire.old).failures (refusal_of result) (W.seen wire.new).failures }
+    ensures counted { CountsFailure (W.seen wire.old) (refusal_of result) (W.seen wire.new) }
     ensures legal { IfOk result (λ listing. All (λ item. IsLegalId item.uid) listing) }
     ensures lists { W.sound wire.new → W.sound wire.old × W.leads_to wire.old wire.new
         × Lists count (at (W.seen wire.old) reader.old) result (at (W.seen wire.new) reader.new) }

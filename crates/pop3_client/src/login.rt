@@ -1,7 +1,7 @@
 //! The beginning of a session: the greeting, the user and the password.
 ghost use Rattle.std.specs.Prelude.{◌≡◌, true, List, ℕ, IfOk, IfErr};
-ghost use Rattle.pop3_wire.specs.Commands.{is_argument};
-ghost use Rattle.pop3_wire.specs.Link.{Tallies};
+ghost use Rattle.mail_terms.specs.Credential.{is_credential};
+ghost use Rattle.pop3_wire.specs.Link.{CountsFailure};
 ghost use Rattle.pop3_wire.specs.Place.{at};
 ghost use Rattle.pop3_client.specs.Turns.{turn_bytes, user, pass};
 ghost use Rattle.pop3_client.specs.Conversation.{refusal_of, login, Talks};
@@ -14,7 +14,7 @@ use std::vec::Vec;
 
 /// The line of USER.
 fn user_line(alloc: Global, name: &[u8]) -> Result<Vec<u8>, Fault>
-    requires { is_argument name.now ≡ true }
+    requires { is_credential name.now ≡ true }
     ensures ok { IfOk result (λ line. line.items ≡ turn_bytes (user name.now)) }
     ensures err { IfErr result (λ fault. fault ≡ Fault.NoMemory) }
 {
@@ -29,7 +29,7 @@ fn user_line(alloc: Global, name: &[u8]) -> Result<Vec<u8>, Fault>
 
 /// The line of PASS.
 fn pass_line(alloc: Global, password: &[u8]) -> Result<Vec<u8>, Fault>
-    requires { is_argument password.now ≡ true }
+    requires { is_credential password.now ≡ true }
     ensures ok { IfOk result (λ line. line.items ≡ turn_bytes (pass password.now)) }
     ensures err { IfErr result (λ fault. fault ≡ Fault.NoMemory) }
 {
@@ -49,7 +49,7 @@ fn log_in_by<W: Wire>(
     name_line: &[u8],
     password_line: &[u8],
 ) -> Result<(), Fault>
-    ensures counted { Tallies (W.seen wire.old).failures (refusal_of result) (W.seen wire.new).failures }
+    ensures counted { CountsFailure (W.seen wire.old) (refusal_of result) (W.seen wire.new) }
     ensures talks { W.sound wire.new → W.sound wire.old × W.leads_to wire.old wire.new
         × ((name password : List ℕ) → name_line.now ≡ turn_bytes (user name) → password_line.now ≡ turn_bytes (pass password)
         → Talks (login name password) (at (W.seen wire.old) reader.old) result (at (W.seen wire.new) reader.new)) }
@@ -74,9 +74,9 @@ pub fn log_in<W: Wire>(
     name: &[u8],
     password: &[u8],
 ) -> Result<(), Fault>
-    requires name { is_argument name.now ≡ true }
-    requires password { is_argument password.now ≡ true }
-    ensures counted { Tallies (W.seen wire.old).failures (refusal_of result) (W.seen wire.new).failures }
+    requires name { is_credential name.now ≡ true }
+    requires password { is_credential password.now ≡ true }
+    ensures counted { CountsFailure (W.seen wire.old) (refusal_of result) (W.seen wire.new) }
     ensures talks { W.sound wire.new → W.sound wire.old × W.leads_to wire.old wire.new
         × Talks (login name.now password.now) (at (W.seen wire.old) reader.old) result (at (W.seen wire.new) reader.new) }
 {

@@ -1,6 +1,6 @@
 //! The last turns of a session that was cut.
 ghost use Rattle.std.specs.Prelude.{◌≡◌, ◌∷◌, [], if◌then◌else◌};
-ghost use Rattle.pop3_wire.specs.Link.{Tallies};
+ghost use Rattle.pop3_wire.specs.Link.{CountsFailure};
 ghost use Rattle.pop3_wire.specs.Place.{at};
 ghost use Rattle.pop3_client.specs.Turns.{rset, quit as quit_turn};
 ghost use Rattle.pop3_client.specs.Conversation.{Tells, Talks, tail_of, undoing, refusal_of};
@@ -11,7 +11,7 @@ use pop3_wire::{LineReader, Wire};
 
 /// Unmarks what was marked as deleted (RSET).
 fn reset<W: Wire>(wire: &mut W, reader: &mut LineReader) -> Result<(), Fault>
-    ensures counted { Tallies (W.seen wire.old).failures (refusal_of result) (W.seen wire.new).failures }
+    ensures counted { CountsFailure (W.seen wire.old) (refusal_of result) (W.seen wire.new) }
     ensures tells { W.sound wire.new → W.sound wire.old × W.leads_to wire.old wire.new
         × Tells rset (at (W.seen wire.old) reader.old) result (at (W.seen wire.new) reader.new) }
 {
@@ -32,7 +32,7 @@ fn says_quit(fault: Fault) -> bool
 /// Leaves after a fault of the conversation: after a refused command QUIT is said, and its reply read.
 /// After a refused QUIT and after any other fault the link is left alone. It takes no memory.
 pub fn leave<W: Wire>(wire: &mut W, reader: &mut LineReader, fault: Fault) -> Result<(), Fault>
-    ensures counted { Tallies (W.seen wire.old).failures (refusal_of result) (W.seen wire.new).failures }
+    ensures counted { CountsFailure (W.seen wire.old) (refusal_of result) (W.seen wire.new) }
     ensures talks { W.sound wire.new → W.sound wire.old × W.leads_to wire.old wire.new
         × Talks (tail_of fault) (at (W.seen wire.old) reader.old) result (at (W.seen wire.new) reader.new) }
 {
@@ -45,7 +45,7 @@ pub fn leave<W: Wire>(wire: &mut W, reader: &mut LineReader, fault: Fault) -> Re
 /// Leaves after a fault that isn't the conversation's own: RSET is said, so that nothing that was
 /// marked goes, and where it is answered positively QUIT. Their replies are read. It takes no memory.
 pub fn reset_and_quit<W: Wire>(wire: &mut W, reader: &mut LineReader) -> Result<(), Fault>
-    ensures counted { Tallies (W.seen wire.old).failures (refusal_of result) (W.seen wire.new).failures }
+    ensures counted { CountsFailure (W.seen wire.old) (refusal_of result) (W.seen wire.new) }
     ensures talks { W.sound wire.new → W.sound wire.old × W.leads_to wire.old wire.new
         × Talks undoing (at (W.seen wire.old) reader.old) result (at (W.seen wire.new) reader.new) }
 {

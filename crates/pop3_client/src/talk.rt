@@ -1,7 +1,7 @@
 //! One turn of a conversation: a command is sent, and the first line of its reply is read
 //! (RFC 1939, section 3).
 ghost use Rattle.std.specs.Prelude.{◌≡◌, ◌≤◌, ◌++◌, false, ℕ, List, [], length, take, IfOk};
-ghost use Rattle.pop3_wire.specs.Link.{Tallies};
+ghost use Rattle.pop3_wire.specs.Link.{CountsFailure};
 ghost use Rattle.pop3_wire.specs.Place.{at, Gains, HasLine};
 ghost use Rattle.pop3_wire.specs.Reply.{IsFirstLine};
 ghost use Rattle.pop3_client.specs.Turns.{Turn, Names, turn_bytes, tells_count, greeting, dele, quit, row_limit};
@@ -16,7 +16,7 @@ use std::alloc::Global;
 
 /// Takes from the link until a line of a reply waits, and says how long it is. It still waits then.
 pub fn next_line<W: Wire>(wire: &mut W, reader: &mut LineReader) -> Result<usize, Fault>
-    ensures counted { Tallies (W.seen wire.old).failures (refusal_of result) (W.seen wire.new).failures }
+    ensures counted { CountsFailure (W.seen wire.old) (refusal_of result) (W.seen wire.new) }
     ensures line { IfOk result (HasLine 2048 reader.new) }
     ensures waits { W.sound wire.new → W.sound wire.old × W.leads_to wire.old wire.new
         × ((gained : List ℕ) × Gains (at (W.seen wire.old) reader.old) (at (W.seen wire.new) reader.new) gained)
@@ -32,7 +32,7 @@ pub fn next_line<W: Wire>(wire: &mut W, reader: &mut LineReader) -> Result<usize
 
 /// Sends bytes.
 fn say<W: Wire>(wire: &mut W, bytes: &[u8]) -> Result<(), Fault>
-    ensures counted { Tallies (W.seen wire.old).failures (refusal_of result) (W.seen wire.new).failures }
+    ensures counted { CountsFailure (W.seen wire.old) (refusal_of result) (W.seen wire.new) }
     ensures sent { W.sound wire.new → W.sound wire.old × W.leads_to wire.old wire.new
         × Sent bytes.now (W.seen wire.old) result (W.seen wire.new) }
 {
@@ -45,7 +45,7 @@ fn say<W: Wire>(wire: &mut W, bytes: &[u8]) -> Result<(), Fault>
 /// Waits for a positive first line, and says how long it is. It still waits then. A negative one is
 /// a whole reply, and is taken.
 fn hear<W: Wire>(wire: &mut W, reader: &mut LineReader, asked: Asked) -> Result<usize, Fault>
-    ensures counted { Tallies (W.seen wire.old).failures (refusal_of result) (W.seen wire.new).failures }
+    ensures counted { CountsFailure (W.seen wire.old) (refusal_of result) (W.seen wire.new) }
     ensures line { IfOk result (HasLine 2048 reader.new) }
     ensures positive { IfOk result (λ n. (rest : List ℕ) × IsFirstLine (take n reader.new) Status.Positive rest) }
     ensures heard { W.sound wire.new → W.sound wire.old × W.leads_to wire.old wire.new
@@ -67,7 +67,7 @@ fn hear<W: Wire>(wire: &mut W, reader: &mut LineReader, asked: Asked) -> Result<
 
 /// Takes the greeting.
 pub fn greet<W: Wire>(wire: &mut W, reader: &mut LineReader) -> Result<(), Fault>
-    ensures counted { Tallies (W.seen wire.old).failures (refusal_of result) (W.seen wire.new).failures }
+    ensures counted { CountsFailure (W.seen wire.old) (refusal_of result) (W.seen wire.new) }
     ensures asks { W.sound wire.new → W.sound wire.old × W.leads_to wire.old wire.new
         × Asks greeting (at (W.seen wire.old) reader.old) result (at (W.seen wire.new) reader.new) }
 {
@@ -87,7 +87,7 @@ pub fn ask<W: Wire>(
     asked: Asked,
     bytes: &[u8],
 ) -> Result<(), Fault>
-    ensures counted { Tallies (W.seen wire.old).failures (refusal_of result) (W.seen wire.new).failures }
+    ensures counted { CountsFailure (W.seen wire.old) (refusal_of result) (W.seen wire.new) }
     ensures asks { W.sound wire.new → W.sound wire.old × W.leads_to wire.old wire.new
         × ((turn : Turn) → Names asked turn → tells_count turn ≡ false → bytes.now ≡ turn_bytes turn
         → Asks turn (at (W.seen wire.old) reader.old) result (at (W.seen wire.new) reader.new)) }
@@ -125,7 +125,7 @@ fn count_of(line: &[u8]) -> Result<u32, Fault>
 
 /// Asks how many messages there are (STAT): at most 100,000.
 pub fn count<W: Wire>(wire: &mut W, reader: &mut LineReader) -> Result<u32, Fault>
-    ensures counted { Tallies (W.seen wire.old).failures (refusal_of result) (W.seen wire.new).failures }
+    ensures counted { CountsFailure (W.seen wire.old) (refusal_of result) (W.seen wire.new) }
     ensures few { IfOk result (λ n. n ≤ row_limit) }
     ensures counts { W.sound wire.new → W.sound wire.old × W.leads_to wire.old wire.new
         × Counts (at (W.seen wire.old) reader.old) result (at (W.seen wire.new) reader.new) }
@@ -154,7 +154,7 @@ pub fn delete<W: Wire>(
     reader: &mut LineReader,
     number: u32,
 ) -> Result<(), Fault>
-    ensures counted { Tallies (W.seen wire.old).failures (refusal_of result) (W.seen wire.new).failures }
+    ensures counted { CountsFailure (W.seen wire.old) (refusal_of result) (W.seen wire.new) }
     ensures tells { W.sound wire.new → W.sound wire.old × W.leads_to wire.old wire.new
         × Tells (dele number) (at (W.seen wire.old) reader.old) result (at (W.seen wire.new) reader.new) }
 {
@@ -166,7 +166,7 @@ pub fn delete<W: Wire>(
 
 /// Ends the session (QUIT). It takes no memory.
 pub fn quit<W: Wire>(wire: &mut W, reader: &mut LineReader) -> Result<(), Fault>
-    ensures counted { Tallies (W.seen wire.old).failures (refusal_of result) (W.seen wire.new).failures }
+    ensures counted { CountsFailure (W.seen wire.old) (refusal_of result) (W.seen wire.new) }
     ensures tells { W.sound wire.new → W.sound wire.old × W.leads_to wire.old wire.new
         × Tells quit (at (W.seen wire.old) reader.old) result (at (W.seen wire.new) reader.new) }
 {

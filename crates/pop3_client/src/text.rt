@@ -1,7 +1,7 @@
 //! The text of a message.
 ghost use Rattle.std.specs.Prelude.{◌≡◌, ◌≢◌, ◌≤◌, ◌<◌, ◌↔◌, ℕ, List, length, IsTrue, IfOk, OnOk, IfErr};
 ghost use Rattle.pop3_wire.specs.declared.unstuffer.Spot.TheVariants.{Done};
-ghost use Rattle.pop3_wire.specs.Link.{Tallies};
+ghost use Rattle.pop3_wire.specs.Link.{CountsFailure};
 ghost use Rattle.pop3_wire.specs.Place.{Place, at};
 ghost use Rattle.pop3_client.specs.Turns.{turn_bytes, retr};
 ghost use Rattle.pop3_client.specs.Conversation.{refusal_of, Tells};
@@ -22,7 +22,7 @@ fn open_by<W: Wire>(
     number: u32,
     line: &[u8],
 ) -> Result<BodyReader, Fault>
-    ensures counted { Tallies (W.seen wire.old).failures (refusal_of result) (W.seen wire.new).failures }
+    ensures counted { CountsFailure (W.seen wire.old) (refusal_of result) (W.seen wire.new) }
     ensures open { IfOk result (λ body. body.spot ≢ Done) }
     ensures within { IfOk result (λ body. body.left ≤ 268435456) }
     ensures opens { W.sound wire.new → W.sound wire.old × W.leads_to wire.old wire.new
@@ -42,7 +42,7 @@ pub fn open<W: Wire>(
     reader: &mut LineReader,
     number: u32,
 ) -> Result<BodyReader, Fault>
-    ensures counted { Tallies (W.seen wire.old).failures (refusal_of result) (W.seen wire.new).failures }
+    ensures counted { CountsFailure (W.seen wire.old) (refusal_of result) (W.seen wire.new) }
     ensures open { IfOk result (λ body. body.spot ≢ Done) }
     ensures within { IfOk result (λ body. body.left ≤ 268435456) }
     ensures opens { W.sound wire.new → W.sound wire.old × W.leads_to wire.old wire.new
@@ -62,7 +62,7 @@ pub fn next_piece<W: Wire>(
     out: &mut [u8; 4097],
 ) -> Result<Piece, Fault>
     requires { body.old.spot ≢ Done }
-    ensures counted { Tallies (W.seen wire.old).failures (refusal_of result) (W.seen wire.new).failures }
+    ensures counted { CountsFailure (W.seen wire.old) (refusal_of result) (W.seen wire.new) }
     ensures fits { IfOk result (λ piece. piece.put ≤ length out.new) }
     ensures ended { IfOk result (λ piece. IsTrue piece.ended ↔ (body.new.spot ≡ Done)) }
     ensures less { OnOk result (body.new.spot ≢ Done → body.new.left < body.old.left) }
@@ -86,7 +86,7 @@ pub fn drop_rest<W: Wire>(
     reader: &mut LineReader,
     body: &mut BodyReader,
 ) -> Result<(), Fault>
-    ensures counted { Tallies (W.seen wire.old).failures (refusal_of result) (W.seen wire.new).failures }
+    ensures counted { CountsFailure (W.seen wire.old) (refusal_of result) (W.seen wire.new) }
     ensures ended { OnOk result (body.new.spot ≡ Done) }
     ensures frugal { IfErr result (λ fault. fault ≢ Fault.NoMemory) }
     ensures tells { W.sound wire.new → W.sound wire.old × W.leads_to wire.old wire.new

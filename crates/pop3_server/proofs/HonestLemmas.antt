@@ -16,7 +16,8 @@ use Rattle.pop3_wire.specs.declared.reply.Status.TheVariants.{Positive, Negative
 use Rattle.pop3_wire.specs.Line.{crlf, ended}
 use Rattle.pop3_wire.specs.Body.{dot, IsContent, unstuffed}
 use Rattle.pop3_wire.specs.Reply.{without_space}
-use Rattle.pop3_wire.specs.Fields.{number_and_size, number_and_id, is_legal_id}
+use Rattle.pop3_wire.specs.Fields.{number_and_size, number_and_id}
+use Rattle.mail_terms.specs.UniqueId.{is_legal_id}
 use Rattle.pop3_wire.specs.World.{Message, IsMessage}
 use Rattle.pop3_wire.specs.Honest.{Says, SaysAnything, IsUnmarked, unmarked_from, IsScanRow, IsUidRow, ListsAll, Reply, no_marks}
 use Rattle.pop3_wire.proofs.HonestRows.{scan_read, uid_read, is_no_lf, line_without_lf, no_lf_append, no_lf_decimal, no_lf_id, digit_first}

@@ -11,7 +11,8 @@ use Rattle.pop3_wire.specs.declared.command.Command.TheVariants.{User, Pass, Sta
 use Rattle.pop3_wire.specs.declared.reply.Status.TheVariants.{Positive}
 use Rattle.pop3_server.specs.declared.state.State.{State}
 use Rattle.pop3_wire.specs.Line.{crlf, IsLine, ended}
-use Rattle.pop3_wire.specs.Commands.{line_of, is_plain, is_argument}
+use Rattle.pop3_wire.specs.Commands.{line_of}
+use Rattle.mail_terms.specs.Credential.{is_plain, is_credential}
 use Rattle.pop3_wire.specs.World.{Message}
 use Rattle.pop3_wire.specs.Honest.{Replies, no_marks}
 use Rattle.pop3_wire.proofs.LineLemmas.{first_line_same}
@@ -27,7 +28,7 @@ use Rattle.pop3_server.proofs.HonestTurns.{answers_honestly, flat_lines, all_sen
 plain_no_lf : (b : ℕ) → is_plain b ≡ true → is_no_lf b ≡ true
 plain_no_lf b e = grind (arith, nat_tests)
 
-argument_no_lf : (text : List ℕ) → is_argument text ≡ true → list_all is_no_lf text ≡ true
+argument_no_lf : (text : List ℕ) → is_credential text ≡ true → list_all is_no_lf text ≡ true
 argument_no_lf text good = all_pass is_plain is_no_lf plain_no_lf text (and_parts _ (list_all is_plain text) good).1
 
 numbered : (word : List ℕ) (n : ℕ) → list_all is_no_lf word ≡ true → n < 2 ^ 32 → list_all is_no_lf (word ++ decimal n) ≡ true

@@ -12,7 +12,8 @@ use Rattle.pop3_wire.specs.declared.reply.Status.TheVariants.{Positive}
 use Rattle.pop3_wire.specs.Line.{ended}
 use Rattle.pop3_wire.specs.Body.{Body}
 use Rattle.pop3_wire.specs.Commands.{line_of, can_be_sent}
-use Rattle.pop3_wire.specs.Stuffed.{lines_of_text, stuffed_lines}
+use Rattle.mail_terms.specs.Text.{lines_of_text}
+use Rattle.pop3_wire.specs.Stuffed.{stuffed_lines}
 use Rattle.pop3_wire.specs.World.{Message, IsMessage}
 use Rattle.pop3_wire.specs.Honest.{Says, SaysAnything, IsUnmarked, IsScanRow, IsUidRow, Grants, Reply, Replies, no_marks}
 use Rattle.pop3_wire.proofs.HonestRows.{scan_read, is_no_lf, no_lf_append, no_lf_decimal}

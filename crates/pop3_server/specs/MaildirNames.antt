@@ -2,7 +2,7 @@
 use Rattle.std.specs.Prelude.{ℕ, List, codes, if◌then◌else◌}
 use Rattle.hex.specs.Hex.{encode_lower}
 use Rattle.sha2.specs.Sha256.{sha256}
-use Rattle.pop3_wire.specs.Fields.{is_legal_id}
+use Rattle.mail_terms.specs.UniqueId.{is_legal_id}
 use Rattle.pop3_server.specs.declared.maildir_names.Folder.{Folder}
 use Rattle.pop3_server.specs.declared.maildir_names.Folder.TheVariants.{Cur, New}
 

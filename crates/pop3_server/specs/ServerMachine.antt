@@ -7,7 +7,8 @@ use Rattle.pop3_wire.specs.declared.command.Command.TheVariants.{User, Pass, Sta
 use Rattle.pop3_wire.specs.declared.fault.WireFault.{WireFault}
 use Rattle.pop3_wire.specs.Line.{crlf, ended}
 use Rattle.pop3_wire.specs.Body.{dot}
-use Rattle.pop3_wire.specs.Stuffed.{lines_of_text, stuffed_lines}
+use Rattle.mail_terms.specs.Text.{lines_of_text}
+use Rattle.pop3_wire.specs.Stuffed.{stuffed_lines}
 use Rattle.mail_terms.specs.FailureCount.{counted_up}
 use Rattle.pop3_wire.specs.World.{Message}
 use Rattle.pop3_server.specs.declared.rows.MessageRow.{MessageRow}

@@ -2,7 +2,7 @@
 use Rattle.std.specs.Prelude.{◌≡◌, ◌==◌, ℕ, Bool, false, ◌-◌, ◌^◌, min, not, List, [], ◌∷◌, length, if◌then◌else◌}
 use Rattle.std.specs.List.{flat_map, sum_by}
 use Rattle.pop3_wire.specs.Line.{ended}
-use Rattle.pop3_wire.specs.Stuffed.{lines_of_text}
+use Rattle.mail_terms.specs.Text.{lines_of_text}
 use Rattle.pop3_server.specs.declared.size.SizeCount.{SizeCount}
 
 -- the octets of a text's lines, each with the CR LF that ends it on the wire

@@ -1,6 +1,6 @@
 //! The lines that a server gets, within its limits.
 ghost use Rattle.std.specs.Prelude.{◌≡◌, ◌≤◌, ◌<◌, ◌+◌, ◌-◌, ◌*◌, ◌++◌, ℕ, List, [], length, take, drop, true, false, IfOk, IfErr, IfSome, IfNone, Ok, Err};
-ghost use Rattle.pop3_wire.specs.Link.{Tallies};
+ghost use Rattle.pop3_wire.specs.Link.{CountsFailure};
 ghost use Rattle.pop3_wire.specs.Place.{HasLine, HasNoLine};
 ghost use Rattle.pop3_server.specs.declared.intake.Heard.TheVariants.{LongLine};
 ghost use Rattle.pop3_server.specs.Got.{Waiting};
@@ -81,7 +81,7 @@ impl Intake {
     /// Takes what comes next, and says whether anything came.
     fn more<W: Wire>(&mut self, wire: &mut W) -> Result<bool, ServerFault>
         requires { length self.old.octets < MAX_LINE }
-        ensures counted { Tallies (W.seen wire.old).failures result (W.seen wire.new).failures }
+        ensures counted { CountsFailure (W.seen wire.old) result (W.seen wire.new) }
         ensures err { IfErr result (λ e. e ≡ ServerFault.ReadFailed) }
         ensures takes { (piece : List ℕ) × (length piece + self.new.left ≡ self.old.left) × (self.new.octets ≡ self.old.octets ++ piece)
             × (result ≡ Ok true → 0 < length piece)
@@ -105,7 +105,7 @@ impl Intake {
     fn long_line<W: Wire>(&mut self, wire: &mut W) -> Result<Heard, ServerFault>
         requires none { HasNoLine MAX_LINE self.old.octets }
         requires long { MAX_LINE ≤ length self.old.octets }
-        ensures counted { Tallies (W.seen wire.old).failures result (W.seen wire.new).failures }
+        ensures counted { CountsFailure (W.seen wire.old) result (W.seen wire.new) }
         ensures err { IfErr result (λ e. e ≡ ServerFault.ReadFailed) }
         ensures found { IfOk result (λ heard. Found heard self.new) }
         ensures fewer { length self.new.octets + 2 * self.new.left < length self.old.octets + 2 * self.old.left }
@@ -135,7 +135,7 @@ impl Intake {
     /// Waits for the next line. A line longer than [`MAX_LINE`] is read to its CR LF and dropped.
     /// No `recv` is made while a whole line waits. The only fault is ReadFailed.
     pub fn next<W: Wire>(&mut self, wire: &mut W) -> Result<Heard, ServerFault>
-        ensures counted { Tallies (W.seen wire.old).failures result (W.seen wire.new).failures }
+        ensures counted { CountsFailure (W.seen wire.old) result (W.seen wire.new) }
         ensures err { IfErr result (λ e. e ≡ ServerFault.ReadFailed) }
         ensures found { IfOk result (λ heard. Found heard self.new) }
         ensures fewer { length self.new.octets + 2 * self.new.left ≤ length self.old.octets + 2 * self.old.left }

@@ -1,6 +1,7 @@
 //! A link to a server in memory.
 ghost use Rattle.std.specs.Prelude.{◌≡◌, ◌==◌, ◌≤◌, ◌<◌, ◌+◌, ◌++◌, ◌-◌, ◌^◌, ℕ, List, [], length, take, drop, true, false, if◌then◌else◌, IfOk, IfErr, IfSome, IfNone};
-ghost use Rattle.pop3_wire.specs.Link.{Link, greatest_count, with_failures, Tallies, Sends, Receives};
+ghost use Rattle.pop3_wire.specs.Link.{Link, with_failures, CountsFailure, Sends, Receives};
+ghost use Rattle.mail_terms.specs.FailureCount.{greatest_count};
 ghost use Rattle.pop3_wire.specs.Place.{HasLine};
 ghost use Rattle.pop3_server.specs.ServerMachine.{greeting, is_open};
 ghost use Rattle.pop3_server.specs.LoopLink.{Loop, Serves, IsAnswered};
@@ -180,7 +181,7 @@ impl<D: Maildrop> Wire for LoopWire<D> {
     ghost leads_to = { λ u v. Serves D.sound D.mail u v };
 
     fn send(&mut self, bytes: &[u8]) -> Result<(), WireDown>
-        ensures counted { Tallies self.old.link.failures result self.new.link.failures }
+        ensures counted { CountsFailure self.old.link result self.new.link }
         ensures sent { self.new.link.failures < greatest_count → (self.old.link.failures < greatest_count)
             × Serves D.sound D.mail self.old self.new × Sends self.old.link bytes.now result self.new.link }
         // A good call has answered every whole line that was sent to an open server; behind a
@@ -203,7 +204,7 @@ impl<D: Maildrop> Wire for LoopWire<D> {
     fn recv(&mut self, buf: &mut [u8]) -> Result<usize, WireDown>
         requires { 0 < length buf.old }
         ensures within { IfOk result (λ n. n ≤ length buf.new) }
-        ensures counted { Tallies self.old.link.failures result self.new.link.failures }
+        ensures counted { CountsFailure self.old.link result self.new.link }
         ensures got { self.new.link.failures < greatest_count → (self.old.link.failures < greatest_count)
             × Serves D.sound D.mail self.old self.new × Receives self.old.link result buf.new self.new.link }
         // It is refused behind a refused call and there alone, and 0 says that nothing is left.

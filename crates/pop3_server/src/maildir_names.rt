@@ -1,7 +1,7 @@
 //! The folders and files of a Maildir, and the unique-id that a file's name stands for.
 ghost use Rattle.std.specs.Prelude.{◌≡◌, true, length, IsTrue, IfOk};
 ghost use Rattle.std.specs.List.{list_all};
-ghost use Rattle.pop3_wire.specs.Fields.{is_legal_id, is_id_byte};
+ghost use Rattle.mail_terms.specs.UniqueId.{is_legal_id, is_id_byte};
 ghost use Rattle.pop3_server.specs.MaildirNames.{folder_name, id_of};
 ghost use Rattle.hex.specs.Hex.{encode_lower};
 ghost use Rattle.sha2.specs.Sha256.{sha256};

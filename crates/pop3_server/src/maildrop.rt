@@ -1,6 +1,6 @@
 //! Maildrops: messages that a server lists, gives and removes (RFC 1939, section 4).
 ghost use Rattle.std.specs.Prelude.{◌≡◌, ℕ, ◌≤◌, IsTrue, IfOk, IfErr, map, vec_len};
-ghost use Rattle.pop3_wire.specs.Fields.{is_legal_id};
+ghost use Rattle.mail_terms.specs.UniqueId.{is_legal_id};
 ghost use Rattle.mail_terms.specs.Distinct.{AreDistinct};
 ghost use Rattle.mail_terms.specs.FailureCount.{Tallies, counted_up, refuses};
 ghost use Rattle.pop3_server.specs.Maildrop.{Mail, Listed, HasPlace, ListsMessages, Gives, Removes, is_refusal};
@@ -59,7 +59,7 @@ pub struct Entry {
 
 impl Model for Entry {
     ghost use Rattle.std.specs.Prelude.{◌≤◌, IsTrue};
-    ghost use Rattle.pop3_wire.specs.Fields.{is_legal_id};
+    ghost use Rattle.mail_terms.specs.UniqueId.{is_legal_id};
     ghost use Rattle.pop3_server.specs.Maildrop.{Listed, max_size};
 
     ghost Value = { Listed };

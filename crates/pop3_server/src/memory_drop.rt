@@ -1,7 +1,7 @@
 //! A maildrop in memory.
 ghost use Rattle.std.specs.Prelude.{◌≡◌, ◌≤◌, ◌<◌, ◌∷◌, [], ◌++◌, ◌↔◌, ◌==◌, IsTrue, IfOk, IfErr, OnErr, IsOk, map, length, vec_len, Some};
 ghost use Rattle.std.specs.List.{Contains};
-ghost use Rattle.pop3_wire.specs.Fields.{is_legal_id};
+ghost use Rattle.mail_terms.specs.UniqueId.{is_legal_id};
 ghost use Rattle.pop3_wire.specs.World.{Message};
 ghost use Rattle.pop3_server.specs.Size.{size_of};
 ghost use Rattle.mail_terms.specs.Distinct.{AreDistinct};

@@ -2,13 +2,15 @@
 ghost use Rattle.std.specs.Prelude.{◌≡◌, ◌≤◌, ◌<◌, ◌++◌, ℕ, length, IfOk, IfErr, codes, true, false, None, Some, vec_len};
 ghost use Rattle.std.specs.Fmt.{decimal};
 ghost use Rattle.std.specs.List.{flat_map};
-ghost use Rattle.pop3_wire.specs.Stuffed.{lines_of_text, sent_line};
+ghost use Rattle.mail_terms.specs.Text.{lines_of_text};
+ghost use Rattle.pop3_wire.specs.Stuffed.{sent_line};
 ghost use Rattle.pop3_server.specs.ServerMachine.{said, scan_line, uid_line, listed, lines_from, left_count, left_total, octets_line, text_body, top_from};
 
 use crate::fault::ServerFault;
 use crate::maildrop::MAX_COUNT;
 use crate::rows::{MessageRow, left};
-use pop3_wire::{cut_text, put_body, put_line};
+use mail_terms::cut_text;
+use pop3_wire::{put_body, put_line};
 use std::alloc::Global;
 
 /// One line.

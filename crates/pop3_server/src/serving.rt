@@ -1,6 +1,6 @@
 //! Serving a link: the greeting, and an answer to each line.
 ghost use Rattle.std.specs.Prelude.{◌≡◌, ◌≤◌, ◌<◌, ◌+◌, ◌*◌, ℕ, List, length, true, false, Ok, Err, IfOk, IfErr, IsOk};
-ghost use Rattle.pop3_wire.specs.Link.{Tallies, Sends};
+ghost use Rattle.pop3_wire.specs.Link.{CountsFailure, Sends};
 ghost use Rattle.pop3_server.specs.ServerMachine.{is_open};
 ghost use Rattle.pop3_server.specs.Serving.{Served, refusal_of};
 
@@ -12,7 +12,7 @@ use pop3_wire::Wire;
 
 /// Sends bytes, all of them at once.
 fn send<W: Wire>(wire: &mut W, bytes: &[u8]) -> Result<(), ServerFault>
-    ensures counted { Tallies (W.seen wire.old).failures result (W.seen wire.new).failures }
+    ensures counted { CountsFailure (W.seen wire.old) result (W.seen wire.new) }
     ensures err { IfErr result (λ e. e ≡ ServerFault.WriteFailed) }
     ensures sends { W.sound wire.new → W.sound wire.old × W.leads_to wire.old wire.new
         × Sends (W.seen wire.old) bytes.now result (W.seen wire.new) }
@@ -33,7 +33,7 @@ fn send<W: Wire>(wire: &mut W, bytes: &[u8]) -> Result<(), ServerFault>
 /// that QUIT hadn't removed.
 pub fn serve<D: Maildrop, W: Wire>(server: &mut Server<D>, wire: &mut W) -> Result<(), ServerFault>
     requires { is_open server.old.state ≡ true }
-    ensures counted { Tallies (W.seen wire.old).failures (refusal_of result) (W.seen wire.new).failures }
+    ensures counted { CountsFailure (W.seen wire.old) (refusal_of result) (W.seen wire.new) }
     ensures removals { is_open server.new.state ≡ true
         → (D.mail server.new.drop).removals ≡ (D.mail server.old.drop).removals }
     ensures served { W.sound wire.new → W.sound wire.old × W.leads_to wire.old wire.new

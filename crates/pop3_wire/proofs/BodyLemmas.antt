@@ -47,7 +47,7 @@ no_body bytes rest text reads line body other more is e =
     no_body_in reads.lines rest is.lines more reads.content line is.content (sym reads.whole ∙ e ∙ ap (λ b. b ++ more) is.whole)
 
 -- two bodies that bytes begin with are one
-same_lines : (lines others : List (List ℕ)) (x y : List ℕ) → AllByRecursion IsContent lines → AllByRecursion IsContent others
+pub same_lines : (lines others : List (List ℕ)) (x y : List ℕ) → AllByRecursion IsContent lines → AllByRecursion IsContent others
     → body_of lines ++ x ≡ body_of others ++ y → (lines ≡ others) × (x ≡ y)
 same_lines [] [] x y content content' e = (refl, append_cancel_left (ended dot) x y e)
 same_lines [] (other ∷ others) x y content content' e =

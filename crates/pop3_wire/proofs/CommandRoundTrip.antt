@@ -15,8 +15,10 @@ use Rattle.std.proofs.lemmas.List.Sums.{suffix_len_is}
 use Rattle.std.proofs.lemmas.List.{get_or-append_right, take_all}
 use Rattle.pop3_wire.specs.declared.fault.WireFault.{WireFault}
 use Rattle.pop3_wire.specs.declared.command.Command.TheVariants.{User, Pass, Stat, UidlAll, UidlOne, ListAll, ListOne, Retr, Dele, Rset, Noop, Top, Quit}
-use Rattle.pop3_wire.specs.Fields.{◌>>=◌, is_space, number, is_numeral}
-use Rattle.pop3_wire.specs.Commands.{is_argument, is_plain, line_of}
+use Rattle.pop3_wire.specs.Fields.{◌>>=◌, is_space, number}
+use Rattle.mail_terms.specs.Numeral.{is_numeral}
+use Rattle.mail_terms.specs.Credential.{is_credential, is_plain}
+use Rattle.pop3_wire.specs.Commands.{line_of}
 use Rattle.pop3_wire.specs.CommandLine.{keyword_of, trimmed, arguments, rest_of, one_or_all, text_argument, argument_number, no_argument, one_number, number_or_none, two_numbers, command_by, command_of, ReadAsWritten}
 
 read_on : ℕ → List ℕ → ℕ
@@ -131,11 +133,11 @@ numbered_twice front n k word short few less line is =
     (ap arguments is ∙ arguments_two front (decimal n) (decimal k) (word_by front word) (number_word n few) (number_word k less) (some_digit k less))
 
 -- the argument of USER or PASS
-text_kept : (text : List ℕ) → is_argument text ≡ true → text_argument text ≡ Ok text
+text_kept : (text : List ℕ) → is_credential text ≡ true → text_argument text ≡ Ok text
 unfolding text_argument
 text_kept text good = cond-true _ _ _ good
 
-text_short : (text : List ℕ) → is_argument text ≡ true → length text ≤ 500
+text_short : (text : List ℕ) → is_credential text ≡ true → length text ≤ 500
 text_short text good = leb-true (length text) 500 (and_parts (nat_lt 0 (length text)) _ (and_parts _ (list_all is_plain text) good).0).1
 
 abbrev both : ℕ → ℕ → Result (ℕ × ℕ) WireFault

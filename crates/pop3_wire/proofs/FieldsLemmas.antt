@@ -8,7 +8,7 @@ use Rattle.std.proofs.lemmas.Bool.Decides.{nat_tests}
 use Rattle.std.proofs.lemmas.Int.Digits.{digits_value-lt, digits_value_more}
 use Rattle.std.proofs.lemmas.Str.Parse.{digits_value-take-le}
 use Rattle.std.proofs.Math.Nat.{pow-le-pow_right}
-use Rattle.pop3_wire.specs.Fields.{is_numeral}
+use Rattle.mail_terms.specs.Numeral.{is_numeral}
 
 pub digit_of : (c : ℕ) → is_ascii_digit c ≡ true → (digit_value c < 10) × (digit_value c ≡ c - 48)
 digit_of c e = (grind (arith, nat_tests), grind (arith, nat_tests))

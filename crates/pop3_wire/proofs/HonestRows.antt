@@ -11,7 +11,9 @@ use Rattle.std.proofs.lemmas.Fmt.{decimal_is_IsNumeral, length-decimal-le, decim
 use Rattle.std.proofs.lemmas.List.{take_at, drop_at, take_all, drop_all}
 use Rattle.pop3_wire.specs.declared.fault.WireFault.{WireFault}
 use Rattle.pop3_wire.specs.Line.{crlf, IsLine}
-use Rattle.pop3_wire.specs.Fields.{◌>>=◌, is_space, is_in_field, past, is_numeral, number, next_field, number_limit, size_limit, message_number, number_and_size, is_id_byte, is_legal_id, legal_id, nothing_more, number_and_id}
+use Rattle.pop3_wire.specs.Fields.{◌>>=◌, is_space, is_in_field, past, number, next_field, message_number, number_and_size, legal_id, nothing_more, number_and_id}
+use Rattle.mail_terms.specs.Numeral.{is_numeral, greatest_number, greatest_size}
+use Rattle.mail_terms.specs.UniqueId.{is_id_byte, is_legal_id}
 use Rattle.pop3_wire.proofs.CommandRoundTrip.{digits_of_decimal, no_space}
 
 abbrev both : {A : Type 0} → ℕ → A → Result (ℕ × A) WireFault
@@ -100,10 +102,10 @@ message_read k rest few =
     let fits : k < 2 ^ 64 = omega arith in
     let first = starts is_in_field (decimal k) (decimal_nonempty k fits) (number_in_field k fits) in
     let begin : decimal k ++ 32 ∷ rest ≡ first.0 ∷ (first.1 ++ 32 ∷ rest) = ap (λ (l : List ℕ). l ++ 32 ∷ rest) first.2 in
-    ap (λ (r : Result (List ℕ) WireFault). r >>= (λ field. number number_limit (take_while is_in_field field) >>= (λ n. both n (past is_in_field field))))
+    ap (λ (r : Result (List ℕ) WireFault). r >>= (λ field. number greatest_number (take_while is_in_field field) >>= (λ n. both n (past is_in_field field))))
     (next_at (decimal k ++ 32 ∷ rest) first.0 (first.1 ++ 32 ∷ rest) begin first.3)
-    ∙ ap (λ (field : List ℕ). number number_limit field >>= (λ n. both n (past is_in_field (decimal k ++ 32 ∷ rest)))) (field_taken (decimal k) rest (number_in_field k fits))
-    ∙ ap (λ (r : Result ℕ WireFault). r >>= (λ n. both n (past is_in_field (decimal k ++ 32 ∷ rest)))) (number_read number_limit k fits few)
+    ∙ ap (λ (field : List ℕ). number greatest_number field >>= (λ n. both n (past is_in_field (decimal k ++ 32 ∷ rest)))) (field_taken (decimal k) rest (number_in_field k fits))
+    ∙ ap (λ (r : Result ℕ WireFault). r >>= (λ n. both n (past is_in_field (decimal k ++ 32 ∷ rest)))) (number_read greatest_number k fits few)
     ∙ ap (λ (l : List ℕ). both k l) (field_past (decimal k) rest (number_in_field k fits))
 
 -- the row of LIST, and the rest of STAT's first line
@@ -111,12 +113,12 @@ pub scan_read : (k size : ℕ) → k ≤ 4294967295 → size < 2 ^ 64 → number
 unfolding number_and_size
 scan_read k size few fits =
     let first = starts is_in_field (decimal size) (decimal_nonempty size fits) (number_in_field size fits) in
-    ap (λ (r : Result (ℕ × List ℕ) WireFault). r >>= (λ first. next_field first.1 >>= (λ field. number size_limit (take_while is_ascii_digit field) >>= (λ size. both first.0 size))))
+    ap (λ (r : Result (ℕ × List ℕ) WireFault). r >>= (λ first. next_field first.1 >>= (λ field. number greatest_size (take_while is_ascii_digit field) >>= (λ size. both first.0 size))))
     (message_read k (decimal size) few)
-    ∙ ap (λ (r : Result (List ℕ) WireFault). r >>= (λ field. number size_limit (take_while is_ascii_digit field) >>= (λ size. both k size)))
+    ∙ ap (λ (r : Result (List ℕ) WireFault). r >>= (λ field. number greatest_size (take_while is_ascii_digit field) >>= (λ size. both k size)))
     (next_behind (decimal size) first.0 first.1 first.2 first.3)
-    ∙ ap (λ (field : List ℕ). number size_limit field >>= (λ size. both k size)) (all_taken is_ascii_digit (decimal size) (digits_of_decimal size fits))
-    ∙ ap (λ (r : Result ℕ WireFault). r >>= (λ size. both k size)) (number_read size_limit size fits (omega arith))
+    ∙ ap (λ (field : List ℕ). number greatest_size field >>= (λ size. both k size)) (all_taken is_ascii_digit (decimal size) (digits_of_decimal size fits))
+    ∙ ap (λ (r : Result ℕ WireFault). r >>= (λ size. both k size)) (number_read greatest_size size fits (omega arith))
 
 legal_bytes : (uid : List ℕ) → is_legal_id uid ≡ true → (0 < length uid) × (list_all is_id_byte uid ≡ true)
 legal_bytes uid legal =

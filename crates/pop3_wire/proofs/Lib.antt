@@ -1,11 +1,14 @@
-pub mod BodyLemmas
-pub mod CommandLineLemmas
+mod BeginningLemmas
+pub mod BodiesLemmas
+mod BodyLemmas
+mod CommandLineLemmas
 pub mod CommandRoundTrip
-pub mod FieldsLemmas
+mod FieldsLemmas
 pub mod HonestRows
 pub mod LineLemmas
-pub mod LineReaderLemmas
+mod LineReaderLemmas
+mod ReadingLemmas
+mod RowsLemmas
+mod ScriptLemmas
 pub mod StuffLemmas
-pub mod UnstuffingLemmas
-pub mod BodiesLemmas
-pub mod BeginningLemmas
+mod UnstuffingLemmas

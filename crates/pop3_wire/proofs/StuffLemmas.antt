@@ -4,35 +4,9 @@ use Rattle.std.specs.List.{flat_map, onto_first, position_or_len, AllByRecursion
 use Rattle.std.proofs.lemmas.Bool.Decides.{eqb_tells}
 use Rattle.pop3_wire.specs.Line.{crlf, IsLine, ended}
 use Rattle.pop3_wire.specs.Body.{dot, IsContent, unstuffed, text_of}
-use Rattle.pop3_wire.specs.Stuffed.{is_line_feed, lines_of_text, stuffed, sent_line, stuffed_lines, whole_text, StuffedIsBody, StuffedIsRead, OneBody}
+use Rattle.mail_terms.specs.Text.{is_line_feed, lines_of_text, whole_text}
+use Rattle.pop3_wire.specs.Stuffed.{stuffed, sent_line, stuffed_lines, StuffedIsBody, StuffedIsRead, OneBody}
 use Rattle.pop3_wire.proofs.BodyLemmas.{one_body}
-
--- a text without LF is one line
-pub one_text_line : (text : List ℕ) → 0 < length text → position_or_len is_line_feed text ≡ length text → lines_of_text text ≡ text ∷ []
-one_text_line [] some h = absurd (omega arith)
-one_text_line (byte ∷ []) some h = elim (eqb_tells byte 10) [
-  | inl p ↦ absurd (let e = rw p.0 at h in omega arith)
-  | inr p ↦ rw p.0 refl
-]
-one_text_line (byte ∷ next ∷ rest) some h = elim (eqb_tells byte 10) [
-  | inl p ↦ absurd (let e = rw p.0 at h in omega arith)
-  | inr p ↦ let e = rw p.0 at h in rw (p.0, one_text_line (next ∷ rest) (omega arith) (omega arith)) refl
-]
-
--- otherwise its first line ends at the first LF
-pub first_text_line : (text : List ℕ) (n : ℕ) → n ≡ position_or_len is_line_feed text → n < length text → lines_of_text text ≡ take n text ∷ lines_of_text (drop (n + 1) text)
-first_text_line [] n h some = absurd (omega arith)
-first_text_line (byte ∷ rest) zero h some = elim (eqb_tells byte 10) [
-  | inl p ↦ rw p.0 refl
-  | inr p ↦ absurd (let e = rw p.0 at h in omega arith)
-]
-first_text_line (byte ∷ rest) (suc n) h some = elim (eqb_tells byte 10) [
-  | inl p ↦ absurd (let e = rw p.0 at h in omega arith)
-  | inr p ↦
-      let e = rw p.0 at h in
-      let step : suc n + 1 ≡ suc (n + 1) = omega arith in
-      rw (p.0, step, first_text_line rest n (omega arith) (omega arith)) refl
-]
 
 -- ---- no LF stands in a line of a text
 

@@ -8,8 +8,10 @@ use Rattle.pop3_wire.specs.declared.command.Command.{Command}
 use Rattle.pop3_wire.specs.declared.command.Command.TheVariants.{User, Pass, Stat, UidlAll, UidlOne, ListAll, ListOne, Retr, Dele, Rset, Noop, Top, Quit}
 use Rattle.pop3_wire.specs.declared.keyword.Keyword.{Keyword}
 use Rattle.pop3_wire.specs.declared.keyword.Keyword.TheVariants as keyword
-use Rattle.pop3_wire.specs.Commands.{is_argument, can_be_sent, line_of}
-use Rattle.pop3_wire.specs.Fields.{◌>>=◌, is_space, number, number_limit}
+use Rattle.mail_terms.specs.Credential.{is_credential}
+use Rattle.pop3_wire.specs.Commands.{can_be_sent, line_of}
+use Rattle.pop3_wire.specs.Fields.{◌>>=◌, is_space, number}
+use Rattle.mail_terms.specs.Numeral.{greatest_number}
 
 -- a keyword, in upper or lower case or both
 unfoldable pub keyword_of : List ℕ → Option Keyword
@@ -29,7 +31,7 @@ keyword_of word =
 
 -- an argument of 1 to 10 digits whose value is below 2 ^ 32
 unfoldable pub argument_number : List ℕ → Result ℕ WireFault
-argument_number word = if nat_le (length word) 10 then number number_limit word else Err BadNumber
+argument_number word = if nat_le (length word) 10 then number greatest_number word else Err BadNumber
 
 -- a line without the spaces at its end
 abbrev pub trimmed : List ℕ → List ℕ
@@ -45,7 +47,7 @@ rest_of line = after_first is_space line
 
 -- the argument of USER or PASS
 unfoldable pub text_argument : List ℕ → Result (List ℕ) WireFault
-text_argument text = if is_argument text then Ok text else Err BadArgument
+text_argument text = if is_credential text then Ok text else Err BadArgument
 
 -- no argument, one number, one number at most, and two numbers: the count of arguments is judged before their form
 unfoldable pub no_argument : List (List ℕ) → Result (Unit {0}) WireFault
@@ -118,6 +120,12 @@ command_by (Some keyword.Quit) rest words = do
 -- the command that a line without its CR LF asks for, or its fault; the keyword is what stands before the first space
 unfoldable pub command_of : List ℕ → Result Command WireFault
 command_of line = if nat_lt 510 (length line) then Err BadCommand else command_by (keyword_of (before_first is_space line)) (rest_of line) (arguments line)
+
+-- a command that carries bytes: those of USER and PASS
+abbrev pub CarriesBytes : Command → Type 0
+CarriesBytes (User name) = Unit {0}
+CarriesBytes (Pass password) = Unit {0}
+CarriesBytes _ = ⊥
 
 -- the numbers of a command are below 2 ^ 32
 abbrev pub HasNumbers : Command → Type 0

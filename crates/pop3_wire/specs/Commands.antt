@@ -1,22 +1,14 @@
 -- The lines of commands (RFC 1939, sections 3 and 5 to 7).
-use Rattle.std.specs.Prelude.{ℕ, Bool, true, List, ◌++◌, ◌==◌, ◌&&◌, not, nat_lt, nat_le, length, codes}
-use Rattle.std.specs.List.{list_all}
+use Rattle.std.specs.Prelude.{ℕ, Bool, true, List, ◌++◌, codes}
 use Rattle.std.specs.Fmt.{decimal}
+use Rattle.mail_terms.specs.Credential.{is_credential}
 use Rattle.pop3_wire.specs.declared.command.Command.{Command}
 use Rattle.pop3_wire.specs.declared.command.Command.TheVariants.{User, Pass, Stat, UidlAll, UidlOne, ListAll, ListOne, Retr, Dele, Rset, Noop, Top, Quit}
 
--- neither CR, nor LF, nor NUL
-abbrev pub is_plain : ℕ → Bool
-is_plain byte = not (byte == 13) && not (byte == 10) && not (byte == 0)
-
--- an argument of USER or PASS: 1 to 500 bytes, all of them plain
-abbrev pub is_argument : List ℕ → Bool
-is_argument bytes = nat_lt 0 (length bytes) && nat_le (length bytes) 500 && list_all is_plain bytes
-
 -- the command can be sent
 abbrev pub can_be_sent : Command → Bool
-can_be_sent (User name) = is_argument name
-can_be_sent (Pass password) = is_argument password
+can_be_sent (User name) = is_credential name
+can_be_sent (Pass password) = is_credential password
 can_be_sent _ = true
 
 -- the line that asks for a command, without its CR LF

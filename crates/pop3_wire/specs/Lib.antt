@@ -3,12 +3,14 @@ pub mod Body
 pub mod CommandLine
 pub mod Commands
 pub mod Fields
+pub mod Fuse
 pub mod Honest
 pub mod Line
 pub mod Link
 pub mod Place
 pub mod Reading
 pub mod Reply
+pub mod Rows
 pub mod Script
 pub mod Stuffed
 pub mod World

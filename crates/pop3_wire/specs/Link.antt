@@ -1,5 +1,6 @@
--- What a call of a link does to the octets sent and got.
-use Rattle.std.specs.Prelude.{◌≡◌, ◌+◌, ◌-◌, ◌^◌, ◌==◌, ◌||◌, ℕ, Bool, false, List, [], ◌++◌, take, Result, Ok, Err, if◌then◌else◌}
+-- What is known of a link, and what its calls do to it.
+use Rattle.std.specs.Prelude.{◌≡◌, ◌+◌, ◌==◌, ◌||◌, ℕ, Bool, false, List, [], ◌++◌, take, Result, Ok, Err}
+use Rattle.mail_terms.specs.FailureCount.{Tallies, is_refused}
 
 -- what is known of a link: the octets sent, the octets got, whether a `recv` has answered 0, and how many calls were refused
 pub record Link : Type 0 where
@@ -19,14 +20,14 @@ abbrev pub Receives : {E : Type 0} → Link → Result ℕ E → List ℕ → Li
 Receives old (Ok n) buf new = new ≡ record old { got = old.got ++ take n buf; ended = old.ended || n == 0 }
 Receives old (Err down) buf new = new ≡ record old { failures = old.failures + 1 }
 
--- the greatest value of a failure count, at which a device refuses everything
-abbrev pub greatest_count : ℕ
-greatest_count = 2 ^ 64 - 1
+-- the failure count rises exactly where the call was refused, as far as it goes
+abbrev pub CountsFailure : {T E : Type 0} → Link → Result T E → Link → Type 0
+CountsFailure old result new = Tallies (is_refused result) old.failures new.failures
 
--- a refusal is counted, as far as the count goes, and nothing else is
-abbrev pub Tallies : {T E : Type 0} → ℕ → Result T E → ℕ → Type 0
-Tallies old (Ok done) new = new ≡ old
-Tallies old (Err down) new = new ≡ (if old == greatest_count then old else old + 1)
+-- what is known of a call where the link is sound after it: it was sound before, this one leads on from that one, and the
+-- call did this
+abbrev pub WhereSound : {W : Type 0} → (W → Type 0) → (W → W → Type 0) → W → W → Type 0 → Type 0
+WhereSound sound leads_to old new did = sound new → sound old × leads_to old new × did
 
 -- what is known of a link of which no history is kept: only its failure count
 abbrev pub uncharted : ℕ → Link

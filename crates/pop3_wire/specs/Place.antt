@@ -10,6 +10,10 @@ pub record Place : Type 0 where
   pub link : Link
   pub waiting : List ℕ
 
+-- how many octets may wait in a reader
+abbrev pub most_waiting : ℕ
+most_waiting = 4096
+
 abbrev pub at : Link → List ℕ → Place
 at link waiting = record { link = link; waiting = waiting }
 

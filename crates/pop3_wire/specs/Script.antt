@@ -1,5 +1,6 @@
 -- A link whose replies were written beforehand.
-use Rattle.std.specs.Prelude.{ℕ, List}
+use Rattle.std.specs.Prelude.{◌≡◌, ◌<◌, ℕ, true, List, ◌++◌}
+use Rattle.mail_terms.specs.FailureCount.{greatest_count}
 use Rattle.pop3_wire.specs.Link.{Link}
 
 -- all that it gives, how many octets at once at most, and what is known of it
@@ -7,3 +8,15 @@ pub record Script : Type 0 where
   pub replies : List ℕ
   pub cut : ℕ
   pub link : Link
+
+abbrev pub is_sound : Script → Type 0
+is_sound script = script.link.failures < greatest_count
+
+-- what was got begins the replies, and where a `recv` has answered 0 they were all got
+pub record IsTold (script : Script) : Type 0 where
+  pub begins : (rest : List ℕ) × (script.replies ≡ script.link.got ++ rest)
+  pub whole : script.link.ended ≡ true → script.link.got ≡ script.replies
+
+-- the script stays, and what was got goes on to begin it
+abbrev pub gives_on : Script → Script → Type 0
+gives_on old new = (new.replies ≡ old.replies) × (new.cut ≡ old.cut) × (IsTold old → IsTold new)

@@ -1,16 +1,9 @@
 -- The body of a text, as a writer sends it (RFC 1939, section 3).
-use Rattle.std.specs.Prelude.{◌≡◌, ◌==◌, ℕ, Bool, List, [], ◌∷◌, ◌++◌, if◌then◌else◌}
-use Rattle.std.specs.List.{flat_map, onto_first}
+use Rattle.std.specs.Prelude.{◌≡◌, ◌==◌, ℕ, List, [], ◌∷◌, ◌++◌, if◌then◌else◌}
+use Rattle.std.specs.List.{flat_map}
+use Rattle.mail_terms.specs.Text.{lines_of_text, whole_text}
 use Rattle.pop3_wire.specs.Line.{ended}
 use Rattle.pop3_wire.specs.Body.{dot, Body}
-
-abbrev pub is_line_feed : ℕ → Bool
-is_line_feed byte = byte == 10
-
--- the lines of a text, which end at LF; a last piece without LF is a line
-abbrev pub lines_of_text : List ℕ → List (List ℕ)
-lines_of_text [] = []
-lines_of_text (byte ∷ rest) = if byte == 10 then [] ∷ lines_of_text rest else onto_first byte (lines_of_text rest)
 
 -- a line with one more full stop in front, where it begins with one
 abbrev pub stuffed : List ℕ → List ℕ
@@ -23,12 +16,6 @@ sent_line line = ended (stuffed line)
 -- the body of these lines of a text, end mark included
 abbrev pub stuffed_lines : List (List ℕ) → List ℕ
 stuffed_lines lines = flat_map sent_line lines ++ ended dot
-
--- a text whose last line is ended: it gets one LF more where it has bytes and doesn't end in LF
-abbrev pub whole_text : List ℕ → List ℕ
-whole_text [] = []
-whole_text (byte ∷ []) = if byte == 10 then byte ∷ [] else byte ∷ 10 ∷ []
-whole_text (byte ∷ next ∷ rest) = byte ∷ whole_text (next ∷ rest)
 
 -- what a writer sends is a body of the text, its last line ended
 abbrev pub StuffedIsBody : Type 0

@@ -1,7 +1,7 @@
 //! Taking one body from a link, into its text (RFC 1939, section 3).
 ghost use Rattle.std.specs.Prelude.{◌≡◌, ◌≢◌, ◌≤◌, ◌<◌, ◌+◌, ◌-◌, ◌++◌, ◌↔◌, ℕ, List, [], length, take, drop, min, IsTrue, IfOk, IfErr, OnOk, OnErr};
 ghost use Rattle.pop3_wire.specs.Bodies.{Drew, DrawsNothing, Leaves, ReadsBody, UnderWay, TakesPiece, rest_of, items_of, refusal_of};
-ghost use Rattle.pop3_wire.specs.Link.{Tallies};
+ghost use Rattle.pop3_wire.specs.Link.{CountsFailure};
 ghost use Rattle.pop3_wire.specs.Place.{Place, at, GoesOn};
 ghost use Rattle.pop3_wire.specs.Unstuffing.{Reaches};
 ghost use Rattle.pop3_wire.specs.declared.unstuffer.Spot.TheVariants.{Start, Done};
@@ -43,7 +43,7 @@ impl From<AllocError> for BodyFault {
 
 /// Takes from the link where nothing waits, so that something does.
 fn draw<W: Wire>(wire: &mut W, reader: &mut LineReader) -> Result<(), BodyFault>
-    ensures counted { Tallies (W.seen wire.old).failures (refusal_of result) (W.seen wire.new).failures }
+    ensures counted { CountsFailure (W.seen wire.old) (refusal_of result) (W.seen wire.new) }
     ensures frugal { IfErr result (λ fault. fault ≢ BodyFault.NoMemory) }
     ensures ok { OnOk result ((gained : List ℕ) × (reader.new ≡ reader.old ++ gained) × (0 < length reader.new)
         × (W.sound wire.new → W.sound wire.old × W.leads_to wire.old wire.new
@@ -135,7 +135,7 @@ impl BodyReader {
         out: &mut [u8; 4097],
     ) -> Result<Piece, BodyFault>
         requires { self.old.spot ≢ Done }
-        ensures counted { Tallies (W.seen wire.old).failures (refusal_of result) (W.seen wire.new).failures }
+        ensures counted { CountsFailure (W.seen wire.old) (refusal_of result) (W.seen wire.new) }
         ensures fits { IfOk result (λ piece. piece.put ≤ length out.new) }
         ensures ended { IfOk result (λ piece. IsTrue piece.ended ↔ (self.new.spot ≡ Done)) }
         ensures less { OnOk result (self.new.spot ≢ Done → self.new.left < self.old.left) }
@@ -170,7 +170,7 @@ pub fn read_body<W: Wire>(
     limit: usize,
 ) -> Result<Vec<u8>, BodyFault>
     requires { 0 < limit }
-    ensures counted { Tallies (W.seen wire.old).failures (refusal_of result) (W.seen wire.new).failures }
+    ensures counted { CountsFailure (W.seen wire.old) (refusal_of result) (W.seen wire.new) }
     ensures read { W.sound wire.new → W.sound wire.old × W.leads_to wire.old wire.new
         × ReadsBody limit (at (W.seen wire.old) reader.old) (items_of result) (at (W.seen wire.new) reader.new) }
     ensures rest { W.sound wire.new → Leaves limit (at (W.seen wire.old) reader.old) (at (W.seen wire.new) reader.new) }

@@ -1,13 +1,13 @@
 //! Commands, and the lines that ask for them (RFC 1939, sections 3 and 5 to 7).
 
 ghost use Rattle.std.specs.Prelude.{ℕ, ◌≡◌, ◌++◌, ◌⊎◌, true, false, IfOk, IfErr, codes};
-ghost use Rattle.std.specs.List.{list_all};
 ghost use Rattle.std.specs.Fmt.{decimal};
 ghost use Rattle.pop3_wire.specs.Line.{crlf};
-ghost use Rattle.pop3_wire.specs.Commands.{is_plain, is_argument, can_be_sent, line_of};
+ghost use Rattle.mail_terms.specs.Credential.{is_credential};
+ghost use Rattle.pop3_wire.specs.Commands.{can_be_sent, line_of};
 
-use crate::bytes::Bytes;
 use crate::fault::WireFault;
+use mail_terms::{Bytes, is_credential};
 use std::alloc::Global;
 
 /// A command of POP3. Message numbers are counted from 1; 0 can be written and asks for no message.
@@ -41,28 +41,12 @@ pub enum Command {
     Quit,
 }
 
-/// Whether bytes hold neither CR, nor LF, nor NUL.
-fn are_plain(bytes: &[u8]) -> bool
-    ensures { result ≡ list_all is_plain bytes.now }
-{
-    bytes
-        .iter()
-        .all(|byte| *byte != b'\r' && *byte != b'\n' && *byte != 0)
-}
-
-/// Whether bytes may stand as the argument of USER or PASS.
-pub fn can_be_argument(bytes: &[u8]) -> bool
-    ensures { result ≡ is_argument bytes.now }
-{
-    !bytes.is_empty() && bytes.len() <= 500 && are_plain(bytes)
-}
-
 /// A keyword and an argument as a line.
 fn text_line(alloc: Global, keyword: &[u8], argument: &[u8]) -> Result<Vec<u8>, WireFault>
-    ensures ok { IfOk result (λ v. (is_argument argument.now ≡ true) × (v.items ≡ keyword.now ++ argument.now ++ crlf)) }
-    ensures err { IfErr result (λ e. ((e ≡ WireFault.BadArgument) × (is_argument argument.now ≡ false)) ⊎ ((e ≡ WireFault.NoMemory) × (is_argument argument.now ≡ true))) }
+    ensures ok { IfOk result (λ v. (is_credential argument.now ≡ true) × (v.items ≡ keyword.now ++ argument.now ++ crlf)) }
+    ensures err { IfErr result (λ e. ((e ≡ WireFault.BadArgument) × (is_credential argument.now ≡ false)) ⊎ ((e ≡ WireFault.NoMemory) × (is_credential argument.now ≡ true))) }
 {
-    if !can_be_argument(argument) {
+    if !is_credential(argument) {
         return Err(WireFault::BadArgument);
     }
     let mut line = Vec::new(alloc);

@@ -3,13 +3,13 @@
 ghost use Rattle.std.specs.Prelude.{◌≡◌, ◌⊎◌, [], ◌∷◌, Ok, Err, IfOk, IfErr, IsOk, MatchOption};
 ghost use Rattle.std.specs.List.{before_first, after_first, slice_split};
 ghost use Rattle.pop3_wire.specs.Fields.{is_space};
-ghost use Rattle.pop3_wire.specs.CommandLine.{trimmed, arguments, rest_of, text_argument, argument_number, no_argument, one_number, number_or_none, two_numbers, command_by, command_of, ReadAsWritten};
+ghost use Rattle.pop3_wire.specs.CommandLine.{trimmed, arguments, rest_of, text_argument, argument_number, no_argument, one_number, number_or_none, two_numbers, command_by, command_of, CarriesBytes, ReadAsWritten};
 
-use crate::bytes::Bytes;
-use crate::command::{Command, can_be_argument};
+use crate::command::Command;
 use crate::fault::WireFault;
 use crate::fields::{field_length, number};
 use crate::keyword::{Keyword, read_keyword};
+use mail_terms::{Bytes, is_credential};
 use std::alloc::Global;
 
 /// What stands before the first space, and what stands behind it, where there is one.
@@ -58,7 +58,7 @@ fn text_argument(alloc: Global, line: &[u8]) -> Result<Bytes, WireFault>
         None => b"".as_slice(),
         Some(text) => text,
     };
-    if !can_be_argument(text) {
+    if !is_credential(text) {
         return Err(WireFault::BadArgument);
     }
     Ok(Bytes::from_vec(Vec::from_slice(alloc, text)?))
@@ -138,6 +138,7 @@ fn read_by(alloc: Global, keyword: Option<Keyword>, line: &[u8]) -> Result<Comma
     ensures ok { IfOk result (λ c. command_by keyword (rest_of line.now) (arguments line.now) ≡ Ok c) }
     ensures err { IfErr result (λ e. (command_by keyword (rest_of line.now) (arguments line.now) ≡ Err e)
         ⊎ ((e ≡ WireFault.NoMemory) × IsOk (command_by keyword (rest_of line.now) (arguments line.now)))) }
+    ensures memory { IfErr result (λ e. e ≡ WireFault.NoMemory → IfOk (command_by keyword (rest_of line.now) (arguments line.now)) CarriesBytes) }
 {
     let Some(keyword) = keyword else {
         return Err(WireFault::BadCommand);
@@ -182,11 +183,14 @@ fn read_by(alloc: Global, keyword: Option<Keyword>, line: &[u8]) -> Result<Comma
 /// stands before the first space; USER and PASS take all that follows as their argument, the others
 /// take words apart by single spaces. BadCommand for an unknown keyword and for a line of more than
 /// 510 bytes; BadArgument for another count of arguments and for an argument of USER or PASS that
-/// `command_bytes` refuses; BadNumber for a number that isn't 1 to 10 digits or is above 2^32 - 1.
+/// `command_bytes` refuses; BadNumber for a number that isn't 1 to 10 digits or is above 2^32 - 1;
+/// NoMemory only for USER and PASS, whose argument is copied.
 #[tactic(auto, unfolding(crate::specs::CommandLine::command_of))]
 pub fn read_command(alloc: Global, line: &[u8]) -> Result<Command, WireFault>
     ensures ok { IfOk result (λ c. command_of line.now ≡ Ok c) }
-    ensures err { IfErr result (λ e. (command_of line.now ≡ Err e) ⊎ ((e ≡ WireFault.NoMemory) × IsOk (command_of line.now))) }
+    ensures err { IfErr result (λ e. (command_of line.now ≡ Err e)
+        ⊎ ((e ≡ WireFault.NoMemory) × IsOk (command_of line.now))) }
+    ensures memory { IfErr result (λ e. e ≡ WireFault.NoMemory → IfOk (command_of line.now) CarriesBytes) }
 {
     if line.len() > 510 {
         return Err(WireFault::BadCommand);

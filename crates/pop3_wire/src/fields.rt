@@ -3,9 +3,13 @@ ghost use Rattle.std.specs.Prelude.{◌≡◌, ◌≤◌, ◌^◌, ◌<◌, ◌�
 ghost use Rattle.std.specs.Char.{is_ascii_digit};
 ghost use Rattle.std.specs.List.{prefix_len, list_all};
 ghost use Rattle.std.specs.Str.Parse.{digits_value};
-ghost use Rattle.pop3_wire.specs.Fields.{is_space, is_in_field, is_id_byte, is_numeral, is_legal_id, past, number, next_field, legal_id, nothing_more, message_number, number_and_size, number_and_id};
+ghost use Rattle.pop3_wire.specs.Fields.{is_space, is_in_field, past, number, next_field, legal_id, nothing_more, message_number, number_and_size, number_and_id};
+ghost use Rattle.mail_terms.specs.UniqueId.{is_legal_id};
+ghost use Rattle.mail_terms.specs.Numeral.{is_numeral};
+ghost use Rattle.pop3_wire.specs.Rows.{ScanRowsHaveForm, UidRowsHaveForm};
 
 use crate::fault::WireFault;
+use mail_terms::is_legal_id;
 
 /// How many spaces the bytes begin with.
 fn leading_spaces(bytes: &[u8]) -> usize
@@ -99,23 +103,6 @@ fn next_field(bytes: &[u8]) -> Result<&[u8], WireFault>
     Ok(rest)
 }
 
-/// Whether all bytes are characters of an id.
-fn are_id_bytes(bytes: &[u8]) -> bool
-    ensures { result ≡ list_all is_id_byte bytes.now }
-{
-    bytes.iter().all(|byte| 33 <= *byte && *byte <= 126)
-}
-
-/// Whether an id is legal: 1 to 70 characters of 0x21 to 0x7E (RFC 1939, section 7).
-pub fn is_legal_id(id: &[u8]) -> bool
-    ensures { result ≡ is_legal_id id.now }
-{
-    if id.is_empty() || id.len() > 70 {
-        return false;
-    }
-    are_id_bytes(id)
-}
-
 /// What a field of an id holds.
 #[tactic(auto, unfolding(crate::specs::Fields::legal_id))]
 fn legal_id(field: &[u8]) -> Result<&[u8], WireFault>
@@ -189,3 +176,15 @@ pub fn read_uid(line: &[u8]) -> Result<(u32, &[u8]), WireFault>
     let whole = nothing_more(id, &second[length..])?;
     Ok((n, whole))
 }
+
+/// A row of LIST, or STAT's rest, that is read has the form of one: spaces or none, a message number,
+/// one space or more, a size, and behind it whatever doesn't go on with a digit.
+pub fn scan_rows_have_a_form()
+    ensures { ScanRowsHaveForm }
+{}
+
+/// A row of UIDL that is read has the form of one: spaces or none, a message number, one space or
+/// more, a legal unique-id, and spaces or none.
+pub fn uid_rows_have_a_form()
+    ensures { UidRowsHaveForm }
+{}

@@ -4,11 +4,11 @@
 
 mod body;
 mod body_reader;
-mod bytes;
 mod command;
 mod command_line;
 mod fault;
 mod fields;
+mod fused_wire;
 mod keyword;
 mod line;
 mod line_reader;
@@ -21,19 +21,18 @@ mod wire;
 
 pub use body::{is_end_mark, unstuff, without_dot};
 pub use body_reader::{BodyFault, BodyReader, Piece, read_body};
-pub use bytes::Bytes;
 pub use command::{Command, command_bytes};
 pub use command_line::{read_as_written, read_command};
 pub use fault::WireFault;
-pub use fields::{is_legal_id, read_scan, read_stat, read_uid};
+pub use fields::{read_scan, read_stat, read_uid, scan_rows_have_a_form, uid_rows_have_a_form};
+pub use fused_wire::FusedWire;
 pub use line::cut_line;
 pub use line_reader::{LineFault, LineReader};
-pub use reply::{Status, read_status};
+pub use mail_terms::{Bytes, is_legal_id};
+pub use reply::{Status, only_one_list_of_lines, only_one_reading, read_status};
 pub use script_wire::ScriptWire;
 pub use stream_wire::StreamWire;
-pub use stuffing::{
-    cut_text, only_one_body, put_body, put_line, stuff, stuffed_is_body, stuffed_is_read,
-};
+pub use stuffing::{only_one_body, put_body, put_line, stuff, stuffed_is_body, stuffed_is_read};
 pub use unstuffer::{
     Fed, Spot, Unstuffer, ends_with_body, holds_no_body, shows_a_beginning, starts_empty,
 };

@@ -1,8 +1,8 @@
 //! A reader of lines over any link: the replies that a client gets, and the commands that a server
 //! gets.
 ghost use Rattle.std.specs.Prelude.{◌≡◌, ◌≤◌, ◌<◌, ◌+◌, ◌-◌, ℕ, List, [], ◌++◌, length, take, drop, IfOk, IfErr, OnErr, IfSome, IfNone};
-ghost use Rattle.pop3_wire.specs.Link.{Tallies};
-ghost use Rattle.pop3_wire.specs.Place.{at, GotPiece, WasRefused, Gains, HasLine, HasNoLine, ReadsLine, refusal_of};
+ghost use Rattle.pop3_wire.specs.Link.{CountsFailure, WhereSound};
+ghost use Rattle.pop3_wire.specs.Place.{most_waiting, at, GotPiece, WasRefused, Gains, HasLine, HasNoLine, ReadsLine, refusal_of};
 
 use crate::line::cut_line;
 use crate::wire::{Wire, WireDown};
@@ -72,7 +72,7 @@ impl LineReader {
     /// What waits to be used.
     pub fn waiting(&self) -> &[u8]
         ensures value { result.now ≡ self.now }
-        ensures short { length result.now ≤ 4096 }
+        ensures short { length result.now ≤ most_waiting }
     {
         &self.bytes[self.start..self.end]
     }
@@ -86,17 +86,25 @@ impl LineReader {
         self.searched = self.searched.saturating_sub(n);
     }
 
+    /// Drops the line of `n` octets that waits, and its CR LF, as used.
+    pub fn skip_line(&mut self, n: usize)
+        requires { n + 2 ≤ length self.old }
+        ensures { self.new ≡ drop (n + 2) self.old }
+    {
+        self.skip(n);
+        self.skip(2);
+    }
+
     /// Takes what the link gives next, in one `recv`, and says how many octets that were. They wait
     /// behind those that wait.
     pub fn fill<W: Wire>(&mut self, wire: &mut W) -> Result<usize, WireDown>
-        requires { length self.old < 4096 }
-        ensures counted { Tallies (W.seen wire.old).failures result (W.seen wire.new).failures }
+        requires { length self.old < most_waiting }
+        ensures counted { CountsFailure (W.seen wire.old) result (W.seen wire.new) }
+        ensures short { length self.new ≤ most_waiting }
         ensures ok { IfOk result (λ n. (piece : List ℕ) × (length piece ≡ n) × (self.new ≡ self.old ++ piece)
-            × (W.sound wire.new → W.sound wire.old × W.leads_to wire.old wire.new
-            × GotPiece (W.seen wire.old) piece (W.seen wire.new))) }
+            × WhereSound W.sound W.leads_to wire.old wire.new (GotPiece (W.seen wire.old) piece (W.seen wire.new))) }
         ensures err { OnErr result ((self.new ≡ self.old)
-            × (W.sound wire.new → W.sound wire.old × W.leads_to wire.old wire.new
-            × WasRefused (W.seen wire.old) (W.seen wire.new))) }
+            × WhereSound W.sound W.leads_to wire.old wire.new (WasRefused (W.seen wire.old) (W.seen wire.new))) }
     {
         self.fill_at_most(wire, 4096)
     }
@@ -104,16 +112,15 @@ impl LineReader {
     /// Takes what the link gives next, at most so many octets, in one `recv`, and says how many that
     /// were. They wait behind those that wait.
     pub fn fill_at_most<W: Wire>(&mut self, wire: &mut W, most: usize) -> Result<usize, WireDown>
-        requires room { length self.old < 4096 }
+        requires room { length self.old < most_waiting }
         requires some { 0 < most }
-        ensures counted { Tallies (W.seen wire.old).failures result (W.seen wire.new).failures }
+        ensures counted { CountsFailure (W.seen wire.old) result (W.seen wire.new) }
+        ensures short { length self.new ≤ most_waiting }
         ensures within { IfOk result (λ n. n ≤ most) }
         ensures ok { IfOk result (λ n. (piece : List ℕ) × (length piece ≡ n) × (self.new ≡ self.old ++ piece)
-            × (W.sound wire.new → W.sound wire.old × W.leads_to wire.old wire.new
-            × GotPiece (W.seen wire.old) piece (W.seen wire.new))) }
+            × WhereSound W.sound W.leads_to wire.old wire.new (GotPiece (W.seen wire.old) piece (W.seen wire.new))) }
         ensures err { OnErr result ((self.new ≡ self.old)
-            × (W.sound wire.new → W.sound wire.old × W.leads_to wire.old wire.new
-            × WasRefused (W.seen wire.old) (W.seen wire.new))) }
+            × WhereSound W.sound W.leads_to wire.old wire.new (WasRefused (W.seen wire.old) (W.seen wire.new))) }
     {
         move_to_front(&mut self.bytes, self.start, self.end);
         self.end -= self.start;
@@ -128,6 +135,7 @@ impl LineReader {
     /// last one ended.
     pub fn line_end(&mut self, limit: usize) -> Option<usize>
         ensures same { self.new ≡ self.old }
+        ensures short { length self.new ≤ most_waiting }
         ensures found { IfSome result (HasLine limit self.old) }
         ensures none { IfNone result (HasNoLine limit self.old) }
     {
@@ -143,8 +151,9 @@ impl LineReader {
     /// Takes from the link until a line waits that ends within `limit` octets, its CR LF included,
     /// and says how long it is without its CR LF. The line still waits then.
     pub fn line<W: Wire>(&mut self, wire: &mut W, limit: usize) -> Result<usize, LineFault>
-        requires { limit ≤ 4096 }
-        ensures counted { Tallies (W.seen wire.old).failures (refusal_of result) (W.seen wire.new).failures }
+        requires { limit ≤ most_waiting }
+        ensures counted { CountsFailure (W.seen wire.old) (refusal_of result) (W.seen wire.new) }
+        ensures short { length self.new ≤ most_waiting }
         ensures found { IfOk result (HasLine limit self.new) }
         ensures gained { (gained : List ℕ) × (self.new ≡ self.old ++ gained) }
         ensures read { W.sound wire.new → W.sound wire.old × W.leads_to wire.old wire.new

@@ -1,5 +1,6 @@
 //! First lines of replies (RFC 1939, section 3).
 ghost use Rattle.std.specs.Prelude.{◌≡◌, ℕ, List, IfOk, IfErr};
+ghost use Rattle.pop3_wire.specs.Reading.{OneReading, OneListOfLines};
 ghost use Rattle.pop3_wire.specs.Reply.{IsFirstLine, without_space};
 
 use crate::fault::WireFault;
@@ -38,3 +39,14 @@ pub fn read_status(line: &[u8]) -> Result<(Status, &[u8]), WireFault>
         None => Err(WireFault::BadStatus),
     }
 }
+
+/// Octets are cut into whole replies to given commands in one way only: a first line, and behind a
+/// positive one the body that its command asks for.
+pub fn only_one_reading()
+    ensures { OneReading }
+{}
+
+/// The octets of a body are cut into its lines in one way only.
+pub fn only_one_list_of_lines()
+    ensures { OneListOfLines }
+{}

@@ -1,10 +1,12 @@
 //! A link in memory whose replies were written beforehand.
 ghost use Rattle.std.specs.Prelude.{◌≡◌, ◌≤◌, ◌<◌, ◌-◌, ◌^◌, ◌++◌, ℕ, List, [], false, length, take, min, IsOk, IfOk};
-ghost use Rattle.pop3_wire.specs.Link.{greatest_count, Tallies, Sends, Receives};
-ghost use Rattle.pop3_wire.specs.Script.{Script};
+ghost use Rattle.mail_terms.specs.FailureCount.{greatest_count};
+ghost use Rattle.pop3_wire.specs.Link.{Receives, CountsFailure, WhereSound};
+ghost use Rattle.pop3_wire.specs.Script.{Script, is_sound, gives_on, IsTold};
 ghost use Rattle.std.proofs.Common.{refl, ◌∙◌};
 
 use crate::wire::{Wire, WireDown};
+use mail_terms::FailureCount;
 use std::alloc::Global;
 use std::marker::Model;
 
@@ -17,7 +19,7 @@ pub struct ScriptWire {
     cut: usize,
     ended: bool,
     sent: Vec<u8>,
-    failures: u64,
+    failures: FailureCount,
 }
 
 impl Model for ScriptWire {
@@ -41,11 +43,12 @@ impl ScriptWire {
     /// A link that will give these replies, at most `cut` octets at once, and was sent nothing yet.
     pub fn new(alloc: Global, replies: Vec<u8>, cut: usize) -> ScriptWire
         requires { 0 < cut }
-        ensures { result ≡ record {
+        ensures value { result ≡ record {
           replies = replies.items;
           cut = cut;
           link = record { sent = []; got = []; ended = false; failures = 0 };
         } }
+        ensures told { IsTold result }
     {
         ScriptWire {
             replies,
@@ -53,7 +56,7 @@ impl ScriptWire {
             cut,
             ended: false,
             sent: Vec::new(alloc),
-            failures: 0,
+            failures: FailureCount::new(),
         }
     }
 
@@ -68,16 +71,16 @@ impl ScriptWire {
 impl Wire for ScriptWire {
     ghost seen = { λ w. w.link };
 
-    ghost sound = { λ w. w.link.failures < greatest_count };
+    ghost sound = { is_sound };
 
-    ghost leads_to = { λ u v. (v.replies ≡ u.replies) × (v.cut ≡ u.cut) };
+    ghost leads_to = { gives_on };
 
     fn send(&mut self, bytes: &[u8]) -> Result<(), WireDown> {
-        if self.failures == u64::MAX {
+        if self.failures.is_full() {
             return Err(WireDown);
         }
         if self.sent.extend_from_slice(bytes).is_err() {
-            self.failures += 1;
+            self.failures.count_up();
             return Err(WireDown);
         }
         Ok(())
@@ -86,10 +89,8 @@ impl Wire for ScriptWire {
     fn recv(&mut self, buf: &mut [u8]) -> Result<usize, WireDown>
         requires { 0 < length buf.old }
         ensures within { IfOk result (λ n. n ≤ length buf.new) }
-        ensures counted { Tallies self.old.link.failures result self.new.link.failures }
-        ensures got { (self.new.link.failures < greatest_count) → (self.old.link.failures < greatest_count)
-            × ((self.new.replies ≡ self.old.replies) × (self.new.cut ≡ self.old.cut))
-            × Receives self.old.link result buf.new self.new.link }
+        ensures counted { CountsFailure self.old.link result self.new.link }
+        ensures got { WhereSound is_sound gives_on self.old self.new (Receives self.old.link result buf.new self.new.link) }
         // Below the greatest count it refuses nothing, and answers 0 only where all was given; a piece
         // is never longer than the cut.
         ensures gives { self.old.link.failures < greatest_count → IsOk result }
@@ -97,7 +98,7 @@ impl Wire for ScriptWire {
         ensures piece { IfOk result (λ n. n ≤ self.old.cut) }
         ensures front { (rest : List ℕ) × (self.new.replies ≡ self.new.link.got ++ rest) }
     {
-        if self.failures == u64::MAX {
+        if self.failures.is_full() {
             return Err(WireDown);
         }
         let rest = &self.replies[self.given..];
@@ -109,10 +110,10 @@ impl Wire for ScriptWire {
     }
 
     fn failures(&self) -> u64 {
-        self.failures
+        self.failures.count()
     }
 
-    ghost leads_same = { λ _. (refl, refl) };
+    ghost leads_same = { λ _. (refl, refl, λ told. told) };
 
-    ghost leads_on = { λ _ _ _ p q. (q.0 ∙ p.0, q.1 ∙ p.1) };
+    ghost leads_on = { λ _ _ _ p q. (q.0 ∙ p.0, q.1 ∙ p.1, λ told. q.2 (p.2 told)) };
 }

@@ -1,8 +1,10 @@
 //! A link over a reader and a writer: the two ends of a socket, or the standard streams.
-ghost use Rattle.std.specs.Prelude.{◌≡◌, ◌+◌, ◌<◌, OnErr, OnOk};
-ghost use Rattle.pop3_wire.specs.Link.{uncharted};
+ghost use Rattle.std.specs.Prelude.{◌≡◌, ◌≤◌, ◌<◌, length, IfOk, OnOk};
+ghost use Rattle.std.specs.Io.KnownBytes.{Appends, Keeps, ReadConsumes};
+ghost use Rattle.pop3_wire.specs.Link.{uncharted, CountsFailure};
 
 use crate::wire::{Wire, WireDown};
+use mail_terms::FailureCount;
 use std::io;
 use std::io::{Read, Write};
 
@@ -12,7 +14,7 @@ use std::io::{Read, Write};
 pub struct StreamWire<R, W> {
     reader: R,
     writer: W,
-    failures: u64,
+    failures: FailureCount,
 }
 
 impl<R: Read, W: Write> StreamWire<R, W> {
@@ -23,7 +25,7 @@ impl<R: Read, W: Write> StreamWire<R, W> {
         StreamWire {
             reader,
             writer,
-            failures: 0,
+            failures: FailureCount::new(),
         }
     }
 
@@ -41,7 +43,9 @@ impl<R: Read, W: Write> StreamWire<R, W> {
 }
 
 /// Writes the bytes, all of them, and sends them on their way.
-fn write_whole<W: Write>(writer: &mut W, bytes: &[u8]) -> io::Result<()> {
+fn write_whole<W: Write>(writer: &mut W, bytes: &[u8]) -> io::Result<()>
+    ensures { OnOk result (Appends (W.contents writer.old) (W.contents writer.new) bytes.now) }
+{
     writer.write_all(bytes)?;
     writer.flush()
 }
@@ -53,34 +57,47 @@ impl<R: Read, W: Write> Wire for StreamWire<R, W> {
 
     ghost leads_to = { λ _ _. Unit {0} };
 
-    fn send(&mut self, bytes: &[u8]) -> Result<(), WireDown> {
-        if self.failures == u64::MAX {
+    fn send(&mut self, bytes: &[u8]) -> Result<(), WireDown>
+        ensures counted { CountsFailure (uncharted self.old.failures) result (uncharted self.new.failures) }
+        // What is written is known where the writer's bytes are: a good call wrote the bytes.
+        ensures wrote { OnOk result (Appends (W.contents self.old.writer) (W.contents self.new.writer) bytes.now) }
+        ensures same { self.new.reader ≡ self.old.reader }
+    {
+        if self.failures.is_full() {
             return Err(WireDown);
         }
         match write_whole(&mut self.writer, bytes) {
             Ok(()) => Ok(()),
             Err(_) => {
-                self.failures += 1;
+                self.failures.count_up();
                 Err(WireDown)
             }
         }
     }
 
-    fn recv(&mut self, buf: &mut [u8]) -> Result<usize, WireDown> {
-        if self.failures == u64::MAX {
+    fn recv(&mut self, buf: &mut [u8]) -> Result<usize, WireDown>
+        requires { 0 < length buf.old }
+        ensures within { IfOk result (λ n. n ≤ length buf.new) }
+        ensures counted { CountsFailure (uncharted self.old.failures) result (uncharted self.new.failures) }
+        // What is read is known where the reader's bytes are: a good call took what it put into the
+        // buffer, and 0 says that none is left.
+        ensures took { OnOk result (ReadConsumes (R.remaining self.old.reader) (R.remaining self.new.reader) result buf.new) }
+        ensures same { self.new.writer ≡ self.old.writer }
+    {
+        if self.failures.is_full() {
             return Err(WireDown);
         }
         match self.reader.read(buf) {
             Ok(n) => Ok(n),
             Err(_) => {
-                self.failures += 1;
+                self.failures.count_up();
                 Err(WireDown)
             }
         }
     }
 
     fn failures(&self) -> u64 {
-        self.failures
+        self.failures.count()
     }
 
     ghost leads_same = { λ _. tt };

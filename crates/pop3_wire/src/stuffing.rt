@@ -1,37 +1,19 @@
 //! Bodies of multi-line replies as a writer sends them, dot-stuffed (RFC 1939, section 3).
 ghost use Rattle.std.specs.Prelude.{◌≡◌, ◌<◌, ◌≤◌, ◌++◌, ◌∷◌, length, IfOk, IfErr};
-ghost use Rattle.std.specs.List.{position_or_len};
-ghost use Rattle.pop3_wire.specs.Stuffed.{is_line_feed, lines_of_text, sent_line, stuffed_lines, StuffedIsBody, StuffedIsRead, OneBody};
+ghost use Rattle.std.specs.Io.{StartsWith};
+ghost use Rattle.mail_terms.specs.Text.{lines_of_text};
+ghost use Rattle.pop3_wire.specs.Stuffed.{sent_line, stuffed_lines, StuffedIsBody, StuffedIsRead, OneBody};
 
 use crate::fault::WireFault;
+use mail_terms::cut_text;
 use std::alloc::Global;
 
-/// How many bytes stand before the first LF, or all where there is none.
-fn line_end(text: &[u8]) -> usize
-    ensures value { result ≡ position_or_len is_line_feed text.now }
-    ensures fits { result ≤ length text.now }
-{
-    text.iter().take_while(|byte| **byte != b'\n').count()
-}
-
-/// The first line of a text that isn't empty, without its LF, and what follows it.
-pub fn cut_text(text: &[u8]) -> (&[u8], &[u8])
-    requires { 0 < length text.now }
-    ensures cut { lines_of_text text.now ≡ result.0.now ∷ lines_of_text result.1.now }
-    ensures shorter { length result.1.now < length text.now }
-{
-    let length = line_end(text);
-    if length == text.len() {
-        return (text, b"");
-    }
-    (&text[..length], &text[length + 1..])
-}
-
 /// Writes a line of a text into a body, behind what stands there: with one more full stop where it
-/// begins with one, and ended by CR LF.
+/// begins with one, and ended by CR LF. Where memory runs out a part of it may stand there.
 pub fn put_line(body: &mut Vec<u8>, line: &[u8]) -> Result<(), WireFault>
     ensures ok { IfOk result (λ _. body.new.items ≡ body.old.items ++ sent_line line.now) }
     ensures err { IfErr result (λ e. e ≡ WireFault.NoMemory) }
+    ensures front { StartsWith body.new.items body.old.items }
 {
     if let [b'.', ..] = line {
         body.push(b'.')?;
@@ -42,10 +24,11 @@ pub fn put_line(body: &mut Vec<u8>, line: &[u8]) -> Result<(), WireFault>
 }
 
 /// Writes the body of a text behind what stands there, end mark included. The text's lines end at
-/// LF; a last piece without LF is a line.
+/// LF; a last piece without LF is a line. Where memory runs out a part of it may stand there.
 pub fn put_body(body: &mut Vec<u8>, text: &[u8]) -> Result<(), WireFault>
     ensures ok { IfOk result (λ _. body.new.items ≡ body.old.items ++ stuffed_lines (lines_of_text text.now)) }
     ensures err { IfErr result (λ e. e ≡ WireFault.NoMemory) }
+    ensures front { StartsWith body.new.items body.old.items }
 {
     let mut rest = text;
     while !rest.is_empty() {

@@ -1,6 +1,6 @@
 //! The link that carries a conversation.
 ghost use Rattle.std.specs.Prelude.{◌≡◌, ◌≤◌, ◌<◌, length, IfOk};
-ghost use Rattle.pop3_wire.specs.Link.{Link, Sends, Receives, Tallies};
+ghost use Rattle.pop3_wire.specs.Link.{Link, Sends, Receives, CountsFailure, WhereSound};
 
 use thiserror::Error;
 
@@ -27,18 +27,18 @@ pub trait Wire {
 
     /// Sends the bytes, all of them, before it answers. A refused call has sent a prefix of them.
     fn send(&mut self, bytes: &[u8]) -> Result<(), WireDown>
-        ensures counted { Tallies (seen self.old).failures result (seen self.new).failures }
-        ensures sent { sound self.new → sound self.old × leads_to self.old self.new
-            × Sends (seen self.old) bytes.now result (seen self.new) };
+        ensures counted { CountsFailure (seen self.old) result (seen self.new) }
+        ensures sent { WhereSound sound leads_to self.old self.new
+            (Sends (seen self.old) bytes.now result (seen self.new)) };
 
     /// Puts into the buffer what comes next, at least one octet, and answers how many; 0 says that
     /// nothing comes any more. It may wait.
     fn recv(&mut self, buf: &mut [u8]) -> Result<usize, WireDown>
         requires { 0 < length buf.old }
         ensures within { IfOk result (λ n. n ≤ length buf.new) }
-        ensures counted { Tallies (seen self.old).failures result (seen self.new).failures }
-        ensures got { sound self.new → sound self.old × leads_to self.old self.new
-            × Receives (seen self.old) result buf.new (seen self.new) };
+        ensures counted { CountsFailure (seen self.old) result (seen self.new) }
+        ensures got { WhereSound sound leads_to self.old self.new
+            (Receives (seen self.old) result buf.new (seen self.new)) };
 
     /// How many calls were refused.
     fn failures(&self) -> u64

@@ -7,7 +7,8 @@ use Rattle.std.proofs.lemmas.Slice.Eq.{bytes_eq-Decides}
 use Rattle.std.proofs.lemmas.List.Folds.{Any-from_list_any}
 use Rattle.std.proofs.lemmas.List.Sums.{AllPass-from_list_all}
 use Rattle.mail_terms.specs.UniqueId.{is_id_byte}
-use Rattle.pop3_wire.specs.World.{Message, HasDistinctIds}
+use Rattle.mail_terms.specs.Distinct.{AreDistinct}
+use Rattle.pop3_wire.specs.World.{Message}
 use Rattle.mail_terms.specs.UniqueId.{IsLegalId, HasIdRanges}
 use Rattle.run_law.specs.Mails.{has_id, ids_of, texts_of}
 use Rattle.run_law.proofs.Lists.{filter-map, any-map, any_filter, is_some}
@@ -130,9 +131,12 @@ contains_from ids id t =
     let a = Any-from_list_any (bytes_eq id) ids t in
     subst (Contains ids) (sym (bytes_same id a.1 a.4)) (a.0, a.2, a.3)
 
-pub distinct_is : (ms : List Message) → HasDistinctIds ms → Distinct (ids_of ms)
+pub distinct_is : (ms : List Message) → AreDistinct (ids_of ms) → Distinct (ids_of ms)
 distinct_is [] h = tt
-distinct_is (m ∷ ms) h = (false_from_ne_true _ (λ t. h.0 (contains_from (ids_of ms) m.uid t)), distinct_is ms h.1)
+distinct_is (m ∷ ms) h = (
+  false_from_ne_true _ (λ t. let there = contains_from (ids_of ms) m.uid t in h 0 (suc there.0) m.uid (omega arith) (omega (arith, there.1)) (sym there.2)),
+  distinct_is ms (λ j k d before inside. h (suc j) (suc k) d (omega (arith, before)) (omega (arith, inside))),
+)
 
 none_take : (n : ℕ) (ms : List Message) (id : List ℕ) → has_id (ids_of ms) id ≡ false → has_id (ids_of (take n ms)) id ≡ false
 none_take zero ms id e = refl

@@ -1,7 +1,7 @@
 use Rattle.std.proofs.Common.{◌≡◌, ◌∙◌, ap, arith, rules}
 use Rattle.hex.specs.Hex.{encode_lower}
 use Rattle.std.specs.List.{list_all}
-use Rattle.pop3_wire.specs.Fields.{is_id_byte}
+use Rattle.mail_terms.specs.UniqueId.{is_id_byte}
 use Rattle.pop3_server.proofs.DigestLemmas.{visible_hex}
 use Rattle.pop3_server.proofs.maildir_names.hexadecimal.Goals as goal
 

@@ -1,6 +1,7 @@
 use Rattle.std.proofs.Common.{◌≡◌, ℕ, ◌++◌, length, true}
 use Rattle.std.specs.List.{flat_map}
-use Rattle.pop3_wire.specs.Stuffed.{lines_of_text, sent_line}
+use Rattle.mail_terms.specs.Text.{lines_of_text}
+use Rattle.pop3_wire.specs.Stuffed.{sent_line}
 use Rattle.pop3_server.specs.ServerMachine.{top_from}
 use Rattle.pop3_server.proofs.reply.put_head.Given as goal
 

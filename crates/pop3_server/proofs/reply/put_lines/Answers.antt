@@ -1,7 +1,8 @@
 use Rattle.std.proofs.Common.{◌≡◌, ◌++◌, [], false, ap, sym, ◌∙◌, arith}
 use Rattle.std.specs.List.{flat_map}
 use Rattle.std.proofs.lemmas.List.{append-nil}
-use Rattle.pop3_wire.specs.Stuffed.{lines_of_text, sent_line}
+use Rattle.mail_terms.specs.Text.{lines_of_text}
+use Rattle.pop3_wire.specs.Stuffed.{sent_line}
 use Rattle.pop3_server.specs.ServerMachine.{top_from}
 use Rattle.pop3_server.proofs.ReplyLemmas.{top_from-none}
 use Rattle.pop3_server.proofs.reply.put_lines.Goals as goal

@@ -1,5 +1,5 @@
 use Rattle.std.proofs.Common.{◌≡◌, ◌≤◌, ◌<◌, ◌+◌, ◌++◌, ◌==◌, ◌||◌, Bool, length, take, drop, sym, ap, subst, ◌∙◌, arith}
-use Rattle.pop3_wire.specs.Link.{greatest_count}
+use Rattle.mail_terms.specs.FailureCount.{greatest_count}
 use Rattle.pop3_server.specs.ServerMachine.{greeting}
 use Rattle.pop3_server.specs.LoopLink.{Loop, Serves}
 use Rattle.pop3_server.specs.LoopLaws.{same_refl, serves_same}

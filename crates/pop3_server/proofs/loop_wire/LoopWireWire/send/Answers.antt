@@ -1,6 +1,7 @@
 use Rattle.std.proofs.Common.{◌≡◌, ◌<◌, ◌+◌, ◌++◌, ℕ, Bool, if◌then◌else◌, List, [], take, refl, sym, ap, subst, ◌∙◌}
 use Rattle.std.proofs.lemmas.List.{append-nil}
-use Rattle.pop3_wire.specs.Link.{Link, greatest_count}
+use Rattle.pop3_wire.specs.Link.{Link}
+use Rattle.mail_terms.specs.FailureCount.{greatest_count}
 use Rattle.pop3_server.specs.ServerMachine.{greeting}
 use Rattle.pop3_server.specs.LoopLink.{Loop, Serves}
 use Rattle.pop3_server.specs.LoopLaws.{serves_same}

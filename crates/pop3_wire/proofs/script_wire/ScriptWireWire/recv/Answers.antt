@@ -1,17 +1,34 @@
-use Rattle.std.proofs.Common.{◌≡◌, ◌+◌, ◌++◌, List, ℕ, drop, sym, subst, take-append-drop, arith}
+use Rattle.std.proofs.Common.{◌≡◌, ◌⊎◌, ◌+◌, ◌++◌, List, ℕ, Bool, true, false, inl, inr, drop, length, ap, sym, ◌∙◌, subst, take-append-drop, arith}
 use Rattle.std.proofs.lemmas.Grind.{common_steps}
 use Rattle.std.proofs.Math.Seq.{take-add, take-append_seam}
-use Rattle.pop3_wire.specs.Script.{Script}
+use Rattle.pop3_wire.specs.Script.{Script, is_sound, IsTold}
+use Rattle.pop3_wire.proofs.ScriptLemmas.{told_on}
+use Rattle.pop3_wire.proofs.script_wire.ScriptWireWire.recv.Goals.{then-self, else-self}
 use Rattle.pop3_wire.proofs.script_wire.ScriptWireWire.recv.Goals as goal
 
-pub returns-then-self-clause-front : goal.returns-then-self-clause-front
-returns-then-self-clause-front c =
+pub returns-then-is_full-clause-front : goal.returns-then-is_full-clause-front
+returns-then-is_full-clause-front c =
     subst (λ (w : Script). (rest : List ℕ) × (w.replies ≡ w.link.got ++ rest)) c.self.view_is
     (drop c.self.inside.given c.self.inside.replies.items, sym (take-append-drop c.self.inside.given c.self.inside.replies.items))
-
-pub returns-clause-got : goal.returns-clause-got
-returns-clause-got c = grind (arith, common_steps, take-add, take-append_seam)
 
 pub returns-clause-front : goal.returns-clause-front
 returns-clause-front c =
     (drop (c.self.inside.given + c.min-n.result) c.self.inside.replies.items, sym (take-append-drop (c.self.inside.given + c.min-n.result) c.self.inside.replies.items))
+
+pub returns-clause-got : goal.returns-clause-got
+returns-clause-got c = λ below. (
+  subst (λ (w : Script). is_sound w) c.self.view_is below,
+  (
+    ap (λ (w : Script). w.replies) c.self.view_is,
+    ap (λ (w : Script). w.cut) c.self.view_is,
+    λ told. told_on _ _ c.min-n.result (returns-clause-front c)
+        (λ e. elim c.if-self.branch [
+          | then-self w ↦ inl w.if-self.true
+          | else-self w ↦ inr (let none = sym w.self-is ∙ e in grind (arith, none))
+        ])
+        (λ all. let whole = ap length all in grind (arith, common_steps, whole))
+        (λ none. grind (arith, common_steps))
+        (subst (λ (w : Script). IsTold w) (sym c.self.view_is) told),
+  ),
+  grind (arith, common_steps, take-add, take-append_seam),
+)

@@ -1,0 +1,5 @@
+use Rattle.pop3_wire.proofs.ReadingLemmas.{one_reading}
+use Rattle.pop3_wire.proofs.reply.only_one_reading.Goals as goal
+
+pub returns : goal.returns
+returns c = one_reading

@@ -1,0 +1,51 @@
+-- The forms of a row of LIST, of STAT's rest, and of a row of UIDL (RFC 1939, sections 5 and 7).
+use Rattle.std.specs.Prelude.{◌≡◌, ◌≢◌, ◌≤◌, false, ℕ, List, [], ◌∷◌, ◌++◌, IsTrue, Ok}
+use Rattle.std.specs.List.{list_all}
+use Rattle.std.specs.Char.{is_ascii_digit}
+use Rattle.std.specs.Str.Parse.{digits_value}
+use Rattle.mail_terms.specs.Numeral.{is_numeral, greatest_number, greatest_size}
+use Rattle.mail_terms.specs.UniqueId.{IsLegalId}
+use Rattle.pop3_wire.specs.Fields.{is_space, number_and_size, number_and_id}
+
+-- nothing but spaces
+abbrev pub AreSpaces : List ℕ → Type 0
+AreSpaces bytes = IsTrue (list_all is_space bytes)
+
+-- a numeral that stands for a number up to a limit
+pub record StandsFor (limit : ℕ) (digits : List ℕ) (number : ℕ) : Type 0 where
+  pub numeral : IsTrue (is_numeral digits)
+  pub value : number ≡ digits_value 10 digits
+  pub within : number ≤ limit
+
+-- spaces or none, a message number, one space or more, and the rest
+pub record HasNumber (line : List ℕ) (number : ℕ) (rest : List ℕ) : Type 0 where
+  pub indent : List ℕ
+  pub digits : List ℕ
+  pub gap : List ℕ
+  pub whole : line ≡ indent ++ (digits ++ (gap ++ rest))
+  pub before : AreSpaces indent
+  pub counted : StandsFor greatest_number digits number
+  pub apart : AreSpaces gap
+  pub some : gap ≢ []
+
+-- behind the message number a size, and whatever doesn't go on with a digit
+pub record HasScanForm (line : List ℕ) (number size : ℕ) : Type 0 where
+  pub digits : List ℕ
+  pub behind : List ℕ
+  pub front : HasNumber line number (digits ++ behind)
+  pub sized : StandsFor greatest_size digits size
+  pub over : (byte : ℕ) (rest : List ℕ) → behind ≡ byte ∷ rest → is_ascii_digit byte ≡ false
+
+-- behind the message number a legal unique-id, and spaces or none
+pub record HasUidForm (line : List ℕ) (number : ℕ) (uid : List ℕ) : Type 0 where
+  pub behind : List ℕ
+  pub front : HasNumber line number (uid ++ behind)
+  pub legal : IsLegalId uid
+  pub over : AreSpaces behind
+
+-- rows that are read have their form
+abbrev pub ScanRowsHaveForm : Type 0
+ScanRowsHaveForm = (line : List ℕ) (number size : ℕ) → number_and_size line ≡ Ok (number, size) → HasScanForm line number size
+
+abbrev pub UidRowsHaveForm : Type 0
+UidRowsHaveForm = (line : List ℕ) (number : ℕ) (uid : List ℕ) → number_and_id line ≡ Ok (number, uid) → HasUidForm line number uid

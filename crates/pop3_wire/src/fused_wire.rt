@@ -1,0 +1,111 @@
+//! A link that passes a number of calls, and refuses the rest.
+ghost use Rattle.std.specs.Prelude.{◌≡◌, ◌≤◌, ◌<◌, length, IfOk};
+ghost use Rattle.mail_terms.specs.FailureCount.{greatest_count};
+ghost use Rattle.pop3_wire.specs.Link.{Sends, Receives, CountsFailure, WhereSound};
+ghost use Rattle.pop3_wire.specs.Fuse.{fused_link, fused_is_sound, fused_leads_to, Burns};
+
+use crate::wire::{Wire, WireDown};
+use mail_terms::FailureCount;
+use std::marker::Model;
+
+/// A link behind a fuse: `send` and `recv` are passed on to it as often as the fuse says, and every
+/// call after those is refused and counted.
+#[derive(Drop)]
+pub struct FusedWire<W> {
+    wire: W,
+    left: u64,
+    failures: FailureCount,
+}
+
+impl<W> Model for FusedWire<W> {
+    ghost use Rattle.pop3_wire.specs.Fuse.{Fuse};
+
+    ghost Value = { Fuse W };
+
+    ghost view = { λ f. record { wire = f.wire; left = f.left; failures = f.failures } };
+}
+
+impl<W> FusedWire<W> {
+    /// A fuse before this link, which passes so many calls.
+    pub fn new(wire: W, passes: u64) -> FusedWire<W>
+        ensures { result ≡ record { wire = wire; left = passes; failures = 0 } }
+    {
+        FusedWire {
+            wire,
+            left: passes,
+            failures: FailureCount::new(),
+        }
+    }
+
+    /// The link behind the fuse.
+    pub fn into_inner(self) -> W
+        ensures { result ≡ self.wire }
+    {
+        let FusedWire { wire, .. } = self;
+        wire
+    }
+}
+
+impl<W: Wire> Wire for FusedWire<W> {
+    ghost seen = { fused_link W.seen };
+
+    ghost sound = { fused_is_sound W.sound };
+
+    ghost leads_to = { fused_leads_to W.leads_to };
+
+    fn send(&mut self, bytes: &[u8]) -> Result<(), WireDown>
+        ensures counted { CountsFailure (fused_link W.seen self.old) result (fused_link W.seen self.new) }
+        ensures sent { WhereSound (fused_is_sound W.sound) (fused_leads_to W.leads_to) self.old self.new
+            (Sends (fused_link W.seen self.old) bytes.now result (fused_link W.seen self.new)) }
+        ensures burns { self.old.failures < greatest_count → Burns W.seen self.old result self.new }
+    {
+        if self.failures.is_full() {
+            return Err(WireDown);
+        }
+        if self.left == 0 {
+            self.failures.count_up();
+            return Err(WireDown);
+        }
+        self.left -= 1;
+        match self.wire.send(bytes) {
+            Ok(()) => Ok(()),
+            Err(down) => {
+                self.failures.count_up();
+                Err(down)
+            }
+        }
+    }
+
+    fn recv(&mut self, buf: &mut [u8]) -> Result<usize, WireDown>
+        requires { 0 < length buf.old }
+        ensures within { IfOk result (λ n. n ≤ length buf.new) }
+        ensures counted { CountsFailure (fused_link W.seen self.old) result (fused_link W.seen self.new) }
+        ensures got { WhereSound (fused_is_sound W.sound) (fused_leads_to W.leads_to) self.old self.new
+            (Receives (fused_link W.seen self.old) result buf.new (fused_link W.seen self.new)) }
+        ensures burns { self.old.failures < greatest_count → Burns W.seen self.old result self.new }
+    {
+        if self.failures.is_full() {
+            return Err(WireDown);
+        }
+        if self.left == 0 {
+            self.failures.count_up();
+            return Err(WireDown);
+        }
+        self.left -= 1;
+        match self.wire.recv(buf) {
+            Ok(n) => Ok(n),
+            Err(down) => {
+                self.failures.count_up();
+                Err(down)
+            }
+        }
+    }
+
+    fn failures(&self) -> u64 {
+        self.failures.count()
+    }
+
+    ghost leads_same = { λ w. W.leads_same w.wire };
+
+    ghost leads_on = { λ u v w p q. W.leads_on u.wire v.wire w.wire p q };
+}
