@@ -1,6 +1,6 @@
 mod BeginningLemmas
-pub mod BodiesLemmas
-mod BodyLemmas
+mod BodiesLemmas
+pub mod BodyLemmas
 mod CommandLineLemmas
 pub mod CommandRoundTrip
 mod FieldsLemmas
