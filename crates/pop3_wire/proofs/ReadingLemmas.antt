@@ -1,9 +1,8 @@
 -- Octets are cut into replies in one way only.
-use Rattle.std.proofs.Common.{◌≡◌, ◌⊎◌, ◌∙◌, ℕ, Bool, true, false, List, [], ◌∷◌, ◌++◌, Option, None, Some, refl, sym, ap, inl, inr, append_assoc, arith}
-use Rattle.std.specs.List.{flat_map, AllByRecursion, AllZip}
-use Rattle.pop3_wire.specs.Line.{crlf, ended}
-use Rattle.pop3_wire.specs.Body.{IsContent, body_of}
-use Rattle.pop3_wire.specs.Reply.{IsFirstLine, indicator}
+use Rattle.std.proofs.Common.{◌≡◌, ◌∙◌, ℕ, Bool, true, false, List, [], ◌∷◌, ◌++◌, Option, None, Some, refl, sym, ap, inl, inr, append_assoc, arith}
+use Rattle.std.specs.List.{flat_map, AllZip}
+use Rattle.pop3_wire.specs.Line.{crlf}
+use Rattle.pop3_wire.specs.Reply.{IsFirstLine}
 use Rattle.pop3_wire.specs.declared.reply.Status.TheVariants.{Positive, Negative}
 use Rattle.pop3_wire.specs.declared.command.Command.{Command}
 use Rattle.pop3_wire.specs.Reading.{WholeReply, body_bytes, reply_bytes, gives_body, IsBodyIf, IsReplyTo}

@@ -1,13 +1,12 @@
 -- Rows that are read have their form.
-use Rattle.std.proofs.Common.{ℕ, suc, ◌+◌, ◌<◌, ◌≤◌, ◌≡◌, ◌≢◌, true, false, List, [], ◌∷◌, ◌++◌, length, take, drop, refl, sym, ap, subst, ◌∙◌, arith, inl, inr, Result, Ok, Err, take-append-drop, append_assoc}
-use Rattle.std.specs.Prelude.{not, nat_lt, nat_le, ◌&&◌, ◌==◌, Bool, take_while}
+use Rattle.std.proofs.Common.{ℕ, suc, ◌≤◌, ◌≡◌, ◌≢◌, true, false, List, [], ◌∷◌, ◌++◌, length, take, drop, refl, sym, ap, subst, ◌∙◌, arith, inl, inr, Result, Ok, Err, take-append-drop}
+use Rattle.std.specs.Prelude.{nat_le, ◌&&◌, ◌==◌, Bool, take_while}
 use Rattle.std.specs.List.{prefix_len, list_all}
 use Rattle.std.specs.Char.{is_ascii_digit}
 use Rattle.std.specs.Str.Parse.{digits_value}
 use Rattle.std.proofs.lemmas.Bool.{and_parts, and_from, cond-true, cond-false, cases_Bool, leb-true}
 use Rattle.std.proofs.lemmas.List.{append-nil}
 use Rattle.std.proofs.lemmas.Bool.Decides.{nat_tests}
-use Rattle.pop3_wire.specs.declared.fault.WireFault.{WireFault}
 use Rattle.pop3_wire.specs.Fields.{◌>>=◌, is_space, is_in_field, past, number, next_field, message_number, number_and_size, legal_id, nothing_more, number_and_id}
 use Rattle.mail_terms.specs.Numeral.{is_numeral, greatest_number, greatest_size}
 use Rattle.mail_terms.specs.UniqueId.{is_legal_id, IsLegalId}

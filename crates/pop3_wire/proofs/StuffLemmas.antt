@@ -1,10 +1,10 @@
 -- Texts cut into lines, and the bodies of these.
-use Rattle.std.proofs.Common.{◌≡◌, ◌≢◌, inl, inr, ℕ, zero, suc, ◌+◌, ◌<◌, List, [], ◌∷◌, ◌++◌, length, take, drop, refl, sym, ap, ◌∙◌, arith, map}
-use Rattle.std.specs.List.{flat_map, onto_first, position_or_len, AllByRecursion}
+use Rattle.std.proofs.Common.{◌≡◌, ◌≢◌, inl, inr, ℕ, List, [], ◌∷◌, ◌++◌, refl, sym, ap, ◌∙◌, arith, map}
+use Rattle.std.specs.List.{flat_map, onto_first, AllByRecursion}
 use Rattle.std.proofs.lemmas.Bool.Decides.{eqb_tells}
 use Rattle.pop3_wire.specs.Line.{crlf, IsLine, ended}
 use Rattle.pop3_wire.specs.Body.{dot, IsContent, unstuffed, text_of}
-use Rattle.mail_terms.specs.Text.{is_line_feed, lines_of_text, whole_text}
+use Rattle.mail_terms.specs.Text.{lines_of_text, whole_text}
 use Rattle.pop3_wire.specs.Stuffed.{stuffed, sent_line, stuffed_lines, StuffedIsBody, StuffedIsRead, OneBody}
 use Rattle.pop3_wire.proofs.BodyLemmas.{one_body}
 
