@@ -5,7 +5,7 @@ use Rattle.std.specs.List.{list_any, filter}
 use Rattle.std.proofs.lemmas.Bool.{both_ways, cases_Bool}
 use Rattle.std.proofs.lemmas.List.Folds.{list_any-append}
 use Rattle.mail_terms.specs.Listing.{Item, has_item}
-use Rattle.fetch_rules.specs.Record.{Row, is_of, has_row, is_delivered, with_delivered, marked, distinct_ids, new_ids, is_held, with_held, merged}
+use Rattle.fetch_rules.specs.Record.{Row, is_of, has_row, is_delivered, with_delivered, marked, distinct_ids, new_ids, is_flagged, with_held, merged}
 use Rattle.fetch_rules.proofs.IdLemmas.{same_from_test, test_from_other, test_from_same}
 
 bytes_swap : (a b : List ℕ) → bytes_eq a b ≡ bytes_eq b a
@@ -114,7 +114,7 @@ held_table false true L X p = refl
 held_table false false L X p = p
 
 -- what is held is listed
-held_is_listed : (listing : List Item) (held : List Bool) (uid : List ℕ) → is_held listing held uid ≡ (has_item listing uid && is_held listing held uid)
+held_is_listed : (listing : List Item) (held : List Bool) (uid : List ℕ) → is_flagged listing held uid ≡ (has_item listing uid && is_flagged listing held uid)
 held_is_listed [] held uid = refl
 held_is_listed (item ∷ items) [] uid = sym (none (has_item (item ∷ items) uid))
   where
@@ -122,8 +122,8 @@ held_is_listed (item ∷ items) [] uid = sym (none (has_item (item ∷ items) ui
     none true = refl
     none false = refl
 held_is_listed (item ∷ items) (flag ∷ held) uid =
-    held_table flag (bytes_eq item.uid uid) (has_item items uid) (is_held items held uid) (held_is_listed items held uid)
-    ∙ ap (λ (b : Bool). (b || has_item items uid) && ((flag && bytes_eq item.uid uid) || is_held items held uid)) (bytes_swap item.uid uid)
+    held_table flag (bytes_eq item.uid uid) (has_item items uid) (is_flagged items held uid) (held_is_listed items held uid)
+    ∙ ap (λ (b : Bool). (b || has_item items uid) && ((flag && bytes_eq item.uid uid) || is_flagged items held uid)) (bytes_swap item.uid uid)
 
 merge_table : (D R L H : Bool) → H ≡ (L && H) → ((D || (R && H)) || ((L && not R) && H)) ≡ (D || H)
 merge_table true R L H p = refl
@@ -136,25 +136,25 @@ merge_table false false false H p = sym p
 
 -- the row of an id that is new
 abbrev fresh : List Item → List Bool → ℕ → List ℕ → Row
-fresh listing held now uid = record { uid = uid; first_seen = now; delivered = is_held listing held uid }
+fresh listing held now uid = record { uid = uid; first_seen = now; delivered = is_flagged listing held uid }
 
 pub delivered-merged : (rows : List Row) (listing : List Item) (held : List Bool) (now : ℕ) (uid : List ℕ)
-    → is_delivered (merged rows listing held now) uid ≡ is_delivered rows uid || is_held listing held uid
+    → is_delivered (merged rows listing held now) uid ≡ is_delivered rows uid || is_flagged listing held uid
 delivered-merged rows listing held now uid =
     list_any-append (λ row. is_of uid row && row.delivered) (with_held listing held rows) (map (fresh listing held now) (new_ids rows listing))
-    ∙ ap (λ (b : Bool). b || is_delivered (map (fresh listing held now) (new_ids rows listing)) uid) (delivered-with (is_held listing held) rows uid)
-    ∙ ap (λ (b : Bool). (is_delivered rows uid || (has_row rows uid && is_held listing held uid)) || b) news
-    ∙ merge_table (is_delivered rows uid) (has_row rows uid) (has_item listing uid) (is_held listing held uid) (held_is_listed listing held uid)
+    ∙ ap (λ (b : Bool). b || is_delivered (map (fresh listing held now) (new_ids rows listing)) uid) (delivered-with (is_flagged listing held) rows uid)
+    ∙ ap (λ (b : Bool). (is_delivered rows uid || (has_row rows uid && is_flagged listing held uid)) || b) news
+    ∙ merge_table (is_delivered rows uid) (has_row rows uid) (has_item listing uid) (is_flagged listing held uid) (held_is_listed listing held uid)
   where
-    news : is_delivered (map (fresh listing held now) (new_ids rows listing)) uid ≡ ((has_item listing uid && not (has_row rows uid)) && is_held listing held uid)
+    news : is_delivered (map (fresh listing held now) (new_ids rows listing)) uid ≡ ((has_item listing uid && not (has_row rows uid)) && is_flagged listing held uid)
     news = any-map (λ (row : Row). is_of uid row && row.delivered) (fresh listing held now) (new_ids rows listing)
-        ∙ any-and (is_held listing held) (new_ids rows listing) uid
-        ∙ ap (λ (b : Bool). b && is_held listing held uid) (is_one-new rows listing uid)
+        ∙ any-and (is_flagged listing held) (new_ids rows listing) uid
+        ∙ ap (λ (b : Bool). b && is_flagged listing held uid) (is_one-new rows listing uid)
 
 pub has_row-merged : (rows : List Row) (listing : List Item) (held : List Bool) (now : ℕ) (uid : List ℕ)
     → has_row (merged rows listing held now) uid ≡ has_row rows uid || has_item listing uid
 has_row-merged rows listing held now uid =
     list_any-append (is_of uid) (with_held listing held rows) (map (fresh listing held now) (new_ids rows listing))
-    ∙ ap (λ (b : Bool). b || has_row (map (fresh listing held now) (new_ids rows listing)) uid) (has_row-with (is_held listing held) rows uid)
+    ∙ ap (λ (b : Bool). b || has_row (map (fresh listing held now) (new_ids rows listing)) uid) (has_row-with (is_flagged listing held) rows uid)
     ∙ ap (λ (b : Bool). has_row rows uid || b) (any-map (is_of uid) (fresh listing held now) (new_ids rows listing) ∙ is_one-new rows listing uid)
     ∙ or_not (has_row rows uid) (has_item listing uid)

@@ -10,8 +10,13 @@ use Rattle.std.proofs.lemmas.Slice.Zip.{length-zip, get_or-zip}
 use Rattle.std.proofs.Math.Bool.{or_assoc, or-false}
 use Rattle.std.proofs.lemmas.Bool.{true≢false}
 use Rattle.fetch_rules.proofs.RecordLemmas.{with_delivered-false}
+use Rattle.fetch_rules.proofs.IdSetLemmas.{bytes_eq_symm}
+use Rattle.fetch_rules.specs.IdSet.{is_among}
 use Rattle.mail_terms.specs.Listing.{Item}
-use Rattle.fetch_rules.specs.Record.{Row, IsRecord, is_of, with_delivered, marked, is_held, with_held, new_ids, undelivered, merged}
+use Rattle.fetch_rules.specs.Record.{Row, IsRecord, is_of, with_delivered, marked, is_flagged, with_held, new_ids, undelivered, merged}
+
+abbrev nobody : Item
+nobody = record { uid = []; size = 0 }
 
 -- a held item with this id
 abbrev pub stands_for : List ℕ → Item × Bool → Bool
@@ -146,9 +151,6 @@ HasMarked-next_held listing held i uid before changed rows now_changed new same 
     subst (λ (flagged : List (Item × Bool)). HasMarked flagged before (changed || now_changed) new)
     (ap (λ (b : Bool). take i (zip listing held) ++ (get_or listing i nobody, b) ∷ []) (sym is) ∙ sym (flagged_more listing held i nobody false same inside))
     (HasMarked-held _ before changed rows (get_or listing i nobody) now_changed new has (new_is ∙ ap (marked rows) (at nobody)) differs agrees good)
-  where
-    nobody : Item
-    nobody = record { uid = []; size = 0 }
 
 pub HasMarked-next_free : (listing : List Item) (held : List Bool) (i : ℕ) (before : List Row) (changed : Bool) (rows : List Row)
     → length held ≡ length listing → i < length listing → get_or held i false ≡ false
@@ -157,9 +159,6 @@ HasMarked-next_free listing held i before changed rows same inside is has =
     subst (λ (flagged : List (Item × Bool)). HasMarked flagged before changed rows)
     (ap (λ (b : Bool). take i (zip listing held) ++ (get_or listing i nobody, b) ∷ []) (sym is) ∙ sym (flagged_more listing held i nobody false same inside))
     (HasMarked-free _ before changed rows (get_or listing i nobody) has)
-  where
-    nobody : Item
-    nobody = record { uid = []; size = 0 }
 
 pub HasMarked-all : (listing : List Item) (held : List Bool) (i : ℕ) (before : List Row) (changed : Bool) (rows : List Row) → length listing ≤ i
     → HasMarked (take i (zip listing held)) before changed rows → rows ≡ with_held listing held before
@@ -168,13 +167,48 @@ HasMarked-all listing held i before changed rows past has =
 
 -- new rows of held ids are delivered
 pub with_held-undelivered : (listing : List Item) (held : List Bool) (now : ℕ) (ids : List (List ℕ))
-    → with_held listing held (map (undelivered now) ids) ≡ map (λ uid. record { uid = uid; first_seen = now; delivered = is_held listing held uid }) ids
+    → with_held listing held (map (undelivered now) ids) ≡ map (λ uid. record { uid = uid; first_seen = now; delivered = is_flagged listing held uid }) ids
 with_held-undelivered listing held now [] = refl
-with_held-undelivered listing held now (id ∷ ids) = ap (λ (others : List Row). record { uid = id; first_seen = now; delivered = is_held listing held id } ∷ others) (with_held-undelivered listing held now ids)
+with_held-undelivered listing held now (id ∷ ids) = ap (λ (others : List Row). record { uid = id; first_seen = now; delivered = is_flagged listing held id } ∷ others) (with_held-undelivered listing held now ids)
 
 pub merged_from_steps : (rows : List Row) (listing : List Item) (held : List Bool) (now : ℕ) (added longer new : List Row)
     → added ≡ map (undelivered now) (new_ids rows listing) → longer ≡ rows ++ added → new ≡ with_held listing held longer → new ≡ merged rows listing held now
 merged_from_steps rows listing held now added longer new added_is longer_is new_is =
     new_is ∙ ap (with_held listing held) (longer_is ∙ ap (λ (xs : List Row). rows ++ xs) added_is)
-    ∙ map-append (λ (row : Row). with_delivered (is_held listing held row.uid) row) rows (map (undelivered now) (new_ids rows listing))
+    ∙ map-append (λ (row : Row). with_delivered (is_flagged listing held row.uid) row) rows (map (undelivered now) (new_ids rows listing))
     ∙ ap (λ (xs : List Row). with_held listing held rows ++ xs) (with_held-undelivered listing held now (new_ids rows listing))
+
+-- a loop over the flagged items that collects the ids of those that are held
+abbrev pub HasHeld : List Item → List Bool → ℕ → List (List ℕ) → Type 0
+HasHeld listing held i ids = (uid : List ℕ) → is_among ids uid ≡ list_any (stands_for uid) (take i (zip listing held))
+
+next_flagged : (listing : List Item) (held : List Bool) (i : ℕ) (uid : List ℕ) → length held ≡ length listing → i < length listing
+    → list_any (stands_for uid) (take (i + 1) (zip listing held)) ≡ list_any (stands_for uid) (take i (zip listing held)) || stands_for uid (get_or listing i nobody, get_or held i false)
+next_flagged listing held i uid same inside = ap (list_any (stands_for uid)) (flagged_more listing held i nobody false same inside) ∙ any_more uid (take i (zip listing held)) (get_or listing i nobody, get_or held i false)
+
+pub HasHeld-held : (listing : List Item) (held : List Bool) (i : ℕ) (ids new : List (List ℕ)) (uid : List ℕ) → HasHeld listing held i ids → length held ≡ length listing → i < length listing
+    → get_or held i false ≡ true → ((d : Item) → uid ≡ (get_or listing i d).uid) → ((id : List ℕ) → is_among new id ≡ (bytes_eq id uid || is_among ids id)) → HasHeld listing held (i + 1) new
+HasHeld-held listing held i ids new uid were same inside is at added = λ id.
+    added id
+    ∙ or_swap (bytes_eq id uid) (is_among ids id)
+    ∙ ap (λ (b : Bool). b || bytes_eq id uid) (were id)
+    ∙ ap (λ (b : Bool). list_any (stands_for id) (take i (zip listing held)) || b) (bytes_eq_symm id uid ∙ ap (λ (u : List ℕ). bytes_eq u id) (at nobody))
+    ∙ ap (λ (b : Bool). list_any (stands_for id) (take i (zip listing held)) || (b && bytes_eq (get_or listing i nobody).uid id)) (sym is)
+    ∙ sym (next_flagged listing held i id same inside)
+  where
+    or_swap : (a b : Bool) → (a || b) ≡ (b || a)
+    or_swap true true = refl
+    or_swap true false = refl
+    or_swap false true = refl
+    or_swap false false = refl
+
+pub HasHeld-free : (listing : List Item) (held : List Bool) (i : ℕ) (ids : List (List ℕ)) → HasHeld listing held i ids → length held ≡ length listing → i < length listing
+    → get_or held i false ≡ false → HasHeld listing held (i + 1) ids
+HasHeld-free listing held i ids were same inside is = λ id.
+    were id
+    ∙ sym (or-false (list_any (stands_for id) (take i (zip listing held))))
+    ∙ ap (λ (b : Bool). list_any (stands_for id) (take i (zip listing held)) || (b && bytes_eq (get_or listing i nobody).uid id)) (sym is)
+    ∙ sym (next_flagged listing held i id same inside)
+
+pub HasHeld-all : (listing : List Item) (held : List Bool) (i : ℕ) (ids : List (List ℕ)) → HasHeld listing held i ids → length listing ≤ i → (uid : List ℕ) → is_among ids uid ≡ is_flagged listing held uid
+HasHeld-all listing held i ids were past = λ uid. were uid ∙ ap (list_any (stands_for uid)) (take_all i (zip listing held) (omega (arith, past, length-zip listing held)))

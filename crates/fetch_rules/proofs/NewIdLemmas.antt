@@ -1,21 +1,16 @@
 -- The ids of a listing that have no row yet.
-use Rattle.std.proofs.Common.{◌≡◌, ◌≢◌, ℕ, ◌<◌, ◌+◌, List, [], ◌∷◌, ◌++◌, Bool, true, false, not, ◌||◌, length, get_or, take, map, refl, sym, ◌∙◌, ap, subst, append_assoc, inl, inr}
-use Rattle.std.specs.Prelude.{bytes_eq, filter, AllPairs, All}
-use Rattle.std.specs.List.{list_any}
-use Rattle.std.proofs.lemmas.Bool.{cases_Bool, or_left, or_right, or_from, or_parts, or_cases, not_from_true, not_from_false, false_from_ne_true}
-use Rattle.std.proofs.lemmas.List.{take_more, map-append, append-nil}
-use Rattle.std.proofs.lemmas.List.Elements.{filter-append, All-append}
-use Rattle.std.proofs.lemmas.List.Folds.{list_any-append, list_any_at}
-use Rattle.std.proofs.lemmas.List.Quantifiers.{all_pairs_push}
+use Rattle.std.proofs.Common.{◌≡◌, ℕ, ◌<◌, ◌≤◌, ◌+◌, List, [], ◌∷◌, ◌++◌, Bool, true, false, not, ◌||◌, length, get_or, take, map, refl, sym, ◌∙◌, ap, subst, append_assoc, inl, inr}
+use Rattle.std.specs.Prelude.{bytes_eq, filter}
+use Rattle.std.proofs.lemmas.Bool.{cases_Bool, or_left, or_from, or_parts, or_cases, not_from_true, not_from_false, false_from_ne_true}
+use Rattle.std.proofs.lemmas.List.{take_more, take_all, map-append, append-nil}
+use Rattle.std.proofs.lemmas.List.Elements.{filter-append}
+use Rattle.std.proofs.lemmas.List.Folds.{list_any-append}
 use Rattle.std.proofs.lemmas.Bool.{true≢false}
 use Rattle.fetch_rules.proofs.FilterLemmas.{filter_keeps, filter_leaves}
 use Rattle.fetch_rules.proofs.IdLemmas.{same_from_test, test_from_same, test_from_other, cases_id}
 use Rattle.mail_terms.specs.Listing.{Item}
-use Rattle.fetch_rules.specs.Record.{Row, IsRow, IsRecord, is_of, has_row, distinct_ids, new_ids, undelivered}
-
--- whether an id is among these
-abbrev pub is_among : List (List ℕ) → List ℕ → Bool
-is_among ids uid = list_any (bytes_eq uid) ids
+use Rattle.fetch_rules.specs.IdSet.{is_among}
+use Rattle.fetch_rules.specs.Record.{Row, is_of, has_row, distinct_ids, new_ids, undelivered}
 
 -- a filter that an id passes doesn't take it away
 pub is_among-filter : (p : List ℕ → Bool) (uid : List ℕ) (ids : List (List ℕ)) → p uid ≡ true → is_among (filter p ids) uid ≡ is_among ids uid
@@ -165,35 +160,37 @@ AreApart-distinct_ids (id ∷ ids) = (
   AreApart-filter _ _ (AreApart-distinct_ids ids),
 )
 
--- no row has an id of these
-abbrev pub HasNone : List Row → List (List ℕ) → Type 0
-HasNone rows ids = (uid : List ℕ) → is_among ids uid ≡ true → has_row rows uid ≡ false
+-- a loop that adds rows: the items before the i-th have rows
+abbrev pub HasAdded : List Row → List Item → ℕ → ℕ → List Row → Type 0
+HasAdded rows listing now i new = new ≡ rows ++ map (undelivered now) (new_ids rows (take i listing))
 
-pub HasNone-new_of : (rows : List Row) (ids : List (List ℕ)) → HasNone rows (new_of rows ids)
-HasNone-new_of rows ids uid there = not_true (has_row rows uid) (passes_filter (λ id. not (has_row rows id)) (distinct_ids ids) uid there)
+pub HasAdded-has : (rows : List Row) (listing : List Item) (now i : ℕ) (new : List Row) (uid : List ℕ) → HasAdded rows listing now i new → ((d : Item) → uid ≡ (get_or listing i d).uid) → i < length listing
+    → has_row new uid ≡ true → HasAdded rows listing now (i + 1) new
+HasAdded-has rows listing now i new uid were at inside has = elim (cases_Bool (has_row rows uid)) [
+  | inl old ↦ were ∙ ap (λ (xs : List Row). rows ++ xs) (AreNew-row rows listing now i _ uid refl at inside old)
+  | inr none ↦ were ∙ ap (λ (xs : List Row). rows ++ xs) (AreNew-old rows listing now i _ uid refl at inside none
+      (sym (or_parts_right (has_row rows uid) (has_row added uid) none (sym (list_any-append (is_of uid) rows added) ∙ ap (λ (xs : List Row). has_row xs uid) (sym were) ∙ has))))
+]
   where
-    not_true : (b : Bool) → not b ≡ true → b ≡ false
-    not_true true e = sym e
-    not_true false e = refl
+    added : List Row
+    added = map (undelivered now) (new_ids rows (take i listing))
 
--- rows for ids that have none keep the ids distinct
-pub distinct_rows : (now : ℕ) (rows : List Row) (ids : List (List ℕ)) → AllPairs (λ a b. a.uid ≢ b.uid) rows → AreApart ids → HasNone rows ids → AllPairs (λ a b. a.uid ≢ b.uid) (rows ++ map (undelivered now) ids)
-distinct_rows now rows [] distinct apart none = subst (AllPairs (λ a b. a.uid ≢ b.uid)) (sym (append-nil rows)) distinct
-distinct_rows now rows (id ∷ ids) distinct apart none =
-    subst (AllPairs (λ a b. a.uid ≢ b.uid)) (append_assoc rows (undelivered now id ∷ []) (map (undelivered now) ids))
-    (distinct_rows now (rows ++ undelivered now id ∷ []) ids
-    (all_pairs_push (λ (a b : Row). a.uid ≢ b.uid) rows (undelivered now id) distinct
-    (λ k d inside same. true≢false (sym (list_any_at (is_of id) rows k d inside (test_from_same id (get_or rows k d).uid (sym same))) ∙ none id (or_left _ _ (test_from_same id id refl)))))
-    apart.1
-    (λ uid there. list_any-append (is_of uid) rows (undelivered now id ∷ [])
-    ∙ or_from _ _ (none uid (or_right _ _ there)) (or_from _ _ (test_from_other uid id (λ same. true≢false (sym there ∙ ap (is_among ids) same ∙ apart.0))) refl)))
+    or_parts_right : (a b : Bool) → a ≡ false → (a || b) ≡ true → true ≡ b
+    or_parts_right true b left either = absurd (true≢false left)
+    or_parts_right false b left either = sym either
 
-pub IsRecord-more : (rows : List Row) (listing : List Item) (now : ℕ) (added : List Row) → IsRecord rows → All IsRow added → added ≡ map (undelivered now) (new_ids rows listing) → IsRecord (rows ++ added)
-IsRecord-more rows listing now added is good are = record {
-  each = All-append IsRow rows added is.each good;
-  distinct = subst (λ (xs : List Row). AllPairs (λ a b. a.uid ≢ b.uid) (rows ++ xs)) (sym are)
-      (distinct_rows now rows _ is.distinct (AreApart-filter (λ uid. not (has_row rows uid)) (distinct_ids ids) (AreApart-distinct_ids ids)) (HasNone-new_of rows ids));
-}
+pub HasAdded-more : (rows : List Row) (listing : List Item) (now i : ℕ) (new longer : List Row) (uid : List ℕ) → HasAdded rows listing now i new → ((d : Item) → uid ≡ (get_or listing i d).uid) → i < length listing
+    → has_row new uid ≡ false → longer ≡ new ++ undelivered now uid ∷ [] → HasAdded rows listing now (i + 1) longer
+HasAdded-more rows listing now i new longer uid were at inside none longer_is =
+    longer_is ∙ ap (λ (xs : List Row). xs ++ undelivered now uid ∷ []) were
+    ∙ append_assoc rows added (undelivered now uid ∷ [])
+    ∙ ap (λ (xs : List Row). rows ++ xs) (AreNew-new rows listing now i added uid refl at inside parts.0 parts.1)
   where
-    ids : List (List ℕ)
-    ids = map (λ (item : Item). item.uid) listing
+    added : List Row
+    added = map (undelivered now) (new_ids rows (take i listing))
+
+    parts : (has_row rows uid ≡ false) × (has_row added uid ≡ false)
+    parts = or_parts (has_row rows uid) (has_row added uid) (sym (list_any-append (is_of uid) rows added) ∙ ap (λ (xs : List Row). has_row xs uid) (sym were) ∙ none)
+
+pub HasAdded-all : (rows : List Row) (listing : List Item) (now i : ℕ) (new : List Row) → HasAdded rows listing now i new → length listing ≤ i → new ≡ rows ++ map (undelivered now) (new_ids rows listing)
+HasAdded-all rows listing now i new were past = were ∙ ap (λ (items : List Item). rows ++ map (undelivered now) (new_ids rows items)) (take_all i listing past)

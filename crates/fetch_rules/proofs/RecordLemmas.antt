@@ -1,15 +1,15 @@
--- The record and its changes.
-use Rattle.std.proofs.Common.{◌≡◌, ◌≢◌, ℕ, ◌<◌, List, [], ◌∷◌, Some, None, Bool, true, false, suc, length, get_or, set, refl, sym, ◌∙◌, ap, subst, inl, inr, arith}
-use Rattle.std.specs.Prelude.{position}
-use Rattle.std.specs.List.{position_or_len}
+-- Rows, their delivery and their ids.
+use Rattle.std.proofs.Common.{◌≡◌, ◌≢◌, ℕ, suc, ◌<◌, List, [], ◌∷◌, ◌++◌, take, Bool, true, false, length, get_or, map, refl, sym, ◌∙◌, ap, subst, arith}
 use Rattle.std.proofs.Math.Bool.{or-false, or-true}
-use Rattle.std.proofs.lemmas.Bool.{cases_eq, cases_lt, cases_order, cond_below}
-use Rattle.std.proofs.lemmas.Option.{none-some}
-use Rattle.std.proofs.lemmas.List.{get_or-set_same, get_or-set_other, length-set, get_or-map, length-map, ext_get_or}
-use Rattle.std.proofs.lemmas.List.Quantifiers.{position-Some}
-use Rattle.std.proofs.lemmas.List.Sums.{fails_before_first}
-use Rattle.fetch_rules.proofs.IdLemmas.{same_from_test, test_from_other}
-use Rattle.fetch_rules.specs.Record.{Row, IsRecord, is_of, with_delivered, marked}
+use Rattle.std.proofs.lemmas.Bool.{true≢false}
+use Rattle.std.proofs.lemmas.List.{get_or-map, length-map, length-take, map-append, take-map}
+use lib.Seq.{get_or-take}
+use Rattle.std.proofs.lemmas.List.Folds.{list_any_at}
+use Rattle.std.proofs.lemmas.List.Quantifiers.{all_pairs_push}
+use Rattle.std.proofs.lemmas.List.Elements.{All-map, All-push, All-take, All-weaker, All-tail}
+use Rattle.mail_terms.specs.Distinct.{AreDistinct}
+use Rattle.fetch_rules.specs.Record.{Row, IsRow, IsRecord, is_of, has_row, marked, with_delivered}
+use Rattle.fetch_rules.proofs.IdLemmas.{test_from_same}
 
 pub with_delivered-false : (row : Row) → with_delivered false row ≡ row
 with_delivered-false row = ap (λ (b : Bool). record row { delivered = b }) (or-false row.delivered)
@@ -17,58 +17,47 @@ with_delivered-false row = ap (λ (b : Bool). record row { delivered = b }) (or-
 pub with_delivered-true : (row : Row) → with_delivered true row ≡ record row { delivered = true }
 with_delivered-true row = ap (λ (b : Bool). record row { delivered = b }) (or-true row.delivered)
 
-pub other_ids : (rows : List Row) (i j : ℕ) (d : Row) → IsRecord rows → i < length rows → j < length rows → i ≢ j → (get_or rows i d).uid ≢ (get_or rows j d).uid
-other_ids rows i j d is i_inside j_inside other = elim (cases_order i j) [
-  | inl same ↦ absurd (other same)
-  | inr (inl before) ↦ is.distinct i j d before j_inside
-  | inr (inr after) ↦ λ same. is.distinct j i d after i_inside (sym same)
-]
+abbrev pub uid_of : Row → List ℕ
+uid_of row = row.uid
 
--- the one row of an id is the one that is marked
-pub marked-set : (rows : List Row) (uid : List ℕ) (place : ℕ) (d : Row) → IsRecord rows → place < length rows → is_of uid (get_or rows place d) ≡ true
-    → set rows place (record (get_or rows place d) { delivered = true }) ≡ marked rows uid
-marked-set rows uid place d is inside found =
-    ext_get_or d _ _ (length-set rows place _ ∙ sym (length-map rows _)) (λ k bound. each k (omega (arith, bound, length-set rows place (record (get_or rows place d) { delivered = true }))))
-  where
-    here : get_or (set rows place (record (get_or rows place d) { delivered = true })) place d ≡ get_or (marked rows uid) place d
-    here =
-        get_or-set_same rows place (record (get_or rows place d) { delivered = true }) d inside
-        ∙ sym (with_delivered-true (get_or rows place d))
-        ∙ ap (λ (b : Bool). with_delivered b (get_or rows place d)) (sym found)
-        ∙ sym (get_or-map (λ (row : Row). with_delivered (is_of uid row) row) rows place d d inside)
+-- two rows of a record have two ids
+pub rows_differ : (rows : List Row) → IsRecord rows → (i j : ℕ) (d : Row) → i < j → j < length rows → (get_or rows i d).uid ≢ (get_or rows j d).uid
+rows_differ rows is i j d below inside same =
+    is.distinct i j [] below (omega (arith, inside, length-map rows uid_of))
+    (get_or-map uid_of rows i d [] (omega (arith, below, inside)) ∙ same ∙ sym (get_or-map uid_of rows j d [] inside))
 
-    each : (k : ℕ) → k < length rows → get_or (set rows place (record (get_or rows place d) { delivered = true })) k d ≡ get_or (marked rows uid) k d
-    each k bound = elim (cases_eq k place) [
-      | inl same ↦ subst (λ (j : ℕ). get_or (set rows place (record (get_or rows place d) { delivered = true })) j d ≡ get_or (marked rows uid) j d) (sym same) here
-      | inr other ↦
-          get_or-set_other rows place k (record (get_or rows place d) { delivered = true }) d other
-          ∙ sym (with_delivered-false (get_or rows k d))
-          ∙ ap (λ (b : Bool). with_delivered b (get_or rows k d)) (sym (test_from_other uid (get_or rows k d).uid (λ same. other_ids rows k place d is bound inside other (sym same ∙ same_from_test _ _ found))))
-          ∙ sym (get_or-map (λ (row : Row). with_delivered (is_of uid row) row) rows k d d bound)
-    ]
+pub rest_of : (row : Row) (rows : List Row) → IsRecord (row ∷ rows) → IsRecord rows
+rest_of row rows is = record { each = All-tail IsRow row rows is.each; distinct = λ i j d below inside. is.distinct (suc i) (suc j) d (omega (arith, below)) (omega (arith, inside)) }
 
-pub not_found : {X : Type 0} (p : X → Bool) (xs : List X) → position p xs ≡ None → (k : ℕ) (d : X) → k < length xs → p (get_or xs k d) ≡ false
-not_found {X} p xs none k d bound = elim (cases_lt (position_or_len p xs) (length xs)) [
-  | inl inside ↦ absurd (none-some (position_or_len p xs) (sym none ∙ sym (cond_below (position_or_len p xs) (length xs) (Some (position_or_len p xs)) None inside)))
-  | inr past ↦ fails_before_first p xs k d (omega (arith, past))
-]
+pub IsRecord-push : (rows : List Row) (row : Row) → IsRecord rows → IsRow row → has_row rows row.uid ≡ false → IsRecord (rows ++ row ∷ [])
+IsRecord-push rows row is is_row none = record {
+  each = All-push IsRow rows row is.each is_row;
+  distinct = subst AreDistinct (sym (map-append uid_of rows (row ∷ [])))
+      (all_pairs_push (λ (a b : List ℕ). a ≢ b) (map uid_of rows) row.uid is.distinct
+      (λ k d inside same.
+      let bound : k < length rows = omega (arith, inside, length-map rows uid_of) in
+      true≢false (sym (list_any_at (is_of row.uid) rows k row bound (test_from_same row.uid (get_or rows k row).uid (sym (sym (get_or-map uid_of rows k row d bound) ∙ same)))) ∙ none)));
+}
 
--- where no row is an id's, nothing is marked
-pub unmarked : (rows : List Row) (uid : List ℕ) → ((k : ℕ) (d : Row) → k < length rows → is_of uid (get_or rows k d) ≡ false) → marked rows uid ≡ rows
-unmarked [] uid none = refl
-unmarked (row ∷ rest) uid none =
-    ap (λ (first : Row). first ∷ marked rest uid) (ap (λ (b : Bool). with_delivered b row) (none 0 row (omega arith)) ∙ with_delivered-false row)
-    ∙ ap (λ (others : List Row). row ∷ others) (unmarked rest uid (λ k d bound. none (suc k) d (omega (arith, bound))))
+distinct_take : (n : ℕ) (ids : List (List ℕ)) → AreDistinct ids → AreDistinct (take n ids)
+distinct_take n ids are = λ i j d below inside same.
+    are i j d below (omega (arith, inside, length-take n ids))
+    (sym (get_or-take n ids i d (omega (arith, below, inside, length-take n ids))) ∙ same ∙ get_or-take n ids j d (omega (arith, inside, length-take n ids)))
 
-pub marked-none : (rows items : List Row) (uid : List ℕ) → items ≡ rows → None ≡ position (is_of uid) items → rows ≡ marked rows uid
-marked-none rows items uid same none = sym (unmarked rows uid (not_found (is_of uid) rows (ap (position (is_of uid)) (sym same) ∙ sym none)))
+pub IsRecord-take : (n : ℕ) (rows : List Row) → IsRecord rows → IsRecord (take n rows)
+IsRecord-take n rows is = record {
+  each = All-take IsRow n rows is.each;
+  distinct = subst AreDistinct (take-map uid_of n rows) (distinct_take n (map uid_of rows) is.distinct);
+}
 
-pub marked-some : (rows items : List Row) (uid : List ℕ) (place : ℕ) (row new : Row) → items ≡ rows → IsRecord rows → Some place ≡ position (is_of uid) items
-    → row ≡ get_or items place row → new ≡ record row { delivered = true } → set items place new ≡ marked rows uid
-marked-some rows items uid place row new same is found at new_is =
-    ap (λ (xs : List Row). set xs place new) same
-    ∙ ap (set rows place) (new_is ∙ ap (λ (r : Row). record r { delivered = true }) (at ∙ ap (λ (xs : List Row). get_or xs place row) same))
-    ∙ marked-set rows uid place row is there.0 there.1
-  where
-    there : (place < length rows) × (is_of uid (get_or rows place row) ≡ true) × ((k : ℕ) → k < place → is_of uid (get_or rows k row) ≡ false)
-    there = position-Some (is_of uid) rows place row (ap (position (is_of uid)) (sym same) ∙ sym found)
+-- a mark leaves the ids
+ids-marked : (uid : List ℕ) (rows : List Row) → map uid_of (marked rows uid) ≡ map uid_of rows
+ids-marked uid [] = refl
+ids-marked uid (row ∷ rows) = ap (λ (ids : List (List ℕ)). row.uid ∷ ids) (ids-marked uid rows)
+
+pub IsRecord-marked : (uid : List ℕ) (rows : List Row) → IsRecord rows → IsRecord (marked rows uid)
+IsRecord-marked uid rows is = record {
+  each = All-map IsRow (λ row. with_delivered (is_of uid row) row) rows
+      (All-weaker IsRow (λ row. IsRow (with_delivered (is_of uid row) row)) (λ row row_is. record { legal = row_is.legal; fits = row_is.fits }) rows is.each);
+  distinct = subst AreDistinct (sym (ids-marked uid rows)) is.distinct;
+}

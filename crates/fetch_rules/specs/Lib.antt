@@ -1,6 +1,11 @@
 pub mod Due
+pub mod IdSet
 pub mod Laws
+pub mod Lines
 pub mod Plan
 pub mod Record
 pub mod RecordFile
+pub mod RecordGrowth
+pub mod RecordMeaning
+pub mod Rows
 pub mod Wanted

@@ -1,8 +1,9 @@
 -- The record: which messages of a maildrop were seen, since when, and whether they were delivered.
 -- A message is known by its unique-id (RFC 1939, section 7, UIDL).
-use Rattle.std.specs.Prelude.{◌≢◌, ℕ, ◌<◌, ◌^◌, Bool, false, ◌&&◌, ◌||◌, not, List, [], ◌∷◌, ◌++◌, Option, map, filter, find, zip, All, AllPairs, bytes_eq, option_map}
+use Rattle.std.specs.Prelude.{ℕ, ◌<◌, ◌^◌, Bool, false, ◌&&◌, ◌||◌, not, List, [], ◌∷◌, ◌++◌, Option, map, filter, find, zip, All, bytes_eq, option_map}
 use Rattle.std.specs.List.{list_any}
 use Rattle.mail_terms.specs.UniqueId.{IsLegalId}
+use Rattle.mail_terms.specs.Distinct.{AreDistinct}
 use Rattle.mail_terms.specs.Listing.{Item}
 
 -- one message: its id, the second since 1970 at which it was first listed, and whether it was
@@ -20,7 +21,15 @@ pub record IsRow (row : Row) : Type 0 where
 -- rows with distinct ids
 pub record IsRecord (rows : List Row) : Type 0 where
   pub each : All IsRow rows
-  pub distinct : AllPairs (λ a b. a.uid ≢ b.uid) rows
+  pub distinct : AreDistinct (map (λ row. row.uid) rows)
+
+-- a record in memory: its rows, and whether the bytes that it was last read from had a torn end
+pub record Loaded : Type 0 where
+  pub rows : List Row
+  pub torn : Bool
+
+abbrev pub empty : Loaded
+empty = record { rows = []; torn = false }
 
 -- whether a row is this id's
 abbrev pub is_of : List ℕ → Row → Bool
@@ -59,17 +68,17 @@ new_ids rows listing = filter (λ uid. not (has_row rows uid)) (distinct_ids (ma
 abbrev pub undelivered : ℕ → List ℕ → Row
 undelivered now uid = record { uid = uid; first_seen = now; delivered = false }
 
--- whether an item with this id is held
-abbrev pub is_held : List Item → List Bool → List ℕ → Bool
-is_held listing held uid = list_any (λ flagged. flagged.1 && bytes_eq flagged.0.uid uid) (zip listing held)
+-- whether an item with this id is flagged as held
+abbrev pub is_flagged : List Item → List Bool → List ℕ → Bool
+is_flagged listing held uid = list_any (λ flagged. flagged.1 && bytes_eq flagged.0.uid uid) (zip listing held)
 
--- the rows, with delivered set for the ids that are held
+-- the rows, with delivered set for the ids that are flagged
 abbrev pub with_held : List Item → List Bool → List Row → List Row
-with_held listing held rows = map (λ row. with_delivered (is_held listing held row.uid) row) rows
+with_held listing held rows = map (λ row. with_delivered (is_flagged listing held row.uid) row) rows
 
--- the rows, with delivered set for the ids that are held, followed by a row for each id of the
+-- the rows, with delivered set for the ids that are flagged, followed by a row for each id of the
 -- listing that has none
 abbrev pub merged : List Row → List Item → List Bool → ℕ → List Row
 merged rows listing held now =
     with_held listing held rows
-    ++ map (λ uid. record { uid = uid; first_seen = now; delivered = is_held listing held uid }) (new_ids rows listing)
+    ++ map (λ uid. record { uid = uid; first_seen = now; delivered = is_flagged listing held uid }) (new_ids rows listing)

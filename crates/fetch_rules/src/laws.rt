@@ -5,7 +5,7 @@ ghost use Rattle.std.specs.Prelude.{◌≡◌, ℕ, ◌&&◌, ◌||◌, Bool, Li
 ghost use Rattle.mail_terms.specs.Listing.{Item, Joins, has_item};
 ghost use Rattle.fetch_rules.specs.Laws.{FetchesFirsts};
 ghost use Rattle.fetch_rules.specs.Plan.{planned};
-ghost use Rattle.fetch_rules.specs.Record.{Row, has_row, is_delivered, is_held, marked, merged};
+ghost use Rattle.fetch_rules.specs.Record.{Row, has_row, is_delivered, is_flagged, marked, merged};
 
 use mail_terms::{ScanRow, UidRow};
 use rc_file::Settings;
@@ -18,7 +18,7 @@ pub fn firsts_are_fetched()
 /// After a merge an id is recorded as delivered where it was before, or is held.
 pub fn held_is_delivered()
     ensures { (rows : List Row) (listing : List Item) (held : List Bool) (now : ℕ) (uid : List ℕ)
-        → is_delivered (merged rows listing held now) uid ≡ is_delivered rows uid || is_held listing held uid }
+        → is_delivered (merged rows listing held now) uid ≡ is_delivered rows uid || is_flagged listing held uid }
 {}
 
 /// After a merge an id has a row where it had one before, or is listed.

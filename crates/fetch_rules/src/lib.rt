@@ -4,6 +4,7 @@
 //! clock.
 #![tactic(auto)]
 
+mod id_set;
 mod laws;
 mod seen;
 mod steps;
@@ -19,5 +20,8 @@ pub use rc_file::{
     Dest, Flags, Key, RcFault, Section, Settings, Warning, full_path, override_with, rc_text,
     read_rc, warning_text,
 };
-pub use seen::{Seen, SeenFault};
+pub use seen::{
+    Seen, SeenFault, appended_counts, bytes_have_one_meaning, bytes_stand, cut_is_ignored,
+    files_stand_for_one_record,
+};
 pub use steps::{Step, distinct_messages_are_filtered, plan};

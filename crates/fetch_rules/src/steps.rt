@@ -9,6 +9,7 @@ use crate::seen::Seen;
 use mail_terms::Listing;
 use rc_file::Settings;
 use std::alloc::{AllocError, Global};
+use std::hash::BuildHasher;
 
 const SECONDS_PER_DAY: u64 = 86_400;
 
@@ -33,9 +34,14 @@ fn is_due(settings: &Settings, now: u64, since: u64) -> bool
 }
 
 /// Whether the message of number `i + 1` may be fetched.
-fn is_candidate(settings: &Settings, seen: &Seen, listing: &Listing, i: u32) -> bool
+fn is_candidate<H: BuildHasher>(
+    settings: &Settings,
+    seen: &Seen<H>,
+    listing: &Listing,
+    i: u32,
+) -> bool
     requires { i < length listing.now }
-    ensures { HoldsAt (λ item. result ≡ is_candidate settings.now seen.now listing.now (i + 1, item)) listing.now i }
+    ensures { HoldsAt (λ item. result ≡ is_candidate settings.now seen.now.rows listing.now (i + 1, item)) listing.now i }
 {
     listing.is_first(i)
         && (settings.max_size == 0 || listing.size(i) <= settings.max_size)
@@ -43,16 +49,16 @@ fn is_candidate(settings: &Settings, seen: &Seen, listing: &Listing, i: u32) -> 
 }
 
 /// Whether the message of number `i + 1` is deleted, where it is told whether it is fetched.
-fn is_deleted(
+fn is_deleted<H: BuildHasher>(
     settings: &Settings,
-    seen: &Seen,
+    seen: &Seen<H>,
     listing: &Listing,
     now: u64,
     fetched: bool,
     i: u32,
 ) -> bool
     requires { i < length listing.now }
-    ensures { HoldsAt (λ item. result ≡ is_deleted settings.now seen.now listing.now now fetched (i + 1, item)) listing.now i }
+    ensures { HoldsAt (λ item. result ≡ is_deleted settings.now seen.now.rows listing.now now fetched (i + 1, item)) listing.now i }
 {
     let uid = listing.uid(i);
     let since = seen.first_seen(uid).unwrap_or(now);
@@ -68,17 +74,17 @@ fn is_deleted(
 /// limit. A message is deleted where it is recorded as delivered or is fetched, no other message has
 /// its id, and `delete` is true or it was first seen `delete_after` days ago or more, where 0 sets no
 /// age. An id without a row is not delivered, and is first seen now. `now` is in seconds since 1970.
-pub fn plan(
+pub fn plan<H: BuildHasher>(
     alloc: Global,
     settings: &Settings,
-    seen: &Seen,
+    seen: &Seen<H>,
     listing: &Listing,
     now: u64,
 ) -> Result<Vec<Step>, AllocError>
-    ensures steps { IfOk result (λ steps. steps.items ≡ planned settings.now seen.now listing.now now) }
+    ensures steps { IfOk result (λ steps. steps.items ≡ planned settings.now seen.now.rows listing.now now) }
 
     // What is fetched is, in order, the wanted messages: the first `max_count` of the candidates.
-    ensures fetched { IfOk result (λ steps. retrieved steps.items listing.now ≡ wanted settings.now seen.now listing.now) }
+    ensures fetched { IfOk result (λ steps. retrieved steps.items listing.now ≡ wanted settings.now seen.now.rows listing.now) }
 {
     let mut steps = Vec::with_capacity(alloc, listing.len() as usize)?;
     let mut candidates: u64 = 0;

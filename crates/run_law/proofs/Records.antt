@@ -4,7 +4,7 @@ use Rattle.std.specs.Prelude.{bytes_eq}
 use Rattle.std.specs.List.{list_any}
 use Rattle.std.proofs.lemmas.Bool.{or_cases, and_parts}
 use Rattle.mail_terms.specs.Listing.{Item}
-use Rattle.fetch_rules.specs.Record.{Row, is_of, has_row, is_delivered, with_delivered, marked, distinct_ids, new_ids, is_held, with_held, merged}
+use Rattle.fetch_rules.specs.Record.{Row, is_of, has_row, is_delivered, with_delivered, marked, distinct_ids, new_ids, is_flagged, with_held, merged}
 use Rattle.mail_terms.specs.Listing.{has_item}
 use Rattle.mail_store.specs.Maildir.{Maildir}
 use Rattle.mail_store.specs.FileName.{is_held as is_held_in}
@@ -75,7 +75,7 @@ and_swap false false = refl
 
 -- an item with this id is held exactly where one is listed and the id is held
 pub held_listed : (account : List ℕ) (maildir : Maildir) (items : List Item) (id : List ℕ)
-    → is_held items (flags_of account maildir items) id ≡ (has_item items id && is_held_in account maildir id)
+    → is_flagged items (flags_of account maildir items) id ≡ (has_item items id && is_held_in account maildir id)
 held_listed account maildir [] id = refl
 held_listed account maildir (item ∷ items) id =
     ap (λ b. (is_held_in account maildir item.uid && bytes_eq item.uid id) || b) (held_listed account maildir items id)
@@ -119,7 +119,7 @@ delivered_merged account maildir rows items now id =
     flags = flags_of account maildir items
 
     flagged : List ℕ → Bool
-    flagged uid = is_held items flags uid
+    flagged uid = is_flagged items flags uid
 
     fresh : List ℕ → Row
     fresh uid = record { uid = uid; first_seen = now; delivered = flagged uid }

@@ -1,7 +1,8 @@
 //! Plans of sessions.
 
+use crate::fetch_rules_tests::seen::read_record;
 use crate::mail_terms_tests::listing::listing_of;
-use fetch_rules::{Dest, Seen, Settings, plan};
+use fetch_rules::{Dest, Settings, plan};
 use std::alloc::Global;
 use std::test::Fail;
 
@@ -31,7 +32,7 @@ fn steps(
     ids: &[(&str, u64)],
     now: u64,
 ) -> Result<String, Fail> {
-    let seen = Seen::read(alloc, record.as_bytes())?;
+    let seen = read_record(alloc, record.as_bytes())?;
     let listing = listing_of(alloc, ids)?;
     let mut text = String::new(alloc);
     for step in &plan(alloc, settings, &seen, &listing, now)? {
@@ -62,7 +63,7 @@ fn fetches_five_messages_in_three_sessions(rt: HostRuntime) -> Result<(), Fail> 
     settings.max_count = 2;
     let listing = listing_of(alloc, &[("a", 1), ("b", 1), ("c", 1), ("d", 1), ("e", 1)])?;
     assert!(rt; listing.len() == 5);
-    let mut seen = Seen::new(alloc);
+    let mut seen = read_record(alloc, b"")?;
     assert!(rt; seen.merge(&listing, &[false; 5], 0)?);
     for fetched in [[1, 2], [3, 4], [5, 5]] {
         let steps = plan(alloc, &settings, &seen, &listing, 0)?;

@@ -1,9 +1,17 @@
 //! The record of what was seen and delivered, and its file.
 
 use crate::mail_terms_tests::listing::listing_of;
-use fetch_rules::{Seen, SeenFault};
+use fetch_rules::{Listing, ScanRow, Seen, SeenFault, UidRow, have_legal_ids};
 use std::alloc::Global;
+use std::hash::{BuildHasherDefault, FoldHasher};
 use std::test::Fail;
+
+/// A record whose hasher has a fixed seed.
+pub(crate) type Record = Seen<BuildHasherDefault<FoldHasher>>;
+
+pub(crate) fn read_record(alloc: Global, bytes: &[u8]) -> Result<Record, SeenFault> {
+    Seen::read(alloc, bytes, BuildHasherDefault::new())
+}
 
 /// Whether a record changes where messages of these ids are merged into it, all that are held
 /// flagged, and the record's file afterwards.
@@ -14,7 +22,7 @@ fn merged(
     held: &[bool],
     now: u64,
 ) -> Result<String, Fail> {
-    let mut seen = Seen::read(alloc, file.as_bytes())?;
+    let mut seen = read_record(alloc, file.as_bytes())?;
     let listing = listing_of(alloc, ids)?;
     if listing.len() as usize != held.len() {
         return Err(Fail::from("as many flags as messages"));
@@ -41,7 +49,7 @@ fn merges_each_id_once_and_in_order(rt: HostRuntime) -> Result<(), Fail> {
 
 #[test]
 fn marks_and_looks_up(rt: HostRuntime) -> Result<(), Fail> {
-    let mut seen = Seen::read(
+    let mut seen = read_record(
         rt.alloc(),
         b"getmail-seen 1\na 5 0\nb 18446744073709551615 1\n",
     )?;
@@ -84,11 +92,112 @@ fn refuses_files_by_their_first_fault(rt: HostRuntime) {
         ("getmail-seen 1\n 5 1\n", SeenFault::BadRow(2)),
         ("getmail-seen 1\na\x7F 5 1\n", SeenFault::BadRow(2)),
         ("getmail-seen 1\na 5 1\r\n", SeenFault::BadRow(2)),
-        ("getmail-seen 1\na 5 1", SeenFault::BadRow(2)),
+        ("getmail-seen 1\n+ 0\n", SeenFault::BadRow(2)),
+        ("getmail-seen 1\n+ 01\na 5 0\n", SeenFault::BadRow(2)),
+        ("getmail-seen 1\n+ 100001\n", SeenFault::BadRow(2)),
+        ("getmail-seen 1\n+ 1\r\n", SeenFault::BadRow(2)),
+        ("getmail-seen 1\n+ 1\na 5 0\nb 5 0\n", SeenFault::BadRow(4)),
+        (
+            "getmail-seen 1\n+ 2\na 5 0\n+ 1\nb 5 0\n",
+            SeenFault::BadRow(4),
+        ),
+        (
+            "getmail-seen 1\na 5 0\n+ 1\na 6 1\n",
+            SeenFault::RepeatedId(4),
+        ),
+        (
+            "getmail-seen 1\na 5 0\n+ 1\na 5 0\n",
+            SeenFault::RepeatedId(4),
+        ),
+        (
+            "getmail-seen 1\na 5 1\n+ 2\na 5 1\n",
+            SeenFault::RepeatedId(4),
+        ),
         ("getmail-seen 1\n\n", SeenFault::BadRow(2)),
     ];
     for (file, fault) in rows {
-        let found = Seen::read(rt.alloc(), file.as_bytes()).err();
+        let found = read_record(rt.alloc(), file.as_bytes()).err();
         assert_eq!(rt; found, Some(fault), "in {file}");
     }
+}
+
+/// The record's file of the row (a, 5), 21 bytes, and the group that delivers it, 10 bytes.
+const MARKED: &[u8] = b"getmail-seen 1\na 5 0\n+ 1\na 5 1\n";
+
+#[test]
+fn gives_the_group_of_a_mark_once(rt: HostRuntime) -> Result<(), Fail> {
+    let mut seen = read_record(rt.alloc(), &MARKED[..21])?;
+    assert!(rt; !seen.needs_rewrite());
+    assert_eq!(rt;
+        seen.mark_rows(b"a")?.as_slice(),
+        b"+ 1\na 5 1\n".as_slice()
+    );
+    assert!(rt; seen.is_delivered(b"a"));
+    assert!(rt; seen.mark_rows(b"a")?.is_empty());
+    assert!(rt; seen.mark_rows(b"b")?.is_empty());
+    Ok(())
+}
+
+#[test]
+fn reads_a_whole_group_and_no_torn_one(rt: HostRuntime) -> Result<(), Fail> {
+    let alloc = rt.alloc();
+    let mut seen = read_record(alloc, MARKED)?;
+    assert!(rt; seen.is_delivered(b"a"));
+    assert!(rt; !seen.needs_rewrite());
+    for length in 22..31 {
+        seen.reread(&MARKED[..length])?;
+        assert!(rt; !seen.is_delivered(b"a"));
+        assert_eq!(rt; seen.first_seen(b"a"), Some(5));
+        assert!(rt; seen.needs_rewrite());
+    }
+    seen.reread(b"getmail-seen 1\na 5 1")?;
+    assert!(rt; seen.needs_rewrite());
+    assert_eq!(rt; seen.first_seen(b"a"), None);
+    assert_eq!(rt; seen.reread(b"x"), Err(SeenFault::BadHeader));
+    assert!(rt; !seen.needs_rewrite());
+    Ok(())
+}
+
+#[test]
+fn gives_the_group_of_a_merge(rt: HostRuntime) -> Result<(), Fail> {
+    let alloc = rt.alloc();
+    let mut seen = read_record(alloc, MARKED)?;
+    let listing = listing_of(alloc, &[("a", 5), ("b", 6)])?;
+    assert!(rt; listing.len() == 2);
+    let group = seen.merge_rows(&listing, &[false, false], 9)?;
+    assert_eq!(rt; group.as_slice(), b"+ 1\nb 9 0\n".as_slice());
+    assert!(rt; seen.merge_rows(&listing, &[false, false], 10)?.is_empty());
+    let group = seen.merge_rows(&listing, &[true, true], 10)?;
+    assert_eq!(rt; group.as_slice(), b"+ 1\nb 9 1\n".as_slice());
+    Ok(())
+}
+
+#[test]
+fn keeps_hundreds_of_rows(rt: HostRuntime) -> Result<(), Fail> {
+    let alloc = rt.alloc();
+    let mut uids = Vec::new(alloc);
+    let mut sizes = Vec::new(alloc);
+    let mut held = Vec::new(alloc);
+    let mut bytes = Vec::from_slice(alloc, b"getmail-seen 1\n+ 400\n")?;
+    for number in 1..=400u32 {
+        let uid = Vec::from_slice(alloc, format!(in alloc; "id-{number}")?.as_bytes())?;
+        uids.push(UidRow { number, uid })?;
+        sizes.push(ScanRow { number, size: 1 })?;
+        held.push(number % 2 == 0)?;
+        let line = format!(in alloc; "id-{number} 7 {}\n", (number + 1) % 2)?;
+        bytes.extend_from_slice(line.as_bytes())?;
+    }
+    assert!(rt; have_legal_ids(&uids));
+    let listing = Listing::join(alloc, 400, &uids, &sizes)?;
+    assert!(rt; held.len() == listing.len() as usize);
+    let mut seen = read_record(alloc, b"")?;
+    assert_eq!(rt;
+        seen.merge_rows(&listing, &held, 7)?.as_slice(),
+        &bytes[15..]
+    );
+    let read = read_record(alloc, &bytes)?;
+    assert_eq!(rt; read.bytes()?.as_slice(), seen.bytes()?.as_slice());
+    assert!(rt; read.is_delivered(b"id-400"));
+    assert!(rt; !read.is_delivered(b"id-399"));
+    Ok(())
 }

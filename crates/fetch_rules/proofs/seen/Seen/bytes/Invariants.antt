@@ -3,5 +3,5 @@ use Rattle.std.specs.Prelude.{flat_map}
 use Rattle.fetch_rules.specs.RecordFile.{header, line_of}
 use Rattle.fetch_rules.proofs.seen.Seen.bytes.Given as goal
 
-abbrev pub invariant-loop-row : goal.invariant-loop-row
-invariant-loop-row l = l.bytes.items ≡ header ++ flat_map line_of (take l.row-index l.row-items)
+abbrev pub invariant-loop-place : goal.invariant-loop-place
+invariant-loop-place g l = l.bytes.items ≡ header ++ flat_map line_of (take l.place l.self.rows)

@@ -1,0 +1,132 @@
+-- A merge changes no more rows than the listing has messages.
+use Rattle.std.proofs.Common.{◌≡◌, ℕ, ◌<◌, ◌≤◌, List, [], ◌∷◌, ◌++◌, Bool, true, false, ◌&&◌, ◌||◌, not, cond, length, map, refl, sym, ◌∙◌, ap, inl, inr, arith}
+use Rattle.std.specs.Prelude.{bytes_eq, filter}
+use Rattle.std.specs.List.{AllByRecursion}
+use Rattle.std.proofs.lemmas.Bool.{cases_Bool, true≢false, or_left, or_right, or_parts, or_from, or_cases, not_from_false, not_from_true, and_parts}
+use Rattle.std.proofs.lemmas.List.{length-map}
+use Rattle.mail_terms.specs.Listing.{Item}
+use Rattle.fetch_rules.specs.IdSet.{is_among}
+use Rattle.fetch_rules.specs.Record.{Row, IsRecord, is_of, has_row, is_flagged, with_held, new_ids, distinct_ids, merged}
+use Rattle.fetch_rules.specs.RecordFile.{changed}
+use Rattle.fetch_rules.proofs.FilterLemmas.{filter_keeps, filter_leaves}
+use Rattle.fetch_rules.proofs.IdLemmas.{same_from_test, test_from_same, test_from_other}
+use Rattle.fetch_rules.proofs.RecordLemmas.{uid_of, rest_of}
+use Rattle.fetch_rules.proofs.RowLemmas.{apart}
+use Rattle.fetch_rules.proofs.NewIdLemmas.{AreApart, is_among-filter, is_among-filter_false, is_among-distinct_ids}
+
+filter_short : (p : List ℕ → Bool) (ids : List (List ℕ)) → length (filter p ids) ≤ length ids
+filter_short p [] = omega arith
+filter_short p (id ∷ ids) = elim (cases_Bool (p id)) [
+  | inl hit ↦ omega (arith, filter_short p ids, ap length (filter_keeps p id ids hit))
+  | inr miss ↦ omega (arith, filter_short p ids, ap length (filter_leaves p id ids miss))
+]
+
+abbrev without : List ℕ → List (List ℕ) → List (List ℕ)
+without uid ids = filter (λ other. not (bytes_eq uid other)) ids
+
+without_short : (uid : List ℕ) (ids : List (List ℕ)) → is_among ids uid ≡ true → length (without uid ids) < length ids
+without_short uid [] there = cc
+without_short uid (id ∷ ids) there = elim (cases_Bool (bytes_eq uid id)) [
+  | inl hit ↦ omega (arith, filter_short (λ other. not (bytes_eq uid other)) ids, ap length (filter_leaves (λ other. not (bytes_eq uid other)) id ids (not_from_true _ hit)))
+  | inr miss ↦ omega (
+    arith,
+    without_short uid ids (behind (bytes_eq uid id) miss there),
+    ap length (filter_keeps (λ other. not (bytes_eq uid other)) id ids (not_from_false _ miss)),
+  )
+]
+  where
+    behind : (b : Bool) → b ≡ false → (b || is_among ids uid) ≡ true → is_among ids uid ≡ true
+    behind true miss e = absurd (true≢false miss)
+    behind false miss e = e
+
+-- ids that are apart and stand among others are no more than those
+pub no_more : (ids others : List (List ℕ)) → AreApart ids → ((uid : List ℕ) → is_among ids uid ≡ true → is_among others uid ≡ true) → length ids ≤ length others
+no_more [] others apart among = omega arith
+no_more (id ∷ ids) others apart among =
+    omega (
+      arith,
+      without_short id others (among id (or_left _ _ (test_from_same id id refl))),
+      no_more ids (without id others) apart.1 (λ uid there.
+          is_among-filter (λ other. not (bytes_eq id other)) uid others (not_from_false _ (test_from_other id uid (λ same. true≢false (sym there ∙ ap (is_among ids) (sym same) ∙ apart.0))))
+          ∙ among uid (or_right _ _ there)),
+    )
+
+-- the ids of a record's rows are apart
+none_among : (uid : List ℕ) (rows : List Row) → AllByRecursion (λ other. is_of uid other ≡ false) rows → is_among (map uid_of rows) uid ≡ false
+none_among uid [] none = refl
+none_among uid (row ∷ rows) none = or_from _ _ none.0 (none_among uid rows none.1)
+
+ids_apart : (rows : List Row) → IsRecord rows → AreApart (map uid_of rows)
+ids_apart [] is = tt
+ids_apart (row ∷ rows) is = (none_among row.uid rows (apart row.uid row rows is (test_from_same row.uid row.uid refl)), ids_apart rows (rest_of row rows is))
+
+changed_lack : (uid : List ℕ) (old new : List Row) → is_among (map uid_of new) uid ≡ false → is_among (map uid_of (changed old new)) uid ≡ false
+changed_lack uid [] new lack = lack
+changed_lack uid (row ∷ old) [] lack = refl
+changed_lack uid (row ∷ old) (next ∷ new) lack =
+    by (next.delivered && not row.delivered) (or_parts (bytes_eq uid next.uid) (is_among (map uid_of new) uid) lack).0
+    (changed_lack uid old new (or_parts (bytes_eq uid next.uid) (is_among (map uid_of new) uid) lack).1)
+  where
+    by : (b : Bool) → bytes_eq uid next.uid ≡ false → is_among (map uid_of (changed old new)) uid ≡ false → is_among (map uid_of (cond b (next ∷ changed old new) (changed old new))) uid ≡ false
+    by true here rest = or_from _ _ here rest
+    by false here rest = rest
+
+changed_apart : (old new : List Row) → AreApart (map uid_of new) → AreApart (map uid_of (changed old new))
+changed_apart [] new are = are
+changed_apart (row ∷ old) [] are = tt
+changed_apart (row ∷ old) (next ∷ new) are = by (next.delivered && not row.delivered) (changed_lack next.uid old new are.0) (changed_apart old new are.1)
+  where
+    by : (b : Bool) → is_among (map uid_of (changed old new)) next.uid ≡ false → AreApart (map uid_of (changed old new)) → AreApart (map uid_of (cond b (next ∷ changed old new) (changed old new)))
+    by true lack rest = (lack, rest)
+    by false lack rest = rest
+
+-- a flagged id is listed
+abbrev pub listed : List Item → List (List ℕ)
+listed listing = map (λ (item : Item). item.uid) listing
+
+flagged_listed : (listing : List Item) (held : List Bool) (uid : List ℕ) → is_flagged listing held uid ≡ true → is_among (listed listing) uid ≡ true
+flagged_listed [] held uid flagged = cc
+flagged_listed (item ∷ listing) [] uid flagged = cc
+flagged_listed (item ∷ listing) (flag ∷ held) uid flagged = elim (or_cases (flag && bytes_eq item.uid uid) (is_flagged listing held uid) flagged) [
+  | inl here ↦ or_left _ _ (test_from_same uid item.uid (sym (same_from_test item.uid uid (and_parts flag (bytes_eq item.uid uid) here).1)))
+  | inr further ↦ or_right _ _ (flagged_listed listing held uid further)
+]
+
+-- and so is that of each row that a merge changes
+changed_listed : (listing : List Item) (held : List Bool) (old more : List Row) (uid : List ℕ) → (is_among (map uid_of more) uid ≡ true → is_among (listed listing) uid ≡ true)
+    → is_among (map uid_of (changed old (with_held listing held old ++ more))) uid ≡ true → is_among (listed listing) uid ≡ true
+changed_listed listing held [] more uid new there = new there
+changed_listed listing held (row ∷ old) more uid new there =
+    by row.delivered (is_flagged listing held row.uid) refl (changed_listed listing held old more uid new) there
+  where
+    rest : List Row
+    rest = changed old (with_held listing held old ++ more)
+
+    by : (d f : Bool) → is_flagged listing held row.uid ≡ f → (is_among (map uid_of rest) uid ≡ true → is_among (listed listing) uid ≡ true)
+        → is_among (map uid_of (cond ((d || f) && not d) (record { uid = row.uid; first_seen = row.first_seen; delivered = d || f } ∷ rest) rest)) uid ≡ true → is_among (listed listing) uid ≡ true
+    by true f flag further at = further at
+    by false false flag further at = further at
+    by false true flag further at = elim (or_cases (bytes_eq uid row.uid) (is_among (map uid_of rest) uid) at) [
+      | inl here ↦ ap (is_among (listed listing)) (same_from_test uid row.uid here) ∙ flagged_listed listing held row.uid flag
+      | inr behind ↦ further behind
+    ]
+
+new_listed : (rows : List Row) (listing : List Item) (held : List Bool) (now : ℕ) (uid : List ℕ) (ids : List (List ℕ))
+    → is_among (map uid_of (map (λ id. record { uid = id; first_seen = now; delivered = is_flagged listing held id }) ids)) uid ≡ is_among ids uid
+new_listed rows listing held now uid [] = refl
+new_listed rows listing held now uid (id ∷ ids) = ap (λ (b : Bool). bytes_eq uid id || b) (new_listed rows listing held now uid ids)
+
+true_from_kept : (p : List ℕ → Bool) (ids : List (List ℕ)) (uid : List ℕ) → is_among (filter p ids) uid ≡ true → is_among ids uid ≡ true
+true_from_kept p ids uid there = elim (cases_Bool (is_among ids uid)) [ inl is ↦ is | inr none ↦ absurd (true≢false (sym there ∙ is_among-filter_false p ids uid none)) ]
+
+pub merge_is_short : (rows : List Row) (listing : List Item) (held : List Bool) (now : ℕ) → IsRecord (merged rows listing held now) → length (changed rows (merged rows listing held now)) ≤ length listing
+merge_is_short rows listing held now is =
+    omega (
+      arith,
+      no_more (map uid_of (changed rows (merged rows listing held now))) (listed listing) (changed_apart rows (merged rows listing held now) (ids_apart (merged rows listing held now) is))
+          (λ uid there. changed_listed listing held rows _ uid
+          (λ at. sym (is_among-distinct_ids uid (listed listing)) ∙ true_from_kept (λ id. not (has_row rows id)) (distinct_ids (listed listing)) uid (sym (new_listed rows listing held now uid (new_ids rows listing)) ∙ at))
+          there),
+      length-map (changed rows (merged rows listing held now)) uid_of,
+      length-map listing (λ (item : Item). item.uid),
+    )

@@ -1,0 +1,194 @@
+-- The lines of the record's file: how they are cut.
+use Rattle.std.proofs.Common.{◌≡◌, ◌≢◌, ℕ, ◌+◌, ◌<◌, ◌≤◌, ◌^◌, List, [], ◌∷◌, ◌++◌, Bool, true, false, Some, Bor, take, drop, length, refl, sym, ◌∙◌, ap, subst, append_assoc, arith, if◌then◌else◌}
+use Rattle.std.specs.Cmp.Lexicographic.{pointwise}
+use Rattle.std.proofs.lemmas.Slice.Eq.{strip_prefix_is}
+use Rattle.std.proofs.lemmas.Bool.Decides.{Decides-eqb}
+use Rattle.std.specs.Prelude.{All, nat_eq, MatchOption}
+use Rattle.std.specs.List.{AllByRecursion}
+use Rattle.std.specs.Fmt.{decimal}
+use Rattle.std.proofs.lemmas.List.Elements.{All-weaker, recursion_from_All}
+use Rattle.std.proofs.lemmas.Fmt.{decimal_injective}
+use Rattle.fetch_rules.specs.Record.{Row, IsRow}
+use Rattle.fetch_rules.specs.RecordFile.{header, state_of, line_of, group_line, Line, RowLine, GroupLine, text_of, IsLine}
+use Rattle.fetch_rules.proofs.IdLemmas.{id_characters}
+use Rattle.fetch_rules.proofs.NumeralLemmas.{none_below-decimal}
+
+-- the byte stands nowhere
+abbrev pub HasNo : ℕ → List ℕ → Type 0
+HasNo byte bytes = AllByRecursion (λ other. other ≢ byte) bytes
+
+pub same_cons : (c d : ℕ) (a b : List ℕ) → c ∷ a ≡ d ∷ b → (c ≡ d) × (a ≡ b)
+same_cons c d a b e = (cc, cc)
+
+pub cut_unique : (s : ℕ) (a b x y : List ℕ) → HasNo s a → HasNo s b → a ++ s ∷ x ≡ b ++ s ∷ y → (a ≡ b) × (x ≡ y)
+cut_unique s [] [] x y p q e = (refl, (same_cons s s x y e).1)
+cut_unique s [] (d ∷ b) x y p q e = absurd (q.0 (sym (same_cons s d x (b ++ s ∷ y) e).0))
+cut_unique s (c ∷ a) [] x y p q e = absurd (p.0 (same_cons c s (a ++ s ∷ x) y e).0)
+cut_unique s (c ∷ a) (d ∷ b) x y p q e =
+    let parts = same_cons c d (a ++ s ∷ x) (b ++ s ∷ y) e in
+    let rest = cut_unique s a b x y p.1 q.1 parts.1 in
+    (ap (λ (k : ℕ). k ∷ a) parts.0 ∙ ap (λ (xs : List ℕ). d ∷ xs) rest.0, rest.1)
+
+-- two ends of a word
+ends_clash : (s t : ℕ) (a b x y : List ℕ) → s ≢ t → HasNo t a → HasNo s b → a ++ s ∷ x ≡ b ++ t ∷ y → ⊥
+ends_clash s t [] [] x y other p q e = other (same_cons s t x y e).0
+ends_clash s t [] (d ∷ b) x y other p q e = q.0 (sym (same_cons s d x (b ++ t ∷ y) e).0)
+ends_clash s t (c ∷ a) [] x y other p q e = p.0 (same_cons c t (a ++ s ∷ x) y e).0
+ends_clash s t (c ∷ a) (d ∷ b) x y other p q e = ends_clash s t a b x y other p.1 q.1 (same_cons c d (a ++ s ∷ x) (b ++ t ∷ y) e).1
+
+HasNo-uid : (s : ℕ) → s < 0x21 → (row : Row) → IsRow row → HasNo s row.uid
+HasNo-uid s below row is = recursion_from_All _ row.uid (All-weaker (λ byte. (0x21 ≤ byte) × (byte ≤ 0x7E)) (λ byte. byte ≢ s) (λ byte within same. absurd (omega (arith, within.0, same, below))) row.uid (id_characters row.uid is.legal))
+
+HasNo-decimal : (s : ℕ) → s < 48 → (n : ℕ) → n < 2 ^ 64 → HasNo s (decimal n)
+HasNo-decimal s below n fits = recursion_from_All _ _ (none_below-decimal s n below fits)
+
+fits_of : (n : ℕ) → n ≤ 100000 → n < 2 ^ 64
+fits_of n small = omega (arith, small)
+
+-- the fields of a line
+pub line_split : (row : Row) (behind : List ℕ) → line_of row ++ behind ≡ row.uid ++ 32 ∷ (decimal row.first_seen ++ 32 ∷ (state_of row.delivered ++ behind))
+line_split row behind =
+    append_assoc row.uid (32 ∷ (decimal row.first_seen ++ 32 ∷ state_of row.delivered)) behind
+    ∙ ap (λ (xs : List ℕ). row.uid ++ 32 ∷ xs) (append_assoc (decimal row.first_seen) (32 ∷ state_of row.delivered) behind)
+
+pub group_split : (n : ℕ) (behind : List ℕ) → group_line n ++ behind ≡ 43 ∷ 32 ∷ (decimal n ++ 10 ∷ behind)
+group_split n behind = ap (λ (xs : List ℕ). 43 ∷ 32 ∷ xs) (append_assoc (decimal n) (10 ∷ []) behind)
+
+digits_differ : ◌≡◌ {A = ℕ} 48 49 → ⊥
+digits_differ e = omega arith
+
+pub state_unique : (a b : Bool) (x y : List ℕ) → state_of a ++ x ≡ state_of b ++ y → (a ≡ b) × (x ≡ y)
+state_unique true true x y e = (refl, (same_cons _ _ _ _ (same_cons _ _ _ _ e).1).1)
+state_unique false false x y e = (refl, (same_cons _ _ _ _ (same_cons _ _ _ _ e).1).1)
+state_unique true false x y e = absurd (digits_differ (sym (same_cons 49 48 _ _ e).0))
+state_unique false true x y e = absurd (digits_differ (same_cons 48 49 _ _ e).0)
+
+pub line_unique : (a b : Row) (x y : List ℕ) → IsRow a → IsRow b → line_of a ++ x ≡ line_of b ++ y → (a ≡ b) × (x ≡ y)
+line_unique a b x y is_a is_b e =
+    let ids = cut_unique 32 a.uid b.uid _ _ (HasNo-uid 32 (omega arith) a is_a) (HasNo-uid 32 (omega arith) b is_b) (sym (line_split a x) ∙ e ∙ line_split b y) in
+    let numbers = cut_unique 32 (decimal a.first_seen) (decimal b.first_seen) _ _ (HasNo-decimal 32 (omega arith) a.first_seen is_a.fits) (HasNo-decimal 32 (omega arith) b.first_seen is_b.fits) ids.1 in
+    let states = state_unique a.delivered b.delivered x y numbers.1 in
+    let seconds = decimal_injective a.first_seen b.first_seen is_a.fits is_b.fits numbers.0 in (
+      ap (λ (uid : List ℕ). record a { uid = uid }) ids.0 ∙ ap (λ (n : ℕ). record { uid = b.uid; first_seen = n; delivered = a.delivered }) seconds
+          ∙ ap (λ (d : Bool). record { uid = b.uid; first_seen = b.first_seen; delivered = d }) states.0,
+      states.1,
+    )
+
+feed_is_no_space : ◌≡◌ {A = ℕ} 32 10 → ⊥
+feed_is_no_space e = omega arith
+
+-- a row has three fields, the line of a group two
+row_no_group : (row : Row) (n : ℕ) (x y : List ℕ) → IsRow row → n ≤ 100000 → line_of row ++ x ≡ group_line n ++ y → ⊥
+row_no_group row n x y is small e =
+    let ids = cut_unique 32 row.uid (43 ∷ []) _ _ (HasNo-uid 32 (omega arith) row is) ((λ same. absurd (omega (arith, same))), tt) (sym (line_split row x) ∙ e ∙ group_split n y) in
+    ends_clash 32 10 (decimal row.first_seen) (decimal n) _ _ feed_is_no_space (HasNo-decimal 10 (omega arith) row.first_seen is.fits) (HasNo-decimal 32 (omega arith) n (fits_of n small)) ids.1
+
+pub text_unique : (a b : Line) (x y : List ℕ) → IsLine a → IsLine b → text_of a ++ x ≡ text_of b ++ y → (a ≡ b) × (x ≡ y)
+text_unique (RowLine a) (RowLine b) x y is_a is_b e = let same = line_unique a b x y is_a is_b e in (ap RowLine same.0, same.1)
+text_unique (RowLine a) (GroupLine n) x y is_a is_n e = absurd (row_no_group a n x y is_a is_n.1 e)
+text_unique (GroupLine n) (RowLine b) x y is_n is_b e = absurd (row_no_group b n y x is_b is_n.1 (sym e))
+text_unique (GroupLine m) (GroupLine n) x y is_m is_n e =
+    let plain = sym (group_split m x) ∙ e ∙ group_split n y in
+    let same = cut_unique 10 (decimal m) (decimal n) x y (HasNo-decimal 10 (omega arith) m (fits_of m is_m.1)) (HasNo-decimal 10 (omega arith) n (fits_of n is_n.1))
+    (same_cons 32 32 _ _ (same_cons 43 43 _ _ plain).1).1 in
+    (ap GroupLine (decimal_injective m n (fits_of m is_m.1) (fits_of n is_n.1) same.0), same.1)
+
+-- a line is its body and LF
+pub record HasBody (line : Line) : Type 0 where
+  pub body : List ℕ
+  pub plain : HasNo 10 body
+  pub text_is : (behind : List ℕ) → text_of line ++ behind ≡ body ++ 10 ∷ behind
+
+HasNo-append : (s : ℕ) (a b : List ℕ) → HasNo s a → HasNo s b → HasNo s (a ++ b)
+HasNo-append s [] b p q = q
+HasNo-append s (c ∷ a) b p q = (p.0, HasNo-append s a b p.1 q)
+
+state_body : (d : Bool) → HasNo 10 (32 ∷ (if d then 49 else 48) ∷ [])
+state_body true = ((λ same. absurd (omega (arith, same))), ((λ same. absurd (omega (arith, same))), tt))
+state_body false = ((λ same. absurd (omega (arith, same))), ((λ same. absurd (omega (arith, same))), tt))
+
+state_text : (d : Bool) (behind : List ℕ) → 32 ∷ (state_of d ++ behind) ≡ (32 ∷ (if d then 49 else 48) ∷ []) ++ 10 ∷ behind
+state_text true behind = refl
+state_text false behind = refl
+
+pub body_of : (line : Line) → IsLine line → HasBody line
+body_of (RowLine row) is = record {
+  body = row.uid ++ 32 ∷ (decimal row.first_seen ++ 32 ∷ (if row.delivered then 49 else 48) ∷ []);
+  plain = HasNo-append 10 row.uid _ (HasNo-uid 10 (omega arith) row is)
+      ((λ same. absurd (omega (arith, same))), HasNo-append 10 (decimal row.first_seen) _ (HasNo-decimal 10 (omega arith) row.first_seen is.fits) (state_body row.delivered));
+  text_is = λ behind.
+      line_split row behind
+      ∙ ap (λ (xs : List ℕ). row.uid ++ 32 ∷ (decimal row.first_seen ++ xs)) (state_text row.delivered behind)
+      ∙ sym (append_assoc row.uid (32 ∷ (decimal row.first_seen ++ 32 ∷ (if row.delivered then 49 else 48) ∷ [])) (10 ∷ behind)
+      ∙ ap (λ (xs : List ℕ). row.uid ++ 32 ∷ xs) (append_assoc (decimal row.first_seen) (32 ∷ (if row.delivered then 49 else 48) ∷ []) (10 ∷ behind)));
+}
+body_of (GroupLine n) is = record {
+  body = 43 ∷ 32 ∷ decimal n;
+  plain = ((λ same. absurd (omega (arith, same))), ((λ same. absurd (omega (arith, same))), HasNo-decimal 10 (omega arith) n (fits_of n is.1)));
+  text_is = λ behind. group_split n behind;
+}
+
+-- what has no LF holds no line
+pub uncut : (s : ℕ) (a y xs : List ℕ) → HasNo s xs → xs ≡ a ++ s ∷ y → ⊥
+uncut s a y xs none e = go a (subst (HasNo s) e none)
+  where
+    go : (front : List ℕ) → HasNo s (front ++ s ∷ y) → ⊥
+    go [] none' = none'.0 refl
+    go (c ∷ front) none' = go front none'.1
+
+pub no_line : (rest : List ℕ) → HasNo 10 rest → (line : Line) (behind : List ℕ) → IsLine line → rest ≡ text_of line ++ behind → ⊥
+no_line rest none line behind is e = let b = body_of line is in uncut 10 b.body behind rest none (e ∙ b.text_is behind)
+
+pub not_empty : (line : Line) (behind : List ℕ) → IsLine line → [] ≡ text_of line ++ behind → ⊥
+not_empty line behind is e = no_line [] tt line behind is e
+
+-- the fields of a row's line
+pub uid_of_line : (bytes uid rest : List ℕ) (row : Row) (behind : List ℕ) → bytes ≡ uid ++ 32 ∷ rest → All (λ byte. byte ≢ 32) uid → IsRow row → bytes ≡ line_of row ++ behind
+    → (uid ≡ row.uid) × (rest ≡ decimal row.first_seen ++ 32 ∷ (state_of row.delivered ++ behind))
+uid_of_line bytes uid rest row behind cut none is line =
+    cut_unique 32 uid row.uid rest _ (recursion_from_All _ uid none) (HasNo-uid 32 (omega arith) row is) (sym cut ∙ line ∙ line_split row behind)
+
+pub number_of_line : (rest number rest' : List ℕ) (row : Row) (behind : List ℕ) → rest ≡ number ++ 32 ∷ rest' → All (λ byte. byte ≢ 32) number → IsRow row
+    → rest ≡ decimal row.first_seen ++ 32 ∷ (state_of row.delivered ++ behind) → (number ≡ decimal row.first_seen) × (rest' ≡ state_of row.delivered ++ behind)
+number_of_line rest number rest' row behind cut none is line =
+    cut_unique 32 number (decimal row.first_seen) rest' _ (recursion_from_All _ number none) (HasNo-decimal 32 (omega arith) row.first_seen is.fits) (sym cut ∙ line)
+
+pub not_line-no_uid : (bytes : List ℕ) (row : Row) (behind : List ℕ) → All (λ byte. byte ≢ 32) bytes → bytes ≡ line_of row ++ behind → ⊥
+not_line-no_uid bytes row behind none line = uncut 32 row.uid _ bytes (recursion_from_All _ bytes none) (line ∙ line_split row behind)
+
+pub not_line-no_number : (rest : List ℕ) (row : Row) (behind : List ℕ) → All (λ byte. byte ≢ 32) rest → rest ≡ decimal row.first_seen ++ 32 ∷ (state_of row.delivered ++ behind) → ⊥
+not_line-no_number rest row behind none line = uncut 32 (decimal row.first_seen) _ rest (recursion_from_All _ rest none) line
+
+-- the number of a group's line
+pub behind_sign : (bytes line : List ℕ) (count : ℕ) (behind : List ℕ) → bytes ≡ 43 ∷ 32 ∷ line → bytes ≡ group_line count ++ behind → line ≡ decimal count ++ 10 ∷ behind
+behind_sign bytes line count behind bytes_are is =
+    (same_cons 32 32 _ _ (same_cons 43 43 _ _ (sym bytes_are ∙ is ∙ group_split count behind)).1).1
+
+pub count_of_line : (bytes line number rest : List ℕ) (count : ℕ) (behind : List ℕ) → bytes ≡ 43 ∷ 32 ∷ line → line ≡ number ++ 10 ∷ rest → All (λ byte. byte ≢ 10) number → count ≤ 100000 → bytes ≡ group_line count ++ behind
+    → number ≡ decimal count
+count_of_line bytes line number rest count behind bytes_are cut none small is =
+    (cut_unique 10 number (decimal count) rest behind (recursion_from_All _ number none) (HasNo-decimal 10 (omega arith) count (fits_of count small)) (sym cut ∙ behind_sign bytes line count behind bytes_are is)).0
+
+pub not_group-no_end : (bytes line : List ℕ) (count : ℕ) (behind : List ℕ) → bytes ≡ 43 ∷ 32 ∷ line → All (λ byte. byte ≢ 10) line → bytes ≡ group_line count ++ behind → ⊥
+not_group-no_end bytes line count behind bytes_are none is = uncut 10 (decimal count) behind line (recursion_from_All _ line none) (behind_sign bytes line count behind bytes_are is)
+
+pub same_count : (number : List ℕ) (m count : ℕ) → number ≡ decimal m → m < 2 ^ 64 → count ≤ 100000 → number ≡ decimal count → m ≡ count
+same_count number m count is fits small other = decimal_injective m count fits (fits_of count small) (sym is ∙ other)
+
+pub group_whole_line : (bytes line number rest : List ℕ) (count : ℕ) → bytes ≡ 43 ∷ 32 ∷ line → line ≡ number ++ 10 ∷ rest → number ≡ decimal count → bytes ≡ group_line count ++ rest
+group_whole_line bytes line number rest count bytes_are cut is =
+    bytes_are ∙ ap (λ (xs : List ℕ). 43 ∷ 32 ∷ xs) (cut ∙ ap (λ (xs : List ℕ). xs ++ 10 ∷ rest) is) ∙ sym (group_split count rest)
+
+-- neither kind
+pub neither_line : (bytes : List ℕ) → ((row : Row) (behind : List ℕ) → IsRow row → bytes ≡ line_of row ++ behind → ⊥)
+    → ((count : ℕ) (behind : List ℕ) → 1 ≤ count → count ≤ 100000 → bytes ≡ group_line count ++ behind → ⊥)
+    → (line : Line) (behind : List ℕ) → IsLine line → bytes ≡ text_of line ++ behind → ⊥
+neither_line bytes rows groups (RowLine row) behind is e = rows row behind is e
+neither_line bytes rows groups (GroupLine count) behind is e = groups count behind is.0 is.1 e
+
+-- what was stripped
+pub signed : (bytes : List ℕ) (line : Bor (List ℕ)) → MatchOption (Some line) (pointwise nat_eq (take 2 bytes) (43 ∷ 32 ∷ []) ≡ false) (λ x. (pointwise nat_eq (take 2 bytes) (43 ∷ 32 ∷ []) ≡ true) × (x.now ≡ drop 2 bytes) × (length x.now + 2 ≡ length bytes)) → bytes ≡ 43 ∷ 32 ∷ line.now
+signed bytes line cases = strip_prefix_is Decides-eqb bytes (43 ∷ 32 ∷ []) (Some line) cases
+
+pub stripped : (bytes : List ℕ) (lines : Bor (List ℕ)) → MatchOption (Some lines) (pointwise nat_eq (take (length header) bytes) header ≡ false) (λ x. (pointwise nat_eq (take (length header) bytes) header ≡ true) × (x.now ≡ drop (length header) bytes) × (length x.now + length header ≡ length bytes)) → bytes ≡ header ++ lines.now
+stripped bytes lines cases = strip_prefix_is Decides-eqb bytes header (Some lines) cases

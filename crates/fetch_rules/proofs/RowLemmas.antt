@@ -1,0 +1,232 @@
+-- The record's rows as the entries of a map.
+use Rattle.std.proofs.Common.{◌≡◌, ◌≢◌, ℕ, zero, suc, List, [], ◌∷◌, ◌++◌, take, Option, Some, None, Bool, true, false, ◌&&◌, ◌||◌, not, cond, get_or, refl, sym, ◌∙◌, ap, arith}
+use Rattle.std.specs.Prelude.{find, option_map, bytes_eq, is_some}
+use Rattle.std.specs.List.{AllByRecursion, list_any}
+use Rattle.std.specs.Bool.{OnTrue, OnFalse}
+use Rattle.std.specs.Global.{Vec}
+use Rattle.std.specs.Map.{lookup, set_value}
+use Rattle.std.proofs.lemmas.Bool.{true≢false}
+use Rattle.std.proofs.lemmas.List.Elements.{All-from_get_or, recursion_from_All}
+use Rattle.fetch_rules.specs.Record.{Row, IsRecord, is_of, has_row, marked, with_delivered, is_delivered}
+use Rattle.fetch_rules.specs.RecordFile.{changed}
+use Rattle.fetch_rules.specs.Rows.{row_from, row_of, rows_of, state_of, state_in}
+use Rattle.fetch_rules.specs.declared.seen.row_map.State.{State}
+use Rattle.fetch_rules.proofs.IdLemmas.{same_from_test, test_from_other}
+use Rattle.fetch_rules.proofs.RecordLemmas.{with_delivered-false, with_delivered-true, rows_differ, rest_of}
+
+pub lookup_state : (uid : List ℕ) (es : List (Vec ℕ × State)) → lookup (λ key. bytes_eq uid key.items) es ≡ state_in (rows_of es) uid
+lookup_state uid [] = refl
+lookup_state uid (e ∷ es) = by (bytes_eq uid e.0.items) (lookup_state uid es)
+  where
+    by : (here : Bool) → lookup (λ key. bytes_eq uid key.items) es ≡ state_in (rows_of es) uid
+        → cond here (Some e.1) (lookup (λ key. bytes_eq uid key.items) es) ≡ option_map state_of (cond here (Some (row_of e)) (find (is_of uid) (rows_of es)))
+    by true rest = refl
+    by false rest = rest
+
+-- no row behind that of an id is of it
+pub apart : (uid : List ℕ) (row : Row) (rows : List Row) → IsRecord (row ∷ rows) → is_of uid row ≡ true → AllByRecursion (λ other. is_of uid other ≡ false) rows
+apart uid row rows is here = recursion_from_All (λ other. is_of uid other ≡ false) rows (All-from_get_or (λ other. is_of uid other ≡ false) rows row (λ i inside.
+    test_from_other uid (get_or rows i row).uid (λ same. rows_differ (row ∷ rows) is 0 (suc i) row (omega arith) (omega (arith, inside)) (sym (same_from_test uid row.uid here) ∙ same))))
+
+pub unmarked : (uid : List ℕ) (rows : List Row) → AllByRecursion (λ other. is_of uid other ≡ false) rows → marked rows uid ≡ rows
+unmarked uid [] none = refl
+unmarked uid (row ∷ rows) none =
+    ap (λ (b : Bool). with_delivered b row ∷ marked rows uid) none.0
+    ∙ ap (λ (r : Row). r ∷ marked rows uid) (with_delivered-false row)
+    ∙ ap (λ (rs : List Row). row ∷ rs) (unmarked uid rows none.1)
+
+set_here : (uid : List ℕ) (es : List (Vec ℕ × State)) (state new : State) → IsRecord (rows_of es) → lookup (λ key. bytes_eq uid key.items) es ≡ Some state → new ≡ record state { delivered = true }
+    → rows_of (set_value (λ key. bytes_eq uid key.items) es new) ≡ marked (rows_of es) uid
+set_here uid [] state new is found new_is = refl
+set_here uid (e ∷ es) state new is found new_is = by (bytes_eq uid e.0.items) refl found (λ at. set_here uid es state new (rest_of (row_of e) (rows_of es) is) at new_is)
+  where
+    by : (here : Bool) → bytes_eq uid e.0.items ≡ here → cond here (Some e.1) (lookup (λ key. bytes_eq uid key.items) es) ≡ Some state
+        → (lookup (λ key. bytes_eq uid key.items) es ≡ Some state → rows_of (set_value (λ key. bytes_eq uid key.items) es new) ≡ marked (rows_of es) uid)
+        → rows_of (cond here ((e.0, new) ∷ es) (e ∷ set_value (λ key. bytes_eq uid key.items) es new)) ≡ marked (row_of e ∷ rows_of es) uid
+    by true test at rest =
+        ap (λ (s : State). row_of (e.0, s) ∷ rows_of es) (new_is ∙ ap (λ (s : State). record s { delivered = true }) (sym (some_same e.1 state at)))
+        ∙ ap (λ (r : Row). r ∷ rows_of es) (sym (with_delivered-true (row_of e)))
+        ∙ ap (λ (b : Bool). with_delivered b (row_of e) ∷ rows_of es) (sym test)
+        ∙ ap (λ (rs : List Row). with_delivered (is_of uid (row_of e)) (row_of e) ∷ rs) (sym (unmarked uid (rows_of es) (apart uid (row_of e) (rows_of es) is test)))
+      where
+        some_same : (s t : State) → Some s ≡ Some t → s ≡ t
+        some_same s t same = cc
+    by false test at rest =
+        ap (λ (rs : List Row). row_of e ∷ rs) (rest at)
+        ∙ ap (λ (r : Row). r ∷ marked (rows_of es) uid) (sym (with_delivered-false (row_of e)))
+        ∙ ap (λ (b : Bool). with_delivered b (row_of e) ∷ marked (rows_of es) uid) (sym test)
+
+pub marked_from_set : (uid : List ℕ) (es fs : List (Vec ℕ × State)) (state new : State) → IsRecord (rows_of es) → Some state ≡ lookup (λ key. bytes_eq uid key.items) es → new ≡ record state { delivered = true }
+    → fs ≡ set_value (λ key. bytes_eq uid key.items) es new → rows_of fs ≡ marked (rows_of es) uid
+marked_from_set uid es fs state new is found new_is fs_is = ap rows_of fs_is ∙ set_here uid es state new is (sym found) new_is
+
+none_here : (uid : List ℕ) (rows : List Row) → state_in rows uid ≡ None → AllByRecursion (λ other. is_of uid other ≡ false) rows
+none_here uid [] none = tt
+none_here uid (row ∷ rows) none = by (is_of uid row) refl none (λ at. none_here uid rows at)
+  where
+    no_some : (s : State) → Some s ≡ None → ⊥
+    no_some s e = cc
+
+    by : (here : Bool) → is_of uid row ≡ here → option_map state_of (cond here (Some row) (find (is_of uid) rows)) ≡ None
+        → (state_in rows uid ≡ None → AllByRecursion (λ other. is_of uid other ≡ false) rows) → AllByRecursion (λ other. is_of uid other ≡ false) (row ∷ rows)
+    by true test at rest = absurd (no_some (state_of row) at)
+    by false test at rest = (test, rest at)
+
+pub unmarked_none : (uid : List ℕ) (rows : List Row) → state_in rows uid ≡ None → marked rows uid ≡ rows
+unmarked_none uid rows none = unmarked uid rows (none_here uid rows none)
+
+-- what a mark changes
+pub unchanged : (rows : List Row) → changed rows rows ≡ []
+unchanged [] = refl
+unchanged (row ∷ rows) = by row.delivered (unchanged rows)
+  where
+    by : (d : Bool) → changed rows rows ≡ [] → cond (d && not d) (row ∷ changed rows rows) (changed rows rows) ≡ []
+    by true rest = rest
+    by false rest = rest
+
+pub changed-marked : (uid : List ℕ) (rows : List Row) (state : State) → IsRecord rows → state_in rows uid ≡ Some state → state.delivered ≡ false
+    → changed rows (marked rows uid) ≡ record { uid = uid; first_seen = state.first_seen; delivered = true } ∷ []
+changed-marked uid [] state is found fresh = absurd (no_none state found)
+  where
+    no_none : (s : State) → None ≡ Some s → ⊥
+    no_none s e = cc
+changed-marked uid (row ∷ rows) state is found fresh = by (is_of uid row) refl found (λ at. changed-marked uid rows state (rest_of row rows is) at fresh)
+  where
+    some_same : (s t : State) → Some s ≡ Some t → s ≡ t
+    some_same s t same = cc
+
+    by : (here : Bool) → is_of uid row ≡ here → option_map state_of (cond here (Some row) (find (is_of uid) rows)) ≡ Some state
+        → (state_in rows uid ≡ Some state → changed rows (marked rows uid) ≡ record { uid = uid; first_seen = state.first_seen; delivered = true } ∷ [])
+        → changed (row ∷ rows) (marked (row ∷ rows) uid) ≡ record { uid = uid; first_seen = state.first_seen; delivered = true } ∷ []
+    by true test at rest =
+        let same = some_same (state_of row) state at in
+        ap (λ (rs : List Row). changed (row ∷ rows) (with_delivered (is_of uid row) row ∷ rs)) (unmarked uid rows (apart uid row rows is test))
+        ∙ ap (λ (b : Bool). changed (row ∷ rows) (with_delivered b row ∷ rows)) test
+        ∙ ap (λ (r : Row). changed (row ∷ rows) (r ∷ rows)) (with_delivered-true row)
+        ∙ ap (λ (d : Bool). cond (true && not d) (record row { delivered = true } ∷ changed rows rows) (changed rows rows)) (ap (λ (s : State). s.delivered) same ∙ fresh)
+        ∙ ap (λ (rs : List Row). record row { delivered = true } ∷ rs) (unchanged rows)
+        ∙ ap (λ (u : List ℕ). record { uid = u; first_seen = row.first_seen; delivered = true } ∷ []) (sym (same_from_test uid row.uid test))
+        ∙ ap (λ (s : State). record { uid = uid; first_seen = s.first_seen; delivered = true } ∷ []) same
+    by false test at rest =
+        ap (λ (b : Bool). changed (row ∷ rows) (with_delivered b row ∷ marked rows uid)) test
+        ∙ ap (λ (r : Row). changed (row ∷ rows) (r ∷ marked rows uid)) (with_delivered-false row)
+        ∙ kept row.delivered
+        ∙ rest at
+      where
+        kept : (d : Bool) → cond (d && not d) (row ∷ changed rows (marked rows uid)) (changed rows (marked rows uid)) ≡ changed rows (marked rows uid)
+        kept true = refl
+        kept false = refl
+
+-- an id that was delivered stays as it is
+pub marked-delivered : (uid : List ℕ) (rows : List Row) (state : State) → IsRecord rows → state_in rows uid ≡ Some state → state.delivered ≡ true → marked rows uid ≡ rows
+marked-delivered uid [] state is found old = refl
+marked-delivered uid (row ∷ rows) state is found old = by (is_of uid row) refl found (λ at. marked-delivered uid rows state (rest_of row rows is) at old)
+  where
+    some_same : (s t : State) → Some s ≡ Some t → s ≡ t
+    some_same s t same = cc
+
+    by : (here : Bool) → is_of uid row ≡ here → option_map state_of (cond here (Some row) (find (is_of uid) rows)) ≡ Some state
+        → (state_in rows uid ≡ Some state → marked rows uid ≡ rows) → marked (row ∷ rows) uid ≡ row ∷ rows
+    by true test at rest =
+        ap (λ (b : Bool). with_delivered b row ∷ marked rows uid) test
+        ∙ ap (λ (r : Row). r ∷ marked rows uid) (with_delivered-true row ∙ ap (λ (d : Bool). record row { delivered = d }) (sym (ap (λ (s : State). s.delivered) (some_same (state_of row) state at) ∙ old)))
+        ∙ ap (λ (rs : List Row). row ∷ rs) (unmarked uid rows (apart uid row rows is test))
+    by false test at rest =
+        ap (λ (b : Bool). with_delivered b row ∷ marked rows uid) test
+        ∙ ap (λ (r : Row). r ∷ marked rows uid) (with_delivered-false row)
+        ∙ ap (λ (rs : List Row). row ∷ rs) (rest at)
+
+-- what a mark answers
+no_nil : (row : Row) → row ∷ [] ≡ [] → ⊥
+no_nil row e = cc
+
+pub mark_changes : (uid : List ℕ) (rows new : List Row) (state : State) → IsRecord rows → state_in rows uid ≡ Some state → new ≡ marked rows uid → OnTrue (not state.delivered) (new ≢ rows)
+mark_changes uid rows new state is found new_is = by state.delivered refl
+  where
+    by : (d : Bool) → state.delivered ≡ d → OnTrue (not d) (new ≢ rows)
+    by true old = tt
+    by false fresh = λ same. no_nil _ (sym (changed-marked uid rows state is found fresh) ∙ ap (changed rows) (sym new_is ∙ same) ∙ unchanged rows)
+
+pub mark_leaves : (uid : List ℕ) (rows new : List Row) (state : State) → IsRecord rows → state_in rows uid ≡ Some state → new ≡ marked rows uid → OnFalse (not state.delivered) (new ≡ rows)
+mark_leaves uid rows new state is found new_is = by state.delivered refl
+  where
+    by : (d : Bool) → state.delivered ≡ d → OnFalse (not d) (new ≡ rows)
+    by true old = new_is ∙ marked-delivered uid rows state is found old
+    by false fresh = tt
+
+-- look-ups
+pub first_seen-state : (uid : List ℕ) (rows : List Row) → option_map (λ state. state.first_seen) (state_in rows uid) ≡ option_map (λ row. row.first_seen) (find (is_of uid) rows)
+first_seen-state uid rows = by (find (is_of uid) rows)
+  where
+    by : (found : Option Row) → option_map (λ state. state.first_seen) (option_map state_of found) ≡ option_map (λ row. row.first_seen) found
+    by None = refl
+    by (Some row) = refl
+
+not_delivered : (uid : List ℕ) (rows : List Row) → AllByRecursion (λ other. is_of uid other ≡ false) rows → is_delivered rows uid ≡ false
+not_delivered uid [] none = refl
+not_delivered uid (row ∷ rows) none = ap (λ (b : Bool). (b && row.delivered) || is_delivered rows uid) none.0 ∙ not_delivered uid rows none.1
+
+pub is_delivered-none : (uid : List ℕ) (rows : List Row) → state_in rows uid ≡ None → is_delivered rows uid ≡ false
+is_delivered-none uid rows none = not_delivered uid rows (none_here uid rows none)
+
+pub is_delivered-some : (uid : List ℕ) (rows : List Row) (state : State) → IsRecord rows → state_in rows uid ≡ Some state → is_delivered rows uid ≡ state.delivered
+is_delivered-some uid [] state is found = absurd (no_none state found)
+  where
+    no_none : (s : State) → None ≡ Some s → ⊥
+    no_none s e = cc
+is_delivered-some uid (row ∷ rows) state is found = by (is_of uid row) refl found (λ at. is_delivered-some uid rows state (rest_of row rows is) at)
+  where
+    some_same : (s t : State) → Some s ≡ Some t → s ≡ t
+    some_same s t same = cc
+
+    or_false : (d : Bool) → d || false ≡ d
+    or_false true = refl
+    or_false false = refl
+
+    by : (here : Bool) → is_of uid row ≡ here → option_map state_of (cond here (Some row) (find (is_of uid) rows)) ≡ Some state
+        → (state_in rows uid ≡ Some state → is_delivered rows uid ≡ state.delivered) → is_delivered (row ∷ rows) uid ≡ state.delivered
+    by true test at rest =
+        ap (λ (b : Bool). (b && row.delivered) || is_delivered rows uid) test
+        ∙ ap (λ (b : Bool). row.delivered || b) (not_delivered uid rows (apart uid row rows is test))
+        ∙ or_false row.delivered
+        ∙ ap (λ (s : State). s.delivered) (some_same (state_of row) state at)
+    by false test at rest =
+        ap (λ (b : Bool). (b && row.delivered) || is_delivered rows uid) test
+        ∙ rest at
+
+pub state_in-none : (uid : List ℕ) (rows : List Row) → list_any (is_of uid) rows ≡ false → state_in rows uid ≡ None
+state_in-none uid [] none = refl
+state_in-none uid (row ∷ rows) none = by (is_of uid row) none (λ at. state_in-none uid rows at)
+  where
+    by : (here : Bool) → here || list_any (is_of uid) rows ≡ false → (list_any (is_of uid) rows ≡ false → state_in rows uid ≡ None) → option_map state_of (cond here (Some row) (find (is_of uid) rows)) ≡ None
+    by true at rest = absurd (true≢false at)
+    by false at rest = rest at
+
+pub rows_of-append : (es fs : List (Vec ℕ × State)) → rows_of (es ++ fs) ≡ rows_of es ++ rows_of fs
+rows_of-append [] fs = refl
+rows_of-append (e ∷ es) fs = ap (λ (rs : List Row). row_of e ∷ rs) (rows_of-append es fs)
+
+pub rows_of-take : (n : ℕ) (es : List (Vec ℕ × State)) → rows_of (take n es) ≡ take n (rows_of es)
+rows_of-take zero es = refl
+rows_of-take (suc n) [] = refl
+rows_of-take (suc n) (e ∷ es) = ap (λ (rs : List Row). row_of e ∷ rs) (rows_of-take n es)
+
+pub pushed : (uid : List ℕ) (state : State) (es fs : List (Vec ℕ × State)) (rows : List Row) (key : Vec ℕ) → rows_of es ≡ rows → key.items ≡ uid → fs ≡ es ++ (key, state) ∷ []
+    → rows_of fs ≡ rows ++ row_from uid state ∷ []
+pushed uid state es fs rows key rows_are key_is fs_is =
+    ap rows_of fs_is ∙ rows_of-append es _
+    ∙ ap (λ (rs : List Row). rs ++ row_from key.items state ∷ []) rows_are
+    ∙ ap (λ (u : List ℕ). rows ++ row_from u state ∷ []) key_is
+
+pub lookup_has : (uid : List ℕ) (es : List (Vec ℕ × State)) → is_some (lookup (λ key. bytes_eq uid key.items) es) ≡ has_row (rows_of es) uid
+lookup_has uid [] = refl
+lookup_has uid (e ∷ es) = by (bytes_eq uid e.0.items) (lookup_has uid es)
+  where
+    by : (here : Bool) → is_some (lookup (λ key. bytes_eq uid key.items) es) ≡ has_row (rows_of es) uid
+        → is_some (cond here (Some e.1) (lookup (λ key. bytes_eq uid key.items) es)) ≡ here || has_row (rows_of es) uid
+    by true rest = refl
+    by false rest = rest
+
+pub absent : (uid : List ℕ) (es : List (Vec ℕ × State)) (rows : List Row) (key : List ℕ) → rows_of es ≡ rows → key ≡ uid → list_any (is_of uid) rows ≡ false → lookup (λ other. bytes_eq key other.items) es ≡ None
+absent uid es rows key rows_are key_is none =
+    lookup_state key es ∙ ap (λ (rs : List Row). state_in rs key) rows_are ∙ ap (λ (u : List ℕ). state_in rows u) key_is ∙ state_in-none uid rows none

@@ -1,7 +1,0 @@
-use Rattle.std.proofs.Common.{take}
-use Rattle.std.specs.Prelude.{zip}
-use Rattle.fetch_rules.proofs.MergeLemmas.{HasMarked}
-use Rattle.fetch_rules.proofs.seen.Seen.mark_held.Given as goal
-
-abbrev pub invariant-loop-i : goal.invariant-loop-i
-invariant-loop-i l = HasMarked (take l.i (zip l.listing l.held)) l.initial.self l.changed l.self

@@ -1,0 +1,7 @@
+use Rattle.std.proofs.Common.{◌≤◌}
+use Rattle.fetch_rules.specs.Record.{is_flagged, Row}
+use Rattle.fetch_rules.proofs.GrowthLemmas.{HasWritten}
+use Rattle.fetch_rules.proofs.seen.row_map.RowMap.group_of_changes.Given as goal
+
+abbrev pub invariant-loop-place : goal.invariant-loop-place
+invariant-loop-place g l = HasWritten l.count (λ (row : Row). is_flagged l.listing l.held row.uid) l.self l.place l.changes l.lines.items × (l.changes ≤ l.place)

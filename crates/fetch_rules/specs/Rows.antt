@@ -1,0 +1,24 @@
+-- The record's rows as the reader and the map have them.
+use Rattle.std.specs.Prelude.{ℕ, List, Option, map, find, option_map}
+use Rattle.std.specs.Global.{Vec}
+use Rattle.fetch_rules.specs.Record.{Row, is_of}
+use Rattle.fetch_rules.specs.declared.seen.row_map.State.{State}
+
+-- the row of an id and what is known of its message
+abbrev pub row_from : List ℕ → State → Row
+row_from uid state = record { uid = uid; first_seen = state.first_seen; delivered = state.delivered }
+
+abbrev pub row_of : Vec ℕ × State → Row
+row_of entry = row_from entry.0.items entry.1
+
+-- the entries of the map, as rows
+abbrev pub rows_of : List (Vec ℕ × State) → List Row
+rows_of entries = map row_of entries
+
+-- what is known of a row's message
+abbrev pub state_of : Row → State
+state_of row = record { first_seen = row.first_seen; delivered = row.delivered }
+
+-- what is known of an id's message, if it has a row
+abbrev pub state_in : List Row → List ℕ → Option State
+state_in rows uid = option_map state_of (find (is_of uid) rows)

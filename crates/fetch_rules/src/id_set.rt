@@ -1,0 +1,46 @@
+//! Sets of unique-ids. Ids are compared and never hashed: a server chooses them.
+
+ghost use Rattle.std.specs.Prelude.{◌≡◌, ◌||◌, not, ℕ, List, Bool, bytes_eq, false, OnOk, IfOk};
+ghost use Rattle.fetch_rules.specs.IdSet.{is_among};
+
+use std::alloc::{AllocError, Global};
+use std::collections::BTreeSet;
+use std::marker::Model;
+
+/// Ids that stand in a listing.
+#[derive(Drop)]
+pub(crate) struct IdSet<'a> {
+    ids: BTreeSet<&'a [u8]>,
+}
+
+impl<'a> Model for IdSet<'a> {
+    ghost use Rattle.std.specs.Prelude.{List, ℕ, map};
+
+    ghost Value = { List (List ℕ) };
+
+    ghost view = { λ set. map (λ id. id.now) set.ids.keys };
+}
+
+impl<'a> IdSet<'a> {
+    pub(crate) fn new(alloc: Global) -> IdSet<'a>
+        ensures { (id : List ℕ) → is_among result id ≡ false }
+    {
+        IdSet {
+            ids: BTreeSet::new(alloc),
+        }
+    }
+
+    /// Adds an id. Says whether it was new.
+    pub(crate) fn insert(&mut self, uid: &'a [u8]) -> Result<bool, AllocError>
+        ensures added { IfOk result (λ added. added ≡ not (is_among self.old uid.now)) }
+        ensures ids { OnOk result ((id : List ℕ) → is_among self.new id ≡ (bytes_eq id uid.now || is_among self.old id)) }
+    {
+        Ok(self.ids.insert(uid)?)
+    }
+
+    pub(crate) fn has(&self, uid: &[u8]) -> bool
+        ensures { result ≡ is_among self.now uid.now }
+    {
+        self.ids.contains(uid)
+    }
+}

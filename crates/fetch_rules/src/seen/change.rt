@@ -1,0 +1,136 @@
+//! How a listing changes the rows of a record.
+
+ghost use Rattle.std.specs.Prelude.{◌≡◌, ◌≢◌, ◌≤◌, ◌++◌, ℕ, List, length, map, take, OnOk, OnErr, IfOk};
+ghost use Rattle.std.specs.Bool.{OnTrue, OnFalse};
+ghost use Rattle.mail_terms.specs.Listing.{message_limit};
+ghost use Rattle.fetch_rules.specs.Record.{IsRecord, marked, with_held, new_ids, undelivered, is_flagged};
+ghost use Rattle.fetch_rules.specs.RecordFile.{changed, written};
+ghost use Rattle.fetch_rules.specs.IdSet.{is_among};
+
+use crate::id_set::IdSet;
+use crate::seen::line::{group, write_line};
+use crate::seen::row_map::{RowMap, State};
+use mail_terms::Listing;
+use std::alloc::{AllocError, Global};
+use std::hash::BuildHasher;
+
+/// The ids of the items that are held.
+fn held_ids<'a>(alloc: Global, listing: &'a Listing, held: &[bool]) -> Result<IdSet<'a>, AllocError>
+    requires { length held.now ≡ length listing.now }
+    ensures { IfOk result (λ ids. (uid : List ℕ) → is_among ids uid ≡ is_flagged listing.now held.now uid) }
+{
+    let mut ids = IdSet::new(alloc);
+    for i in 0..listing.len() {
+        if held[i as usize] {
+            ids.insert(listing.uid(i))?;
+        }
+    }
+    Ok(ids)
+}
+
+impl<H: BuildHasher> RowMap<H> {
+    /// Sets delivered for the id, if it has a row. Says whether this changed the row.
+    pub(crate) fn mark(&mut self, uid: &[u8]) -> bool
+        ensures rows { self.new ≡ marked self.old uid.now }
+        ensures changed { OnTrue result (self.new ≢ self.old) }
+        ensures unchanged { OnFalse result (self.new ≡ self.old) }
+        ensures is_record { IsRecord self.new }
+    {
+        let Some(state) = self.state(uid) else {
+            return false;
+        };
+        self.set_delivered(uid);
+        !state.delivered
+    }
+
+    /// Adds a row for each id of the listing that has none, until memory is wanting.
+    fn add_until_refused(&mut self, listing: &Listing, now: u64) -> Result<(), AllocError>
+        ensures rows { OnOk result (self.new ≡ self.old ++ map (undelivered now) (new_ids self.old listing.now)) }
+        ensures limit { length listing.now ≤ message_limit }
+        ensures front { take (length self.old) self.new ≡ self.old }
+        ensures is_record { IsRecord self.new }
+    {
+        // The loop below starts from what is always true of the rows.
+        let _ = self.len();
+        for i in 0..listing.len() {
+            let uid = listing.uid(i);
+            if self.has(uid) {
+                continue;
+            }
+            let state = State {
+                first_seen: now,
+                delivered: false,
+            };
+            self.add(uid, state)?;
+        }
+        Ok(())
+    }
+
+    /// Adds a row for each id of the listing that has none. After want of memory nothing has
+    /// changed.
+    pub(crate) fn add_listed(&mut self, listing: &Listing, now: u64) -> Result<(), AllocError>
+        ensures rows { OnOk result (self.new ≡ self.old ++ map (undelivered now) (new_ids self.old listing.now)) }
+        ensures limit { length listing.now ≤ message_limit }
+        ensures err { OnErr result (self.new ≡ self.old) }
+        ensures is_record { IsRecord self.new }
+    {
+        let count = self.len();
+        let added = self.add_until_refused(listing, now);
+        if added.is_err() {
+            self.keep_first(count);
+        }
+        added
+    }
+
+    /// Sets delivered for the held items' ids. Says whether this changed a row.
+    pub(crate) fn mark_held(&mut self, listing: &Listing, held: &[bool]) -> bool
+        requires { length held.now ≡ length listing.now }
+        ensures rows { self.new ≡ with_held listing.now held.now self.old }
+        ensures changed { OnTrue result (self.new ≢ self.old) }
+        ensures unchanged { OnFalse result (self.new ≡ self.old) }
+        ensures is_record { IsRecord self.new }
+    {
+        let _ = self.len();
+        let mut changed = false;
+        for i in 0..listing.len() {
+            if held[i as usize] {
+                changed |= self.mark(listing.uid(i));
+            }
+        }
+        changed
+    }
+
+    /// The group of the rows that change where the held items' ids are marked, and of all rows from
+    /// place `count` on, which were added before.
+    pub(crate) fn group_of_changes(
+        &self,
+        alloc: Global,
+        listing: &Listing,
+        held: &[bool],
+        count: usize,
+    ) -> Result<Vec<u8>, AllocError>
+        requires flags { length held.now ≡ length listing.now }
+        requires within { count ≤ length self.now }
+        ensures { IfOk result (λ bytes. bytes.items ≡ written (changed (take count self.now) (with_held listing.now held.now self.now))) }
+    {
+        let ids = held_ids(alloc, listing, held)?;
+        let mut lines = Vec::new(alloc);
+        let mut changes: usize = 0;
+        for place in 0..self.len() {
+            let (uid, state) = self.at(place);
+            let delivered = state.delivered || ids.has(uid);
+            if place < count && delivered == state.delivered {
+                continue;
+            }
+            let first_seen = state.first_seen;
+            let state = State {
+                first_seen,
+                delivered,
+            };
+            write_line(alloc, &mut lines, uid, state)?;
+            changes += 1;
+        }
+        let bytes = group(alloc, changes, &lines)?;
+        Ok(bytes)
+    }
+}

@@ -1,0 +1,120 @@
+//! The rows of a record as a map from id to what is known of its message, in order of first
+//! appearance.
+
+ghost use Rattle.std.specs.Prelude.{◌≡◌, ◌<◌, ◌++◌, [], ◌∷◌, false, length, take, OnOk, OnErr, HoldsAt};
+ghost use Rattle.mail_terms.specs.UniqueId.{IsLegalId};
+ghost use Rattle.fetch_rules.specs.Record.{IsRecord, has_row, marked};
+ghost use Rattle.fetch_rules.specs.Rows.{row_from, state_in};
+
+use indexmap::IndexMap;
+use std::alloc::{AllocError, Global};
+use std::hash::BuildHasher;
+use std::marker::Model;
+
+/// What is known of one message.
+#[derive(Clone, Copy)]
+pub struct State {
+    /// The second since 1970 at which it was first listed.
+    pub first_seen: u64,
+    pub delivered: bool,
+}
+
+/// The rows, each id once.
+#[derive(Drop)]
+pub(crate) struct RowMap<H: BuildHasher> {
+    alloc: Global,
+    states: IndexMap<Vec<u8>, State, H>,
+}
+
+impl<H: BuildHasher> Model for RowMap<H> {
+    ghost use Rattle.std.specs.Prelude.{List};
+    ghost use Rattle.fetch_rules.specs.Record.{Row, IsRecord};
+    ghost use Rattle.fetch_rules.specs.Rows.{rows_of};
+
+    ghost Value = { List Row };
+
+    ghost view = { λ rows. rows_of rows.states.entries };
+
+    ghost invariant = { λ rows. IsRecord (rows_of rows.states.entries) };
+}
+
+impl<H: BuildHasher> RowMap<H> {
+    pub(crate) fn new(alloc: Global, hasher: H) -> RowMap<H>
+        ensures { result ≡ [] }
+    {
+        RowMap {
+            alloc,
+            states: IndexMap::with_hasher(alloc, hasher),
+        }
+    }
+
+    pub(crate) fn len(&self) -> usize
+        ensures count { result ≡ length self.now }
+        ensures is_record { IsRecord self.now }
+    {
+        self.states.len()
+    }
+
+    /// The row at a place: its id, and what is known of its message.
+    pub(crate) fn at(&self, place: usize) -> (&[u8], State)
+        requires { place < length self.now }
+        ensures { HoldsAt (λ row. row ≡ row_from result.0.now result.1) self.now place }
+    {
+        let (uid, state) = self.states.get_index(place).unwrap();
+        (uid, *state)
+    }
+
+    /// Whether an id has a row.
+    pub(crate) fn has(&self, uid: &[u8]) -> bool
+        ensures { result ≡ has_row self.now uid.now }
+    {
+        self.states.contains_key(uid)
+    }
+
+    /// What is known of an id's message, if it has a row.
+    pub(crate) fn state(&self, uid: &[u8]) -> Option<State>
+        ensures value { result ≡ state_in self.now uid.now }
+        ensures is_record { IsRecord self.now }
+    {
+        self.states.get(uid).copied()
+    }
+
+    /// Sets delivered for the id, if it has a row.
+    pub(crate) fn set_delivered(&mut self, uid: &[u8])
+        ensures rows { self.new ≡ marked self.old uid.now }
+        ensures is_record { IsRecord self.new }
+    {
+        match self.states.get_mut(uid) {
+            Some(state) => state.delivered = true,
+            None => {}
+        }
+    }
+
+    /// Adds a row for an id that has none.
+    pub(crate) fn add(&mut self, uid: &[u8], state: State) -> Result<(), AllocError>
+        requires legal { IsLegalId uid.now }
+        requires new { has_row self.old uid.now ≡ false }
+        ensures ok { OnOk result (self.new ≡ self.old ++ row_from uid.now state ∷ []) }
+        ensures err { OnErr result (self.new ≡ self.old) }
+        ensures is_record { IsRecord self.new }
+    {
+        let id = Vec::from_slice(self.alloc, uid)?;
+        self.states.insert(id, state)?;
+        Ok(())
+    }
+
+    /// Keeps the first rows alone.
+    pub(crate) fn keep_first(&mut self, count: usize)
+        ensures rows { self.new ≡ take count self.old }
+        ensures is_record { IsRecord self.new }
+    {
+        self.states.truncate(count);
+    }
+
+    pub(crate) fn clear(&mut self)
+        ensures rows { self.new ≡ [] }
+        ensures is_record { IsRecord self.new }
+    {
+        self.states.clear();
+    }
+}
