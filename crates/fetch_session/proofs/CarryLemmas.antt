@@ -48,53 +48,53 @@ said account turn reply a b maildir file rows lines talked = record {
   went = record { talked = talked; stored = gained_none maildir; rows = refl; saved = λ stands. stands; file_count = omega arith; lines = sym (append-nil lines) };
 }
 
-module _ (settings : Settings) (account : List ℕ) (items : List Item) (now : ℕ) (place : Place) (maildir : Maildir) (file : Stored) (lines : List ReportLine) (ready : Ready) (maildir' : Maildir) (file' : Stored)
-    (is : IsReady settings account items now maildir file ready maildir' file') (steps : List Step) (held : List Bool) (steps_are : steps ≡ ready.steps.items) (held_are : held ≡ ready.held.items)
+module _ (settings : Settings) (account : List ℕ) (items : List Item) (now : ℕ) (place : Place) (maildir : Maildir) (file : Stored) (lines : List ReportLine) (ready : Ready) (after : List Row) (maildir' : Maildir) (file' : Stored)
+    (is : IsReady settings account items now maildir file ready after maildir' file') (steps : List Step) (held : List Bool) (steps_are : steps ≡ ready.steps.items) (held_are : held ≡ ready.held.items)
     (skipped : ℕ) (skipped_is : skipped ≡ skipped_in steps) where
   mid : Scene
-  mid = scene place maildir' file' ready.seen lines
+  mid = scene place maildir' file' after lines
 
-  prepared : Prepared account items now place maildir file lines (scene place maildir' file' ready.seen lines)
+  prepared : Prepared account items now place maildir file lines (scene place maildir' file' after lines)
   prepared = record { was = is.was; stood = is.stood; rows = is.rows; saved = is.saved; file_count = is.file_count; place_is = refl; maildir_is = is.maildir_is; lines_are = refl }
 
-  skips : skipped ≡ skipped_in (planned settings ready.seen items now)
+  skips : skipped ≡ skipped_in (planned settings after items now)
   skips = skipped_is ∙ ap skipped_in (steps_are ∙ is.steps)
 
-  same_tasks : tasks_planned steps items held ++ says quit ∷ [] ≡ tasks_ahead settings account items now maildir ready.seen
+  same_tasks : tasks_planned steps items held ++ says quit ∷ [] ≡ tasks_ahead settings account items now maildir after
   same_tasks = ap (λ (ss : List Step). tasks_planned ss items held ++ says quit ∷ []) (steps_are ∙ is.steps)
-      ∙ ap (λ (hs : List Bool). tasks_planned (planned settings ready.seen items now) items hs ++ says quit ∷ []) (held_are ∙ is.held)
+      ∙ ap (λ (hs : List Bool). tasks_planned (planned settings after items now) items hs ++ says quit ∷ []) (held_are ∙ is.held)
 
-  pub carry_fell : (new : Scene) (fault : Cut) → Fell account (tasks_planned steps items held) (scene place maildir' file' ready.seen lines) fault new
+  pub carry_fell : (new : Scene) (fault : Cut) → Fell account (tasks_planned steps items held) (scene place maildir' file' after lines) fault new
       → Carried settings account items now place maildir file lines (Err fault) new skipped
   carry_fell new fault fell = record {
-    mid = scene place maildir' file' ready.seen lines;
+    mid = scene place maildir' file' after lines;
     prepared = prepared;
     skips = skips;
-    does = subst (λ (ts : List Task). Fell account ts (scene place maildir' file' ready.seen lines) fault new) same_tasks
-        (fell_before account (tasks_planned steps items held) (says quit ∷ []) (scene place maildir' file' ready.seen lines) new fault fell);
+    does = subst (λ (ts : List Task). Fell account ts (scene place maildir' file' after lines) fault new) same_tasks
+        (fell_before account (tasks_planned steps items held) (says quit ∷ []) (scene place maildir' file' after lines) new fault fell);
   }
 
   pub carry_quit : (a b : Place) (maildir'' : Maildir) (file'' : Stored) (rows : List Row) (lines' : List ReportLine) (reply : WholeReply)
-      → AllWent account (tasks_planned steps items held) (scene place maildir' file' ready.seen lines) (scene a maildir'' file'' rows lines') → Talked (quit ∷ []) (reply ∷ []) a b
+      → AllWent account (tasks_planned steps items held) (scene place maildir' file' after lines) (scene a maildir'' file'' rows lines') → Talked (quit ∷ []) (reply ∷ []) a b
       → Carried settings account items now place maildir file lines (Ok tt) (scene b maildir'' file'' rows lines') skipped
   carry_quit a b maildir'' file'' rows lines' reply went talked = record {
-    mid = scene place maildir' file' ready.seen lines;
+    mid = scene place maildir' file' after lines;
     prepared = prepared;
     skips = skips;
-    does = subst (λ (ts : List Task). AllWent account ts (scene place maildir' file' ready.seen lines) (scene b maildir'' file'' rows lines')) same_tasks
-        (all_on account (tasks_planned steps items held) (says quit ∷ []) (scene place maildir' file' ready.seen lines) (scene a maildir'' file'' rows lines') (scene b maildir'' file'' rows lines') went
+    does = subst (λ (ts : List Task). AllWent account ts (scene place maildir' file' after lines) (scene b maildir'' file'' rows lines')) same_tasks
+        (all_on account (tasks_planned steps items held) (says quit ∷ []) (scene place maildir' file' after lines) (scene a maildir'' file'' rows lines') (scene b maildir'' file'' rows lines') went
         (said account quit reply a b maildir'' file'' rows lines' talked));
   }
 
   pub carry_broke : (a b : Place) (maildir'' : Maildir) (file'' : Stored) (rows : List Row) (lines' : List ReportLine) (why : TalkFault) (fault : Fault) (cut : Cut)
-      → AllWent account (tasks_planned steps items held) (scene place maildir' file' ready.seen lines) (scene a maildir'' file'' rows lines') → cut ≡ cut_of fault None → fault ≡ fault_of why → Broke quit a b why
+      → AllWent account (tasks_planned steps items held) (scene place maildir' file' after lines) (scene a maildir'' file'' rows lines') → cut ≡ cut_of fault None → fault ≡ fault_of why → Broke quit a b why
       → Carried settings account items now place maildir file lines (Err cut) (scene b maildir'' file'' rows lines') skipped
   carry_broke a b maildir'' file'' rows lines' why fault cut went plain is_fault broke = record {
-    mid = scene place maildir' file' ready.seen lines;
+    mid = scene place maildir' file' after lines;
     prepared = prepared;
     skips = skips;
-    does = subst (λ (ts : List Task). Fell account ts (scene place maildir' file' ready.seen lines) cut (scene b maildir'' file'' rows lines')) same_tasks
-        (fell_on account (tasks_planned steps items held) (says quit ∷ []) (scene place maildir' file' ready.seen lines) (scene a maildir'' file'' rows lines') (scene b maildir'' file'' rows lines') cut went
+    does = subst (λ (ts : List Task). Fell account ts (scene place maildir' file' after lines) cut (scene b maildir'' file'' rows lines')) same_tasks
+        (fell_on account (tasks_planned steps items held) (says quit ∷ []) (scene place maildir' file' after lines) (scene a maildir'' file'' rows lines') (scene b maildir'' file'' rows lines') cut went
         (fell_first account (says quit) [] (scene a maildir'' file'' rows lines') (scene b maildir'' file'' rows lines') cut
         (text_broken account (says quit) quit a b maildir'' file'' rows lines' why fault cut refl plain is_fault broke)));
   }

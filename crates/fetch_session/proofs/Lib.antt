@@ -6,6 +6,7 @@ pub mod TakeLemmas
 pub mod FreshLemmas
 pub mod PlanLemmas
 pub mod ReadLemmas
+pub mod ReadyLemmas
 pub mod CarryLemmas
 pub mod TailLemmas
 pub mod StepLemmas

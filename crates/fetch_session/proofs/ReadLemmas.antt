@@ -1,24 +1,30 @@
--- Why a record isn't read.
-use Rattle.std.proofs.Common.{◌≡◌, ℕ, List, Some, Err}
-use Rattle.fetch_rules.specs.RecordFile.{IsFaultOf}
+-- How a record is read, and why it isn't.
+use Rattle.std.proofs.Common.{◌≡◌, ◌≢◌, ℕ, Err, subst}
+use Rattle.fetch_rules.specs.Record.{Loaded}
+use Rattle.fetch_rules.specs.RecordMeaning.{Means, Fault as Faulty}
 use Rattle.fetch_rules.specs.declared.seen.SeenFault.{SeenFault}
+use Rattle.fetch_rules.specs.declared.seen.SeenFault.TheVariants.{NoMemory as WantsMemory}
 use Rattle.mail_store.specs.FlatFile.{Stored}
 use Rattle.fetch_session.specs.declared.fault.Fault.{Fault}
 use Rattle.fetch_session.specs.declared.fault.Fault.TheVariants.{ConnectionEnded, ReadFailed, WriteFailed, ReplyTooLong, BadReply, Refused, BadListing, ListingsDisagree, TooMany, TextTooLong, StoreRefused, SeenRefused, NoMemory, BadSeen}
-use Rattle.fetch_session.specs.Records.{Reads, IsLineFault}
+use Rattle.fetch_session.specs.Records.{bytes_in, LineOf, Reads, IsLineFault}
 
-pub read_fault : (old new : Stored) (bytes : List ℕ) (why : SeenFault) (fault : Fault) → old.content ≡ Some bytes → new ≡ old → IsFaultOf bytes why → IsLineFault why fault → Reads old (Err fault) new
-read_fault old new bytes why (BadSeen line) content same is at = (bytes, why, content, is, at, same)
-read_fault old new bytes why NoMemory content same is at = same
-read_fault old new bytes why ConnectionEnded content same is at = absurd at
-read_fault old new bytes why ReadFailed content same is at = absurd at
-read_fault old new bytes why WriteFailed content same is at = absurd at
-read_fault old new bytes why ReplyTooLong content same is at = absurd at
-read_fault old new bytes why BadReply content same is at = absurd at
-read_fault old new bytes why (Refused to) content same is at = absurd at
-read_fault old new bytes why BadListing content same is at = absurd at
-read_fault old new bytes why ListingsDisagree content same is at = absurd at
-read_fault old new bytes why TooMany content same is at = absurd at
-read_fault old new bytes why TextTooLong content same is at = absurd at
-read_fault old new bytes why (StoreRefused how) content same is at = absurd at
-read_fault old new bytes why SeenRefused content same is at = absurd at
+-- a fault with a line isn't want of memory
+has_line : (why : SeenFault) (line : ℕ) → LineOf why line → why ≢ WantsMemory
+has_line why line at same = subst (λ (w : SeenFault). LineOf w line) same at
+
+pub read_fault : (old new : Stored) (loaded : Loaded) (why : SeenFault) (fault : Fault) → new ≡ old → (why ≢ WantsMemory → Means (bytes_in old.content) (Faulty why)) → IsLineFault why fault → Reads old loaded (Err fault) new
+read_fault old new loaded why (BadSeen line) same is at = (why, is (has_line why line at), at, same)
+read_fault old new loaded why NoMemory same is at = same
+read_fault old new loaded why ConnectionEnded same is at = absurd at
+read_fault old new loaded why ReadFailed same is at = absurd at
+read_fault old new loaded why WriteFailed same is at = absurd at
+read_fault old new loaded why ReplyTooLong same is at = absurd at
+read_fault old new loaded why BadReply same is at = absurd at
+read_fault old new loaded why (Refused to) same is at = absurd at
+read_fault old new loaded why BadListing same is at = absurd at
+read_fault old new loaded why ListingsDisagree same is at = absurd at
+read_fault old new loaded why TooMany same is at = absurd at
+read_fault old new loaded why TextTooLong same is at = absurd at
+read_fault old new loaded why (StoreRefused how) same is at = absurd at
+read_fault old new loaded why SeenRefused same is at = absurd at

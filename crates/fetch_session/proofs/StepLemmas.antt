@@ -147,7 +147,7 @@ pub record Unsaved (old : Stored) (was rows : List Row) (fault : Fault) (new : S
 
 unsaved : (old : Stored) (was rows : List Row) (fault : Fault) (new : Stored) → Saves old was rows (Err fault) new → Unsaved old was rows fault new
 unsaved old was rows SeenRefused new is = record { why = inl refl; content = is.1 }
-unsaved old was rows NoMemory new is = record { why = inr refl; content = λ stood. inl (keeps_at old new old.content was (ap (λ (s : Stored). s.content) is) stood) }
+unsaved old was rows NoMemory new is = record { why = inr refl; content = λ stood. inl (keeps_at old new old.content was (ap (λ (s : Stored). s.content) is) (steady_keeps old.content was stood)) }
 unsaved old was rows ConnectionEnded new never = absurd never
 unsaved old was rows ReadFailed new never = absurd never
 unsaved old was rows WriteFailed new never = absurd never

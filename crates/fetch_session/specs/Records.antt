@@ -1,8 +1,9 @@
 -- What is done to the record and its file.
-use Rattle.std.specs.Prelude.{◌≡◌, ◌⊎◌, ◌<◌, ◌+◌, ℕ, Bool, false, List, [], ◌∷◌, Option, None, Some, Result, Ok, Err, Vec}
+use Rattle.std.specs.Prelude.{◌≡◌, ◌≢◌, ◌⊎◌, ◌<◌, ◌+◌, ℕ, Bool, false, List, [], ◌∷◌, Option, None, Some, Result, Ok, Err, Vec}
 use Rattle.mail_terms.specs.Listing.{Item}
-use Rattle.fetch_rules.specs.Record.{Row, marked, merged}
-use Rattle.fetch_rules.specs.RecordFile.{StandsFor, IsFaultOf, file_of}
+use Rattle.fetch_rules.specs.Record.{Row, Loaded, marked, merged}
+use Rattle.fetch_rules.specs.RecordFile.{file_of}
+use Rattle.fetch_rules.specs.RecordMeaning.{Means, Rows, Fault as Faulty, FileStandsFor}
 use Rattle.fetch_rules.specs.Plan.{planned}
 use Rattle.fetch_rules.specs.declared.seen.SeenFault.{SeenFault}
 use Rattle.fetch_rules.specs.declared.seen.SeenFault.TheVariants.{BadHeader, BadRow, RepeatedId, NoMemory as WantsMemory}
@@ -15,16 +16,24 @@ use Rattle.fetch_session.specs.declared.fault.Fault.TheVariants.{StoreRefused, S
 use Rattle.fetch_session.specs.declared.fault.Why.TheVariants.{Missing, Refused}
 use Rattle.fetch_session.specs.declared.readiness.Ready.{Ready}
 
--- a file stands for a record: none, like an empty one, for the empty record
+-- the bytes of a file: one that isn't there has none
+abbrev pub bytes_in : Option (List ℕ) → List ℕ
+bytes_in None = []
+bytes_in (Some bytes) = bytes
+
+-- a file stands for a record, torn end or not
 abbrev pub Keeps : Option (List ℕ) → List Row → Type 0
-Keeps None rows = rows ≡ []
-Keeps (Some bytes) rows = StandsFor bytes rows
+Keeps content rows = FileStandsFor content rows
 
--- the same, and what is appended counts
+-- the same without a torn end, so that what is appended counts
 abbrev pub Steady : Option (List ℕ) → List Row → Type 0
-Steady content rows = Keeps content rows
+Steady content rows = Means (bytes_in content) (Rows rows false)
 
--- the record was written; or, refused, the file is as it was or has the record; or memory was wanting
+-- a file was read as this record
+abbrev pub ReadAs : Option (List ℕ) → Loaded → Type 0
+ReadAs content loaded = Means (bytes_in content) (Rows loaded.rows loaded.torn)
+
+-- the record was written whole; or, refused, the file is as it was or has the record; or memory was wanting
 abbrev pub Writes : Stored → List Row → Result (Unit {0}) Fault → Stored → Type 0
 Writes old rows (Ok done) new = new ≡ holding old (file_of rows)
 Writes old rows (Err SeenRefused) new = (new ≡ counted old) ⊎ (new ≡ counted (holding old (file_of rows)))
@@ -38,6 +47,14 @@ Saves old was rows (Err SeenRefused) new = (new.failures ≡ old.failures + 1) �
 Saves old was rows (Err NoMemory) new = new ≡ old
 Saves old was rows (Err _) new = ⊥
 
+-- a record read from the file was merged and saved; or, refused, the file stands for the one or the
+-- other; or nothing was done for want of memory
+abbrev pub Merges : Stored → List Row → List Row → Result (Unit {0}) Fault → Stored → Type 0
+Merges old was rows (Ok done) new = (new.failures ≡ old.failures) × Steady new.content rows
+Merges old was rows (Err SeenRefused) new = (new.failures ≡ old.failures + 1) × (Keeps new.content was ⊎ Keeps new.content rows)
+Merges old was rows (Err NoMemory) new = new ≡ old
+Merges old was rows (Err _) new = ⊥
+
 -- these ids were marked, one after the other
 abbrev pub marked_all : List Row → List (List ℕ) → List Row
 marked_all rows [] = rows
@@ -50,13 +67,24 @@ LineOf (BadRow at) line = line ≡ at
 LineOf (RepeatedId at) line = line ≡ at
 LineOf _ line = ⊥
 
--- the record was read; or a call was refused, or the bytes stand for no record
-abbrev pub Reads : Stored → Result (List Row) Fault → Stored → Type 0
-Reads old (Ok rows) new = Keeps old.content rows × (new ≡ old)
-Reads old (Err SeenRefused) new = new ≡ counted old
-Reads old (Err (BadSeen line)) new = (bytes : List ℕ) × (why : SeenFault) × (old.content ≡ Some bytes) × IsFaultOf bytes why × LineOf why line × (new ≡ old)
-Reads old (Err NoMemory) new = new ≡ old
-Reads old (Err _) new = ⊥
+-- the bytes of the file were read
+abbrev pub Gets : {B : Type 0} → Stored → Result (Vec ℕ B) Fault → Stored → Type 0
+Gets old (Ok bytes) new = (bytes.items ≡ bytes_in old.content) × (new ≡ old)
+Gets old (Err SeenRefused) new = new ≡ counted old
+Gets old (Err _) new = ⊥
+
+-- the bytes of the file stand for no record: this line is the first that fails
+abbrev pub Misread : Stored → ℕ → Stored → Type 0
+Misread old line new = (why : SeenFault) × Means (bytes_in old.content) (Faulty why) × LineOf why line × (new ≡ old)
+
+-- the record was read, and whether the file is missing or empty; or a call was refused, or the bytes
+-- stand for no record
+abbrev pub Reads : Stored → Loaded → Result Bool Fault → Stored → Type 0
+Reads old loaded (Ok is_new) new = ReadAs old.content loaded × (is_new ≡ false → bytes_in old.content ≢ []) × (new ≡ old)
+Reads old loaded (Err SeenRefused) new = new ≡ counted old
+Reads old loaded (Err (BadSeen line)) new = Misread old line new
+Reads old loaded (Err NoMemory) new = new ≡ old
+Reads old loaded (Err _) new = ⊥
 
 -- the fault that tells of a line of the record's file, or of want of memory
 abbrev pub IsLineFault : SeenFault → Fault → Type 0
@@ -77,20 +105,20 @@ abbrev pub merged_now : List ℕ → Maildir → List Item → ℕ → List Row 
 merged_now account maildir items now rows = merged rows items (flags_of account maildir items) now
 
 -- the record was read, merged and saved, and the plan made
-pub record IsReady (settings : Settings) (account : List ℕ) (items : List Item) (now : ℕ) (maildir : Maildir) (file : Stored) (ready : Ready) (maildir' : Maildir) (file' : Stored) : Type 0 where
+pub record IsReady (settings : Settings) (account : List ℕ) (items : List Item) (now : ℕ) (maildir : Maildir) (file : Stored) (ready : Ready) (after : List Row) (maildir' : Maildir) (file' : Stored) : Type 0 where
   pub was : List Row
   pub stood : Keeps file.content was
   pub held : ready.held.items ≡ flags_of account maildir items
-  pub rows : ready.seen ≡ merged_now account maildir items now was
-  pub steps : ready.steps.items ≡ planned settings ready.seen items now
-  pub saved : Steady file'.content ready.seen
+  pub rows : after ≡ merged_now account maildir items now was
+  pub steps : ready.steps.items ≡ planned settings after items now
+  pub saved : Steady file'.content after
   pub file_count : file'.failures ≡ file.failures
   pub maildir_is : maildir' ≡ maildir
 
 -- why it isn't ready
 abbrev pub UnreadyCause : Fault → Maildir → Stored → Maildir → Stored → Type 0
 UnreadyCause SeenRefused maildir file maildir' file' = (file.failures < file'.failures) × (maildir' ≡ maildir)
-UnreadyCause (BadSeen line) maildir file maildir' file' = Reads file (Err (BadSeen line)) file' × (maildir' ≡ maildir)
+UnreadyCause (BadSeen line) maildir file maildir' file' = Misread file line file' × (maildir' ≡ maildir)
 UnreadyCause (StoreRefused Missing) maildir file maildir' file' = ((maildir.there.new ≡ false) ⊎ (maildir.there.cur ≡ false)) × (maildir' ≡ maildir)
 UnreadyCause (StoreRefused Refused) maildir file maildir' file' = maildir' ≡ Rattle.mail_store.specs.Maildir.counted maildir
 UnreadyCause NoMemory maildir file maildir' file' = maildir' ≡ maildir
@@ -105,6 +133,6 @@ pub record Unready (account : List ℕ) (items : List Item) (now : ℕ) (maildir
   pub cause : UnreadyCause fault maildir file maildir' file'
   pub content : IsMergedAtMost account items now maildir file file'
 
-abbrev pub Readies : Settings → List ℕ → List Item → ℕ → Maildir → Stored → Result Ready Fault → Maildir → Stored → Type 0
-Readies settings account items now maildir file (Ok ready) maildir' file' = IsReady settings account items now maildir file ready maildir' file'
-Readies settings account items now maildir file (Err fault) maildir' file' = Unready account items now maildir file fault maildir' file'
+abbrev pub Readies : Settings → List ℕ → List Item → ℕ → Maildir → Stored → Result Ready Fault → List Row → Maildir → Stored → Type 0
+Readies settings account items now maildir file (Ok ready) after maildir' file' = IsReady settings account items now maildir file ready after maildir' file'
+Readies settings account items now maildir file (Err fault) after maildir' file' = Unready account items now maildir file fault maildir' file'

@@ -3,9 +3,10 @@ ghost use Rattle.std.specs.Prelude.{◌≡◌, None};
 ghost use Rattle.rc_file.specs.Settings.{IsValid};
 ghost use Rattle.fetch_session.specs.Accounts.{disk_of};
 
-use fetch_rules::Settings;
+use fetch_rules::{Seen, Settings};
 use mail_store::{AccountId, FlatFile, MaildirDisk, account_id};
 use std::alloc::Global;
+use std::hash::BuildHasher;
 use std::marker::Model;
 
 /// Where texts are stored.
@@ -18,15 +19,16 @@ pub enum Store<D> {
 ///
 /// No file is begun in the store between sessions, and the settings hold only values that an rc file
 /// may give.
-pub struct Account<D: MaildirDisk, F: FlatFile> {
+pub struct Account<D: MaildirDisk, F: FlatFile, H: BuildHasher> {
     pub(crate) alloc: Global,
     pub(crate) settings: Settings,
     pub(crate) id: AccountId,
     pub(crate) disk: D,
     pub(crate) seen_file: F,
+    pub(crate) seen: Seen<H>,
 }
 
-impl<D: MaildirDisk, F: FlatFile> Model for Account<D, F> {
+impl<D: MaildirDisk, F: FlatFile, H: BuildHasher> Model for Account<D, F, H> {
     ghost use Rattle.std.specs.Prelude.{◌≡◌, None};
     ghost use Rattle.rc_file.specs.Settings.{IsValid};
     ghost use Rattle.mail_store.specs.FileName.{IsAccountText, account_text};
@@ -41,9 +43,16 @@ impl<D: MaildirDisk, F: FlatFile> Model for Account<D, F> {
         × (D.sound a.disk → (D.maildir a.disk).begun ≡ None) };
 }
 
-impl<D: MaildirDisk, F: FlatFile> Account<D, F> {
-    /// An account with these settings, over this store and this file of its record.
-    pub fn new(alloc: Global, settings: Settings, store: Store<D>, seen_file: F) -> Account<D, F>
+impl<D: MaildirDisk, F: FlatFile, H: BuildHasher> Account<D, F, H> {
+    /// An account with these settings, over this store and this file of its record. The ids of the
+    /// record are a server's, so a program hands in a hasher of random seed.
+    pub fn new(
+        alloc: Global,
+        settings: Settings,
+        store: Store<D>,
+        seen_file: F,
+        hasher: H,
+    ) -> Account<D, F, H>
         requires valid { IsValid settings }
         requires calm { D.sound (disk_of store) → (D.maildir (disk_of store)).begun ≡ None }
         ensures { result ≡ record { settings = settings; disk = disk_of store; file = seen_file } }
@@ -60,6 +69,7 @@ impl<D: MaildirDisk, F: FlatFile> Account<D, F> {
             id,
             disk,
             seen_file,
+            seen: Seen::new(alloc, hasher),
         }
     }
 
@@ -73,6 +83,8 @@ impl<D: MaildirDisk, F: FlatFile> Account<D, F> {
 
     /// Takes the account apart.
     pub fn into_parts(self) -> (Settings, Store<D>, F)
+    where
+        H: Drop,
         ensures parts { (result.0 ≡ self.settings) × (disk_of result.1 ≡ self.disk) × (result.2 ≡ self.file) }
         ensures valid { IsValid result.0 }
         ensures calm { D.sound (disk_of result.1) → (D.maildir (disk_of result.1)).begun ≡ None }
@@ -83,6 +95,7 @@ impl<D: MaildirDisk, F: FlatFile> Account<D, F> {
             id: _,
             disk,
             seen_file,
+            seen: _,
         } = self;
         (settings, Store::Maildir(disk), seen_file)
     }

@@ -14,10 +14,11 @@ use crate::opening::enter;
 use crate::plans::carry_out;
 use crate::report::{Outcome, Report, ReportLine, report_of};
 use crate::tails::leave;
-use fetch_rules::Settings;
+use fetch_rules::{Seen, Settings};
 use mail_store::{AccountId, FlatFile, MaildirDisk};
 use pop3_wire::{LineReader, Wire};
 use std::alloc::Global;
+use std::hash::BuildHasher;
 use std::vec::Vec;
 
 /// What a session notes for its report.
@@ -42,7 +43,7 @@ fn tell(outcome: Outcome, notes: Notes) -> Report
 }
 
 /// Logs in, deals with what is listed, and quits, or does as much as goes well.
-fn proceed<W: Wire, D: MaildirDisk, F: FlatFile>(
+fn proceed<W: Wire, D: MaildirDisk, F: FlatFile, H: BuildHasher>(
     alloc: Global,
     settings: &Settings,
     account: &AccountId,
@@ -50,6 +51,7 @@ fn proceed<W: Wire, D: MaildirDisk, F: FlatFile>(
     reader: &mut LineReader,
     disk: &mut D,
     file: &mut F,
+    seen: &mut Seen<H>,
     notes: &mut Notes,
     now: u64,
 ) -> Result<(), Cut>
@@ -80,6 +82,7 @@ fn proceed<W: Wire, D: MaildirDisk, F: FlatFile>(
         reader,
         disk,
         file,
+        seen,
         &mut notes.lines,
         &mut notes.skipped,
         &listing,
@@ -92,8 +95,8 @@ fn proceed<W: Wire, D: MaildirDisk, F: FlatFile>(
 ///
 /// The first fault cuts it. Whatever the server sends and whichever call is refused, no text that is
 /// stored is lost or changed.
-pub fn session<W: Wire, D: MaildirDisk, F: FlatFile>(
-    account: &mut Account<D, F>,
+pub fn session<W: Wire, D: MaildirDisk, F: FlatFile, H: BuildHasher>(
+    account: &mut Account<D, F, H>,
     wire: &mut W,
     now: u64,
 ) -> Report
@@ -117,6 +120,7 @@ pub fn session<W: Wire, D: MaildirDisk, F: FlatFile>(
         &mut reader,
         &mut account.disk,
         &mut account.seen_file,
+        &mut account.seen,
         &mut notes,
         now,
     ) {

@@ -11,15 +11,16 @@ use crate::fault::{Cut, plain, told};
 use crate::readiness::{Ready, prepare};
 use crate::report::{ReportLine, skipped_in};
 use crate::steps::do_steps;
-use fetch_rules::{Listing, Settings, firsts_are_fetched};
+use fetch_rules::{Listing, Seen, Settings, firsts_are_fetched};
 use mail_store::{AccountId, FlatFile, MaildirDisk};
 use pop3_client::quit;
 use pop3_wire::{LineReader, Wire};
 use std::alloc::Global;
+use std::hash::BuildHasher;
 use std::vec::Vec;
 
 /// Makes the record ready for a listing, does what is planned for it, and quits.
-pub fn carry_out<W: Wire, D: MaildirDisk, F: FlatFile>(
+pub fn carry_out<W: Wire, D: MaildirDisk, F: FlatFile, H: BuildHasher>(
     alloc: Global,
     settings: &Settings,
     account: &AccountId,
@@ -27,6 +28,7 @@ pub fn carry_out<W: Wire, D: MaildirDisk, F: FlatFile>(
     reader: &mut LineReader,
     disk: &mut D,
     file: &mut F,
+    seen: &mut Seen<H>,
     lines: &mut Vec<ReportLine>,
     skipped: &mut u32,
     listing: &Listing,
@@ -47,18 +49,14 @@ pub fn carry_out<W: Wire, D: MaildirDisk, F: FlatFile>(
         (at (W.seen wire.new) reader.new) (D.maildir disk.new) (F.stored file.new) lines.new.items skipped.new }
 {
     firsts_are_fetched();
-    let ready = match prepare(alloc, settings, account, disk, file, listing, now) {
+    let ready = match prepare(alloc, settings, account, disk, file, seen, listing, now) {
         Ok(ready) => ready,
         Err(fault) => return Err(plain(fault)),
     };
-    let Ready {
-        mut seen,
-        held,
-        steps,
-    } = ready;
+    let Ready { held, steps } = ready;
     *skipped = skipped_in(&steps);
     if let Err(cut) = do_steps(
-        alloc, wire, reader, disk, file, account, &mut seen, lines, &steps, listing, &held,
+        alloc, wire, reader, disk, file, account, seen, lines, &steps, listing, &held,
     ) {
         return Err(cut);
     }

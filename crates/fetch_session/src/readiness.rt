@@ -1,21 +1,21 @@
 //! What a session knows before its plan is carried out: the record, and what the Maildir holds.
-ghost use Rattle.std.specs.Prelude.{◌≡◌, ℕ, List, length, IfOk};
+ghost use Rattle.std.specs.Prelude.{◌≡◌, ◌≢◌, ℕ, List, [], false, length, OnOk, IfOk};
+ghost use Rattle.fetch_rules.specs.Record.{merged};
 ghost use Rattle.fetch_rules.specs.Plan.{planned};
 ghost use Rattle.mail_store.specs.Held.{flags_of};
-ghost use Rattle.fetch_session.specs.Records.{Reads, Readies, IsLineFault, FindsHeld, Steady};
+ghost use Rattle.fetch_session.specs.Records.{Gets, Reads, ReadAs, Merges, Readies, IsLineFault, FindsHeld, Steady, bytes_in};
 
 use crate::fault::{Fault, Why};
-use crate::record::save;
+use crate::record::{grow, save};
 use fetch_rules::{Listing, Seen, SeenFault, Settings, Step, plan};
 use mail_store::{AccountId, FlatFile, MaildirDisk, StoreFault, held};
 use std::alloc::Global;
+use std::hash::BuildHasher;
 use std::vec::Vec;
 
 /// What a session goes by.
 #[derive(Drop)]
 pub struct Ready {
-    /// The record, which has a row for each message.
-    pub seen: Seen,
     /// For each message, whether the Maildir holds it.
     pub held: Vec<bool>,
     /// What is done with each message.
@@ -34,18 +34,33 @@ fn line_of(fault: SeenFault) -> Fault
     }
 }
 
-/// Reads the record.
-fn read<F: FlatFile>(alloc: Global, file: &mut F) -> Result<Seen, Fault>
-    ensures reads { F.sound file.new → F.sound file.old
-        × Reads (F.stored file.old) result (F.stored file.new) }
+/// The bytes of the record's file, none where it isn't there.
+fn load<F: FlatFile>(alloc: Global, file: &mut F) -> Result<Vec<u8>, Fault>
+    ensures gets { F.sound file.new → F.sound file.old
+        × Gets (F.stored file.old) result (F.stored file.new) }
 {
-    let bytes = match file.load() {
+    match file.load() {
+        Ok(bytes) => Ok(bytes),
+        Err(StoreFault::Missing) => Ok(Vec::new(alloc)),
+        Err(_) => Err(Fault::SeenRefused),
+    }
+}
+
+/// Reads the record, and says whether its file is missing or empty.
+fn read<F: FlatFile, H: BuildHasher>(
+    alloc: Global,
+    file: &mut F,
+    seen: &mut Seen<H>,
+) -> Result<bool, Fault>
+    ensures reads { F.sound file.new → F.sound file.old
+        × Reads (F.stored file.old) seen.new result (F.stored file.new) }
+{
+    let bytes = match load(alloc, file) {
         Ok(bytes) => bytes,
-        Err(StoreFault::Missing) => return Ok(Seen::new(alloc)),
-        Err(_) => return Err(Fault::SeenRefused),
+        Err(fault) => return Err(fault),
     };
-    match Seen::read(alloc, &bytes) {
-        Ok(seen) => Ok(seen),
+    match seen.reread(&bytes) {
+        Ok(()) => Ok(bytes.is_empty()),
         Err(fault) => Err(line_of(fault)),
     }
 }
@@ -70,49 +85,69 @@ fn ask_held<D: MaildirDisk>(
     }
 }
 
+/// Takes in a listing and what is held of it, and saves what that changed: the whole record where
+/// the file is missing, empty or torn, else what is appended.
+fn take_in<F: FlatFile, H: BuildHasher>(
+    file: &mut F,
+    seen: &mut Seen<H>,
+    listing: &Listing,
+    held: &[bool],
+    now: u64,
+    is_new: bool,
+) -> Result<(), Fault>
+    requires lengths { length held.now ≡ length listing.now }
+    requires stands { F.sound file.old → ReadAs (F.stored file.old).content seen.old }
+    requires begun { F.sound file.old → is_new ≡ false → bytes_in (F.stored file.old).content ≢ [] }
+    ensures rows { OnOk result (seen.new.rows ≡ merged seen.old.rows listing.now held.now now) }
+    ensures merges { F.sound file.new → F.sound file.old
+        × Merges (F.stored file.old) seen.old.rows (merged seen.old.rows listing.now held.now now) result (F.stored file.new) }
+{
+    let Ok(group) = seen.merge_rows(listing, held, now) else {
+        return Err(Fault::NoMemory);
+    };
+    if seen.needs_rewrite() {
+        return save(file, seen);
+    }
+    if is_new && !group.is_empty() {
+        return save(file, seen);
+    }
+    grow(file, &group)
+}
+
 /// Reads the record, takes in the listing and what the Maildir holds of it, saves the record where
 /// that changed it, and makes the plan.
-pub fn prepare<D: MaildirDisk, F: FlatFile>(
+pub fn prepare<D: MaildirDisk, F: FlatFile, H: BuildHasher>(
     alloc: Global,
     settings: &Settings,
     account: &AccountId,
     disk: &mut D,
     file: &mut F,
+    seen: &mut Seen<H>,
     listing: &Listing,
     now: u64,
 ) -> Result<Ready, Fault>
     ensures lengths { IfOk result (λ ready. (length ready.steps.items ≡ length listing.now) × (length ready.held.items ≡ length listing.now)) }
-    ensures plans { IfOk result (λ ready. ready.steps.items ≡ planned settings.now ready.seen listing.now now) }
+    ensures plans { IfOk result (λ ready. ready.steps.items ≡ planned settings.now seen.new.rows listing.now now) }
     ensures stays { D.sound disk.new → D.sound disk.old
         × ((D.maildir disk.new).begun ≡ (D.maildir disk.old).begun)
         × IfOk result (λ ready. ready.held.items ≡ flags_of account.now (D.maildir disk.new) listing.now) }
-    ensures steady { F.sound file.new → F.sound file.old × IfOk result (λ ready. Steady (F.stored file.new).content ready.seen) }
+    ensures steady { F.sound file.new → F.sound file.old × OnOk result (Steady (F.stored file.new).content seen.new.rows) }
     ensures readies { D.sound disk.new → F.sound file.new → D.sound disk.old × F.sound file.old
-        × Readies settings.now account.now listing.now now (D.maildir disk.old) (F.stored file.old) result (D.maildir disk.new) (F.stored file.new) }
+        × Readies settings.now account.now listing.now now (D.maildir disk.old) (F.stored file.old) result seen.new.rows (D.maildir disk.new) (F.stored file.new) }
 {
-    let mut seen = match read(alloc, file) {
-        Ok(seen) => seen,
+    let is_new = match read(alloc, file, seen) {
+        Ok(is_new) => is_new,
         Err(fault) => return Err(fault),
     };
     let flags = match ask_held(alloc, disk, account, listing) {
         Ok(flags) => flags,
         Err(fault) => return Err(fault),
     };
-    match seen.merge(listing, &flags, now) {
-        Ok(true) => {
-            if let Err(fault) = save(file, &seen) {
-                return Err(fault);
-            }
-        }
-        Ok(false) => {}
-        Err(_) => return Err(Fault::NoMemory),
+    if let Err(fault) = take_in(file, seen, listing, &flags, now, is_new) {
+        return Err(fault);
     }
-    match plan(alloc, settings, &seen, listing, now) {
-        Ok(steps) => Ok(Ready {
-            seen,
-            held: flags,
-            steps,
-        }),
+    match plan(alloc, settings, seen, listing, now) {
+        Ok(steps) => Ok(Ready { held: flags, steps }),
         Err(_) => Err(Fault::NoMemory),
     }
 }

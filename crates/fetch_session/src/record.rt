@@ -1,17 +1,23 @@
 //! The record and its file.
-ghost use Rattle.std.specs.Prelude.{◌≡◌, OnOk};
-ghost use Rattle.fetch_rules.specs.Record.{marked};
-ghost use Rattle.fetch_session.specs.Records.{Writes, Saves, Steady};
+ghost use Rattle.std.specs.Prelude.{◌≡◌, ◌≢◌, List, [], false, OnOk};
+ghost use Rattle.fetch_rules.specs.Record.{Row, marked};
+ghost use Rattle.fetch_rules.specs.RecordFile.{file_of};
+ghost use Rattle.fetch_rules.specs.RecordMeaning.{Means, Rows};
+ghost use Rattle.fetch_rules.specs.RecordGrowth.{Updates};
+ghost use Rattle.fetch_session.specs.Records.{Writes, Saves, Steady, bytes_in};
 
 use crate::fault::Fault;
-use fetch_rules::Seen;
+use fetch_rules::{Seen, appended_counts, bytes_stand, cut_is_ignored};
 use mail_store::FlatFile;
+use std::hash::BuildHasher;
 
-/// Makes the record the file's.
-pub(crate) fn save<F: FlatFile>(file: &mut F, seen: &Seen) -> Result<(), Fault>
+/// Makes the whole record the file's.
+pub(crate) fn save<F: FlatFile, H: BuildHasher>(file: &mut F, seen: &Seen<H>) -> Result<(), Fault>
+    ensures stands { Means (file_of seen.now.rows) (Rows seen.now.rows false) }
     ensures saves { F.sound file.new → F.sound file.old
-        × Writes (F.stored file.old) seen.now result (F.stored file.new) }
+        × Writes (F.stored file.old) seen.now.rows result (F.stored file.new) }
 {
+    bytes_stand();
     let Ok(bytes) = seen.bytes() else {
         return Err(Fault::NoMemory);
     };
@@ -21,17 +27,37 @@ pub(crate) fn save<F: FlatFile>(file: &mut F, seen: &Seen) -> Result<(), Fault>
     }
 }
 
-/// Marks an id as delivered, and makes the record the file's where that changed it.
-pub(crate) fn remember<F: FlatFile>(file: &mut F, seen: &mut Seen, uid: &[u8]) -> Result<(), Fault>
-    requires steady { F.sound file.old → Steady (F.stored file.old).content seen.old }
-    ensures rows { OnOk result (seen.new ≡ marked seen.old uid.now) }
-    ensures steady { F.sound file.new → F.sound file.old × OnOk result (Steady (F.stored file.new).content seen.new) }
+/// Appends to the file what made other rows of the record's, where there is anything.
+pub(crate) fn grow<F: FlatFile>(file: &mut F, group: &[u8]) -> Result<(), Fault>
+    requires begun { F.sound file.old → group.now ≢ [] → bytes_in (F.stored file.old).content ≢ [] }
     ensures saves { F.sound file.new → F.sound file.old
-        × Saves (F.stored file.old) seen.old (marked seen.old uid.now) result (F.stored file.new) }
+        × ((was rows : List Row) → Updates was group.now rows → Saves (F.stored file.old) was rows result (F.stored file.new)) }
 {
-    if seen.mark(uid) {
-        save(file, seen)
-    } else {
-        Ok(())
+    appended_counts();
+    cut_is_ignored();
+    if group.is_empty() {
+        return Ok(());
     }
+    match file.append(group) {
+        Ok(()) => Ok(()),
+        Err(_) => Err(Fault::SeenRefused),
+    }
+}
+
+/// Marks an id as delivered, and appends the row to the file where that changed it.
+pub(crate) fn remember<F: FlatFile, H: BuildHasher>(
+    file: &mut F,
+    seen: &mut Seen<H>,
+    uid: &[u8],
+) -> Result<(), Fault>
+    requires steady { F.sound file.old → Steady (F.stored file.old).content seen.old.rows }
+    ensures rows { OnOk result (seen.new.rows ≡ marked seen.old.rows uid.now) }
+    ensures steady { F.sound file.new → F.sound file.old × OnOk result (Steady (F.stored file.new).content seen.new.rows) }
+    ensures saves { F.sound file.new → F.sound file.old
+        × Saves (F.stored file.old) seen.old.rows (marked seen.old.rows uid.now) result (F.stored file.new) }
+{
+    let Ok(group) = seen.mark_rows(uid) else {
+        return Err(Fault::NoMemory);
+    };
+    grow(file, &group)
 }

@@ -23,17 +23,18 @@ use mail_store::{
 use pop3_client::{delete, open};
 use pop3_wire::{LineReader, Wire};
 use std::alloc::Global;
+use std::hash::BuildHasher;
 use std::vec::Vec;
 
 /// Takes one text: it is read, stored and marked.
-pub fn take<W: Wire, D: MaildirDisk, F: FlatFile>(
+pub fn take<W: Wire, D: MaildirDisk, F: FlatFile, H: BuildHasher>(
     alloc: Global,
     wire: &mut W,
     reader: &mut LineReader,
     disk: &mut D,
     file: &mut F,
     account: &AccountId,
-    seen: &mut Seen,
+    seen: &mut Seen<H>,
     lines: &mut Vec<ReportLine>,
     number: u32,
     uid: &[u8],
@@ -41,18 +42,18 @@ pub fn take<W: Wire, D: MaildirDisk, F: FlatFile>(
     requires digits { IsAccountText account.now }
     requires legal { IsLegalId uid.now }
     requires room { HasRoom lines.old 1 }
-    requires steady { F.sound file.old → Steady (F.stored file.old).content seen.old }
+    requires steady { F.sound file.old → Steady (F.stored file.old).content seen.old.rows }
     requires calm { D.sound disk.old → (D.maildir disk.old).begun ≡ None }
     requires free { D.sound disk.old → is_held account.now (D.maildir disk.old) uid.now ≡ false }
     ensures few { Adds lines.old 1 lines.new }
-    ensures steady { F.sound file.new → F.sound file.old × OnOk result (Steady (F.stored file.new).content seen.new) }
+    ensures steady { F.sound file.new → F.sound file.old × OnOk result (Steady (F.stored file.new).content seen.new.rows) }
     ensures grows { D.sound disk.new → D.sound disk.old
         × Grows (name_of account.now uid.now) (D.maildir disk.old) (D.maildir disk.new) }
     ensures takes { W.sound wire.new → D.sound disk.new → F.sound file.new
         → W.sound wire.old × D.sound disk.old × F.sound file.old × W.leads_to wire.old wire.new
         × Takes account.now (stores number uid.now)
-        (scene (at (W.seen wire.old) reader.old) (D.maildir disk.old) (F.stored file.old) seen.old lines.old.items) result
-        (scene (at (W.seen wire.new) reader.new) (D.maildir disk.new) (F.stored file.new) seen.new lines.new.items) }
+        (scene (at (W.seen wire.old) reader.old) (D.maildir disk.old) (F.stored file.old) seen.old.rows lines.old.items) result
+        (scene (at (W.seen wire.new) reader.new) (D.maildir disk.new) (F.stored file.new) seen.new.rows lines.new.items) }
 {
     unheld_ids_are_not_in_new();
     let name = match file_name(alloc, account, uid) {
@@ -133,14 +134,14 @@ fn delete_if<W: Wire>(
 }
 
 /// Fetches a message, where that is planned, and stores it where it isn't held.
-fn fetch_if<W: Wire, D: MaildirDisk, F: FlatFile>(
+fn fetch_if<W: Wire, D: MaildirDisk, F: FlatFile, H: BuildHasher>(
     alloc: Global,
     wire: &mut W,
     reader: &mut LineReader,
     disk: &mut D,
     file: &mut F,
     account: &AccountId,
-    seen: &mut Seen,
+    seen: &mut Seen<H>,
     lines: &mut Vec<ReportLine>,
     step: Step,
     uid: &[u8],
@@ -150,18 +151,18 @@ fn fetch_if<W: Wire, D: MaildirDisk, F: FlatFile>(
     requires digits { IsAccountText account.now }
     requires legal { IsLegalId uid.now }
     requires room { HasRoom lines.old 1 }
-    requires steady { F.sound file.old → Steady (F.stored file.old).content seen.old }
+    requires steady { F.sound file.old → Steady (F.stored file.old).content seen.old.rows }
     requires calm { D.sound disk.old → (D.maildir disk.old).begun ≡ None }
     requires free { D.sound disk.old → AreFresh account.now (D.maildir disk.old) (ids_ahead (fetching step.retrieve held step.number uid.now size)) }
     ensures few { Adds lines.old 1 lines.new }
-    ensures steady { F.sound file.new → F.sound file.old × OnOk result (Steady (F.stored file.new).content seen.new) }
+    ensures steady { F.sound file.new → F.sound file.old × OnOk result (Steady (F.stored file.new).content seen.new.rows) }
     ensures grows { D.sound disk.new → D.sound disk.old
         × GrowsBy account.now (ids_ahead (fetching step.retrieve held step.number uid.now size)) (D.maildir disk.old) (D.maildir disk.new) }
     ensures does { W.sound wire.new → D.sound disk.new → F.sound file.new
         → W.sound wire.old × D.sound disk.old × F.sound file.old × W.leads_to wire.old wire.new
         × Does account.now (fetching step.retrieve held step.number uid.now size)
-        (scene (at (W.seen wire.old) reader.old) (D.maildir disk.old) (F.stored file.old) seen.old lines.old.items) result
-        (scene (at (W.seen wire.new) reader.new) (D.maildir disk.new) (F.stored file.new) seen.new lines.new.items) }
+        (scene (at (W.seen wire.old) reader.old) (D.maildir disk.old) (F.stored file.old) seen.old.rows lines.old.items) result
+        (scene (at (W.seen wire.new) reader.new) (D.maildir disk.new) (F.stored file.new) seen.new.rows lines.new.items) }
 {
     let number = step.number;
     if !step.retrieve {
@@ -177,14 +178,14 @@ fn fetch_if<W: Wire, D: MaildirDisk, F: FlatFile>(
 }
 
 /// Does one planned step.
-fn do_step<W: Wire, D: MaildirDisk, F: FlatFile>(
+fn do_step<W: Wire, D: MaildirDisk, F: FlatFile, H: BuildHasher>(
     alloc: Global,
     wire: &mut W,
     reader: &mut LineReader,
     disk: &mut D,
     file: &mut F,
     account: &AccountId,
-    seen: &mut Seen,
+    seen: &mut Seen<H>,
     lines: &mut Vec<ReportLine>,
     step: Step,
     uid: &[u8],
@@ -194,18 +195,18 @@ fn do_step<W: Wire, D: MaildirDisk, F: FlatFile>(
     requires digits { IsAccountText account.now }
     requires legal { IsLegalId uid.now }
     requires room { HasRoom lines.old 2 }
-    requires steady { F.sound file.old → Steady (F.stored file.old).content seen.old }
+    requires steady { F.sound file.old → Steady (F.stored file.old).content seen.old.rows }
     requires calm { D.sound disk.old → (D.maildir disk.old).begun ≡ None }
     requires free { D.sound disk.old → AreFresh account.now (D.maildir disk.old) (ids_ahead (fetching step.retrieve held step.number uid.now size)) }
     ensures few { Adds lines.old 2 lines.new }
-    ensures steady { F.sound file.new → F.sound file.old × OnOk result (Steady (F.stored file.new).content seen.new) }
+    ensures steady { F.sound file.new → F.sound file.old × OnOk result (Steady (F.stored file.new).content seen.new.rows) }
     ensures grows { D.sound disk.new → D.sound disk.old
         × GrowsBy account.now (ids_ahead (fetching step.retrieve held step.number uid.now size)) (D.maildir disk.old) (D.maildir disk.new) }
     ensures does { W.sound wire.new → D.sound disk.new → F.sound file.new
         → W.sound wire.old × D.sound disk.old × F.sound file.old × W.leads_to wire.old wire.new
         × Does account.now (tasks_in step (record { uid = uid.now; size = size }) held)
-        (scene (at (W.seen wire.old) reader.old) (D.maildir disk.old) (F.stored file.old) seen.old lines.old.items) result
-        (scene (at (W.seen wire.new) reader.new) (D.maildir disk.new) (F.stored file.new) seen.new lines.new.items) }
+        (scene (at (W.seen wire.old) reader.old) (D.maildir disk.old) (F.stored file.old) seen.old.rows lines.old.items) result
+        (scene (at (W.seen wire.new) reader.new) (D.maildir disk.new) (F.stored file.new) seen.new.rows lines.new.items) }
 {
     if let Err(cut) = fetch_if(
         alloc, wire, reader, disk, file, account, seen, lines, step, uid, size, held,
@@ -216,14 +217,14 @@ fn do_step<W: Wire, D: MaildirDisk, F: FlatFile>(
 }
 
 /// Does the planned steps, as far as goes well.
-pub fn do_steps<W: Wire, D: MaildirDisk, F: FlatFile>(
+pub fn do_steps<W: Wire, D: MaildirDisk, F: FlatFile, H: BuildHasher>(
     alloc: Global,
     wire: &mut W,
     reader: &mut LineReader,
     disk: &mut D,
     file: &mut F,
     account: &AccountId,
-    seen: &mut Seen,
+    seen: &mut Seen<H>,
     lines: &mut Vec<ReportLine>,
     steps: &[Step],
     listing: &Listing,
@@ -233,7 +234,7 @@ pub fn do_steps<W: Wire, D: MaildirDisk, F: FlatFile>(
     requires room { HasRoom lines.old (2 * length listing.now) }
     requires all_steps { length steps.now ≡ length listing.now }
     requires all_flags { length held.now ≡ length listing.now }
-    requires steady { F.sound file.old → Steady (F.stored file.old).content seen.old }
+    requires steady { F.sound file.old → Steady (F.stored file.old).content seen.old.rows }
     requires calm { D.sound disk.old → (D.maildir disk.old).begun ≡ None }
     requires free { D.sound disk.old → AreFresh account.now (D.maildir disk.old) (ids_ahead (tasks_planned steps.now listing.now held.now)) }
     ensures few { Adds lines.old (2 * length listing.now) lines.new }
@@ -241,8 +242,8 @@ pub fn do_steps<W: Wire, D: MaildirDisk, F: FlatFile>(
     ensures does { W.sound wire.new → D.sound disk.new → F.sound file.new
         → W.sound wire.old × D.sound disk.old × F.sound file.old × W.leads_to wire.old wire.new
         × Does account.now (tasks_planned steps.now listing.now held.now)
-        (scene (at (W.seen wire.old) reader.old) (D.maildir disk.old) (F.stored file.old) seen.old lines.old.items) result
-        (scene (at (W.seen wire.new) reader.new) (D.maildir disk.new) (F.stored file.new) seen.new lines.new.items) }
+        (scene (at (W.seen wire.old) reader.old) (D.maildir disk.old) (F.stored file.old) seen.old.rows lines.old.items) result
+        (scene (at (W.seen wire.new) reader.new) (D.maildir disk.new) (F.stored file.new) seen.new.rows lines.new.items) }
 {
     one_more_is_held();
     for i in 0..listing.len() {

@@ -24,7 +24,7 @@ do_steps-requires-clause-free g c = λ kept.
     let account = c.args.account.now in
     let items = c.args.listing.now in
     let maildir = g.D.MaildirDisk.maildir c.prepare.new.disk in
-    let rows = c.in-Ok.ready.seen in
+    let rows = c.prepare.new.seen.rows in
     subst (λ (held : List Bool). AreFresh account maildir (ids_ahead (tasks_planned c.deref-2.result.now items held))) (sym (c.deref-3.ensures.value ∙ stays.2))
     (subst (λ (steps : List Step). AreFresh account maildir (ids_ahead (tasks_planned steps items (flags_of account maildir items)))) (sym (c.deref-2.ensures.value ∙ c.in-Ok.ensures.plans))
     (fresh_firsts account maildir [] (planned c.args.settings.now rows items c.args.now) items (c.firsts_are_fetched.ensures c.args.settings.now rows items c.args.now) c.requires.legal))
@@ -36,8 +36,8 @@ returns-in-Err-do_steps-clause-carries g c = λ w d f.
     let old = at (g.W.Wire.seen c.args.wire.now) c.args.reader.now in
     let maildir = g.D.MaildirDisk.maildir c.args.disk.now in
     let file = g.F.FlatFile.stored c.args.file.now in
-    let new = scene (at (g.W.Wire.seen c.do_steps.new.wire) c.do_steps.new.reader) (g.D.MaildirDisk.maildir c.do_steps.new.disk) (g.F.FlatFile.stored c.do_steps.new.file) c.do_steps.new.seen c.do_steps.new.lines.items in
-    (done.0, ready.0, ready.1, done.3, (c.do_steps.new.seen, inr (carry_fell c.args.settings.now c.args.account.now c.args.listing.now c.args.now old maildir file c.args.lines.now.items c.in-Ok.ready (g.D.MaildirDisk.maildir c.prepare.new.disk) (g.F.FlatFile.stored c.prepare.new.file) ready.2 c.deref-2.result.now c.deref-3.result.now c.deref-2.ensures.value c.deref-3.ensures.value c.skipped_in.result (c.skipped_in.ensures ∙ ap skipped_in (c.deref.ensures.value ∙ sym c.deref-2.ensures.value)) new c.in-Err-do_steps.cut done.4)))
+    let new = scene (at (g.W.Wire.seen c.do_steps.new.wire) c.do_steps.new.reader) (g.D.MaildirDisk.maildir c.do_steps.new.disk) (g.F.FlatFile.stored c.do_steps.new.file) c.do_steps.new.seen.rows c.do_steps.new.lines.items in
+    (done.0, ready.0, ready.1, done.3, (c.do_steps.new.seen.rows, inr (carry_fell c.args.settings.now c.args.account.now c.args.listing.now c.args.now old maildir file c.args.lines.now.items c.in-Ok.ready c.prepare.new.seen.rows (g.D.MaildirDisk.maildir c.prepare.new.disk) (g.F.FlatFile.stored c.prepare.new.file) ready.2 c.deref-2.result.now c.deref-3.result.now c.deref-2.ensures.value c.deref-3.ensures.value c.skipped_in.result (c.skipped_in.ensures ∙ ap skipped_in (c.deref.ensures.value ∙ sym c.deref-2.ensures.value)) new c.in-Err-do_steps.cut done.4)))
 
 pub returns-in-Ok-quit-clause-carries : goal.returns-in-Ok-quit-clause-carries
 returns-in-Ok-quit-clause-carries g c = λ w d f.
@@ -52,10 +52,10 @@ returns-in-Ok-quit-clause-carries g c = λ w d f.
       ready.1,
       g.met.W.Wire.leads_on _ _ _ done.3 tells.1,
       (
-        c.do_steps.new.seen,
-        carry_quit c.args.settings.now c.args.account.now c.args.listing.now c.args.now old maildir file c.args.lines.now.items c.in-Ok.ready (g.D.MaildirDisk.maildir c.prepare.new.disk) (g.F.FlatFile.stored c.prepare.new.file) ready.2 c.deref-2.result.now c.deref-3.result.now c.deref-2.ensures.value c.deref-3.ensures.value c.skipped_in.result (c.skipped_in.ensures ∙ ap skipped_in (c.deref.ensures.value ∙ sym c.deref-2.ensures.value))
+        c.do_steps.new.seen.rows,
+        carry_quit c.args.settings.now c.args.account.now c.args.listing.now c.args.now old maildir file c.args.lines.now.items c.in-Ok.ready c.prepare.new.seen.rows (g.D.MaildirDisk.maildir c.prepare.new.disk) (g.F.FlatFile.stored c.prepare.new.file) ready.2 c.deref-2.result.now c.deref-3.result.now c.deref-2.ensures.value c.deref-3.ensures.value c.skipped_in.result (c.skipped_in.ensures ∙ ap skipped_in (c.deref.ensures.value ∙ sym c.deref-2.ensures.value))
             (at (g.W.Wire.seen c.do_steps.new.wire) c.do_steps.new.reader) (at (g.W.Wire.seen c.quit.new.wire) c.quit.new.reader)
-            (g.D.MaildirDisk.maildir c.do_steps.new.disk) (g.F.FlatFile.stored c.do_steps.new.file) c.do_steps.new.seen c.do_steps.new.lines.items tells.2.0 done.4 tells.2.1,
+            (g.D.MaildirDisk.maildir c.do_steps.new.disk) (g.F.FlatFile.stored c.do_steps.new.file) c.do_steps.new.seen.rows c.do_steps.new.lines.items tells.2.0 done.4 tells.2.1,
       ),
     )
 
@@ -72,9 +72,9 @@ returns-clause-carries g c = λ w d f.
       ready.1,
       g.met.W.Wire.leads_on _ _ _ done.3 tells.1,
       (
-        c.do_steps.new.seen,
-        inr (carry_broke c.args.settings.now c.args.account.now c.args.listing.now c.args.now old maildir file c.args.lines.now.items c.in-Ok.ready (g.D.MaildirDisk.maildir c.prepare.new.disk) (g.F.FlatFile.stored c.prepare.new.file) ready.2 c.deref-2.result.now c.deref-3.result.now c.deref-2.ensures.value c.deref-3.ensures.value c.skipped_in.result (c.skipped_in.ensures ∙ ap skipped_in (c.deref.ensures.value ∙ sym c.deref-2.ensures.value))
+        c.do_steps.new.seen.rows,
+        inr (carry_broke c.args.settings.now c.args.account.now c.args.listing.now c.args.now old maildir file c.args.lines.now.items c.in-Ok.ready c.prepare.new.seen.rows (g.D.MaildirDisk.maildir c.prepare.new.disk) (g.F.FlatFile.stored c.prepare.new.file) ready.2 c.deref-2.result.now c.deref-3.result.now c.deref-2.ensures.value c.deref-3.ensures.value c.skipped_in.result (c.skipped_in.ensures ∙ ap skipped_in (c.deref.ensures.value ∙ sym c.deref-2.ensures.value))
             (at (g.W.Wire.seen c.do_steps.new.wire) c.do_steps.new.reader) (at (g.W.Wire.seen c.quit.new.wire) c.quit.new.reader)
-            (g.D.MaildirDisk.maildir c.do_steps.new.disk) (g.F.FlatFile.stored c.do_steps.new.file) c.do_steps.new.seen c.do_steps.new.lines.items c.in-Err-quit.fault c.told.result c.plain-in-Err-quit.result done.4 c.plain-in-Err-quit.ensures c.told.ensures tells.2),
+            (g.D.MaildirDisk.maildir c.do_steps.new.disk) (g.F.FlatFile.stored c.do_steps.new.file) c.do_steps.new.seen.rows c.do_steps.new.lines.items c.in-Err-quit.fault c.told.result c.plain-in-Err-quit.result done.4 c.plain-in-Err-quit.ensures c.told.ensures tells.2),
       ),
     )

@@ -12,7 +12,7 @@ returns-then-not-step-clause-does g c = λ w d f.
     let place = at (g.W.Wire.seen c.args.wire.now) c.args.reader.now in
     let maildir = g.D.MaildirDisk.maildir c.args.disk.now in
     let file = g.F.FlatFile.stored c.args.file.now in
-    let rows = c.args.seen.now in
+    let rows = c.args.seen.now.rows in
     let lines = c.args.lines.now.items in
     let lines' = c.note.new.lines.items in (
       w,
@@ -26,9 +26,9 @@ returns-then-not-step-clause-does g c = λ w d f.
 
 pub returns-then-held-clause-does : goal.returns-then-held-clause-does
 returns-then-held-clause-does g c = λ w d f.
-    let old = scene (at (g.W.Wire.seen c.args.wire.now) c.args.reader.now) (g.D.MaildirDisk.maildir c.args.disk.now) (g.F.FlatFile.stored c.args.file.now) c.args.seen.now c.args.lines.now.items in
-    let new = scene (at (g.W.Wire.seen c.reread.new.wire) c.reread.new.reader) (g.D.MaildirDisk.maildir c.args.disk.now) (g.F.FlatFile.stored c.args.file.now) c.args.seen.now c.reread.new.lines.items in
-    let took = c.reread.ensures.rereads c.args.account.now c.args.uid.now (g.D.MaildirDisk.maildir c.args.disk.now) (g.F.FlatFile.stored c.args.file.now) c.args.seen.now w in (
+    let old = scene (at (g.W.Wire.seen c.args.wire.now) c.args.reader.now) (g.D.MaildirDisk.maildir c.args.disk.now) (g.F.FlatFile.stored c.args.file.now) c.args.seen.now.rows c.args.lines.now.items in
+    let new = scene (at (g.W.Wire.seen c.reread.new.wire) c.reread.new.reader) (g.D.MaildirDisk.maildir c.args.disk.now) (g.F.FlatFile.stored c.args.file.now) c.args.seen.now.rows c.reread.new.lines.items in
+    let took = c.reread.ensures.rereads c.args.account.now c.args.uid.now (g.D.MaildirDisk.maildir c.args.disk.now) (g.F.FlatFile.stored c.args.file.now) c.args.seen.now.rows w in (
       took.0,
       d,
       f,
@@ -40,8 +40,8 @@ returns-then-held-clause-does g c = λ w d f.
 pub returns-clause-does : goal.returns-clause-does
 returns-clause-does g c = λ w d f.
     let took = c.take.ensures.takes w d f in
-    let old = scene (at (g.W.Wire.seen c.args.wire.now) c.args.reader.now) (g.D.MaildirDisk.maildir c.args.disk.now) (g.F.FlatFile.stored c.args.file.now) c.args.seen.now c.args.lines.now.items in
-    let new = scene (at (g.W.Wire.seen c.take.new.wire) c.take.new.reader) (g.D.MaildirDisk.maildir c.take.new.disk) (g.F.FlatFile.stored c.take.new.file) c.take.new.seen c.take.new.lines.items in (
+    let old = scene (at (g.W.Wire.seen c.args.wire.now) c.args.reader.now) (g.D.MaildirDisk.maildir c.args.disk.now) (g.F.FlatFile.stored c.args.file.now) c.args.seen.now.rows c.args.lines.now.items in
+    let new = scene (at (g.W.Wire.seen c.take.new.wire) c.take.new.reader) (g.D.MaildirDisk.maildir c.take.new.disk) (g.F.FlatFile.stored c.take.new.file) c.take.new.seen.rows c.take.new.lines.items in (
       took.0,
       took.1,
       took.2,

@@ -13,7 +13,7 @@ returns-in-Err-clause-takes g c = λ w d f. (
   f,
   g.met.W.Wire.leads_same c.args.wire.now,
   text_wanting c.args.account.now c.args.number c.args.uid.now (at (g.W.Wire.seen c.args.wire.now) c.args.reader.now) (g.D.MaildirDisk.maildir c.args.disk.now)
-      (g.F.FlatFile.stored c.args.file.now) c.args.seen.now c.args.lines.now.items c.plain.result c.plain.ensures,
+      (g.F.FlatFile.stored c.args.file.now) c.args.seen.now.rows c.args.lines.now.items c.plain.result c.plain.ensures,
 )
 
 pub store_text-requires-clause-not_there : goal.store_text-requires-clause-not_there
@@ -32,7 +32,7 @@ returns-in-Err-store_text-clause-takes g c = λ w d f.
       f,
       g.met.W.Wire.leads_on _ _ _ opened.1 link.1,
       text_stops c.args.account.now c.args.number c.args.uid.now stored.1.0 c.as_str.result.now old (at (g.W.Wire.seen c.store_text.new.wire) c.store_text.new.reader)
-          (g.D.MaildirDisk.maildir c.args.disk.now) (g.D.MaildirDisk.maildir c.store_text.new.disk) (g.F.FlatFile.stored c.args.file.now) c.args.seen.now c.args.lines.now.items c.in-Err-store_text.cut
+          (g.D.MaildirDisk.maildir c.args.disk.now) (g.D.MaildirDisk.maildir c.store_text.new.disk) (g.F.FlatFile.stored c.args.file.now) c.args.seen.now.rows c.args.lines.now.items c.in-Err-store_text.cut
           (c.as_str.ensures.value ∙ c.in-Ok.ensures.name) stored.1.1 (link.2 c.args.number old opened.2),
     )
 
@@ -49,7 +49,7 @@ returns-in-Ok-remember-clause-takes g c = λ w d f.
       g.met.W.Wire.leads_on _ _ _ opened.1 link.1,
       text_stored c.args.account.now c.args.number c.in-Ok-store_text.length c.args.uid.now stored.1.0 c.as_str.result.now old (at (g.W.Wire.seen c.store_text.new.wire) c.store_text.new.reader)
           (g.D.MaildirDisk.maildir c.args.disk.now) (g.D.MaildirDisk.maildir c.store_text.new.disk) (g.F.FlatFile.stored c.args.file.now) (g.F.FlatFile.stored c.remember.new.file)
-          c.args.seen.now c.remember.new.seen c.args.lines.now.items c.note.new.lines.items
+          c.args.seen.now.rows c.remember.new.seen.rows c.args.lines.now.items c.note.new.lines.items
           (c.as_str.ensures.value ∙ c.in-Ok.ensures.name) stored.1.1 (link.2 c.args.number old opened.2) c.in-Ok-remember.ensures.rows saved.1 c.note.ensures.items,
     )
 
@@ -66,7 +66,7 @@ returns-clause-takes g c = λ w d f.
       g.met.W.Wire.leads_on _ _ _ opened.1 link.1,
       text_not_saved c.args.account.now c.args.number c.in-Ok-store_text.length c.args.uid.now stored.1.0 c.as_str.result.now old (at (g.W.Wire.seen c.store_text.new.wire) c.store_text.new.reader)
           (g.D.MaildirDisk.maildir c.args.disk.now) (g.D.MaildirDisk.maildir c.store_text.new.disk) (g.F.FlatFile.stored c.args.file.now) (g.F.FlatFile.stored c.remember.new.file)
-          c.args.seen.now c.remember.new.seen c.args.lines.now.items c.note.new.lines.items c.in-Err-remember.fault c.plain-in-Err-remember.result
+          c.args.seen.now.rows c.remember.new.seen.rows c.args.lines.now.items c.note.new.lines.items c.in-Err-remember.fault c.plain-in-Err-remember.result
           (c.as_str.ensures.value ∙ c.in-Ok.ensures.name) stored.1.1 (link.2 c.args.number old opened.2) saved.1 c.plain-in-Err-remember.ensures c.note.ensures.items,
     )
 
