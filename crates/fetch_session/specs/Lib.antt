@@ -10,3 +10,4 @@ pub mod Reports
 pub mod Openings
 pub mod Sessions
 pub mod Accounts
+pub mod Texts

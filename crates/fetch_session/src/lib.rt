@@ -13,9 +13,11 @@ mod report;
 mod steps;
 mod storing;
 mod tails;
+mod text;
 
 pub use account::{Account, Store};
 pub use fault::{Cut, Fault, Why};
 pub use laws::stopping_is_a_step;
 pub use one_session::session;
 pub use report::{Outcome, Report, ReportLine};
+pub use text::{fault_number, fault_text, report_text};

@@ -1,0 +1,8 @@
+use Rattle.std.proofs.Common.{◌≡◌, ◌++◌, take}
+use Rattle.std.specs.Prelude.{flat_map}
+use Rattle.std.specs.String.{string_bytes}
+use Rattle.fetch_session.specs.Texts.{heading, line_text}
+use Rattle.fetch_session.proofs.text.report_text.Given as goal
+
+abbrev pub invariant-loop-line : goal.invariant-loop-line
+invariant-loop-line l = string_bytes l.text ≡ heading l.settings ++ flat_map (line_text l.settings.verbose l.report.total) (take l.line-index l.line-items)

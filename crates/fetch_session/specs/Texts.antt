@@ -1,0 +1,99 @@
+-- How faults and reports are told.
+use Rattle.std.specs.Prelude.{ℕ, List, [], ◌++◌, ◌==◌, Vec, flat_map, if◌then◌else◌, codes}
+use Rattle.std.specs.Fmt.{decimal}
+use Rattle.std.specs.String.{string_bytes}
+use Rattle.rc_file.specs.declared.settings.Settings.{Settings}
+use Rattle.pop3_client.specs.declared.fault.Asked.{Asked}
+use Rattle.pop3_client.specs.declared.fault.Asked.TheVariants.{Greeting, User, Pass, Stat, Uidl, List as ListAsked, Retr, Dele, Quit}
+use Rattle.fetch_session.specs.declared.fault.Why.{Why}
+use Rattle.fetch_session.specs.declared.fault.Why.TheVariants as why
+use Rattle.fetch_session.specs.declared.fault.Fault.{Fault}
+use Rattle.fetch_session.specs.declared.fault.Fault.TheVariants.{ConnectionEnded, ReadFailed, WriteFailed, ReplyTooLong, BadReply, Refused, BadListing, ListingsDisagree, TooMany, TextTooLong, StoreRefused, SeenRefused, NoMemory, BadSeen}
+use Rattle.fetch_session.specs.declared.report.Outcome.{Outcome}
+use Rattle.fetch_session.specs.declared.report.Outcome.TheVariants.{Ended, Cut}
+use Rattle.fetch_session.specs.declared.report.Report.{Report}
+use Rattle.fetch_session.specs.declared.report.ReportLine.{ReportLine}
+use Rattle.fetch_session.specs.declared.report.ReportLine.TheVariants.{Delivered, Held, Skipped, Deleted}
+
+-- what a refused reply was asked for
+abbrev pub asked_text : Asked → List ℕ
+asked_text Greeting = codes "greeting"
+asked_text User = codes "USER"
+asked_text Pass = codes "PASS"
+asked_text Stat = codes "STAT"
+asked_text Uidl = codes "UIDL"
+asked_text ListAsked = codes "LIST"
+asked_text (Retr number) = codes "RETR " ++ decimal number
+asked_text (Dele number) = codes "DELE " ++ decimal number
+asked_text Quit = codes "QUIT"
+
+abbrev pub why_text : Why → List ℕ
+why_text why.Missing = codes "destination missing"
+why_text why.Refused = codes "destination refused"
+why_text why.NotMbox = codes "destination is no mbox"
+
+abbrev pub fault_text : Fault → List ℕ
+fault_text ConnectionEnded = codes "connection ended by the server"
+fault_text ReadFailed = codes "reading from the server failed"
+fault_text WriteFailed = codes "writing to the server failed"
+fault_text ReplyTooLong = codes "reply line too long"
+fault_text BadReply = codes "reply not understood"
+fault_text (Refused asked) = codes "server refused " ++ asked_text asked
+fault_text BadListing = codes "listing not understood"
+fault_text ListingsDisagree = codes "listings disagree"
+fault_text TooMany = codes "too many messages"
+fault_text TextTooLong = codes "message too long"
+fault_text (StoreRefused reason) = why_text reason
+fault_text SeenRefused = codes "seen file refused"
+fault_text NoMemory = codes "out of memory"
+fault_text (BadSeen line) = codes "seen file not understood at line " ++ decimal line
+
+-- the number of a fault
+abbrev pub fault_number : Fault → ℕ
+fault_number ConnectionEnded = 1
+fault_number ReadFailed = 2
+fault_number WriteFailed = 3
+fault_number ReplyTooLong = 4
+fault_number BadReply = 5
+fault_number (Refused asked) = 6
+fault_number BadListing = 7
+fault_number ListingsDisagree = 8
+fault_number TooMany = 9
+fault_number TextTooLong = 10
+fault_number (StoreRefused reason) = 11
+fault_number SeenRefused = 12
+fault_number NoMemory = 13
+fault_number (BadSeen line) = 14
+
+-- how a session came out, as a number: 0 where it ended
+abbrev pub outcome_number : Outcome → ℕ
+outcome_number Ended = 0
+outcome_number (Cut fault) = fault_number fault
+
+-- whose mail it is: the first line
+abbrev pub heading : Settings → List ℕ
+heading settings = codes "SimplePOP3Retriever:" ++ (string_bytes settings.username
+    ++ (codes "@" ++ (string_bytes settings.server ++ (codes ":" ++ (decimal settings.port ++ codes ":\n")))))
+
+-- so many messages are listed, and this one is spoken of
+abbrev pub message_text : ℕ → ℕ → List ℕ → List ℕ
+message_text total number said = codes "msg " ++ (decimal number ++ (codes "/" ++ (decimal total ++ (codes " " ++ said))))
+
+-- one line; a message that was passed over is told with verbose 2 alone
+abbrev pub line_text : ℕ → ℕ → ReportLine → List ℕ
+line_text verbose total (Delivered number octets) = message_text total number (codes "(" ++ (decimal octets ++ codes " bytes) delivered\n"))
+line_text verbose total (Held number octets) = message_text total number (codes "(" ++ (decimal octets ++ codes " bytes) already held\n"))
+line_text verbose total (Skipped number size) =
+    if verbose == 2 then message_text total number (codes "(" ++ (decimal size ++ codes " octets) skipped\n")) else []
+line_text verbose total (Deleted number) = message_text total number (codes "deleted\n")
+
+-- the last line
+abbrev pub summary : Report → List ℕ
+summary report = decimal report.retrieved ++ (codes " messages (" ++ (decimal report.bytes ++ (codes " bytes) retrieved, "
+    ++ (decimal report.skipped ++ (codes " skipped, " ++ (decimal report.deleted ++ codes " deleted\n"))))))
+
+-- the report, each line ended by LF; with verbose 0 it is empty
+abbrev pub report_text : Report → Settings → List ℕ
+report_text report settings =
+    if settings.verbose == 0 then []
+    else (heading settings ++ flat_map (line_text settings.verbose report.total) report.lines.items) ++ summary report

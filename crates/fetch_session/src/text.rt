@@ -1,0 +1,155 @@
+//! How faults and reports are told. Nothing of a password stands in them.
+ghost use Rattle.std.specs.Prelude.{◌≡◌, ◌++◌, IfOk, codes};
+ghost use Rattle.std.specs.String.{string_bytes};
+ghost use Rattle.fetch_session.specs.Texts.{asked_text, fault_number, fault_text, heading, line_text, message_text, outcome_number, report_text, summary};
+
+use crate::fault::{Fault, Why};
+use crate::report::{Outcome, Report, ReportLine};
+use fetch_rules::Settings;
+use pop3_client::Asked;
+use std::alloc::{AllocError, Global};
+
+/// What a refused reply was asked for, behind `server refused `.
+fn refused_text(alloc: Global, asked: Asked) -> Result<String, AllocError>
+    ensures { IfOk result (λ text. string_bytes text ≡ codes "server refused " ++ asked_text asked) }
+{
+    match asked {
+        Asked::Greeting => String::from_str(alloc, "server refused greeting"),
+        Asked::User => String::from_str(alloc, "server refused USER"),
+        Asked::Pass => String::from_str(alloc, "server refused PASS"),
+        Asked::Stat => String::from_str(alloc, "server refused STAT"),
+        Asked::Uidl => String::from_str(alloc, "server refused UIDL"),
+        Asked::List => String::from_str(alloc, "server refused LIST"),
+        Asked::Retr(number) => format!(in alloc; "server refused RETR {number}"),
+        Asked::Dele(number) => format!(in alloc; "server refused DELE {number}"),
+        Asked::Quit => String::from_str(alloc, "server refused QUIT"),
+    }
+}
+
+/// The text of a fault, without a line end.
+pub fn fault_text(alloc: Global, fault: &Fault) -> Result<String, AllocError>
+    ensures { IfOk result (λ text. string_bytes text ≡ fault_text fault.now) }
+{
+    match *fault {
+        Fault::ConnectionEnded => String::from_str(alloc, "connection ended by the server"),
+        Fault::ReadFailed => String::from_str(alloc, "reading from the server failed"),
+        Fault::WriteFailed => String::from_str(alloc, "writing to the server failed"),
+        Fault::ReplyTooLong => String::from_str(alloc, "reply line too long"),
+        Fault::BadReply => String::from_str(alloc, "reply not understood"),
+        Fault::Refused(asked) => refused_text(alloc, asked),
+        Fault::BadListing => String::from_str(alloc, "listing not understood"),
+        Fault::ListingsDisagree => String::from_str(alloc, "listings disagree"),
+        Fault::TooMany => String::from_str(alloc, "too many messages"),
+        Fault::TextTooLong => String::from_str(alloc, "message too long"),
+        Fault::StoreRefused(Why::Missing) => String::from_str(alloc, "destination missing"),
+        Fault::StoreRefused(Why::Refused) => String::from_str(alloc, "destination refused"),
+        Fault::StoreRefused(Why::NotMbox) => String::from_str(alloc, "destination is no mbox"),
+        Fault::SeenRefused => String::from_str(alloc, "seen file refused"),
+        Fault::NoMemory => String::from_str(alloc, "out of memory"),
+        Fault::BadSeen(line) => format!(in alloc; "seen file not understood at line {line}"),
+    }
+}
+
+/// The number of a fault, 1 to 14.
+fn number_of(fault: &Fault) -> u8
+    ensures { result ≡ fault_number fault.now }
+{
+    match fault {
+        Fault::ConnectionEnded => 1,
+        Fault::ReadFailed => 2,
+        Fault::WriteFailed => 3,
+        Fault::ReplyTooLong => 4,
+        Fault::BadReply => 5,
+        Fault::Refused(_) => 6,
+        Fault::BadListing => 7,
+        Fault::ListingsDisagree => 8,
+        Fault::TooMany => 9,
+        Fault::TextTooLong => 10,
+        Fault::StoreRefused(_) => 11,
+        Fault::SeenRefused => 12,
+        Fault::NoMemory => 13,
+        Fault::BadSeen(_) => 14,
+    }
+}
+
+/// The number of an outcome: 0 where the session ended, else its fault's.
+pub fn fault_number(outcome: &Outcome) -> u8
+    ensures { result ≡ outcome_number outcome.now }
+{
+    match outcome {
+        Outcome::Ended => 0,
+        Outcome::Cut(fault) => number_of(fault),
+    }
+}
+
+/// The report's first line: whose mail it is.
+fn heading(alloc: Global, settings: &Settings) -> Result<String, AllocError>
+    ensures { IfOk result (λ text. string_bytes text ≡ heading settings.now) }
+{
+    let username = settings.username.as_str();
+    let server = settings.server.as_str();
+    let port = settings.port;
+    format!(in alloc; "SimplePOP3Retriever:{username}@{server}:{port}:\n")
+}
+
+/// One line of a report; empty for a message that was passed over, unless `verbose` is 2.
+fn line_text(
+    alloc: Global,
+    verbose: u8,
+    total: u32,
+    line: &ReportLine,
+) -> Result<String, AllocError>
+    ensures { IfOk result (λ text. string_bytes text ≡ line_text verbose total line.now) }
+{
+    match *line {
+        ReportLine::Delivered { number, length } => {
+            format!(in alloc; "msg {number}/{total} ({length} bytes) delivered\n")
+        }
+        ReportLine::Held { number, length } => {
+            format!(in alloc; "msg {number}/{total} ({length} bytes) already held\n")
+        }
+        ReportLine::Skipped { number, size } => {
+            if verbose != 2 {
+                return Ok(String::new(alloc));
+            }
+            format!(in alloc; "msg {number}/{total} ({size} octets) skipped\n")
+        }
+        ReportLine::Deleted { number } => format!(in alloc; "msg {number}/{total} deleted\n"),
+    }
+}
+
+/// The report's last line.
+fn summary(alloc: Global, report: &Report) -> Result<String, AllocError>
+    ensures { IfOk result (λ text. string_bytes text ≡ summary report.now) }
+{
+    let Report {
+        retrieved,
+        bytes,
+        skipped,
+        deleted,
+        ..
+    } = report;
+    format!(in alloc;
+        "{retrieved} messages ({bytes} bytes) retrieved, {skipped} skipped, {deleted} deleted\n"
+    )
+}
+
+/// The report, each line ended by LF: whose mail it is, what was done in order, and the counts. With
+/// `verbose` 0 it is empty; a message that was passed over is told with 2 alone.
+pub fn report_text(
+    alloc: Global,
+    report: &Report,
+    settings: &Settings,
+) -> Result<String, AllocError>
+    ensures { IfOk result (λ text. string_bytes text ≡ report_text report.now settings.now) }
+{
+    if settings.verbose == 0 {
+        return Ok(String::new(alloc));
+    }
+    let mut text = heading(alloc, settings)?;
+    for line in &report.lines {
+        text.push_str(line_text(alloc, settings.verbose, report.total, line)?.as_str())?;
+    }
+    text.push_str(summary(alloc, report)?.as_str())?;
+    Ok(text)
+}
