@@ -5,6 +5,7 @@
 #                   minute; then proves and builds it as above, and runs it again
 #   make check      the gate: every proof, then every test; its last line is 'N passed, 0 failed'
 #   make test       builds the programs, then runs the tests from outside alone
+#   make install    puts the programs, man pages and completions below PREFIX (/usr/local); make uninstall takes them away
 #   make bench      builds the programs, then prints speed and memory as ratios; not in the gate
 
 SHELL := /bin/bash
@@ -16,7 +17,7 @@ programs := $(filter getmail popd,$(crates))
 watched := $(filter store_bench,$(crates))
 benches := $(addprefix bench-,$(filter getmail popd store_bench client_bench,$(crates)))
 
-.PHONY: all rehearse check test bench clean $(programs) $(watched) $(benches)
+.PHONY: all rehearse check test bench install uninstall clean $(programs) $(watched) $(benches)
 .NOTPARALLEL:
 
 all: $(programs)
@@ -59,6 +60,26 @@ bench-client_bench:
 
 bench-store_bench: store_bench
 	@python3 bench/mail_store.py
+
+# Where `make install` puts things; DESTDIR stands before all of it.
+PREFIX ?= /usr/local
+bindir := $(DESTDIR)$(PREFIX)/bin
+mandir := $(DESTDIR)$(PREFIX)/share/man
+completions := $(DESTDIR)$(PREFIX)/share
+
+install: all
+	install -d $(bindir) $(mandir)/man1 $(mandir)/man5
+	install -m 755 bin/getmail bin/popd $(bindir)
+	install -m 644 man/getmail.1 $(mandir)/man1
+	install -m 644 man/getmailrc.5 $(mandir)/man5
+	install -D -m 644 completions/getmail.bash $(completions)/bash-completion/completions/getmail
+	install -D -m 644 completions/_getmail $(completions)/zsh/site-functions/_getmail
+	install -D -m 644 completions/getmail.fish $(completions)/fish/vendor_completions.d/getmail.fish
+
+uninstall:
+	rm -f $(bindir)/getmail $(bindir)/popd $(mandir)/man1/getmail.1 $(mandir)/man5/getmailrc.5
+	rm -f $(completions)/bash-completion/completions/getmail $(completions)/zsh/site-functions/_getmail
+	rm -f $(completions)/fish/vendor_completions.d/getmail.fish
 
 clean:
 	rm -rf bin

@@ -83,9 +83,13 @@ def empty(name, given):
 
 
 def cut(name, given, place, fault):
-    """A conversation that is cut by `fault` in the reply at `place`, with the tail that the fault asks for."""
+    """A conversation that is cut by `fault` in the reply at `place`, with the tail that the fault asks for.
+
+    Where only QUIT's reply is wanting, the message is stored.
+    """
     tail = ["QUIT"] if fault == REFUSED and place != QUIT else []
-    return Conversation(name, given, printed([*COMMANDS[:place], *tail], f"cut {fault}"), 1)
+    stored = ["stored a1 15"] if place == QUIT else []
+    return Conversation(name, given, printed([*COMMANDS[:place], *tail], *stored, f"cut {fault}"), 1)
 
 
 def whole_conversations():
@@ -100,6 +104,24 @@ def whole_conversations():
         yield ended(f"positive first lines with the rest {rest!r}",
                     replies(greeting=first, USER=first, PASS=first, UIDL=first + wire("1 a1", "."),
                             LIST=first + wire("1 18", "."), RETR=first + wire("x", "."), QUIT=first), length=2)
+
+
+def several_conversations():
+    """Conversations with several messages: rows in any order, an id that stands twice, one of them refused."""
+    commands = [*COMMANDS[:LIST]]
+    opening = up_to(STAT, wire("+OK 3 17", "+OK", "3 c", "1 a", "2 b", ".", "+OK", "2 5", "3 7", "1 5", "."))
+    texts = [wire("+OK", text, ".") for text in ("one", "two", "three")]
+    fetched = [f"RETR {number}" for number in (1, 2, 3)]
+    stored = ["stored a 4", "stored b 4", "stored c 6"]
+    yield Conversation("three messages", opening + b"".join(texts) + wire("+OK"),
+                       printed([*commands, *fetched, "QUIT"], *stored, "ended"), 0)
+    yield Conversation("three messages, the second refused", opening + texts[0] + wire("-ERR no", "+OK"),
+                       printed([*commands, *fetched[:2], "QUIT"], stored[0], f"cut {REFUSED}"), 1)
+    yield Conversation("three messages, cut in the second", opening + texts[0] + b"+OK\r\ntw",
+                       printed([*commands, *fetched[:2]], stored[0], f"cut {ENDED_EARLY}"), 1)
+    twice = up_to(STAT, wire("+OK 2 10", "+OK", "1 x", "2 x", ".", "+OK", "1 5", "2 5", "."))
+    yield Conversation("one id at two messages", twice + texts[0] + wire("+OK"),
+                       printed([*commands, "RETR 1", "QUIT"], "stored x 4", "ended"), 0)
 
 
 def messages():
@@ -171,8 +193,10 @@ def stat_conversations():
                  " 1 99999999999999999999", " 18446744073709551617 18", " 1 36893488147419103233", " \xb9 18",
                  " 1\0 18"):
         yield cut(f"STAT not understood: {rest!r}", up_to(STAT, wire("+OK" + rest)), STAT, NOT_UNDERSTOOD)
-    for count in ("2", "3", "100000", "100001", "4294967295", "00000000000000000002"):
+    for count in ("100001", "4294967295", "00000000000000100001"):
         yield cut(f"STAT counts {count}", up_to(STAT, wire(f"+OK {count} 10")), STAT, TOO_MANY)
+    for count in ("2", "3", "100000", "00000000000000000002"):
+        yield cut(f"STAT counts {count}, and the end", up_to(STAT, wire(f"+OK {count} 10")), UIDL, ENDED_EARLY)
 
 
 def uidl_row_conversations():
@@ -281,6 +305,6 @@ def short_conversations():
         yield cut(f"ended after {length} octets", given[:length], place, ENDED_EARLY)
 
 
-TABLES = (whole_conversations, message_conversations, refused_conversations, misunderstood_conversations,
+TABLES = (whole_conversations, several_conversations, message_conversations, refused_conversations, misunderstood_conversations,
           stat_conversations, uidl_row_conversations, list_row_conversations, disagreeing_conversations,
           long_listing_conversations, long_line_conversations, short_conversations)

@@ -88,14 +88,21 @@ def uid_row(row):
     return int(match[1]), match[2]
 
 
-def fetch(server, sent):
-    """The conversation: notes each command in `sent`, and answers the id and the text, or None."""
+def items_of(count, rows):
+    """What the rows say of the messages 1 to `count`, in order."""
+    if sorted(number for number, _ in rows) != list(range(1, count + 1)):
+        raise Cut(known.LISTINGS_DISAGREE)
+    return [said for _, said in sorted(rows, key=lambda row: row[0])]
+
+
+def fetch(server, sent, stored):
+    """The conversation: notes each command in `sent`, and each id and text in `stored`."""
     server.first_line()
     for command in ("USER u", "PASS *", "STAT"):
         sent.append(command)
         rest = server.first_line()
     count, _ = two_numbers(rest, known.NOT_UNDERSTOOD)
-    if count > 1:
+    if count > known.ROW_LIMIT:
         raise Cut(known.TOO_MANY)
     sent.append("UIDL")
     server.first_line()
@@ -103,26 +110,26 @@ def fetch(server, sent):
     sent.append("LIST")
     server.first_line()
     sizes = server.rows(size_row)
-    if [number for number, _ in uids] != [1] * count or [number for number, _ in sizes] != [1] * count:
-        raise Cut(known.LISTINGS_DISAGREE)
-    stored = None
-    if count == 1:
-        sent.append("RETR 1")
+    uids, _ = items_of(count, uids), items_of(count, sizes)
+    for number, uid in enumerate(uids, 1):
+        if uid in uids[:number - 1]:
+            continue
+        sent.append(f"RETR {number}")
         server.first_line()
-        stored = uids[0][1], server.text()
+        stored.append((uid, server.text()))
     sent.append("QUIT")
     server.first_line()
-    return stored
 
 
 def answer(given):
     """What is to be written to standard output, and the status."""
-    sent = []
+    sent, stored = [], []
+    last, status = "ended", 0
     try:
-        stored = fetch(Input(given), sent)
+        fetch(Input(given), sent, stored)
     except Cut as cut:
         if cut.fault == known.REFUSED and sent[-1:] != ["QUIT"]:
             sent.append("QUIT")
-        return known.printed(sent, f"cut {cut.fault}"), 1
-    last = [b"stored %s %d" % (stored[0], len(stored[1]))] if stored else []
-    return known.printed(sent, *last, "ended"), 0
+        last, status = f"cut {cut.fault}", 1
+    lines = [b"stored %s %d" % (uid, len(text)) for uid, text in stored]
+    return known.printed(sent, *lines, last), status

@@ -6,18 +6,32 @@ from getmail import conversations as known
 from harness import growths, programs
 
 # Where the words can't be had, the program has not begun to rehearse.
-NO_WORDS = programs.Run(2, b"", b"getmail: usage: getmail --rehearse\n")
+NO_WORDS = programs.Run(2, b"", b"getmail: out of memory\n")
+
+# The faults of a session whose store or record refused a call, since its own growth was refused.
+STORE_REFUSED, RECORD_REFUSED = 11, 12
 
 
 def cut_answers(answer):
     """The outputs of a conversation that is cut for want of memory: after any number of its commands, QUIT apart.
 
-    QUIT needs no memory any more, planned or after a refusal.
+    QUIT needs no memory any more, planned or after a refusal. Where the store or the record wanted memory, RSET and QUIT
+    follow. What was stored by then is told.
     """
     lines = answer.out.splitlines(keepends=True)
     commands = [line for line in lines if line.startswith(b"C: ") and line != b"C: QUIT\n"]
-    cut = known.printed([], f"cut {known.NO_MEMORY}")
-    return [b"".join(commands[:count]) + cut for count in range(len(commands) + 1)]
+    stored = [line for line in lines if line.startswith(b"stored ")]
+    tail = known.printed(["RSET", "QUIT"])
+    answers = []
+    for count in range(len(commands) + 1):
+        sent = b"".join(commands[:count])
+        for told in range(len(stored) + 1):
+            kept = b"".join(stored[:told])
+            answers.append(sent + kept + known.printed([], f"cut {known.NO_MEMORY}"))
+            for fault in (STORE_REFUSED, RECORD_REFUSED):
+                for asked in (b"", known.printed(["RSET"]), tail):
+                    answers.append(sent + asked + kept + known.printed([], f"cut {fault}"))
+    return answers
 
 
 class RefusedGrowths(unittest.TestCase):

@@ -1,3 +1,1 @@
-pub mod FirstLemmas
-pub mod ListingLemmas
-pub mod TalkLemmas
+pub mod WordsLemmas

@@ -1,5 +1,4 @@
-pub mod Conversation
-pub mod Fault
-pub mod First
-pub mod Listing
+pub mod CommandLine
+pub mod Failures
+pub mod Places
 pub mod Rehearsal

@@ -1,36 +1,140 @@
-//! Fetches mail from a POP3 server. So far it rehearses: it holds the conversation of a small session
-//! with its standard input, and shows what it would send and store.
+//! `getmail`: fetches mail from a POP3 server (RFC 1939) into a Maildir.
 #![tactic(auto)]
 
-mod fault;
-mod first;
-mod listing;
+ghost use Rattle.rc_file.specs.Settings.{IsValid};
+
+mod connection;
+mod failure;
+mod fetching;
+mod place;
 mod rehearsal;
-mod talk;
+mod setup;
 mod transcript;
+mod words;
 
+use crate::connection::connect;
+use crate::failure::{Failure, failure_of, tell};
+use crate::fetching::fetch_into;
 use crate::rehearsal::rehearse;
+use crate::setup::{Setup, set_up};
+use crate::words::{Words, WordsFault, command, read_words};
+use fetch_rules::RcFault;
+use fetch_session::{Account, Store};
+use mail_store::{FolderMaildir, HostFile};
+use pop3_wire::StreamWire;
 use std::env;
+use std::hash::RandomState;
+use std::io::{self, ErrorKind};
 use std::process::ExitCode;
-use std::string::String;
-use std::vec::Vec;
+use std::time::{SystemTime, UNIX_EPOCH};
 
-/// Whether the words after the program's name are the one word `--rehearse`.
-fn asks_to_rehearse(words: &[String]) -> bool {
-    words.len() == 2 && words[1].as_str() == "--rehearse"
+/// Now, in seconds since 1970; 0 before that.
+fn seconds_now(rt: &HostRuntime) -> u64 {
+    match SystemTime::now(rt) {
+        Ok(now) => match now.duration_since(UNIX_EPOCH) {
+            Ok(passed) => passed.as_secs(),
+            Err(_) => 0,
+        },
+        Err(_) => 0,
+    }
+}
+
+/// Connects, holds one session, and answers the status.
+fn fetch(rt: &HostRuntime, setup: Setup) -> u8
+    requires { IsValid setup.settings }
+{
+    let Setup {
+        settings,
+        maildir,
+        record,
+    } = setup;
+    let hasher = match RandomState::new(rt) {
+        Ok(hasher) => hasher,
+        Err(error) => return tell(rt, failure_of(error, Failure::CannotRead)),
+    };
+    let stream = match connect(rt, settings.server.as_str(), settings.port) {
+        Ok(stream) => stream,
+        Err(failure) => return tell(rt, failure),
+    };
+    let mut wire = StreamWire::new(&stream, &stream);
+    let store = Store::Maildir(FolderMaildir::at(rt, maildir));
+    let mut account = Account::new(
+        rt.alloc(),
+        settings,
+        store,
+        HostFile::at(rt, record),
+        hasher,
+    );
+    let status = fetch_into(
+        rt.alloc(),
+        &mut account,
+        &mut wire,
+        seconds_now(rt),
+        &mut rt.stdout(),
+        &mut rt.stderr(),
+    );
+    let (_settings, store, _record) = account.into_parts();
+    let Store::Maildir(_maildir) = store;
+    status
+}
+
+/// Does what the words ask for, and answers the status.
+fn obey(rt: &HostRuntime, words: &Words) -> u8 {
+    if words.rehearse {
+        let status = rehearse(rt.alloc(), words.flags, rt.stdin(), rt.stdout());
+        if status == 2 {
+            return tell(rt, Failure::Rc(RcFault::Contradiction));
+        }
+        return status;
+    }
+    match set_up(rt, words) {
+        Ok(setup) => fetch(rt, setup),
+        Err(failure) => tell(rt, failure),
+    }
+}
+
+/// Shows clap's text for these words, help on standard output and a mistake on standard error.
+fn show(rt: &HostRuntime, arguments: &[String]) -> io::Result<()> {
+    match command(rt.alloc())?.try_get_matches_from(arguments) {
+        Ok(_) => Ok(()),
+        Err(error) => error.print(rt),
+    }
+}
+
+/// Reads the words, does what they ask for, and answers the status.
+fn start(rt: &HostRuntime, arguments: &[String]) -> u8 {
+    match read_words(rt.alloc(), arguments) {
+        Ok(words) => obey(rt, &words),
+        Err(WordsFault::NoMemory) => tell(rt, Failure::NoMemory),
+        Err(WordsFault::Usage) => {
+            let _ = show(rt, arguments);
+            2
+        }
+        Err(WordsFault::Help) => { if show(rt, arguments).is_ok() { 0 } else { 1 } }
+    }
+}
+
+/// The words of the command line, the program's name first. Where they can't be had, as where one
+/// isn't UTF-8, it is as if one were no option: the usage is shown.
+fn arguments<'a>(rt: &HostRuntime) -> Result<Vec<String>, Failure<'a>> {
+    match env::args(rt) {
+        Ok(words) => Ok(words.collect(rt.alloc())?),
+        Err(error) => {
+            if error.kind() == ErrorKind::OutOfMemory {
+                return Err(Failure::NoMemory);
+            }
+            let mut words = Vec::new(rt.alloc());
+            words.push(String::from_str(rt.alloc(), "getmail")?)?;
+            words.push(String::from_str(rt.alloc(), "\u{FFFD}")?)?;
+            Ok(words)
+        }
+    }
 }
 
 fn main(rt: HostRuntime) -> ExitCode {
-    let rehearses = match env::args(&rt) {
-        Ok(words) => match words.collect::<Vec<String>>(rt.alloc()) {
-            Ok(words) => asks_to_rehearse(&words),
-            Err(_) => false,
-        },
-        Err(_) => false,
+    let status = match arguments(&rt) {
+        Ok(arguments) => start(&rt, arguments.as_slice()),
+        Err(failure) => tell(&rt, failure),
     };
-    if !rehearses {
-        let _ = rt.eprintln("getmail: usage: getmail --rehearse");
-        return ExitCode::from(2);
-    }
-    ExitCode::from(rehearse(rt.alloc(), rt.stdin(), rt.stdout()))
+    ExitCode::from(status)
 }

@@ -1,66 +1,146 @@
-//! The rehearsal: a session whose server is a recorded conversation.
-ghost use Rattle.std.specs.Prelude.{◌≡◌, ◌≤◌, ◌++◌, IfOk, codes};
-ghost use Rattle.std.specs.Fmt.{decimal};
-ghost use Rattle.getmail.specs.First.{found_of};
-ghost use Rattle.getmail.specs.Rehearsal.{outcome_lines};
+//! The rehearsal: a session whose server is a recorded conversation, over a Maildir and a record in
+//! memory.
+ghost use Rattle.std.specs.Prelude.{◌≡◌, ◌≤◌, true, IfOk};
+ghost use Rattle.rc_file.specs.Flags.{is_contradiction};
+ghost use Rattle.rc_file.specs.Settings.{IsValid};
 
-use crate::first::fetch_first;
 use crate::transcript::Transcript;
+use fetch_rules::{Dest, Flags, RcFault, Settings, override_with};
+use fetch_session::{Account, Outcome, Store, fault_number, session};
+use mail_store::{AccountId, Folder, MemoryFile, MemoryMaildir, account_id, uid_of};
 use pop3_wire::StreamWire;
 use std::alloc::{AllocError, Global};
+use std::hash::{BuildHasherDefault, FoldHasher};
 use std::io;
 use std::io::{Read, Write};
-use std::vec::Vec;
 
-/// The lines on a session that stored a text of so many octets and ended.
-fn stored_lines(alloc: Global, uid: &[u8], length: usize) -> Result<Vec<u8>, AllocError>
-    ensures { IfOk result (λ text. text.items ≡ codes "stored " ++ (uid.now ++ (codes " " ++ (decimal length ++ codes "\nended\n")))) }
+const SERVER: &str = "rehearsal";
+
+const PORT: u16 = 110;
+
+const USER: &str = "u";
+
+/// The settings of a rehearsal: all options at their defaults.
+fn defaults(alloc: Global) -> Result<Settings, AllocError>
+    ensures { IfOk result IsValid }
 {
-    let rest = format!(in alloc; " {length}\nended\n")?;
-    let mut text = Vec::from_slice(alloc, b"stored ")?;
-    text.extend_from_slice(uid)?;
-    text.extend_from_slice(rest.as_bytes())?;
-    Ok(text)
+    Ok(Settings {
+        server: String::from_str(alloc, SERVER)?,
+        port: PORT,
+        username: String::from_str(alloc, USER)?,
+        password: String::from_str(alloc, "p")?,
+        dest: Dest::Maildir(String::from_str(alloc, "rehearsal/")?),
+        read_all: true,
+        delete: false,
+        delete_after: 0,
+        max_size: 0,
+        max_count: 0,
+        verbose: 1,
+    })
 }
 
-/// The lines on what became of a session: whole, or none of them where memory is wanting.
+/// The line on a file that was stored: its message's unique-id, and its length in bytes.
+fn put_stored(
+    alloc: Global,
+    lines: &mut Vec<u8>,
+    account: &AccountId,
+    name: &str,
+    length: usize,
+) -> Result<(), AllocError> {
+    if let Some(uid) = uid_of(alloc, account, name)? {
+        lines.extend_from_slice(b"stored ")?;
+        lines.extend_from_slice(uid.as_slice())?;
+        lines.extend_from_slice(format!(in alloc; " {length}\n")?.as_bytes())?;
+    }
+    Ok(())
+}
+
+/// The line on how a session ended: `ended`, or `cut` with its fault's number.
+fn outcome_line(alloc: Global, outcome: &Outcome) -> Result<String, AllocError> {
+    match fault_number(outcome) {
+        0 => String::from_str(alloc, "ended\n"),
+        number => format!(in alloc; "cut {number}\n"),
+    }
+}
+
+/// The lines on what was stored, in order of delivery, and on how the session ended: whole, or none
+/// of them where memory is wanting.
 fn lines_on(
     alloc: Global,
-    outcome: &Result<Option<(Vec<u8>, Vec<u8>)>, u8>,
-) -> Result<Vec<u8>, AllocError>
-    ensures { IfOk result (λ text. text.items ≡ outcome_lines (found_of outcome.now)) }
-{
-    match outcome {
-        Ok(None) => Vec::from_slice(alloc, b"ended\n"),
-        Ok(Some((uid, text))) => stored_lines(alloc, uid, text.len()),
-        Err(number) => Ok(format!(in alloc; "cut {number}\n")?.into_bytes()),
+    maildir: &MemoryMaildir,
+    outcome: &Outcome,
+) -> Result<Vec<u8>, AllocError> {
+    let account = account_id(SERVER, PORT, USER);
+    let mut lines = Vec::new(alloc);
+    for (name, text) in maildir.files(Folder::New) {
+        put_stored(alloc, &mut lines, &account, name.as_str(), text.len())?;
     }
+    lines.extend_from_slice(outcome_line(alloc, outcome)?.as_bytes())?;
+    Ok(lines)
 }
 
 /// Writes what became of a session.
 fn write_outcome<W: Write>(
     alloc: Global,
     output: &mut W,
-    outcome: &Result<Option<(Vec<u8>, Vec<u8>)>, u8>,
+    maildir: &MemoryMaildir,
+    outcome: &Outcome,
 ) -> io::Result<()> {
-    let lines = lines_on(alloc, outcome)?;
+    let lines = lines_on(alloc, maildir, outcome)?;
     output.write_all(&lines)?;
     output.flush()
 }
 
-/// Rehearses a session: `input` is the server, and `output` is shown each command as it is sent,
-/// then the id and the length of the text that was fetched, and how the session ended. It answers
-/// the status: 0 where the session ended, 1 where it was cut or `output` failed, or where memory is
-/// wanting for the last lines, of which then nothing is written.
-pub fn rehearse<R: Read + Drop, W: Write + Drop>(alloc: Global, input: R, output: W) -> u8
+/// Holds a session with these settings, and answers the status.
+fn rehearse_with<R: Read + Drop, W: Write + Drop>(
+    alloc: Global,
+    settings: Settings,
+    input: R,
+    output: W,
+) -> u8
+    requires { IsValid settings }
     ensures { result ≤ 1 }
 {
+    let store = Store::Maildir(MemoryMaildir::new(alloc));
+    let mut account = Account::new(
+        alloc,
+        settings,
+        store,
+        MemoryFile::missing(alloc),
+        BuildHasherDefault::<FoldHasher>::new(),
+    );
     let mut wire = StreamWire::new(input, Transcript::new(output));
-    let outcome = fetch_first(alloc, &mut wire);
+    let report = session(&mut account, &mut wire, 0);
     let (_input, transcript) = wire.into_parts();
     let mut output = transcript.into_inner();
-    match (write_outcome(alloc, &mut output, &outcome), outcome) {
-        (Ok(()), Ok(_)) => 0,
-        _ => 1,
+    let (_settings, store, _record) = account.into_parts();
+    let Store::Maildir(maildir) = store;
+    let written = write_outcome(alloc, &mut output, &maildir, &report.outcome);
+    if written.is_err() || report.outcome != Outcome::Ended {
+        return 1;
+    }
+    0
+}
+
+/// Rehearses a session of user `u` with password `p`: `input` is the server, and `output` is shown
+/// each command as it is sent, then each message that was stored, and how the session ended. It
+/// answers the status: 0 where the session ended, 1 where it was cut or `output` failed, or where
+/// memory is wanting for the last lines, of which then nothing is written, and 2, with nothing
+/// written, for opposite flags.
+pub fn rehearse<R: Read + Drop, W: Write + Drop>(
+    alloc: Global,
+    flags: Flags,
+    input: R,
+    output: W,
+) -> u8
+    ensures within { result ≤ 2 }
+    ensures opposite { result ≡ 2 → is_contradiction flags ≡ true }
+{
+    let Ok(settings) = defaults(alloc) else {
+        return 1;
+    };
+    match override_with(settings, flags) {
+        Ok(settings) => rehearse_with(alloc, settings, input, output),
+        Err(_) => 2,
     }
 }

@@ -1,0 +1,16 @@
+use Rattle.std.proofs.Common.{◌∙◌, ap₂}
+use Rattle.std.proofs.lemmas.Result.{IfOk-weaker}
+use Rattle.clap.specs.Words.{with_rule}
+use Rattle.getmail.proofs.words.command.Goals as goal
+
+pub returns : goal.returns
+returns c =
+    let first = c.in_ok-arg.ensures.shape c.value_option.ensures.local ∙ ap₂ with_rule c.new.ensures.app c.value_option.ensures.rule in
+    let second = c.in_ok-arg-2.ensures.shape c.value_option-2.ensures.local ∙ ap₂ with_rule first c.value_option-2.ensures.rule in
+    let third = c.in_ok-arg-3.ensures.shape c.flag.ensures.local ∙ ap₂ with_rule second c.flag.ensures.rule in
+    let fourth = c.in_ok-arg-4.ensures.shape c.flag-2.ensures.local ∙ ap₂ with_rule third c.flag-2.ensures.rule in
+    let fifth = c.in_ok-arg-5.ensures.shape c.flag-3.ensures.local ∙ ap₂ with_rule fourth c.flag-3.ensures.rule in
+    let sixth = c.in_ok-arg-6.ensures.shape c.flag-4.ensures.local ∙ ap₂ with_rule fifth c.flag-4.ensures.rule in
+    let seventh = c.in_ok-arg-7.ensures.shape c.flag-5.ensures.local ∙ ap₂ with_rule sixth c.flag-5.ensures.rule in
+    let eighth = c.in_ok-arg-8.ensures.shape c.flag-6.ensures.local ∙ ap₂ with_rule seventh c.flag-6.ensures.rule in
+    IfOk-weaker c.arg-9.result _ _ (λ command added. added.shape c.long_flag.ensures.local ∙ ap₂ with_rule eighth c.long_flag.ensures.rule) c.arg-9.ensures

@@ -1,0 +1,19 @@
+use Rattle.std.proofs.Common.{◌∙◌, List, ap, map, rules, subst}
+use Rattle.std.specs.String.{string_bytes}
+use Rattle.clap.specs.Kinds.{HasKind}
+use Rattle.clap.specs.Words.{App, Row, fault_of, is_simple_and_free}
+use Rattle.getmail.specs.CommandLine.{Asks}
+use Rattle.getmail.proofs.WordsLemmas.{getmail_is_free, mistake, rows_are}
+use Rattle.getmail.proofs.words.read_words.Goals as goal
+
+pub returns-in_ok-words_of-in-Ok-clause-asks : goal.returns-in_ok-words_of-in-Ok-clause-asks
+returns-in_ok-words_of-in-Ok-clause-asks c =
+    subst (λ (rows : List Row). Asks rows c.in_ok-words_of-in-Ok.field-0)
+    (rows_are _ _ c.in-Ok.matches c.in_ok-command.ensures c.in-Ok.ensures.matches) c.in_ok-words_of-in-Ok.ensures
+
+pub returns-in-Err-clause-usage : goal.returns-in-Err-clause-usage
+returns-in-Err-clause-usage c told =
+    mistake _ c.in-Err.error c.fault_of_error.result
+    (subst (λ (app : App). HasKind (fault_of app (map string_bytes c.args.words.now)) c.in-Err.error) c.in_ok-command.ensures
+    (c.in-Err.ensures.kinds (ap is_simple_and_free c.in_ok-command.ensures ∙ getmail_is_free)))
+    c.fault_of_error.ensures.help c.fault_of_error.ensures.memory (search rules)

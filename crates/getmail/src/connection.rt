@@ -1,0 +1,36 @@
+//! The TCP connection to the server.
+use crate::failure::{Failure, failure_of};
+use std::io;
+use std::net::{SocketAddr, TcpStream, ToSocketAddrs};
+use std::time::Duration;
+
+/// How long one address of the server is given to take the connection.
+const CONNECT_SECONDS: u64 = 60;
+
+/// How long a read or a write may wait. What takes longer is refused, and the session is cut, so that
+/// no run hangs for ever.
+const WAIT_SECONDS: u64 = 180;
+
+/// The connection to one address, with its waits bounded. Each command goes out at once.
+fn connect_to(rt: &HostRuntime, address: SocketAddr) -> io::Result<TcpStream> {
+    let stream = TcpStream::connect_timeout(rt, &address, Duration::from_secs(CONNECT_SECONDS))?;
+    let wait = Some(Duration::from_secs(WAIT_SECONDS));
+    stream.set_read_timeout(wait)?;
+    stream.set_write_timeout(wait)?;
+    stream.set_nodelay(true)?;
+    Ok(stream)
+}
+
+/// The connection to the first of the server's addresses that takes one.
+pub fn connect<'a>(rt: &HostRuntime, server: &'a str, port: u16) -> Result<TcpStream, Failure<'a>> {
+    let addresses = match (server, port).to_socket_addrs(rt) {
+        Ok(addresses) => addresses,
+        Err(error) => return Err(failure_of(error, Failure::CannotConnect(server, port))),
+    };
+    for address in addresses {
+        if let Ok(stream) = connect_to(rt, address) {
+            return Ok(stream);
+        }
+    }
+    Err(Failure::CannotConnect(server, port))
+}

@@ -1,0 +1,100 @@
+//! Why a run ends before its session: the line on standard error, and the exit status.
+ghost use Rattle.std.specs.Prelude.{◌≡◌, ◌≢◌};
+ghost use Rattle.std.specs.IoError.{error_kind};
+ghost use Rattle.getmail.specs.Failures.{status_of};
+
+use fetch_rules::{RcFault, rc_text};
+use std::alloc::{AllocError, AllocFailed, Global};
+use std::io::{self, ErrorKind};
+
+/// Why a run ends before its session.
+#[derive(Clone, Copy)]
+pub enum Failure<'a> {
+    /// HOME is wanted, and isn't set or isn't UTF-8.
+    NoHome,
+    /// The rc file can't be read.
+    CannotRead,
+    /// The rc file, or the flags, can't be obeyed.
+    Rc(RcFault),
+    /// None of the addresses of this server and port can be connected to.
+    CannotConnect(&'a str, u16),
+    /// A growth was refused before there was a connection.
+    NoMemory,
+}
+
+impl<'a> From<AllocError> for Failure<'a> {
+    ghost use Rattle.std.specs.Prelude.{◌≡◌};
+    ghost use Rattle.getmail.specs.declared.failure.Failure.TheVariants.{NoMemory};
+
+    ghost from_gives = { λ _ failure. failure ≡ NoMemory };
+
+    fn from(_error: AllocError) -> Failure<'a> {
+        Failure::NoMemory
+    }
+}
+
+impl<'a, T: Drop> From<AllocFailed<T>> for Failure<'a> {
+    ghost use Rattle.std.specs.Prelude.{◌≡◌};
+    ghost use Rattle.getmail.specs.declared.failure.Failure.TheVariants.{NoMemory};
+
+    ghost from_gives = { λ _ failure. failure ≡ NoMemory };
+
+    fn from(_error: AllocFailed<T>) -> Failure<'a> {
+        Failure::NoMemory
+    }
+}
+
+impl<'a> From<RcFault> for Failure<'a> {
+    ghost use Rattle.std.specs.Prelude.{◌≡◌};
+    ghost use Rattle.getmail.specs.declared.failure.Failure.TheVariants.{Rc};
+
+    ghost from_gives = { λ fault failure. failure ≡ Rc fault };
+
+    fn from(fault: RcFault) -> Failure<'a> {
+        Failure::Rc(fault)
+    }
+}
+
+/// The failure that an error of the host stands for: want of memory is told as such.
+pub fn failure_of<'a>(error: io::Error, failure: Failure<'a>) -> Failure<'a>
+    ensures memory { error_kind error ≡ ErrorKind.OutOfMemory → result ≡ Failure.NoMemory }
+    ensures other { error_kind error ≢ ErrorKind.OutOfMemory → result ≡ failure.entry }
+{
+    if error.kind() == ErrorKind::OutOfMemory {
+        Failure::NoMemory
+    } else {
+        failure
+    }
+}
+
+/// Tells what is wrong with an rc file.
+fn tell_rc_fault(rt: &HostRuntime, fault: &RcFault) {
+    let alloc: Global = rt.alloc();
+    let _ = match rc_text(alloc, fault) {
+        Ok(text) => rt.eprintln(format_args!("getmail: {text}")),
+        Err(_) => rt.eprintln("getmail: out of memory"),
+    };
+}
+
+/// Tells a failure on standard error, and gives the exit status: 1 where no connection was made, 2
+/// for all that is found before. Where standard error takes nothing the status alone tells it.
+pub fn tell(rt: &HostRuntime, failure: Failure<'_>) -> u8
+    ensures { result ≡ status_of failure.entry }
+{
+    let _ = match failure {
+        Failure::NoHome => rt.eprintln("getmail: HOME is not set"),
+        Failure::CannotRead => rt.eprintln("getmail: cannot read rc file"),
+        Failure::Rc(fault) => {
+            tell_rc_fault(rt, &fault);
+            Ok(())
+        }
+        Failure::CannotConnect(server, port) => {
+            rt.eprintln(format_args!("getmail: cannot connect to {server}:{port}"))
+        }
+        Failure::NoMemory => rt.eprintln("getmail: out of memory"),
+    };
+    match failure {
+        Failure::CannotConnect(_, _) => 1,
+        _ => 2,
+    }
+}

@@ -1,0 +1,71 @@
+//! Where the rc file, the record and the destination stand.
+ghost use Rattle.std.specs.Prelude.{◌≡◌, IfOk};
+ghost use Rattle.std.specs.String.{string_bytes};
+ghost use Rattle.getmail.specs.Places.{joined, stands_alone};
+
+use crate::failure::Failure;
+use fetch_rules::full_path;
+use std::alloc::{AllocError, Global};
+use std::env::{self, VarError};
+
+/// The folder of the rc file and the record, where none is given.
+const FOLDER: &str = "~/.getmail";
+
+/// The rc file's name, where none is given.
+const RC_FILE: &str = "getmailrc";
+
+/// The path of a file of a folder, with one `/` between them.
+pub fn joined(alloc: Global, folder: &str, file: &str) -> Result<String, AllocError>
+    ensures { IfOk result (λ path. string_bytes path ≡ joined folder.now file.now) }
+{
+    let mut path = String::from_str(alloc, folder)?;
+    if !folder.as_bytes().ends_with(b"/") {
+        path.push_str("/")?;
+    }
+    path.push_str(file)?;
+    Ok(path)
+}
+
+/// Whether a path is no name in the program's folder: it begins with `/` or `~/`.
+fn stands_alone(path: &str) -> bool
+    ensures { result ≡ stands_alone path.now }
+{
+    path.as_bytes().starts_with(b"/") || path.as_bytes().starts_with(b"~/")
+}
+
+/// The user's home.
+fn home<'a>(rt: &HostRuntime) -> Result<String, Failure<'a>> {
+    match env::var(rt, "HOME") {
+        Ok(home) => Ok(home),
+        Err(VarError::OutOfMemory) => Err(Failure::NoMemory),
+        Err(_) => Err(Failure::NoHome),
+    }
+}
+
+/// A path, with the home in the place of a leading `~`. The home is looked up only where it is
+/// needed.
+pub fn whole_path<'a>(rt: &HostRuntime, path: &str) -> Result<String, Failure<'a>> {
+    if path.as_bytes().starts_with(b"~/") {
+        let home = home(rt)?;
+        return Ok(full_path(rt.alloc(), path, home.as_str())?);
+    }
+    Ok(String::from_str(rt.alloc(), path)?)
+}
+
+/// The folder of the rc file and the record.
+pub fn folder<'a>(rt: &HostRuntime, given: Option<&str>) -> Result<String, Failure<'a>> {
+    whole_path(rt, given.unwrap_or(FOLDER))
+}
+
+/// The rc file, in the folder unless its path stands alone.
+pub fn rc_file<'a>(
+    rt: &HostRuntime,
+    folder: &str,
+    given: Option<&str>,
+) -> Result<String, Failure<'a>> {
+    let path = given.unwrap_or(RC_FILE);
+    if stands_alone(path) {
+        return whole_path(rt, path);
+    }
+    Ok(joined(rt.alloc(), folder, path)?)
+}

@@ -1,0 +1,87 @@
+//! What a run works with: the settings of the rc file, changed by the flags, and the paths.
+ghost use Rattle.std.specs.Prelude.{◌≡◌, IfOk};
+ghost use Rattle.rc_file.specs.Settings.{IsValid};
+
+use crate::failure::{Failure, failure_of};
+use crate::place::{folder, joined, rc_file, whole_path};
+use crate::words::Words;
+use fetch_rules::{Dest, Key, RcFault, Settings, Warning, override_with, read_rc, warning_text};
+use mail_store::account_id;
+use std::alloc::{AllocError, Global};
+use std::fs;
+use std::io::{self, Read};
+
+/// One octet more than an rc file may have, by which a longer one is told.
+const RC_ROOM: u64 = 65_537;
+
+/// What a run works with.
+#[derive(Drop)]
+pub struct Setup {
+    /// The settings, changed by the flags.
+    pub settings: Settings,
+    /// The Maildir's path.
+    pub maildir: String,
+    /// The record's path.
+    pub record: String,
+}
+
+/// The octets of the rc file, and of a longer one so many that this is told.
+fn read_file(rt: &HostRuntime, path: &str) -> io::Result<Vec<u8>> {
+    let mut bytes = Vec::new(rt.alloc());
+    fs::open(rt, path)?.take(RC_ROOM).read_to_end(&mut bytes)?;
+    Ok(bytes)
+}
+
+/// Tells what of the rc file has no effect.
+fn tell_warnings<'a>(rt: &HostRuntime, warnings: &[Warning]) -> Result<(), Failure<'a>> {
+    for warning in warnings {
+        let text = warning_text(rt.alloc(), warning)?;
+        let _ = rt.eprintln(format_args!("getmail: {text}"));
+    }
+    Ok(())
+}
+
+/// The settings of the rc file, with its warnings told, changed by the flags.
+fn settings_of<'a>(rt: &HostRuntime, path: &str, words: &Words) -> Result<Settings, Failure<'a>>
+    ensures { IfOk result IsValid }
+{
+    let bytes = match read_file(rt, path) {
+        Ok(bytes) => bytes,
+        Err(error) => return Err(failure_of(error, Failure::CannotRead)),
+    };
+    let (settings, warnings) = read_rc(rt.alloc(), bytes.as_slice())?;
+    tell_warnings(rt, warnings.as_slice())?;
+    Ok(override_with(settings, words.flags)?)
+}
+
+/// The path of the account's record in the folder.
+fn record_path(alloc: Global, folder: &str, settings: &Settings) -> Result<String, AllocError> {
+    let account = account_id(
+        settings.server.as_str(),
+        settings.port,
+        settings.username.as_str(),
+    );
+    let digest = account.as_str();
+    let name = format!(in alloc; "seen-{digest}")?;
+    joined(alloc, folder, name.as_str())
+}
+
+/// What a run works with, or the first of: HOME is wanted and not set, the rc file can't be read or
+/// obeyed, the flags are opposite, the destination is of a kind that is not supported.
+pub fn set_up<'a>(rt: &HostRuntime, words: &Words) -> Result<Setup, Failure<'a>>
+    ensures { IfOk result (λ setup. IsValid setup.settings) }
+{
+    let folder = folder(rt, words.dir.as_deref())?;
+    let path = rc_file(rt, folder.as_str(), words.rcfile.as_deref())?;
+    let settings = settings_of(rt, path.as_str(), words)?;
+    let maildir = match &settings.dest {
+        Dest::Maildir(path) => whole_path(rt, path.as_str())?,
+        Dest::Mboxrd(_) => return Err(Failure::Rc(RcFault::Unsupported(Key::DestinationKind))),
+    };
+    let record = record_path(rt.alloc(), folder.as_str(), &settings)?;
+    Ok(Setup {
+        settings,
+        maildir,
+        record,
+    })
+}

@@ -1,0 +1,203 @@
+//! The command line, read with clap.
+ghost use Rattle.std.specs.Prelude.{◌≡◌, ◌≢◌, ℕ, IfOk, IfErr, Err, [], false, map, option_map};
+ghost use Rattle.std.specs.String.{string_bytes};
+ghost use Rattle.clap.specs.Values.{kind_of};
+ghost use Rattle.clap.specs.Words.{app_of, fault_of, found_of, matches_of, rows_of, rule_of};
+ghost use Rattle.getmail.specs.CommandLine.{Asks, IsHelp, IsMistake, flag_rule, flags_in, getmail, long_flag_rule, value_rule};
+
+use clap::error::ErrorKind;
+use clap::{Arg, ArgAction, ArgMatches, Command, Error};
+use fetch_rules::Flags;
+use std::alloc::{AllocError, Global};
+
+/// What the command line asks for.
+#[derive(Drop)]
+pub struct Words {
+    /// The rc file, as written; none for the one of every day.
+    pub rcfile: Option<String>,
+    /// The folder of the rc file and the record, as written.
+    pub dir: Option<String>,
+    /// What goes before the rc file.
+    pub flags: Flags,
+    /// Whether a session is held with standard input.
+    pub rehearse: bool,
+}
+
+/// Why the command line asks for no run.
+#[derive(Clone, Copy, Debug, PartialEq, Eq)]
+pub enum WordsFault {
+    /// It asks for help.
+    Help,
+    /// It is no command line of this program.
+    Usage,
+    /// A growth was refused.
+    NoMemory,
+}
+
+impl From<AllocError> for WordsFault {
+    ghost use Rattle.std.specs.Prelude.{◌≡◌};
+    ghost use Rattle.getmail.specs.declared.words.WordsFault.TheVariants.{NoMemory};
+
+    ghost from_gives = { λ _ fault. fault ≡ NoMemory };
+
+    fn from(_error: AllocError) -> WordsFault {
+        WordsFault::NoMemory
+    }
+}
+
+/// An option with a value, given at most once.
+fn value_option<'a>(
+    alloc: Global,
+    name: &'a str,
+    short: char,
+    value: &'a str,
+    help: &'a str,
+) -> Arg<'a>
+    ensures rule { rule_of result ≡ value_rule name.entry.now short }
+    ensures local { result.global ≡ false }
+{
+    Arg::new(alloc, name)
+        .short(short)
+        .long(name)
+        .value_name(value)
+        .help(help)
+        .action(ArgAction::Set)
+}
+
+/// A flag, given any number of times.
+fn flag<'a>(alloc: Global, name: &'a str, short: char, help: &'a str) -> Arg<'a>
+    ensures rule { rule_of result ≡ flag_rule name.entry.now short }
+    ensures local { result.global ≡ false }
+{
+    Arg::new(alloc, name)
+        .short(short)
+        .long(name)
+        .help(help)
+        .action(ArgAction::Count)
+}
+
+/// A flag with no short form.
+fn long_flag<'a>(alloc: Global, name: &'a str, help: &'a str) -> Arg<'a>
+    ensures rule { rule_of result ≡ long_flag_rule name.entry.now }
+    ensures local { result.global ≡ false }
+{
+    Arg::new(alloc, name)
+        .long(name)
+        .help(help)
+        .action(ArgAction::Count)
+}
+
+/// The options and flags of the program.
+pub fn command<'a>(alloc: Global) -> Result<Command<'a>, AllocError>
+    ensures { IfOk result (λ command. app_of command ≡ getmail) }
+{
+    Command::new(alloc, "getmail")
+        .arg(value_option(
+            alloc,
+            "rcfile",
+            'r',
+            "FILE",
+            "Read the settings from FILE, in DIR unless it begins with / or ~/ [getmailrc]",
+        ))?
+        .arg(value_option(
+            alloc,
+            "getmaildir",
+            'g',
+            "DIR",
+            "Keep the rc file and the record in DIR [~/.getmail]",
+        ))?
+        .arg(flag(
+            alloc,
+            "verbose",
+            'v',
+            "Report more, each time by one, up to 2",
+        ))?
+        .arg(flag(alloc, "quiet", 'q', "Write no report"))?
+        .arg(flag(
+            alloc,
+            "all",
+            'a',
+            "Fetch all messages, those too that were delivered before",
+        ))?
+        .arg(flag(
+            alloc,
+            "new",
+            'n',
+            "Fetch only messages that were not delivered before",
+        ))?
+        .arg(flag(alloc, "delete", 'd', "Delete from the server what is held"))?
+        .arg(flag(
+            alloc,
+            "dont-delete",
+            'l',
+            "Delete nothing now, unless delete_after says so",
+        ))?
+        .arg(long_flag(
+            alloc,
+            "rehearse",
+            "Hold a session with standard input, and store nothing",
+        ))
+}
+
+/// A text of its own.
+fn copy(alloc: Global, text: Option<&str>) -> Result<Option<String>, AllocError>
+    ensures { IfOk result (λ owned. option_map string_bytes owned ≡ option_map (λ t. t.now) text.entry) }
+{
+    match text {
+        None => Ok(None),
+        Some(text) => Ok(Some(String::from_str(alloc, text)?)),
+    }
+}
+
+/// The flags among clap's matches.
+fn flags_of(matches: &ArgMatches<'_>) -> Flags
+    ensures { result ≡ flags_in (rows_of (found_of matches.now)) }
+{
+    Flags {
+        all: matches.get_count("all") > 0,
+        new_only: matches.get_count("new") > 0,
+        delete: matches.get_count("delete") > 0,
+        dont_delete: matches.get_count("dont-delete") > 0,
+        quiet: matches.get_count("quiet") > 0,
+        verbose: matches.get_count("verbose"),
+    }
+}
+
+/// What clap's matches ask for.
+fn words_of(alloc: Global, matches: &ArgMatches<'_>) -> Result<Words, AllocError>
+    ensures { IfOk result (Asks (rows_of (found_of matches.now))) }
+{
+    Ok(Words {
+        rcfile: copy(alloc, matches.get_str("rcfile"))?,
+        dir: copy(alloc, matches.get_str("getmaildir"))?,
+        flags: flags_of(matches),
+        rehearse: matches.get_count("rehearse") > 0,
+    })
+}
+
+/// Which fault an error of clap is.
+fn fault_of_error(error: &Error) -> WordsFault
+    ensures help { kind_of error.now ≡ ErrorKind.DisplayHelp → result ≡ WordsFault.Help }
+    ensures memory { kind_of error.now ≡ ErrorKind.OutOfMemory → result ≡ WordsFault.NoMemory }
+    ensures usage { kind_of error.now ≢ ErrorKind.DisplayHelp → kind_of error.now ≢ ErrorKind.OutOfMemory
+        → result ≡ WordsFault.Usage }
+{
+    match error.kind() {
+        ErrorKind::DisplayHelp => WordsFault::Help,
+        ErrorKind::OutOfMemory => WordsFault::NoMemory,
+        _ => WordsFault::Usage,
+    }
+}
+
+/// What these words ask for, the program's name first.
+pub fn read_words(alloc: Global, words: &[String]) -> Result<Words, WordsFault>
+    ensures asks { IfOk result (Asks (matches_of getmail (map string_bytes words.now))) }
+    ensures passes { fault_of getmail (map string_bytes words.now) ≡ [] → IfErr result (λ fault. fault ≡ WordsFault.NoMemory) }
+    ensures help { result ≡ Err WordsFault.Help → IsHelp (fault_of getmail (map string_bytes words.now)) }
+    ensures usage { result ≡ Err WordsFault.Usage → IsMistake (fault_of getmail (map string_bytes words.now)) }
+{
+    match command(alloc)?.try_get_matches_from(words) {
+        Ok(matches) => Ok(words_of(alloc, &matches)?),
+        Err(error) => Err(fault_of_error(&error)),
+    }
+}

@@ -1,0 +1,79 @@
+"""An account in a home folder of its own: the rc file, the Maildir, the record, and runs of `getmail` over it."""
+
+import hashlib
+import os
+import subprocess
+import tempfile
+from pathlib import Path
+
+from harness import programs
+from harness.kernel import LOOPBACK
+
+RC = """\
+[retriever]
+type = SimplePOP3Retriever
+server = {server}
+port = {port}
+username = u
+password = p
+
+[destination]
+type = Maildir
+path = ~/Maildir/
+
+[options]
+read_all = false
+"""
+
+
+class Account:
+    """The account of user `u` at a port of this machine; removed with the `with` block."""
+
+    def __init__(self, port, options=""):
+        self.holder = tempfile.TemporaryDirectory()
+        self.home = Path(self.holder.name)
+        self.maildir = self.home / "Maildir"
+        for part in ("tmp", "new", "cur"):
+            (self.maildir / part).mkdir(parents=True)
+        self.folder = self.home / ".getmail"
+        self.folder.mkdir()
+        self.rcfile = self.folder / "getmailrc"
+        self.rcfile.write_text(RC.format(server=LOOPBACK, port=port) + options)
+        self.digest = hashlib.sha256(f"{LOOPBACK}\0{port}\0u".encode()).hexdigest()
+        self.record = self.folder / f"seen-{self.digest}"
+
+    def __enter__(self):
+        return self
+
+    def __exit__(self, *_):
+        self.holder.cleanup()
+
+    def run(self, *words, **changes):
+        """Runs `getmail` in this home and answers what it left."""
+        return programs.run("getmail", *words, HOME=str(self.home), **changes)
+
+    def start(self, *words):
+        """Starts `getmail` in this home."""
+        return subprocess.Popen([programs.path_of("getmail"), *words], stdin=subprocess.DEVNULL,
+                                stdout=subprocess.PIPE, stderr=subprocess.PIPE,
+                                env=programs.environment(HOME=str(self.home)))
+
+    def name(self, uid):
+        """The name of a unique-id's file."""
+        return f"{self.digest}.{uid.hex()}"
+
+    def held(self):
+        """The unique-ids of the files in `new` and `cur` with their bytes, as often as they stand there."""
+        found = []
+        for part in ("new", "cur"):
+            for entry in sorted(os.listdir(self.maildir / part)):
+                base = entry.split(":")[0]
+                owner, _, uid = base.partition(".")
+                if owner == self.digest:
+                    found.append((bytes.fromhex(uid), (self.maildir / part / entry).read_bytes()))
+        return sorted(found)
+
+    def read_all_new(self):
+        """Moves each file of `new` to `cur`, as a mail reader does."""
+        for entry in os.listdir(self.maildir / "new"):
+            os.rename(self.maildir / "new" / entry, self.maildir / "cur" / (entry + ":2,S"))

@@ -1,0 +1,111 @@
+"""A POP3 server for one client at a time, over loopback, that can break off after any octet of its replies.
+
+It knows what `getmail` sends (USER, PASS, STAT, UIDL, LIST, RETR, DELE, RSET, QUIT), writes down each command, and removes
+marked messages at QUIT, as RFC 1939 has it.
+"""
+
+import socket
+import threading
+
+from harness import programs
+from harness.kernel import LOOPBACK
+
+
+class Cut(Exception):
+    """The server breaks the connection off here."""
+
+
+def lines_of(text):
+    """The lines of a text on the wire, dot-stuffed, with the end mark."""
+    body = b"".join((b"." if line.startswith(b".") else b"") + line + b"\r\n" for line in text.split(b"\n")[:-1])
+    return body + b".\r\n"
+
+
+def size_of(text):
+    """The octets of a text on the wire, without stuffing."""
+    return len(text) + text.count(b"\n")
+
+
+class Server:
+    """The messages, as pairs of a unique-id and a text whose lines end in LF, and one session after the other."""
+
+    def __init__(self, messages, refuses=()):
+        self.messages = list(messages)
+        self.refuses = tuple(refuses)
+        self.commands = []
+        self.room = None
+        self.socket = socket.create_server((LOOPBACK, 0))
+        self.socket.settimeout(programs.SECONDS)
+        self.port = self.socket.getsockname()[1]
+
+    def __enter__(self):
+        return self
+
+    def __exit__(self, *_):
+        self.socket.close()
+
+    def begin_session(self, octets=None):
+        """Serves one connection in a thread of its own; with `octets` it breaks off after so many octets of replies."""
+        self.commands = []
+        self.room = octets
+        thread = threading.Thread(target=self._serve, daemon=True)
+        thread.start()
+        return thread
+
+    def _say(self, octets):
+        if self.room is not None and self.room <= len(octets):
+            self.client.sendall(octets[:self.room])
+            raise Cut
+        self.client.sendall(octets)
+        if self.room is not None:
+            self.room -= len(octets)
+
+    def _serve(self):
+        self.client, _ = self.socket.accept()
+        self.client.settimeout(programs.SECONDS)
+        self.client.setsockopt(socket.IPPROTO_TCP, socket.TCP_NODELAY, 1)
+        self.marked = set()
+        with self.client, self.client.makefile("rb") as given:
+            try:
+                self._say(b"+OK ready\r\n")
+                for line in given:
+                    command = line.removesuffix(b"\r\n")
+                    self.commands.append(command.decode())
+                    self._say(self._answer(command))
+                    if command == b"QUIT":
+                        return
+            except (Cut, ConnectionError):
+                # What the client still sends is read, so that the end comes in order and isn't a reset.
+                try:
+                    self.client.shutdown(socket.SHUT_WR)
+                    while self.client.recv(65536):
+                        pass
+                except OSError:
+                    pass
+
+    def _left(self):
+        return [(number, message) for number, message in enumerate(self.messages, 1) if number not in self.marked]
+
+    def _rows(self, row_of):
+        return b"+OK\r\n" + b"".join(row_of(number, *message) for number, message in self._left()) + b".\r\n"
+
+    def _answer(self, command):
+        if command.decode() in self.refuses:
+            return b"-ERR refused\r\n"
+        word, _, argument = command.partition(b" ")
+        if word == b"STAT":
+            left = self._left()
+            return b"+OK %d %d\r\n" % (len(left), sum(size_of(text) for _, (_, text) in left))
+        if word == b"UIDL":
+            return self._rows(lambda number, uid, text: b"%d %s\r\n" % (number, uid))
+        if word == b"LIST":
+            return self._rows(lambda number, uid, text: b"%d %d\r\n" % (number, size_of(text)))
+        if word == b"RETR":
+            return b"+OK\r\n" + lines_of(self.messages[int(argument) - 1][1])
+        if word == b"DELE":
+            self.marked.add(int(argument))
+        elif word == b"RSET":
+            self.marked.clear()
+        elif word == b"QUIT":
+            self.messages = [message for _, message in self._left()]
+        return b"+OK\r\n"

@@ -1,0 +1,188 @@
+"""Sessions over loopback with a server that breaks off wherever it likes, into a Maildir in a real folder."""
+
+import os
+import signal
+import socket
+import stat
+import threading
+import time
+import unittest
+
+from getmail.account import Account
+from getmail.server import Server
+from harness import programs
+from harness.kernel import LOOPBACK
+
+THREE = [(b"a", b"one\n"), (b"b", b".two\n\n"), (b"c", b"three\nFrom x\r\n")]
+LOGIN = ["USER u", "PASS p", "STAT", "UIDL", "LIST"]
+REPORT = ("SimplePOP3Retriever:u@{server}:{port}:\n"
+          "msg 1/3 (4 bytes) delivered\nmsg 2/3 (6 bytes) delivered\nmsg 3/3 (14 bytes) delivered\n"
+          "3 messages (24 bytes) retrieved, 0 skipped, 0 deleted\n")
+
+
+class Fetching(unittest.TestCase):
+    def setUp(self):
+        self.server = Server(THREE)
+        self.addCleanup(self.server.socket.close)
+        self.account = Account(self.server.port)
+        self.addCleanup(self.account.holder.cleanup)
+
+    def session(self, *words, octets=None, **changes):
+        """One run of the program against one session of the server."""
+        thread = self.server.begin_session(octets)
+        run = self.account.run(*words, **changes)
+        thread.join(programs.SECONDS)
+        return run
+
+    def check_held(self, messages):
+        self.assertEqual(self.account.held(), sorted(messages))
+
+    def check_good(self, run):
+        self.assertEqual((run.status, run.err), (0, b""))
+
+
+class Sessions(Fetching):
+    def test_three_messages_are_fetched_in_order_and_reported(self):
+        run = self.session()
+        self.check_good(run)
+        self.assertEqual(run.out.decode(), REPORT.format(server=LOOPBACK, port=self.server.port))
+        self.assertEqual(self.server.commands, LOGIN + ["RETR 1", "RETR 2", "RETR 3", "QUIT"])
+        self.check_held(THREE)
+
+    def test_nothing_is_fetched_twice(self):
+        self.session()
+        run = self.session("-q")
+        self.assertEqual((run.status, run.out, run.err), (0, b"", b""))
+        self.assertEqual(self.server.commands, LOGIN + ["QUIT"])
+        self.check_held(THREE)
+
+    def test_files_that_a_reader_has_taken_are_held(self):
+        self.session()
+        self.account.read_all_new()
+        self.account.record.unlink()
+        self.check_good(self.session())
+        self.assertEqual(self.server.commands, LOGIN + ["QUIT"])
+        self.check_held(THREE)
+
+    def test_what_is_held_is_deleted(self):
+        self.check_good(self.session("-d"))
+        self.assertEqual(self.server.commands,
+                         LOGIN + ["RETR 1", "DELE 1", "RETR 2", "DELE 2", "RETR 3", "DELE 3", "QUIT"])
+        self.assertEqual(self.server.messages, [])
+        self.check_held(THREE)
+
+    def test_files_are_the_owners_alone(self):
+        os.umask(os.umask(0))
+        self.session()
+        for path in [self.account.record, *(self.account.maildir / "new").iterdir()]:
+            self.assertEqual(stat.S_IMODE(path.stat().st_mode), 0o600, path)
+
+    def test_a_refused_password_stores_nothing(self):
+        self.server.refuses = ("PASS p",)
+        run = self.session()
+        self.assertEqual((run.status, run.err), (1, b"getmail: server refused PASS\n"))
+        self.assertEqual(self.server.commands, ["USER u", "PASS p", "QUIT"])
+        self.check_held([])
+
+    def test_a_refused_message_blocks_those_behind_it(self):
+        self.server.refuses = ("RETR 2",)
+        run = self.session()
+        self.assertEqual((run.status, run.err), (1, b"getmail: server refused RETR 2\n"))
+        self.check_held(THREE[:1])
+        self.server.refuses = ()
+        self.check_good(self.session())
+        self.check_held(THREE)
+
+
+class BrokenOff(Fetching):
+    def length(self, *words):
+        """The octets of all replies of an uncut session."""
+        self.session(*words, octets=1 << 30)
+        return (1 << 30) - self.server.room
+
+    def check_every_cut(self, *words):
+        """Each message once, in order, whatever octet is the last one; and then an uncut session."""
+        with Account(self.server.port) as measured:
+            self.account, kept = measured, self.account
+            total = self.length(*words)
+            self.account = kept
+        for octets in range(total):
+            with self.subTest(octets=octets), Account(self.server.port) as account:
+                self.account = account
+                self.server.messages = list(THREE)
+                run = self.session(*words, octets=octets)
+                self.assertEqual((run.status, run.err), (1, b"getmail: connection ended by the server\n"))
+                held = account.held()
+                self.assertEqual(held, sorted(THREE)[:len(held)])
+                self.check_good(self.session(*words))
+                self.check_held(THREE)
+
+    def test_a_connection_cut_after_every_octet(self):
+        self.check_every_cut("-q")
+
+    def test_a_connection_cut_after_every_octet_while_deleting(self):
+        self.check_every_cut("-q", "-d")
+        self.assertEqual(self.server.messages, [])
+
+
+class Killed(Fetching):
+    def test_a_killed_run_loses_and_doubles_nothing(self):
+        self.server.messages = [(b"%d" % n, b"line %d\n" % n * 200) for n in range(100, 160)]
+        wanted = list(self.server.messages)
+        for kill_after in [n * 0.002 for n in range(40)]:
+            with self.subTest(kill_after=kill_after), Account(self.server.port) as account:
+                self.account = account
+                thread = self.server.begin_session()
+                process = account.start("-q")
+                time.sleep(kill_after)
+                process.send_signal(signal.SIGKILL)
+                process.communicate(timeout=programs.SECONDS)
+                thread.join(0.2)
+                if thread.is_alive():
+                    # It was killed before it connected; the server still waits for a client.
+                    socket.create_connection((LOOPBACK, self.server.port), timeout=programs.SECONDS).close()
+                    thread.join(programs.SECONDS)
+                held = account.held()
+                self.assertEqual(held, sorted(wanted)[:len(held)])
+                self.check_good(self.session("-q"))
+                self.assertEqual(account.held(), sorted(wanted))
+                self.assertEqual(list((account.maildir / "tmp").iterdir()), [])
+
+
+class Floods(unittest.TestCase):
+    """Servers that mean no good: whatever they send, the program ends, with its line."""
+
+    def check_flood(self, replies, line):
+        with socket.create_server((LOOPBACK, 0)) as listener:
+            listener.settimeout(programs.SECONDS)
+
+            def serve():
+                client, _ = listener.accept()
+                with client:
+                    try:
+                        for reply in replies:
+                            client.sendall(reply)
+                        # What the client sent is read, so that the end comes in order and isn't a reset.
+                        client.shutdown(socket.SHUT_WR)
+                        while client.recv(65536):
+                            pass
+                    except OSError:
+                        pass
+
+            thread = threading.Thread(target=serve, daemon=True)
+            thread.start()
+            with Account(listener.getsockname()[1]) as account:
+                run = account.run("-q")
+                self.assertEqual((run.status, run.err), (1, line))
+                self.assertEqual(account.held(), [])
+            thread.join(programs.SECONDS)
+
+    def test_a_greeting_that_never_ends(self):
+        self.check_flood([b"+OK "] + [b"a" * 65536] * 64, b"getmail: reply line too long\n")
+
+    def test_a_greeting_that_is_none(self):
+        self.check_flood([b"HTTP/1.1 400 Bad Request\r\n"], b"getmail: reply not understood\n")
+
+    def test_a_listing_that_never_ends(self):
+        opening = b"+OK\r\n" * 3 + b"+OK 1 5\r\n+OK\r\n"
+        self.check_flood([opening] + [b"1 a\r\n" * 13000] * 32, b"getmail: too many messages\n")
