@@ -43,6 +43,7 @@ $(watched):
 
 test: all $(watched)
 	python3 tests/test_sample.py
+	python3 tests/test_documents.py
 	python3 tests/run.py
 
 bench: $(benches)

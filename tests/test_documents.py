@@ -1,0 +1,93 @@
+#!/usr/bin/env python3
+"""Looks for what the documents name: each file, each command of `make`, each function, definition and word of the code.
+
+What stands in backticks or on a line of code is looked at. A name with a slash or with a file's ending is a file, at the top
+or in any crate; `make WORD` is a target of the Makefile; any other name is one that a source, a definition, a test or a
+man page uses. Names in capitals stand for something else (`FILE`), and so do those in OTHERS, which are no names of ours.
+"""
+
+import re
+import subprocess
+import sys
+from pathlib import Path
+
+TOP = Path(__file__).resolve().parent.parent
+DOCUMENTS = ["README.md", "CONTRIBUTING.md", "CHANGELOG.md", "bench/README.md", *sorted(
+    str(path.relative_to(TOP)) for path in (TOP / "docs").glob("*.md"))]
+SOURCES = {".rt", ".antt", ".py", ".c", ".sh", ".1", ".5", ".8", ".sample", ".service", ".timer", ".fish", ".bash"}
+FILE = re.compile(r"[A-Za-z0-9_.~*{},-]*(?:/[A-Za-z0-9_.*{},-]*)+|[A-Za-z0-9_-]+\.(?:rt|antt|py|md|c|sh|txt|edit)")
+NAME = re.compile(r"[A-Za-z_][A-Za-z0-9_]*")
+# Names of other programs and of what users have: nothing here is called so.
+OTHERS = {"stunnel", "socat", "dovecot", "mutt", "fetchmail", "mpop", "Display", "BrokenUIDLPOP3Retriever"}
+# Folders that a user or a build makes.
+MADE = ("~", "/", "bin/", "out/", "examples/demo/Maildir")
+
+
+def tracked_files():
+    """The paths of the repository, as text from its top."""
+    listed = subprocess.run(["git", "-C", str(TOP), "ls-files", "-co", "--exclude-standard"],
+                            check=True, capture_output=True, text=True).stdout
+    return listed.splitlines()
+
+
+def words_of(paths):
+    """Every word that stands in a source, a definition, a test, a man page or the files of the build."""
+    words = set()
+    for path in paths:
+        if Path(path).suffix in SOURCES or path in ("Makefile", "crates.txt", "HANDLES", "completions/_getmail"):
+            words.update(NAME.findall((TOP / path).read_text(errors="replace")))
+        words.update(NAME.findall(Path(path).stem))
+    return words
+
+
+def pieces_of(text):
+    """The texts in backticks and on lines of code, with the number of their line."""
+    for number, line in enumerate(text.splitlines(), 1):
+        if line.startswith("    "):
+            yield number, line.split("#")[0].strip()
+        else:
+            for piece in re.findall(r"`([^`]+)`", line):
+                yield number, piece
+
+
+def is_there(name, paths):
+    """Whether a file or a folder of this name stands at the top or in some crate; `*` stands for any letters."""
+    if name.startswith(MADE) or re.search("NAME|FOLDER|DIGEST", name):
+        return True
+    choice = re.sub(r"\\\{([^}]*)\\\}", lambda found: "(" + found[1].replace(",", "|") + ")", re.escape(name.strip("/")))
+    fits = re.compile(r"(.*/)?" + choice.replace(r"\*", ".*").replace(r"\.\.", ".*") + r"(/.*|\.rt)?")
+    return any(fits.fullmatch(path) for path in paths)
+
+
+def faults_in(document, paths, words, targets):
+    """Every name in the document that nothing has, a line for each."""
+    for number, piece in pieces_of((TOP / document).read_text()):
+        made = re.match(r"make ([a-z][a-z-]*)(?: |$)", piece)
+        if made and made[1] not in targets:
+            yield f"{document}:{number}: no target '{made[1]}' in the Makefile"
+        names = FILE.findall(piece) if " " not in piece or piece.startswith(("bin/", "python3 ", "crates/")) else []
+        for name in names:
+            if not is_there(name, paths):
+                yield f"{document}:{number}: no file '{name}'"
+        if not names and re.fullmatch(r"[A-Za-z_][A-Za-z0-9_]*(?:(?:::|\.)[A-Za-z_][A-Za-z0-9_]*)*(?:\(.*\))?", piece):
+            for name in NAME.findall(piece.split("(")[0]):
+                if name not in words and name not in OTHERS and not name.isupper():
+                    yield f"{document}:{number}: nothing is called '{name}'"
+
+
+def main():
+    paths = tracked_files()
+    words = words_of(paths)
+    targets = set(re.findall(r"^([a-z][a-z-]*):", (TOP / "Makefile").read_text(), re.MULTILINE))
+    targets |= {name for name in ("getmail", "popd") if (TOP / "crates" / name).is_dir()}
+    targets |= set(re.findall(r"\.PHONY: (.*)", (TOP / "Makefile").read_text())[0].split())
+    faults = [fault for document in DOCUMENTS for fault in faults_in(document, paths, words, targets)]
+    for fault in faults:
+        print(fault)
+    if not faults:
+        print(f"{len(DOCUMENTS)} documents name nothing that isn't there")
+    return 1 if faults else 0
+
+
+if __name__ == "__main__":
+    sys.exit(main())
