@@ -23,7 +23,7 @@ use Rattle.pop3_server.specs.AnswersLines.{AnswersLines}
 use Rattle.pop3_server.specs.HonestServer.{IsAsked, Gone, lines_of}
 use Rattle.pop3_server.specs.HonestLoop.{GivesHonest}
 use Rattle.pop3_server.proofs.HonestLemmas.{refused, granted}
-use Rattle.pop3_server.proofs.HonestTurns.{answers_honestly, flat_lines, all_sendable}
+use Rattle.pop3_server.proofs.HonestTurns.{answers_honestly, flat_lines, all_sendable, all_numbered}
 
 plain_no_lf : (b : ℕ) → is_plain b ≡ true → is_no_lf b ≡ true
 plain_no_lf b e = grind (arith, nat_tests)
@@ -129,6 +129,7 @@ gives_honest sound mail old new commands part fresh serves asked line sent s ser
         commands = cut.first ++ cut.later;
         asked = record {
           sendable = all_sendable (cut.first ++ cut.later) asked_all;
+          numbers = all_numbered (cut.first ++ cut.later) asked_all;
           part = part;
           no_line = line;
           whole = sent ∙ ap (λ (l : List ℕ). l ++ part) (ap (λ (cs : List Command). flat_map ended (lines_of cs)) cut.all ∙ flat_lines (cut.first ++ cut.later));

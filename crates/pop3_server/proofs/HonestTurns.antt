@@ -12,6 +12,7 @@ use Rattle.pop3_wire.specs.declared.reply.Status.TheVariants.{Positive}
 use Rattle.pop3_wire.specs.Line.{ended}
 use Rattle.pop3_wire.specs.Body.{Body}
 use Rattle.pop3_wire.specs.Commands.{line_of, can_be_sent}
+use Rattle.pop3_wire.specs.CommandLine.{HasNumbers}
 use Rattle.mail_terms.specs.Text.{lines_of_text}
 use Rattle.pop3_wire.specs.Stuffed.{stuffed_lines}
 use Rattle.pop3_wire.specs.World.{Message, IsMessage}
@@ -295,6 +296,10 @@ pub all_sendable : (commands : List Command) → AllByRecursion IsAsked commands
 all_sendable [] all = tt
 all_sendable (c ∷ commands) all = (all.0.sendable, all_sendable commands all.1)
 
+pub all_numbered : (commands : List Command) → AllByRecursion IsAsked commands → AllByRecursion HasNumbers commands
+all_numbered [] all = tt
+all_numbered (c ∷ commands) all = (all.0.numbers, all_numbered commands all.1)
+
 gone_at : (ms : List Message) (marks : List Bool) (state : State) (mail : Mail) → Stands ms state mail marks → Gone ms marks state (there mail.slots)
 gone_at ms marks (Authorization kept) mail stands =
     record { left = subst (AreLeft ms marks) (sym stands.0) (none_gone ms marks (ap length stands.1 ∙ fresh_length ms)); before_quit = λ _. stands.0 }
@@ -326,7 +331,7 @@ is_honest sound mail old new commands answers state asked run s messages =
         hello = greeting;
         greets = granted greeting (codes " popd ready") refl refl;
         commands = commands;
-        asked = record { sendable = all_sendable commands asked; part = []; no_line = IsLine-nil; whole = flat_lines commands ∙ sym (append-nil (flat_map (λ c. ended (line_of c)) commands)) };
+        asked = record { sendable = all_sendable commands asked; numbers = all_numbered commands asked; part = []; no_line = IsLine-nil; whole = flat_lines commands ∙ sym (append-nil (flat_map (λ c. ended (line_of c)) commands)) };
         replies = answers;
         replied = all.1;
         later = [];

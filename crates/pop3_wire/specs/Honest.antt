@@ -11,6 +11,7 @@ use Rattle.pop3_wire.specs.Body.{IsContent, unstuffed, body_of, Body}
 use Rattle.pop3_wire.specs.Reply.{IsFirstLine}
 use Rattle.pop3_wire.specs.Fields.{number_and_size, number_and_id}
 use Rattle.pop3_wire.specs.Commands.{line_of, can_be_sent}
+use Rattle.pop3_wire.specs.CommandLine.{HasNumbers}
 use Rattle.pop3_wire.specs.World.{Message}
 
 -- a first line of this status with its CR LF, and its rest
@@ -91,9 +92,10 @@ Replies messages marks (command ∷ commands) bytes last =
 abbrev pub no_marks : List Message → List Bool
 no_marks messages = map (λ _. false) messages
 
--- these commands were sent whole, each on one line, and perhaps a part of one more
+-- these commands were sent whole, each on one line and with numbers below 2 ^ 32, and perhaps a part of one more
 pub record Asked (commands : List Command) (sent : List ℕ) : Type 0 where
   pub sendable : AllByRecursion (λ command. can_be_sent command ≡ true) commands
+  pub numbers : AllByRecursion HasNumbers commands
   pub part : List ℕ
   pub no_line : IsLine part
   pub whole : sent ≡ flat_map (λ command. ended (line_of command)) commands ++ part

@@ -98,7 +98,7 @@ same_item a b e = cc
 module _ (settings : Settings) (account : List ℕ) (before : Account) (sent got : List ℕ) (effect : Effect) (after : Account) (drop : List Message) (vanished : List (List ℕ))
     (session : Session settings account before sent got effect after) (served : Served drop sent got vanished) where
   same : served.honest.commands ≡ session.commands
-  same = same_commands served.honest.commands session.commands served.honest.asked.part session.asked.part served.numbers session.numbers served.honest.asked.sendable session.asked.sendable
+  same = same_commands served.honest.commands session.commands served.honest.asked.part session.asked.part served.honest.asked.numbers session.asked.numbers served.honest.asked.sendable session.asked.sendable
       served.honest.asked.no_line session.asked.no_line (sym served.honest.asked.whole ∙ session.asked.whole)
 
   -- where the listing is the maildrop's, or nothing was begun
@@ -124,7 +124,7 @@ module _ (settings : Settings) (account : List ℕ) (before : Account) (sent got
   session_honest r = record { listing = listing; texts = subst (AreTexts drop (wanted_at settings account before effect)) (sym r.texts) (texts r.found (wanted_at settings account before effect) r.numbers numbered) }
     where
       granted : AreGranted drop (no_marks drop) (User r.name ∷ Pass r.word ∷ Stat ∷ UidlAll ∷ ListAll ∷ r.more) (r.user ∷ r.pass ∷ r.stat ∷ r.uidl ∷ r.list ∷ r.replies)
-      granted = honest_is_granted drop sent got served.marks (User r.name ∷ Pass r.word ∷ Stat ∷ UidlAll ∷ ListAll ∷ r.more) (r.user ∷ r.pass ∷ r.stat ∷ r.uidl ∷ r.list ∷ r.replies) served.honest served.numbers r.talked
+      granted = honest_is_granted drop sent got served.marks (User r.name ∷ Pass r.word ∷ Stat ∷ UidlAll ∷ ListAll ∷ r.more) (r.user ∷ r.pass ∷ r.stat ∷ r.uidl ∷ r.list ∷ r.replies) served.honest r.talked
 
       listing : effect.listing ≡ listing_of drop
       listing = listing_is_maildrop drop r.name r.word r.more r.user r.pass r.stat r.uidl r.list r.replies effect.listing r.talked.good granted r.listed

@@ -8,7 +8,6 @@ use Rattle.pop3_wire.specs.Line.{IsLine, ended}
 use Rattle.pop3_wire.specs.Body.{IsContent, unstuffed, body_of, Body}
 use Rattle.pop3_wire.specs.Reply.{IsFirstLine}
 use Rattle.pop3_wire.specs.Fields.{number_and_size, number_and_id}
-use Rattle.pop3_wire.specs.CommandLine.{HasNumbers}
 use Rattle.pop3_wire.specs.Honest.{Grants, Asked, Honest, no_marks}
 use Rattle.pop3_wire.specs.World.{Message}
 use Rattle.mail_terms.specs.Listing.{Item, Joins}
@@ -55,7 +54,6 @@ AreGood (command ∷ commands) (reply ∷ replies) = IsGood command reply × Are
 -- these commands were sent whole, and what was got is a greeting, these replies to the first of them, and a rest
 pub record Talked (commands : List Command) (replies : List Heard) (sent got : List ℕ) : Type 0 where
   pub asked : Asked commands sent
-  pub numbers : AllByRecursion HasNumbers commands
   pub hello : List ℕ
   pub line : IsLine hello
   pub good : AreGood commands replies
@@ -72,7 +70,7 @@ AreGranted drop marks (command ∷ commands) (reply ∷ replies) =
 -- of an honest conversation each whole and positive reply is what the command asks of the maildrop
 abbrev pub HonestIsGranted : Type 0
 HonestIsGranted = (drop : List Message) (sent got : List ℕ) (marks : List Bool) (commands : List Command) (replies : List Heard)
-    → (honest : Honest drop sent got marks) → AllByRecursion HasNumbers honest.commands → Talked commands replies sent got
+    → (honest : Honest drop sent got marks) → Talked commands replies sent got
     → AreGranted drop (no_marks drop) commands replies
 
 -- the numbers and texts of the replies to RETR

@@ -3,7 +3,6 @@ use Rattle.std.specs.Prelude.{◌≡◌, ◌⊎◌, ◌-◌, ℕ, Bool, true, Li
 use Rattle.std.specs.List.{AllByRecursion}
 use Rattle.pop3_wire.specs.declared.command.Command.{Command}
 use Rattle.pop3_wire.specs.declared.command.Command.TheVariants.{User, Pass, Stat, UidlAll, ListAll, Dele, Quit}
-use Rattle.pop3_wire.specs.CommandLine.{HasNumbers}
 use Rattle.pop3_wire.specs.Honest.{Asked, Honest}
 use Rattle.pop3_wire.specs.World.{Message, maildrop_of}
 use Rattle.mail_terms.specs.Listing.{Item}
@@ -42,7 +41,6 @@ pub record Reads (settings : Settings) (account : List ℕ) (before : Account) (
 pub record Session (settings : Settings) (account : List ℕ) (before : Account) (sent got : List ℕ) (effect : Effect) (after : Account) : Type 0 where
   pub commands : List Command
   pub asked : Asked commands sent
-  pub numbers : AllByRecursion HasNumbers commands
   pub begun : AllByRecursion (IsBegun effect.listing effect.begun) commands
   pub step : Leaves before effect after ⊎ (Stores settings account before effect after × Reads settings account before commands sent got effect)
 
@@ -54,7 +52,6 @@ IsMarked drop marks id = (place : ℕ) × (message : Message) × (slice_get mark
 pub record Served (drop : List Message) (sent got : List ℕ) (vanished : List (List ℕ)) : Type 0 where
   pub marks : List Bool
   pub honest : Honest drop sent got marks
-  pub numbers : AllByRecursion HasNumbers honest.commands
   pub quits : (vanished ≡ []) ⊎ ((front behind : List Command) × (honest.commands ≡ front ++ Quit ∷ behind))
   pub marked : AllByRecursion (IsMarked drop marks) vanished
 
