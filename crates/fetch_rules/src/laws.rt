@@ -4,8 +4,9 @@
 ghost use Rattle.std.specs.Prelude.{◌≡◌, ℕ, ◌&&◌, ◌||◌, Bool, List, [], bytes_eq};
 ghost use Rattle.mail_terms.specs.Listing.{Item, Joins, has_item};
 ghost use Rattle.fetch_rules.specs.Laws.{FetchesFirsts};
-ghost use Rattle.fetch_rules.specs.Plan.{planned};
+ghost use Rattle.fetch_rules.specs.Plan.{planned, retrieved};
 ghost use Rattle.fetch_rules.specs.Record.{Row, has_row, is_delivered, is_flagged, marked, merged};
+ghost use Rattle.fetch_rules.specs.Wanted.{wanted};
 
 use mail_terms::{ScanRow, UidRow};
 use rc_file::Settings;
@@ -13,6 +14,12 @@ use rc_file::Settings;
 /// A plan fetches only messages whose id no earlier message has, so no id twice.
 pub fn firsts_are_fetched()
     ensures { (settings : Settings) (rows : List Row) (listing : List Item) (now : ℕ) → FetchesFirsts [] (planned settings rows listing now) listing }
+{}
+
+/// The messages that a plan's steps fetch are those that are wanted.
+pub fn plans_fetch_wanted()
+    ensures { (settings : Settings) (rows : List Row) (listing : List Item) (now : ℕ)
+        → retrieved (planned settings rows listing now) listing ≡ wanted settings rows listing }
 {}
 
 /// After a merge an id is recorded as delivered where it was before, or is held.

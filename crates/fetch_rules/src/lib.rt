@@ -10,7 +10,7 @@ mod seen;
 mod steps;
 
 pub use laws::{
-    firsts_are_fetched, held_is_delivered, listed_has_row, marked_is_delivered, marked_keeps_rows,
+    firsts_are_fetched, plans_fetch_wanted, held_is_delivered, listed_has_row, marked_is_delivered, marked_keeps_rows,
     rows_join_in_one_way,
 };
 pub use mail_terms::{

@@ -45,7 +45,7 @@ said : (account : List ℕ) (turn : Turn) (reply : WholeReply) (a b : Place) (ma
 said account turn reply a b maildir file rows lines talked = record {
   dones = record { task = says turn; replies = reply ∷ [] } ∷ [];
   all = refl;
-  went = record { talked = talked; stored = gained_none maildir; rows = refl; saved = λ stands. stands; file_count = omega arith; lines = sym (append-nil lines) };
+  went = record { talked = talked; each = (talked.good, tt); stored = gained_none maildir; rows = refl; saved = λ stands. stands; file_count = omega arith; lines = sym (append-nil lines) };
 }
 
 module _ (settings : Settings) (account : List ℕ) (items : List Item) (now : ℕ) (place : Place) (maildir : Maildir) (file : Stored) (lines : List ReportLine) (ready : Ready) (after : List Row) (maildir' : Maildir) (file' : Stored)

@@ -15,6 +15,7 @@ use Rattle.mail_store.specs.Held.{flags_of}
 use Rattle.fetch_rules.specs.Laws.{FetchesFirsts}
 use Rattle.fetch_session.specs.Tasks.{ids_ahead, AreFresh, fetching, tasks_planned}
 use Rattle.fetch_session.proofs.FreshLemmas.{ahead}
+use Rattle.fetch_session.proofs.SceneLemmas.{all_append}
 
 both_false : (a b : Bool) → (a || b) ≡ false → (a ≡ false) × (b ≡ false)
 both_false true b e = absurd (true≢false e)
@@ -27,10 +28,6 @@ both_true false b e = absurd (true≢false (sym e))
 not_true : (a : Bool) → not a ≡ true → a ≡ false
 not_true true e = sym e
 not_true false e = refl
-
-all_append : {A : Type 0} (P : A → Type 0) (xs ys : List A) → AllByRecursion P xs → AllByRecursion P ys → AllByRecursion P (xs ++ ys)
-all_append P [] ys first then = then
-all_append P (x ∷ xs) ys first then = (first.0, all_append P xs ys first.1 then)
 
 all_weaker : {A : Type 0} (P Q : A → Type 0) (xs : List A) → ((x : A) → P x → Q x) → AllByRecursion P xs → AllByRecursion Q xs
 all_weaker P Q [] weaker all = tt

@@ -2,6 +2,7 @@
 use Rattle.std.proofs.Common.{◌≡◌, ◌≤◌, ℕ, List, [], ◌∷◌, ◌++◌, Result, Ok, Err, refl, sym, ap, subst, ◌∙◌, arith, append_assoc}
 use Rattle.std.proofs.lemmas.List.{append-nil, map-append}
 use Rattle.std.proofs.lemmas.Grind.{flat_map-append}
+use Rattle.std.specs.List.{AllByRecursion}
 use Rattle.fetch_rules.specs.Record.{Row, marked}
 use Rattle.mail_store.specs.Maildir.{Maildir, File}
 use Rattle.pop3_client.specs.Turns.{Turn}
@@ -10,7 +11,7 @@ use Rattle.pop3_client.specs.Conversation.{Talked}
 use Rattle.fetch_session.proofs.TurnLemmas.{talked_none, talked_on}
 use Rattle.fetch_session.specs.declared.fault.Cut.{Cut}
 use Rattle.fetch_session.specs.declared.report.ReportLine.{ReportLine}
-use Rattle.fetch_session.specs.Tasks.{Task, Done, task_in, turns_in, ids_in, files_in, lines_in, tasks_of, turns_of, replies_of, ids_of, files_of, lines_of}
+use Rattle.fetch_session.specs.Tasks.{Task, Done, IsAnswered, task_in, turns_in, ids_in, files_in, lines_in, tasks_of, turns_of, replies_of, ids_of, files_of, lines_of}
 use Rattle.fetch_session.specs.Stores.{Gained}
 use Rattle.fetch_session.specs.Records.{marked_all}
 use Rattle.fetch_session.specs.Scenes.{Scene, Went, AllWent, Fell, Stops, Takes, Does}
@@ -34,15 +35,20 @@ pub marked_on : (rows : List Row) (xs ys : List (List ℕ)) → marked_all rows 
 marked_on rows [] ys = refl
 marked_on rows (x ∷ xs) ys = marked_on (marked rows x) xs ys
 
+pub all_append : {A : Type 0} (P : A → Type 0) (xs ys : List A) → AllByRecursion P xs → AllByRecursion P ys → AllByRecursion P (xs ++ ys)
+all_append P [] ys first then = then
+all_append P (x ∷ xs) ys first then = (first.0, all_append P xs ys first.1 then)
+
 pub went_none : (account : List ℕ) (s : Scene) → Went account [] s s
 went_none account s =
-    record { talked = talked_none s.place; stored = gained_none s.maildir; rows = refl; saved = λ stands. stands; file_count = omega arith; lines = sym (append-nil s.lines) }
+    record { talked = talked_none s.place; each = tt; stored = gained_none s.maildir; rows = refl; saved = λ stands. stands; file_count = omega arith; lines = sym (append-nil s.lines) }
 
 pub went_on : (account : List ℕ) (xs ys : List Done) (a b c : Scene) → Went account xs a b → Went account ys b c → Went account (xs ++ ys) a c
 went_on account xs ys a b c first then = record {
   talked = subst (λ (ts : List Turn). Talked ts (replies_of (xs ++ ys)) a.place c.place) (sym (flat_map-append (λ (d : Done). turns_in d.task) xs ys))
       (subst (λ (rs : List WholeReply). Talked (turns_of xs ++ turns_of ys) rs a.place c.place) (sym (flat_map-append (λ (d : Done). d.replies) xs ys))
       (talked_on (turns_of xs) (turns_of ys) (replies_of xs) (replies_of ys) a.place b.place c.place first.talked then.talked));
+  each = all_append IsAnswered xs ys first.each then.each;
   stored = subst (λ (fs : List File). Gained a.maildir c.maildir fs) (sym (flat_map-append (λ (d : Done). files_in account d.task d.replies) xs ys))
       (gained_on a.maildir b.maildir c.maildir (files_of account xs) (files_of account ys) first.stored then.stored);
   rows = then.rows ∙ ap (λ (r : List Row). marked_all r (ids_of ys)) first.rows ∙ sym (marked_on a.rows (ids_of xs) (ids_of ys))

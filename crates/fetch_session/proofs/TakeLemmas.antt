@@ -93,6 +93,7 @@ text_stored account n octets uid text name a b maildir maildir' file' file'' row
   reads.0 ∷ [],
   record {
     talked = reads.1;
+    each = (reads.1.good, tt);
     stored = gained_file maildir maildir' (file_from account uid reads.0) (stored.0 ∙ ap (λ (f : File). with_file maildir f) (same_file account uid name text reads.0 named reads.2));
     rows = mark;
     saved = λ stood. subst (λ (r : List Row). Steady file''.content r) (sym mark) (saves.1 stood);
@@ -127,7 +128,7 @@ pub skipped : (account : List ℕ) (number size : ℕ) (a : Place) (maildir : Ma
 skipped account number size a maildir file rows lines lines' told = record {
   dones = record { task = skips number size; replies = [] } ∷ [];
   all = refl;
-  went = record { talked = talked_none a; stored = gained_none maildir; rows = refl; saved = λ stands. stands; file_count = omega arith; lines = told };
+  went = record { talked = talked_none a; each = (tt, tt); stored = gained_none maildir; rows = refl; saved = λ stands. stands; file_count = omega arith; lines = told };
 }
 
 pub deleted : (account : List ℕ) (number : ℕ) (reply : WholeReply) (a b : Place) (maildir : Maildir) (file : Stored) (rows : List Row) (lines lines' : List ReportLine) → Talked (dele number ∷ []) (reply ∷ []) a b
@@ -136,14 +137,14 @@ pub deleted : (account : List ℕ) (number : ℕ) (reply : WholeReply) (a b : Pl
 deleted account number reply a b maildir file rows lines lines' talked told = record {
   dones = record { task = deletes number; replies = reply ∷ [] } ∷ [];
   all = refl;
-  went = record { talked = talked; stored = gained_none maildir; rows = refl; saved = λ stands. stands; file_count = omega arith; lines = told };
+  went = record { talked = talked; each = (talked.good, tt); stored = gained_none maildir; rows = refl; saved = λ stands. stands; file_count = omega arith; lines = told };
 }
 
 pub reread_taken : (account : List ℕ) (number octets : ℕ) (uid : List ℕ) (a b : Place) (maildir : Maildir) (file : Stored) (rows : List Row) (lines lines' : List ReportLine) → PassesText number a (Ok octets) b
     → lines' ≡ lines ++ Held number octets ∷ []
     → Takes account (rereads number uid) (scene a maildir file rows lines) (Ok tt) (scene b maildir file rows lines')
 reread_taken account number octets uid a b maildir file rows lines lines' passes told =
-    (passes.0 ∷ [], record { talked = passes.1; stored = gained_none maildir; rows = refl; saved = λ stands. stands; file_count = omega arith; lines = told ∙ ap (λ (k : ℕ). lines ++ Held number k ∷ []) passes.2 })
+    (passes.0 ∷ [], record { talked = passes.1; each = (passes.1.good, tt); stored = gained_none maildir; rows = refl; saved = λ stands. stands; file_count = omega arith; lines = told ∙ ap (λ (k : ℕ). lines ++ Held number k ∷ []) passes.2 })
 
 pub no_deletes : (wanted : Bool) (number : ℕ) → wanted ≡ false → deleting wanted number ≡ []
 no_deletes true number e = absurd (true≢false e)

@@ -1,6 +1,7 @@
 -- The state of a session, and what a list of tasks does to it.
 use Rattle.std.specs.Prelude.{◌≡◌, ◌⊎◌, ◌≤◌, ℕ, List, [], ◌∷◌, ◌++◌, None, Some, Result, Ok, Err}
 use Rattle.pop3_wire.specs.Place.{Place}
+use Rattle.std.specs.List.{AllByRecursion}
 use Rattle.fetch_rules.specs.Record.{Row, marked}
 use Rattle.mail_store.specs.Maildir.{Maildir}
 use Rattle.mail_store.specs.FlatFile.{Stored}
@@ -15,7 +16,7 @@ use Rattle.pop3_wire.specs.Bodies.{Rest}
 use Rattle.pop3_wire.specs.declared.unstuffer.Spot.TheVariants.{Done as AtEnd}
 use Rattle.pop3_client.specs.Texts.{Fetching, Fetched}
 use Rattle.mail_store.specs.FileName.{name_of}
-use Rattle.fetch_session.specs.Tasks.{Task, stores, Done, turns_in, tasks_of, turns_of, replies_of, ids_of, files_of, file_from, delivered, lines_of}
+use Rattle.fetch_session.specs.Tasks.{Task, stores, Done, IsAnswered, turns_in, tasks_of, turns_of, replies_of, ids_of, files_of, file_from, delivered, lines_of}
 use Rattle.fetch_session.specs.Stores.{RefusesText, Gained}
 use Rattle.fetch_session.specs.Records.{Steady, Saves, marked_all}
 
@@ -30,9 +31,10 @@ pub record Scene : Type 0 where
 abbrev pub scene : Place → Maildir → Stored → List Row → List ReportLine → Scene
 scene place maildir file rows lines = record { place = place; maildir = maildir; file = file; rows = rows; lines = lines }
 
--- these tasks were done: their turns talked, their texts stored, and their ids marked and saved
+-- these tasks were done: their turns talked, each with its own reply, their texts stored, and their ids marked and saved
 pub record Went (account : List ℕ) (dones : List Done) (old new : Scene) : Type 0 where
   pub talked : Talked (turns_of dones) (replies_of dones) old.place new.place
+  pub each : AllByRecursion IsAnswered dones
   pub stored : Gained old.maildir new.maildir (files_of account dones)
   pub rows : new.rows ≡ marked_all old.rows (ids_of dones)
   pub saved : Steady old.file.content old.rows → Steady new.file.content new.rows

@@ -1,12 +1,12 @@
 -- What a session has to do, task by task, and what each task brings once it is done.
 use Rattle.std.specs.Prelude.{◌≡◌, ◌≢◌, ℕ, Bool, true, false, List, [], ◌∷◌, ◌++◌, length, map}
-use Rattle.std.specs.List.{flat_map, AllByRecursion}
+use Rattle.std.specs.List.{flat_map, AllByRecursion, AllZip}
 use Rattle.mail_terms.specs.UniqueId.{IsLegalId}
 use Rattle.mail_terms.specs.Listing.{Item}
 use Rattle.fetch_rules.specs.declared.steps.Step.{Step}
 use Rattle.mail_store.specs.Maildir.{Maildir, File, file}
 use Rattle.mail_store.specs.FileName.{name_of, is_held}
-use Rattle.pop3_client.specs.Turns.{Turn, retr, dele}
+use Rattle.pop3_client.specs.Turns.{Turn, IsGood, retr, dele}
 use Rattle.pop3_wire.specs.Reading.{WholeReply}
 use Rattle.pop3_client.specs.Texts.{body_text}
 use Rattle.fetch_session.specs.declared.report.ReportLine.{ReportLine}
@@ -66,6 +66,10 @@ tasks_planned (s ∷ ss) (i ∷ is) (h ∷ hs) = tasks_in s i h ++ tasks_planned
 pub record Done : Type 0 where
   pub task : Task
   pub replies : List WholeReply
+
+-- its turn, if it takes one, was answered well
+abbrev pub IsAnswered : Done → Type 0
+IsAnswered done = AllZip IsGood (turns_in done.task) done.replies
 
 abbrev pub task_in : Done → Task
 task_in done = done.task
