@@ -10,8 +10,8 @@ mod seen;
 mod steps;
 
 pub use laws::{
-    firsts_are_fetched, plans_fetch_wanted, held_is_delivered, listed_has_row, marked_is_delivered, marked_keeps_rows,
-    rows_join_in_one_way,
+    firsts_are_fetched, held_is_delivered, listed_has_row, marked_is_delivered, marked_keeps_rows,
+    plans_fetch_wanted, rows_join_in_one_way,
 };
 pub use mail_terms::{
     Listing, ListingFault, MESSAGE_LIMIT, ScanRow, UidRow, have_legal_ids, is_legal_id,

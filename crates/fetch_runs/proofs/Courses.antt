@@ -1,0 +1,126 @@
+-- How far a session came behind its listing.
+use Rattle.std.proofs.Common.{◌≡◌, inl, inr, ℕ, List, [], ◌∷◌, ◌++◌, map, ◌⊎◌, Result, Ok, Err}
+use Rattle.std.specs.Prelude.{Contains}
+use Rattle.std.specs.List.{flat_map}
+use Rattle.pop3_wire.specs.Bodies.{Rest}
+use Rattle.pop3_wire.specs.Link.{Link}
+use Rattle.pop3_wire.specs.Place.{Place, at}
+use Rattle.pop3_wire.specs.Reading.{WholeReply}
+use Rattle.pop3_wire.specs.declared.unstuffer.Spot.TheVariants.{Done as AtEnd}
+use Rattle.pop3_wire.specs.declared.command.Command.{Command}
+use Rattle.pop3_wire.specs.declared.command.Command.TheVariants.{Dele}
+use Rattle.pop3_client.specs.Texts.{Fetched, body_text}
+use Rattle.pop3_client.specs.Turns.{retr}
+use Rattle.mail_terms.specs.Listing.{Item}
+use Rattle.rc_file.specs.declared.settings.Settings.{Settings}
+use Rattle.mail_store.specs.Maildir.{Maildir}
+use Rattle.mail_store.specs.FileName.{name_of}
+use Rattle.mail_store.specs.FlatFile.{Stored}
+use Rattle.fetch_session.specs.declared.fault.Cut.{Cut}
+use Rattle.fetch_session.specs.declared.fault.Fault.{Fault}
+use Rattle.fetch_session.specs.declared.report.Report.{Report}
+use Rattle.fetch_session.specs.declared.report.ReportLine.{ReportLine}
+use Rattle.fetch_session.specs.Tasks.{Task, stores, rereads, deletes, Done, tasks_of}
+use Rattle.fetch_session.specs.Stores.{RefusesText}
+use Rattle.fetch_session.specs.Scenes.{Scene, scene, Stops, Does, NotStored}
+use Rattle.fetch_session.specs.Plans.{tasks_ahead, Unprepared, Carried, Carries}
+use Rattle.fetch_session.specs.Sessions.{Kept, Noted, Dealt, Proceeds, Session}
+
+-- the joined listing; the tasks that were brought to their end, whatever became of the record's file; the task that
+-- was begun and wasn't, if there is one; and the reply to that, where its text may be stored
+pub record Course : Type 0 where
+  pub items : List Item
+  pub taken : List Done
+  pub spare : List WholeReply
+  pub under : List Task
+
+abbrev pub course : List Item → List Done → List WholeReply → List Task → Course
+course items taken spare under = record { items = items; taken = taken; spare = spare; under = under }
+
+-- a session that never dealt with a listing, or one that did
+pub data Way : Type 0 where
+  Idle : Way
+  Deals : Course → Way
+
+-- a text that was stored, though its id may not be recorded
+abbrev pub stored_done : ℕ → List ℕ → WholeReply → Done
+stored_done number uid reply = record { task = stores number uid; replies = reply ∷ [] }
+
+-- the reply of a text that the store refused, where its file may be there
+abbrev pub spare_in : (number : ℕ) (start new : Place) (rest : Rest) (text : List ℕ) (old now : Maildir) (name : List ℕ) (fault : Fault)
+    → (rest.spot ≡ AtEnd → Fetched (retr number) start text new) → RefusesText old name rest text fault now → List WholeReply
+spare_in number start new rest text old now name fault whole (inl missing) = []
+spare_in number start new rest text old now name fault whole (inr (is, inl same)) = []
+spare_in number start new rest text old now name fault whole (inr (is, inr (done, there))) = (whole done).0 ∷ []
+
+abbrev pub spare_of : (account : List ℕ) (next : Task) (old new : Scene) (cut : Cut) → NotStored account next old new cut → List WholeReply
+spare_of account next old new cut refused =
+    spare_in refused.number old.place new.place refused.rest refused.text old.maildir new.maildir (name_of account refused.uid) cut.fault refused.whole refused.refuses
+
+abbrev pub course_stopped : (account : List ℕ) (items : List Item) (dones : List Done) (next : Task) (mid new : Scene) (cut : Cut) → Stops account next mid cut new → Course
+course_stopped account items dones next mid new cut (inl broken) = course items dones [] (next ∷ [])
+course_stopped account items dones next mid new cut (inr (inl refused)) = course items dones (spare_of account next mid new cut refused) (next ∷ [])
+course_stopped account items dones next mid new cut (inr (inr refused)) = course items (dones ++ stored_done refused.number refused.uid refused.reply ∷ []) [] []
+
+abbrev pub course_does : (account : List ℕ) (items : List Item) (tasks : List Task) (old new : Scene) (result : Result (Unit {0}) Cut) → Does account tasks old result new → Course
+course_does account items tasks old new (Ok done) went = course items went.dones [] []
+course_does account items tasks old new (Err cut) fell = course_stopped account items fell.dones fell.next fell.mid new cut fell.stops
+
+abbrev pub course_carried : (settings : Settings) (account : List ℕ) (items : List Item) (now : ℕ) (place : Place) (maildir : Maildir) (file : Stored) (lines : List ReportLine)
+    (result : Result (Unit {0}) Cut) (new : Scene) (skipped : ℕ) → Carried settings account items now place maildir file lines result new skipped → Course
+course_carried settings account items now place maildir file lines result new skipped is =
+    course_does account items (tasks_ahead settings account items now maildir is.mid.rows) is.mid new result is.does
+
+abbrev pub course_cut : (settings : Settings) (account : List ℕ) (items : List Item) (now : ℕ) (place : Place) (maildir : Maildir) (file : Stored) (lines : List ReportLine)
+    (cut : Cut) (new : Scene) (skipped : ℕ) → ((skipped ≡ 0) × Unprepared account items now place maildir file lines cut new) ⊎ Carried settings account items now place maildir file lines (Err cut) new skipped → Course
+course_cut settings account items now place maildir file lines cut new skipped (inl unprepared) = course items [] [] []
+course_cut settings account items now place maildir file lines cut new skipped (inr is) = course_carried settings account items now place maildir file lines (Err cut) new skipped is
+
+abbrev pub course_carries : (settings : Settings) (account : List ℕ) (items : List Item) (now : ℕ) (place : Place) (maildir : Maildir) (file : Stored) (lines : List ReportLine)
+    (result : Result (Unit {0}) Cut) (place' : Place) (maildir' : Maildir) (file' : Stored) (lines' : List ReportLine) (skipped : ℕ)
+    → Carries settings account items now place maildir file lines result place' maildir' file' lines' skipped → Course
+course_carries settings account items now place maildir file lines (Ok done) place' maildir' file' lines' skipped is =
+    course_carried settings account items now place maildir file lines (Ok done) (scene place' maildir' file' is.0 lines') skipped is.1
+course_carries settings account items now place maildir file lines (Err cut) place' maildir' file' lines' skipped is =
+    course_cut settings account items now place maildir file lines cut (scene place' maildir' file' is.0 lines') skipped is.1
+
+abbrev pub course_dealt : (settings : Settings) (account : List ℕ) (now : ℕ) (old : Place) (before : Kept) (result : Result (Unit {0}) Cut) (new : Place) (after : Kept) (notes : Noted)
+    → Dealt settings account now old before result new after notes → Course
+course_dealt settings account now old before result new after notes dealt =
+    course_carries settings account dealt.items now dealt.mid before.maildir before.file [] result new after.maildir after.file notes.lines notes.skipped dealt.carries
+
+abbrev pub way_proceeded : (settings : Settings) (account : List ℕ) (now : ℕ) (old : Place) (before : Kept) (result : Result (Unit {0}) Cut) (new : Place) (after : Kept) (notes : Noted)
+    → Proceeds settings account now old before result new after notes → Way
+way_proceeded settings account now old before (Ok done) new after notes dealt = Deals (course_dealt settings account now old before (Ok done) new after notes dealt)
+way_proceeded settings account now old before (Err cut) new after notes (inl stopped) = Idle
+way_proceeded settings account now old before (Err cut) new after notes (inr (inl wanting)) = Idle
+way_proceeded settings account now old before (Err cut) new after notes (inr (inr dealt)) = Deals (course_dealt settings account now old before (Err cut) new after notes dealt)
+
+-- how far a session came
+abbrev pub way_of : (settings : Settings) (account : List ℕ) (now : ℕ) (link : Link) (before : Kept) (report : Report) (link' : Link) (after : Kept)
+    → Session settings account now link before report link' after → Way
+way_of settings account now link before report link' after is = way_proceeded settings account now (at link []) before is.result is.mid after is.notes is.proceeds
+
+-- ---- what was retrieved
+
+-- the number and the text of each reply to a task's RETR
+abbrev pub found_in : Task → List WholeReply → List (ℕ × List ℕ)
+found_in (stores number uid) replies = map (λ (reply : WholeReply). (number, body_text reply.body)) replies
+found_in (rereads number uid) replies = map (λ (reply : WholeReply). (number, body_text reply.body)) replies
+found_in _ replies = []
+
+abbrev pub found_by : List Done → List (ℕ × List ℕ)
+found_by dones = flat_map (λ (d : Done). found_in d.task d.replies) dones
+
+-- all that was retrieved
+abbrev pub found_of : Course → List (ℕ × List ℕ)
+found_of course = found_by course.taken ++ flat_map (λ (task : Task). found_in task course.spare) course.under
+
+-- the tasks that were begun
+abbrev pub begun_of : Course → List Task
+begun_of course = tasks_of course.taken ++ course.under
+
+-- a DELE is the command of one of these tasks
+abbrev pub IsDeleted : List Task → Command → Type 0
+IsDeleted tasks (Dele number) = Contains tasks (deletes number)
+IsDeleted tasks _ = Unit {0}

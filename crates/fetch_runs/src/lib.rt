@@ -1,0 +1,2 @@
+//! Sessions of an account, one after another.
+#![tactic(auto)]
