@@ -189,6 +189,16 @@ class Changes(unittest.TestCase):
             self.assertEqual(client.ask_lines(b"RETR 2"), b"+OK 3 octets\r\nb\r\n.\r\n")
             self.assertEqual(client.ask(b"STAT"), b"+OK 3 9\r\n")
 
+    def test_a_file_that_changed(self):
+        """What is given is what stands in the file now, whatever its size was when it was listed."""
+        with Service(self.maildir) as service, service.client() as client:
+            client.log_in()
+            for path, content in zip(self.paths, (b"more\n" * 10_000, b"")):
+                with open(path, "wb") as file:
+                    file.write(content)
+            self.assertEqual(client.ask_lines(b"RETR 1"), b"+OK 3 octets\r\n" + b"more\r\n" * 10_000 + b".\r\n")
+            self.assertEqual(client.ask_lines(b"RETR 2"), b"+OK 3 octets\r\n.\r\n")
+
     def test_a_file_that_got_another_name(self):
         with Service(self.maildir) as service, service.client() as client:
             client.log_in()

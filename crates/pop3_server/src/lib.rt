@@ -28,14 +28,3 @@ pub use memory_drop::MemoryDrop;
 pub use server::{Answer, Server};
 pub use serving::serve;
 pub use size::size_of;
-
-#[cfg(test)]
-mod loop_wire_tests;
-#[cfg(test)]
-mod maildir_tests;
-#[cfg(test)]
-mod memory_drop_tests;
-#[cfg(test)]
-mod server_tests;
-#[cfg(test)]
-mod serving_tests;

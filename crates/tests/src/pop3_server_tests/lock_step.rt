@@ -1,74 +1,10 @@
-//! Serving links in memory, with ample memory.
-ghost use Rattle.std.specs.Prelude.{◌<◌};
+//! A link that gives a line only once the answer to the line before has come.
 ghost use Rattle.pop3_wire.specs.Link.{uncharted};
 
-use crate::server_tests::server;
-use crate::serving::serve;
-use pop3_wire::{ScriptWire, Wire, WireDown};
-use std::process::Abort;
+use crate::pop3_server_tests::memory_drop::server;
+use pop3_server::serve;
+use pop3_wire::{Wire, WireDown};
 use std::test::Fail;
-
-/// What a server says to all of these octets, which come in pieces of at most `cut` octets, and how
-/// many messages are left.
-fn served(
-    rt: &(impl Abort + AllocGlobal),
-    input: &[u8],
-    cut: usize,
-) -> Result<(Vec<u8>, usize), Fail>
-    requires { 0 < cut }
-{
-    let alloc = rt.alloc();
-    let mut server = server(rt)?;
-    let mut wire = ScriptWire::new(alloc, Vec::from_slice(alloc, input)?, cut);
-    assert!(rt; server.is_open());
-    serve(&mut server, &mut wire)?;
-    let sent = Vec::from_slice(alloc, wire.sent())?;
-    Ok((sent, server.into_drop().len()))
-}
-
-#[test]
-fn a_dropped_connection_removes_nothing(rt: HostRuntime) -> Result<(), Fail> {
-    let input =
-        b"USER u\r\nPASS p\r\nSTAT\r\nDELE 1\r\nRETR 1\r\nRSET\r\nRETR 1\r\nTOP 2 1\r\nDELE 2\r\n";
-    let output =
-        b"+OK popd ready\r\n+OK send PASS\r\n+OK 2 messages\r\n+OK 2 45\r\n+OK marked\r\n-ERR no such message\r\n+OK\r\n+OK 22 octets\r\nSubject: one\r\n\r\n..dot\r\n.\r\n+OK\r\nSubject: two\r\n\r\na\r\n.\r\n+OK marked\r\n";
-    for cut in [1, 2, 7, 4096] {
-        let (sent, left) = served(&rt, input, cut)?;
-        assert_eq!(rt; sent.as_slice(), output.as_slice());
-        assert_eq!(rt; left, 2);
-    }
-    Ok(())
-}
-
-#[test]
-fn quit_removes_and_ends(rt: HostRuntime) -> Result<(), Fail> {
-    let input = b"USER u\r\nPASS p\r\nDELE 2\r\nQUIT\r\nSTAT\r\n";
-    let output = b"+OK popd ready\r\n+OK send PASS\r\n+OK 2 messages\r\n+OK marked\r\n+OK bye\r\n";
-    let (sent, left) = served(&rt, input, 5)?;
-    assert_eq!(rt; sent.as_slice(), output.as_slice());
-    assert_eq!(rt; left, 1);
-    Ok(())
-}
-
-#[test]
-fn a_long_line_is_one_bad_command(rt: HostRuntime) -> Result<(), Fail> {
-    let alloc = rt.alloc();
-    for length in [510, 511, 512, 1022, 1023, 1024, 5000] {
-        let mut input = Vec::new(alloc);
-        for _ in 0..length {
-            input.push(b'x')?;
-        }
-        input.extend_from_slice(b"\r\nQUIT\r\n")?;
-        for cut in [1, 511, 512, 4096] {
-            let (sent, _) = served(&rt, input.as_slice(), cut)?;
-            assert_eq!(rt;
-                sent.as_slice(),
-                b"+OK popd ready\r\n-ERR bad command\r\n+OK bye\r\n".as_slice()
-            );
-        }
-    }
-    Ok(())
-}
 
 /// A link that gives each line only once the whole answer to the line before was sent, and answers
 /// 0 where it is asked too early.
