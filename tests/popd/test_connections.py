@@ -3,9 +3,10 @@
 import socket
 import subprocess
 import threading
+import time
 import unittest
 
-from harness import programs
+from harness import preload, programs
 from harness.kernel import LOOPBACK
 from popd import expected, lines
 from popd.service import Maildir, Service
@@ -98,12 +99,15 @@ class Connections(OverLoopback):
             self.check_reset(service, client, b"+OK 2 messages\r\n")
 
     def test_a_connection_that_cannot_be_taken(self):
-        """With no descriptor left each one fails at once, is told, and counts as one of those to serve."""
+        """With no descriptor left each one fails at once, is told, and counts as one of those to serve; the server
+        waits a second before it tries the next."""
         words = [programs.path_of("popd"), "--listen", f"{LOOPBACK}:0", "--connections", "3", "u",
                  self.maildir.passfile, self.maildir.folder]
+        begun = time.monotonic()
         done = subprocess.run(["sh", "-c", 'ulimit -n 4 && exec "$0" "$@"', *words], stdin=subprocess.DEVNULL,
                               capture_output=True, env=programs.environment(), timeout=programs.SECONDS)
         self.assertEqual((done.returncode, done.stdout, done.stderr), (0, b"", b"popd: read failed\n" * 3))
+        self.assertGreaterEqual(time.monotonic() - begun, 3)
 
     def test_all_lines_at_once(self):
         """A client that does not wait for the answers gets all of them, in order."""
@@ -115,6 +119,41 @@ class Connections(OverLoopback):
                 client.give(given)
                 self.assertEqual(client.rest(), b"".join(answers))
                 self.assertEqual(service.finish(), (0, b""))
+
+
+class Waits(OverLoopback):
+    """A client that neither says nor takes anything; ten minutes are a fifth of a second here."""
+
+    def setUp(self):
+        super().setUp()
+        self.maildir.add("new", "a", b"x" * 79 + b"\n" * 100_000)
+        self.library = self.enterContext(preload.library("short_waits"))
+
+    def service(self):
+        return Service(self.maildir, "--connections", "2", LD_PRELOAD=str(self.library))
+
+    def check_next_client(self, service, told):
+        """The message that was marked is still there for the next client, and this was told."""
+        with service.client() as client:
+            self.assertEqual(client.log_in(), b"+OK 1 messages\r\n")
+            self.assertEqual(client.ask(b"QUIT"), b"+OK bye\r\n")
+        self.assertEqual(service.finish(), (0, told))
+
+    def test_a_client_that_says_nothing(self):
+        for given in (b"", b"USER u", b"USER u\r\nPASS p\r\nDELE 1\r\n", b"USER u\r\nPASS p\r\nDELE 1\r\nQUIT\r"):
+            with self.subTest(given), self.service() as service:
+                with service.client() as silent:
+                    silent.give(given)
+                    self.assertEqual(len(silent.rest().splitlines()), 1 + given.count(b"\r\n"))
+                self.check_next_client(service, b"popd: read failed\n")
+
+    def test_a_client_that_takes_nothing(self):
+        with self.service() as service, service.client() as deaf:
+            deaf.log_in()
+            deaf.ask(b"DELE 1")
+            deaf.ask(b"RSET")
+            deaf.give(b"RETR 1\r\n" * 500)
+            self.check_next_client(service, b"popd: write failed\n")
 
 
 class Memory(OverLoopback):

@@ -7,6 +7,17 @@ use crate::failure::{Failure, failure_of, tell};
 use pop3_server::{Maildrop, Server, ServerFault, serve};
 use pop3_wire::StreamWire;
 use std::net::{TcpListener, TcpStream};
+use std::time::Duration;
+use std::{io, thread};
+
+/// How long a connection may neither say nor take anything: a read or a write that waits longer is
+/// refused, which ends the connection and removes nothing (RFC 1939, section 3, asks for ten minutes
+/// at least).
+const IDLE_SECONDS: u64 = 600;
+
+/// How long the server waits after a connection that couldn't be taken: where descriptors are wanting,
+/// the next one can't be taken at once either.
+const PAUSE_SECONDS: u64 = 1;
 
 /// Serves standard input and output with this server.
 pub fn serve_streams<D: Maildrop + Drop>(
@@ -19,6 +30,13 @@ pub fn serve_streams<D: Maildrop + Drop>(
     serve(&mut server, &mut wire)
 }
 
+/// Bounds how long a read or a write of a connection waits.
+fn bound_waits(stream: &TcpStream) -> io::Result<()> {
+    let wait = Some(Duration::from_secs(IDLE_SECONDS));
+    stream.set_read_timeout(wait)?;
+    stream.set_write_timeout(wait)
+}
+
 /// Serves one connection with a server of its own, over the Maildir as it is then.
 fn serve_stream(
     rt: &HostRuntime,
@@ -26,6 +44,9 @@ fn serve_stream(
     account: &Account,
 ) -> Result<(), ServerFault> {
     let mut server = account.copy(rt.alloc())?.into_server(rt);
+    if bound_waits(stream).is_err() {
+        return Err(ServerFault::ReadFailed);
+    }
     // A connection without it still works, only slower.
     let _ = stream.set_nodelay(true);
     let mut wire = StreamWire::new(stream, stream);
@@ -49,7 +70,10 @@ pub fn listen<'a>(
     for _ in 0..connections {
         let served = match listener.accept() {
             Ok((stream, _)) => serve_stream(rt, &stream, account),
-            Err(_) => Err(ServerFault::ReadFailed),
+            Err(_) => {
+                thread::sleep(rt, Duration::from_secs(PAUSE_SECONDS));
+                Err(ServerFault::ReadFailed)
+            }
         };
         if let Err(fault) = served {
             tell(rt, Failure::Fault(fault));
