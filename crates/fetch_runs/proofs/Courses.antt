@@ -1,6 +1,5 @@
 -- How far a session came behind its listing.
 use Rattle.std.proofs.Common.{◌≡◌, inl, inr, ℕ, List, [], ◌∷◌, ◌++◌, map, ◌⊎◌, Result, Ok, Err}
-use Rattle.std.specs.Prelude.{Contains}
 use Rattle.std.specs.List.{flat_map}
 use Rattle.pop3_wire.specs.Bodies.{Rest}
 use Rattle.pop3_wire.specs.Link.{Link}
@@ -122,5 +121,5 @@ begun_of course = tasks_of course.taken ++ course.under
 
 -- a DELE is the command of one of these tasks
 abbrev pub IsDeleted : List Task → Command → Type 0
-IsDeleted tasks (Dele number) = Contains tasks (deletes number)
+IsDeleted tasks (Dele number) = (front behind : List Task) × (tasks ≡ front ++ deletes number ∷ behind)
 IsDeleted tasks _ = Unit {0}
