@@ -14,6 +14,7 @@ mod LineLemmas
 mod MergeLemmas
 mod NewIdLemmas
 mod NumeralLemmas
+mod OccurrenceLemmas
 mod PlanLemmas
 mod ProgressLemmas
 mod ReadLemmas

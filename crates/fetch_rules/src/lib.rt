@@ -6,6 +6,7 @@
 
 mod id_set;
 mod laws;
+mod occurrence;
 mod seen;
 mod steps;
 

@@ -1,10 +1,12 @@
 //! Which messages of a listing are fetched, and which are deleted.
 
-ghost use Rattle.std.specs.Prelude.{◌≡◌, ◌+◌, ◌<◌, length, HoldsAt, IfOk};
-ghost use Rattle.fetch_rules.specs.Wanted.{is_candidate, wanted, DistinctAreFiltered};
+ghost use Rattle.std.specs.Prelude.{◌≡◌, ◌+◌, ◌<◌, ◌&&◌, ◌||◌, length, HoldsAt, IfOk};
+ghost use Rattle.fetch_rules.specs.Record.{is_delivered};
+ghost use Rattle.fetch_rules.specs.Wanted.{is_asked_for, wanted, DistinctAreFiltered};
 ghost use Rattle.fetch_rules.specs.Due.{is_due};
-ghost use Rattle.fetch_rules.specs.Plan.{is_deleted, planned, retrieved};
+ghost use Rattle.fetch_rules.specs.Plan.{seen_since, planned, retrieved};
 
+use crate::occurrence::{are_first, are_last};
 use crate::seen::Seen;
 use mail_terms::Listing;
 use rc_file::Settings;
@@ -33,23 +35,23 @@ fn is_due(settings: &Settings, now: u64, since: u64) -> bool
     settings.delete || (settings.delete_after != 0 && settings.delete_after <= days)
 }
 
-/// Whether the message of number `i + 1` may be fetched.
-fn is_candidate<H: BuildHasher>(
+/// Whether the message of number `i + 1` is to be fetched, unless an earlier one has its id.
+fn is_asked_for<H: BuildHasher>(
     settings: &Settings,
     seen: &Seen<H>,
     listing: &Listing,
     i: u32,
 ) -> bool
     requires { i < length listing.now }
-    ensures { HoldsAt (λ item. result ≡ is_candidate settings.now seen.now.rows listing.now (i + 1, item)) listing.now i }
+    ensures { HoldsAt (λ item. result ≡ is_asked_for settings.now seen.now.rows (i + 1, item)) listing.now i }
 {
-    listing.is_first(i)
-        && (settings.max_size == 0 || listing.size(i) <= settings.max_size)
+    (settings.max_size == 0 || listing.size(i) <= settings.max_size)
         && (settings.read_all || !seen.is_delivered(listing.uid(i)))
 }
 
-/// Whether the message of number `i + 1` is deleted, where it is told whether it is fetched.
-fn is_deleted<H: BuildHasher>(
+/// Whether the message of number `i + 1` is to be deleted, unless another one has its id, where it
+/// is told whether it is fetched.
+fn is_done_with<H: BuildHasher>(
     settings: &Settings,
     seen: &Seen<H>,
     listing: &Listing,
@@ -58,13 +60,11 @@ fn is_deleted<H: BuildHasher>(
     i: u32,
 ) -> bool
     requires { i < length listing.now }
-    ensures { HoldsAt (λ item. result ≡ is_deleted settings.now seen.now.rows listing.now now fetched (i + 1, item)) listing.now i }
+    ensures { HoldsAt (λ item. result ≡ (is_due settings.now now (seen_since seen.now.rows item.uid now) && (is_delivered seen.now.rows item.uid || fetched))) listing.now i }
 {
     let uid = listing.uid(i);
     let since = seen.first_seen(uid).unwrap_or(now);
-    is_due(settings, now, since)
-        && (seen.is_delivered(uid) || fetched)
-        && (listing.is_first(i) && listing.is_last(i))
+    is_due(settings, now, since) && (seen.is_delivered(uid) || fetched)
 }
 
 /// One step for each message of the listing, in order.
@@ -74,6 +74,7 @@ fn is_deleted<H: BuildHasher>(
 /// limit. A message is deleted where it is recorded as delivered or is fetched, no other message has
 /// its id, and `delete` is true or it was first seen `delete_after` days ago or more, where 0 sets no
 /// age. An id without a row is not delivered, and is first seen now. `now` is in seconds since 1970.
+/// Takes n log n comparisons of ids for n messages, and a look-up in the record for each.
 pub fn plan<H: BuildHasher>(
     alloc: Global,
     settings: &Settings,
@@ -86,15 +87,20 @@ pub fn plan<H: BuildHasher>(
     // What is fetched is, in order, the wanted messages: the first `max_count` of the candidates.
     ensures fetched { IfOk result (λ steps. retrieved steps.items listing.now ≡ wanted settings.now seen.now.rows listing.now) }
 {
+    let firsts = are_first(alloc, listing)?;
+    let lasts = are_last(alloc, listing)?;
     let mut steps = Vec::with_capacity(alloc, listing.len() as usize)?;
     let mut candidates: u64 = 0;
     for i in 0..listing.len() {
-        let candidate = is_candidate(settings, seen, listing, i);
+        let first = firsts[i as usize];
+        let alone = first && lasts[i as usize];
+        let candidate = first && is_asked_for(settings, seen, listing, i);
         let retrieve = candidate && (settings.max_count == 0 || candidates < settings.max_count);
+        let delete = alone && is_done_with(settings, seen, listing, now, retrieve, i);
         steps.push(Step {
             number: i + 1,
             retrieve,
-            delete: is_deleted(settings, seen, listing, now, retrieve, i),
+            delete,
         })?;
         candidates += u64::from(candidate);
     }
