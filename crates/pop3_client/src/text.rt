@@ -1,5 +1,5 @@
 //! The text of a message.
-ghost use Rattle.std.specs.Prelude.{◌≡◌, ◌≢◌, ◌≤◌, ◌<◌, ◌↔◌, ℕ, List, length, IsTrue, IfOk, OnOk, IfErr};
+ghost use Rattle.std.specs.Prelude.{◌≡◌, ◌≢◌, ◌≤◌, ◌<◌, ◌↔◌, ℕ, List, length, IsTrue, Ok, IfOk, OnOk, IfErr};
 ghost use Rattle.pop3_wire.specs.declared.unstuffer.Spot.TheVariants.{Done};
 ghost use Rattle.pop3_wire.specs.Link.{CountsFailure};
 ghost use Rattle.pop3_wire.specs.Place.{Place, at};
@@ -80,7 +80,8 @@ pub fn next_piece<W: Wire>(
     }
 }
 
-/// Takes what is left of a text, and drops it. It takes no memory.
+/// Takes what is left of a text, and drops it; of a text that was taken to its end nothing is left, and
+/// the link stays as it is. It takes no memory.
 pub fn drop_rest<W: Wire>(
     wire: &mut W,
     reader: &mut LineReader,
@@ -89,6 +90,7 @@ pub fn drop_rest<W: Wire>(
     ensures counted { CountsFailure (W.seen wire.old) (refusal_of result) (W.seen wire.new) }
     ensures ended { OnOk result (body.new.spot ≡ Done) }
     ensures frugal { IfErr result (λ fault. fault ≢ Fault.NoMemory) }
+    ensures whole { body.old.spot ≡ Done → (result ≡ Ok tt) × (at (W.seen wire.new) reader.new ≡ at (W.seen wire.old) reader.old) }
     ensures tells { W.sound wire.new → W.sound wire.old × W.leads_to wire.old wire.new
         × ((number : ℕ) (start : Place) (text : List ℕ) → Fetching (retr number) start (at (W.seen wire.old) reader.old) body.old text
         → Tells (retr number) start result (at (W.seen wire.new) reader.new)) }

@@ -22,7 +22,8 @@ use Rattle.mail_terms.specs.Listing.{Item}
 use Rattle.mail_terms.specs.declared.listing.UidRow.{UidRow}
 use Rattle.mail_terms.specs.declared.listing.ScanRow.{ScanRow}
 use Rattle.run_law.specs.Mails.{item_of, listing_of}
-use Rattle.run_law.specs.Readings.{Heard, body_bytes, heard_bytes, IsBody, IsGood, IsNumbered, TextsAreMessages, IsUidLine, IsScanLine, TellsCount, ListingIsMaildrop}
+use Rattle.pop3_wire.specs.Reading.{WholeReply, body_bytes, reply_bytes}
+use Rattle.run_law.specs.Readings.{IsBody, IsGood, IsNumbered, TextsAreMessages, IsUidLine, IsScanLine, TellsCount, ListingIsMaildrop}
 use Rattle.run_law.proofs.Replied.{same_lines}
 
 -- ---- texts
@@ -34,8 +35,8 @@ behind_first a b x y la lb e = (first_line_same a b x y la lb (sym (assoc a x) �
     assoc l z = append_assoc l crlf z
 
 -- the text of a granted RETR is its message's
-pub text_is : (drop : List Message) (marks next : List Bool) (number : ℕ) (reply : Heard) (text : List ℕ) → IsGood (Retr number) reply
-    → Grants drop marks (Retr number) (heard_bytes reply) next → Body (body_bytes reply.body) text → IsNumbered drop (number, text)
+pub text_is : (drop : List Message) (marks next : List Bool) (number : ℕ) (reply : WholeReply) (text : List ℕ) → IsGood (Retr number) reply
+    → Grants drop marks (Retr number) (reply_bytes reply) next → Body (body_bytes reply.body) text → IsNumbered drop (number, text)
 text_is drop marks next number reply text good g body =
     let behind : g.1 ≡ body_bytes reply.body = behind_first g.4.1.line reply.first g.1 (body_bytes reply.body) g.4.1.is_line good.line
     (ap (λ f. f ++ g.1) (sym g.4.1.whole) ∙ sym g.3) in
@@ -164,8 +165,8 @@ row_of_place number value of drop numbered rows same zip k d inside =
 -- ---- the three replies
 
 -- the lines of a listing are those that the server wrote
-listed_lines : (IsRow : ℕ × Message → List ℕ → Type 0) (command : Command) (drop : List Message) (marks : List Bool) (reply : Heard) (first body : List ℕ) (lines : List (List ℕ))
-    → IsGood command reply → heard_bytes reply ≡ first ++ body → SaysAnything Positive first → (l : ListsAll IsRow drop marks body) → reply.body ≡ Some lines
+listed_lines : (IsRow : ℕ × Message → List ℕ → Type 0) (command : Command) (drop : List Message) (marks : List Bool) (reply : WholeReply) (first body : List ℕ) (lines : List (List ℕ))
+    → IsGood command reply → reply_bytes reply ≡ first ++ body → SaysAnything Positive first → (l : ListsAll IsRow drop marks body) → reply.body ≡ Some lines
     → AllZip IsRow l.numbered (map unstuffed lines)
 listed_lines IsRow command drop marks reply first body lines good whole says l is =
     subst (λ (ls : List (List ℕ)). AllZip IsRow l.numbered (map unstuffed ls)) same l.rows
@@ -183,7 +184,7 @@ listed_lines IsRow command drop marks reply first body lines good whole says l i
 rest_same : (line rest other : List ℕ) → IsFirstLine line Positive rest → IsFirstLine line Positive other → rest ≡ other
 rest_same line rest other p q = p.2 ∙ ap without_space (append_cancel_left (indicator Positive) p.0 q.0 (sym p.1 ∙ q.1)) ∙ sym q.2
 
-count_same : (drop : List Message) (marks next : List Bool) (stat : Heard) (count : ℕ) → IsGood Stat stat → Grants drop marks Stat (heard_bytes stat) next → TellsCount stat count
+count_same : (drop : List Message) (marks next : List Bool) (stat : WholeReply) (count : ℕ) → IsGood Stat stat → Grants drop marks Stat (reply_bytes stat) next → TellsCount stat count
     → count ≡ count_by not marks
 count_same drop marks next stat count good g tells =
     let line : g.2.line ≡ stat.first = (first_line_same g.2.line stat.first [] (body_bytes stat.body) g.2.is_line good.line

@@ -10,7 +10,8 @@ use Rattle.mail_terms.specs.Listing.{numbered}
 use Rattle.fetch_rules.specs.Wanted.{wanted}
 use Rattle.fetch_rules.specs.Plan.{step_of, retrieved}
 use Rattle.fetch_rules.specs.declared.steps.Step.{Step}
-use Rattle.run_law.specs.Readings.{Heard, AreGood, Retrieves}
+use Rattle.pop3_wire.specs.Reading.{WholeReply}
+use Rattle.run_law.specs.Readings.{AreGood, Retrieves}
 use Rattle.run_law.specs.Plans.{asked_if, step_commands, plan_commands, IsTail, PlanGivesNumbers}
 
 abbrev number_in : Command → List ℕ
@@ -30,7 +31,7 @@ fst_item p = p.0
 abbrev Firsts : List Command → List (ℕ × List ℕ) → Type 0
 Firsts commands found = (rest : List ℕ) × (numbers_in commands ≡ map fst_found found ++ rest)
 
-found_first : (commands : List Command) (replies : List Heard) (found : List (ℕ × List ℕ)) → AreGood commands replies → Retrieves commands replies found → Firsts commands found
+found_first : (commands : List Command) (replies : List WholeReply) (found : List (ℕ × List ℕ)) → AreGood commands replies → Retrieves commands replies found → Firsts commands found
 found_first commands [] found good is = (numbers_in commands, ap (λ f. map fst_found f ++ numbers_in commands) (sym is))
 found_first [] (reply ∷ replies) found good is = absurd good
 found_first (Retr n ∷ commands) (reply ∷ replies) found good is =

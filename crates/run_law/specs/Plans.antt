@@ -9,7 +9,8 @@ use Rattle.fetch_rules.specs.Wanted.{wanted}
 use Rattle.fetch_rules.specs.Plan.{planned, retrieved}
 use Rattle.rc_file.specs.declared.settings.Settings.{Settings}
 use Rattle.fetch_rules.specs.declared.steps.Step.{Step}
-use Rattle.run_law.specs.Readings.{Heard, AreGood, Retrieves}
+use Rattle.pop3_wire.specs.Reading.{WholeReply}
+use Rattle.run_law.specs.Readings.{AreGood, Retrieves}
 
 abbrev pub asked_if : Bool → Command → List Command
 asked_if yes' command = if yes' then command ∷ [] else []
@@ -37,7 +38,7 @@ pub record IsFrontOfPlan (name word : List ℕ) (steps : List Step) (commands : 
 -- a law: the texts that such a session retrieves are, by their numbers, those of the first of the wanted messages
 abbrev pub PlanGivesNumbers : Type 0
 PlanGivesNumbers = (settings : Settings) (rows : List Row) (listing : List Item) (now : ℕ) (name word : List ℕ) (steps : List Step)
-    (commands : List Command) (replies : List Heard) (found : List (ℕ × List ℕ))
+    (commands : List Command) (replies : List WholeReply) (found : List (ℕ × List ℕ))
     → steps ≡ planned settings rows listing now → retrieved steps listing ≡ wanted settings rows listing
     → IsFrontOfPlan name word steps commands → AreGood commands replies → Retrieves commands replies found
     → map (λ (p : ℕ × List ℕ). p.0) found ≡ map (λ (p : ℕ × Item). p.0) (take (length found) (wanted settings rows listing))

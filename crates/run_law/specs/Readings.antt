@@ -5,8 +5,9 @@ use Rattle.pop3_wire.specs.declared.command.Command.{Command}
 use Rattle.pop3_wire.specs.declared.command.Command.TheVariants.{User, Pass, Stat, UidlAll, ListAll, Retr, Dele}
 use Rattle.pop3_wire.specs.declared.reply.Status.TheVariants.{Positive}
 use Rattle.pop3_wire.specs.Line.{IsLine, ended}
-use Rattle.pop3_wire.specs.Body.{IsContent, unstuffed, body_of, Body}
+use Rattle.pop3_wire.specs.Body.{IsContent, unstuffed, Body}
 use Rattle.pop3_wire.specs.Reply.{IsFirstLine}
+use Rattle.pop3_wire.specs.Reading.{WholeReply, body_bytes, reply_bytes, has_body}
 use Rattle.pop3_wire.specs.Fields.{number_and_size, number_and_id}
 use Rattle.pop3_wire.specs.Honest.{Grants, Asked, Honest, no_marks}
 use Rattle.pop3_wire.specs.World.{Message}
@@ -15,66 +16,48 @@ use Rattle.mail_terms.specs.declared.listing.UidRow.{UidRow}
 use Rattle.mail_terms.specs.declared.listing.ScanRow.{ScanRow}
 use Rattle.run_law.specs.Mails.{listing_of}
 
--- a whole reply: its first line, and the lines of its body where it has one
-pub record Heard : Type 0 where
-  pub first : List ℕ
-  pub body : Option (List (List ℕ))
-
-abbrev pub body_bytes : Option (List (List ℕ)) → List ℕ
-body_bytes None = []
-body_bytes (Some lines) = body_of lines
-
-abbrev pub heard_bytes : Heard → List ℕ
-heard_bytes reply = ended reply.first ++ body_bytes reply.body
-
--- whether a positive reply to the command has a body
-abbrev pub has_body : Command → Bool
-has_body UidlAll = true
-has_body ListAll = true
-has_body (Retr number) = true
-has_body _ = false
-
+-- a body of content lines, where a positive reply to the command has one
 abbrev pub IsBody : Command → Option (List (List ℕ)) → Type 0
 IsBody command None = has_body command ≡ false
 IsBody command (Some lines) = (has_body command ≡ true) × AllByRecursion IsContent lines
 
 -- a whole and positive reply to the command
-pub record IsGood (command : Command) (reply : Heard) : Type 0 where
+pub record IsGood (command : Command) (reply : WholeReply) : Type 0 where
   pub rest : List ℕ
   pub line : IsLine reply.first
   pub positive : IsFirstLine reply.first Positive rest
   pub body : IsBody command reply.body
 
 -- whole and positive replies to the first of these commands
-abbrev pub AreGood : List Command → List Heard → Type 0
+abbrev pub AreGood : List Command → List WholeReply → Type 0
 AreGood commands [] = Unit {0}
 AreGood [] (reply ∷ replies) = ⊥
 AreGood (command ∷ commands) (reply ∷ replies) = IsGood command reply × AreGood commands replies
 
 -- these commands were sent whole, and what was got is a greeting, these replies to the first of them, and a rest
-pub record Talked (commands : List Command) (replies : List Heard) (sent got : List ℕ) : Type 0 where
+pub record Talked (commands : List Command) (replies : List WholeReply) (sent got : List ℕ) : Type 0 where
   pub asked : Asked commands sent
   pub hello : List ℕ
   pub line : IsLine hello
   pub good : AreGood commands replies
   pub rest : List ℕ
-  pub whole : got ≡ ended hello ++ (flat_map heard_bytes replies ++ rest)
+  pub whole : got ≡ ended hello ++ (flat_map reply_bytes replies ++ rest)
 
 -- each reply grants its command, marks carried along
-abbrev pub AreGranted : List Message → List Bool → List Command → List Heard → Type 0
+abbrev pub AreGranted : List Message → List Bool → List Command → List WholeReply → Type 0
 AreGranted drop marks commands [] = Unit {0}
 AreGranted drop marks [] (reply ∷ replies) = ⊥
 AreGranted drop marks (command ∷ commands) (reply ∷ replies) =
-    (next : List Bool) × Grants drop marks command (heard_bytes reply) next × AreGranted drop next commands replies
+    (next : List Bool) × Grants drop marks command (reply_bytes reply) next × AreGranted drop next commands replies
 
 -- of an honest conversation each whole and positive reply is what the command asks of the maildrop
 abbrev pub HonestIsGranted : Type 0
-HonestIsGranted = (drop : List Message) (sent got : List ℕ) (marks : List Bool) (commands : List Command) (replies : List Heard)
+HonestIsGranted = (drop : List Message) (sent got : List ℕ) (marks : List Bool) (commands : List Command) (replies : List WholeReply)
     → (honest : Honest drop sent got marks) → Talked commands replies sent got
     → AreGranted drop (no_marks drop) commands replies
 
 -- the numbers and texts of the replies to RETR
-abbrev pub Retrieves : List Command → List Heard → List (ℕ × List ℕ) → Type 0
+abbrev pub Retrieves : List Command → List WholeReply → List (ℕ × List ℕ) → Type 0
 Retrieves commands [] found = found ≡ []
 Retrieves [] (reply ∷ replies) found = ⊥
 Retrieves (Retr number ∷ commands) (reply ∷ replies) found =
@@ -86,7 +69,7 @@ abbrev pub IsNumbered : List Message → ℕ × List ℕ → Type 0
 IsNumbered drop found = (message : Message) × (slice_get drop (found.0 - 1) ≡ Some message) × (found.1 ≡ message.text)
 
 abbrev pub TextsAreMessages : Type 0
-TextsAreMessages = (drop : List Message) (marks : List Bool) (commands : List Command) (replies : List Heard) (found : List (ℕ × List ℕ))
+TextsAreMessages = (drop : List Message) (marks : List Bool) (commands : List Command) (replies : List WholeReply) (found : List (ℕ × List ℕ))
     → AreGood commands replies → AreGranted drop marks commands replies → Retrieves commands replies found → AllByRecursion (IsNumbered drop) found
 
 -- rows as the session reads them
@@ -96,15 +79,15 @@ IsUidLine line row = number_and_id (unstuffed line) ≡ Ok (row.number, row.uid.
 abbrev pub IsScanLine : List ℕ → ScanRow → Type 0
 IsScanLine line row = number_and_size (unstuffed line) ≡ Ok (row.number, row.size)
 
-abbrev pub HasRows : {R : Type 0} → (List ℕ → R → Type 0) → Heard → List R → Type 0
+abbrev pub HasRows : {R : Type 0} → (List ℕ → R → Type 0) → WholeReply → List R → Type 0
 HasRows IsRow reply rows = (lines : List (List ℕ)) × (reply.body ≡ Some lines) × AllZip IsRow lines rows
 
 -- the count of STAT's reply
-abbrev pub TellsCount : Heard → ℕ → Type 0
+abbrev pub TellsCount : WholeReply → ℕ → Type 0
 TellsCount reply count = (rest : List ℕ) × (total : ℕ) × IsFirstLine reply.first Positive rest × (number_and_size rest ≡ Ok (count, total))
 
 -- the listing that the replies to STAT, UIDL and LIST join to
-pub record IsListed (stat uidl list : Heard) (items : List Item) : Type 0 where
+pub record IsListed (stat uidl list : WholeReply) (items : List Item) : Type 0 where
   pub count : ℕ
   pub uids : List UidRow
   pub sizes : List ScanRow
@@ -115,7 +98,7 @@ pub record IsListed (stat uidl list : Heard) (items : List Item) : Type 0 where
 
 -- a joined listing is the maildrop's
 abbrev pub ListingIsMaildrop : Type 0
-ListingIsMaildrop = (drop : List Message) (name word : List ℕ) (commands : List Command) (user pass stat uidl list : Heard) (replies : List Heard) (items : List Item)
+ListingIsMaildrop = (drop : List Message) (name word : List ℕ) (commands : List Command) (user pass stat uidl list : WholeReply) (replies : List WholeReply) (items : List Item)
     → AreGood (User name ∷ Pass word ∷ Stat ∷ UidlAll ∷ ListAll ∷ commands) (user ∷ pass ∷ stat ∷ uidl ∷ list ∷ replies)
     → AreGranted drop (no_marks drop) (User name ∷ Pass word ∷ Stat ∷ UidlAll ∷ ListAll ∷ commands) (user ∷ pass ∷ stat ∷ uidl ∷ list ∷ replies)
     → IsListed stat uidl list items → items ≡ listing_of drop

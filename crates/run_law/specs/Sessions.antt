@@ -10,7 +10,8 @@ use Rattle.rc_file.specs.declared.settings.Settings.{Settings}
 use Rattle.run_law.specs.Mails.{has_id}
 use Rattle.run_law.specs.Accounts.{Account, Moves}
 use Rattle.run_law.specs.Steps.{Effect, Leaves, Stores, wanted_at}
-use Rattle.run_law.specs.Readings.{Heard, Talked, Retrieves, IsListed}
+use Rattle.pop3_wire.specs.Reading.{WholeReply}
+use Rattle.run_law.specs.Readings.{Talked, Retrieves, IsListed}
 use Rattle.run_law.specs.Runs.{Frame, IsFrame, Situation, Visited, Moved, Kept, Promises}
 
 -- a DELE that was sent whole is among those begun, by the id of its number
@@ -24,12 +25,12 @@ pub record Reads (settings : Settings) (account : List ℕ) (before : Account) (
   pub word : List ℕ
   pub more : List Command
   pub commands_are : commands ≡ User name ∷ Pass word ∷ Stat ∷ UidlAll ∷ ListAll ∷ more
-  pub user : Heard
-  pub pass : Heard
-  pub stat : Heard
-  pub uidl : Heard
-  pub list : Heard
-  pub replies : List Heard
+  pub user : WholeReply
+  pub pass : WholeReply
+  pub stat : WholeReply
+  pub uidl : WholeReply
+  pub list : WholeReply
+  pub replies : List WholeReply
   pub talked : Talked (User name ∷ Pass word ∷ Stat ∷ UidlAll ∷ ListAll ∷ more) (user ∷ pass ∷ stat ∷ uidl ∷ list ∷ replies) sent got
   pub listed : IsListed stat uidl list effect.listing
   pub found : List (ℕ × List ℕ)
