@@ -16,3 +16,4 @@ pub mod Next
 pub mod Planned
 pub mod Chained
 pub mod Tells
+pub mod Fronts

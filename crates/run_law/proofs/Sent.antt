@@ -29,7 +29,7 @@ argument_no_lf bytes h = plain_no_lf bytes (and_parts _ (list_all is_plain bytes
 number_no_lf : (word : List ℕ) (n : ℕ) → list_all is_no_lf word ≡ true → n < 2 ^ 32 → list_all is_no_lf (word ++ decimal n) ≡ true
 number_no_lf word n h l = no_lf_append word (decimal n) h (no_lf_decimal n (omega (arith, l)))
 
-line_no_lf : (c : Command) → HasNumbers c → can_be_sent c ≡ true → list_all is_no_lf (line_of c) ≡ true
+pub line_no_lf : (c : Command) → HasNumbers c → can_be_sent c ≡ true → list_all is_no_lf (line_of c) ≡ true
 unfolding line_of
 line_no_lf (User name) h s = no_lf_append (codes "USER ") name refl (argument_no_lf name s)
 line_no_lf (Pass password) h s = no_lf_append (codes "PASS ") password refl (argument_no_lf password s)

@@ -4,7 +4,7 @@
 ghost use Rattle.run_law.specs.Runs.{CanEnd, KeptHoldsExactly, KeptStaysKept, StartsKept, WantsNext};
 ghost use Rattle.run_law.specs.Readings.{HonestIsGranted, ListingIsMaildrop, MarksAreAsked, TextsAreMessages};
 ghost use Rattle.run_law.specs.Chains.{ChainsKeep};
-ghost use Rattle.run_law.specs.Plans.{PlanGivesNumbers};
+ghost use Rattle.run_law.specs.Plans.{FrontsAreAsked, PlanGivesNumbers};
 ghost use Rattle.run_law.specs.Sessions.{LinksKeep};
 ghost use Rattle.run_law.specs.Told.{ToldStores};
 
@@ -71,4 +71,10 @@ pub fn chains_keep()
 /// A session told with its numbers is one that the law over runs takes.
 pub fn told_stores()
     ensures { ToldStores }
+{}
+
+/// Octets that begin those of some commands are the first of these whole, and perhaps a part of one
+/// more.
+pub fn fronts_are_asked()
+    ensures { FrontsAreAsked }
 {}
