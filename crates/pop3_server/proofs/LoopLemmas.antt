@@ -2,11 +2,12 @@
 use Rattle.std.proofs.Common.{◌≡◌, inl, inr, ◌≤◌, ◌<◌, ◌+◌, ◌-◌, ◌==◌, ◌||◌, ℕ, Bool, true, false, List, [], ◌∷◌, ◌++◌, length, take, drop, refl, sym, ap, subst, ◌∙◌, arith, append_assoc, take-append-drop, length-append, if◌then◌else◌}
 use Rattle.std.proofs.lemmas.List.{append-nil, drop-append-le, take-append-le, take_all}
 use Rattle.std.proofs.lemmas.Bool.{cases_Bool}
+use Rattle.std.proofs.lemmas.Bool.Decides.{nat_tests}
 use Rattle.std.proofs.lemmas.Grind.{common_steps}
 use Rattle.std.proofs.Math.Seq.{take-add, take-append_seam, drop-append-add}
 use Rattle.pop3_wire.specs.Line.{crlf, IsLine, ended}
 use Rattle.pop3_wire.specs.Link.{Link, with_failures}
-use Rattle.mail_terms.specs.FailureCount.{greatest_count}
+use Rattle.mail_terms.specs.FailureCount.{greatest_count, counted_up}
 use Rattle.pop3_wire.specs.Place.{HasLine}
 use Rattle.pop3_server.specs.Maildrop.{Mail}
 use Rattle.pop3_server.specs.ServerMachine.{Machine, Answers, deed, greeting, is_open}
@@ -250,10 +251,10 @@ given_on all piece rest copied buf given n within is few same =
     dropped = grind (arith, common_steps)
 
 -- a refused call below the greatest count was counted
-pub counted_below : (old new : ℕ) → new ≡ (if old == greatest_count then greatest_count else old + 1) → new < greatest_count → (old < greatest_count) × (new ≡ old + 1)
+pub counted_below : (old new : ℕ) → new ≡ counted_up old → new < greatest_count → (old < greatest_count) × (new ≡ old + 1)
 counted_below old new is below = elim (cases_Bool (old == greatest_count)) [
-  | inl most ↦ absurd (omega (arith, is ∙ ap (λ (b : Bool). if b then greatest_count else old + 1) most, below))
-  | inr less ↦ let next : new ≡ old + 1 = is ∙ ap (λ (b : Bool). if b then greatest_count else old + 1) less in (omega (arith, next, below), next)
+  | inl most ↦ let same : new ≡ old = is ∙ ap (λ (b : Bool). if b then old else old + 1) most in absurd (grind (arith, nat_tests))
+  | inr less ↦ let next : new ≡ old + 1 = is ∙ ap (λ (b : Bool). if b then old else old + 1) less in (omega (arith, next, below), next)
 ]
 
 -- a refused call took the link down and was counted

@@ -1,7 +1,7 @@
 //! A link to a server in memory.
-ghost use Rattle.std.specs.Prelude.{◌≡◌, ◌==◌, ◌≤◌, ◌<◌, ◌+◌, ◌++◌, ◌-◌, ◌^◌, ℕ, List, [], length, take, drop, true, false, if◌then◌else◌, IfOk, IfErr, IfSome, IfNone};
-ghost use Rattle.pop3_wire.specs.Link.{Link, with_failures, CountsFailure, Sends, Receives};
-ghost use Rattle.mail_terms.specs.FailureCount.{greatest_count};
+ghost use Rattle.std.specs.Prelude.{◌≡◌, ◌≤◌, ◌<◌, ◌+◌, ◌++◌, ◌-◌, ◌^◌, ℕ, List, [], length, take, drop, true, false, IfOk, IfErr, IfSome, IfNone};
+ghost use Rattle.pop3_wire.specs.Link.{Link, with_failures, CountsFailure, Sends, Receives, WhereSound};
+ghost use Rattle.mail_terms.specs.FailureCount.{greatest_count, counted_up};
 ghost use Rattle.pop3_wire.specs.Place.{HasLine};
 ghost use Rattle.pop3_server.specs.ServerMachine.{greeting, is_open};
 ghost use Rattle.pop3_server.specs.LoopLink.{Loop, Serves, IsAnswered};
@@ -9,6 +9,7 @@ ghost use Rattle.pop3_server.specs.LoopLaws.{serves_same, serves_on};
 
 use crate::maildrop::Maildrop;
 use crate::server::Server;
+use mail_terms::FailureCount;
 use pop3_wire::{Wire, WireDown, cut_line};
 use std::alloc::Global;
 use std::marker::Model;
@@ -30,7 +31,7 @@ pub struct LoopWire<D: Maildrop> {
     given: usize,
     ended: bool,
     down: bool,
-    failures: u64,
+    failures: FailureCount,
 }
 
 impl<D: Maildrop> Model for LoopWire<D> {
@@ -78,7 +79,7 @@ impl<D: Maildrop> LoopWire<D> {
             given: 0,
             ended: false,
             down: false,
-            failures: 0,
+            failures: FailureCount::new(),
         }
     }
 
@@ -164,11 +165,11 @@ impl<D: Maildrop> LoopWire<D> {
 
     /// Takes the link down, and counts the call that is refused.
     fn refuse(&mut self) -> WireDown
-        ensures counted { self.new.link.failures ≡ (if self.old.link.failures == greatest_count then greatest_count else self.old.link.failures + 1) }
+        ensures counted { self.new.link.failures ≡ counted_up self.old.link.failures }
         ensures same { self.new ≡ record self.old { down = true; link = with_failures self.new.link.failures self.old.link } }
     {
         self.down = true;
-        self.failures = self.failures.saturating_add(1);
+        self.failures.count_up();
         WireDown
     }
 }
@@ -182,8 +183,8 @@ impl<D: Maildrop> Wire for LoopWire<D> {
 
     fn send(&mut self, bytes: &[u8]) -> Result<(), WireDown>
         ensures counted { CountsFailure self.old.link result self.new.link }
-        ensures sent { self.new.link.failures < greatest_count → (self.old.link.failures < greatest_count)
-            × Serves D.sound D.mail self.old self.new × Sends self.old.link bytes.now result self.new.link }
+        ensures sent { WhereSound (λ w. w.link.failures < greatest_count) (λ u v. Serves D.sound D.mail u v) self.old self.new
+            (Sends self.old.link bytes.now result self.new.link) }
         // A good call has answered every whole line that was sent to an open server; behind a
         // refused one all calls are refused.
         ensures answered { IfOk result (λ _. (self.old.down ≡ false) × (self.new.down ≡ false) × IsAnswered self.new) }
@@ -205,8 +206,8 @@ impl<D: Maildrop> Wire for LoopWire<D> {
         requires { 0 < length buf.old }
         ensures within { IfOk result (λ n. n ≤ length buf.new) }
         ensures counted { CountsFailure self.old.link result self.new.link }
-        ensures got { self.new.link.failures < greatest_count → (self.old.link.failures < greatest_count)
-            × Serves D.sound D.mail self.old self.new × Receives self.old.link result buf.new self.new.link }
+        ensures got { WhereSound (λ w. w.link.failures < greatest_count) (λ u v. Serves D.sound D.mail u v) self.old self.new
+            (Receives self.old.link result buf.new self.new.link) }
         // It is refused behind a refused call and there alone, and 0 says that nothing is left.
         ensures up { IfOk result (λ _. (self.old.down ≡ false) × (self.new.down ≡ false)) }
         ensures down { IfErr result (λ _. (self.old.down ≡ true) × (self.new.down ≡ true)) }
@@ -225,7 +226,7 @@ impl<D: Maildrop> Wire for LoopWire<D> {
     }
 
     fn failures(&self) -> u64 {
-        self.failures
+        self.failures.count()
     }
 
     ghost leads_same = { λ w. serves_same D.sound D.mail w };

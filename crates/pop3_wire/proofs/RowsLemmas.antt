@@ -1,16 +1,17 @@
--- Rows that are read have their form.
-use Rattle.std.proofs.Common.{ℕ, suc, ◌≤◌, ◌≡◌, ◌≢◌, true, false, List, [], ◌∷◌, ◌++◌, length, take, drop, refl, sym, ap, subst, ◌∙◌, arith, inl, inr, Result, Ok, Err, take-append-drop}
-use Rattle.std.specs.Prelude.{nat_le, ◌&&◌, ◌==◌, Bool, take_while}
+-- The rows that are read are those that have their form.
+use Rattle.std.proofs.Common.{ℕ, suc, ◌≤◌, ◌<◌, ◌≡◌, ◌≢◌, true, false, List, [], ◌∷◌, ◌++◌, length, take, drop, refl, sym, ap, subst, ◌∙◌, arith, inl, inr, Result, Ok, Err, take-append-drop}
+use Rattle.std.specs.Prelude.{nat_lt, nat_le, ◌&&◌, ◌==◌, Bool, IsTrue, take_while}
 use Rattle.std.specs.List.{prefix_len, list_all}
 use Rattle.std.specs.Char.{is_ascii_digit}
 use Rattle.std.specs.Str.Parse.{digits_value}
-use Rattle.std.proofs.lemmas.Bool.{and_parts, and_from, cond-true, cond-false, cases_Bool, leb-true}
-use Rattle.std.proofs.lemmas.List.{append-nil}
+use Rattle.std.proofs.lemmas.Bool.{and_parts, and_from, cond-true, cond-false, cases_Bool, leb-true, le-leb, ltb-true}
+use Rattle.std.proofs.lemmas.List.{append-nil, take_at, drop_at}
 use Rattle.std.proofs.lemmas.Bool.Decides.{nat_tests}
 use Rattle.pop3_wire.specs.Fields.{◌>>=◌, is_space, is_in_field, past, number, next_field, message_number, number_and_size, legal_id, nothing_more, number_and_id}
 use Rattle.mail_terms.specs.Numeral.{is_numeral, greatest_number, greatest_size}
-use Rattle.mail_terms.specs.UniqueId.{is_legal_id, IsLegalId}
-use Rattle.pop3_wire.specs.Rows.{AreSpaces, StandsFor, HasNumber, HasScanForm, HasUidForm}
+use Rattle.mail_terms.specs.UniqueId.{is_id_byte, is_legal_id, IsLegalId}
+use Rattle.pop3_wire.specs.declared.fault.WireFault.{WireFault}
+use Rattle.pop3_wire.specs.Rows.{AreSpaces, StandsFor, HasNumber, HasScanForm, HasUidForm, ScanRowsHaveForm, UidRowsHaveForm}
 
 -- ---- what passes in front, and what follows
 
@@ -139,6 +140,17 @@ more_ok id bytes whole e = elim (cases_Bool (length (past is_space bytes) == 0))
     all_spaces [] is none = subst AreSpaces (sym (split_at is_space bytes ∙ ap (λ (l : List ℕ). take_while is_space bytes ++ l) is ∙ append-nil _)) (front_passes is_space bytes)
     all_spaces (byte ∷ rest) is none = absurd (grind (arith, nat_tests))
 
+-- what the steps of `read_uid` have read
+pub small_and_legal : (line rest field bytes id whole : List ℕ) (n : ℕ) → message_number line ≡ Ok (n, rest) → legal_id field ≡ Ok id → nothing_more id bytes ≡ Ok whole
+    → (n ≤ greatest_number) × IsLegalId whole
+small_and_legal line rest field bytes id whole n first second third =
+    let step = bind_ok (next_field line) _ (n, rest) first in
+    let then = bind_ok (number greatest_number (take_while is_in_field step.0)) _ (n, rest) step.2 in
+    let same = pair_same (then.0, past is_in_field step.0) (n, rest) (ok_same _ _ _ refl then.2) in (
+      subst (λ (k : ℕ). k ≤ greatest_number) same.0 (number_ok greatest_number _ then.0 then.1).within,
+      subst IsLegalId (more_ok id bytes whole third).0 (id_ok field id second).1,
+    )
+
 pub uid_form : (line : List ℕ) (n : ℕ) (uid : List ℕ) → number_and_id line ≡ Ok (n, uid) → HasUidForm line n uid
 unfolding number_and_id
 uid_form line n uid e =
@@ -158,3 +170,160 @@ uid_form line n uid e =
       legal = subst IsLegalId (over.0 ∙ same.1) legal.1;
       over = over.1;
     }
+
+-- ---- the other direction: a line of the form is read
+
+-- what follows doesn't go on with a byte that passes
+abbrev Stops : (ℕ → Bool) → List ℕ → Type 0
+Stops test rest = (byte : ℕ) (more : List ℕ) → rest ≡ byte ∷ more → test byte ≡ false
+
+front_length : (test : ℕ → Bool) (front rest : List ℕ) → list_all test front ≡ true → Stops test rest → prefix_len test (front ++ rest) ≡ length front
+front_length test [] [] all stops = refl
+front_length test [] (byte ∷ rest) all stops = cond-false _ _ _ (stops byte rest refl)
+front_length test (byte ∷ front) rest all stops =
+    let parts = and_parts (test byte) (list_all test front) all in
+    let further = front_length test front rest parts.1 stops in
+    cond-true _ _ _ parts.0 ∙ omega (arith, further)
+
+front_taken : (test : ℕ → Bool) (front rest : List ℕ) → list_all test front ≡ true → Stops test rest → take_while test (front ++ rest) ≡ front
+front_taken test front rest all stops = ap (λ (n : ℕ). take n (front ++ rest)) (front_length test front rest all stops) ∙ take_at front rest (length front) refl
+
+front_passed : (test : ℕ → Bool) (front rest : List ℕ) → list_all test front ≡ true → Stops test rest → past test (front ++ rest) ≡ rest
+front_passed test front rest all stops = ap (λ (n : ℕ). drop n (front ++ rest)) (front_length test front rest all stops) ∙ drop_at front rest (length front) refl
+
+bind_read : {A B E : Type 0} (r : Result A E) (a : A) (f : A → Result B E) → r ≡ Ok a → (r >>= f) ≡ f a
+bind_read r a f e = ap (λ (s : Result _ _). s >>= f) e
+
+-- the field begins with a byte that is no space
+Begins : List ℕ → Type 0
+Begins field = (byte : ℕ) × (more : List ℕ) × (field ≡ byte ∷ more) × (is_space byte ≡ false)
+
+next_read : (spaces field : List ℕ) → AreSpaces spaces → Begins field → next_field (spaces ++ field) ≡ Ok field
+unfolding next_field Begins
+next_read spaces field blank (byte, more, is, other) =
+    let gone : past is_space (spaces ++ field) ≡ field = front_passed is_space spaces field blank (stops byte more is other) in
+    rw gone (cond-false _ _ _ (some byte more is))
+  where
+    same_byte : (a b : ℕ) (x y : List ℕ) → a ∷ x ≡ b ∷ y → a ≡ b
+    same_byte a b x y e = cc
+
+    stops : (b : ℕ) (rest : List ℕ) → field ≡ b ∷ rest → is_space b ≡ false → Stops is_space field
+    stops b rest begins space c after e = subst (λ (d : ℕ). is_space d ≡ false) (same_byte b c rest after (sym begins ∙ e)) space
+
+    some : (b : ℕ) (rest : List ℕ) → field ≡ b ∷ rest → (length field == 0) ≡ false
+    some b rest begins = let size : length field ≡ length (b ∷ rest) = ap length begins in grind (arith, nat_tests)
+
+number_read : (limit : ℕ) (digits : List ℕ) (n : ℕ) → StandsFor limit digits n → number limit digits ≡ Ok n
+unfolding number
+number_read limit digits n stands =
+    let fits : digits_value 10 digits ≤ limit = subst (λ (k : ℕ). k ≤ limit) stands.value stands.within in
+    cond-true _ _ _ (and_from (is_numeral digits) (nat_le (digits_value 10 digits) limit) stands.numeral (le-leb (digits_value 10 digits) limit fits))
+    ∙ ap (λ (k : ℕ). Ok k) (sym stands.value)
+
+-- bytes that pass one test pass another
+pub all_pass : (p q : ℕ → Bool) → ((b : ℕ) → p b ≡ true → q b ≡ true) → (bytes : List ℕ) → list_all p bytes ≡ true → list_all q bytes ≡ true
+all_pass p q h [] all = refl
+all_pass p q h (byte ∷ bytes) all =
+    let parts = and_parts (p byte) (list_all p bytes) all in
+    and_from (q byte) (list_all q bytes) (h byte parts.0) (all_pass p q h bytes parts.1)
+
+digit_in_field : (byte : ℕ) → is_ascii_digit byte ≡ true → is_in_field byte ≡ true
+digit_in_field byte e = grind (arith, nat_tests)
+
+id_byte_in_field : (byte : ℕ) → is_id_byte byte ≡ true → is_in_field byte ≡ true
+id_byte_in_field byte e = grind (arith, nat_tests)
+
+no_space : (byte : ℕ) → is_in_field byte ≡ true → is_space byte ≡ false
+no_space byte e = grind (arith, nat_tests)
+
+space_ends_field : (byte : ℕ) → is_space byte ≡ true → is_in_field byte ≡ false
+space_ends_field byte e = grind (arith, nat_tests)
+
+-- bytes of a field, one or more of them, and what follows
+begins : (front rest : List ℕ) → nat_lt 0 (length front) ≡ true → list_all is_in_field front ≡ true → Begins (front ++ rest)
+unfolding Begins
+begins [] rest some all = absurd (let none : 0 < 0 = ltb-true 0 0 some in omega arith)
+begins (byte ∷ front) rest some all = (byte, front ++ rest, refl, no_space byte (and_parts (is_in_field byte) (list_all is_in_field front) all).0)
+
+spaces_end_field : (spaces rest : List ℕ) → AreSpaces spaces → spaces ≢ [] → Stops is_in_field (spaces ++ rest)
+spaces_end_field [] rest blank some byte more e = absurd (some refl)
+spaces_end_field (space ∷ spaces) rest blank some byte more e =
+    let same : space ≡ byte = cc in
+    subst (λ (b : ℕ). is_in_field b ≡ false) same (space_ends_field space (and_parts (is_space space) (list_all is_space spaces) blank).0)
+
+digits_of : (digits : List ℕ) → IsTrue (is_numeral digits) → (nat_lt 0 (length digits) ≡ true) × (list_all is_ascii_digit digits ≡ true)
+digits_of digits numeral =
+    let parts = and_parts (nat_lt 0 (length digits) && nat_le (length digits) 20) (list_all is_ascii_digit digits) numeral in
+    ((and_parts (nat_lt 0 (length digits)) (nat_le (length digits) 20) parts.0).0, parts.1)
+
+abbrev both : {A : Type 0} → ℕ → A → Result (ℕ × A) WireFault
+both n x = Ok (n, x)
+
+message_read : (line : List ℕ) (n : ℕ) (rest : List ℕ) (form : HasNumber line n rest) → message_number line ≡ Ok (n, form.gap ++ rest)
+message_read line n rest form =
+    let digits = digits_of form.digits form.counted.numeral in
+    let field : list_all is_in_field form.digits ≡ true = all_pass is_ascii_digit is_in_field digit_in_field form.digits digits.1 in
+    let ends : Stops is_in_field (form.gap ++ rest) = spaces_end_field form.gap rest form.apart form.some in
+    let read : number greatest_number (take_while is_in_field (form.digits ++ (form.gap ++ rest))) ≡ Ok n =
+    ap (number greatest_number) (front_taken is_in_field form.digits (form.gap ++ rest) field ends) ∙ number_read greatest_number form.digits n form.counted in
+    ap message_number form.whole
+    ∙ bind_read (next_field (form.indent ++ (form.digits ++ (form.gap ++ rest)))) (form.digits ++ (form.gap ++ rest)) _
+    (next_read form.indent (form.digits ++ (form.gap ++ rest)) form.before (begins form.digits (form.gap ++ rest) digits.0 field))
+    ∙ bind_read (number greatest_number (take_while is_in_field (form.digits ++ (form.gap ++ rest)))) n _ read
+    ∙ ap (λ (l : List ℕ). both n l) (front_passed is_in_field form.digits (form.gap ++ rest) field ends)
+
+pub scan_form_read : (line : List ℕ) (n size : ℕ) → HasScanForm line n size → number_and_size line ≡ Ok (n, size)
+unfolding number_and_size
+scan_form_read line n size form =
+    let digits = digits_of form.digits form.sized.numeral in
+    let field : list_all is_in_field form.digits ≡ true = all_pass is_ascii_digit is_in_field digit_in_field form.digits digits.1 in
+    let read : number greatest_size (take_while is_ascii_digit (form.digits ++ form.behind)) ≡ Ok size =
+    ap (number greatest_size) (front_taken is_ascii_digit form.digits form.behind digits.1 form.over) ∙ number_read greatest_size form.digits size form.sized in
+    bind_read (message_number line) (n, form.front.gap ++ (form.digits ++ form.behind)) _ (message_read line n (form.digits ++ form.behind) form.front)
+    ∙ bind_read (next_field (form.front.gap ++ (form.digits ++ form.behind))) (form.digits ++ form.behind) _
+    (next_read form.front.gap (form.digits ++ form.behind) form.front.apart (begins form.digits form.behind digits.0 field))
+    ∙ bind_read (number greatest_size (take_while is_ascii_digit (form.digits ++ form.behind))) size _ read
+
+pub bytes_of : (uid : List ℕ) → IsLegalId uid → (nat_lt 0 (length uid) ≡ true) × (list_all is_id_byte uid ≡ true)
+bytes_of uid legal =
+    let parts = and_parts (nat_lt 0 (length uid) && nat_le (length uid) 70) (list_all is_id_byte uid) legal in
+    ((and_parts (nat_lt 0 (length uid)) (nat_le (length uid) 70) parts.0).0, parts.1)
+
+spaces_end : (spaces : List ℕ) → AreSpaces spaces → Stops is_in_field spaces
+spaces_end [] blank byte more e = absurd (let h : [] ≡ byte ∷ more = e in cc)
+spaces_end (space ∷ spaces) blank byte more e =
+    let same : space ≡ byte = cc in
+    subst (λ (b : ℕ). is_in_field b ≡ false) same (space_ends_field space (and_parts (is_space space) (list_all is_space spaces) blank).0)
+
+no_more_read : (id spaces : List ℕ) → AreSpaces spaces → nothing_more id spaces ≡ Ok id
+unfolding nothing_more
+no_more_read id spaces blank =
+    let whole : spaces ++ [] ≡ spaces = append-nil spaces in
+    let gone : past is_space spaces ≡ [] = ap (past is_space) (sym whole) ∙ front_passed is_space spaces [] blank (λ byte more e. absurd (let h : [] ≡ byte ∷ more = e in cc)) in
+    rw gone refl
+
+legal_read : (uid : List ℕ) → IsLegalId uid → legal_id uid ≡ Ok uid
+unfolding legal_id
+legal_read uid legal = cond-true _ _ _ legal
+
+pub uid_form_read : (line : List ℕ) (n : ℕ) (uid : List ℕ) → HasUidForm line n uid → number_and_id line ≡ Ok (n, uid)
+unfolding number_and_id
+uid_form_read line n uid form =
+    let bytes = bytes_of uid form.legal in
+    let field : list_all is_in_field uid ≡ true = all_pass is_id_byte is_in_field id_byte_in_field uid bytes.1 in
+    let ends : Stops is_in_field form.behind = spaces_end form.behind form.over in
+    let read : legal_id (take_while is_in_field (uid ++ form.behind)) ≡ Ok uid =
+    ap legal_id (front_taken is_in_field uid form.behind field ends) ∙ legal_read uid form.legal in
+    let over : nothing_more uid (past is_in_field (uid ++ form.behind)) ≡ Ok uid =
+    ap (nothing_more uid) (front_passed is_in_field uid form.behind field ends) ∙ no_more_read uid form.behind form.over in
+    bind_read (message_number line) (n, form.front.gap ++ (uid ++ form.behind)) _ (message_read line n (uid ++ form.behind) form.front)
+    ∙ bind_read (next_field (form.front.gap ++ (uid ++ form.behind))) (uid ++ form.behind) _
+    (next_read form.front.gap (uid ++ form.behind) form.front.apart (begins uid form.behind bytes.0 field))
+    ∙ bind_read (legal_id (take_while is_in_field (uid ++ form.behind))) uid _ read
+    ∙ bind_read (nothing_more uid (past is_in_field (uid ++ form.behind))) uid _ over
+
+pub scan_rows : ScanRowsHaveForm
+scan_rows line n size = (scan_form line n size, scan_form_read line n size)
+
+pub uid_rows : UidRowsHaveForm
+uid_rows line n uid = (uid_form line n uid, uid_form_read line n uid)

@@ -80,42 +80,55 @@ abbrev pub one_or_all : (ℕ → Command) → Command → Option ℕ → Command
 one_or_all one all None = all
 one_or_all one all (Some n) = one n
 
--- the command of a keyword, of all that stands behind its space, and of the arguments there
+-- what stands behind a keyword, and the command that it asks for
+pub data Form : Type 0 where
+  -- all that follows the space, spaces included
+  Text : (List ℕ → Command) → Form
+  -- no argument
+  Alone : Command → Form
+  -- one number
+  Number : (ℕ → Command) → Form
+  -- one number, or none where all are meant
+  NumberOrNone : (ℕ → Command) → Command → Form
+  -- two numbers
+  TwoNumbers : (ℕ → ℕ → Command) → Form
+
+-- the forms of the keywords' arguments
+abbrev pub form_of : Keyword → Form
+form_of keyword.User = Text User
+form_of keyword.Pass = Text Pass
+form_of keyword.Stat = Alone Stat
+form_of keyword.Uidl = NumberOrNone UidlOne UidlAll
+form_of keyword.List = NumberOrNone ListOne ListAll
+form_of keyword.Retr = Number Retr
+form_of keyword.Dele = Number Dele
+form_of keyword.Rset = Alone Rset
+form_of keyword.Noop = Alone Noop
+form_of keyword.Top = TwoNumbers Top
+form_of keyword.Quit = Alone Quit
+
+-- the command of a form, of all that stands behind the keyword's space, and of the arguments there
+abbrev pub command_in : Form → List ℕ → List (List ℕ) → Result Command WireFault
+command_in (Text command) rest words = do
+  text ← text_argument rest
+  Ok (command text)
+command_in (Alone command) rest words = do
+  none ← no_argument words
+  Ok command
+command_in (Number command) rest words = do
+  n ← one_number words
+  Ok (command n)
+command_in (NumberOrNone one all) rest words = do
+  which ← number_or_none words
+  Ok (one_or_all one all which)
+command_in (TwoNumbers command) rest words = do
+  which ← two_numbers words
+  Ok (command which.0 which.1)
+
+-- the command of a keyword, where it is one
 unfoldable pub command_by : Option Keyword → List ℕ → List (List ℕ) → Result Command WireFault
 command_by None rest words = Err BadCommand
-command_by (Some keyword.User) rest words = do
-  name ← text_argument rest
-  Ok (User name)
-command_by (Some keyword.Pass) rest words = do
-  password ← text_argument rest
-  Ok (Pass password)
-command_by (Some keyword.Stat) rest words = do
-  done ← no_argument words
-  Ok Stat
-command_by (Some keyword.Uidl) rest words = do
-  which ← number_or_none words
-  Ok (one_or_all UidlOne UidlAll which)
-command_by (Some keyword.List) rest words = do
-  which ← number_or_none words
-  Ok (one_or_all ListOne ListAll which)
-command_by (Some keyword.Retr) rest words = do
-  n ← one_number words
-  Ok (Retr n)
-command_by (Some keyword.Dele) rest words = do
-  n ← one_number words
-  Ok (Dele n)
-command_by (Some keyword.Rset) rest words = do
-  done ← no_argument words
-  Ok Rset
-command_by (Some keyword.Noop) rest words = do
-  done ← no_argument words
-  Ok Noop
-command_by (Some keyword.Top) rest words = do
-  which ← two_numbers words
-  Ok (Top which.0 which.1)
-command_by (Some keyword.Quit) rest words = do
-  done ← no_argument words
-  Ok Quit
+command_by (Some word) rest words = command_in (form_of word) rest words
 
 -- the command that a line without its CR LF asks for, or its fault; the keyword is what stands before the first space
 unfoldable pub command_of : List ℕ → Result Command WireFault

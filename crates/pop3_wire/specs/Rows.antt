@@ -1,5 +1,5 @@
 -- The forms of a row of LIST, of STAT's rest, and of a row of UIDL (RFC 1939, sections 5 and 7).
-use Rattle.std.specs.Prelude.{◌≡◌, ◌≢◌, ◌≤◌, false, ℕ, List, [], ◌∷◌, ◌++◌, IsTrue, Ok}
+use Rattle.std.specs.Prelude.{◌≡◌, ◌≢◌, ◌≤◌, ◌↔◌, false, ℕ, List, [], ◌∷◌, ◌++◌, IsTrue, Ok}
 use Rattle.std.specs.List.{list_all}
 use Rattle.std.specs.Char.{is_ascii_digit}
 use Rattle.std.specs.Str.Parse.{digits_value}
@@ -43,9 +43,9 @@ pub record HasUidForm (line : List ℕ) (number : ℕ) (uid : List ℕ) : Type 0
   pub legal : IsLegalId uid
   pub over : AreSpaces behind
 
--- rows that are read have their form
+-- the lines that are read are those of the form, with the numbers and the id that stand in it
 abbrev pub ScanRowsHaveForm : Type 0
-ScanRowsHaveForm = (line : List ℕ) (number size : ℕ) → number_and_size line ≡ Ok (number, size) → HasScanForm line number size
+ScanRowsHaveForm = (line : List ℕ) (number size : ℕ) → (number_and_size line ≡ Ok (number, size)) ↔ HasScanForm line number size
 
 abbrev pub UidRowsHaveForm : Type 0
-UidRowsHaveForm = (line : List ℕ) (number : ℕ) (uid : List ℕ) → number_and_id line ≡ Ok (number, uid) → HasUidForm line number uid
+UidRowsHaveForm = (line : List ℕ) (number : ℕ) (uid : List ℕ) → (number_and_id line ≡ Ok (number, uid)) ↔ HasUidForm line number uid

@@ -1,7 +1,7 @@
 //! Taking one body from a link, into its text (RFC 1939, section 3).
 ghost use Rattle.std.specs.Prelude.{◌≡◌, ◌≢◌, ◌≤◌, ◌<◌, ◌+◌, ◌-◌, ◌++◌, ◌↔◌, ℕ, List, [], length, take, drop, min, IsTrue, IfOk, IfErr, OnOk, OnErr};
 ghost use Rattle.pop3_wire.specs.Bodies.{Drew, DrawsNothing, Leaves, ReadsBody, UnderWay, TakesPiece, rest_of, items_of, refusal_of};
-ghost use Rattle.pop3_wire.specs.Link.{CountsFailure};
+ghost use Rattle.pop3_wire.specs.Link.{CountsFailure, WhereSound};
 ghost use Rattle.pop3_wire.specs.Place.{Place, at, GoesOn};
 ghost use Rattle.pop3_wire.specs.Unstuffing.{Reaches};
 ghost use Rattle.pop3_wire.specs.declared.unstuffer.Spot.TheVariants.{Start, Done};
@@ -49,8 +49,7 @@ fn draw<W: Wire>(wire: &mut W, reader: &mut LineReader) -> Result<(), BodyFault>
         × (W.sound wire.new → W.sound wire.old × W.leads_to wire.old wire.new
         × Drew (W.seen wire.old) (W.seen wire.new) gained × GoesOn (W.seen wire.old) (W.seen wire.new))) }
     ensures err { IfErr result (λ fault. (reader.old ≡ []) × (reader.new ≡ [])
-        × (W.sound wire.new → W.sound wire.old × W.leads_to wire.old wire.new
-        × DrawsNothing fault (W.seen wire.old) (W.seen wire.new))) }
+        × WhereSound W.sound W.leads_to wire.old wire.new (DrawsNothing fault (W.seen wire.old) (W.seen wire.new))) }
 {
     if !reader.waiting().is_empty() {
         return Ok(());
@@ -141,8 +140,8 @@ impl BodyReader {
         ensures less { OnOk result (self.new.spot ≢ Done → self.new.left < self.old.left) }
         ensures frugal { IfErr result (λ fault. fault ≢ BodyFault.NoMemory) }
         ensures same { OnErr result (self.new ≡ self.old) }
-        ensures takes { W.sound wire.new → W.sound wire.old × W.leads_to wire.old wire.new
-            × ((limit : ℕ) (start : Place) (text : List ℕ) → UnderWay limit start (at (W.seen wire.old) reader.old) self.old text
+        ensures takes { WhereSound W.sound W.leads_to wire.old wire.new
+            ((limit : ℕ) (start : Place) (text : List ℕ) → UnderWay limit start (at (W.seen wire.old) reader.old) self.old text
             → TakesPiece limit start text result out.new (at (W.seen wire.new) reader.new) self.new) }
     {
         if self.left == 0 {
@@ -171,8 +170,8 @@ pub fn read_body<W: Wire>(
 ) -> Result<Vec<u8>, BodyFault>
     requires { 0 < limit }
     ensures counted { CountsFailure (W.seen wire.old) (refusal_of result) (W.seen wire.new) }
-    ensures read { W.sound wire.new → W.sound wire.old × W.leads_to wire.old wire.new
-        × ReadsBody limit (at (W.seen wire.old) reader.old) (items_of result) (at (W.seen wire.new) reader.new) }
+    ensures read { WhereSound W.sound W.leads_to wire.old wire.new
+        (ReadsBody limit (at (W.seen wire.old) reader.old) (items_of result) (at (W.seen wire.new) reader.new)) }
     ensures rest { W.sound wire.new → Leaves limit (at (W.seen wire.old) reader.old) (at (W.seen wire.new) reader.new) }
 {
     let mut body = BodyReader::new(limit);

@@ -4,8 +4,8 @@ ghost use Rattle.std.specs.Char.{is_ascii_digit};
 ghost use Rattle.std.specs.List.{prefix_len, list_all};
 ghost use Rattle.std.specs.Str.Parse.{digits_value};
 ghost use Rattle.pop3_wire.specs.Fields.{is_space, is_in_field, past, number, next_field, legal_id, nothing_more, message_number, number_and_size, number_and_id};
-ghost use Rattle.mail_terms.specs.UniqueId.{is_legal_id};
-ghost use Rattle.mail_terms.specs.Numeral.{is_numeral};
+ghost use Rattle.mail_terms.specs.UniqueId.{is_legal_id, IsLegalId};
+ghost use Rattle.mail_terms.specs.Numeral.{is_numeral, greatest_number, greatest_size};
 ghost use Rattle.pop3_wire.specs.Rows.{ScanRowsHaveForm, UidRowsHaveForm};
 
 use crate::fault::WireFault;
@@ -143,7 +143,8 @@ fn message_number(line: &[u8]) -> Result<(u32, &[u8]), WireFault>
 /// a field is missing; BadNumber where it isn't 1 to 20 digits, the count is above 4,294,967,295 or
 /// the total is above 18,446,744,073,709,551,615. The first faulty field decides.
 pub fn read_stat(rest: &[u8]) -> Result<(u32, u64), WireFault>
-    ensures { result ≡ number_and_size rest.now }
+    ensures value { result ≡ number_and_size rest.now }
+    ensures within { IfOk result (λ read. (read.0 ≤ greatest_number) × (read.1 ≤ greatest_size)) }
 {
     read_scan(rest)
 }
@@ -152,7 +153,8 @@ pub fn read_stat(rest: &[u8]) -> Result<(u32, u64), WireFault>
 /// Its faults are those of `read_stat`.
 #[tactic(auto, unfolding(crate::specs::Fields::number_and_size))]
 pub fn read_scan(line: &[u8]) -> Result<(u32, u64), WireFault>
-    ensures { result ≡ number_and_size line.now }
+    ensures value { result ≡ number_and_size line.now }
+    ensures within { IfOk result (λ read. (read.0 ≤ greatest_number) × (read.1 ≤ greatest_size)) }
 {
     let (n, rest) = message_number(line)?;
     let second = next_field(rest)?;
@@ -168,6 +170,7 @@ pub fn read_scan(line: &[u8]) -> Result<(u32, u64), WireFault>
 pub fn read_uid(line: &[u8]) -> Result<(u32, &[u8]), WireFault>
     ensures ok { IfOk result (λ read. number_and_id line.now ≡ Ok (read.0, read.1.now)) }
     ensures err { IfErr result (λ e. number_and_id line.now ≡ Err e) }
+    ensures legal { IfOk result (λ read. (read.0 ≤ greatest_number) × IsLegalId read.1.now) }
 {
     let (n, rest) = message_number(line)?;
     let second = next_field(rest)?;
@@ -177,14 +180,15 @@ pub fn read_uid(line: &[u8]) -> Result<(u32, &[u8]), WireFault>
     Ok((n, whole))
 }
 
-/// A row of LIST, or STAT's rest, that is read has the form of one: spaces or none, a message number,
-/// one space or more, a size, and behind it whatever doesn't go on with a digit.
+/// A row of LIST, and STAT's rest, is read exactly where it has this form: spaces or none, a message
+/// number, one space or more, a size, and behind it whatever doesn't go on with a digit. A number is 1
+/// to 20 digits, up to its limit; read is what stands there.
 pub fn scan_rows_have_a_form()
     ensures { ScanRowsHaveForm }
 {}
 
-/// A row of UIDL that is read has the form of one: spaces or none, a message number, one space or
-/// more, a legal unique-id, and spaces or none.
+/// A row of UIDL is read exactly where it has this form: spaces or none, a message number, one space
+/// or more, a legal unique-id, and spaces or none; read is what stands there.
 pub fn uid_rows_have_a_form()
     ensures { UidRowsHaveForm }
 {}

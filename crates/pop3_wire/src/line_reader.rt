@@ -86,15 +86,6 @@ impl LineReader {
         self.searched = self.searched.saturating_sub(n);
     }
 
-    /// Drops the line of `n` octets that waits, and its CR LF, as used.
-    pub fn skip_line(&mut self, n: usize)
-        requires { n + 2 ≤ length self.old }
-        ensures { self.new ≡ drop (n + 2) self.old }
-    {
-        self.skip(n);
-        self.skip(2);
-    }
-
     /// Takes what the link gives next, in one `recv`, and says how many octets that were. They wait
     /// behind those that wait.
     pub fn fill<W: Wire>(&mut self, wire: &mut W) -> Result<usize, WireDown>
