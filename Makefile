@@ -15,7 +15,7 @@ SHELL := /bin/bash
 crates := $(shell sed -e 's/\#.*//' -e 's/:.*//' crates.txt)
 programs := $(filter getmail popd,$(crates))
 watched := $(filter store_bench,$(crates))
-benches := $(addprefix bench-,$(filter getmail popd store_bench client_bench,$(crates)))
+benches := $(addprefix bench-,$(filter getmail popd store_bench record_bench client_bench,$(crates)))
 
 .PHONY: all rehearse check test bench install uninstall clean $(programs) $(watched) $(benches)
 .NOTPARALLEL:
@@ -54,10 +54,14 @@ bench-getmail: getmail
 bench-popd: popd
 	@python3 bench/popd.py
 
-# The client's conversation and the stores are measured through small programs of their own.
+# The client's conversation, the rules and the stores are measured through small programs of their own.
 bench-client_bench:
 	cd crates/client_bench && rt run > /dev/null
 	@python3 bench/pop3_client.py
+
+bench-record_bench:
+	cd crates/record_bench && rt run > /dev/null
+	@python3 bench/fetch_rules.py
 
 bench-store_bench: store_bench
 	@python3 bench/mail_store.py

@@ -1,0 +1,62 @@
+#!/usr/bin/env python3
+"""Benchmark of `fetch_rules` by the program in `crates/record_bench`, which makes the calls of one session.
+
+`join`, `read`, `merge`, `plan` and `bytes` over 2,000, 20,000 and 100,000 messages and a record of as many rows, which
+knows half of the messages: microseconds of the processor, the least of some runs. To be reached: from 2,000 to 20,000
+each grows at most 13 times, as n log n does, and all of them together take less than half a second at 100,000. Then
+`read` of a record of 1,000,000 rows, whose time a row is to be at most twice that of 100,000.
+
+The C library is told to keep memory (`KEEPING`): else it has a few rows' from what was freed before, but asks the system
+for that of many rows anew, page by page, and the pages' cost is measured in place of the calls'.
+"""
+
+import os
+import subprocess
+import sys
+
+import measure
+
+PROGRAM = measure.ROOT / "crates" / "record_bench" / "out" / "record_bench"
+RUNS = 15
+FEW, SOME, MANY = 2_000, 20_000, 100_000
+MOST_GROWTH = 13
+MOST_SECONDS = 0.5
+ROWS = 1_000_000
+KEEPING = {"MALLOC_MMAP_THRESHOLD_": str(1 << 30), "MALLOC_TRIM_THRESHOLD_": str(1 << 30), "MALLOC_TOP_PAD_": str(1 << 26)}
+MOST_A_ROW = 2
+
+
+def least(what, count):
+    """The microseconds of each call, the least of some runs."""
+    runs = [measured(what, count) for _ in range(RUNS)]
+    return {call: min(run[call] for run in runs) for call in runs[0]}
+
+
+def measured(what, count):
+    """The microseconds of each call in one run."""
+    done = subprocess.run([str(PROGRAM), what, str(count)], env=os.environ | KEEPING, capture_output=True, text=True,
+                          check=True)
+    return {call: int(used) for call, used in (line.split() for line in done.stdout.splitlines())}
+
+
+def main():
+    if not PROGRAM.is_file():
+        sys.exit(f"{PROGRAM} is not there: run `make bench`")
+    print(f"fetch_rules, microseconds of the processor, least of {RUNS}; to be reached: growth at most {MOST_GROWTH}, "
+          f"{MOST_SECONDS} s together")
+    few, some, many = (least("session", count) for count in (FEW, SOME, MANY))
+    print(f"  {'':8}{FEW:>10}{SOME:>10}{MANY:>10}    growth from {FEW} to {SOME}")
+    for call in few:
+        growth = some[call] / few[call]
+        print(f"  {call:8}{few[call]:10}{some[call]:10}{many[call]:10}    {growth:.1f} "
+              f"({measure.verdict(growth <= MOST_GROWTH)})")
+    together = sum(many.values()) / 1e6
+    print(f"  together at {MANY}: {together:.2f} s ({measure.verdict(together < MOST_SECONDS)})")
+    rows = least("read", ROWS)["read"]
+    growth = rows / ROWS / (many["read"] / MANY)
+    print(f"  read of {ROWS} rows: {rows / 1000:.0f} ms, a row {growth:.2f} of one of {MANY} "
+          f"({measure.verdict(growth <= MOST_A_ROW)})")
+
+
+if __name__ == "__main__":
+    main()
