@@ -15,3 +15,4 @@ pub mod ServeIntakeLemmas
 pub mod ServeLemmas
 pub mod SizeLemmas
 pub mod SlotLemmas
+pub mod TextPieceLemmas

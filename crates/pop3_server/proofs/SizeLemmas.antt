@@ -1,10 +1,13 @@
 -- The size of a text by what its bytes add.
-use Rattle.std.proofs.Common.{◌≡◌, ◌==◌, ℕ, ◌+◌, Bool, true, false, not, List, [], ◌∷◌, ◌++◌, length, refl, sym, ◌∙◌, ap, arith, if◌then◌else◌}
+use Rattle.std.proofs.Common.{◌≡◌, ◌==◌, ℕ, ◌+◌, Bool, true, false, not, List, [], ◌∷◌, ◌++◌, length, refl, sym, ◌∙◌, ap, arith, inl, inr, if◌then◌else◌}
 use Rattle.std.specs.List.{flat_map, sum_by, onto_first}
 use Rattle.std.proofs.lemmas.List.Sums.{sum_by-cons, sum_by-append}
 use Rattle.pop3_wire.specs.Line.{ended}
 use Rattle.mail_terms.specs.Text.{lines_of_text}
 use Rattle.pop3_server.specs.declared.size.SizeCount.{SizeCount}
+use Rattle.std.proofs.lemmas.Bool.Decides.{eqb_tells}
+use Rattle.pop3_server.specs.TextPiece.{HasNoEnd, is_open_after}
+use Rattle.pop3_server.proofs.TextPieceLemmas.{open_append}
 use Rattle.pop3_server.specs.Size.{size_of, weight, ends_open, capped, CountsText}
 
 -- these are the lines of a text that isn't empty
@@ -42,17 +45,26 @@ size_of-weights (byte ∷ other ∷ rest) =
     let more : length (flat_map ended (if byte == 10 then [] ∷ lines_of_text (other ∷ rest) else onto_first byte (lines_of_text (other ∷ rest)))) ≡ weight byte + size_of (other ∷ rest) = rw some.is (size_more (byte == 10) byte some.first some.more) in
     more ∙ ap (λ n. weight byte + n) (size_of-weights (other ∷ rest)) ∙ omega (arith, sum_by-cons weight byte (other ∷ rest))
 
--- one more byte behind a text
-pub ends_open-push : (text : List ℕ) (byte : ℕ) → ends_open (text ++ byte ∷ []) ≡ not (byte == 10)
-ends_open-push [] byte = refl
-ends_open-push (first ∷ []) byte = refl
-ends_open-push (first ∷ second ∷ rest) byte = ends_open-push (second ∷ rest) byte
+-- a piece without LF adds its length
+weights : (piece : List ℕ) → HasNoEnd piece → sum_by weight piece ≡ length piece
+weights [] none = refl
+weights (byte ∷ rest) none = elim (eqb_tells byte 10) [
+  | inl p ↦ absurd (none.0 p.1)
+  | inr p ↦ let one : weight byte ≡ 1 = rw p.0 refl in omega (arith, sum_by-cons weight byte rest, one, weights rest none.1)
+]
 
--- one more byte was counted
-pub CountsText-push : (count next : SizeCount) (text : List ℕ) (byte : ℕ) → CountsText count text → next.octets ≡ capped (count.octets + weight byte) → next.in_line ≡ not (byte == 10) → CountsText next (text ++ byte ∷ [])
-CountsText-push count next text byte h octets in_line = record {
-  octets = omega (arith, octets, h.octets, sum_by-append weight text (byte ∷ []), sum_by-cons weight byte []);
-  in_line = in_line ∙ sym (ends_open-push text byte);
+-- a line and its end add its length and two
+pub line_weights : (piece line after : List ℕ) → HasNoEnd line → piece ≡ line ++ 10 ∷ after → sum_by weight piece ≡ length line + 2 + sum_by weight after
+line_weights piece line after none is =
+    ap (sum_by weight) is ∙ omega (arith, sum_by-append weight line (10 ∷ after), sum_by-cons weight 10 after, weights line none)
+
+-- a piece was counted: what was counted before it, its lines, and the rest of it
+pub CountsText-more : (count next : SizeCount) (text piece rest : List ℕ) (octets : ℕ) (in_line : Bool) → HasNoEnd rest → CountsText count text
+    → capped (octets + sum_by weight rest) ≡ capped (count.octets + sum_by weight piece) → is_open_after in_line rest ≡ is_open_after count.in_line piece
+    → next.octets ≡ capped (octets + length rest) → next.in_line ≡ is_open_after in_line rest → CountsText next (text ++ piece)
+CountsText-more count next text piece rest octets in_line none h counted open_now more last = record {
+  octets = omega (arith, more, h.octets, counted, weights rest none, sum_by-append weight text piece);
+  in_line = last ∙ open_now ∙ ap (λ b. is_open_after b piece) h.in_line ∙ sym (open_append false text piece);
 }
 
 -- the size of what was counted, where the last line is open and where it isn't

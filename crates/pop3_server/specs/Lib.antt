@@ -11,3 +11,4 @@ pub mod Removal
 pub mod ServerMachine
 pub mod Serving
 pub mod Size
+pub mod TextPiece

@@ -3,6 +3,7 @@ use Rattle.std.specs.Prelude.{◌≡◌, ◌==◌, ℕ, Bool, false, ◌-◌, �
 use Rattle.std.specs.List.{flat_map, sum_by}
 use Rattle.pop3_wire.specs.Line.{ended}
 use Rattle.mail_terms.specs.Text.{lines_of_text}
+use Rattle.pop3_server.specs.TextPiece.{is_open_after}
 use Rattle.pop3_server.specs.declared.size.SizeCount.{SizeCount}
 
 -- the octets of a text's lines, each with the CR LF that ends it on the wire
@@ -19,9 +20,7 @@ weight byte = if byte == 10 then 2 else 1
 
 -- the last line has no end yet
 abbrev pub ends_open : List ℕ → Bool
-ends_open [] = false
-ends_open (byte ∷ []) = not (byte == 10)
-ends_open (byte ∷ other ∷ rest) = ends_open (other ∷ rest)
+ends_open text = is_open_after false text
 
 -- these bytes were counted: what they add, and whether their last line has no end yet
 pub record CountsText (count : SizeCount) (bytes : List ℕ) : Type 0 where

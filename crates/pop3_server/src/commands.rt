@@ -1,5 +1,5 @@
 //! What a server does for each command: the table of states and commands (RFC 1939, sections 4 to 7).
-ghost use Rattle.std.specs.Prelude.{◌≡◌, ℕ, Bool, map, slice_get, Some, None, IfOk, IfErr, MatchResult, codes, ◌++◌};
+ghost use Rattle.std.specs.Prelude.{◌≡◌, ℕ, Bool, map, slice_get, Some, None, IfOk, IfErr, MatchResult, bytes_eq, codes, ◌++◌};
 ghost use Rattle.pop3_wire.specs.declared.command.Command.TheVariants.{Retr, Top, Dele, Rset};
 ghost use Rattle.pop3_server.specs.declared.rows.MessageRow.{MessageRow};
 ghost use Rattle.pop3_server.specs.declared.state.State.{State};
@@ -114,6 +114,21 @@ fn leave<D: Maildrop>(drop: &mut D, rows: &[MessageRow]) -> bool
     all
 }
 
+/// Whether two texts are the same. The time that it takes is by their lengths alone, and doesn't tell
+/// where they differ.
+fn are_same(one: &[u8], other: &[u8]) -> bool
+    ensures { result ≡ bytes_eq one.now other.now }
+{
+    if one.len() != other.len() {
+        return false;
+    }
+    let mut same = true;
+    for i in 0..one.len() {
+        same = same & (one[i] == other[i]);
+    }
+    same
+}
+
 /// A command in AUTHORIZATION.
 pub fn authorize<D: Maildrop>(
     alloc: Global,
@@ -135,7 +150,10 @@ pub fn authorize<D: Maildrop>(
         Command::Pass(word) => match kept {
             None => Ok((say(alloc, b"-ERR USER first")?, None)),
             Some(name) => {
-                if name.as_slice() == user && word.as_slice() == pass {
+                // Both are compared, so that the time doesn't tell which of them differs.
+                let right_name = are_same(name.as_slice(), user);
+                let right_word = are_same(word.as_slice(), pass);
+                if right_name & right_word {
                     open(alloc, drop)
                 } else {
                     Ok((

@@ -17,6 +17,7 @@ mod server;
 mod serving;
 mod size;
 mod state;
+mod text_line;
 
 pub use fault::ServerFault;
 pub use honesty::{conversations_are_honest, loops_are_honest};

@@ -3,18 +3,16 @@
 ghost use Rattle.std.specs.Prelude.{◌≡◌, ◌++◌, ℕ, List, [], Bool, true, false, ◌+◌, if◌then◌else◌};
 ghost use Rattle.pop3_server.specs.Size.{CountsText, weight, size_of, capped};
 
+use crate::text_line::cut_line;
+
+/// How many octets the end of a line counts.
+const LINE_END: usize = 2;
+
 /// A count of a text that is read piece by piece.
 #[derive(Clone, Copy)]
 pub struct SizeCount {
     octets: u64,
     in_line: bool,
-}
-
-/// The octets that a byte of a text adds.
-fn weight_of(byte: u8) -> u64
-    ensures { result ≡ weight byte }
-{
-    if byte == b'\n' { 2 } else { 1 }
 }
 
 impl SizeCount {
@@ -32,10 +30,24 @@ impl SizeCount {
     pub fn add(&mut self, piece: &[u8])
         ensures { (before : List ℕ) → CountsText self.old before → CountsText self.new (before ++ piece.now) }
     {
-        for byte in piece {
-            self.octets = self.octets.saturating_add(weight_of(*byte));
-            self.in_line = *byte != b'\n';
+        let mut rest = piece;
+        while let Some((line, after)) = cut_line(rest) {
+            self.count(line.len());
+            self.count(LINE_END);
+            self.in_line = false;
+            rest = after;
         }
+        self.count(rest.len());
+        if !rest.is_empty() {
+            self.in_line = true;
+        }
+    }
+
+    /// Counts so many octets more, as far as the count goes.
+    fn count(&mut self, octets: usize)
+        ensures { self.new ≡ record self.old { octets = capped (self.old.octets + octets) } }
+    {
+        self.octets = self.octets.saturating_add(octets as u64);
     }
 
     /// The size of what was counted.

@@ -1,19 +1,34 @@
-use Rattle.std.proofs.Common.{◌≡◌, ◌+◌, take, get_or, refl, ◌∙◌, ap, append_assoc, arith}
-use Rattle.std.proofs.lemmas.Grind.{common_steps}
-use Rattle.std.proofs.lemmas.List.{take_more}
+use Rattle.std.proofs.Common.{rules, ◌≡◌, ◌≢◌, ◌+◌, true, [], refl, sym, ap, ◌∙◌, arith, length}
 use Rattle.pop3_server.specs.Size.{capped}
-use Rattle.pop3_server.proofs.SizeLemmas.{CountsText-push}
+use Rattle.pop3_server.specs.TextPiece.{is_open_after}
+use Rattle.pop3_server.specs.declared.size.SizeCount.{SizeCount}
+use Rattle.pop3_server.proofs.SizeLemmas.{line_weights, CountsText-more}
+use Rattle.pop3_server.proofs.TextPieceLemmas.{open_line, open_some, none_of}
 use Rattle.pop3_server.proofs.size.SizeCount.add.Goals as goal
 
-pub loop-byte-preserved : goal.loop-byte-preserved
-loop-byte-preserved c = λ before h.
-    let i = c.loop-byte.byte-index in
-    let byte = get_or c.args.piece.now i 0 in
-    let more = take_more c.args.piece.now i 0 c.loop-byte-test.true in
-    let added = c.saturating_add-self.ensures ∙ ap (λ w. capped (c.loop-byte.self.octets + w)) c.weight_of.ensures in
-    rw (more, ← append_assoc) (CountsText-push c.loop-byte.self _ _ byte (c.loop-byte.invariant before h) added refl)
+pub loop-line-preserved : goal.loop-line-preserved
+loop-line-preserved c =
+    let cut = c.in-Some.ensures.cut in
+    let line = c.in-Some.line.now in
+    let after = c.in-Some.after.now in
+    let first : c.count.new.self.octets ≡ capped (c.loop-line.self.octets + length line) = ap (λ (s : SizeCount). s.octets) c.count.ensures in
+    let second : c.count-in-Some.new.self.octets ≡ capped (c.count.new.self.octets + 2) = ap (λ (s : SizeCount). s.octets) c.count-in-Some.ensures in (
+      omega (arith, first, second, line_weights c.loop-line.rest.now line after cut.0 cut.1, c.loop-line.invariant.0),
+      sym (open_line c.loop-line.self.in_line line after cut.0) ∙ ap (is_open_after c.loop-line.self.in_line) (sym cut.1) ∙ c.loop-line.invariant.1,
+    )
 
-pub returns : goal.returns
-returns c = λ before h.
-    let all : take c.loop-byte.byte-index c.args.piece.now ≡ c.args.piece.now = grind (arith, common_steps) in
-    rw all at (c.loop-byte.invariant before h)
+pub returns-then-not-is_empty : goal.returns-then-not-is_empty
+returns-then-not-is_empty c = λ before h.
+    let rest = c.loop-line.rest.now in
+    let some : rest ≢ [] = search rules in
+    CountsText-more c.args.self.now _ before c.args.piece.now rest c.loop-line.self.octets c.loop-line.self.in_line c.in_default.ensures.cut h
+    c.loop-line.invariant.0 c.loop-line.invariant.1 (ap (λ (s : SizeCount). s.octets) c.count-2.ensures)
+    (sym (open_some c.loop-line.self.in_line rest c.in_default.ensures.cut some))
+
+pub returns-else-not-is_empty : goal.returns-else-not-is_empty
+returns-else-not-is_empty c = λ before h.
+    let rest = c.loop-line.rest.now in
+    let none : rest ≡ [] = none_of rest (let zero : length rest ≡ 0 = search rules in zero) in
+    CountsText-more c.args.self.now _ before c.args.piece.now rest c.loop-line.self.octets c.loop-line.self.in_line c.in_default.ensures.cut h
+    c.loop-line.invariant.0 c.loop-line.invariant.1 (ap (λ (s : SizeCount). s.octets) c.count-2.ensures)
+    (ap (λ (s : SizeCount). s.in_line) c.count-2.ensures ∙ sym (ap (is_open_after c.loop-line.self.in_line) none))

@@ -1,0 +1,15 @@
+//! The lines of a text that comes piece by piece.
+ghost use Rattle.std.specs.Prelude.{◌≡◌, ◌<◌, ◌++◌, ◌∷◌, length, IfSome, MatchOption};
+ghost use Rattle.pop3_server.specs.TextPiece.{HasNoEnd};
+
+use memchr::memchr;
+
+/// What stands before the first LF of a piece, and what follows that LF. None where there is no LF.
+pub fn cut_line(piece: &[u8]) -> Option<(&[u8], &[u8])>
+    ensures cut { MatchOption result (HasNoEnd piece.now)
+        (λ parts. HasNoEnd parts.0.now × (piece.now ≡ parts.0.now ++ 10 ∷ parts.1.now)) }
+    ensures shorter { IfSome result (λ parts. length parts.1.now < length piece.now) }
+{
+    let length = memchr(b'\n', piece)?;
+    Some((&piece[..length], &piece[length + 1..]))
+}
