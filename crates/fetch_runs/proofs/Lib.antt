@@ -1,1 +1,3 @@
 pub mod Courses
+pub mod StatePlan
+pub mod StateDone
