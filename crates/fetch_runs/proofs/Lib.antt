@@ -1,3 +1,4 @@
 pub mod Courses
 pub mod StatePlan
 pub mod StateDone
+pub mod StateMarks

@@ -161,6 +161,9 @@ unsaved old was rows TextTooLong new never = absurd never
 unsaved old was rows (StoreRefused why) new never = absurd never
 unsaved old was rows (BadSeen line) new never = absurd never
 
+pub unsaved_keeps : (old : Stored) (was rows : List Row) (fault : Fault) (new : Stored) → Saves old was rows (Err fault) new → Steady old.content was → Keeps new.content was ⊎ Keeps new.content rows
+unsaved_keeps old was rows fault new saves = (unsaved old was rows fault new saves).content
+
 step_not_saved : (account : List ℕ) (tasks : List Task) (old new : Scene) (cut : Cut) (fell : Fell account tasks old cut new) → old.place.waiting ≡ [] → Steady old.file.content old.rows
     → NotSaved account fell.next fell.mid new cut → Step account tasks old cut.fault new
 step_not_saved account tasks old new cut fell none stood refused =

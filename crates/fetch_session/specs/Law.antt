@@ -1,6 +1,8 @@
 -- What a list of tasks that stopped leaves, told by the tasks that were brought to their end.
-use Rattle.std.specs.Prelude.{◌≡◌, ◌⊎◌, ℕ, List, [], ◌∷◌, ◌++◌}
+use Rattle.std.specs.Prelude.{◌≡◌, ◌⊎◌, ℕ, List, [], ◌∷◌, ◌++◌, Option, Err}
 use Rattle.std.specs.List.{flat_map, AllZip}
+use Rattle.fetch_rules.specs.Record.{Row}
+use Rattle.mail_store.specs.FlatFile.{Stored}
 use Rattle.mail_store.specs.Maildir.{File}
 use Rattle.pop3_wire.specs.Reading.{WholeReply, reply_bytes}
 use Rattle.pop3_client.specs.Turns.{IsGood}
@@ -9,7 +11,7 @@ use Rattle.fetch_session.specs.declared.fault.Cut.{Cut}
 use Rattle.fetch_session.specs.declared.fault.Fault.TheVariants.{StoreRefused, SeenRefused, NoMemory}
 use Rattle.fetch_session.specs.declared.fault.Why.TheVariants.{Refused}
 use Rattle.fetch_session.specs.Tasks.{Task, Done, stores, tasks_of, turns_of, replies_of, ids_of, files_of, file_from, lines_of}
-use Rattle.fetch_session.specs.Records.{Keeps, Steady, marked_all}
+use Rattle.fetch_session.specs.Records.{Keeps, Steady, Saves, marked_all}
 use Rattle.fetch_session.specs.Scenes.{Scene, Fell}
 
 -- these replies stand whole at the front of what was got
@@ -44,3 +46,12 @@ pub record Step (account : List ℕ) (tasks : List Task) (old : Scene) (fault : 
 -- where a list of tasks stopped, it leaves what a step leaves
 abbrev pub StoppingIsAStep : Type 0
 StoppingIsAStep = (account : List ℕ) (tasks : List Task) (old new : Scene) (cut : Cut) → Fell account tasks old cut new → old.place.waiting ≡ [] → Steady old.file.content old.rows → Step account tasks old cut.fault new
+
+-- a file that stands for a record without a torn end stands for it
+abbrev pub SteadyFilesKeep : Type 0
+SteadyFilesKeep = (content : Option (List ℕ)) (rows : List Row) → Steady content rows → Keeps content rows
+
+-- a record that wasn't saved left its file standing for the one before or for this one
+abbrev pub UnsavedFilesKeep : Type 0
+UnsavedFilesKeep = (old : Stored) (was rows : List Row) (fault : Fault) (new : Stored) → Saves old was rows (Err fault) new → Steady old.content was
+    → Keeps new.content was ⊎ Keeps new.content rows
