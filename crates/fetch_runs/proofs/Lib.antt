@@ -2,3 +2,4 @@ pub mod Courses
 pub mod StatePlan
 pub mod StateDone
 pub mod StateMarks
+pub mod StateBuilt
