@@ -3,3 +3,4 @@ pub mod StatePlan
 pub mod StateDone
 pub mod StateMarks
 pub mod StateBuilt
+pub mod StateCases

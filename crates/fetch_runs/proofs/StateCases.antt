@@ -1,0 +1,218 @@
+-- What each way that a session can take leaves of its account.
+use Rattle.std.proofs.Common.{◌≡◌, ◌⊎◌, inl, inr, ◌+◌, ℕ, Bool, true, false, List, [], ◌∷◌, ◌++◌, length, Result, Ok, Err, refl, sym, ap, subst, ◌∙◌, append_assoc, length-append}
+use Rattle.std.specs.List.{AllByRecursion, AllZip}
+use Rattle.std.proofs.lemmas.Bool.{true≢false}
+use Rattle.std.proofs.lemmas.List.{append-nil, map-append}
+use Rattle.std.proofs.lemmas.List.Concat.{flat_map-append}
+use Rattle.mail_terms.specs.Listing.{Item}
+use Rattle.rc_file.specs.declared.settings.Settings.{Settings}
+use Rattle.fetch_rules.specs.Record.{Row, is_delivered, merged, marked}
+use Rattle.mail_store.specs.Maildir.{Maildir, File, file}
+use Rattle.mail_store.specs.FlatFile.{Stored}
+use Rattle.mail_store.specs.FileName.{name_of}
+use Rattle.mail_store.specs.Held.{flags_of}
+use Rattle.pop3_wire.specs.Reading.{WholeReply}
+use Rattle.pop3_client.specs.Turns.{IsGood, retr}
+use Rattle.pop3_client.specs.Texts.{body_text}
+use Rattle.fetch_session.specs.declared.fault.Cut.{Cut}
+use Rattle.fetch_session.specs.Tasks.{Task, says, skips, rereads, deletes, Done, IsAnswered, stores, task_in, tasks_of, ids_in, ids_of, ids_ahead, files_in, files_of, file_from}
+use Rattle.fetch_session.specs.Stores.{RefusesText, Gained}
+use Rattle.fetch_session.specs.Records.{Keeps, Steady, Saves, marked_all as marked_by_session}
+use Rattle.fetch_session.specs.Scenes.{Scene, Went, AllWent, Fell, Broken, NotStored, Stops, Does}
+use Rattle.fetch_session.specs.Plans.{tasks_ahead}
+use Rattle.fetch_runs.proofs.Courses.{course, stored_done, spare_in, spare_of, course_stopped, course_does, found_in, found_by, found_of}
+use Rattle.fetch_runs.proofs.StatePlan.{Safe, all_on, all_front, deleted_by}
+use Rattle.fetch_runs.proofs.StateMarks.{safe_next, safe_done}
+use Rattle.fetch_runs.proofs.StateBuilt.{Laws, Leads, Part, safe_tasks, recorded_all, wanted_all, lead}
+
+-- without a reply nothing was found
+found_none : (task : Task) → found_in task [] ≡ []
+found_none (stores number uid) = refl
+found_none (rereads number uid) = refl
+found_none (says turn) = refl
+found_none (skips number size) = refl
+found_none (deletes number) = refl
+
+found_under : (items : List Item) (dones : List Done) (next : Task) → found_of (course items dones [] (next ∷ [])) ≡ found_by dones
+found_under items dones next = ap (λ (l : List (ℕ × List ℕ)). found_by dones ++ (l ++ [])) (found_none next) ∙ append-nil (found_by dones)
+
+abbrev is_ended : Result (Unit {0}) Cut → Bool
+is_ended (Ok done) = true
+is_ended (Err cut) = false
+
+module _ (laws : Laws) (settings : Settings) (account : List ℕ) (items : List Item) (now : ℕ) (maildir : Maildir) (rows : List Row) (old : Scene)
+    (same_maildir : old.maildir ≡ maildir) (same_rows : old.rows ≡ merged rows items (flags_of account maildir items) now) (steady : Steady old.file.content old.rows) where
+  abbrev all_rows : List Row
+  all_rows = merged rows items (flags_of account maildir items) now
+
+  abbrev tasks : List Task
+  tasks = tasks_ahead settings account items now maildir all_rows
+
+  abbrev same_tasks : tasks_ahead settings account items now maildir old.rows ≡ tasks
+  same_tasks = ap (tasks_ahead settings account items now maildir) same_rows
+
+  -- what stood after the tasks that were done
+  new_files : (dones : List Done) (mid : Scene) → Went account dones old mid → mid.maildir.in_new ≡ maildir.in_new ++ files_of account dones
+  new_files dones mid went = went.stored.in_new ∙ ap (λ (m : Maildir). m.in_new ++ files_of account dones) same_maildir
+
+  cur_files : (dones : List Done) (mid : Scene) → Went account dones old mid → mid.maildir.in_cur ≡ maildir.in_cur
+  cur_files dones mid went = went.stored.in_cur ∙ ap (λ (m : Maildir). m.in_cur) same_maildir
+
+  mid_rows : (dones : List Done) (mid : Scene) → Went account dones old mid → mid.rows ≡ marked_by_session all_rows (ids_of dones)
+  mid_rows dones mid went = went.rows ∙ ap (λ (r : List Row). marked_by_session r (ids_of dones)) same_rows
+
+  mid_keeps : (dones : List Done) (mid : Scene) → Went account dones old mid → Keeps mid.file.content (marked_by_session all_rows (ids_of dones))
+  mid_keeps dones mid went = subst (λ (r : List Row). Keeps mid.file.content r) (mid_rows dones mid went) (laws.steady mid.file.content mid.rows (went.saved steady))
+
+  -- all went well
+  all_went : (new : Scene) (went : AllWent account (tasks_ahead settings account items now maildir old.rows) old new)
+      → Leads settings account now true (course items went.dones [] []) rows maildir new.maildir new.file.content
+  all_went new went =
+      lead laws settings account items now maildir rows true went.dones [] [] went.dones went.dones new.maildir new.file.content (length (found_by went.dones)) (append-nil (found_by went.dones))
+      part part (inl refl) (inl refl) (new_files went.dones new went.went) (cur_files went.dones new went.went) (mid_keeps went.dones new went.went)
+      (subst (λ (ts : List Task). AllByRecursion (λ (id : List ℕ). is_delivered (marked_by_session all_rows (ids_of went.dones)) id ≡ true) (deleted_by items ts)) (sym (append-nil (tasks_of went.dones)))
+      (safe_done (λ (id : List ℕ). is_delivered (marked_by_session all_rows (ids_of went.dones)) id ≡ true) items (tasks_of went.dones) []
+      (subst (λ (ts : List Task). Safe (λ (id : List ℕ). is_delivered (marked_by_session all_rows (ids_of went.dones)) id ≡ true) items ts) part.split
+      (safe_tasks laws settings account items now maildir rows went.dones))
+      (recorded_all laws settings account items now maildir rows went.dones part)))
+      (λ ended. wanted_all laws settings account items now maildir rows went.dones (sym same_tasks ∙ went.all) went.went.each)
+    where
+      part : Part (tasks_ahead settings account items now maildir (merged rows items (flags_of account maildir items) now)) went.dones
+      part = record { rest = []; split = sym same_tasks ∙ went.all ∙ sym (append-nil (tasks_of went.dones)); answered = went.went.each }
+
+  -- ---- where the tasks stopped
+
+  module _ (cut : Cut) (new : Scene) (fell : Fell account (tasks_ahead settings account items now maildir old.rows) old cut new) where
+    dones_part : Part (tasks_ahead settings account items now maildir (merged rows items (flags_of account maildir items) now)) fell.dones
+    dones_part = record { rest = fell.next ∷ fell.later; split = sym same_tasks ∙ fell.split; answered = fell.went.each }
+
+    -- what was deleted, or was to be next, is recorded
+    begun_next : (noted : List Done) → AllByRecursion (λ (id : List ℕ). is_delivered (marked_by_session all_rows (ids_of noted)) id ≡ true) (ids_ahead (tasks_of fell.dones))
+        → AllByRecursion (λ (id : List ℕ). is_delivered (marked_by_session all_rows (ids_of noted)) id ≡ true) (deleted_by items (tasks_of fell.dones ++ fell.next ∷ []))
+    begun_next noted recorded =
+        safe_next (λ (id : List ℕ). is_delivered (marked_by_session all_rows (ids_of noted)) id ≡ true) items (tasks_of fell.dones) fell.later fell.next
+        (subst (λ (ts : List Task). Safe (λ (id : List ℕ). is_delivered (marked_by_session all_rows (ids_of noted)) id ≡ true) items ts) (sym same_tasks ∙ fell.split)
+        (safe_tasks laws settings account items now maildir rows noted)) recorded
+
+    dones_recorded : AllByRecursion (λ (id : List ℕ). is_delivered (marked_by_session all_rows (ids_of fell.dones)) id ≡ true) (ids_ahead (tasks_of fell.dones))
+    dones_recorded = recorded_all laws settings account items now maildir rows fell.dones dones_part
+
+    not_ended : {P : Type 0} → false ≡ true → P
+    not_ended never = absurd (true≢false (sym never))
+
+    -- nothing came of the next task
+    stopped_bare : new.maildir.in_new ≡ fell.mid.maildir.in_new → new.maildir.in_cur ≡ fell.mid.maildir.in_cur → new.file ≡ fell.mid.file
+        → Leads settings account now false (course items fell.dones [] (fell.next ∷ [])) rows maildir new.maildir new.file.content
+    stopped_bare in_new in_cur file =
+        lead laws settings account items now maildir rows false fell.dones [] (fell.next ∷ []) fell.dones fell.dones new.maildir new.file.content (length (found_by fell.dones))
+        (found_under items fell.dones fell.next) dones_part dones_part (inl refl) (inl refl)
+        (in_new ∙ new_files fell.dones fell.mid fell.went) (in_cur ∙ cur_files fell.dones fell.mid fell.went)
+        (subst (λ (s : Stored). Keeps s.content (marked_by_session all_rows (ids_of fell.dones))) (sym file) (mid_keeps fell.dones fell.mid fell.went))
+        (begun_next fell.dones dones_recorded) not_ended
+
+    broken_leads : Broken fell.next fell.mid new cut → Leads settings account now false (course items fell.dones [] (fell.next ∷ [])) rows maildir new.maildir new.file.content
+    broken_leads broken = stopped_bare (ap (λ (m : Maildir). m.in_new) broken.maildir) (ap (λ (m : Maildir). m.in_cur) broken.maildir) broken.file
+
+    -- the next task stored a text
+    module _ (number : ℕ) (uid : List ℕ) (reply : WholeReply) (is : fell.next ≡ stores number uid) (answered : AllZip IsGood (retr number ∷ []) (reply ∷ [])) where
+      abbrev last : Done
+      last = stored_done number uid reply
+
+      abbrev full : List Done
+      full = fell.dones ++ stored_done number uid reply ∷ []
+
+      full_tasks : tasks_of (fell.dones ++ stored_done number uid reply ∷ []) ≡ tasks_of fell.dones ++ fell.next ∷ []
+      full_tasks = map-append task_in fell.dones (stored_done number uid reply ∷ []) ∙ ap (λ (t : Task). tasks_of fell.dones ++ t ∷ []) (sym is)
+
+      full_part : Part (tasks_ahead settings account items now maildir (merged rows items (flags_of account maildir items) now)) (fell.dones ++ stored_done number uid reply ∷ [])
+      full_part = record {
+        rest = fell.later;
+        split = (sym same_tasks ∙ fell.split) ∙ sym (append_assoc (tasks_of fell.dones) (fell.next ∷ []) fell.later) ∙ ap (λ (l : List Task). l ++ fell.later) (sym full_tasks);
+        answered = all_on IsAnswered fell.dones (stored_done number uid reply ∷ []) fell.went.each (answered, tt);
+      }
+
+      full_found : found_by (fell.dones ++ stored_done number uid reply ∷ []) ≡ found_by fell.dones ++ (number, body_text reply.body) ∷ []
+      full_found = flat_map-append (λ (d : Done). found_in d.task d.replies) fell.dones (stored_done number uid reply ∷ [])
+
+      one_more : length (found_by fell.dones) + 1 ≡ length (found_by (fell.dones ++ stored_done number uid reply ∷ []))
+      one_more = sym (ap (λ (l : List (ℕ × List ℕ)). length l) full_found ∙ length-append (found_by fell.dones) ((number, body_text reply.body) ∷ []))
+
+      full_files : new.maildir.in_new ≡ fell.mid.maildir.in_new ++ file_from account uid reply ∷ [] → new.maildir.in_new ≡ maildir.in_new ++ files_of account (fell.dones ++ stored_done number uid reply ∷ [])
+      full_files in_new =
+          in_new ∙ ap (λ (l : List File). l ++ file_from account uid reply ∷ []) (new_files fell.dones fell.mid fell.went)
+          ∙ append_assoc maildir.in_new (files_of account fell.dones) (file_from account uid reply ∷ [])
+          ∙ ap (λ (l : List File). maildir.in_new ++ l) (sym (flat_map-append (λ (d : Done). files_in account d.task d.replies) fell.dones (stored_done number uid reply ∷ [])))
+
+      full_ids : ids_of (fell.dones ++ stored_done number uid reply ∷ []) ≡ ids_of fell.dones ++ uid ∷ []
+      full_ids = flat_map-append (λ (d : Done). ids_in d.task) fell.dones (stored_done number uid reply ∷ [])
+
+      -- the store refused, and the file is there
+      spare_leads : new.maildir.in_new ≡ fell.mid.maildir.in_new ++ file_from account uid reply ∷ [] → new.maildir.in_cur ≡ fell.mid.maildir.in_cur → new.file ≡ fell.mid.file
+          → Leads settings account now false (course items fell.dones (reply ∷ []) (fell.next ∷ [])) rows maildir new.maildir new.file.content
+      spare_leads in_new in_cur file =
+          lead laws settings account items now maildir rows false fell.dones (reply ∷ []) (fell.next ∷ []) (fell.dones ++ stored_done number uid reply ∷ []) fell.dones new.maildir new.file.content
+          (length (found_by fell.dones))
+          (ap (λ (t : Task). found_by fell.dones ++ (found_in t (reply ∷ []) ++ [])) is ∙ sym full_found) full_part dones_part (inr one_more) (inl refl)
+          (full_files in_new) (in_cur ∙ cur_files fell.dones fell.mid fell.went)
+          (subst (λ (s : Stored). Keeps s.content (marked_by_session all_rows (ids_of fell.dones))) (sym file) (mid_keeps fell.dones fell.mid fell.went))
+          (begun_next fell.dones dones_recorded) not_ended
+
+      -- the file is there, and the record is one of two
+      unsaved_leads : (noted : List Done) → Part (tasks_ahead settings account items now maildir (merged rows items (flags_of account maildir items) now)) noted
+          → (length (found_by noted) ≡ length (found_by (fell.dones ++ stored_done number uid reply ∷ []))) ⊎ (length (found_by noted) + 1 ≡ length (found_by (fell.dones ++ stored_done number uid reply ∷ [])))
+          → new.maildir.in_new ≡ fell.mid.maildir.in_new ++ file_from account uid reply ∷ [] → new.maildir.in_cur ≡ fell.mid.maildir.in_cur
+          → Keeps new.file.content (marked_by_session all_rows (ids_of noted)) → AllByRecursion (λ (id : List ℕ). is_delivered (marked_by_session all_rows (ids_of noted)) id ≡ true) (ids_ahead (tasks_of fell.dones))
+          → Leads settings account now false (course items (fell.dones ++ stored_done number uid reply ∷ []) [] []) rows maildir new.maildir new.file.content
+      unsaved_leads noted part marks in_new in_cur keeps recorded =
+          lead laws settings account items now maildir rows false (fell.dones ++ stored_done number uid reply ∷ []) [] [] (fell.dones ++ stored_done number uid reply ∷ []) noted new.maildir new.file.content
+          (length (found_by (fell.dones ++ stored_done number uid reply ∷ []))) (append-nil (found_by (fell.dones ++ stored_done number uid reply ∷ []))) full_part part (inl refl) marks
+          (full_files in_new) (in_cur ∙ cur_files fell.dones fell.mid fell.went) keeps
+          (subst (λ (ts : List Task). AllByRecursion (λ (id : List ℕ). is_delivered (marked_by_session all_rows (ids_of noted)) id ≡ true) (deleted_by items ts))
+          (sym full_tasks ∙ sym (append-nil (tasks_of (fell.dones ++ stored_done number uid reply ∷ [])))) (begun_next noted recorded)) not_ended
+
+      last_mark : (r : List Row) (ids : List (List ℕ)) → marked (marked_by_session r ids) uid ≡ marked_by_session r (ids ++ uid ∷ [])
+      last_mark r [] = refl
+      last_mark r (id ∷ ids) = last_mark (marked r id) ids
+
+      not_saved_leads : Saves fell.mid.file fell.mid.rows (marked fell.mid.rows uid) (Err cut.fault) new.file → Gained fell.mid.maildir new.maildir (file_from account uid reply ∷ [])
+          → Leads settings account now false (course items (fell.dones ++ stored_done number uid reply ∷ []) [] []) rows maildir new.maildir new.file.content
+      not_saved_leads saves stored =
+          elim (laws.unsaved fell.mid.file fell.mid.rows (marked fell.mid.rows uid) cut.fault new.file saves (fell.went.saved steady)) [
+            | inl was ↦ unsaved_leads fell.dones dones_part (inr one_more) stored.in_new stored.in_cur
+                (subst (λ (r : List Row). Keeps new.file.content r) (mid_rows fell.dones fell.mid fell.went) was) dones_recorded
+            | inr more ↦ unsaved_leads (fell.dones ++ stored_done number uid reply ∷ []) full_part (inl refl) stored.in_new stored.in_cur
+                (subst (λ (r : List Row). Keeps new.file.content r)
+                (ap (λ (r : List Row). marked r uid) (mid_rows fell.dones fell.mid fell.went) ∙ last_mark all_rows (ids_of fell.dones) ∙ ap (λ (ids : List (List ℕ)). marked_by_session all_rows ids) (sym full_ids)) more)
+                (all_front (λ (id : List ℕ). is_delivered (marked_by_session all_rows (ids_of (fell.dones ++ stored_done number uid reply ∷ []))) id ≡ true) (ids_ahead (tasks_of fell.dones)) (ids_ahead (fell.next ∷ []))
+                (subst (λ (ids : List (List ℕ)). AllByRecursion (λ (id : List ℕ). is_delivered (marked_by_session all_rows (ids_of (fell.dones ++ stored_done number uid reply ∷ []))) id ≡ true) ids)
+                (ap ids_ahead full_tasks ∙ flat_map-append ids_in (tasks_of fell.dones) (fell.next ∷ []))
+                (recorded_all laws settings account items now maildir rows (fell.dones ++ stored_done number uid reply ∷ []) full_part)))
+          ]
+
+    -- the store refused a text
+    not_stored_leads : (refused : NotStored account fell.next fell.mid new cut)
+        → Leads settings account now false (course items fell.dones (spare_of account fell.next fell.mid new cut refused) (fell.next ∷ [])) rows maildir new.maildir new.file.content
+    not_stored_leads refused = by refused.refuses
+      where
+        by : (refuses : RefusesText fell.mid.maildir (name_of account refused.uid) refused.rest refused.text cut.fault new.maildir)
+            → Leads settings account now false
+            (course items fell.dones
+            (spare_in refused.number fell.mid.place new.place refused.rest refused.text fell.mid.maildir new.maildir (name_of account refused.uid) cut.fault refused.whole refuses) (fell.next ∷ []))
+            rows maildir new.maildir new.file.content
+        by (inl missing) = stopped_bare (ap (λ (m : Maildir). m.in_new) missing.2) (ap (λ (m : Maildir). m.in_cur) missing.2) refused.file
+        by (inr (is, inl same)) = stopped_bare (ap (λ (m : Maildir). m.in_new) same) (ap (λ (m : Maildir). m.in_cur) same) refused.file
+        by (inr (is, inr (done, there))) =
+            let came = refused.whole done in
+            spare_leads refused.number refused.uid came.0 refused.is came.1.good
+            (ap (λ (m : Maildir). m.in_new) there ∙ ap (λ (t : List ℕ). fell.mid.maildir.in_new ++ file (name_of account refused.uid) t ∷ []) came.2) (ap (λ (m : Maildir). m.in_cur) there) refused.file
+
+    stopped_leads : (stops : Stops account fell.next fell.mid cut new)
+        → Leads settings account now false (course_stopped account items fell.dones fell.next fell.mid new cut stops) rows maildir new.maildir new.file.content
+    stopped_leads (inl broken) = broken_leads broken
+    stopped_leads (inr (inl refused)) = not_stored_leads refused
+    stopped_leads (inr (inr refused)) = not_saved_leads refused.number refused.uid refused.reply refused.is refused.talked.good refused.saves refused.stored
+
+  pub does_leads : (result : Result (Unit {0}) Cut) (new : Scene) (does : Does account (tasks_ahead settings account items now maildir old.rows) old result new)
+      → Leads settings account now (is_ended result) (course_does account items (tasks_ahead settings account items now maildir old.rows) old new result does) rows maildir new.maildir new.file.content
+  does_leads (Ok done) new went = all_went new went
+  does_leads (Err cut) new fell = stopped_leads cut new fell fell.stops
