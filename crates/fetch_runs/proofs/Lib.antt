@@ -4,3 +4,4 @@ pub mod StateDone
 pub mod StateMarks
 pub mod StateBuilt
 pub mod StateCases
+pub mod StateLaw

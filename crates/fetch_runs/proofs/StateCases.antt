@@ -36,7 +36,7 @@ found_none (deletes number) = refl
 found_under : (items : List Item) (dones : List Done) (next : Task) → found_of (course items dones [] (next ∷ [])) ≡ found_by dones
 found_under items dones next = ap (λ (l : List (ℕ × List ℕ)). found_by dones ++ (l ++ [])) (found_none next) ∙ append-nil (found_by dones)
 
-abbrev is_ended : Result (Unit {0}) Cut → Bool
+abbrev pub is_ended : Result (Unit {0}) Cut → Bool
 is_ended (Ok done) = true
 is_ended (Err cut) = false
 
