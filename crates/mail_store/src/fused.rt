@@ -175,7 +175,7 @@ impl<D: MaildirDisk> MaildirDisk for Fused<D> {
             → SettlesBehind (effect_is_due self.old) (D.maildir (device_of self.old)) (D.maildir (device_of self.new)) }
     {
         if let Err(fault) = admit(&self.failures) {
-            self.device.abandon();
+            self.abandon();
             return Err(fault);
         }
         if self.passes_left == 0 && self.takes_effect {
