@@ -54,6 +54,7 @@ pub record Leads (settings : Settings) (account : List ℕ) (now : ℕ) (ended :
   pub keeps : Keeps content' rows'
   pub told : Told settings account (holds rows maildir) (effect_of now ended course) (holds rows' maildir')
   pub numbers : map number_found (found_of course) ≡ map number_of (take (length (found_of course)) (wanted_at settings account (holds rows maildir) (effect_of now ended course)))
+  pub right : AllByRecursion (IsRight account maildir course.items) (begun_of course)
 
 -- a list of done tasks, and those behind it
 pub record Part (tasks : List Task) (dones : List Done) : Type 0 where
@@ -131,9 +132,9 @@ module _ (laws : Laws) (settings : Settings) (account : List ℕ) (items : List 
       → found_of (course items taken spare under) ≡ found_by full → Part tasks full → Part tasks noted
       → (k ≡ length (found_by full)) ⊎ (k + 1 ≡ length (found_by full)) → (length (found_by noted) ≡ k) ⊎ (length (found_by noted) + 1 ≡ k)
       → maildir'.in_new ≡ maildir.in_new ++ files_of account full → maildir'.in_cur ≡ maildir.in_cur → Keeps content' (marked_by_session all_rows (ids_of noted))
-      → AllByRecursion (IsRecorded noted) (deleted_by items (tasks_of taken ++ under)) → (ended ≡ true → k ≡ length messages)
+      → AllByRecursion (IsRecorded noted) (deleted_by items (tasks_of taken ++ under)) → (more : List Task) → tasks ≡ (tasks_of taken ++ under) ++ more → (ended ≡ true → k ≡ length messages)
       → Leads settings account now ended (course items taken spare under) rows maildir maildir' content'
-  lead ended taken spare under full noted maildir' content' k found whole part number mark in_new in_cur keeps begun ends = record {
+  lead ended taken spare under full noted maildir' content' k found whole part number mark in_new in_cur keeps begun more front ends = record {
     rows' = marked_by_session all_rows (ids_of noted);
     keeps = keeps;
     told = record {
@@ -154,6 +155,8 @@ module _ (laws : Laws) (settings : Settings) (account : List ℕ) (items : List 
       ended = ends;
     };
     numbers = ap (map number_found) found ∙ numbers_part full whole ∙ ap (λ (l : List (ℕ × List ℕ)). map number_of (take (length l) messages)) (sym found);
+    right = all_front (IsRight account maildir items) (tasks_of taken ++ under) more
+        (subst (AllByRecursion (IsRight account maildir items)) front (right_ahead settings account items now maildir all_rows));
   }
     where
       same_count : length (found_by full) ≡ length (map text_found (found_of (course items taken spare under)))
@@ -177,6 +180,7 @@ module _ (laws : Laws) (settings : Settings) (account : List ℕ) (items : List 
       ended = λ never. absurd (true≢false (sym never));
     };
     numbers = numbers_part [] nothing;
+    right = tt;
   }
     where
       nothing : Part (tasks_ahead settings account items now maildir (merged rows items (flags_of account maildir items) now)) []

@@ -75,6 +75,7 @@ module _ (laws : Laws) (settings : Settings) (account : List ℕ) (items : List 
       (subst (λ (ts : List Task). Safe (λ (id : List ℕ). is_delivered (marked_by_session all_rows (ids_of went.dones)) id ≡ true) items ts) part.split
       (safe_tasks laws settings account items now maildir rows went.dones))
       (recorded_all laws settings account items now maildir rows went.dones part)))
+      [] (sym same_tasks ∙ went.all ∙ sym (append-nil (tasks_of went.dones)) ∙ sym (append-nil (tasks_of went.dones ++ [])))
       (λ ended. wanted_all laws settings account items now maildir rows went.dones (sym same_tasks ∙ went.all) went.went.each)
     where
       part : Part (tasks_ahead settings account items now maildir (merged rows items (flags_of account maildir items) now)) went.dones
@@ -97,6 +98,9 @@ module _ (laws : Laws) (settings : Settings) (account : List ℕ) (items : List 
     dones_recorded : AllByRecursion (λ (id : List ℕ). is_delivered (marked_by_session all_rows (ids_of fell.dones)) id ≡ true) (ids_ahead (tasks_of fell.dones))
     dones_recorded = recorded_all laws settings account items now maildir rows fell.dones dones_part
 
+    next_front : tasks_ahead settings account items now maildir (merged rows items (flags_of account maildir items) now) ≡ (tasks_of fell.dones ++ fell.next ∷ []) ++ fell.later
+    next_front = (sym same_tasks ∙ fell.split) ∙ sym (append_assoc (tasks_of fell.dones) (fell.next ∷ []) fell.later)
+
     not_ended : {P : Type 0} → false ≡ true → P
     not_ended never = absurd (true≢false (sym never))
 
@@ -108,7 +112,7 @@ module _ (laws : Laws) (settings : Settings) (account : List ℕ) (items : List 
         (found_under items fell.dones fell.next) dones_part dones_part (inl refl) (inl refl)
         (in_new ∙ new_files fell.dones fell.mid fell.went) (in_cur ∙ cur_files fell.dones fell.mid fell.went)
         (subst (λ (s : Stored). Keeps s.content (marked_by_session all_rows (ids_of fell.dones))) (sym file) (mid_keeps fell.dones fell.mid fell.went))
-        (begun_next fell.dones dones_recorded) not_ended
+        (begun_next fell.dones dones_recorded) fell.later next_front not_ended
 
     broken_leads : Broken fell.next fell.mid new cut → Leads settings account now false (course items fell.dones [] (fell.next ∷ [])) rows maildir new.maildir new.file.content
     broken_leads broken = stopped_bare (ap (λ (m : Maildir). m.in_new) broken.maildir) (ap (λ (m : Maildir). m.in_cur) broken.maildir) broken.file
@@ -155,7 +159,7 @@ module _ (laws : Laws) (settings : Settings) (account : List ℕ) (items : List 
           (ap (λ (t : Task). found_by fell.dones ++ (found_in t (reply ∷ []) ++ [])) is ∙ sym full_found) full_part dones_part (inr one_more) (inl refl)
           (full_files in_new) (in_cur ∙ cur_files fell.dones fell.mid fell.went)
           (subst (λ (s : Stored). Keeps s.content (marked_by_session all_rows (ids_of fell.dones))) (sym file) (mid_keeps fell.dones fell.mid fell.went))
-          (begun_next fell.dones dones_recorded) not_ended
+          (begun_next fell.dones dones_recorded) fell.later next_front not_ended
 
       -- the file is there, and the record is one of two
       unsaved_leads : (noted : List Done) → Part (tasks_ahead settings account items now maildir (merged rows items (flags_of account maildir items) now)) noted
@@ -168,7 +172,9 @@ module _ (laws : Laws) (settings : Settings) (account : List ℕ) (items : List 
           (length (found_by (fell.dones ++ stored_done number uid reply ∷ []))) (append-nil (found_by (fell.dones ++ stored_done number uid reply ∷ []))) full_part part (inl refl) marks
           (full_files in_new) (in_cur ∙ cur_files fell.dones fell.mid fell.went) keeps
           (subst (λ (ts : List Task). AllByRecursion (λ (id : List ℕ). is_delivered (marked_by_session all_rows (ids_of noted)) id ≡ true) (deleted_by items ts))
-          (sym full_tasks ∙ sym (append-nil (tasks_of (fell.dones ++ stored_done number uid reply ∷ [])))) (begun_next noted recorded)) not_ended
+          (sym full_tasks ∙ sym (append-nil (tasks_of (fell.dones ++ stored_done number uid reply ∷ [])))) (begun_next noted recorded)) fell.later
+          ((sym same_tasks ∙ fell.split) ∙ sym (append_assoc (tasks_of fell.dones) (fell.next ∷ []) fell.later) ∙ ap (λ (l : List Task). l ++ fell.later) (sym full_tasks ∙ sym (append-nil (tasks_of (fell.dones ++ stored_done number uid reply ∷ [])))))
+          not_ended
 
       last_mark : (r : List Row) (ids : List (List ℕ)) → marked (marked_by_session r ids) uid ≡ marked_by_session r (ids ++ uid ∷ [])
       last_mark r [] = refl

@@ -73,7 +73,7 @@ module _ (laws : Laws) (settings : Settings) (account : List ℕ) (items : List 
       by (inr (was, stood, inr merges)) =
           lead laws settings account items now maildir rows false [] [] [] [] [] new.maildir new.file.content 0 refl nothing nothing (inl refl) (inl refl)
           (same.0 ∙ sym (append-nil maildir.in_new)) same.1
-          (subst (λ (r : List Row). Keeps new.file.content (merged_now account maildir items now r)) (laws.one file.content was rows stood keeps) merges) tt
+          (subst (λ (r : List Row). Keeps new.file.content (merged_now account maildir items now r)) (laws.one file.content was rows stood keeps) merges) tt (tasks_ahead settings account items now maildir (merged rows items (flags_of account maildir items) now)) refl
           (λ never. absurd (true≢false (sym never)))
 
   carried_leads : (result : Result (Unit {0}) Cut) (new : Scene) (skipped : ℕ) (is : Carried settings account items now place maildir file lines result new skipped)

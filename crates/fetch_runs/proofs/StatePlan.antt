@@ -47,10 +47,11 @@ deleted_in items _ = []
 abbrev pub deleted_by : List Item → List Task → List (List ℕ)
 deleted_by items tasks = flat_map (deleted_in items) tasks
 
--- what a task fetches is listed, and stored only where it isn't held
+-- what a task fetches is listed, and stored only where it isn't held; what it deletes stands at its number
 abbrev pub IsRight : List ℕ → Maildir → List Item → Task → Type 0
 IsRight account maildir items (stores number uid) = (is_held account maildir uid ≡ false) × (has_item items uid ≡ true)
 IsRight account maildir items (rereads number uid) = (is_held account maildir uid ≡ true) × (has_item items uid ≡ true)
+IsRight account maildir items (deletes number) = (item : Item) × (slice_get items (number - 1) ≡ Some item)
 IsRight account maildir items _ = Unit {0}
 
 -- whatever is so of each stored id, is so of an id when its message is deleted
@@ -145,15 +146,15 @@ all_weaker P Q [] weaker all = tt
 all_weaker P Q (x ∷ xs) weaker all = (weaker x all.0, all_weaker P Q xs weaker all.1)
 
 right_by : (account : List ℕ) (maildir : Maildir) (items : List Item) (r h d : Bool) (n : ℕ) (uid : List ℕ) (size : ℕ) → is_held account maildir uid ≡ h → has_item items uid ≡ true
-    → AllByRecursion (IsRight account maildir items) (fetching r h n uid size ++ deleting d n)
-right_by account maildir items true true true n uid size held listed = ((held, listed), (tt, tt))
-right_by account maildir items true true false n uid size held listed = ((held, listed), tt)
-right_by account maildir items true false true n uid size held listed = ((held, listed), (tt, tt))
-right_by account maildir items true false false n uid size held listed = ((held, listed), tt)
-right_by account maildir items false true true n uid size held listed = (tt, (tt, tt))
-right_by account maildir items false false true n uid size held listed = (tt, (tt, tt))
-right_by account maildir items false true false n uid size held listed = (tt, tt)
-right_by account maildir items false false false n uid size held listed = (tt, tt)
+    → (at : (item : Item) × (slice_get items (n - 1) ≡ Some item)) → AllByRecursion (IsRight account maildir items) (fetching r h n uid size ++ deleting d n)
+right_by account maildir items true true true n uid size held listed at = ((held, listed), (at, tt))
+right_by account maildir items true true false n uid size held listed at = ((held, listed), tt)
+right_by account maildir items true false true n uid size held listed at = ((held, listed), (at, tt))
+right_by account maildir items true false false n uid size held listed at = ((held, listed), tt)
+right_by account maildir items false true true n uid size held listed at = (tt, (at, tt))
+right_by account maildir items false false true n uid size held listed at = (tt, (at, tt))
+right_by account maildir items false true false n uid size held listed at = (tt, tt)
+right_by account maildir items false false false n uid size held listed at = (tt, tt)
 
 -- a message stands at its number, and is listed
 abbrev IsAt : List Item → ℕ × Item → Type 0
@@ -184,20 +185,21 @@ all_stand items front (item ∷ behind) n split is = (
       (ap (λ (k : ℕ). k + 1) is ∙ ap (λ (k : ℕ). k + 1) (sym (length-append front (item ∷ [])))),
 )
 
-right_all : (account : List ℕ) (maildir : Maildir) (items : List Item) (f : ℕ × Item → Step) (qs : List (ℕ × Item)) → AllByRecursion (IsAt items) qs
+right_all : (account : List ℕ) (maildir : Maildir) (items : List Item) (f : ℕ × Item → Step) → ((q : ℕ × Item) → (f q).number ≡ q.0) → (qs : List (ℕ × Item)) → AllByRecursion (IsAt items) qs
     → AllByRecursion (IsRight account maildir items) (flat_map (tasks_at f (is_held account maildir)) qs)
-right_all account maildir items f [] at = tt
-right_all account maildir items f (q ∷ qs) at =
+right_all account maildir items f same [] at = tt
+right_all account maildir items f same (q ∷ qs) at =
     all_on (IsRight account maildir items) (tasks_at f (is_held account maildir) q) (flat_map (tasks_at f (is_held account maildir)) qs)
-    (right_by account maildir items (f q).retrieve (is_held account maildir q.1.uid) (f q).delete (f q).number q.1.uid q.1.size refl at.0.1)
-    (right_all account maildir items f qs at.1)
+    (right_by account maildir items (f q).retrieve (is_held account maildir q.1.uid) (f q).delete (f q).number q.1.uid q.1.size refl at.0.1
+    (q.1, ap (λ (n : ℕ). slice_get items (n - 1)) (same q) ∙ at.0.0))
+    (right_all account maildir items f same qs at.1)
 
 pub right_ahead : (settings : Settings) (account : List ℕ) (items : List Item) (now : ℕ) (maildir : Maildir) (rows : List Row)
     → AllByRecursion (IsRight account maildir items) (tasks_ahead settings account items now maildir rows)
 right_ahead settings account items now maildir rows =
     subst (AllByRecursion (IsRight account maildir items)) (sym (tasks_are settings account items now maildir rows))
     (all_on (IsRight account maildir items) (flat_map (tasks_at (step_of settings rows items now) (is_held account maildir)) (numbered items)) (says quit ∷ [])
-    (right_all account maildir items (step_of settings rows items now) (numbered items) (all_stand items [] items 1 refl refl)) (tt, tt))
+    (right_all account maildir items (step_of settings rows items now) (λ q. refl) (numbered items) (all_stand items [] items 1 refl refl)) (tt, tt))
 
 -- ---- what is deleted
 
