@@ -5,3 +5,13 @@ pub mod StateMarks
 pub mod StateBuilt
 pub mod StateCases
 pub mod StateLaw
+pub mod TalkParts
+pub mod TalkCommands
+pub mod TalkReplies
+pub mod TalkTasks
+pub mod TalkCourses
+pub mod TalkOpenings
+pub mod TalkSpeech
+pub mod TalkSessions
+pub mod TalkIdle
+pub mod TalkLaw

@@ -1,0 +1,114 @@
+-- The commands that a conversation's octets tell.
+use Rattle.std.proofs.Common.{◌≡◌, inl, inr, ◌⊎◌, ℕ, List, [], ◌∷◌, ◌++◌, true, None, Some, refl, sym, ap, subst, ◌∙◌, append_assoc}
+use Rattle.std.specs.List.{flat_map, AllByRecursion}
+use Rattle.std.proofs.lemmas.List.{append-nil}
+use Rattle.std.proofs.lemmas.List.Concat.{flat_map-append}
+use Rattle.pop3_wire.specs.declared.command.Command.{Command}
+use Rattle.pop3_wire.specs.Line.{ended}
+use Rattle.pop3_wire.specs.Commands.{line_of, can_be_sent}
+use Rattle.pop3_wire.specs.CommandLine.{HasNumbers}
+use Rattle.pop3_wire.specs.Honest.{Asked}
+use Rattle.pop3_wire.specs.Reading.{WholeReply}
+use Rattle.pop3_client.specs.Turns.{Turn, asking}
+use Rattle.run_law.specs.Plans.{octets_of, FrontsAreAsked}
+use Rattle.fetch_runs.specs.Conversations.{SentBehind, Conversation}
+
+-- the command of a turn, if it has one
+abbrev pub said_in : Turn → List Command
+said_in None = []
+said_in (Some command) = command ∷ []
+
+abbrev pub commands_in : List Turn → List Command
+commands_in turns = flat_map said_in turns
+
+-- the turn's command can be sent
+abbrev pub CanBeSaid : Turn → Type 0
+CanBeSaid None = Unit {0}
+CanBeSaid (Some command) = (can_be_sent command ≡ true) × HasNumbers command
+
+pub all_append : {A : Type 0} (P : A → Type 0) (xs ys : List A) → AllByRecursion P xs → AllByRecursion P ys → AllByRecursion P (xs ++ ys)
+all_append P [] ys first then = then
+all_append P (x ∷ xs) ys first then = (first.0, all_append P xs ys first.1 then)
+
+pub all_front : {A : Type 0} (P : A → Type 0) (xs ys : List A) → AllByRecursion P (xs ++ ys) → AllByRecursion P xs
+all_front P [] ys all = tt
+all_front P (x ∷ xs) ys all = (all.0, all_front P xs ys all.1)
+
+pub all_back : {A : Type 0} (P : A → Type 0) (xs ys : List A) → AllByRecursion P (xs ++ ys) → AllByRecursion P ys
+all_back P [] ys all = all
+all_back P (x ∷ xs) ys all = all_back P xs ys all.1
+
+octets_same : (turns : List Turn) → asking turns ≡ octets_of (commands_in turns)
+octets_same [] = refl
+octets_same (None ∷ turns) = octets_same turns
+octets_same (Some command ∷ turns) = ap (λ (l : List ℕ). ended (line_of command) ++ l) (octets_same turns)
+
+sendable_in : (turns : List Turn) → AllByRecursion CanBeSaid turns → AllByRecursion (λ command. can_be_sent command ≡ true) (commands_in turns)
+sendable_in [] all = tt
+sendable_in (None ∷ turns) all = sendable_in turns all.1
+sendable_in (Some command ∷ turns) all = (all.0.0, sendable_in turns all.1)
+
+numbers_in : (turns : List Turn) → AllByRecursion CanBeSaid turns → AllByRecursion HasNumbers (commands_in turns)
+numbers_in [] all = tt
+numbers_in (None ∷ turns) all = numbers_in turns all.1
+numbers_in (Some command ∷ turns) all = (all.0.1, numbers_in turns all.1)
+
+-- commands behind others
+asked_behind : (first more : List Command) (octets : List ℕ) → AllByRecursion (λ command. can_be_sent command ≡ true) first → AllByRecursion HasNumbers first → Asked more octets
+    → Asked (first ++ more) (octets_of first ++ octets)
+asked_behind first more octets sendable numbers asked = record {
+  sendable = all_append (λ (command : Command). can_be_sent command ≡ true) first more sendable asked.sendable;
+  numbers = all_append HasNumbers first more numbers asked.numbers;
+  part = asked.part;
+  no_line = asked.no_line;
+  whole = ap (λ (l : List ℕ). octets_of first ++ l) asked.whole ∙ sym (append_assoc (octets_of first) (octets_of more) asked.part)
+      ∙ ap (λ (l : List ℕ). l ++ asked.part) (sym (flat_map-append (λ (command : Command). ended (line_of command)) first more));
+}
+
+-- the commands that were sent whole: those of the turns that were talked, of the one begun, and of the tail
+pub record Commanded (done begun tail : List Turn) (sent : List ℕ) : Type 0 where
+  pub ahead : List Command
+  pub unsaid : List Command
+  pub ends : List Command
+  pub unended : List Command
+  pub of_begun : commands_in begun ≡ ahead ++ unsaid
+  pub of_tail : commands_in tail ≡ ends ++ unended
+  pub tail_last : (ends ≡ []) ⊎ (unsaid ≡ [])
+  pub asked : Asked (commands_in done ++ (ahead ++ ends)) sent
+
+commanded_by : FrontsAreAsked → (done begun tail : List Turn) (behind : List ℕ) → AllByRecursion CanBeSaid done → AllByRecursion CanBeSaid begun → AllByRecursion CanBeSaid tail
+    → SentBehind begun tail behind → Commanded done begun tail (asking done ++ behind)
+commanded_by law done begun tail behind d b t (inl (later, front)) =
+    let some = law (commands_in begun) behind later (sendable_in begun b) (numbers_in begun b) (sym (octets_same begun) ∙ front) in
+    record {
+      ahead = some.0;
+      unsaid = some.1;
+      ends = [];
+      unended = commands_in tail;
+      of_begun = some.2;
+      of_tail = refl;
+      tail_last = inl refl;
+      asked = subst (λ (l : List ℕ). Asked (commands_in done ++ (some.0 ++ [])) (l ++ behind)) (sym (octets_same done))
+          (asked_behind (commands_in done) (some.0 ++ []) behind (sendable_in done d) (numbers_in done d)
+          (subst (λ (cs : List Command). Asked cs behind) (sym (append-nil some.0)) some.3));
+    }
+commanded_by law done begun tail behind d b t (inr (part, later, front, whole)) =
+    let some = law (commands_in tail) part later (sendable_in tail t) (numbers_in tail t) (sym (octets_same tail) ∙ front) in
+    record {
+      ahead = commands_in begun;
+      unsaid = [];
+      ends = some.0;
+      unended = some.1;
+      of_begun = sym (append-nil (commands_in begun));
+      of_tail = some.2;
+      tail_last = inr refl;
+      asked = subst (λ (l : List ℕ). Asked (commands_in done ++ (commands_in begun ++ some.0)) (l ++ behind)) (sym (octets_same done))
+          (asked_behind (commands_in done) (commands_in begun ++ some.0) behind (sendable_in done d) (numbers_in done d)
+          (subst (λ (l : List ℕ). Asked (commands_in begun ++ some.0) l) (sym (whole ∙ ap (λ (l : List ℕ). l ++ part) (octets_same begun)))
+          (asked_behind (commands_in begun) some.0 part (sendable_in begun b) (numbers_in begun b) some.3)));
+    }
+
+pub commanded : FrontsAreAsked → (done : List Turn) (replies : List WholeReply) (begun tail : List Turn) (sent got : List ℕ) → AllByRecursion CanBeSaid done
+    → AllByRecursion CanBeSaid begun → AllByRecursion CanBeSaid tail → Conversation done replies begun tail sent got → Commanded done begun tail sent
+commanded law done replies begun tail sent got d b t said =
+    subst (λ (l : List ℕ). Commanded done begun tail l) (sym said.said) (commanded_by law done begun tail said.behind d b t said.way)

@@ -1,0 +1,190 @@
+-- What a link gains behind the opening, for each way that a session's tasks came out.
+use Rattle.std.proofs.Common.{◌≡◌, inl, inr, ◌⊎◌, ℕ, List, [], ◌∷◌, ◌++◌, map, Option, None, Some, Result, Ok, Err, refl, sym, ap, subst, ◌∙◌, append_assoc}
+use Rattle.std.specs.List.{flat_map, AllByRecursion}
+use Rattle.std.proofs.lemmas.List.{append-nil, map-append}
+use Rattle.std.proofs.lemmas.List.Concat.{flat_map-append}
+use Rattle.pop3_wire.specs.declared.command.Command.{Command}
+use Rattle.pop3_wire.specs.declared.command.Command.TheVariants.{Retr}
+use Rattle.pop3_wire.specs.declared.unstuffer.Spot.TheVariants.{Done as AtEnd}
+use Rattle.pop3_wire.specs.Bodies.{Rest}
+use Rattle.pop3_wire.specs.Link.{Link}
+use Rattle.pop3_wire.specs.Place.{Place}
+use Rattle.pop3_wire.specs.Reading.{WholeReply}
+use Rattle.pop3_client.specs.declared.fault.Fault.{Fault as TalkFault}
+use Rattle.pop3_client.specs.Turns.{Turn, retr, IsGood}
+use Rattle.pop3_client.specs.Conversation.{Talked, Talks, ConversationsArePaced}
+use Rattle.pop3_client.specs.Texts.{Fetching, Fetched, body_text}
+use Rattle.mail_terms.specs.Listing.{Item}
+use Rattle.mail_store.specs.Maildir.{Maildir}
+use Rattle.mail_store.specs.FileName.{name_of}
+use Rattle.run_law.specs.Readings.{Retrieves}
+use Rattle.fetch_session.specs.declared.fault.Cut.{Cut}
+use Rattle.fetch_session.specs.declared.fault.Fault.{Fault}
+use Rattle.fetch_session.specs.Faults.{fault_of}
+use Rattle.fetch_session.specs.Tasks.{Task, stores, Done, task_in, turns_in, tasks_of, turns_of, replies_of, IsAnswered}
+use Rattle.fetch_session.specs.Stores.{RefusesText}
+use Rattle.fetch_session.specs.Tails.{tail, LeftBy, Left, turns_in as tail_turns}
+use Rattle.fetch_session.specs.Scenes.{Scene, Went, Stops, Broken, NotStored, NotSaved}
+use Rattle.fetch_session.proofs.TurnLemmas.{talked_none, talked_on}
+use Rattle.fetch_runs.proofs.Courses.{Course, course, course_stopped, stored_done, spare_in, found_in, found_by, found_of, begun_of}
+use Rattle.fetch_runs.proofs.TalkParts.{Goes, Fronted, fronted, goes_tail, goes_nothing, goes_broke, goes_under}
+use Rattle.fetch_runs.proofs.TalkCommands.{commands_in, all_append, all_front, all_back}
+use Rattle.fetch_runs.proofs.TalkReplies.{IsPlain, commands_on, text_read, dones_read, nothing_found}
+use Rattle.fetch_runs.proofs.TalkTasks.{turns_on}
+
+-- the turns behind the opening that were talked, one that was begun, and what the link gained by them and the tail
+pub record Took (c : Course) (start : Place) (tail : List Turn) (link : Link) : Type 0 where
+  pub done : List Turn
+  pub replies : List WholeReply
+  pub begun : List Turn
+  pub there : Place
+  pub talked : Talked done replies start there
+  pub goes : Goes begun tail there.link link
+  pub all : flat_map turns_in (begun_of c) ≡ done ++ begun
+  pub one : (begun ≡ []) ⊎ ((turn : Turn) × (begun ≡ turn ∷ []))
+  pub read : (more : List Command) → Retrieves (commands_in done ++ more) replies (found_of c)
+
+-- the texts of done tasks
+read_dones : (dones : List Done) (others : List (ℕ × List ℕ)) → others ≡ [] → AllByRecursion IsPlain (tasks_of dones) → AllByRecursion IsAnswered dones
+    → (more : List Command) → Retrieves (commands_in (turns_of dones) ++ more) (replies_of dones) (found_by dones ++ others)
+read_dones dones others none plain each more =
+    subst (λ (fs : List (ℕ × List ℕ)). Retrieves (commands_in (turns_of dones) ++ more) (replies_of dones) (found_by dones ++ fs)) (sym none)
+    (subst (λ (rs : List WholeReply). Retrieves (commands_in (turns_of dones) ++ more) rs (found_by dones ++ [])) (append-nil (replies_of dones))
+    (dones_read dones [] more [] plain each refl))
+
+module _ (paced : ConversationsArePaced) (items : List Item) where
+  -- the next turn was begun, and its text isn't stored
+  begun_next : (dones : List Done) (next : Task) (turn : Turn) (tail : List Turn) (first there : Place) (link : Link) → turns_in next ≡ turn ∷ []
+      → Talked (turns_of dones) (replies_of dones) first there → AllByRecursion IsPlain (tasks_of dones) → AllByRecursion IsAnswered dones → Goes (turn ∷ []) tail there.link link
+      → Took (course items dones [] (next ∷ [])) first tail link
+  begun_next dones next turn tail first there link takes talked plain each goes = record {
+    done = turns_of dones;
+    replies = replies_of dones;
+    begun = turn ∷ [];
+    there = there;
+    talked = talked;
+    goes = goes;
+    all = turns_on dones (next ∷ []) ∙ ap (λ (ts : List Turn). turns_of dones ++ ts) (append-nil (turns_in next) ∙ takes);
+    one = inr (turn, refl);
+    read = read_dones dones (found_in next [] ++ []) (append-nil (found_in next []) ∙ nothing_found next) plain each;
+  }
+
+  took_broken : (dones : List Done) (next : Task) (first mid new : Scene) (cut : Cut) (last : Place) → Talked (turns_of dones) (replies_of dones) first.place mid.place
+      → AllByRecursion IsPlain (tasks_of dones) → AllByRecursion IsAnswered dones → Broken next mid new cut → Left cut new.place last
+      → Took (course items dones [] (next ∷ [])) first.place (tail_turns (tail cut.fault)) last.link
+  took_broken dones next first mid new cut last talked plain each broken left =
+      begun_next dones next broken.turn (tail_turns (tail cut.fault)) first.place mid.place last.link broken.takes talked plain each
+      (subst (λ (f : Fault). Goes (broken.turn ∷ []) (tail_turns (tail f)) mid.place.link last.link) (sym broken.is)
+      (goes_broke broken.turn mid.place new.place last broken.why broken.broke
+      (subst (λ (f : Fault). Fronted (tail_turns (tail f)) new.place.link last.link) broken.is ended)))
+    where
+      said : (result : Result (Unit {0}) TalkFault) × Talks (tail_turns (tail cut.fault)) new.place result last
+      said = subst (λ (r : Option Rest). LeftBy cut.fault r new.place last) broken.none left
+
+      ended : Fronted (tail_turns (tail cut.fault)) new.place.link last.link
+      ended = fronted paced (tail_turns (tail cut.fault)) new.place last said.0 said.1
+
+  -- the text was read to its end, and the store refused it
+  with_spare : (dones : List Done) (next : Task) (number : ℕ) (uid : List ℕ) (reply : WholeReply) (tail : List Turn) (first mid there : Place) (link : Link) → next ≡ stores number uid
+      → Talked (turns_of dones) (replies_of dones) first mid → Talked (retr number ∷ []) (reply ∷ []) mid there → AllByRecursion IsPlain (tasks_of dones) → AllByRecursion IsAnswered dones
+      → Goes [] tail there.link link → Took (course items dones (reply ∷ []) (next ∷ [])) first tail link
+  with_spare dones next number uid reply tail first mid there link is talked fetched plain each goes = record {
+    done = turns_of dones ++ retr number ∷ [];
+    replies = replies_of dones ++ reply ∷ [];
+    begun = [];
+    there = there;
+    talked = talked_on (turns_of dones) (retr number ∷ []) (replies_of dones) (reply ∷ []) first mid there talked fetched;
+    goes = goes;
+    all = turns_on dones (next ∷ []) ∙ ap (λ (ts : List Turn). turns_of dones ++ ts) (append-nil (turns_in next) ∙ ap turns_in is) ∙ sym (append-nil (turns_of dones ++ retr number ∷ []));
+    one = inl refl;
+    read = λ more.
+        subst (λ (t : Task). Retrieves (commands_in (turns_of dones ++ retr number ∷ []) ++ more) (replies_of dones ++ reply ∷ []) (found_by dones ++ (found_in t (reply ∷ []) ++ []))) (sym is)
+        (subst (λ (cs : List Command). Retrieves cs (replies_of dones ++ reply ∷ []) (found_by dones ++ (number, body_text reply.body) ∷ [])) (sym (commands_on (turns_of dones) (retr number ∷ []) more))
+        (dones_read dones (reply ∷ []) (Retr number ∷ more) ((number, body_text reply.body) ∷ []) plain each (body_text reply.body, [], text_read number reply fetched.good.0, refl, refl)));
+  }
+
+  took_refused : (account : List ℕ) (dones : List Done) (next : Task) (first mid new : Scene) (cut : Cut) (last : Place) → Talked (turns_of dones) (replies_of dones) first.place mid.place
+      → AllByRecursion IsPlain (tasks_of dones) → AllByRecursion IsAnswered dones → (refused : NotStored account next mid new cut) → Left cut new.place last
+      → (refuses : RefusesText mid.maildir (name_of account refused.uid) refused.rest refused.text cut.fault new.maildir)
+      → Took (course items dones (spare_in refused.number mid.place new.place refused.rest refused.text mid.maildir new.maildir (name_of account refused.uid) cut.fault refused.whole refuses) (next ∷ []))
+      first.place (tail_turns (tail cut.fault)) last.link
+  took_refused account dones next first mid new cut last talked plain each refused left refuses = by refuses
+    where
+      leaves : LeftBy cut.fault (Some refused.rest) new.place last
+      leaves = subst (λ (r : Option Rest). LeftBy cut.fault r new.place last) refused.under_way left
+
+      under : Took (course items dones [] (next ∷ [])) first.place (tail_turns (tail cut.fault)) last.link
+      under =
+          let said = leaves.1 refused.number mid.place refused.text refused.fetching in
+          begun_next dones next (retr refused.number) (tail_turns (tail cut.fault)) first.place mid.place last.link (ap turns_in refused.is) talked plain each
+              (goes_under paced (retr refused.number) (tail_turns (tail cut.fault)) mid.place last said.0 said.1)
+
+      spare : (done : refused.rest.spot ≡ AtEnd) → Took (course items dones ((refused.whole done).0 ∷ []) (next ∷ [])) first.place (tail_turns (tail cut.fault)) last.link
+      spare done =
+          let said = leaves.0 done in
+          let whole = refused.whole done in
+          with_spare dones next refused.number refused.uid whole.0 (tail_turns (tail cut.fault)) first.place mid.place new.place last.link refused.is talked whole.1 plain each
+              (goes_tail (tail_turns (tail cut.fault)) new.place.link last.link (fronted paced (tail_turns (tail cut.fault)) new.place last said.0 said.1))
+
+      by : (refuses : RefusesText mid.maildir (name_of account refused.uid) refused.rest refused.text cut.fault new.maildir)
+          → Took (course items dones (spare_in refused.number mid.place new.place refused.rest refused.text mid.maildir new.maildir (name_of account refused.uid) cut.fault refused.whole refuses) (next ∷ []))
+          first.place (tail_turns (tail cut.fault)) last.link
+      by (inl missing) = under
+      by (inr (is, inl same)) = under
+      by (inr (is, inr (done, there))) = spare done
+
+  -- all that was begun was done
+  all_done : (dones : List Done) (tail : List Turn) (first there : Place) (link : Link) → Talked (turns_of dones) (replies_of dones) first there → AllByRecursion IsPlain (tasks_of dones)
+      → AllByRecursion IsAnswered dones → Goes [] tail there.link link → Took (course items dones [] []) first tail link
+  all_done dones tail first there link talked plain each goes = record {
+    done = turns_of dones;
+    replies = replies_of dones;
+    begun = [];
+    there = there;
+    talked = talked;
+    goes = goes;
+    all = turns_on dones [];
+    one = inl refl;
+    read = read_dones dones [] refl plain each;
+  }
+
+  took_unsaved : (account : List ℕ) (dones : List Done) (next : Task) (first mid new : Scene) (cut : Cut) (last : Place) → Talked (turns_of dones) (replies_of dones) first.place mid.place
+      → AllByRecursion IsPlain (tasks_of dones) → AllByRecursion IsAnswered dones → IsPlain next → (unsaved : NotSaved account next mid new cut) → Left cut new.place last
+      → Took (course items (dones ++ stored_done unsaved.number unsaved.uid unsaved.reply ∷ []) [] []) first.place (tail_turns (tail cut.fault)) last.link
+  took_unsaved account dones next first mid new cut last talked plain each small unsaved left =
+      all_done (dones ++ one ∷ []) (tail_turns (tail cut.fault)) first.place new.place last.link
+      (subst (λ (ts : List Turn). Talked ts (replies_of (dones ++ one ∷ [])) first.place new.place) (sym (flat_map-append (λ (d : Done). turns_in d.task) dones (one ∷ [])))
+      (subst (λ (rs : List WholeReply). Talked (turns_of dones ++ retr unsaved.number ∷ []) rs first.place new.place) (sym (flat_map-append (λ (d : Done). d.replies) dones (one ∷ [])))
+      (talked_on (turns_of dones) (retr unsaved.number ∷ []) (replies_of dones) (unsaved.reply ∷ []) first.place mid.place new.place talked unsaved.talked)))
+      (subst (AllByRecursion IsPlain) (sym (map-append task_in dones (one ∷ []))) (all_append IsPlain (tasks_of dones) (stores unsaved.number unsaved.uid ∷ []) plain (subst IsPlain unsaved.is small, tt)))
+      (all_append IsAnswered dones (one ∷ []) each (unsaved.talked.good, tt))
+      (goes_tail (tail_turns (tail cut.fault)) new.place.link last.link (fronted paced (tail_turns (tail cut.fault)) new.place last said.0 said.1))
+    where
+      one : Done
+      one = stored_done unsaved.number unsaved.uid unsaved.reply
+
+      said : (result : Result (Unit {0}) TalkFault) × Talks (tail_turns (tail cut.fault)) new.place result last
+      said = subst (λ (r : Option Rest). LeftBy cut.fault r new.place last) unsaved.none left
+
+  pub took_stopped : (account : List ℕ) (dones : List Done) (next : Task) (first mid new : Scene) (cut : Cut) (last : Place) → Went account dones first mid
+      → AllByRecursion IsPlain (tasks_of dones ++ next ∷ []) → (stops : Stops account next mid cut new) → Left cut new.place last
+      → Took (course_stopped account items dones next mid new cut stops) first.place (tail_turns (tail cut.fault)) last.link
+  took_stopped account dones next first mid new cut last went plain (inl broken) left =
+      took_broken dones next first mid new cut last went.talked (all_front IsPlain (tasks_of dones) (next ∷ []) plain) went.each broken left
+  took_stopped account dones next first mid new cut last went plain (inr (inl refused)) left =
+      took_refused account dones next first mid new cut last went.talked (all_front IsPlain (tasks_of dones) (next ∷ []) plain) went.each refused left refused.refuses
+  took_stopped account dones next first mid new cut last went plain (inr (inr unsaved)) left =
+      took_unsaved account dones next first mid new cut last went.talked (all_front IsPlain (tasks_of dones) (next ∷ []) plain) went.each
+      (all_back IsPlain (tasks_of dones) (next ∷ []) plain).0 unsaved left
+
+  -- the whole plan was done
+  pub took_all : (account : List ℕ) (dones : List Done) (tail : List Turn) (first new : Scene) → Went account dones first new → AllByRecursion IsPlain (tasks_of dones)
+      → Took (course items dones [] []) first.place tail new.place.link
+  took_all account dones tail first new went plain = all_done dones tail first.place new.place new.place.link went.talked plain went.each (goes_nothing tail new.place.link)
+
+  -- nothing was begun
+  pub took_nothing : (cut : Cut) (there last : Place) → cut.rest ≡ None → Left cut there last → Took (course items [] [] []) there (tail_turns (tail cut.fault)) last.link
+  took_nothing cut there last none left =
+      let said : (result : Result (Unit {0}) TalkFault) × Talks (tail_turns (tail cut.fault)) there result last = subst (λ (r : Option Rest). LeftBy cut.fault r there last) none left in
+      all_done [] (tail_turns (tail cut.fault)) there there last.link (talked_none there) tt tt
+      (goes_tail (tail_turns (tail cut.fault)) there.link last.link (fronted paced (tail_turns (tail cut.fault)) there last said.0 said.1))

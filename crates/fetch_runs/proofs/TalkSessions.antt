@@ -1,0 +1,115 @@
+-- What each session said and read, as the law over runs takes it.
+use Rattle.std.proofs.Common.{◌≡◌, ◌≤◌, inl, inr, ◌⊎◌, ℕ, List, [], ◌∷◌, ◌++◌, true, length, Option, None, Some, Result, Ok, Err, refl, sym, ap, subst, ◌∙◌, append_assoc}
+use Rattle.std.specs.Prelude.{IsTrue}
+use Rattle.std.specs.String.{string_bytes}
+use Rattle.std.specs.List.{flat_map, AllByRecursion}
+use Rattle.std.proofs.lemmas.List.{append-nil, map-append}
+use Rattle.pop3_wire.specs.declared.command.Command.{Command}
+use Rattle.pop3_wire.specs.Honest.{Asked}
+use Rattle.pop3_wire.specs.Link.{Link}
+use Rattle.pop3_wire.specs.Place.{Place, at}
+use Rattle.pop3_wire.specs.Reading.{WholeReply}
+use Rattle.pop3_client.specs.declared.fault.Fault.{Fault as TalkFault}
+use Rattle.pop3_client.specs.Turns.{Turn}
+use Rattle.pop3_client.specs.Conversation.{ConversationsArePaced, Talked, Stopped, Talks}
+use Rattle.mail_terms.specs.Credential.{is_credential}
+use Rattle.mail_terms.specs.Listing.{Item, Joins}
+use Rattle.mail_terms.specs.declared.listing.UidRow.{UidRow}
+use Rattle.mail_terms.specs.declared.listing.ScanRow.{ScanRow}
+use Rattle.fetch_rules.specs.Record.{Row}
+use Rattle.rc_file.specs.Settings.{IsValid}
+use Rattle.rc_file.specs.declared.settings.Settings.{Settings}
+use Rattle.mail_store.specs.Maildir.{Maildir}
+use Rattle.mail_store.specs.FlatFile.{Stored}
+use Rattle.run_law.specs.Plans.{FrontsAreAsked}
+use Rattle.fetch_session.specs.declared.fault.Cut.{Cut}
+use Rattle.fetch_session.specs.declared.fault.Fault.{Fault}
+use Rattle.fetch_session.specs.declared.report.Report.{Report}
+use Rattle.fetch_session.specs.declared.report.ReportLine.{ReportLine}
+use Rattle.fetch_session.specs.Faults.{fault_of, cut_of}
+use Rattle.fetch_session.specs.Openings.{opening, Opened, Enters}
+use Rattle.fetch_session.specs.Tasks.{Task, stores, Done, task_in, tasks_of}
+use Rattle.fetch_session.specs.Tails.{tail, Left, turns_in as tail_turns}
+use Rattle.fetch_session.specs.Scenes.{Scene, scene, Stops, Fell, Does}
+use Rattle.fetch_session.specs.Plans.{tasks_ahead, Unprepared, Carried, Carries}
+use Rattle.fetch_session.specs.Sessions.{Kept, Noted, Dealt, Proceeds, Leaves, Session}
+use Rattle.fetch_runs.proofs.Courses.{Course, course, Way, Idle, Deals, stored_done, course_stopped, course_does, course_carried, course_cut, course_carries, course_dealt, way_proceeded, way_of, begun_of, IsDeleted}
+use Rattle.fetch_runs.proofs.TalkCommands.{all_front}
+use Rattle.fetch_runs.proofs.TalkReplies.{IsPlain}
+use Rattle.fetch_runs.proofs.TalkTasks.{plain_ahead}
+use Rattle.fetch_runs.proofs.TalkCourses.{Took, took_stopped, took_all, took_nothing}
+use Rattle.fetch_runs.proofs.TalkOpenings.{replied, few_items}
+use Rattle.fetch_runs.proofs.TalkSpeech.{IsTail, is_tail, silent, Speaks, spoken}
+
+-- the turns behind a session up to its QUIT, or to where it was cut
+abbrev pub tail_for : Result (Unit {0}) Cut → List Turn
+tail_for (Ok done) = []
+tail_for (Err cut) = tail_turns (tail cut.fault)
+
+pub is_tail_for : (result : Result (Unit {0}) Cut) → IsTail (tail_for result)
+is_tail_for (Ok done) = silent
+is_tail_for (Err cut) = is_tail cut.fault
+
+-- a course of these messages is a front of these tasks
+abbrev pub Ahead : List Item → List Task → Course → Type 0
+Ahead items tasks c = (later : List Task) × (c.items ≡ items) × (tasks ≡ begun_of c ++ later)
+
+ahead_stopped : (account : List ℕ) (items : List Item) (tasks later : List Task) (dones : List Done) (next : Task) (mid new : Scene) (cut : Cut) → tasks ≡ tasks_of dones ++ (next ∷ later)
+    → (stops : Stops account next mid cut new) → Ahead items tasks (course_stopped account items dones next mid new cut stops)
+ahead_stopped account items tasks later dones next mid new cut split (inl broken) = (later, refl, split ∙ sym (append_assoc (tasks_of dones) (next ∷ []) later))
+ahead_stopped account items tasks later dones next mid new cut split (inr (inl refused)) = (later, refl, split ∙ sym (append_assoc (tasks_of dones) (next ∷ []) later))
+ahead_stopped account items tasks later dones next mid new cut split (inr (inr unsaved)) = (
+  later,
+  refl,
+  split ∙ ap (λ (t : Task). tasks_of dones ++ t ∷ later) unsaved.is ∙ sym (append_assoc (tasks_of dones) (stores unsaved.number unsaved.uid ∷ []) later)
+      ∙ ap (λ (ts : List Task). ts ++ later) (sym (map-append task_in dones (stored_done unsaved.number unsaved.uid unsaved.reply ∷ [])) ∙ sym (append-nil (tasks_of (dones ++ stored_done unsaved.number unsaved.uid unsaved.reply ∷ [])))),
+)
+
+ahead_does : (account : List ℕ) (items : List Item) (tasks : List Task) (old new : Scene) (result : Result (Unit {0}) Cut) → (does : Does account tasks old result new)
+    → Ahead items tasks (course_does account items tasks old new result does)
+ahead_does account items tasks old new (Ok done) went = ([], refl, went.all ∙ sym (append-nil (tasks_of went.dones)) ∙ sym (append-nil (tasks_of went.dones ++ [])))
+ahead_does account items tasks old new (Err cut) fell = ahead_stopped account items tasks fell.later fell.dones fell.next fell.mid new cut fell.split fell.stops
+
+-- what the link gained by a course that is a front of the planned tasks
+pub record Dealing (settings : Settings) (account : List ℕ) (items : List Item) (now : ℕ) (maildir : Maildir) (c : Course) (start : Place) (turns : List Turn) (link : Link) : Type 0 where
+  pub rows : List Row
+  pub ahead : Ahead items (tasks_ahead settings account items now maildir rows) c
+  pub took : Took c start turns link
+
+module _ (paced : ConversationsArePaced) where
+  took_does : (account : List ℕ) (items : List Item) (tasks : List Task) (old new : Scene) (result : Result (Unit {0}) Cut) (link : Link) → (does : Does account tasks old result new)
+      → AllByRecursion IsPlain tasks → Leaves result new.place link → Took (course_does account items tasks old new result does) old.place (tail_for result) link
+  took_does account items tasks old new (Ok done) link went plain leaves =
+      subst (λ (l : Link). Took (course items went.dones [] []) old.place [] l) (sym leaves)
+      (took_all paced items account went.dones [] old new went.went (subst (AllByRecursion IsPlain) went.all plain))
+  took_does account items tasks old new (Err cut) link fell plain leaves =
+      subst (λ (l : Link). Took (course_stopped account items fell.dones fell.next fell.mid new cut fell.stops) old.place (tail_turns (tail cut.fault)) l) (sym leaves.2)
+      (took_stopped paced items account fell.dones fell.next old fell.mid new cut leaves.0 fell.went
+      (all_front IsPlain (tasks_of fell.dones ++ fell.next ∷ []) fell.later
+      (subst (AllByRecursion IsPlain) (fell.split ∙ sym (append_assoc (tasks_of fell.dones) (fell.next ∷ []) fell.later)) plain)) fell.stops leaves.1)
+
+  module _ (settings : Settings) (account : List ℕ) (items : List Item) (now : ℕ) (place : Place) (maildir : Maildir) (file : Stored) (lines : List ReportLine) (few : length items ≤ 100000) where
+    dealing_carried : (result : Result (Unit {0}) Cut) (new : Scene) (skipped : ℕ) (link : Link) → (is : Carried settings account items now place maildir file lines result new skipped)
+        → Leaves result new.place link → Dealing settings account items now maildir (course_carried settings account items now place maildir file lines result new skipped is) place (tail_for result) link
+    dealing_carried result new skipped link is leaves = record {
+      rows = is.mid.rows;
+      ahead = ahead_does account items (tasks_ahead settings account items now maildir is.mid.rows) is.mid new result is.does;
+      took = subst (λ (p : Place). Took (course_carried settings account items now place maildir file lines result new skipped is) p (tail_for result) link) is.prepared.place_is
+          (took_does account items (tasks_ahead settings account items now maildir is.mid.rows) is.mid new result link is.does (plain_ahead settings account items now maildir is.mid.rows few) leaves);
+    }
+
+    dealing_unprepared : (cut : Cut) (new : Scene) (link : Link) → Unprepared account items now place maildir file lines cut new → Leaves (Err cut) new.place link
+        → Dealing settings account items now maildir (course items [] [] []) place (tail_turns (tail cut.fault)) link
+    dealing_unprepared cut new link is leaves = record {
+      rows = [];
+      ahead = (tasks_ahead settings account items now maildir [], refl, refl);
+      took = subst (λ (l : Link). Took (course items [] [] []) place (tail_turns (tail cut.fault)) l) (sym leaves.2)
+          (took_nothing paced items cut place leaves.0 is.none (subst (λ (p : Place). Left cut p leaves.0) is.place_is leaves.1));
+    }
+
+    pub dealing : (result : Result (Unit {0}) Cut) (place' : Place) (maildir' : Maildir) (file' : Stored) (lines' : List ReportLine) (skipped : ℕ) (link : Link)
+        → (is : Carries settings account items now place maildir file lines result place' maildir' file' lines' skipped) → Leaves result place' link
+        → Dealing settings account items now maildir (course_carries settings account items now place maildir file lines result place' maildir' file' lines' skipped is) place (tail_for result) link
+    dealing (Ok done) place' maildir' file' lines' skipped link is leaves = dealing_carried (Ok done) (scene place' maildir' file' is.0 lines') skipped link is.1 leaves
+    dealing (Err cut) place' maildir' file' lines' skipped link (rows, inl (none, unprepared)) leaves = dealing_unprepared cut (scene place' maildir' file' rows lines') link unprepared leaves
+    dealing (Err cut) place' maildir' file' lines' skipped link (rows, inr is) leaves = dealing_carried (Err cut) (scene place' maildir' file' rows lines') skipped link is leaves

@@ -1,0 +1,162 @@
+-- What a session with a joined listing said and read, as the law over runs takes it.
+use Rattle.std.proofs.Common.{◌≡◌, inl, inr, ◌⊎◌, ℕ, List, [], ◌∷◌, ◌++◌, true, length, Option, None, Some, refl, sym, ap, subst, ◌∙◌, append_assoc}
+use Rattle.std.specs.List.{flat_map, AllByRecursion, AllZip}
+use Rattle.std.proofs.lemmas.List.{append-nil}
+use Rattle.pop3_wire.specs.declared.command.Command.{Command}
+use Rattle.pop3_wire.specs.declared.command.Command.TheVariants.{User, Pass, Stat, UidlAll, ListAll}
+use Rattle.pop3_wire.specs.Line.{ended}
+use Rattle.pop3_wire.specs.Link.{Link}
+use Rattle.pop3_wire.specs.Place.{Place, at}
+use Rattle.pop3_wire.specs.Reading.{WholeReply, body_bytes, reply_bytes}
+use Rattle.mail_terms.specs.Credential.{is_credential}
+use Rattle.mail_terms.specs.Listing.{Joins}
+use Rattle.mail_terms.specs.declared.listing.UidRow.{UidRow}
+use Rattle.mail_terms.specs.declared.listing.ScanRow.{ScanRow}
+use Rattle.pop3_client.specs.Turns.{Turn, quit, rset, IsGood}
+use Rattle.run_law.specs.Plans.{FrontsAreAsked}
+use Rattle.run_law.specs.Readings.{AreGood, Talked as IsTalked, IsListed, Retrieves}
+use Rattle.fetch_session.specs.Openings.{opening, Opened}
+use Rattle.fetch_session.specs.Tasks.{Task, turns_in}
+use Rattle.pop3_client.specs.declared.fault.Asked.TheVariants.{Greeting as ByGreeting, User as ByUser, Pass as ByPass, Stat as ByStat, Uidl as ByUidl, List as ByList, Retr as ByRetr, Dele as ByDele, Quit as ByQuit}
+use Rattle.fetch_session.specs.declared.fault.Fault.{Fault}
+use Rattle.fetch_session.specs.declared.fault.Fault.TheVariants.{ConnectionEnded, ReadFailed, WriteFailed, ReplyTooLong, BadReply, Refused, BadListing, ListingsDisagree, TooMany, TextTooLong, StoreRefused, SeenRefused, NoMemory, BadSeen}
+use Rattle.fetch_session.specs.Tails.{tail, turns_in as tail_turns}
+use Rattle.fetch_session.proofs.TurnLemmas.{talked_on}
+use Rattle.fetch_runs.specs.Conversations.{Conversation}
+use Rattle.fetch_runs.proofs.Courses.{Course, found_of, begun_of, IsDeleted}
+use Rattle.fetch_runs.proofs.TalkParts.{conversation}
+use Rattle.fetch_runs.proofs.TalkCommands.{commands_in, CanBeSaid, Commanded, commanded, all_append, all_front, all_back}
+use Rattle.fetch_runs.proofs.TalkReplies.{IsCommand, IsPlain, reply_read, replies_read}
+use Rattle.fetch_runs.proofs.TalkTasks.{said_tasks, commands_tasks, commands_split, deleted_in}
+use Rattle.fetch_runs.proofs.TalkCourses.{Took}
+use Rattle.fetch_runs.proofs.TalkOpenings.{Replied, replied, no_body, said_opening, listed}
+
+pub record Speaks (c : Course) (sent got : List ℕ) : Type 0 where
+  pub name : List ℕ
+  pub word : List ℕ
+  pub more : List Command
+  pub user : WholeReply
+  pub pass : WholeReply
+  pub stat : WholeReply
+  pub uidl : WholeReply
+  pub list : WholeReply
+  pub replies : List WholeReply
+  pub talked : IsTalked (User name ∷ Pass word ∷ Stat ∷ UidlAll ∷ ListAll ∷ more) (user ∷ pass ∷ stat ∷ uidl ∷ list ∷ replies) sent got
+  pub listed : IsListed stat uidl list c.items
+  pub retrieves : Retrieves (User name ∷ Pass word ∷ Stat ∷ UidlAll ∷ ListAll ∷ more) (user ∷ pass ∷ stat ∷ uidl ∷ list ∷ replies) (found_of c)
+  pub deletes : AllByRecursion (IsDeleted (begun_of c)) (User name ∷ Pass word ∷ Stat ∷ UidlAll ∷ ListAll ∷ more)
+
+-- the turns behind a fault
+pub data IsTail : List Turn → Type 0 where
+  silent : IsTail []
+  leaves : IsTail (quit ∷ [])
+  undoes : IsTail (rset ∷ quit ∷ [])
+
+pub is_tail : (fault : Fault) → IsTail (tail_turns (tail fault))
+is_tail ConnectionEnded = silent
+is_tail ReadFailed = silent
+is_tail WriteFailed = silent
+is_tail ReplyTooLong = silent
+is_tail BadReply = silent
+is_tail (Refused ByGreeting) = leaves
+is_tail (Refused ByUser) = leaves
+is_tail (Refused ByPass) = leaves
+is_tail (Refused ByStat) = leaves
+is_tail (Refused ByUidl) = leaves
+is_tail (Refused ByList) = leaves
+is_tail (Refused (ByRetr number)) = leaves
+is_tail (Refused (ByDele number)) = leaves
+is_tail (Refused ByQuit) = silent
+is_tail BadListing = silent
+is_tail ListingsDisagree = silent
+is_tail TooMany = silent
+is_tail TextTooLong = silent
+is_tail (StoreRefused why) = undoes
+is_tail SeenRefused = undoes
+is_tail NoMemory = silent
+is_tail (BadSeen line) = undoes
+
+pub said_tail : (turns : List Turn) → IsTail turns → AllByRecursion CanBeSaid turns
+said_tail turns silent = tt
+said_tail turns leaves = ((refl, tt), tt)
+said_tail turns undoes = ((refl, tt), ((refl, tt), tt))
+
+pub undeleted_tail : (tasks : List Task) (turns : List Turn) → IsTail turns → AllByRecursion (IsDeleted tasks) (commands_in turns)
+undeleted_tail tasks turns silent = tt
+undeleted_tail tasks turns leaves = (tt, tt)
+undeleted_tail tasks turns undoes = (tt, (tt, tt))
+
+-- the commands of a tail are no DELE, nor is one that isn't a task's
+pub undeleted : (tasks : List Task) (done begun turns : List Turn) (sent : List ℕ) → IsTail turns → (c : Commanded done begun turns sent)
+    → AllByRecursion (IsDeleted tasks) (commands_in done ++ commands_in begun) → AllByRecursion (IsDeleted tasks) (commands_in done ++ (c.ahead ++ c.ends))
+undeleted tasks done begun turns sent kind c all =
+    all_append (IsDeleted tasks) (commands_in done) (c.ahead ++ c.ends) (all_front (IsDeleted tasks) (commands_in done) (commands_in begun) all)
+    (all_append (IsDeleted tasks) c.ahead c.ends
+    (all_front (IsDeleted tasks) c.ahead c.unsaid (subst (AllByRecursion (IsDeleted tasks)) c.of_begun (all_back (IsDeleted tasks) (commands_in done) (commands_in begun) all)))
+    (all_front (IsDeleted tasks) c.ends c.unended (subst (AllByRecursion (IsDeleted tasks)) c.of_tail (undeleted_tail tasks turns kind))))
+
+module _ (law : FrontsAreAsked) (name word : List ℕ) (named' : is_credential name ≡ true) (worded : is_credential word ≡ true) where
+  speaks : (c : Course) (count : ℕ) (uids : List UidRow) (sizes : List ScanRow) (start mid : Place) (turns : List Turn) (kind : IsTail turns) (link : Link) (opened : Opened name word start mid count uids sizes)
+      → Joins count uids sizes c.items → AllByRecursion IsPlain (begun_of c) → (took : Took c mid turns link) → (r : Replied name word opened.welcome opened.counted opened.named opened.sized)
+      → (sent got : List ℕ) → Conversation (opening name word ++ took.done) ((opened.welcome ++ opened.counted ∷ opened.named ∷ opened.sized ∷ []) ++ took.replies) took.begun turns sent got
+      → Speaks c sent got
+  speaks c count uids sizes start mid turns kind link opened joins plain took r sent got said = record {
+    name = name;
+    word = word;
+    more = commands_in took.done ++ (whole.ahead ++ whole.ends);
+    user = r.to_user;
+    pass = r.to_pass;
+    stat = opened.counted;
+    uidl = opened.named;
+    list = opened.sized;
+    replies = took.replies;
+    talked = record {
+      asked = whole.asked;
+      hello = r.hello.first;
+      line = r.good.0.line;
+      good = (reply_read (User name) r.to_user r.good.1.0, (reply_read (Pass word) r.to_pass r.good.1.1.0, (reply_read Stat opened.counted r.good.1.1.1.0,
+          (reply_read UidlAll opened.named r.good.1.1.1.1.0, (reply_read ListAll opened.sized r.good.1.1.1.1.1.0, later)))));
+      rest = said.rest;
+      whole = said.heard ∙ ap (λ (ws : List WholeReply). flat_map reply_bytes ((ws ++ opened.counted ∷ opened.named ∷ opened.sized ∷ []) ++ took.replies) ++ said.rest) r.is
+          ∙ append_assoc (reply_bytes r.hello) (flat_map reply_bytes behind) said.rest
+          ∙ ap (λ (b : List ℕ). b ++ (flat_map reply_bytes behind ++ said.rest)) greeted;
+    };
+    listed = listed name word start mid count uids sizes c.items opened joins;
+    retrieves = took.read (whole.ahead ++ whole.ends);
+    deletes = (tt, (tt, (tt, (tt, (tt, undeleted_here)))));
+  }
+    where
+      behind : List WholeReply
+      behind = r.to_user ∷ r.to_pass ∷ opened.counted ∷ opened.named ∷ opened.sized ∷ took.replies
+
+      greeted : reply_bytes r.hello ≡ ended r.hello.first
+      greeted = ap (λ (b : Option (List (List ℕ))). ended r.hello.first ++ body_bytes b) (no_body r.hello r.good.0) ∙ append-nil (ended r.hello.first)
+
+      can : AllByRecursion CanBeSaid (took.done ++ took.begun)
+      can = subst (AllByRecursion CanBeSaid) took.all (said_tasks (begun_of c) plain)
+
+      whole : Commanded (opening name word ++ took.done) took.begun turns sent
+      whole = commanded law (opening name word ++ took.done) ((opened.welcome ++ opened.counted ∷ opened.named ∷ opened.sized ∷ []) ++ took.replies) took.begun turns sent got
+          (all_append CanBeSaid (opening name word) took.done (said_opening name word named' worded) (all_front CanBeSaid took.done took.begun can))
+          (all_back CanBeSaid took.done took.begun can) (said_tail turns kind) said
+
+      deleted : AllByRecursion (IsDeleted (begun_of c)) (commands_in took.done ++ commands_in took.begun)
+      deleted = subst (AllByRecursion (IsDeleted (begun_of c))) (ap commands_in took.all ∙ commands_split took.done took.begun) (deleted_in [] (begun_of c) plain)
+
+      later : AreGood (commands_in took.done ++ (whole.ahead ++ whole.ends)) took.replies
+      later = replies_read took.done took.replies (whole.ahead ++ whole.ends) (all_front IsCommand took.done took.begun (subst (AllByRecursion IsCommand) took.all (commands_tasks (begun_of c) plain))) took.talked.good
+
+      undeleted_here : AllByRecursion (IsDeleted (begun_of c)) (commands_in took.done ++ (whole.ahead ++ whole.ends))
+      undeleted_here = (undeleted (begun_of c) (opening name word ++ took.done) took.begun turns sent kind whole (tt, (tt, (tt, (tt, (tt, deleted)))))).1.1.1.1.1
+
+  -- a session that joined its listing
+  pub spoken : (c : Course) (count : ℕ) (uids : List UidRow) (sizes : List ScanRow) (start mid : Place) (turns : List Turn) (kind : IsTail turns) (link : Link) → start.waiting ≡ []
+      → (opened : Opened name word start mid count uids sizes) → Joins count uids sizes c.items → AllByRecursion IsPlain (begun_of c) → (took : Took c mid turns link)
+      → (sent got : List ℕ) × (link.sent ≡ start.link.sent ++ sent) × (link.got ≡ start.link.got ++ got) × Speaks c sent got
+      × Conversation (opening name word ++ took.done) ((opened.welcome ++ opened.counted ∷ opened.named ∷ opened.sized ∷ []) ++ took.replies) took.begun turns sent got
+  spoken c count uids sizes start mid turns kind link none opened joins plain took =
+      let first = opened.welcome ++ opened.counted ∷ opened.named ∷ opened.sized ∷ [] in
+      let r = replied name word opened.welcome opened.counted opened.named opened.sized opened.talked.good in
+      let is = conversation (opening name word ++ took.done) (first ++ took.replies) took.begun turns start took.there link none
+      (talked_on (opening name word) took.done first took.replies start mid took.there opened.talked took.talked) took.goes in
+      (is.0, is.1, is.2, is.3, speaks c count uids sizes start mid turns kind link opened joins plain took r is.0 is.1 is.4, is.4)
