@@ -48,7 +48,8 @@ test: all $(watched)
 
 bench: $(benches)
 
-bench-getmail: getmail
+bench-getmail: getmail popd
+	@python3 bench/rehearsal.py
 	@python3 bench/getmail.py
 
 bench-popd: popd
@@ -71,18 +72,20 @@ PREFIX ?= /usr/local
 bindir := $(DESTDIR)$(PREFIX)/bin
 mandir := $(DESTDIR)$(PREFIX)/share/man
 completions := $(DESTDIR)$(PREFIX)/share
+# Where a man page goes: getmail.1 to man1/getmail.1.
+place_of = $(mandir)/man$(patsubst .%,%,$(suffix $(1)))/$(notdir $(1))
+pages := $(wildcard man/*)
 
 install: all
-	install -d $(bindir) $(mandir)/man1 $(mandir)/man5
+	install -d $(bindir)
 	install -m 755 bin/getmail bin/popd $(bindir)
-	install -m 644 man/getmail.1 $(mandir)/man1
-	install -m 644 man/getmailrc.5 $(mandir)/man5
+	$(foreach page,$(pages),install -D -m 644 $(page) $(call place_of,$(page)) &&) true
 	install -D -m 644 completions/getmail.bash $(completions)/bash-completion/completions/getmail
 	install -D -m 644 completions/_getmail $(completions)/zsh/site-functions/_getmail
 	install -D -m 644 completions/getmail.fish $(completions)/fish/vendor_completions.d/getmail.fish
 
 uninstall:
-	rm -f $(bindir)/getmail $(bindir)/popd $(mandir)/man1/getmail.1 $(mandir)/man5/getmailrc.5
+	rm -f $(bindir)/getmail $(bindir)/popd $(foreach page,$(pages),$(call place_of,$(page)))
 	rm -f $(completions)/bash-completion/completions/getmail $(completions)/zsh/site-functions/_getmail
 	rm -f $(completions)/fish/vendor_completions.d/getmail.fish
 

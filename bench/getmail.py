@@ -1,64 +1,232 @@
 #!/usr/bin/env python3
-"""Benchmark of `getmail --rehearse` over one message of 64 MiB, beside `tr -d '\\r'` over the same bytes.
+"""Benchmark of `getmail` over loopback, into a Maildir of the working folder's file system.
 
-Three messages: many short lines, one long line, lines that all begin with a dot. For each, in one run: octets a second
-of both programs and their ratio, the best of some turns taken one after the other, the ratio of their processor times,
-which other work on the machine moves less, and the peak of memory as a multiple of the message. To be reached: half the
-speed of `tr`, and memory of four times the message.
+`popd` serves 2,000 messages of 2 KB, 20 of 5 MB and one of 100 MB; `getmail` fetches them, and so does a plain program
+in C (fetch.c) that sends the same commands and makes the same writes, flushes and renames. For both: messages and octets
+a second, processor time, and the peak of memory, each the best of some turns taken one after the other. To be reached: at
+most 1.5 of the plain program's processor time, and 8 MiB of memory for messages of any size.
+
+Then a poll, where 20,000 messages are known and nothing is new: those that the record alone knows, and those that
+stand in the Maildir too. To be reached: 30 ms of processor time, and no faster growth than n log n from 5,000 on.
 """
 
+import contextlib
+import hashlib
+import math
+import os
+import shutil
+import socket
+import subprocess
+import sys
 import tempfile
+import threading
+import time
+from dataclasses import dataclass
 from pathlib import Path
 
 import measure
+from harness import kernel
+from harness.kernel import LOOPBACK
 
-MESSAGE = 64 * measure.MEBIBYTE
-TURNS = 9
-LEAST_RATIO = 0.5
-MOST_MEMORY = 4
+TURNS = 5
+SECONDS = 120
+LETTER_LINE = b"A line of a common length, as a letter to somebody has them.\n"
+MOST_RATIO = 1.5
+MOST_MEMORY = 8 * measure.MEBIBYTE
+FEW, MANY = 5_000, 20_000
+MOST_POLL = 0.030
+SHAPES = (("2,000 of 2 KB", 2000, 2_000), ("20 of 5 MB", 20, 5_000_000), ("one of 100 MB", 1, 100_000_000))
 
-SHAPES = (("short lines", b"A line of a common length, as a letter to somebody has them.\r\n"),
-          ("one long line", b"x" * 64),
-          ("lines with a dot", b"..\r\n"))
+RC = """\
+[retriever]
+type = SimplePOP3Retriever
+server = {server}
+port = {port}
+username = u
+password = p
+
+[destination]
+type = Maildir
+path = {maildir}/
+
+[options]
+read_all = false
+"""
 
 
-def write_conversation(path, piece):
-    """Writes what a server says that gives one message made of `piece`, and answers the message's length there."""
-    block = piece * (measure.MEBIBYTE // len(piece))
-    blocks = MESSAGE // len(block)
-    with open(path, "wb") as conversation:
-        conversation.write(b"+OK hi\r\n+OK\r\n+OK\r\n+OK 1 %d\r\n" % MESSAGE)
-        conversation.write(b"+OK\r\n1 a1\r\n.\r\n+OK\r\n1 %d\r\n.\r\n+OK\r\n" % MESSAGE)
-        for _ in range(blocks):
-            conversation.write(block)
-        conversation.write((b"" if piece.endswith(b"\r\n") else b"\r\n") + b".\r\n+OK bye\r\n")
-    return blocks * len(block)
+@dataclass(frozen=True)
+class Cost:
+    """The wall time of one run and its processor time in seconds, and its peak of memory in octets."""
+
+    seconds: float
+    processor: float
+    memory: int
 
 
-def measure_shape(name, piece, folder):
-    """Measures one message and prints its line."""
-    conversation = Path(folder) / "conversation"
-    length = write_conversation(conversation, piece)
+def cost_of(words):
+    """What one run of a program costs.
+
+    Its peak is asked for while it runs, every few milliseconds: that which the kernel tells at the end isn't below this
+    process's own size, which a child has at first.
+    """
+    begun = time.perf_counter()
+    process = subprocess.Popen(words)
+    memory, ended = 0, 0
+    while not ended:
+        with contextlib.suppress(OSError, IndexError):
+            memory = kernel.peak_of_memory(process.pid)
+        time.sleep(0.002)
+        ended, status, usage = os.wait4(process.pid, os.WNOHANG)
+    seconds = time.perf_counter() - begun
+    process.returncode = os.waitstatus_to_exitcode(status)
+    if process.returncode != 0:
+        sys.exit(f"{' '.join(map(str, words))} ended with {process.returncode}")
+    return Cost(seconds, usage.ru_utime + usage.ru_stime, memory)
+
+
+def make_maildir(path):
+    """An empty Maildir in place of what stands there."""
+    shutil.rmtree(path, ignore_errors=True)
+    for part in ("tmp", "new", "cur"):
+        (path / part).mkdir(parents=True)
+    return path
+
+
+def make_served(folder, count, octets):
+    """A Maildir of `count` messages of about so many octets each, and a password beside it."""
+    maildir = make_maildir(folder / "served")
+    (folder / "password").write_bytes(b"p\n")
+    for number in range(count):
+        (maildir / "new" / f"{number:06}").write_bytes(LETTER_LINE * (octets // len(LETTER_LINE)))
+
+
+class Service:
+    """`popd` over the served Maildir, for as many connections as are asked for."""
+
+    def __init__(self, folder):
+        self.folder = folder
+
+    def __enter__(self):
+        self.port = kernel.free_port()
+        self.process = subprocess.Popen([measure.program("popd"), "--listen", f"{LOOPBACK}:{self.port}", "u",
+                                         self.folder / "password", self.folder / "served"])
+        deadline = time.monotonic() + SECONDS
+        while not kernel.listens(self.port):
+            if time.monotonic() > deadline or self.process.poll() is not None:
+                sys.exit("popd did not begin to listen")
+            time.sleep(0.005)
+        return self
+
+    def __exit__(self, *_):
+        self.process.kill()
+        self.process.wait()
+
+
+def account_at(folder, port):
+    """An account whose server is at the port, with nothing fetched yet; the words of a run."""
+    shutil.rmtree(folder / "account", ignore_errors=True)
+    (folder / "account").mkdir()
+    maildir = make_maildir(folder / "account" / "Maildir")
+    (folder / "account" / "getmailrc").write_text(RC.format(server=LOOPBACK, port=port, maildir=maildir))
+    return [measure.program("getmail"), "-q", "-g", folder / "account"]
+
+
+def fetch_with_plain(folder, port, plain):
+    """What it costs the plain program to fetch all messages."""
+    maildir = make_maildir(folder / "plain")
+    (folder / "record").unlink(missing_ok=True)
+    return cost_of([plain, str(port), maildir, folder / "record"])
+
+
+def fetched(maildir):
+    """How many messages a Maildir holds, and how many octets they have together."""
+    sizes = [entry.stat().st_size for entry in os.scandir(maildir / "new")]
+    return len(sizes), sum(sizes)
+
+
+def measure_shape(folder, plain, name, count, octets):
+    """Fetches so many messages of a size by both programs, in turns."""
+    make_served(folder, count, octets)
     ours, theirs = [], []
-    for _ in range(TURNS):
-        ours.append(measure.cost_of([measure.program("getmail"), "--rehearse"], conversation))
-        theirs.append(measure.cost_of(["tr", "-d", "\\r"], conversation))
-    fastest = min(cost.seconds for cost in ours)
-    fastest_tr = min(cost.seconds for cost in theirs)
-    ratio = fastest_tr / fastest
-    processor_ratio = min(cost.processor for cost in theirs) / min(cost.processor for cost in ours)
-    memory = max(cost.memory for cost in ours) / length
-    print(f"  {name:<17} {length / fastest / 1e6:6.0f} MB/s, tr {length / fastest_tr / 1e6:6.0f} MB/s, "
-          f"ratio {ratio:.2f} ({measure.verdict(ratio >= LEAST_RATIO)}), of processor time {processor_ratio:.2f}; "
-          f"memory {memory:.2f} of the message ({measure.verdict(memory <= MOST_MEMORY)})", flush=True)
+    with Service(folder) as service:
+        for _ in range(TURNS):
+            ours.append(cost_of(account_at(folder, service.port)))
+            theirs.append(fetch_with_plain(folder, service.port, plain))
+    total = fetched(folder / "account" / "Maildir")
+    if total != fetched(folder / "plain") or total[0] != count:
+        sys.exit(f"{name}: not all was fetched")
+    ratio = min(cost.processor for cost in ours) / min(cost.processor for cost in theirs)
+    memory = max(cost.memory for cost in ours)
+    for program, costs in (("getmail", ours), ("plain program", theirs)):
+        seconds = min(cost.seconds for cost in costs)
+        print(f"  {name:<14} {program:<14} {count / seconds:6.0f} messages/s, {total[1] / seconds / 1e6:6.1f} MB/s, "
+              f"processor time {min(cost.processor for cost in costs) * 1000:6.0f} ms")
+    print(f"  {name:<14} processor time {ratio:.2f} of the plain program's ({measure.verdict(ratio <= MOST_RATIO)}), "
+          f"peak of memory {memory / measure.MEBIBYTE:.1f} MiB ({measure.verdict(memory <= MOST_MEMORY)})", flush=True)
+
+
+def uid_of(number):
+    return b"uid-%032d" % number
+
+
+class Listings:
+    """A server that lists `count` messages, with replies made before, to one client after the other."""
+
+    def __init__(self, count):
+        numbers = range(1, count + 1)
+        self.replies = {
+            b"STAT": b"+OK %d %d\r\n" % (count, 1000 * count),
+            b"UIDL": b"+OK\r\n" + b"".join(b"%d %s\r\n" % (number, uid_of(number)) for number in numbers) + b".\r\n",
+            b"LIST": b"+OK\r\n" + b"".join(b"%d 1000\r\n" % number for number in numbers) + b".\r\n",
+        }
+        self.listener = socket.create_server((LOOPBACK, 0))
+        self.port = self.listener.getsockname()[1]
+        threading.Thread(target=self._serve, daemon=True).start()
+
+    def _serve(self):
+        while True:
+            client, _ = self.listener.accept()
+            with client, client.makefile("rb") as lines:
+                client.setsockopt(socket.IPPROTO_TCP, socket.TCP_NODELAY, 1)
+                client.sendall(b"+OK\r\n")
+                for line in lines:
+                    client.sendall(self.replies.get(line.strip(), b"+OK\r\n"))
+
+
+def poll(folder, count, is_held):
+    """The least processor time and the greatest peak of a poll with so many messages known."""
+    server = Listings(count)
+    words = account_at(folder, server.port)
+    digest = hashlib.sha256(f"{LOOPBACK}\0{server.port}\0u".encode()).hexdigest()
+    rows = b"".join(b"%s 1700000000 1\n" % uid_of(number) for number in range(1, count + 1))
+    (folder / "account" / f"seen-{digest}").write_bytes(b"getmail-seen 1\n" + rows)
+    for number in range(1, count + 1) if is_held else ():
+        (folder / "account" / "Maildir" / "cur" / f"{digest}.{uid_of(number).hex()}:2,S").touch()
+    costs = [cost_of(words) for _ in range(TURNS)]
+    return min(cost.processor for cost in costs), max(cost.memory for cost in costs)
+
+
+def measure_polls(folder, name, is_held):
+    """Polls where few and where many messages are known."""
+    few, _ = poll(folder, FEW, is_held)
+    many, memory = poll(folder, MANY, is_held)
+    allowed = MANY / FEW * math.log(MANY) / math.log(FEW)
+    print(f"  poll, {MANY:,} known {name}: processor time {many * 1000:.0f} ms ({measure.verdict(many <= MOST_POLL)}), "
+          f"{many / few:.1f} times that of {FEW:,} (n log n: {allowed:.1f}), peak of memory "
+          f"{memory / measure.MEBIBYTE:.1f} MiB", flush=True)
 
 
 def main():
-    print(f"getmail --rehearse, one message of {MESSAGE // measure.MEBIBYTE} MiB, best of {TURNS}; "
-          f"to be reached: ratio {LEAST_RATIO}, memory {MOST_MEMORY} times the message")
-    with tempfile.TemporaryDirectory() as folder:
-        for name, piece in SHAPES:
-            measure_shape(name, piece, folder)
+    print(f"getmail from popd, best of {TURNS}; to be reached: processor time {MOST_RATIO} of the plain program's, memory "
+          f"{MOST_MEMORY // measure.MEBIBYTE} MiB, a poll of {MANY:,} in {MOST_POLL * 1000:.0f} ms")
+    with tempfile.TemporaryDirectory(prefix="getmail-", dir=".") as name:
+        folder = Path(name).resolve()
+        plain = folder / "fetch"
+        subprocess.run(["cc", "-O2", "-o", plain, Path(__file__).with_name("fetch.c")], check=True)
+        for shape in SHAPES:
+            measure_shape(folder, plain, *shape)
+        measure_polls(folder, "by the record alone", False)
+        measure_polls(folder, "and held in the Maildir", True)
 
 
 if __name__ == "__main__":

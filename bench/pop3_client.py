@@ -10,8 +10,8 @@ memory. To be reached: half the speed of `tr`, and memory that doesn't grow with
 import tempfile
 from pathlib import Path
 
-import getmail
 import measure
+import rehearsal
 
 PROGRAM = measure.ROOT / "crates" / "client_bench" / "out" / "client_bench"
 TURNS = 5
@@ -31,7 +31,7 @@ def best_of(words, given):
 def measure_text(name, piece, folder):
     """Measures one text and prints its line."""
     conversation = Path(folder) / "conversation"
-    length = getmail.write_conversation(conversation, piece)
+    length = rehearsal.write_conversation(conversation, piece)
     ours, theirs = best_of([str(PROGRAM)], conversation), best_of(["tr", "-d", "\\r"], conversation)
     ratio = theirs.seconds / ours.seconds
     print(f"  {name:<17} {length / ours.seconds / 1e6:6.0f} MB/s, tr {length / theirs.seconds / 1e6:6.0f} MB/s, "
@@ -58,10 +58,10 @@ def measure_listing(rows, folder):
 
 
 def main():
-    print(f"pop3_client, one text of {getmail.MESSAGE // measure.MEBIBYTE} MiB, best of {TURNS}; to be reached: ratio "
+    print(f"pop3_client, one text of {rehearsal.MESSAGE // measure.MEBIBYTE} MiB, best of {TURNS}; to be reached: ratio "
           f"{LEAST_RATIO}, memory at most {MOST_MEMORY // measure.MEBIBYTE} MiB")
     with tempfile.TemporaryDirectory() as folder:
-        for name, piece in getmail.SHAPES:
+        for name, piece in rehearsal.SHAPES:
             measure_text(name, piece, folder)
         print("both listings, and as many empty texts")
         growth = measure_listing(MANY, folder) / measure_listing(FEW, folder) * FEW / MANY

@@ -6,6 +6,7 @@ marked messages at QUIT, as RFC 1939 has it.
 
 import socket
 import threading
+import time
 
 from harness import programs
 from harness.kernel import LOOPBACK
@@ -27,13 +28,17 @@ def size_of(text):
 
 
 class Server:
-    """The messages, as pairs of a unique-id and a text whose lines end in LF, and one session after the other."""
+    """The messages, as pairs of a unique-id and a text whose lines end in LF, and one session after the other.
+
+    With `pause` each octet comes alone, so many seconds after the one before.
+    """
 
     def __init__(self, messages, refuses=()):
         self.messages = list(messages)
         self.refuses = tuple(refuses)
         self.commands = []
         self.room = None
+        self.pause = None
         self.socket = socket.create_server((LOOPBACK, 0))
         self.socket.settimeout(programs.SECONDS)
         self.port = self.socket.getsockname()[1]
@@ -53,6 +58,11 @@ class Server:
         return thread
 
     def _say(self, octets):
+        if self.pause is not None:
+            for octet in octets:
+                time.sleep(self.pause)
+                self.client.sendall(bytes([octet]))
+            return
         if self.room is not None and self.room <= len(octets):
             self.client.sendall(octets[:self.room])
             raise Cut

@@ -49,6 +49,31 @@ class Sessions(Fetching):
         self.assertEqual(self.server.commands, LOGIN + ["RETR 1", "RETR 2", "RETR 3", "QUIT"])
         self.check_held(THREE)
 
+    def test_a_worked_report(self):
+        self.server.messages = [(b"a", b"one\n"), (b"b", b"two\n"), (b"c", b"three\n")]
+        self.account.rcfile.write_text(self.account.rcfile.read_text().replace("username = u", "username = fred"))
+        run = self.session()
+        self.check_good(run)
+        self.assertEqual(run.out.decode().splitlines(), [
+            f"SimplePOP3Retriever:fred@{LOOPBACK}:{self.server.port}:", "msg 1/3 (4 bytes) delivered",
+            "msg 2/3 (4 bytes) delivered", "msg 3/3 (6 bytes) delivered",
+            "3 messages (14 bytes) retrieved, 0 skipped, 0 deleted"])
+
+    def test_replies_that_come_before_they_are_asked_for(self):
+        with socket.create_server((LOOPBACK, 0)) as listener, Account(listener.getsockname()[1]) as account:
+            listener.settimeout(programs.SECONDS)
+            process = account.start("-q")
+            client, _ = listener.accept()
+            with client, client.makefile("rb") as commands:
+                client.sendall(b"+OK\r\n" * 3 + b"+OK 3 17\r\n+OK\r\n1 a\r\n2 b\r\n3 c\r\n.\r\n"
+                               b"+OK\r\n1 5\r\n2 5\r\n3 7\r\n.\r\n+OK\r\none\r\n.\r\n+OK\r\ntwo\r\n.\r\n"
+                               b"+OK\r\nthree\r\n.\r\n+OK\r\n")
+                told = process.communicate(timeout=programs.SECONDS)
+                self.assertEqual((process.returncode, told), (0, (b"", b"")))
+                asked = [line.decode().rstrip() for line in commands]
+            self.assertEqual(asked, LOGIN + ["RETR 1", "RETR 2", "RETR 3", "QUIT"])
+            self.assertEqual(account.held(), [(b"a", b"one\n"), (b"b", b"two\n"), (b"c", b"three\n")])
+
     def test_nothing_is_fetched_twice(self):
         self.session()
         run = self.session("-q")
@@ -175,6 +200,7 @@ class Floods(unittest.TestCase):
                 run = account.run("-q")
                 self.assertEqual((run.status, run.err), (1, line))
                 self.assertEqual(account.held(), [])
+                self.assertEqual(os.listdir(account.maildir / "tmp"), [])
             thread.join(programs.SECONDS)
 
     def test_a_greeting_that_never_ends(self):
@@ -182,6 +208,10 @@ class Floods(unittest.TestCase):
 
     def test_a_greeting_that_is_none(self):
         self.check_flood([b"HTTP/1.1 400 Bad Request\r\n"], b"getmail: reply not understood\n")
+
+    def test_a_message_that_never_ends(self):
+        opening = b"+OK\r\n" * 3 + b"+OK 1 5\r\n+OK\r\n1 a\r\n.\r\n+OK\r\n1 5\r\n.\r\n+OK\r\n"
+        self.check_flood([opening] + [b"a line\r\n" * 8000] * 4300, b"getmail: message too long\n")
 
     def test_a_listing_that_never_ends(self):
         opening = b"+OK\r\n" * 3 + b"+OK 1 5\r\n+OK\r\n"

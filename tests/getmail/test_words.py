@@ -7,6 +7,23 @@ from getmail.account import Account
 from harness import programs
 from harness.kernel import LOOPBACK
 
+WORKED_RC_FILE = """\
+[retriever]
+type = SimplePOP3Retriever
+server = mail.example.org
+username = fred
+password = secret
+
+[destination]
+type = Maildir
+path = ~/Maildir/
+
+[options]
+read_all = false
+message_log = ~/.getmail/log
+received = true
+"""
+
 
 class Words(unittest.TestCase):
     def test_other_words_are_mistakes(self):
@@ -96,6 +113,13 @@ class RcFile(unittest.TestCase):
         run = self.account.run()
         self.assertEqual(run.err, b"getmail: warning: line 14: options.message_log has no effect\n"
                                   b"getmail: warning: line 15: options.received has no effect\n" + self.refused.err)
+
+    def test_a_worked_rc_file(self):
+        """Its settings are taken, its two warnings told, and only then the flags are looked at."""
+        self.account.rcfile.write_text(WORKED_RC_FILE)
+        self.check_told(2, b"getmail: warning: line 13: options.message_log has no effect\n"
+                           b"getmail: warning: line 14: options.received has no effect\n"
+                           b"getmail: opposite flags\n", "-an")
 
     def test_no_folder_is_made(self):
         (self.account.maildir / "tmp").rmdir()

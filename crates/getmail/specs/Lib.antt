@@ -1,4 +1,6 @@
 pub mod CommandLine
 pub mod Failures
 pub mod Places
+pub mod Progress
 pub mod Rehearsal
+pub mod Telling

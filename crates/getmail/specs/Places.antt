@@ -1,6 +1,11 @@
 -- Paths of the program's files.
-use Rattle.std.specs.Prelude.{ℕ, Bool, ◌||◌, nat_eq, List, ◌++◌, codes, if◌then◌else◌}
+use Rattle.std.specs.Prelude.{◌≡◌, ℕ, Bool, ◌||◌, nat_eq, List, ◌++◌, drop, Option, Some, None, option_map, codes, if◌then◌else◌}
 use Rattle.std.specs.List.{starts_with, ends_with}
+use Rattle.std.specs.String.{string_bytes}
+use Rattle.rc_file.specs.Settings.{begins_at_home, destination_of, maildir}
+use Rattle.fetch_session.specs.Accounts.{digits_of}
+use Rattle.getmail.specs.declared.setup.Setup.{Setup}
+use Rattle.getmail.specs.declared.words.Words.{Words}
 
 -- the path of a file of a folder, with one '/' between them
 abbrev pub joined : List ℕ → List ℕ → List ℕ
@@ -9,3 +14,25 @@ joined folder file = if ends_with nat_eq folder (codes "/") then folder ++ file 
 -- the path is no name in the program's folder
 abbrev pub stands_alone : List ℕ → Bool
 stands_alone path = starts_with nat_eq path (codes "/") || starts_with nat_eq path (codes "~/")
+
+-- the path that is meant: one that begins with '~/' begins in the home
+abbrev pub whole_path : List ℕ → List ℕ → List ℕ
+whole_path home path = if begins_at_home path then home ++ drop 1 path else path
+
+-- the folder of the rc file and the record, as given, or where none is given
+abbrev pub folder_given : Option (List ℕ) → List ℕ
+folder_given (Some path) = path
+folder_given None = codes "~/.getmail"
+
+-- the record stands in the folder, under the account's digits
+abbrev pub record_path : List ℕ → Setup → List ℕ
+record_path folder setup = joined folder (codes "seen-" ++ digits_of setup.settings)
+
+-- a run's Maildir is the one of its settings, and its record stands in the folder that the words name
+pub record IsPlaced (words : Words) (setup : Setup) : Type 0 where
+  pub path : List ℕ
+  pub home : List ℕ
+  pub kind : destination_of setup.settings.dest ≡ maildir path
+  pub maildir_is : string_bytes setup.maildir ≡ whole_path home path
+  pub home_of_folder : List ℕ
+  pub record_is : string_bytes setup.record ≡ record_path (whole_path home_of_folder (folder_given (option_map string_bytes words.dir))) setup

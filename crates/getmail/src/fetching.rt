@@ -1,10 +1,13 @@
 //! One session over a link, and what is told of it.
-ghost use Rattle.std.specs.Prelude.{◌≡◌, ◌≤◌};
+ghost use Rattle.std.specs.Prelude.{◌≡◌, OnOk};
+ghost use Rattle.std.specs.Io.KnownBytes.{Appends};
 ghost use Rattle.fetch_session.specs.Accounts.{digits_of};
 ghost use Rattle.fetch_session.specs.Sessions.{Session, kept};
-ghost use Rattle.fetch_session.specs.declared.report.Outcome.TheVariants.{Ended};
+ghost use Rattle.fetch_session.specs.Texts.{report_text};
 ghost use Rattle.fetch_session.specs.declared.report.Report.{Report};
+ghost use Rattle.getmail.specs.Telling.{Tells, fault_line, outcome_line, status_of};
 
+use crate::shown_wire::ShownWire;
 use fetch_rules::Settings;
 use fetch_session::{Account, Fault, Outcome, Report, fault_text, report_text, session};
 use mail_store::{FlatFile, MaildirDisk};
@@ -13,49 +16,94 @@ use std::alloc::Global;
 use std::hash::BuildHasher;
 use std::io::{self, Write};
 
+/// What came of a session, and of telling it.
+#[derive(Drop)]
+pub struct Fetched {
+    /// How the session came out.
+    pub outcome: Outcome,
+    /// Whether the report was written.
+    pub report: io::Result<()>,
+    /// Whether the line of the fault, if there is one, was written.
+    pub fault: io::Result<()>,
+}
+
+impl Fetched {
+    /// The exit status: 0 where the session ended and the report was written, else 1. That a fault's
+    /// line can't be written changes nothing.
+    pub fn status(&self) -> u8
+        ensures { result ≡ status_of self.now }
+    {
+        match self.outcome {
+            Outcome::Ended => { if self.report.is_ok() { 0 } else { 1 } }
+            Outcome::Cut(_) => 1,
+        }
+    }
+}
+
 /// Writes the report.
 fn write_report<O: Write>(
     alloc: Global,
     report: &Report,
     settings: &Settings,
     out: &mut O,
-) -> io::Result<()> {
+) -> io::Result<()>
+    ensures { OnOk result (Appends (O.contents out.old) (O.contents out.new) (report_text report.now settings.now)) }
+{
     let text = report_text(alloc, report, settings)?;
     out.write_all(text.as_bytes())?;
     out.flush()
 }
 
 /// Writes a fault's line.
-fn write_fault<E: Write>(alloc: Global, fault: &Fault, err: &mut E) -> io::Result<()> {
+fn write_fault<E: Write>(alloc: Global, fault: &Fault, err: &mut E) -> io::Result<()>
+    ensures { OnOk result (Appends (E.contents err.old) (E.contents err.new) (fault_line fault.now)) }
+{
     let text = fault_text(alloc, fault)?;
     let line = format!(in alloc; "getmail: {text}\n")?;
     err.write_all(line.as_bytes())
 }
 
-/// Runs one session of the account over the link, writes the report to `out`, then the line of the
-/// fault that cut it, if one did, to `err`. It answers the status: 0 where the session ended and the
-/// report was written, else 1. A write that `out` refuses hides no fault's line, and one that `err`
-/// refuses changes nothing.
-pub fn fetch_into<W: Wire, D: MaildirDisk, F: FlatFile, H: BuildHasher, O: Write, E: Write>(
+/// Writes the line of the fault that cut a session, if one did.
+fn write_outcome<E: Write>(alloc: Global, outcome: &Outcome, err: &mut E) -> io::Result<()>
+    ensures { OnOk result (Appends (E.contents err.old) (E.contents err.new) (outcome_line outcome.now)) }
+{
+    match outcome {
+        Outcome::Ended => Ok(()),
+        Outcome::Cut(fault) => write_fault(alloc, fault, err),
+    }
+}
+
+/// Runs one session of the account over the link, wipes what was shown of it, and writes the report
+/// to `out`, then the line of the fault that cut it, if one did, to `err`, and nothing else to either.
+/// A write that `out` refuses hides no fault's line.
+pub fn fetch_into<
+    W: Wire,
+    S: Write,
+    D: MaildirDisk,
+    F: FlatFile,
+    H: BuildHasher,
+    O: Write,
+    E: Write,
+>(
     alloc: Global,
     account: &mut Account<D, F, H>,
-    wire: &mut W,
+    wire: &mut ShownWire<W, S>,
     now: u64,
     out: &mut O,
     err: &mut E,
-) -> u8
-    ensures within { result ≤ 1 }
+) -> Fetched
     ensures settings { account.new.settings ≡ account.old.settings }
-    ensures session { W.sound wire.new → D.sound account.new.disk → F.sound account.new.file
-        → (report : Report) × (result ≡ 0 → report.outcome ≡ Ended)
-        × Session account.old.settings (digits_of account.old.settings) now (W.seen wire.old) (kept (D.maildir account.old.disk) (F.stored account.old.file))
-        report (W.seen wire.new) (kept (D.maildir account.new.disk) (F.stored account.new.file)) }
+    ensures tells { (report : Report)
+        × Tells account.old.settings report result (O.contents out.old) (O.contents out.new) (E.contents err.old) (E.contents err.new)
+        × (W.sound wire.new.wire → D.sound account.new.disk → F.sound account.new.file
+        → Session account.old.settings (digits_of account.old.settings) now (W.seen wire.old.wire) (kept (D.maildir account.old.disk) (F.stored account.old.file))
+        report (W.seen wire.new.wire) (kept (D.maildir account.new.disk) (F.stored account.new.file))) }
 {
     let report = session(account, wire, now);
-    let written = write_report(alloc, &report, account.settings(), out);
-    if let Outcome::Cut(fault) = &report.outcome {
-        let _ = write_fault(alloc, fault, err);
-        return 1;
+    wire.wipe();
+    Fetched {
+        report: write_report(alloc, &report, account.settings(), out),
+        fault: write_outcome(alloc, &report.outcome, err),
+        outcome: report.outcome,
     }
-    if written.is_ok() { 0 } else { 1 }
 }

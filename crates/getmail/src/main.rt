@@ -7,8 +7,10 @@ mod connection;
 mod failure;
 mod fetching;
 mod place;
+mod progress;
 mod rehearsal;
 mod setup;
+mod shown_wire;
 mod transcript;
 mod words;
 
@@ -17,6 +19,7 @@ use crate::failure::{Failure, failure_of, tell};
 use crate::fetching::fetch_into;
 use crate::rehearsal::rehearse;
 use crate::setup::{Setup, set_up};
+use crate::shown_wire::ShownWire;
 use crate::words::{Words, WordsFault, command, read_words};
 use fetch_rules::RcFault;
 use fetch_session::{Account, Store};
@@ -24,7 +27,7 @@ use mail_store::{FolderMaildir, HostFile};
 use pop3_wire::StreamWire;
 use std::env;
 use std::hash::RandomState;
-use std::io::{self, ErrorKind};
+use std::io::{self, ErrorKind, IsTerminal};
 use std::process::ExitCode;
 use std::time::{SystemTime, UNIX_EPOCH};
 
@@ -56,7 +59,12 @@ fn fetch(rt: &HostRuntime, setup: Setup) -> u8
         Ok(stream) => stream,
         Err(failure) => return tell(rt, failure),
     };
-    let mut wire = StreamWire::new(&stream, &stream);
+    let screen = if settings.verbose > 0 && rt.stderr().is_terminal() {
+        Some(rt.stderr())
+    } else {
+        None
+    };
+    let mut wire = ShownWire::new(rt.alloc(), StreamWire::new(&stream, &stream), screen);
     let store = Store::Maildir(FolderMaildir::at(rt, maildir));
     let mut account = Account::new(
         rt.alloc(),
@@ -65,7 +73,7 @@ fn fetch(rt: &HostRuntime, setup: Setup) -> u8
         HostFile::at(rt, record),
         hasher,
     );
-    let status = fetch_into(
+    let fetched = fetch_into(
         rt.alloc(),
         &mut account,
         &mut wire,
@@ -75,7 +83,7 @@ fn fetch(rt: &HostRuntime, setup: Setup) -> u8
     );
     let (_settings, store, _record) = account.into_parts();
     let Store::Maildir(_maildir) = store;
-    status
+    fetched.status()
 }
 
 /// Does what the words ask for, and answers the status.

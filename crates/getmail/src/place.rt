@@ -1,7 +1,7 @@
 //! Where the rc file, the record and the destination stand.
-ghost use Rattle.std.specs.Prelude.{◌≡◌, IfOk};
+ghost use Rattle.std.specs.Prelude.{◌≡◌, ℕ, List, IfOk, option_map};
 ghost use Rattle.std.specs.String.{string_bytes};
-ghost use Rattle.getmail.specs.Places.{joined, stands_alone};
+ghost use Rattle.getmail.specs.Places.{folder_given, joined, stands_alone, whole_path};
 
 use crate::failure::Failure;
 use fetch_rules::full_path;
@@ -44,7 +44,9 @@ fn home<'a>(rt: &HostRuntime) -> Result<String, Failure<'a>> {
 
 /// A path, with the home in the place of a leading `~`. The home is looked up only where it is
 /// needed.
-pub fn whole_path<'a>(rt: &HostRuntime, path: &str) -> Result<String, Failure<'a>> {
+pub fn whole_path<'a>(rt: &HostRuntime, path: &str) -> Result<String, Failure<'a>>
+    ensures { IfOk result (λ whole. (home : List ℕ) × (string_bytes whole ≡ whole_path home path.now)) }
+{
     if path.as_bytes().starts_with(b"~/") {
         let home = home(rt)?;
         return Ok(full_path(rt.alloc(), path, home.as_str())?);
@@ -53,8 +55,13 @@ pub fn whole_path<'a>(rt: &HostRuntime, path: &str) -> Result<String, Failure<'a
 }
 
 /// The folder of the rc file and the record.
-pub fn folder<'a>(rt: &HostRuntime, given: Option<&str>) -> Result<String, Failure<'a>> {
-    whole_path(rt, given.unwrap_or(FOLDER))
+pub fn folder<'a>(rt: &HostRuntime, given: Option<&str>) -> Result<String, Failure<'a>>
+    ensures { IfOk result (λ folder. (home : List ℕ) × (string_bytes folder ≡ whole_path home (folder_given (option_map (λ text. text.now) given.entry)))) }
+{
+    match given {
+        Some(path) => whole_path(rt, path),
+        None => whole_path(rt, FOLDER),
+    }
 }
 
 /// The rc file, in the folder unless its path stands alone.

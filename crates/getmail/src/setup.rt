@@ -1,6 +1,9 @@
 //! What a run works with: the settings of the rc file, changed by the flags, and the paths.
-ghost use Rattle.std.specs.Prelude.{◌≡◌, IfOk};
+ghost use Rattle.std.specs.Prelude.{◌≡◌, ◌++◌, IfOk, codes};
+ghost use Rattle.std.specs.String.{string_bytes};
 ghost use Rattle.rc_file.specs.Settings.{IsValid};
+ghost use Rattle.fetch_session.specs.Accounts.{digits_of};
+ghost use Rattle.getmail.specs.Places.{IsPlaced, joined};
 
 use crate::failure::{Failure, failure_of};
 use crate::place::{folder, joined, rc_file, whole_path};
@@ -55,7 +58,9 @@ fn settings_of<'a>(rt: &HostRuntime, path: &str, words: &Words) -> Result<Settin
 }
 
 /// The path of the account's record in the folder.
-fn record_path(alloc: Global, folder: &str, settings: &Settings) -> Result<String, AllocError> {
+fn record_path(alloc: Global, folder: &str, settings: &Settings) -> Result<String, AllocError>
+    ensures { IfOk result (λ path. string_bytes path ≡ joined folder.now (codes "seen-" ++ digits_of settings.now)) }
+{
     let account = account_id(
         settings.server.as_str(),
         settings.port,
@@ -69,7 +74,8 @@ fn record_path(alloc: Global, folder: &str, settings: &Settings) -> Result<Strin
 /// What a run works with, or the first of: HOME is wanted and not set, the rc file can't be read or
 /// obeyed, the flags are opposite, the destination is of a kind that is not supported.
 pub fn set_up<'a>(rt: &HostRuntime, words: &Words) -> Result<Setup, Failure<'a>>
-    ensures { IfOk result (λ setup. IsValid setup.settings) }
+    ensures valid { IfOk result (λ setup. IsValid setup.settings) }
+    ensures placed { IfOk result (IsPlaced words.now) }
 {
     let folder = folder(rt, words.dir.as_deref())?;
     let path = rc_file(rt, folder.as_str(), words.rcfile.as_deref())?;

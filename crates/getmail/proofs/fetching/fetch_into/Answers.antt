@@ -1,14 +1,14 @@
-use Rattle.std.proofs.Common.{arith, rules}
+use Rattle.std.proofs.Common.{◌∙◌, refl, sym}
 use Rattle.getmail.proofs.fetching.fetch_into.Goals as goal
 
-pub returns-in-Cut-clause-session : goal.returns-in-Cut-clause-session
-returns-in-Cut-clause-session g c link disk file =
-    (c.session-report.result, λ zero. absurd (omega (arith, zero)), (c.session-report.ensures.session link disk file).4)
-
-pub returns-then-is_ok-clause-session : goal.returns-then-is_ok-clause-session
-returns-then-is_ok-clause-session g c link disk file =
-    (c.session-report.result, λ zero. search rules, (c.session-report.ensures.session link disk file).4)
-
-pub returns-clause-session : goal.returns-clause-session
-returns-clause-session g c link disk file =
-    (c.session-report.result, λ zero. absurd (omega (arith, zero)), (c.session-report.ensures.session link disk file).4)
+pub returns-clause-tells : goal.returns-clause-tells
+returns-clause-tells g c =
+    let same = c.settings.ensures.value ∙ c.session-report.ensures.settings in (
+      c.session-report.result,
+      record {
+        outcome = refl;
+        reported = rw (sym same) c.write_report.ensures;
+        faulted = c.write_outcome.ensures;
+      },
+      rw c.wipe.ensures (λ link disk file. (c.session-report.ensures.session link disk file).4),
+    )

@@ -1,0 +1,35 @@
+-- What is told of a session.
+use Rattle.std.specs.Prelude.{◌≡◌, ℕ, List, [], ◌++◌, Option, Result, Ok, Err, OnOk, codes}
+use Rattle.std.specs.Io.KnownBytes.{Appends}
+use Rattle.rc_file.specs.declared.settings.Settings.{Settings}
+use Rattle.fetch_session.specs.declared.fault.Fault.{Fault}
+use Rattle.fetch_session.specs.declared.report.Outcome.{Outcome}
+use Rattle.fetch_session.specs.declared.report.Outcome.TheVariants.{Ended, Cut}
+use Rattle.fetch_session.specs.declared.report.Report.{Report}
+use Rattle.fetch_session.specs.Texts.{fault_text, report_text}
+use Rattle.getmail.specs.declared.fetching.Fetched.{Fetched}
+
+-- the line of a fault
+abbrev pub fault_line : Fault → List ℕ
+fault_line fault = codes "getmail: " ++ (fault_text fault ++ codes "\n")
+
+-- the line of the fault that cut a session, if one did
+abbrev pub outcome_line : Outcome → List ℕ
+outcome_line Ended = []
+outcome_line (Cut fault) = fault_line fault
+
+-- the exit status: 0 where the session ended and the report was written
+abbrev pub status_when : Outcome → {E : Type 0} → Result (Unit {0}) E → ℕ
+status_when Ended (Ok done) = 0
+status_when Ended (Err error) = 1
+status_when (Cut fault) written = 1
+
+abbrev pub status_of : Fetched → ℕ
+status_of fetched = status_when fetched.outcome fetched.report
+
+-- the report was written to the one, and the fault's line, if there is one, to the other, and nothing
+-- else to either, unless a write was refused
+pub record Tells (settings : Settings) (report : Report) (fetched : Fetched) (out out' err err' : Option (List ℕ)) : Type 0 where
+  pub outcome : fetched.outcome ≡ report.outcome
+  pub reported : OnOk fetched.report (Appends out out' (report_text report settings))
+  pub faulted : OnOk fetched.fault (Appends err err' (outcome_line report.outcome))

@@ -1,0 +1,98 @@
+//! A link that shows on a terminal how far the fetch is.
+ghost use Rattle.std.specs.Prelude.{◌≡◌};
+
+use crate::progress::Progress;
+use pop3_wire::{Wire, WireDown};
+use std::alloc::Global;
+use std::io::{self, Write};
+
+/// A link that passes each call on, and tells on a line of `screen` which message comes and how much
+/// of it came. The line is rewritten in place. Where there is no screen nothing is told. What the
+/// screen refuses isn't told, and changes nothing.
+#[derive(Drop)]
+pub struct ShownWire<W, S> {
+    wire: W,
+    screen: Option<S>,
+    alloc: Global,
+    progress: Progress,
+    is_shown: bool,
+}
+
+/// Writes a line in the place of the last one, which no line is longer than.
+fn write_line<S: Write>(alloc: Global, screen: &mut S, text: &str) -> io::Result<()> {
+    let line = format!(in alloc; "\r{text:<48}")?;
+    screen.write_all(line.as_bytes())?;
+    screen.flush()
+}
+
+impl<W: Wire, S: Write> ShownWire<W, S> {
+    /// A link that shows what crosses this one.
+    pub fn new(alloc: Global, wire: W, screen: Option<S>) -> ShownWire<W, S>
+        ensures { result.wire ≡ wire }
+    {
+        ShownWire {
+            wire,
+            screen,
+            alloc,
+            progress: Progress::new(),
+            is_shown: false,
+        }
+    }
+
+    /// Shows how far the fetch is, where that is due.
+    fn show(&mut self)
+        ensures { self.new.wire ≡ self.old.wire }
+    {
+        if let Some(screen) = &mut self.screen {
+            if self.progress.is_due() {
+                self.is_shown = true;
+                if let Ok(text) = self.progress.text(self.alloc) {
+                    let _ = write_line(self.alloc, screen, text.as_str());
+                }
+            }
+        }
+    }
+
+    /// Wipes the line, so that something else can be written on the terminal.
+    pub fn wipe(&mut self)
+        ensures { self.new.wire ≡ self.old.wire }
+    {
+        if let Some(screen) = &mut self.screen {
+            if self.is_shown {
+                let _ = write_line(self.alloc, screen, "");
+                let _ = screen.write_all(b"\r");
+                self.is_shown = false;
+            }
+        }
+    }
+}
+
+impl<W: Wire, S: Write> Wire for ShownWire<W, S> {
+    ghost seen = { λ w. W.seen w.wire };
+
+    ghost sound = { λ w. W.sound w.wire };
+
+    ghost leads_to = { λ u v. W.leads_to u.wire v.wire };
+
+    fn send(&mut self, bytes: &[u8]) -> Result<(), WireDown> {
+        self.wire.send(bytes)?;
+        self.progress.sent(bytes);
+        self.show();
+        Ok(())
+    }
+
+    fn recv(&mut self, buf: &mut [u8]) -> Result<usize, WireDown> {
+        let count = self.wire.recv(buf)?;
+        self.progress.came(&buf[..count]);
+        self.show();
+        Ok(count)
+    }
+
+    fn failures(&self) -> u64 {
+        self.wire.failures()
+    }
+
+    ghost leads_same = { λ w. W.leads_same w.wire };
+
+    ghost leads_on = { λ u v w p q. W.leads_on u.wire v.wire w.wire p q };
+}

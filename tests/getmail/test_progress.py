@@ -1,0 +1,122 @@
+"""The line that tells how far a fetch is: on a terminal alone, rewritten in place, and gone at the end."""
+
+import contextlib
+import os
+import pty
+import re
+import subprocess
+import unittest
+
+from getmail.account import Account
+from getmail.server import Server, lines_of
+from harness import programs
+
+THREE = [(b"a", b"one\n"), (b"b", b"a line of a longer message\n" * 20_000), (b"c", b"three\n")]
+TEXT = re.compile(rb"message (\d+) of (\d+), (\d+) octets")
+STEP = 65_536
+WIDTH = 48
+
+
+def screen_of(octets):
+    """What stands on a terminal's lines after these octets."""
+    lines, column = [b""], 0
+    for octet in octets:
+        if octet == ord("\r"):
+            column = 0
+        elif octet == ord("\n"):
+            lines.append(b"")
+        else:
+            line = lines[-1].ljust(column)
+            lines[-1] = line[:column] + bytes([octet]) + line[column + 1:]
+            column += 1
+    return [line.rstrip() for line in lines]
+
+
+class Progress(unittest.TestCase):
+    def setUp(self):
+        self.server = Server(THREE)
+        self.addCleanup(self.server.socket.close)
+        self.account = Account(self.server.port)
+        self.addCleanup(self.account.holder.cleanup)
+
+    def run_on_terminal(self, *words, octets=None, both=False):
+        """A run whose standard error, or both outputs, are a terminal: the status, standard output, the terminal's octets."""
+        thread = self.server.begin_session(octets)
+        ours, theirs = pty.openpty()
+        with open(ours, "rb", buffering=0) as terminal:
+            process = subprocess.Popen([programs.path_of("getmail"), *words], stdin=subprocess.DEVNULL,
+                                       stdout=theirs if both else subprocess.PIPE, stderr=theirs,
+                                       env=programs.environment(HOME=str(self.account.home)))
+            os.close(theirs)
+            shown = b""
+            # Once nobody has the other end any more, reading is refused.
+            with contextlib.suppress(OSError):
+                while piece := terminal.read(65536):
+                    shown += piece
+        out, _ = process.communicate(timeout=programs.SECONDS)
+        thread.join(programs.SECONDS)
+        return process.returncode, out or b"", shown
+
+    def told(self, shown):
+        """The message, the total and the octets of each line that was shown, in order."""
+        rows = [row.rstrip() for row in shown.split(b"\r")]
+        self.assertTrue(all(len(row) <= WIDTH for row in rows), rows)
+        self.assertEqual([row for row in rows if row and not TEXT.fullmatch(row)], [])
+        return [tuple(int(number) for number in TEXT.fullmatch(row).groups()) for row in rows if row]
+
+    def test_the_line_follows_the_messages_and_is_gone(self):
+        status, out, shown = self.run_on_terminal()
+        self.assertEqual((status, screen_of(shown)), (0, [b""]))
+        told = self.told(shown)
+        self.assertEqual({total for _, total, _ in told}, {3})
+        self.assertEqual([number for number, _, octets in told if octets == 0], [1, 2, 3])
+        self.assertEqual(sorted(told), told)
+        octets = [octets for number, _, octets in told if number == 2]
+        length = len(b"+OK\r\n" + lines_of(THREE[1][1]))
+        self.assertTrue(all(later - earlier >= STEP for earlier, later in zip(octets, octets[1:])), octets)
+        self.assertTrue(length - 2 * STEP <= octets[-1] <= length, octets)
+        self.assertTrue(out.endswith(b"3 messages (540010 bytes) retrieved, 0 skipped, 0 deleted\n"), out)
+
+    def test_the_report_stands_alone_on_the_terminal(self):
+        status, _, shown = self.run_on_terminal(both=True)
+        self.assertEqual(status, 0)
+        screen = screen_of(shown)
+        self.assertTrue(screen[0].startswith(b"SimplePOP3Retriever:"), screen)
+        self.assertEqual(len(screen), 6)
+        self.assertEqual(screen[-1], b"")
+
+    def test_the_line_is_gone_before_a_fault_is_told(self):
+        status, _, shown = self.run_on_terminal(octets=200_000)
+        self.assertEqual((status, screen_of(shown)), (1, [b"getmail: connection ended by the server", b""]))
+        self.assertIn(b"message 2 of 3", shown)
+
+    def test_a_reply_that_is_not_understood(self):
+        self.server.refuses = ("RETR 2",)
+        status, _, shown = self.run_on_terminal()
+        self.assertEqual((status, screen_of(shown)), (1, [b"getmail: server refused RETR 2", b""]))
+
+    def test_a_total_that_comes_an_octet_at_a_time(self):
+        self.server.pause = 0.0002
+        self.server.messages = [(b"%d" % number, b"") for number in range(10, 22)]
+        _, _, shown = self.run_on_terminal()
+        self.assertEqual([(number, total) for number, total, octets in self.told(shown) if octets == 0],
+                         [(number, 12) for number in range(1, 13)])
+
+    def test_nothing_is_shown_where_nothing_is_to_be_told(self):
+        self.assertEqual(self.run_on_terminal("-q"), (0, b"", b""))
+
+    def test_nothing_is_shown_where_nothing_comes(self):
+        self.run_on_terminal("-q")
+        status, _, shown = self.run_on_terminal()
+        self.assertEqual((status, shown), (0, b""))
+
+    def test_nothing_is_shown_in_a_pipe_or_a_file(self):
+        thread = self.server.begin_session()
+        run = self.account.run("-v")
+        thread.join(programs.SECONDS)
+        self.assertEqual((run.status, run.err), (0, b""))
+        self.server.begin_session()
+        with open(self.account.home / "told", "wb") as told:
+            subprocess.run([programs.path_of("getmail"), "-a"], stdin=subprocess.DEVNULL, stdout=told, stderr=told,
+                           env=programs.environment(HOME=str(self.account.home)), timeout=programs.SECONDS)
+        self.assertNotIn(b"\r", (self.account.home / "told").read_bytes())

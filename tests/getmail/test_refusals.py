@@ -1,0 +1,177 @@
+"""What the system refuses: folders that can't be written, disks that are full, records that can't be grown.
+
+Each run ends with its line and leaves nothing half done, and the next one, with nothing refused, completes it.
+"""
+
+import os
+import resource
+import shutil
+import subprocess
+import unittest
+
+from getmail.account import Account
+from getmail.server import Server
+from harness import preload, programs
+
+THREE = [(b"a", b"one\n" * 200), (b"b", b"two\n" * 4000), (b"c", b"three\n" * 200)]
+LOGIN = ["USER u", "PASS p", "STAT", "UIDL", "LIST"]
+
+REFUSED = b"getmail: destination refused\n"
+MISSING = b"getmail: destination missing\n"
+RECORD_REFUSED = b"getmail: seen file refused\n"
+
+# A user who may write nothing but what is given to him; for the superuser no mode forbids anything.
+NOBODY = 65534
+
+
+class Refusals(unittest.TestCase):
+    def setUp(self):
+        self.server = Server(THREE)
+        self.addCleanup(self.server.socket.close)
+        self.account = Account(self.server.port)
+        self.addCleanup(self.account.holder.cleanup)
+        self.user = {}
+        self.program = programs.path_of("getmail")
+        if os.geteuid() == 0:
+            self.become_nobody()
+
+    def become_nobody(self):
+        """Lets the runs be those of a common user, who owns the home."""
+        self.program = self.account.home / "getmail"
+        shutil.copy(programs.path_of("getmail"), self.program)
+        self.user = {"user": NOBODY, "group": NOBODY, "extra_groups": []}
+        for folder, _, files in os.walk(self.account.home):
+            for name in [".", *files]:
+                self.give_away(os.path.join(folder, name))
+
+    def give_away(self, path):
+        """Makes a file that this test made the user's own."""
+        if self.user:
+            os.chown(path, NOBODY, NOBODY)
+
+    def session(self, *words, **bounds):
+        """One run against one session of the server, with its commands."""
+        thread = self.server.begin_session()
+        done = subprocess.run([self.program, *words], stdin=subprocess.DEVNULL, capture_output=True,
+                              env=programs.environment(HOME=str(self.account.home)), timeout=programs.SECONDS,
+                              **self.user, **bounds)
+        thread.join(programs.SECONDS)
+        return programs.Run(done.returncode, done.stdout, done.stderr), self.server.commands
+
+    def check_refused(self, line, commands, held, **bounds):
+        run, sent = self.session("-q", "-d", **bounds)
+        self.assertEqual((run, sent), (programs.Run(1, b"", line), LOGIN + commands + ["RSET", "QUIT"]))
+        self.assertEqual(self.account.held(), held)
+        self.assertEqual(self.server.messages, THREE)
+        self.assertEqual(self.in_tmp(), [])
+
+    def in_tmp(self):
+        return os.listdir(self.account.maildir / "tmp")
+
+    def check_completed(self):
+        run, _ = self.session("-q", "-d")
+        self.assertEqual(run, programs.Run(0, b"", b""))
+        self.assertEqual(self.account.held(), THREE)
+        self.assertEqual(self.server.messages, [])
+        self.assertEqual(self.in_tmp(), [])
+
+    def test_a_maildir_that_cannot_be_written(self):
+        for part, commands, held in (("tmp", ["RETR 1"], []), ("new", ["RETR 1"], [])):
+            with self.subTest(part):
+                (self.account.maildir / part).chmod(0o500)
+                self.check_refused(REFUSED, commands, held)
+                (self.account.maildir / part).chmod(0o700)
+        self.check_completed()
+
+    def test_a_maildir_that_cannot_be_listed(self):
+        for part in ("new", "cur"):
+            with self.subTest(part):
+                (self.account.maildir / part).chmod(0o300)
+                run, sent = self.session("-q", "-d")
+                self.assertEqual((run, sent), (programs.Run(1, b"", REFUSED), LOGIN + ["RSET", "QUIT"]))
+                (self.account.maildir / part).chmod(0o700)
+        self.check_completed()
+
+    def test_a_folder_that_is_missing(self):
+        for part, commands in (("new", []), ("cur", []), ("tmp", ["RETR 1"])):
+            with self.subTest(part):
+                (self.account.maildir / part).rmdir()
+                run, sent = self.session("-q", "-d")
+                self.assertEqual((run, sent), (programs.Run(1, b"", MISSING), LOGIN + commands + ["RSET", "QUIT"]))
+                self.assertFalse((self.account.maildir / part).exists())
+                (self.account.maildir / part).mkdir()
+                self.give_away(self.account.maildir / part)
+        self.check_completed()
+
+    def test_a_record_that_cannot_be_made(self):
+        self.account.folder.chmod(0o500)
+        self.check_refused(RECORD_REFUSED, [], [])
+        self.account.folder.chmod(0o700)
+        self.check_completed()
+
+    def test_a_record_that_cannot_be_grown(self):
+        self.server.messages = THREE[:1]
+        self.session("-q")
+        self.server.messages = list(THREE)
+        self.account.record.chmod(0o400)
+        self.check_refused(RECORD_REFUSED, [], THREE[:1])
+        self.account.record.chmod(0o600)
+        self.check_completed()
+
+    def test_a_record_that_cannot_be_read(self):
+        self.account.record.write_bytes(b"getmail-seen 1\n")
+        self.give_away(self.account.record)
+        self.account.record.chmod(0o000)
+        self.check_refused(RECORD_REFUSED, [], [])
+        self.account.record.chmod(0o600)
+        self.check_completed()
+
+    def test_a_record_that_is_not_understood(self):
+        self.account.record.write_bytes(b"getmail-seen 1\na 5\n")
+        self.give_away(self.account.record)
+        self.check_refused(b"getmail: seen file not understood at line 2\n", [], [])
+        self.assertEqual(self.account.record.read_bytes(), b"getmail-seen 1\na 5\n")
+        self.account.record.unlink()
+        self.check_completed()
+
+    def test_files_up_to_a_size(self):
+        """What a full disk does: a write is refused in the midst of a message."""
+        def bound():
+            resource.setrlimit(resource.RLIMIT_FSIZE, (10_000, 10_000))
+
+        # Python ignores the signal that stands for the refusal, and so does the program then, which sees an error.
+        self.check_refused(REFUSED, ["RETR 1", "DELE 1", "RETR 2"], THREE[:1], preexec_fn=bound, restore_signals=False)
+        self.check_completed()
+
+
+class EachCall(unittest.TestCase):
+    """Each flush and each rename of a session refused in turn, every write cut in two."""
+
+    def test_each_refused_call(self):
+        with preload.library("watch_files") as watched:
+            for number in range(1, 200):
+                with self.subTest(number=number), Server(THREE) as server, Account(server.port) as account:
+                    changes = {"LD_PRELOAD": str(watched), "WATCH_REFUSED": str(number),
+                               "WATCH_NOTE": str(account.home / "note")}
+                    run = self.session(server, account, **changes)
+                    refused = "refused" in (account.home / "note").read_text()
+                    if refused:
+                        self.assertEqual((run.status, run.out), (1, b""))
+                        self.assertIn(run.err, (REFUSED, RECORD_REFUSED))
+                    held = account.held()
+                    self.assertEqual(held, THREE[:len(held)])
+                    self.assertEqual(os.listdir(account.maildir / "tmp"), [])
+                    self.assertEqual(self.session(server, account), programs.Run(0, b"", b""))
+                    self.assertEqual(account.held(), THREE)
+                    self.assertEqual(server.messages, [])
+                if not refused:
+                    self.assertGreater(number, 10)
+                    return
+        self.fail("a session has more than 200 flushes and renames")
+
+    @staticmethod
+    def session(server, account, **changes):
+        thread = server.begin_session()
+        run = account.run("-q", "-d", **changes)
+        thread.join(programs.SECONDS)
+        return run

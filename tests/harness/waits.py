@@ -1,0 +1,33 @@
+"""Running a program whose long waits are cut short, so that a test sees them end."""
+
+from pathlib import Path
+
+from harness import preload
+
+# How many times as fast the program's clock goes.
+SPEED = 60
+
+
+class Hurry:
+    """The environment of runs that wait the 60th part of what they ask for, and what they asked for."""
+
+    def __init__(self, library):
+        self.library = library
+        self.note = Path(library).parent / "waits"
+
+    def environment(self):
+        self.note.unlink(missing_ok=True)
+        return {"LD_PRELOAD": str(self.library), "HURRY": str(SPEED), "HURRY_NOTE": str(self.note)}
+
+    def asked(self):
+        """The bounds that the last run asked for: `read`, `write` or `poll`, and milliseconds."""
+        rows = (line.split() for line in self.note.read_text().splitlines())
+        return [(word, int(milliseconds)) for word, milliseconds in rows]
+
+
+def hurry_for(tests):
+    """A `Hurry`, whose library is there until the class of tests is over."""
+    library = preload.library("hurry")
+    hurry = Hurry(library.__enter__())
+    tests.addClassCleanup(library.__exit__, None, None, None)
+    return hurry
