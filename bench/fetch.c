@@ -3,8 +3,8 @@
 
        fetch PORT MAILDIR RECORD [OCTETS]
 
-   Replies are read in pieces of 4,096 octets, or of so many as the last word says. Nothing is
-   checked of them but their first octet. */
+   Names are as long as getmail's. Replies are read in pieces of 4,096 octets, or of so many as the
+   last word says. Nothing is checked of them but their first octet. */
 #include <arpa/inet.h>
 #include <fcntl.h>
 #include <netinet/in.h>
@@ -121,8 +121,8 @@ static void deliver(const char *maildir, int number, const char *record)
     struct stat about;
     int file;
 
-    snprintf(from, sizeof from, "%s/tmp/plain-%06d", maildir, number);
-    snprintf(to, sizeof to, "%s/new/plain-%06d", maildir, number);
+    snprintf(from, sizeof from, "%s/tmp/%064d.%012d", maildir, 0, number);
+    snprintf(to, sizeof to, "%s/new/%064d.%012d", maildir, 0, number);
     snprintf(folder, sizeof folder, "%s/new", maildir);
     snprintf(command, sizeof command, "RETR %d\r\n", number);
     ask(command, line, sizeof line);
@@ -133,7 +133,7 @@ static void deliver(const char *maildir, int number, const char *record)
     need(fsync(file) == 0 && lstat(to, &about) != 0 && rename(from, to) == 0);
     flush_folder(folder);
     need(close(file) == 0);
-    append(record, line, (size_t)snprintf(line, sizeof line, "+ 1\nplain-%06d 1700000000 1\n", number));
+    append(record, line, (size_t)snprintf(line, sizeof line, "+ 1\n%06d 1700000000 1\n", number));
 }
 
 static void listing(const char *command, int count)
