@@ -13,3 +13,4 @@ pub mod StepLemmas
 pub mod ReportLemmas
 pub mod SessionLemmas
 pub mod OpeningLemmas
+pub mod IntakeLemmas

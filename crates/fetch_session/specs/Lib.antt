@@ -11,3 +11,4 @@ pub mod Openings
 pub mod Sessions
 pub mod Accounts
 pub mod Texts
+pub mod Intake

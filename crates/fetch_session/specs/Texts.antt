@@ -1,5 +1,5 @@
 -- How faults and reports are told.
-use Rattle.std.specs.Prelude.{ℕ, List, [], ◌++◌, ◌==◌, Vec, flat_map, if◌then◌else◌, codes}
+use Rattle.std.specs.Prelude.{ℕ, List, [], ◌++◌, ◌==◌, flat_map, if◌then◌else◌, codes}
 use Rattle.std.specs.Fmt.{decimal}
 use Rattle.std.specs.String.{string_bytes}
 use Rattle.rc_file.specs.declared.settings.Settings.{Settings}

@@ -5,6 +5,7 @@ ghost use Rattle.pop3_wire.specs.Place.{at};
 ghost use Rattle.rc_file.specs.Settings.{IsValid};
 ghost use Rattle.mail_store.specs.FileName.{IsAccountText};
 ghost use Rattle.fetch_session.specs.Accounts.{digits_of};
+ghost use Rattle.fetch_session.specs.Intake.{GotAtMost, session_limit};
 ghost use Rattle.fetch_session.specs.Reports.{Reports};
 ghost use Rattle.fetch_session.specs.Sessions.{Proceeds, Session, noted, kept};
 
@@ -16,6 +17,7 @@ use crate::report::{Outcome, Report, ReportLine, report_of};
 use crate::tails::leave;
 use fetch_rules::{Seen, Settings};
 use mail_store::{AccountId, FlatFile, MaildirDisk};
+use pop3_client::conversations_are_paced;
 use pop3_wire::{LineReader, Wire};
 use std::alloc::Global;
 use std::hash::BuildHasher;
@@ -94,7 +96,9 @@ fn proceed<W: Wire, D: MaildirDisk, F: FlatFile, H: BuildHasher>(
 /// held, deletes what is due, and quits. `now` is in seconds since 1970.
 ///
 /// The first fault cuts it. Whatever the server sends and whichever call is refused, no text that is
-/// stored is lost or changed.
+/// stored is lost or changed. Of the link it takes, with n messages, at most 2,048 octets for each of
+/// 2n + 10 lines, as many for each row of two listings of 100,000 rows and their ends, and 268,435,456
+/// octets for each message.
 pub fn session<W: Wire, D: MaildirDisk, F: FlatFile, H: BuildHasher>(
     account: &mut Account<D, F, H>,
     wire: &mut W,
@@ -105,7 +109,10 @@ pub fn session<W: Wire, D: MaildirDisk, F: FlatFile, H: BuildHasher>(
         → W.sound wire.old × D.sound account.old.disk × F.sound account.old.file × W.leads_to wire.old wire.new
         × Session account.old.settings (digits_of account.old.settings) now (W.seen wire.old) (kept (D.maildir account.old.disk) (F.stored account.old.file))
         result (W.seen wire.new) (kept (D.maildir account.new.disk) (F.stored account.new.file)) }
+    ensures bounded { W.sound wire.new → D.sound account.new.disk → F.sound account.new.file
+        → GotAtMost (session_limit result.total) (W.seen wire.old) (W.seen wire.new) }
 {
+    conversations_are_paced();
     let mut reader = LineReader::new();
     let mut notes = Notes {
         total: 0,
@@ -126,7 +133,9 @@ pub fn session<W: Wire, D: MaildirDisk, F: FlatFile, H: BuildHasher>(
     ) {
         let outcome = Outcome::Cut(cut.fault);
         leave(wire, &mut reader, cut);
+        prove!(reader.waiting().len() <= 4096);
         return tell(outcome, notes);
     }
+    prove!(reader.waiting().len() <= 4096);
     tell(Outcome::Ended, notes)
 }
