@@ -15,3 +15,4 @@ pub mod TalkSpeech
 pub mod TalkSessions
 pub mod TalkIdle
 pub mod TalkLaw
+pub mod RunLemmas

@@ -1,5 +1,5 @@
 -- What a link gains behind the opening, for each way that a session's tasks came out.
-use Rattle.std.proofs.Common.{◌≡◌, inl, inr, ◌⊎◌, ℕ, List, [], ◌∷◌, ◌++◌, map, Option, None, Some, Result, Ok, Err, refl, sym, ap, subst, ◌∙◌, append_assoc}
+use Rattle.std.proofs.Common.{◌≡◌, inl, inr, ◌⊎◌, ℕ, List, [], ◌∷◌, ◌++◌, Option, None, Some, Result, refl, sym, ap, subst, ◌∙◌}
 use Rattle.std.specs.List.{flat_map, AllByRecursion}
 use Rattle.std.proofs.lemmas.List.{append-nil, map-append}
 use Rattle.std.proofs.lemmas.List.Concat.{flat_map-append}
@@ -11,16 +11,14 @@ use Rattle.pop3_wire.specs.Link.{Link}
 use Rattle.pop3_wire.specs.Place.{Place}
 use Rattle.pop3_wire.specs.Reading.{WholeReply}
 use Rattle.pop3_client.specs.declared.fault.Fault.{Fault as TalkFault}
-use Rattle.pop3_client.specs.Turns.{Turn, retr, IsGood}
+use Rattle.pop3_client.specs.Turns.{Turn, retr}
 use Rattle.pop3_client.specs.Conversation.{Talked, Talks, ConversationsArePaced}
-use Rattle.pop3_client.specs.Texts.{Fetching, Fetched, body_text}
+use Rattle.pop3_client.specs.Texts.{body_text}
 use Rattle.mail_terms.specs.Listing.{Item}
-use Rattle.mail_store.specs.Maildir.{Maildir}
 use Rattle.mail_store.specs.FileName.{name_of}
 use Rattle.run_law.specs.Readings.{Retrieves}
 use Rattle.fetch_session.specs.declared.fault.Cut.{Cut}
 use Rattle.fetch_session.specs.declared.fault.Fault.{Fault}
-use Rattle.fetch_session.specs.Faults.{fault_of}
 use Rattle.fetch_session.specs.Tasks.{Task, stores, Done, task_in, turns_in, tasks_of, turns_of, replies_of, IsAnswered}
 use Rattle.fetch_session.specs.Stores.{RefusesText}
 use Rattle.fetch_session.specs.Tails.{tail, LeftBy, Left, turns_in as tail_turns}
@@ -117,14 +115,14 @@ module _ (paced : ConversationsArePaced) (items : List Item) where
       under =
           let said = leaves.1 refused.number mid.place refused.text refused.fetching in
           begun_next dones next (retr refused.number) (tail_turns (tail cut.fault)) first.place mid.place last.link (ap turns_in refused.is) talked plain each
-              (goes_under paced (retr refused.number) (tail_turns (tail cut.fault)) mid.place last said.0 said.1)
+          (goes_under paced (retr refused.number) (tail_turns (tail cut.fault)) mid.place last said.0 said.1)
 
       spare : (done : refused.rest.spot ≡ AtEnd) → Took (course items dones ((refused.whole done).0 ∷ []) (next ∷ [])) first.place (tail_turns (tail cut.fault)) last.link
       spare done =
           let said = leaves.0 done in
           let whole = refused.whole done in
           with_spare dones next refused.number refused.uid whole.0 (tail_turns (tail cut.fault)) first.place mid.place new.place last.link refused.is talked whole.1 plain each
-              (goes_tail (tail_turns (tail cut.fault)) new.place.link last.link (fronted paced (tail_turns (tail cut.fault)) new.place last said.0 said.1))
+          (goes_tail (tail_turns (tail cut.fault)) new.place.link last.link (fronted paced (tail_turns (tail cut.fault)) new.place last said.0 said.1))
 
       by : (refuses : RefusesText mid.maildir (name_of account refused.uid) refused.rest refused.text cut.fault new.maildir)
           → Took (course items dones (spare_in refused.number mid.place new.place refused.rest refused.text mid.maildir new.maildir (name_of account refused.uid) cut.fault refused.whole refuses) (next ∷ []))

@@ -1,15 +1,14 @@
 -- What a session said that didn't come to deal with a listing.
-use Rattle.std.proofs.Common.{◌≡◌, inl, inr, ◌⊎◌, ℕ, List, [], ◌∷◌, ◌++◌, true, Option, None, Some, Result, Ok, Err, refl, sym, ap, subst, ◌∙◌, append_assoc}
-use Rattle.std.specs.List.{flat_map, AllByRecursion}
+use Rattle.std.proofs.Common.{◌≡◌, inl, inr, ℕ, List, [], ◌∷◌, ◌++◌, true, Result, Err, refl, sym, ap, subst, ◌∙◌, append_assoc}
+use Rattle.std.specs.List.{AllByRecursion}
 use Rattle.std.proofs.lemmas.List.{append-nil}
 use Rattle.pop3_wire.specs.declared.command.Command.{Command}
 use Rattle.pop3_wire.specs.Honest.{Asked}
 use Rattle.pop3_wire.specs.Link.{Link}
 use Rattle.pop3_wire.specs.Place.{Place}
-use Rattle.pop3_wire.specs.Reading.{WholeReply}
 use Rattle.pop3_client.specs.declared.fault.Fault.{Fault as TalkFault}
 use Rattle.pop3_client.specs.Turns.{Turn}
-use Rattle.pop3_client.specs.Conversation.{ConversationsArePaced, Talked, Stopped, Talks}
+use Rattle.pop3_client.specs.Conversation.{ConversationsArePaced, Stopped, Talks}
 use Rattle.mail_terms.specs.Credential.{is_credential}
 use Rattle.mail_terms.specs.declared.listing.UidRow.{UidRow}
 use Rattle.mail_terms.specs.declared.listing.ScanRow.{ScanRow}
@@ -17,9 +16,9 @@ use Rattle.run_law.specs.Plans.{FrontsAreAsked}
 use Rattle.fetch_session.specs.Faults.{fault_of}
 use Rattle.fetch_session.specs.Openings.{opening, Opened, Enters}
 use Rattle.fetch_session.specs.Tails.{tail, turns_in as tail_turns}
-use Rattle.fetch_runs.specs.Conversations.{Conversation, Converses}
+use Rattle.fetch_runs.specs.Conversations.{Converses}
 use Rattle.fetch_runs.proofs.Courses.{IsDeleted}
-use Rattle.fetch_runs.proofs.TalkParts.{Goes, fronted, goes_tail, goes_broke, conversation}
+use Rattle.fetch_runs.proofs.TalkParts.{fronted, goes_tail, goes_broke, conversation}
 use Rattle.fetch_runs.proofs.TalkCommands.{commands_in, CanBeSaid, Commanded, commanded, all_front, all_back}
 use Rattle.fetch_runs.proofs.TalkTasks.{commands_split}
 use Rattle.fetch_runs.proofs.TalkOpenings.{said_opening}

@@ -1,13 +1,11 @@
 -- Each session is one conversation, which the law over runs takes.
-use Rattle.std.proofs.Common.{◌≡◌, ◌≤◌, inl, inr, ◌⊎◌, ℕ, List, [], ◌∷◌, ◌++◌, true, length, Option, None, Some, Result, Ok, Err, refl, sym, ap, subst, ◌∙◌, append_assoc}
+use Rattle.std.proofs.Common.{◌≡◌, ◌≤◌, inl, inr, ℕ, List, [], ◌++◌, length, Result, Ok, Err, refl, sym, ap, subst}
 use Rattle.std.specs.String.{string_bytes}
 use Rattle.std.specs.List.{AllByRecursion}
 use Rattle.pop3_wire.specs.declared.command.Command.{Command}
-use Rattle.pop3_wire.specs.Bodies.{Rest}
 use Rattle.pop3_wire.specs.Honest.{Asked}
 use Rattle.pop3_wire.specs.Link.{Link}
 use Rattle.pop3_wire.specs.Place.{Place, at}
-use Rattle.pop3_client.specs.Turns.{Turn}
 use Rattle.pop3_client.specs.declared.fault.Fault.{Fault as TalkFault}
 use Rattle.pop3_client.specs.Conversation.{ConversationsArePaced, Talks}
 use Rattle.mail_terms.specs.Listing.{Joins}
@@ -19,9 +17,7 @@ use Rattle.fetch_session.specs.declared.fault.Fault.{Fault}
 use Rattle.fetch_session.specs.declared.fault.Fault.TheVariants.{NoMemory}
 use Rattle.fetch_session.specs.Faults.{fault_of}
 use Rattle.fetch_session.specs.declared.report.Report.{Report}
-use Rattle.fetch_session.specs.Tasks.{Task}
 use Rattle.fetch_session.specs.Tails.{tail, Left, turns_in as tail_turns}
-use Rattle.fetch_session.specs.Plans.{tasks_ahead}
 use Rattle.fetch_session.specs.Sessions.{Kept, Noted, Dealt, NotEntered, NoRoom, Proceeds, Leaves, Session}
 use Rattle.fetch_runs.proofs.Courses.{Course, Way, Idle, Deals, course_dealt, way_proceeded, way_of, begun_of, IsDeleted}
 use Rattle.fetch_runs.proofs.TalkCommands.{all_front}
@@ -104,7 +100,7 @@ module _ (paced : ConversationsArePaced) (law : FrontsAreAsked) (settings : Sett
       whole : (sent got : List ℕ) × (link'.sent ≡ link.sent ++ sent) × (link'.got ≡ link.got ++ got) × Speaks c sent got
       whole =
           let all = spoken law name word valid.valid_username valid.valid_password c is.enters.0 is.enters.1 is.enters.2 (at link []) is.mid (tail_for result) (is_tail_for result) link' refl
-              is.enters.3 (subst (Joins is.enters.0 is.enters.1 is.enters.2) (sym by.ahead.1) is.enters.4) plain by.took in
+          is.enters.3 (subst (Joins is.enters.0 is.enters.1 is.enters.2) (sym by.ahead.1) is.enters.4) plain by.took in
           (all.0, all.1, all.2, all.3, all.4)
 
   proceeded : (result : Result (Unit {0}) Cut) → (is : Proceeds settings account now (at link []) before result new after notes) → Leaves result new link'

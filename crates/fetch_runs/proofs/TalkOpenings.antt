@@ -1,12 +1,9 @@
 -- The opening of a session, as the law over runs reads it.
-use Rattle.std.proofs.Common.{◌≡◌, ◌≤◌, inl, inr, ℕ, List, [], ◌∷◌, ◌++◌, true, length, Option, None, Some, Result, Ok, refl, sym, ap, subst, ◌∙◌, arith}
+use Rattle.std.proofs.Common.{◌≡◌, ◌≤◌, ℕ, List, [], ◌∷◌, ◌++◌, true, length, Option, None, Some, Result, Ok, refl, sym, ap, ◌∙◌, arith}
 use Rattle.std.specs.List.{AllByRecursion, AllZip}
 use Rattle.std.proofs.lemmas.List.{append_cancel_left}
 use Rattle.pop3_wire.specs.declared.fault.WireFault.{WireFault}
 use Rattle.pop3_wire.specs.declared.reply.Status.TheVariants.{Positive}
-use Rattle.pop3_wire.specs.declared.command.Command.{Command}
-use Rattle.pop3_wire.specs.declared.command.Command.TheVariants.{User, Pass, Stat, UidlAll, ListAll}
-use Rattle.pop3_wire.specs.Commands.{can_be_sent}
 use Rattle.pop3_wire.specs.Fields.{number_and_size}
 use Rattle.pop3_wire.specs.Reply.{IsFirstLine, indicator, without_space}
 use Rattle.pop3_wire.specs.Place.{Place}
@@ -15,7 +12,7 @@ use Rattle.mail_terms.specs.Credential.{is_credential}
 use Rattle.mail_terms.specs.Listing.{Item, Joins}
 use Rattle.mail_terms.specs.declared.listing.UidRow.{UidRow}
 use Rattle.mail_terms.specs.declared.listing.ScanRow.{ScanRow}
-use Rattle.pop3_client.specs.Turns.{Turn, greeting, user, pass, stat, uidl, list, IsBody, IsGood}
+use Rattle.pop3_client.specs.Turns.{greeting, stat, IsBody, IsGood}
 use Rattle.pop3_client.specs.Conversation.{TellsCount}
 use Rattle.run_law.specs.Readings.{IsListed}
 use Rattle.fetch_session.specs.Openings.{opening, Opened}

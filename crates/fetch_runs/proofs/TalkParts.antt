@@ -6,7 +6,6 @@ use Rattle.pop3_wire.specs.Link.{Link}
 use Rattle.pop3_wire.specs.Place.{Place}
 use Rattle.pop3_wire.specs.Reading.{WholeReply, reply_bytes}
 use Rattle.pop3_client.specs.declared.fault.Fault.{Fault as TalkFault}
-use Rattle.pop3_client.specs.declared.fault.Fault.TheVariants.{WriteFailed, NoMemory}
 use Rattle.pop3_client.specs.Turns.{Turn, turn_bytes, asking}
 use Rattle.pop3_client.specs.Conversation.{Talked, Talks, Broke, IsFrontOfNext, ConversationsArePaced}
 use Rattle.fetch_session.specs.Faults.{fault_of}

@@ -1,13 +1,12 @@
 -- The replies of a conversation, as the law over runs reads them.
-use Rattle.std.proofs.Common.{◌≡◌, ◌<◌, ◌^◌, inl, inr, ℕ, List, [], ◌∷◌, ◌++◌, Bool, true, false, Option, None, Some, refl, sym, ap, subst, ◌∙◌, append_assoc}
-use Rattle.std.specs.List.{flat_map, AllByRecursion, AllZip}
+use Rattle.std.proofs.Common.{◌≡◌, ◌<◌, ◌^◌, ℕ, List, [], ◌∷◌, ◌++◌, Option, None, Some, refl, sym, ap, subst, ◌∙◌, append_assoc}
+use Rattle.std.specs.List.{AllByRecursion, AllZip}
 use Rattle.std.proofs.lemmas.Bool.{true≢false}
-use Rattle.std.proofs.lemmas.List.{append-nil}
 use Rattle.pop3_wire.specs.declared.command.Command.{Command}
 use Rattle.pop3_wire.specs.declared.command.Command.TheVariants.{User, Pass, Stat, UidlAll, UidlOne, ListAll, ListOne, Retr, Dele, Rset, Noop, Top, Quit}
 use Rattle.pop3_wire.specs.Body.{Body}
 use Rattle.pop3_wire.specs.Reading.{WholeReply, body_bytes}
-use Rattle.pop3_client.specs.Turns.{Turn, retr, dele, quit, IsBody, IsGood}
+use Rattle.pop3_client.specs.Turns.{Turn, retr, quit, IsBody, IsGood}
 use Rattle.pop3_client.specs.Texts.{body_text}
 use Rattle.run_law.specs.Readings.{AreGood, Retrieves, IsGood as IsRead, IsBody as IsReadBody}
 use Rattle.fetch_session.specs.Tasks.{Task, says, skips, stores, rereads, deletes, Done, turns_in, tasks_of, turns_of, replies_of, IsAnswered}

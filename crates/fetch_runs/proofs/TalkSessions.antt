@@ -1,45 +1,29 @@
 -- What each session said and read, as the law over runs takes it.
-use Rattle.std.proofs.Common.{◌≡◌, ◌≤◌, inl, inr, ◌⊎◌, ℕ, List, [], ◌∷◌, ◌++◌, true, length, Option, None, Some, Result, Ok, Err, refl, sym, ap, subst, ◌∙◌, append_assoc}
-use Rattle.std.specs.Prelude.{IsTrue}
-use Rattle.std.specs.String.{string_bytes}
-use Rattle.std.specs.List.{flat_map, AllByRecursion}
+use Rattle.std.proofs.Common.{◌≡◌, ◌≤◌, inl, inr, ℕ, List, [], ◌∷◌, ◌++◌, length, Result, Ok, Err, refl, sym, ap, subst, ◌∙◌, append_assoc}
+use Rattle.std.specs.List.{AllByRecursion}
 use Rattle.std.proofs.lemmas.List.{append-nil, map-append}
-use Rattle.pop3_wire.specs.declared.command.Command.{Command}
-use Rattle.pop3_wire.specs.Honest.{Asked}
 use Rattle.pop3_wire.specs.Link.{Link}
-use Rattle.pop3_wire.specs.Place.{Place, at}
-use Rattle.pop3_wire.specs.Reading.{WholeReply}
-use Rattle.pop3_client.specs.declared.fault.Fault.{Fault as TalkFault}
+use Rattle.pop3_wire.specs.Place.{Place}
 use Rattle.pop3_client.specs.Turns.{Turn}
-use Rattle.pop3_client.specs.Conversation.{ConversationsArePaced, Talked, Stopped, Talks}
-use Rattle.mail_terms.specs.Credential.{is_credential}
-use Rattle.mail_terms.specs.Listing.{Item, Joins}
-use Rattle.mail_terms.specs.declared.listing.UidRow.{UidRow}
-use Rattle.mail_terms.specs.declared.listing.ScanRow.{ScanRow}
+use Rattle.pop3_client.specs.Conversation.{ConversationsArePaced}
+use Rattle.mail_terms.specs.Listing.{Item}
 use Rattle.fetch_rules.specs.Record.{Row}
-use Rattle.rc_file.specs.Settings.{IsValid}
 use Rattle.rc_file.specs.declared.settings.Settings.{Settings}
 use Rattle.mail_store.specs.Maildir.{Maildir}
 use Rattle.mail_store.specs.FlatFile.{Stored}
-use Rattle.run_law.specs.Plans.{FrontsAreAsked}
 use Rattle.fetch_session.specs.declared.fault.Cut.{Cut}
-use Rattle.fetch_session.specs.declared.fault.Fault.{Fault}
-use Rattle.fetch_session.specs.declared.report.Report.{Report}
 use Rattle.fetch_session.specs.declared.report.ReportLine.{ReportLine}
-use Rattle.fetch_session.specs.Faults.{fault_of, cut_of}
-use Rattle.fetch_session.specs.Openings.{opening, Opened, Enters}
 use Rattle.fetch_session.specs.Tasks.{Task, stores, Done, task_in, tasks_of}
 use Rattle.fetch_session.specs.Tails.{tail, Left, turns_in as tail_turns}
-use Rattle.fetch_session.specs.Scenes.{Scene, scene, Stops, Fell, Does}
+use Rattle.fetch_session.specs.Scenes.{Scene, scene, Stops, Does}
 use Rattle.fetch_session.specs.Plans.{tasks_ahead, Unprepared, Carried, Carries}
-use Rattle.fetch_session.specs.Sessions.{Kept, Noted, Dealt, Proceeds, Leaves, Session}
-use Rattle.fetch_runs.proofs.Courses.{Course, course, Way, Idle, Deals, stored_done, course_stopped, course_does, course_carried, course_cut, course_carries, course_dealt, way_proceeded, way_of, begun_of, IsDeleted}
+use Rattle.fetch_session.specs.Sessions.{Leaves}
+use Rattle.fetch_runs.proofs.Courses.{Course, course, stored_done, course_stopped, course_does, course_carried, course_carries, begun_of}
 use Rattle.fetch_runs.proofs.TalkCommands.{all_front}
 use Rattle.fetch_runs.proofs.TalkReplies.{IsPlain}
 use Rattle.fetch_runs.proofs.TalkTasks.{plain_ahead}
 use Rattle.fetch_runs.proofs.TalkCourses.{Took, took_stopped, took_all, took_nothing}
-use Rattle.fetch_runs.proofs.TalkOpenings.{replied, few_items}
-use Rattle.fetch_runs.proofs.TalkSpeech.{IsTail, is_tail, silent, Speaks, spoken}
+use Rattle.fetch_runs.proofs.TalkSpeech.{IsTail, is_tail, silent}
 
 -- the turns behind a session up to its QUIT, or to where it was cut
 abbrev pub tail_for : Result (Unit {0}) Cut → List Turn

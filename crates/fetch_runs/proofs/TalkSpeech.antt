@@ -1,22 +1,22 @@
 -- What a session with a joined listing said and read, as the law over runs takes it.
-use Rattle.std.proofs.Common.{◌≡◌, inl, inr, ◌⊎◌, ℕ, List, [], ◌∷◌, ◌++◌, true, length, Option, None, Some, refl, sym, ap, subst, ◌∙◌, append_assoc}
-use Rattle.std.specs.List.{flat_map, AllByRecursion, AllZip}
+use Rattle.std.proofs.Common.{◌≡◌, ℕ, List, [], ◌∷◌, ◌++◌, true, Option, refl, ap, subst, ◌∙◌, append_assoc}
+use Rattle.std.specs.List.{flat_map, AllByRecursion}
 use Rattle.std.proofs.lemmas.List.{append-nil}
 use Rattle.pop3_wire.specs.declared.command.Command.{Command}
 use Rattle.pop3_wire.specs.declared.command.Command.TheVariants.{User, Pass, Stat, UidlAll, ListAll}
 use Rattle.pop3_wire.specs.Line.{ended}
 use Rattle.pop3_wire.specs.Link.{Link}
-use Rattle.pop3_wire.specs.Place.{Place, at}
+use Rattle.pop3_wire.specs.Place.{Place}
 use Rattle.pop3_wire.specs.Reading.{WholeReply, body_bytes, reply_bytes}
 use Rattle.mail_terms.specs.Credential.{is_credential}
 use Rattle.mail_terms.specs.Listing.{Joins}
 use Rattle.mail_terms.specs.declared.listing.UidRow.{UidRow}
 use Rattle.mail_terms.specs.declared.listing.ScanRow.{ScanRow}
-use Rattle.pop3_client.specs.Turns.{Turn, quit, rset, IsGood}
+use Rattle.pop3_client.specs.Turns.{Turn, quit, rset}
 use Rattle.run_law.specs.Plans.{FrontsAreAsked}
 use Rattle.run_law.specs.Readings.{AreGood, Talked as IsTalked, IsListed, Retrieves}
 use Rattle.fetch_session.specs.Openings.{opening, Opened}
-use Rattle.fetch_session.specs.Tasks.{Task, turns_in}
+use Rattle.fetch_session.specs.Tasks.{Task}
 use Rattle.pop3_client.specs.declared.fault.Asked.TheVariants.{Greeting as ByGreeting, User as ByUser, Pass as ByPass, Stat as ByStat, Uidl as ByUidl, List as ByList, Retr as ByRetr, Dele as ByDele, Quit as ByQuit}
 use Rattle.fetch_session.specs.declared.fault.Fault.{Fault}
 use Rattle.fetch_session.specs.declared.fault.Fault.TheVariants.{ConnectionEnded, ReadFailed, WriteFailed, ReplyTooLong, BadReply, Refused, BadListing, ListingsDisagree, TooMany, TextTooLong, StoreRefused, SeenRefused, NoMemory, BadSeen}
@@ -114,8 +114,16 @@ module _ (law : FrontsAreAsked) (name word : List ℕ) (named' : is_credential n
       asked = whole.asked;
       hello = r.hello.first;
       line = r.good.0.line;
-      good = (reply_read (User name) r.to_user r.good.1.0, (reply_read (Pass word) r.to_pass r.good.1.1.0, (reply_read Stat opened.counted r.good.1.1.1.0,
-          (reply_read UidlAll opened.named r.good.1.1.1.1.0, (reply_read ListAll opened.sized r.good.1.1.1.1.1.0, later)))));
+      good = (
+        reply_read (User name) r.to_user r.good.1.0,
+        (
+          reply_read (Pass word) r.to_pass r.good.1.1.0,
+          (
+            reply_read Stat opened.counted r.good.1.1.1.0,
+            (reply_read UidlAll opened.named r.good.1.1.1.1.0, (reply_read ListAll opened.sized r.good.1.1.1.1.1.0, later)),
+          ),
+        ),
+      );
       rest = said.rest;
       whole = said.heard ∙ ap (λ (ws : List WholeReply). flat_map reply_bytes ((ws ++ opened.counted ∷ opened.named ∷ opened.sized ∷ []) ++ took.replies) ++ said.rest) r.is
           ∙ append_assoc (reply_bytes r.hello) (flat_map reply_bytes behind) said.rest

@@ -1,10 +1,9 @@
 -- The tasks of a plan as turns and commands.
-use Rattle.std.proofs.Common.{◌≡◌, ◌<◌, ◌≤◌, ◌+◌, ◌^◌, ℕ, Bool, true, false, List, [], ◌∷◌, ◌++◌, length, map, None, Some, refl, sym, ap, subst, ◌∙◌, arith, append_assoc}
+use Rattle.std.proofs.Common.{◌≡◌, ◌<◌, ◌≤◌, ◌+◌, ◌^◌, ℕ, Bool, true, false, List, [], ◌∷◌, ◌++◌, length, map, refl, sym, ap, subst, ◌∙◌, arith, append_assoc}
 use Rattle.std.specs.List.{flat_map, AllByRecursion, enumerate_from}
-use Rattle.std.proofs.lemmas.List.{append-nil}
 use Rattle.pop3_wire.specs.declared.command.Command.{Command}
 use Rattle.pop3_client.specs.Turns.{Turn, quit}
-use Rattle.mail_terms.specs.Listing.{Item, numbered}
+use Rattle.mail_terms.specs.Listing.{Item}
 use Rattle.fetch_rules.specs.Record.{Row}
 use Rattle.fetch_rules.specs.Plan.{planned, step_of}
 use Rattle.fetch_rules.specs.declared.steps.Step.{Step}

@@ -1,1 +1,2 @@
 pub mod Conversations
+pub mod Runs

@@ -1,2 +1,6 @@
 //! Sessions of an account, one after another.
 #![tactic(auto)]
+
+mod run;
+
+pub use run::{Visit, run_sessions};

@@ -1,0 +1,76 @@
+-- How sessions one after another make a run of them.
+use Rattle.std.proofs.Common.{◌≡◌, ◌≢◌, ◌<◌, ◌≤◌, ◌+◌, ℕ, List, [], ◌∷◌, ◌++◌, take, set, get_or, length, refl, sym, ap, subst, ◌∙◌, arith}
+use Rattle.std.proofs.lemmas.Grind.{take_at_read, take-set_at}
+use Rattle.std.proofs.lemmas.List.{get_or-set_other}
+use Rattle.pop3_wire.specs.Link.{Link}
+use Rattle.rc_file.specs.declared.settings.Settings.{Settings}
+use Rattle.fetch_session.specs.Accounts.{digits_of}
+use Rattle.fetch_session.specs.declared.report.Report.{Report}
+use Rattle.fetch_session.specs.Sessions.{Kept, Session}
+use Rattle.fetch_runs.specs.declared.run.Visit.{Visit}
+use Rattle.fetch_runs.specs.Runs.{AreSound, Runs}
+
+-- the first of the visits were made
+pub record Ran {W : Type 0} (sound : W → Type 0) (seen : W → Link) (settings : Settings) (olds : List (Visit W)) (start : Kept) (at_start : Type 0) (reports : List Report) (news : List (Visit W)) (last : Kept) (at_last : Type 0) : Type 0 where
+  pub made : AreSound sound news → at_last → AreSound sound olds × at_start × Runs seen settings (digits_of settings) olds start reports news last
+
+runs_on : {W : Type 0} (seen : W → Link) (settings : Settings) (account : List ℕ) (olds : List (Visit W)) (first : Kept) (reports : List Report) (news : List (Visit W)) (mid : Kept) (old new : Visit W) (report : Report) (last : Kept)
+    → Runs seen settings account olds first reports news mid → Session settings account old.now (seen old.wire) mid report (seen new.wire) last
+    → Runs seen settings account (olds ++ old ∷ []) first (reports ++ report ∷ []) (news ++ new ∷ []) last
+runs_on seen settings account [] first [] [] mid old new report last runs session =
+    (last, subst (λ (k : Kept). Session settings account old.now (seen old.wire) k report (seen new.wire) last) runs session, refl)
+runs_on seen settings account [] first [] (v ∷ news) mid old new report last runs session = absurd runs
+runs_on seen settings account [] first (r ∷ reports) news mid old new report last runs session = absurd runs
+runs_on seen settings account (o ∷ olds) first [] news mid old new report last runs session = absurd runs
+runs_on seen settings account (o ∷ olds) first (r ∷ reports) [] mid old new report last runs session = absurd runs
+runs_on seen settings account (o ∷ olds) first (r ∷ reports) (v ∷ news) mid old new report last runs session =
+    (runs.0, runs.1, runs_on seen settings account olds runs.0 reports news mid old new report last runs.2 session)
+
+sound_last : {W : Type 0} (sound : W → Type 0) (visits : List (Visit W)) (visit : Visit W) → AreSound sound (visits ++ visit ∷ []) → AreSound sound visits × sound visit.wire
+sound_last sound [] visit all = (tt, all.0)
+sound_last sound (v ∷ visits) visit all = let behind = sound_last sound visits visit all.1 in ((all.0, behind.0), behind.1)
+
+sound_on : {W : Type 0} (sound : W → Type 0) (visits : List (Visit W)) (visit : Visit W) → AreSound sound visits → sound visit.wire → AreSound sound (visits ++ visit ∷ [])
+sound_on sound [] visit all is = (is, tt)
+sound_on sound (v ∷ visits) visit all is = (all.0, sound_on sound visits visit all.1 is)
+
+ran_more : {W : Type 0} (sound : W → Type 0) (seen : W → Link) (settings : Settings) (olds : List (Visit W)) (start : Kept) (at_start : Type 0) (reports : List Report) (news : List (Visit W)) (mid : Kept) (at_mid : Type 0)
+    (old new : Visit W) (report : Report) (last : Kept) (at_last : Type 0) → Ran sound seen settings olds start at_start reports news mid at_mid
+    → (sound new.wire → at_last → sound old.wire × at_mid × Session settings (digits_of settings) old.now (seen old.wire) mid report (seen new.wire) last)
+    → Ran sound seen settings (olds ++ old ∷ []) start at_start (reports ++ report ∷ []) (news ++ new ∷ []) last at_last
+ran_more sound seen settings olds start at_start reports news mid at_mid old new report last at_last ran session = record {
+  made = λ all held.
+      let parts = sound_last sound news new all in
+      let this = session parts.1 held in
+      let before = ran.made parts.0 this.1 in
+      (sound_on sound olds old before.0 this.0, before.1, runs_on seen settings (digits_of settings) olds start reports news mid old new report last before.2 this.2);
+}
+
+pub ran_none : {W : Type 0} (sound : W → Type 0) (seen : W → Link) (settings : Settings) (olds news : List (Visit W)) (start : Kept) (at_start : Type 0) (reports : List Report) (i : ℕ) → i ≡ 0 → reports ≡ []
+    → Ran sound seen settings (take i olds) start at_start reports (take i news) start at_start
+ran_none {W} sound seen settings olds news start at_start reports i is none =
+    subst (λ (k : ℕ). Ran sound seen settings (take k olds) start at_start reports (take k news) start at_start) (sym is)
+    (subst (λ (rs : List Report). Ran sound seen settings (take 0 olds) start at_start rs (take 0 news) start at_start) (sym none) nothing)
+  where
+    nothing : Ran sound seen settings (take 0 olds) start at_start [] (take 0 news) start at_start
+    nothing = record { made = λ all held. (tt, held, refl) }
+
+-- the next visit was made
+pub ran_next : {W : Type 0} (sound : W → Type 0) (seen : W → Link) (settings : Settings) (olds news : List (Visit W)) (i : ℕ) (start : Kept) (at_start : Type 0) (reports : List Report) (mid : Kept) (at_mid : Type 0)
+    (old new : Visit W) (report : Report) (last : Kept) (at_last : Type 0) → Ran sound seen settings (take i olds) start at_start reports (take i news) mid at_mid
+    → i < length olds → i < length news → get_or olds i old ≡ old
+    → (sound new.wire → at_last → sound old.wire × at_mid × Session settings (digits_of settings) old.now (seen old.wire) mid report (seen new.wire) last)
+    → Ran sound seen settings (take (i + 1) olds) start at_start (reports ++ report ∷ []) (take (i + 1) (set news i new)) last at_last
+ran_next {W} sound seen settings olds news i start at_start reports mid at_mid old new report last at_last ran inside within is session =
+    subst (λ (os : List (Visit W)). Ran sound seen settings os start at_start (reports ++ report ∷ []) (take (i + 1) (set news i new)) last at_last)
+    (sym ((take_at_read olds i old inside).1 ∙ ap (λ (o : Visit W). take i olds ++ o ∷ []) is))
+    (subst (λ (ns : List (Visit W)). Ran sound seen settings (take i olds ++ old ∷ []) start at_start (reports ++ report ∷ []) ns last at_last)
+    (sym (take-set_at news i (i + 1) new refl within))
+    (ran_more sound seen settings (take i olds) start at_start reports (take i news) mid at_mid old new report last at_last ran session))
+
+-- the visits behind it stay as they were
+pub others_stay : {V : Type 0} (xs ys : List V) (i : ℕ) (new : V) → ((k : ℕ) (d : V) → i ≤ k → get_or xs k d ≡ get_or ys k d)
+    → (k : ℕ) (d : V) → i + 1 ≤ k → get_or (set xs i new) k d ≡ get_or ys k d
+others_stay xs ys i new same k d behind =
+    let apart : k ≢ i = λ is. absurd (omega (arith, behind, is)) in
+    get_or-set_other xs i k new d apart ∙ same k d (omega (arith, behind))

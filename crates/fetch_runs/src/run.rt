@@ -1,0 +1,44 @@
+//! Sessions of an account, one after another, each over its own link.
+ghost use Rattle.std.specs.Prelude.{◌≡◌, ◌*◌, length, IfErr, IfOk};
+ghost use Rattle.fetch_session.specs.Accounts.{digits_of};
+ghost use Rattle.fetch_session.specs.Sessions.{kept};
+ghost use Rattle.fetch_runs.specs.Runs.{AreSound, Runs};
+
+use fetch_session::{Account, Report, session};
+use mail_store::{FlatFile, MaildirDisk};
+use pop3_wire::Wire;
+use std::alloc::{AllocError, Global};
+use std::hash::BuildHasher;
+use std::vec::Vec;
+
+/// A link and the time of its session, in seconds since 1970.
+#[derive(Drop)]
+pub struct Visit<W> {
+    pub wire: W,
+    pub now: u64,
+}
+
+/// Runs one session for each visit, in order, and tells of each. Room for the reports is made first:
+/// where memory is wanting, no session was begun.
+pub fn run_sessions<W: Wire, D: MaildirDisk, F: FlatFile, H: BuildHasher>(
+    alloc: Global,
+    account: &mut Account<D, F, H>,
+    visits: &mut [Visit<W>],
+) -> Result<Vec<Report>, AllocError>
+    ensures begun { IfErr result (λ e. (account.new ≡ account.old) × (visits.new ≡ visits.old)) }
+    ensures count { IfOk result (λ reports. length reports.items ≡ length visits.old) }
+    ensures settings { account.new.settings ≡ account.old.settings }
+    ensures runs { IfOk result (λ reports. AreSound W.sound visits.new → D.sound account.new.disk → F.sound account.new.file
+        → AreSound W.sound visits.old × D.sound account.old.disk × F.sound account.old.file
+        × Runs W.seen account.old.settings (digits_of account.old.settings) visits.old (kept (D.maildir account.old.disk) (F.stored account.old.file))
+        reports.items visits.new (kept (D.maildir account.new.disk) (F.stored account.new.file))) }
+{
+    let mut reports = Vec::with_capacity(alloc, visits.len())?;
+    for i in 0..visits.len() {
+        let visit = &mut visits[i];
+        let now = visit.now;
+        let report = session(account, &mut visit.wire, now);
+        reports.push(report).unwrap();
+    }
+    Ok(reports)
+}
