@@ -16,3 +16,5 @@ pub mod TalkSessions
 pub mod TalkIdle
 pub mod TalkLaw
 pub mod RunLemmas
+pub mod TalkPlan
+pub mod TalkConversation

@@ -41,6 +41,12 @@ pub record Took (c : Course) (start : Place) (tail : List Turn) (link : Link) : 
   pub all : flat_map turns_in (begun_of c) ≡ done ++ begun
   pub one : (begun ≡ []) ⊎ ((turn : Turn) × (begun ≡ turn ∷ []))
   pub read : (more : List Command) → Retrieves (commands_in done ++ more) replies (found_of c)
+  pub each : AllByRecursion IsAnswered c.taken
+  pub asks : (done ≡ turns_of c.taken) ⊎ ((number : ℕ) × (done ≡ turns_of c.taken ++ retr number ∷ []) × (begun ≡ []))
+  pub whole : c.under ≡ [] → begun ≡ []
+
+cons_nil : (task : Task) (tasks : List Task) → task ∷ tasks ≡ [] → ⊥
+cons_nil task tasks e = cc
 
 -- the texts of done tasks
 read_dones : (dones : List Done) (others : List (ℕ × List ℕ)) → others ≡ [] → AllByRecursion IsPlain (tasks_of dones) → AllByRecursion IsAnswered dones
@@ -65,6 +71,9 @@ module _ (paced : ConversationsArePaced) (items : List Item) where
     all = turns_on dones (next ∷ []) ∙ ap (λ (ts : List Turn). turns_of dones ++ ts) (append-nil (turns_in next) ∙ takes);
     one = inr (turn, refl);
     read = read_dones dones (found_in next [] ++ []) (append-nil (found_in next []) ∙ nothing_found next) plain each;
+    each = each;
+    asks = inl refl;
+    whole = λ none. absurd (cons_nil next [] none);
   }
 
   took_broken : (dones : List Done) (next : Task) (first mid new : Scene) (cut : Cut) (last : Place) → Talked (turns_of dones) (replies_of dones) first.place mid.place
@@ -99,6 +108,9 @@ module _ (paced : ConversationsArePaced) (items : List Item) where
         subst (λ (t : Task). Retrieves (commands_in (turns_of dones ++ retr number ∷ []) ++ more) (replies_of dones ++ reply ∷ []) (found_by dones ++ (found_in t (reply ∷ []) ++ []))) (sym is)
         (subst (λ (cs : List Command). Retrieves cs (replies_of dones ++ reply ∷ []) (found_by dones ++ (number, body_text reply.body) ∷ [])) (sym (commands_on (turns_of dones) (retr number ∷ []) more))
         (dones_read dones (reply ∷ []) (Retr number ∷ more) ((number, body_text reply.body) ∷ []) plain each (body_text reply.body, [], text_read number reply fetched.good.0, refl, refl)));
+    each = each;
+    asks = inr (number, refl, refl);
+    whole = λ none. refl;
   }
 
   took_refused : (account : List ℕ) (dones : List Done) (next : Task) (first mid new : Scene) (cut : Cut) (last : Place) → Talked (turns_of dones) (replies_of dones) first.place mid.place
@@ -144,6 +156,9 @@ module _ (paced : ConversationsArePaced) (items : List Item) where
     all = turns_on dones [];
     one = inl refl;
     read = read_dones dones [] refl plain each;
+    each = each;
+    asks = inl refl;
+    whole = λ none. refl;
   }
 
   took_unsaved : (account : List ℕ) (dones : List Done) (next : Task) (first mid new : Scene) (cut : Cut) (last : Place) → Talked (turns_of dones) (replies_of dones) first.place mid.place

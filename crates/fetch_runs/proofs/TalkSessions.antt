@@ -97,3 +97,10 @@ module _ (paced : ConversationsArePaced) where
     dealing (Ok done) place' maildir' file' lines' skipped link is leaves = dealing_carried (Ok done) (scene place' maildir' file' is.0 lines') skipped link is.1 leaves
     dealing (Err cut) place' maildir' file' lines' skipped link (rows, inl (none, unprepared)) leaves = dealing_unprepared cut (scene place' maildir' file' rows lines') link unprepared leaves
     dealing (Err cut) place' maildir' file' lines' skipped link (rows, inr is) leaves = dealing_carried (Err cut) (scene place' maildir' file' rows lines') skipped link is leaves
+
+    -- where all was done nothing is left of the plan
+    pub dealing_whole : (done : Unit {0}) (place' : Place) (maildir' : Maildir) (file' : Stored) (lines' : List ReportLine) (skipped : ℕ) (link : Link)
+        → (is : Carries settings account items now place maildir file lines (Ok done) place' maildir' file' lines' skipped) → (leaves : Leaves (Ok done) place' link)
+        → (dealing (Ok done) place' maildir' file' lines' skipped link is leaves).ahead.0 ≡ []
+    unfolding dealing dealing_carried ahead_does
+    dealing_whole done place' maildir' file' lines' skipped link is leaves = refl

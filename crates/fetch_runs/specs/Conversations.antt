@@ -1,8 +1,25 @@
 -- The conversation of one session: the turns that were talked, the one behind them, and the tail.
-use Rattle.std.specs.Prelude.{◌≡◌, ◌⊎◌, ℕ, List, [], ◌∷◌, ◌++◌}
-use Rattle.std.specs.List.{flat_map, AllZip}
+use Rattle.std.specs.Prelude.{◌≡◌, ◌⊎◌, ℕ, Bool, true, false, List, [], ◌∷◌, ◌++◌, map, None, Some}
+use Rattle.std.specs.String.{string_bytes}
+use Rattle.std.specs.List.{flat_map, count_by, AllZip}
+use Rattle.pop3_wire.specs.declared.command.Command.TheVariants.{Retr}
+use Rattle.pop3_wire.specs.Link.{Link}
 use Rattle.pop3_wire.specs.Reading.{WholeReply, reply_bytes}
-use Rattle.pop3_client.specs.Turns.{Turn, asking, IsGood}
+use Rattle.pop3_client.specs.Turns.{Turn, asking, greeting, retr, IsGood}
+use Rattle.mail_terms.specs.Listing.{Item}
+use Rattle.fetch_rules.specs.Record.{Row}
+use Rattle.fetch_rules.specs.Plan.{planned}
+use Rattle.fetch_rules.specs.declared.steps.Step.{Step}
+use Rattle.rc_file.specs.Settings.{IsValid}
+use Rattle.rc_file.specs.declared.settings.Settings.{Settings}
+use Rattle.run_law.specs.Plans.{plan_commands}
+use Rattle.run_law.specs.Readings.{IsListed}
+use Rattle.fetch_session.specs.declared.report.Outcome.{Outcome}
+use Rattle.fetch_session.specs.declared.report.Outcome.TheVariants.{Ended, Cut}
+use Rattle.fetch_session.specs.declared.report.Report.{Report}
+use Rattle.fetch_session.specs.Openings.{opening}
+use Rattle.fetch_session.specs.Tails.{tail, turns_in}
+use Rattle.fetch_session.specs.Sessions.{Kept, Session}
 
 -- what was sent behind the turns that were talked: a front of the octets of the turn that was begun, if one was; or
 -- these whole, and a front of the tail's
@@ -29,3 +46,50 @@ pub record Converses (plan tail : List Turn) (sent got : List ℕ) : Type 0 wher
   pub split : plan ≡ done ++ (begun ++ later)
   pub one : (begun ≡ []) ⊎ ((turn : Turn) × (begun ≡ turn ∷ []))
   pub is : Conversation done replies begun tail sent got
+
+-- the turns of a plan of these steps: the greeting, and each of the plan's commands
+abbrev pub plan_turns : List ℕ → List ℕ → List Step → List Turn
+plan_turns name word steps = greeting ∷ map Some (plan_commands name word steps)
+
+-- the turns that belong behind an outcome
+abbrev pub tail_behind : Outcome → List Turn
+tail_behind Ended = []
+tail_behind (Cut fault) = turns_in (tail fault)
+
+abbrev pub is_retrieval : Turn → Bool
+is_retrieval None = false
+is_retrieval (Some (Retr number)) = true
+is_retrieval (Some _) = false
+
+-- how many texts these turns ask for
+abbrev pub retrieved_by : List Turn → ℕ
+retrieved_by turns = count_by is_retrieval turns
+
+-- the turns ask for as many texts as are counted; or for one more, by the last of them, behind which only the tail is begun
+abbrev pub Counts : List Turn → List Turn → ℕ → Type 0
+Counts done begun count = (retrieved_by done ≡ count)
+    ⊎ ((front : List Turn) × (number : ℕ) × (done ≡ front ++ retr number ∷ []) × (retrieved_by front ≡ count) × (begun ≡ []))
+
+-- a session whose listing was joined spoke by the plan for it
+pub record SpeaksByPlan (settings : Settings) (now : ℕ) (report : Report) (sent got : List ℕ) : Type 0 where
+  pub items : List Item
+  pub rows : List Row
+  pub said : Converses (plan_turns (string_bytes settings.username) (string_bytes settings.password) (planned settings rows items now)) (tail_behind report.outcome) sent got
+  pub hello : WholeReply
+  pub user : WholeReply
+  pub pass : WholeReply
+  pub stat : WholeReply
+  pub uidl : WholeReply
+  pub list : WholeReply
+  pub more : List WholeReply
+  pub replies : said.replies ≡ hello ∷ user ∷ pass ∷ stat ∷ uidl ∷ list ∷ more
+  pub listed : IsListed stat uidl list items
+  pub counts : Counts said.done said.begun report.retrieved
+  pub ended : report.outcome ≡ Ended → (said.begun ≡ []) × (said.later ≡ [])
+
+-- a law: what the link gained by a session is one conversation, of the opening where it came no further
+abbrev pub SessionsAreConversations : Type 0
+SessionsAreConversations = (settings : Settings) (account : List ℕ) (now : ℕ) (link : Link) (before : Kept) (report : Report) (link' : Link) (after : Kept)
+    → IsValid settings → Session settings account now link before report link' after
+    → (sent got : List ℕ) × (link'.sent ≡ link.sent ++ sent) × (link'.got ≡ link.got ++ got)
+    × (Converses (opening (string_bytes settings.username) (string_bytes settings.password)) (tail_behind report.outcome) sent got ⊎ SpeaksByPlan settings now report sent got)

@@ -1,6 +1,8 @@
 //! Sessions of an account, one after another.
 #![tactic(auto)]
 
+mod laws;
 mod run;
 
+pub use laws::sessions_are_conversations;
 pub use run::{Visit, run_sessions};

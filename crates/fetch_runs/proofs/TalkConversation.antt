@@ -1,0 +1,219 @@
+-- Each session is one conversation by its plan.
+use Rattle.std.proofs.Common.{◌≡◌, ◌≤◌, ◌+◌, inl, inr, ◌⊎◌, ℕ, List, [], ◌∷◌, ◌++◌, map, length, Some, Result, Ok, Err, refl, sym, ap, subst, ◌∙◌, arith, append_assoc}
+use Rattle.std.specs.String.{string_bytes}
+use Rattle.std.specs.List.{flat_map, count_by, AllByRecursion}
+use Rattle.std.proofs.lemmas.List.{append-nil}
+use Rattle.std.proofs.lemmas.List.Concat.{flat_map-append}
+use Rattle.pop3_wire.specs.Link.{Link}
+use Rattle.pop3_wire.specs.Place.{Place, at}
+use Rattle.pop3_wire.specs.Reading.{WholeReply}
+use Rattle.pop3_client.specs.declared.fault.Fault.{Fault as TalkFault}
+use Rattle.pop3_client.specs.Turns.{Turn, retr}
+use Rattle.pop3_client.specs.Conversation.{ConversationsArePaced, Talks}
+use Rattle.mail_terms.specs.Listing.{Item, Joins}
+use Rattle.mail_terms.specs.declared.listing.UidRow.{UidRow}
+use Rattle.mail_terms.specs.declared.listing.ScanRow.{ScanRow}
+use Rattle.rc_file.specs.Settings.{IsValid}
+use Rattle.rc_file.specs.declared.settings.Settings.{Settings}
+use Rattle.fetch_rules.specs.Plan.{planned, step_of}
+use Rattle.mail_store.specs.Maildir.{Maildir}
+use Rattle.mail_store.specs.FlatFile.{Stored}
+use Rattle.pop3_wire.specs.declared.command.Command.TheVariants.{Quit}
+use Rattle.run_law.specs.Plans.{step_commands, FrontsAreAsked}
+use Rattle.fetch_session.specs.declared.fault.Cut.{Cut}
+use Rattle.fetch_session.specs.declared.fault.Fault.{Fault}
+use Rattle.fetch_session.specs.declared.fault.Fault.TheVariants.{NoMemory}
+use Rattle.fetch_session.specs.declared.report.Outcome.{Outcome}
+use Rattle.fetch_session.specs.declared.report.Outcome.TheVariants.{Ended, Cut as WasCut}
+use Rattle.fetch_session.specs.declared.report.Report.{Report}
+use Rattle.fetch_session.specs.declared.report.ReportLine.{ReportLine}
+use Rattle.fetch_session.specs.Faults.{fault_of}
+use Rattle.fetch_session.specs.Openings.{opening, Opened}
+use Rattle.fetch_session.specs.Reports.{Reports, is_taken}
+use Rattle.fetch_session.specs.Tasks.{Task, Done, turns_in, tasks_of, turns_of, lines_in, lines_of, delivered}
+use Rattle.fetch_session.specs.Tails.{tail, Left, turns_in as tail_turns}
+use Rattle.fetch_session.specs.Scenes.{Scene, scene, Went, Stops, Does}
+use Rattle.fetch_session.specs.Plans.{tasks_ahead, Carried, Carries}
+use Rattle.fetch_session.specs.Sessions.{Kept, Noted, Dealt, NotEntered, NoRoom, Proceeds, Leaves, outcome_of, Session}
+use Rattle.fetch_runs.specs.Conversations.{Conversation, Converses, plan_turns, tail_behind, retrieved_by, Counts, SpeaksByPlan, SessionsAreConversations}
+use Rattle.fetch_runs.proofs.Courses.{Course, course, stored_done, course_stopped, course_does, course_carried, course_carries, course_dealt, begun_of}
+use Rattle.fetch_runs.proofs.TalkCommands.{all_front}
+use Rattle.fetch_runs.proofs.TalkReplies.{IsPlain}
+use Rattle.fetch_runs.proofs.TalkTasks.{plain_ahead}
+use Rattle.fetch_runs.proofs.TalkCourses.{Took}
+use Rattle.fetch_runs.proofs.TalkPlan.{plan_same, count_on, taken_same}
+use Rattle.fetch_runs.proofs.TalkOpenings.{Replied, replied, few_items, listed}
+use Rattle.fetch_runs.proofs.TalkSpeech.{IsTail, silent, is_tail, Speaks, spoken}
+use Rattle.fetch_runs.proofs.TalkIdle.{Opens, opens_all, opens_cut}
+use Rattle.fetch_runs.proofs.TalkSessions.{Dealing, tail_for, is_tail_for, dealing, dealing_whole}
+
+-- ---- the lines that were noted are those of the tasks that were taken
+
+lines_stopped : (account : List ℕ) (items : List Item) (dones : List Done) (next : Task) (first mid new : Scene) (cut : Cut) → Went account dones first mid → (stops : Stops account next mid cut new)
+    → new.lines ≡ first.lines ++ lines_of (course_stopped account items dones next mid new cut stops).taken
+lines_stopped account items dones next first mid new cut went (inl broken) = broken.lines ∙ went.lines
+lines_stopped account items dones next first mid new cut went (inr (inl refused)) = refused.lines ∙ went.lines
+lines_stopped account items dones next first mid new cut went (inr (inr unsaved)) =
+    unsaved.lines ∙ ap (λ (l : List ReportLine). l ++ delivered unsaved.number unsaved.reply ∷ []) went.lines
+    ∙ append_assoc first.lines (lines_of dones) (delivered unsaved.number unsaved.reply ∷ [])
+    ∙ ap (λ (l : List ReportLine). first.lines ++ l) (sym (flat_map-append (λ (d : Done). lines_in d.task d.replies) dones (stored_done unsaved.number unsaved.uid unsaved.reply ∷ [])))
+
+lines_does : (account : List ℕ) (items : List Item) (tasks : List Task) (old new : Scene) (result : Result (Unit {0}) Cut) → (does : Does account tasks old result new)
+    → new.lines ≡ old.lines ++ lines_of (course_does account items tasks old new result does).taken
+lines_does account items tasks old new (Ok done) went = went.went.lines
+lines_does account items tasks old new (Err cut) fell = lines_stopped account items fell.dones fell.next old fell.mid new cut fell.went fell.stops
+
+module _ (settings : Settings) (account : List ℕ) (items : List Item) (now : ℕ) (place : Place) (maildir : Maildir) (file : Stored) where
+  lines_carried : (result : Result (Unit {0}) Cut) (new : Scene) (skipped : ℕ) → (is : Carried settings account items now place maildir file [] result new skipped)
+      → new.lines ≡ lines_of (course_carried settings account items now place maildir file [] result new skipped is).taken
+  lines_carried result new skipped is =
+      lines_does account items (tasks_ahead settings account items now maildir is.mid.rows) is.mid new result is.does
+      ∙ ap (λ (l : List ReportLine). l ++ lines_of (course_carried settings account items now place maildir file [] result new skipped is).taken) is.prepared.lines_are
+
+  lines_carries : (result : Result (Unit {0}) Cut) (place' : Place) (maildir' : Maildir) (file' : Stored) (lines' : List ReportLine) (skipped : ℕ)
+      → (is : Carries settings account items now place maildir file [] result place' maildir' file' lines' skipped)
+      → lines' ≡ lines_of (course_carries settings account items now place maildir file [] result place' maildir' file' lines' skipped is).taken
+  lines_carries (Ok done) place' maildir' file' lines' skipped is = lines_carried (Ok done) (scene place' maildir' file' is.0 lines') skipped is.1
+  lines_carries (Err cut) place' maildir' file' lines' skipped (rows, inl (none, unprepared)) = unprepared.lines_are
+  lines_carries (Err cut) place' maildir' file' lines' skipped (rows, inr is) = lines_carried (Err cut) (scene place' maildir' file' rows lines') skipped is
+
+-- ---- the turns
+
+retrieved_open : (name word : List ℕ) (turns : List Turn) → retrieved_by (opening name word ++ turns) ≡ retrieved_by turns
+retrieved_open name word turns =
+    let both : retrieved_by (opening name word ++ turns) ≡ retrieved_by (opening name word) + retrieved_by turns = count_on _ (opening name word) turns in
+    let none : retrieved_by (opening name word) ≡ 0 = refl in
+    omega (arith, both, none)
+
+counts : (name word : List ℕ) (taken : List Done) (done begun : List Turn) (count : ℕ) → retrieved_by (turns_of taken) ≡ count
+    → (done ≡ turns_of taken) ⊎ ((number : ℕ) × (done ≡ turns_of taken ++ retr number ∷ []) × (begun ≡ [])) → Counts (opening name word ++ done) begun count
+counts name word taken done begun count is (inl same) = inl (retrieved_open name word done ∙ ap retrieved_by same ∙ is)
+counts name word taken done begun count is (inr (number, same, none)) =
+    inr (
+      opening name word ++ turns_of taken,
+      number,
+      ap (λ (ts : List Turn). opening name word ++ ts) same ∙ sym (append_assoc (opening name word) (turns_of taken) (retr number ∷ [])),
+      retrieved_open name word (turns_of taken) ∙ is,
+      none,
+    )
+
+tail_is : (result : Result (Unit {0}) Cut) → tail_for result ≡ tail_behind (outcome_of result)
+tail_is (Ok done) = refl
+tail_is (Err cut) = refl
+
+abbrev outcome : Outcome → Outcome
+outcome o = o
+
+not_ended : (fault : Fault) → outcome (WasCut fault) ≡ outcome Ended → ⊥
+not_ended fault e = cc
+
+module _ (paced : ConversationsArePaced) (law : FrontsAreAsked) (settings : Settings) (valid : IsValid settings) (account : List ℕ) (now : ℕ) (link link' : Link) (before after : Kept)
+    (new : Place) (notes : Noted) (report : Report) where
+  abbrev name : List ℕ
+  name = string_bytes settings.username
+
+  abbrev word : List ℕ
+  word = string_bytes settings.password
+
+  -- the listing was joined, and this came of it
+  by_plan : (c : Course) (items : List Item) (count : ℕ) (uids : List UidRow) (sizes : List ScanRow) (mid : Place) (turns : List Turn) → (opened : Opened name word (at link []) mid count uids sizes)
+      → Joins count uids sizes items → length items ≤ 100000 → (by : Dealing settings account items now before.maildir c mid turns link') → IsTail turns → turns ≡ tail_behind report.outcome
+      → report.retrieved ≡ count_by is_taken notes.lines → notes.lines ≡ lines_of c.taken → (report.outcome ≡ Ended → (c.under ≡ []) × (by.ahead.0 ≡ []))
+      → (sent got : List ℕ) × (link'.sent ≡ link.sent ++ sent) × (link'.got ≡ link.got ++ got) × SpeaksByPlan settings now report sent got
+  by_plan c items count uids sizes mid turns opened joins few by kind behind retrieved noted ended = (
+    all.0,
+    all.1,
+    all.2,
+    all.3,
+    record {
+      items = items;
+      rows = by.rows;
+      said = record {
+        done = opening name word ++ by.took.done;
+        begun = by.took.begun;
+        later = flat_map turns_in by.ahead.0;
+        replies = (opened.welcome ++ opened.counted ∷ opened.named ∷ opened.sized ∷ []) ++ by.took.replies;
+        split = ap (λ (ts : List Turn). opening name word ++ ts) tasks ∙ sym (append_assoc (opening name word) by.took.done (by.took.begun ++ flat_map turns_in by.ahead.0));
+        one = by.took.one;
+        is = subst (λ (ts : List Turn). Conversation (opening name word ++ by.took.done) ((opened.welcome ++ opened.counted ∷ opened.named ∷ opened.sized ∷ []) ++ by.took.replies) by.took.begun ts all.0 all.1) behind all.5;
+      };
+      hello = r.hello;
+      user = r.to_user;
+      pass = r.to_pass;
+      stat = opened.counted;
+      uidl = opened.named;
+      list = opened.sized;
+      more = by.took.replies;
+      replies = ap (λ (ws : List WholeReply). (ws ++ opened.counted ∷ opened.named ∷ opened.sized ∷ []) ++ by.took.replies) r.is;
+      listed = listed name word (at link []) mid count uids sizes items opened joins;
+      counts = counts name word c.taken by.took.done by.took.begun report.retrieved number by.took.asks;
+      ended = λ is. (by.took.whole (ended is).0, ap (λ (ts : List Task). flat_map turns_in ts) (ended is).1);
+    },
+  )
+    where
+      r : Replied name word opened.welcome opened.counted opened.named opened.sized
+      r = replied name word opened.welcome opened.counted opened.named opened.sized opened.talked.good
+
+      plain : AllByRecursion IsPlain (begun_of c)
+      plain = all_front IsPlain (begun_of c) by.ahead.0 (subst (AllByRecursion IsPlain) by.ahead.2 (plain_ahead settings account items now before.maildir by.rows few))
+
+      all : (sent got : List ℕ) × (link'.sent ≡ link.sent ++ sent) × (link'.got ≡ link.got ++ got) × Speaks c sent got
+          × Conversation (opening name word ++ by.took.done) ((opened.welcome ++ opened.counted ∷ opened.named ∷ opened.sized ∷ []) ++ by.took.replies) by.took.begun turns sent got
+      all = spoken law name word valid.valid_username valid.valid_password c count uids sizes (at link []) mid turns kind link' refl opened (subst (Joins count uids sizes) (sym by.ahead.1) joins) plain by.took
+
+      tasks : map Some (flat_map step_commands (planned settings by.rows items now) ++ Quit ∷ []) ≡ by.took.done ++ (by.took.begun ++ flat_map turns_in by.ahead.0)
+      tasks = sym (plan_same account before.maildir (step_of settings by.rows items now) 1 items) ∙ ap (λ (ts : List Task). flat_map turns_in ts) by.ahead.2
+          ∙ flat_map-append turns_in (begun_of c) by.ahead.0 ∙ ap (λ (ts : List Turn). ts ++ flat_map turns_in by.ahead.0) by.took.all
+          ∙ append_assoc by.took.done by.took.begun (flat_map turns_in by.ahead.0)
+
+      number : retrieved_by (turns_of c.taken) ≡ report.retrieved
+      number = sym (taken_same c.taken (all_front IsPlain (tasks_of c.taken) c.under plain) by.took.each) ∙ ap (λ (l : List ReportLine). count_by is_taken l) (sym noted) ∙ sym retrieved
+
+  dealt : (result : Result (Unit {0}) Cut) → Reports (outcome_of result) notes.total notes.skipped notes.lines report → (is : Dealt settings account now (at link []) before result new after notes)
+      → Leaves result new link' → (sent got : List ℕ) × (link'.sent ≡ link.sent ++ sent) × (link'.got ≡ link.got ++ got) × SpeaksByPlan settings now report sent got
+  dealt (Ok done) tells is leaves =
+      let opened = is.enters.3 in
+      let few = few_items opened.counted is.enters.0 is.enters.1 is.enters.2 is.items (replied name word opened.welcome opened.counted opened.named opened.sized opened.talked.good).good.1.1.1.0 opened.tells is.enters.4 in
+      by_plan (course_dealt settings account now (at link []) before (Ok done) new after notes is) is.items is.enters.0 is.enters.1 is.enters.2 is.mid [] opened is.enters.4 few
+      (dealing paced settings account is.items now is.mid before.maildir before.file [] few (Ok done) new after.maildir after.file notes.lines notes.skipped link' is.carries leaves)
+      silent (sym (ap tail_behind tells.outcome_is)) tells.retrieved_is
+      (lines_carries settings account is.items now is.mid before.maildir before.file (Ok done) new after.maildir after.file notes.lines notes.skipped is.carries)
+      (λ e. (refl, dealing_whole paced settings account is.items now is.mid before.maildir before.file [] few done new after.maildir after.file notes.lines notes.skipped link' is.carries leaves))
+  dealt (Err cut) tells is leaves =
+      let opened = is.enters.3 in
+      let few = few_items opened.counted is.enters.0 is.enters.1 is.enters.2 is.items (replied name word opened.welcome opened.counted opened.named opened.sized opened.talked.good).good.1.1.1.0 opened.tells is.enters.4 in
+      by_plan (course_dealt settings account now (at link []) before (Err cut) new after notes is) is.items is.enters.0 is.enters.1 is.enters.2 is.mid (tail_turns (tail cut.fault)) opened is.enters.4 few
+      (dealing paced settings account is.items now is.mid before.maildir before.file [] few (Err cut) new after.maildir after.file notes.lines notes.skipped link' is.carries leaves)
+      (is_tail cut.fault) (sym (ap tail_behind tells.outcome_is)) tells.retrieved_is
+      (lines_carries settings account is.items now is.mid before.maildir before.file (Err cut) new after.maildir after.file notes.lines notes.skipped is.carries)
+      (λ e. absurd (not_ended cut.fault (sym tells.outcome_is ∙ e)))
+
+  -- it wasn't, or nothing was done with it
+  abbrev Said : Type 0
+  Said = (sent got : List ℕ) × (link'.sent ≡ link.sent ++ sent) × (link'.got ≡ link.got ++ got)
+      × (Converses (opening name word) (tail_behind report.outcome) sent got ⊎ SpeaksByPlan settings now report sent got)
+
+  opens : (fault : Fault) (last : Place) → report.outcome ≡ WasCut fault → link' ≡ last.link → Opens name word (tail_turns (tail fault)) link last.link → Said
+  opens fault last came is it = (
+    it.sent,
+    it.got,
+    ap (λ (l : Link). l.sent) is ∙ it.sent_is,
+    ap (λ (l : Link). l.got) is ∙ it.got_is,
+    inl (subst (λ (ts : List Turn). Converses (opening name word) ts it.sent it.got) (sym (ap tail_behind came)) it.said),
+  )
+
+  proceeded : (result : Result (Unit {0}) Cut) → Reports (outcome_of result) notes.total notes.skipped notes.lines report → Proceeds settings account now (at link []) before result new after notes
+      → Leaves result new link' → Said
+  proceeded (Ok done) tells is leaves = let said = dealt (Ok done) tells is leaves in (said.0, said.1, said.2, said.3, inr said.4)
+  proceeded (Err cut) tells (inl is) leaves =
+      let said : (result : Result (Unit {0}) TalkFault) × Talks (tail_turns (tail (fault_of is.why))) new result leaves.0 = subst (λ (c : Cut). Left c new leaves.0) is.is leaves.1 in
+      opens (fault_of is.why) leaves.0 (tells.outcome_is ∙ ap (λ (c : Cut). WasCut c.fault) is.is) leaves.2 (opens_cut paced name word (at link []) new leaves.0 refl is.why is.enters said.0 said.1)
+  proceeded (Err cut) tells (inr (inl is)) leaves =
+      let said : (result : Result (Unit {0}) TalkFault) × Talks (tail_turns (tail NoMemory)) new result leaves.0 = subst (λ (c : Cut). Left c new leaves.0) is.is leaves.1 in
+      opens NoMemory leaves.0 (tells.outcome_is ∙ ap (λ (c : Cut). WasCut c.fault) is.is) leaves.2
+      (opens_all paced name word (at link []) new leaves.0 refl is.enters.0 is.enters.1 is.enters.2 (tail_turns (tail NoMemory)) is.enters.3 said.0 said.1)
+  proceeded (Err cut) tells (inr (inr is)) leaves = let said = dealt (Err cut) tells is leaves in (said.0, said.1, said.2, said.3, inr said.4)
+
+pub sessions_are_conversations : ConversationsArePaced → FrontsAreAsked → SessionsAreConversations
+sessions_are_conversations paced law settings account now link before report link' after valid session =
+    proceeded paced law settings valid account now link link' before after session.mid session.notes report session.result session.reports session.proceeds session.leaves
