@@ -4,3 +4,8 @@ pub mod NameLemmas
 pub mod HeldLemmas
 pub mod MoveLemmas
 pub mod DistinctNames
+pub mod MboxLines
+pub mod MboxQuoting
+pub mod MboxGroups
+pub mod MboxReading
+pub mod MboxAppends

@@ -4,3 +4,6 @@ pub mod FlatFile
 pub mod Fuse
 pub mod FileName
 pub mod Held
+pub mod Mboxrd
+pub mod MboxCalls
+pub mod MboxScan

@@ -6,6 +6,7 @@ mod fault;
 mod file;
 mod fused;
 mod maildir;
+mod mboxrd;
 mod refusal;
 mod system;
 
@@ -24,3 +25,9 @@ pub use maildir::names::{
     file_name, marks_keep_the_base, names_are_bases, names_differ, one_more_is_held, uid_of,
     unheld_ids_are_not_in_new,
 };
+pub use mboxrd::entry::{
+    append_entry, check_mbox, entries_add_texts, entries_may_follow_texts, entry_len,
+    files_have_one_reading,
+};
+pub use mboxrd::quoting::{is_whole, quote, unquote, unquoting_undoes_quoting};
+pub use mboxrd::reading::read_mbox;

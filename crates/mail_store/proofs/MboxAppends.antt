@@ -1,0 +1,146 @@
+-- The ends of a file that an entry may follow, and what appending one does.
+use Rattle.std.proofs.Common.{◌≡◌, ◌⊎◌, inl, inr, ℕ, zero, suc, ◌+◌, ◌<◌, ◌≤◌, Bool, true, false, List, [], ◌∷◌, ◌++◌, length, take, Option, Some, Result, Ok, Err, refl, sym, ap, subst, ◌∙◌, arith, length-append}
+use Rattle.std.specs.Prelude.{slice_index, bytes_eq, IsTrue}
+use Rattle.std.proofs.lemmas.List.{append-nil, take_at}
+use Rattle.std.proofs.lemmas.Slice.Eq.{bytes_eq-Decides}
+use Rattle.mail_store.specs.declared.fault.StoreFault.{StoreFault}
+use Rattle.mail_store.specs.declared.fault.StoreFault.TheVariants.{Refused}
+use Rattle.mail_store.specs.declared.file.flat_file.Edges.{Edges}
+use Rattle.mail_store.specs.FlatFile.{Stored, holding, counted, edges_of, Appends, Cuts, HasBytes}
+use Rattle.mail_store.specs.Mboxrd.{from_words, begins_entry, entry_of, MayGoOn}
+use Rattle.mail_store.specs.MboxCalls.{Looks, AppendsEntry}
+use Rattle.mail_store.proofs.MboxQuoting.{begins_with}
+
+-- ---- the ends of a file
+
+heads_tell : (was : List ℕ) → (edges_of was).head ≡ from_words → begins_entry was ≡ true
+heads_tell [] e = let h : ◌≡◌ {A = List ℕ} (0 ∷ 0 ∷ 0 ∷ 0 ∷ 0 ∷ []) (70 ∷ 114 ∷ 111 ∷ 109 ∷ 32 ∷ []) = e in let no : ◌≡◌ {A = ℕ} 0 70 = cc in absurd (omega (arith, no))
+heads_tell (a ∷ []) e = let h : a ∷ 0 ∷ 0 ∷ 0 ∷ 0 ∷ [] ≡ 70 ∷ 114 ∷ 111 ∷ 109 ∷ 32 ∷ [] = e in let no : ◌≡◌ {A = ℕ} 0 114 = cc in absurd (omega (arith, no))
+heads_tell (a ∷ b ∷ []) e = let h : a ∷ b ∷ 0 ∷ 0 ∷ 0 ∷ [] ≡ 70 ∷ 114 ∷ 111 ∷ 109 ∷ 32 ∷ [] = e in let no : ◌≡◌ {A = ℕ} 0 111 = cc in absurd (omega (arith, no))
+heads_tell (a ∷ b ∷ c ∷ []) e = let h : a ∷ b ∷ c ∷ 0 ∷ 0 ∷ [] ≡ 70 ∷ 114 ∷ 111 ∷ 109 ∷ 32 ∷ [] = e in let no : ◌≡◌ {A = ℕ} 0 109 = cc in absurd (omega (arith, no))
+heads_tell (a ∷ b ∷ c ∷ d ∷ []) e = let h : a ∷ b ∷ c ∷ d ∷ 0 ∷ [] ≡ 70 ∷ 114 ∷ 111 ∷ 109 ∷ 32 ∷ [] = e in let no : ◌≡◌ {A = ℕ} 0 32 = cc in absurd (omega (arith, no))
+heads_tell (a ∷ b ∷ c ∷ d ∷ f ∷ rest) e =
+    let h : a ∷ b ∷ c ∷ d ∷ f ∷ [] ≡ 70 ∷ 114 ∷ 111 ∷ 109 ∷ 32 ∷ [] = e in
+    let ea : a ≡ 70 = cc in
+    let eb : b ≡ 114 = cc in
+    let ec : c ≡ 111 = cc in
+    let ed : d ≡ 109 = cc in
+    let ef : f ≡ 32 = cc in
+    rw (ea, eb, ec, ed, ef) refl
+
+last_two : (xs : List ℕ) (n : ℕ) → length xs ≡ n + 2 → xs ≡ take n xs ++ slice_index xs n ∷ slice_index xs (n + 1) ∷ []
+last_two [] n e = absurd (omega (arith, e))
+last_two (a ∷ []) n e = absurd (omega (arith, e))
+last_two (a ∷ b ∷ []) zero e = refl
+last_two (a ∷ b ∷ c ∷ rest) zero e = absurd (omega (arith, e))
+last_two (a ∷ b ∷ rest) (suc n) e =
+    let step : suc n + 1 ≡ suc (n + 1) = omega arith in
+    rw step (ap (λ (l : List ℕ). a ∷ l) (last_two (b ∷ rest) n (omega (arith, e))))
+
+tails_tell : (was : List ℕ) → (edges_of was).tail ≡ 10 ∷ 10 ∷ [] → (front : List ℕ) × (was ≡ front ++ 10 ∷ 10 ∷ [])
+tails_tell [] e = let h : ◌≡◌ {A = List ℕ} (0 ∷ 0 ∷ []) (10 ∷ 10 ∷ []) = e in let no : ◌≡◌ {A = ℕ} 0 10 = cc in absurd (omega (arith, no))
+tails_tell (a ∷ []) e = let h : ◌≡◌ {A = List ℕ} (0 ∷ a ∷ []) (10 ∷ 10 ∷ []) = e in let no : ◌≡◌ {A = ℕ} 0 10 = cc in absurd (omega (arith, no))
+tails_tell (a ∷ b ∷ rest) e =
+    let xs = a ∷ b ∷ rest in
+    let n = length rest in
+    let step : suc (suc n) + 1 ≡ suc (suc (n + 1)) = omega arith in
+    let h : slice_index xs n ∷ slice_index xs (n + 1) ∷ [] ≡ 10 ∷ 10 ∷ [] = (let g = rw step at e in g) in
+    (take n xs, last_two xs n (omega arith) ∙ ap (λ (l : List ℕ). take n xs ++ l) h)
+
+at_end : (front : List ℕ) (x : ℕ) (rest : List ℕ) → slice_index (front ++ x ∷ rest) (length front) ≡ x
+at_end [] x rest = refl
+at_end (byte ∷ front) x rest = at_end front x rest
+
+at_last : (front : List ℕ) (x y : ℕ) → slice_index (front ++ x ∷ y ∷ []) (length front + 1) ≡ y
+at_last [] x y = refl
+at_last (byte ∷ front) x y = let step : suc (length front) + 1 ≡ suc (length front + 1) = omega arith in rw step (at_last front x y)
+
+tail_of : (front : List ℕ) → (edges_of (front ++ 10 ∷ 10 ∷ [])).tail ≡ 10 ∷ 10 ∷ []
+tail_of front =
+    let size : length (front ++ 10 ∷ 10 ∷ []) ≡ suc (suc (length front)) = (let e = length-append front (10 ∷ 10 ∷ []) in omega (arith, e)) in
+    let step : suc (suc (length front)) + 1 ≡ suc (suc (length front + 1)) = omega arith in
+    rw (size, step, at_end front 10 (10 ∷ []), at_last front 10 10) refl
+
+-- the ends of a file that isn't empty and begins with `From ` tell the rest
+pub ends_decide : (edges : Edges) (was : List ℕ) (test : Bool) → edges ≡ edges_of was → (edges.size ≡ 0 → ⊥) → edges.head ≡ from_words
+    → test ≡ bytes_eq edges.tail (10 ∷ 10 ∷ []) → (IsTrue test → MayGoOn was) × (MayGoOn was → IsTrue test)
+ends_decide edges was test is some head e =
+    let same = bytes_eq-Decides edges.tail (10 ∷ 10 ∷ []) in
+    let tail : edges.tail ≡ (edges_of was).tail = ap (λ (g : Edges). g.tail) is in (
+      (λ yes. inr (heads_tell was (sym (ap (λ (g : Edges). g.head) is) ∙ head), tails_tell was (sym tail ∙ same.0 (sym e ∙ yes)))),
+      λ goes. elim goes [
+        | inl none ↦ absurd (some (ap (λ (g : Edges). g.size) is ∙ ap length none))
+        | inr p ↦ e ∙ same.1 (tail ∙ ap (λ (l : List ℕ). (edges_of l).tail) p.1.1 ∙ tail_of p.1.0)
+      ],
+    )
+
+-- no entry may follow where the file isn't empty and doesn't begin with `From `
+pub head_decides : (edges : Edges) (was : List ℕ) → edges ≡ edges_of was → (edges.size ≡ 0 → ⊥) → (edges.head ≡ from_words → ⊥) → MayGoOn was → ⊥
+head_decides edges was is some other goes = elim goes [
+  | inl none ↦ some (ap (λ (g : Edges). g.size) is ∙ ap length none)
+  | inr p ↦ other (ap (λ (g : Edges). g.head) is ∙ ap (λ (l : List ℕ). (edges_of l).head) (begins_with was p.0))
+]
+
+-- ---- appending
+
+-- after an `append` that was refused the file has as many bytes as it had before
+pub may_cut : (old mid new : Stored) (bytes : List ℕ) (edges : Edges) (fault : StoreFault) → Looks old (Ok edges) mid
+    → Appends {T = Unit {0}} mid bytes (Err fault) new → HasBytes new edges.size
+may_cut old mid new bytes edges fault looks appends =
+    let was = looks.0.0 in
+    let left = appends was (ap (λ (s : Stored). s.content) looks.1 ∙ looks.0.1.0) in
+    let size = ap (λ (g : Edges). g.size) looks.0.2 in
+    let total = length-append was left.0 in
+    (was ++ left.0, ap (λ (s : Stored). s.content) left.3, omega (arith, size, total))
+
+-- the entry was appended
+pub appended : (old mid new : Stored) (text entry : List ℕ) (edges : Edges) → Looks old (Ok edges) mid → entry ≡ entry_of text
+    → Appends {T = Unit {0}} mid entry (Ok tt) new → (was : List ℕ) × ((old.content ≡ Some was) × MayGoOn was) × (new ≡ holding old (was ++ entry_of text))
+appended old mid new text entry edges looks is appends =
+    let was = looks.0.0 in (
+      was,
+      looks.0.1,
+      appends was (ap (λ (s : Stored). s.content) looks.1 ∙ looks.0.1.0)
+          ∙ ap (λ (s : Stored). holding s (was ++ entry)) looks.1 ∙ ap (λ (l : List ℕ). holding old (was ++ l)) is,
+    )
+
+-- the file was cut back after a refused `append`: what it is then
+abbrev RefusedEntry : Stored → List ℕ → Stored → Type 0
+RefusedEntry old text new = (new ≡ counted old)
+    ⊎ ((was front rest : List ℕ) × ((old.content ≡ Some was) × MayGoOn was) × (entry_of text ≡ front ++ rest) × (new ≡ counted (counted (holding old (was ++ front)))))
+
+cut_back : {T : Type 0} (old mid torn new : Stored) (text entry : List ℕ) (edges : Edges) (fault : StoreFault) (answer : Result T StoreFault) → Looks old (Ok edges) mid → entry ≡ entry_of text
+    → Appends {T = Unit {0}} mid entry (Err fault) torn → Cuts torn edges.size answer new → RefusedEntry old text new
+cut_back old mid torn new text entry edges fault (Ok done) looks is appends cuts =
+    let was = looks.0.0 in
+    let left = appends was (ap (λ (s : Stored). s.content) looks.1 ∙ looks.0.1.0) in
+    let torn-is : torn ≡ counted (holding old (was ++ left.0)) = left.3 ∙ ap (λ (s : Stored). counted (holding s (was ++ left.0))) looks.1 in
+    let size : length was ≡ edges.size = sym (ap (λ (g : Edges). g.size) looks.0.2) in
+    let cut : take edges.size (was ++ left.0) ≡ was = take_at was left.0 edges.size size in
+    inl (cuts (was ++ left.0) (ap (λ (s : Stored). s.content) torn-is)
+    ∙ ap (λ (l : List ℕ). holding torn l) cut ∙ ap (λ (s : Stored). holding s was) torn-is
+    ∙ ap (λ (o : Option (List ℕ)). counted (record old { content = o })) (sym looks.0.1.0))
+cut_back old mid torn new text entry edges fault (Err again) looks is appends cuts =
+    let was = looks.0.0 in
+    let left = appends was (ap (λ (s : Stored). s.content) looks.1 ∙ looks.0.1.0) in
+    let torn-is : torn ≡ counted (holding old (was ++ left.0)) = left.3 ∙ ap (λ (s : Stored). counted (holding s (was ++ left.0))) looks.1 in
+    let size : length was ≡ edges.size = sym (ap (λ (g : Edges). g.size) looks.0.2) in
+    let cut : take edges.size (was ++ left.0) ≡ was = take_at was left.0 edges.size size in
+    elim (cuts (was ++ left.0) (ap (λ (s : Stored). s.content) torn-is)) [
+      | inl kept ↦ inr (was, left.0, left.1, looks.0.1, sym is ∙ left.2, kept ∙ ap counted torn-is)
+      | inr done ↦ inr (
+        was,
+        [],
+        entry_of text,
+        looks.0.1,
+        refl,
+        done ∙ ap (λ (l : List ℕ). counted (holding torn l)) (cut ∙ sym (append-nil was)) ∙ ap (λ (s : Stored). counted (holding s (was ++ []))) torn-is,
+      )
+    ]
+
+-- the `append` of the entry was refused
+pub refused : {T : Type 0} (old mid torn new : Stored) (text entry : List ℕ) (edges : Edges) (fault : StoreFault) (answer : Result T StoreFault) → fault ≡ Refused
+    → Looks old (Ok edges) mid → entry ≡ entry_of text → Appends {T = Unit {0}} mid entry (Err fault) torn → Cuts torn edges.size answer new
+    → AppendsEntry {T = Unit {0}} old text (Err fault) new
+refused old mid torn new text entry edges fault answer why looks is appends cuts =
+    subst (λ (f : StoreFault). AppendsEntry {T = Unit {0}} old text (Err f) new) (sym why) (cut_back old mid torn new text entry edges fault answer looks is appends cuts)

@@ -1,0 +1,123 @@
+-- Texts cut into lines, each with its LF.
+use Rattle.std.proofs.Common.{◌≡◌, ◌≢◌, ◌⊎◌, inl, inr, ℕ, zero, suc, ◌+◌, ◌<◌, ◌≤◌, List, [], ◌∷◌, ◌++◌, length, take, drop, refl, sym, ap, ◌∙◌, arith, append_assoc}
+use Rattle.std.specs.Prelude.{slice_index}
+use Rattle.std.specs.List.{flat_map, onto_first, AllByRecursion}
+use Rattle.std.proofs.lemmas.Bool.Decides.{eqb_tells}
+use Rattle.std.proofs.lemmas.Grind.{common_steps}
+use Rattle.std.proofs.lemmas.List.{take-append-drop}
+use Rattle.mail_store.specs.Mboxrd.{lines_of, HasNoLf, IsLine, IsWhole}
+
+-- ---- the first line
+
+pub plain_front : (text : List ℕ) (n : ℕ) → ((k : ℕ) → k < n → slice_index text k ≢ 10) → HasNoLf (take n text)
+plain_front [] zero none = tt
+plain_front [] (suc n) none = tt
+plain_front (byte ∷ rest) zero none = tt
+plain_front (byte ∷ rest) (suc n) none = (none 0 (omega arith), plain_front rest n (λ k inside. none (suc k) (omega arith)))
+
+pub plain_all : (text : List ℕ) → ((k : ℕ) → k < length text → slice_index text k ≢ 10) → HasNoLf text
+plain_all [] none = tt
+plain_all (byte ∷ rest) none = (none 0 (omega arith), plain_all rest (λ k inside. none (suc k) (omega arith)))
+
+ended_at : (text : List ℕ) (n : ℕ) → n < length text → slice_index text n ≡ 10 → take (n + 1) text ≡ take n text ++ 10 ∷ []
+ended_at [] n inside at = absurd (omega arith)
+ended_at (byte ∷ rest) zero inside at = ap (λ (b : ℕ). b ∷ []) at
+ended_at (byte ∷ rest) (suc n) inside at =
+    let step : suc n + 1 ≡ suc (n + 1) = omega arith in
+    rw step (ap (λ (l : List ℕ). byte ∷ l) (ended_at rest n (omega arith) at))
+
+-- the bytes up to the first LF are a line
+pub line_front : (text : List ℕ) (n : ℕ) → n < length text → ((k : ℕ) → k < n → slice_index text k ≢ 10) → slice_index text n ≡ 10 → IsLine (take (n + 1) text)
+line_front text n inside none at = record { words = take n text; plain = plain_front text n none; ended = ended_at text n inside at }
+
+words_first : (words rest : List ℕ) → HasNoLf words → lines_of ((words ++ 10 ∷ []) ++ rest) ≡ (words ++ 10 ∷ []) ∷ lines_of rest
+words_first [] rest plain = refl
+words_first (byte ∷ words) rest plain = elim (eqb_tells byte 10) [
+  | inl p ↦ absurd (plain.0 p.1)
+  | inr p ↦ rw (p.0, words_first words rest plain.1) refl
+]
+
+-- a line and what follows it
+pub line_first : (line rest : List ℕ) → IsLine line → lines_of (line ++ rest) ≡ line ∷ lines_of rest
+line_first line rest is =
+    ap (λ (l : List ℕ). lines_of (l ++ rest)) is.ended ∙ words_first is.words rest is.plain ∙ ap (λ (l : List ℕ). l ∷ lines_of rest) (sym is.ended)
+
+-- a last piece without LF
+pub piece_alone : (piece : List ℕ) → HasNoLf piece → 0 < length piece → lines_of piece ≡ piece ∷ []
+piece_alone [] plain some = absurd (omega arith)
+piece_alone (byte ∷ []) plain some = elim (eqb_tells byte 10) [
+  | inl p ↦ absurd (plain.0 p.1)
+  | inr p ↦ rw p.0 refl
+]
+piece_alone (byte ∷ next ∷ rest) plain some = elim (eqb_tells byte 10) [
+  | inl p ↦ absurd (plain.0 p.1)
+  | inr p ↦ rw (p.0, piece_alone (next ∷ rest) plain.1 (omega arith)) refl
+]
+
+-- what `line_len` finds is the first line
+pub first_cut : (text : List ℕ) (n : ℕ) → 0 < length text → IsLine (take n text) ⊎ ((n ≡ length text) × HasNoLf text) → lines_of text ≡ take n text ∷ lines_of (drop n text)
+first_cut text n some found = elim found [
+  | inl is ↦ ap lines_of (sym (take-append-drop n text)) ∙ line_first (take n text) (drop n text) is
+  | inr p ↦
+      let all : take n text ≡ text = grind (arith, common_steps, p.0) in
+      let none : drop n text ≡ [] = grind (arith, common_steps, p.0) in
+      rw (all, none) (piece_alone text p.1 some)
+]
+
+-- ---- whole texts
+
+first_joined : (byte : ℕ) (lines : List (List ℕ)) → flat_map (λ (l : List ℕ). l) (onto_first byte lines) ≡ byte ∷ flat_map (λ (l : List ℕ). l) lines
+first_joined byte [] = refl
+first_joined byte (line ∷ lines) = refl
+
+-- the lines make up the text
+pub lines_joined : (text : List ℕ) → flat_map (λ (l : List ℕ). l) (lines_of text) ≡ text
+lines_joined [] = refl
+lines_joined (byte ∷ rest) = elim (eqb_tells byte 10) [
+  | inl p ↦ rw (p.0, lines_joined rest) (ap (λ (b : ℕ). b ∷ rest) (sym p.1))
+  | inr p ↦ rw p.0 (first_joined byte (lines_of rest) ∙ ap (λ (l : List ℕ). byte ∷ l) (lines_joined rest))
+]
+
+-- lines are the lines of what they make up
+pub lines_kept : (lines : List (List ℕ)) (rest : List ℕ) → AllByRecursion IsLine lines → lines_of (flat_map (λ (l : List ℕ). l) lines ++ rest) ≡ lines ++ lines_of rest
+lines_kept [] rest all = refl
+lines_kept (line ∷ lines) rest all =
+    ap lines_of (append_assoc line (flat_map (λ (l : List ℕ). l) lines) rest) ∙ line_first line (flat_map (λ (l : List ℕ). l) lines ++ rest) all.0
+    ∙ ap (λ (ls : List (List ℕ)). line ∷ ls) (lines_kept lines rest all.1)
+
+more_first : (byte : ℕ) (line : List ℕ) → byte ≢ 10 → IsLine line → IsLine (byte ∷ line)
+more_first byte line other is = record { words = byte ∷ is.words; plain = (other, is.plain); ended = ap (λ (l : List ℕ). byte ∷ l) is.ended }
+
+all_onto_first : (byte : ℕ) (lines : List (List ℕ)) → byte ≢ 10 → lines ≢ [] → AllByRecursion IsLine lines → AllByRecursion IsLine (onto_first byte lines)
+all_onto_first byte [] other some all = absurd (some refl)
+all_onto_first byte (line ∷ lines) other some all = (more_first byte line other all.0, all.1)
+
+some_onto_first : (byte : ℕ) (lines : List (List ℕ)) → onto_first byte lines ≢ []
+some_onto_first byte [] e = cc
+some_onto_first byte (line ∷ lines) e = cc
+
+some_line : (byte : ℕ) (rest : List ℕ) → lines_of (byte ∷ rest) ≢ []
+some_line byte rest = elim (eqb_tells byte 10) [
+  | inl p ↦ rw p.0 (λ e. cc)
+  | inr p ↦ rw p.0 (some_onto_first byte (lines_of rest))
+]
+
+pub empty_line : IsLine (10 ∷ [])
+empty_line = record { words = []; plain = tt; ended = refl }
+
+ended_lines : (front : List ℕ) → AllByRecursion IsLine (lines_of (front ++ 10 ∷ []))
+ended_lines [] = (empty_line, tt)
+ended_lines (byte ∷ []) = elim (eqb_tells byte 10) [
+  | inl p ↦ rw p.0 (empty_line, (empty_line, tt))
+  | inr p ↦ rw p.0 (all_onto_first byte (lines_of (10 ∷ [])) p.1 (some_line 10 []) (empty_line, tt))
+]
+ended_lines (byte ∷ next ∷ front) = elim (eqb_tells byte 10) [
+  | inl p ↦ rw p.0 (empty_line, ended_lines (next ∷ front))
+  | inr p ↦ rw p.0 (all_onto_first byte (lines_of ((next ∷ front) ++ 10 ∷ [])) p.1 (some_line next (front ++ 10 ∷ [])) (ended_lines (next ∷ front)))
+]
+
+pub whole_lines : (text : List ℕ) → IsWhole text → AllByRecursion IsLine (lines_of text)
+whole_lines text whole = elim whole [
+  | inl e ↦ rw e tt
+  | inr p ↦ rw p.1 (ended_lines p.0)
+]

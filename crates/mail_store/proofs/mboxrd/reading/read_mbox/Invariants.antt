@@ -1,0 +1,10 @@
+use Rattle.std.proofs.Common.{length}
+use Rattle.mail_store.specs.MboxCalls.{texts_of}
+use Rattle.mail_store.proofs.MboxReading.{ReadsOn}
+use Rattle.mail_store.proofs.mboxrd.reading.read_mbox.Given as goal
+
+abbrev pub invariant-loop-rest : goal.invariant-loop-rest
+invariant-loop-rest l = ReadsOn l.bytes l.rest (texts_of l.texts)
+
+abbrev pub decreases-loop-rest : goal.decreases-loop-rest
+decreases-loop-rest l = length l.rest

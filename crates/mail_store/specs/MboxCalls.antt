@@ -1,0 +1,64 @@
+-- What the calls on an mboxrd file do, for either outcome.
+use Rattle.std.specs.Prelude.{◌≡◌, ◌⊎◌, ℕ, List, ◌++◌, map, Some, None, Result, Ok, Err, Vec}
+use Rattle.mail_terms.specs.FailureCount.{counted_up}
+use Rattle.mail_store.specs.declared.fault.StoreFault.{StoreFault}
+use Rattle.mail_store.specs.declared.fault.StoreFault.TheVariants.{Missing, Refused, NotMbox, NoMemory}
+use Rattle.mail_store.specs.declared.file.flat_file.Edges.{Edges}
+use Rattle.mail_store.specs.FlatFile.{Stored, holding, counted, edges_of}
+use Rattle.mail_store.specs.Mboxrd.{MayGoOn, MboxFile, HasNoTexts, entry_of}
+
+-- the file has these bytes, and an entry may follow them
+abbrev pub GoesOn : Stored → List ℕ → Type 0
+GoesOn stored was = (stored.content ≡ Some was) × MayGoOn was
+
+-- an entry may not follow the file's bytes
+abbrev pub IsOther : Stored → Type 0
+IsOther stored = (was : List ℕ) × (stored.content ≡ Some was) × (MayGoOn was → ⊥)
+
+-- a file that was only looked at: there is none; the call was refused; or no entry may follow its bytes
+abbrev pub RefusesLook : Stored → StoreFault → Stored → Type 0
+RefusesLook old Missing new = (old.content ≡ None) × (new ≡ old)
+RefusesLook old Refused new = new ≡ counted old
+RefusesLook old NotMbox new = IsOther old × (new ≡ old)
+RefusesLook old NoMemory new = ⊥
+
+-- the size and the ends of a file that an entry may follow
+abbrev pub Looks : Stored → Result Edges StoreFault → Stored → Type 0
+Looks old (Ok edges) new = ((was : List ℕ) × GoesOn old was × (edges ≡ edges_of was)) × (new ≡ old)
+Looks old (Err fault) new = RefusesLook old fault new
+
+-- `check_mbox`: an entry may follow the file
+abbrev pub Checks : {T : Type 0} → Stored → Result T StoreFault → Stored → Type 0
+Checks old (Ok done) new = ((was : List ℕ) × GoesOn old was) × (new ≡ old)
+Checks old (Err fault) new = RefusesLook old fault new
+
+-- `append_entry`: the entry stands behind the file's bytes; there is no file; no entry may follow it;
+-- memory ran out; or it was refused, once, and the file is as it was, or once more where it was cut
+-- back, and a front of the entry may stand there
+abbrev pub AppendsEntry : {T : Type 0} → Stored → List ℕ → Result T StoreFault → Stored → Type 0
+AppendsEntry old text (Ok done) new = (was : List ℕ) × GoesOn old was × (new ≡ holding old (was ++ entry_of text))
+AppendsEntry old text (Err Missing) new = (old.content ≡ None) × (new ≡ old)
+AppendsEntry old text (Err Refused) new = (new ≡ counted old)
+    ⊎ ((was front rest : List ℕ) × GoesOn old was × (entry_of text ≡ front ++ rest) × (new ≡ counted (counted (holding old (was ++ front)))))
+AppendsEntry old text (Err NotMbox) new = IsOther old × (new ≡ old)
+AppendsEntry old text (Err NoMemory) new = new ≡ old
+
+-- the count rises where a call was refused, and once more where the cut that follows was refused too
+abbrev pub TalliesEntry : {T : Type 0} → Result T StoreFault → ℕ → ℕ → Type 0
+TalliesEntry (Ok done) old new = new ≡ old
+TalliesEntry (Err Missing) old new = new ≡ old
+TalliesEntry (Err Refused) old new = (new ≡ counted_up old) ⊎ (new ≡ counted_up (counted_up old))
+TalliesEntry (Err NotMbox) old new = new ≡ old
+TalliesEntry (Err NoMemory) old new = new ≡ old
+
+-- the bytes of each text
+abbrev pub texts_of : {A B : Type 0} → Vec (Vec ℕ A) B → List (List ℕ)
+texts_of texts = map (λ text. text.items) texts.items
+
+-- `read_mbox`: the texts that the bytes stand for; they stand for none; or memory ran out
+abbrev pub ReadsMbox : {A B : Type 0} → List ℕ → Result (Vec (Vec ℕ A) B) StoreFault → Type 0
+ReadsMbox bytes (Ok texts) = MboxFile bytes (texts_of texts)
+ReadsMbox bytes (Err Missing) = ⊥
+ReadsMbox bytes (Err Refused) = ⊥
+ReadsMbox bytes (Err NotMbox) = HasNoTexts bytes
+ReadsMbox bytes (Err NoMemory) = Unit {0}

@@ -1,0 +1,105 @@
+//! Entries of an mboxrd file: a line that begins with `From `, the quoted text and an empty line.
+
+ghost use Rattle.std.specs.Prelude.{◌≡◌, ◌≢◌, ◌↔◌, List, ℕ, length, IfErr, IfOk, IsTrue};
+ghost use Rattle.mail_terms.specs.FailureCount.{Tallies, refuses};
+ghost use Rattle.mail_store.specs.Fault.{is_refusal};
+ghost use Rattle.mail_store.specs.FlatFile.{edges_of};
+ghost use Rattle.mail_store.specs.Mboxrd.{IsWhole, MayGoOn, entry_of, EntryAddsText, OneReading, TextsMayGoOn};
+ghost use Rattle.mail_store.specs.MboxCalls.{Looks, Checks, AppendsEntry, TalliesEntry};
+
+use crate::fault::StoreFault;
+use crate::file::flat_file::{Edges, FlatFile};
+use crate::mboxrd::quoting::{put_quoted, quoted_len};
+use std::alloc::{AllocError, Global};
+
+const SEPARATOR: &[u8] = b"From MAILER-DAEMON Thu Jan  1 00:00:00 1970\n";
+
+/// Whether an entry may follow a file of this size and these ends: it is empty, or begins with
+/// `From ` and ends with LF LF.
+fn may_go_on(edges: &Edges) -> bool
+    ensures { (was : List ℕ) → edges.now ≡ edges_of was → (IsTrue result ↔ MayGoOn was) }
+{
+    edges.size == 0 || (edges.head == *b"From " && edges.tail == *b"\n\n")
+}
+
+/// The size and the ends of a file that an entry may follow.
+fn look_at<F: FlatFile>(file: &mut F) -> Result<Edges, StoreFault>
+    ensures looks { F.sound file.new → F.sound file.old
+        × Looks (F.stored file.old) result (F.stored file.new) }
+    ensures fault { IfErr result (λ e. e ≢ StoreFault.NoMemory) }
+    ensures count { Tallies (refuses is_refusal result) (F.stored file.old).failures (F.stored file.new).failures }
+{
+    let edges = file.edges()?;
+    if !may_go_on(&edges) {
+        return Err(StoreFault::NotMbox);
+    }
+    Ok(edges)
+}
+
+/// Tells whether an entry may follow a file: it is empty, or begins with `From ` and ends with LF LF.
+/// Missing where there is no file, Refused where the device refused, NotMbox where no entry may
+/// follow. The file stays as it was.
+pub fn check_mbox<F: FlatFile>(file: &mut F) -> Result<(), StoreFault>
+    ensures checks { F.sound file.new → F.sound file.old
+        × Checks (F.stored file.old) result (F.stored file.new) }
+    ensures fault { IfErr result (λ e. e ≢ StoreFault.NoMemory) }
+    ensures count { Tallies (refuses is_refusal result) (F.stored file.old).failures (F.stored file.new).failures }
+{
+    look_at(file)?;
+    Ok(())
+}
+
+/// The entry of a text.
+fn entry_of(alloc: Global, text: &[u8]) -> Result<Vec<u8>, AllocError>
+    ensures { IfOk result (λ entry. entry.items ≡ entry_of text.now) }
+{
+    let mut entry = Vec::with_capacity(alloc, SEPARATOR.len() + quoted_len(text) + 1)?;
+    entry.extend_from_slice(SEPARATOR)?;
+    put_quoted(&mut entry, text)?;
+    entry.push(b'\n')?;
+    Ok(entry)
+}
+
+/// How many bytes the entry of a text takes. The text is whole, which `is_whole` tells.
+pub fn entry_len(text: &[u8]) -> u64
+    requires { IsWhole text.now }
+    ensures { result ≡ length (entry_of text.now) }
+{
+    (SEPARATOR.len() + quoted_len(text) + 1) as u64
+}
+
+/// Puts the entry of a text behind a file, by one `append`. The text is whole, which `is_whole`
+/// tells. Missing where there is no file, NotMbox where it isn't empty and doesn't both begin with
+/// `From ` and end with LF LF, NoMemory where the entry finds no room: the file is then as it was.
+/// Refused where the device refused; after a refused `append` the file is cut back to the size that
+/// it had, and only where that is refused too a front of the entry may stand there.
+pub fn append_entry<F: FlatFile>(alloc: Global, file: &mut F, text: &[u8]) -> Result<(), StoreFault>
+    requires { IsWhole text.now }
+    ensures appends { F.sound file.new → F.sound file.old
+        × AppendsEntry (F.stored file.old) text.now result (F.stored file.new) }
+    ensures count { TalliesEntry result (F.stored file.old).failures (F.stored file.new).failures }
+{
+    let edges = look_at(file)?;
+    let entry = entry_of(alloc, text)?;
+    if let Err(fault) = file.append(&entry) {
+        let _ = file.cut_to(edges.size);
+        return Err(fault);
+    }
+    Ok(())
+}
+
+/// A file that stands for texts, followed by the entry of one more, stands for the texts and then
+/// for that one.
+pub fn entries_add_texts()
+    ensures { EntryAddsText }
+{}
+
+/// A file stands for one list of texts only.
+pub fn files_have_one_reading()
+    ensures { OneReading }
+{}
+
+/// An entry may follow each file that stands for texts.
+pub fn entries_may_follow_texts()
+    ensures { TextsMayGoOn }
+{}

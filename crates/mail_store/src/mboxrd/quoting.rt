@@ -1,0 +1,134 @@
+//! Quoting of texts for an mboxrd file, in which `From ` at the start of a line begins an entry: a
+//! line that is `>` any number of times and then `From ` gets one more `>` (mboxrd).
+
+ghost use Rattle.std.specs.Prelude.{◌≡◌, ◌⊎◌, ◌↔◌, ◌<◌, ◌≤◌, ◌*◌, ◌++◌, ◌∷◌, [], length, take, drop, IfOk, IsTrue, OnOk, false};
+ghost use Rattle.std.specs.List.{prefix_len};
+ghost use Rattle.mail_store.specs.Mboxrd.{HasNoLf, IsLine, IsWhole, begins_entry, is_greater, is_marked, quoted_text, unquoted, unquoted_text, UnquotesQuoted};
+
+use memchr::memchr;
+use std::alloc::{AllocError, Global};
+
+/// Whether a text is empty or ends in LF.
+pub fn is_whole(text: &[u8]) -> bool
+    ensures { IsTrue result ↔ IsWhole text.now }
+{
+    text.is_empty() || text.ends_with(b"\n")
+}
+
+/// How many bytes the first line of a text takes, its LF included. Without an LF that is all of them.
+pub fn line_len(text: &[u8]) -> usize
+    requires { 0 < length text.now }
+    ensures some { 0 < result }
+    ensures fits { result ≤ length text.now }
+    ensures line { IsLine (take result text.now) ⊎ ((result ≡ length text.now) × HasNoLf text.now) }
+{
+    match memchr(b'\n', text) {
+        Some(place) => place + 1,
+        None => text.len(),
+    }
+}
+
+/// Whether a line begins with `From `.
+pub fn begins_entry(line: &[u8]) -> bool
+    ensures { result ≡ begins_entry line.now }
+{
+    line.starts_with(b"From ")
+}
+
+/// How many `>` a line begins with.
+fn depth(line: &[u8]) -> usize
+    ensures value { result ≡ prefix_len is_greater line.now }
+    ensures fits { result ≤ length line.now }
+{
+    line.iter().take_while(|byte| **byte == b'>').count()
+}
+
+/// Whether a line is `>` any number of times and then `From `.
+fn is_marked(line: &[u8]) -> bool
+    ensures { result ≡ is_marked line.now }
+{
+    begins_entry(&line[depth(line)..])
+}
+
+/// Whether a line is `>` at least once and then `From `.
+fn is_quoted(line: &[u8]) -> bool
+    ensures quoted { IsTrue result → (0 < length line.now) × (unquoted line.now ≡ drop 1 line.now) }
+    ensures plain { result ≡ false → unquoted line.now ≡ line.now }
+{
+    match line {
+        [b'>', rest @ ..] => is_marked(rest),
+        _ => false,
+    }
+}
+
+/// How many bytes the quoted text takes.
+pub fn quoted_len(text: &[u8]) -> usize
+    ensures value { result ≡ length (quoted_text text.now) }
+    ensures bound { 5 * result ≤ 6 * length text.now }
+{
+    let mut marked = 0;
+    let mut rest = text;
+    while !rest.is_empty() {
+        let (line, after) = rest.split_at(line_len(rest));
+        if is_marked(line) {
+            marked += 1;
+        }
+        rest = after;
+    }
+    text.len() + marked
+}
+
+/// Puts the quoted text behind what stands there, in runs of lines. Where memory runs out a part of
+/// it may stand there.
+pub fn put_quoted(out: &mut Vec<u8>, text: &[u8]) -> Result<(), AllocError>
+    ensures { OnOk result (out.new.items ≡ out.old.items ++ quoted_text text.now) }
+{
+    let mut run = text;
+    let mut rest = text;
+    while !rest.is_empty() {
+        let (line, after) = rest.split_at(line_len(rest));
+        if is_marked(line) {
+            out.extend_from_slice(&run[..run.len() - rest.len()])?;
+            out.push(b'>')?;
+            run = rest;
+        }
+        rest = after;
+    }
+    out.extend_from_slice(run)
+}
+
+/// A text as it stands in an entry: each line that is `>` any number of times and then `From ` gets
+/// one more `>`. The text is whole, which `is_whole` tells. Room is taken once.
+pub fn quote(alloc: Global, text: &[u8]) -> Result<Vec<u8>, AllocError>
+    requires { IsWhole text.now }
+    ensures { IfOk result (λ quoted. quoted.items ≡ quoted_text text.now) }
+{
+    let mut quoted = Vec::with_capacity(alloc, quoted_len(text))?;
+    put_quoted(&mut quoted, text)?;
+    Ok(quoted)
+}
+
+/// The text that a quoted one stands for: each line that is `>` at least once and then `From ` loses
+/// one `>`. Room is taken once.
+pub fn unquote(alloc: Global, text: &[u8]) -> Result<Vec<u8>, AllocError>
+    ensures { IfOk result (λ unquoted. unquoted.items ≡ unquoted_text text.now) }
+{
+    let mut unquoted = Vec::with_capacity(alloc, text.len())?;
+    let mut run = text;
+    let mut rest = text;
+    while !rest.is_empty() {
+        let (line, after) = rest.split_at(line_len(rest));
+        if is_quoted(line) {
+            unquoted.extend_from_slice(&run[..run.len() - rest.len()])?;
+            run = &rest[1..];
+        }
+        rest = after;
+    }
+    unquoted.extend_from_slice(run)?;
+    Ok(unquoted)
+}
+
+/// Unquoting a quoted text gives the text.
+pub fn unquoting_undoes_quoting()
+    ensures { UnquotesQuoted }
+{}
