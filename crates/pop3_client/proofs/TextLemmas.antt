@@ -4,7 +4,7 @@ use Rattle.std.proofs.lemmas.List.{append_cancel_left}
 use Rattle.pop3_wire.specs.Line.{ended}
 use Rattle.pop3_wire.specs.Body.{Body, body_of}
 use Rattle.pop3_wire.specs.Place.{Place}
-use Rattle.pop3_wire.specs.Bodies.{Rest, Leaves, Drew, BodyCause}
+use Rattle.pop3_wire.specs.Bodies.{Rest, LeavesRest, Drew, BodyCause}
 use Rattle.pop3_wire.specs.Unstuffing.{Reaches}
 use Rattle.pop3_wire.specs.declared.body_reader.BodyFault.TheVariants.{Ended, Failed, TooLong}
 use Rattle.pop3_wire.specs.declared.unstuffer.Spot.{Spot}
@@ -35,7 +35,7 @@ pub dropped : (number : ℕ) (old new : Place) (body : Rest) (text : List ℕ) �
 dropped number old new body text now done = let whole = fetched number old new body text now done in (whole.0, whole.1)
 
 -- a text under way broke
-module _ (number : ℕ) (start mid new : Place) (line : List ℕ) (begun : Opened (retr number) line start mid) (leaves : Leaves text_limit mid new) (gained : List ℕ)
+module _ (number : ℕ) (start mid new : Place) (line : List ℕ) (begun : Opened (retr number) line start mid) (leaves : LeavesRest text_limit mid new) (gained : List ℕ)
     (drew : Drew mid.link new.link gained) where
   there : (fault : Fault) → Cause fault (retr number) mid.link new.link (ended line ++ (mid.waiting ++ gained)) → ((to : Asked) → fault ≡ Refused to → ⊥) → Broke (retr number) start new fault
   there fault cause other =

@@ -6,7 +6,8 @@ use Rattle.pop3_wire.specs.Link.{Link}
 use Rattle.pop3_wire.specs.Place.{HasLine, HasNoLine}
 use Rattle.pop3_wire.proofs.LineLemmas.{IsLine-front, IsLine-back}
 use Rattle.pop3_server.specs.Got.{Waiting}
-use Rattle.pop3_server.specs.Serving.{Took, Queues}
+use Rattle.pop3_server.specs.Serving.{Queues}
+use Rattle.pop3_wire.specs.Bodies.{Drew}
 
 -- two pieces that share an octet are a line if both are
 no_split : (part back : List ℕ) (b : ℕ) → IsLine (part ++ b ∷ []) → IsLine (b ∷ back) → (front rest : List ℕ) → part ++ b ∷ back ≡ front ++ (crlf ++ rest) → ⊥
@@ -103,13 +104,13 @@ dropped_end before now gained part d none short =
     subst IsLine (ap (λ (l : List ℕ). part ++ l) (take_all 512 now.octets (omega arith))) (spliced part now.octets 512 d.line none.none)
 
 -- a link took more after it took some
-pub took_on : (a b c : Link) (g h : List ℕ) → Took a b g → Took b c h → Took a c (g ++ h)
+pub took_on : (a b c : Link) (g h : List ℕ) → Drew a b g → Drew b c h → Drew a c (g ++ h)
 took_on a b c g h first second = record {
   got = second.got ∙ ap (λ (l : List ℕ). l ++ h) first.got ∙ append_assoc a.got g h;
   sent = second.sent ∙ first.sent;
 }
 
-pub took_none : (a : Link) → Took a a []
+pub took_none : (a : Link) → Drew a a []
 took_none a = record { got = sym (append-nil a.got); sent = refl }
 
 pub takes_on : (a b c : Waiting) (dropped g h : List ℕ) → Queues a [] b g → Queues b dropped c h → Queues a dropped c (g ++ h)

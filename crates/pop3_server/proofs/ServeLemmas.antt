@@ -16,7 +16,8 @@ use Rattle.pop3_server.specs.ServerMachine.{Machine, Deed, Say, Open, Give, Leav
 use Rattle.pop3_server.specs.LoopLaws.{runs_on}
 use Rattle.pop3_server.specs.AnswersLines.{AnswersLines, AnswersLine, SameServer}
 use Rattle.pop3_server.specs.Got.{Waiting}
-use Rattle.pop3_server.specs.Serving.{Took, Queues, AllSent, Served}
+use Rattle.pop3_server.specs.Serving.{Queues, AllSent, Served}
+use Rattle.pop3_wire.specs.Bodies.{Drew}
 
 -- the greeting and the answers to all lines that were got whole went out
 pub record Progress {D : Type 0} (sound : D → Type 0) (mail : D → Mail) (old : Machine D) (before : Link) (server : Machine D) (link : Link) (waiting : Waiting) : Type 0 where
@@ -44,7 +45,7 @@ flat_push (first ∷ lines) line = ap (λ (l : List ℕ). ended first ++ l) (fla
 
 -- one more line came and was answered
 pub progress_line : {D : Type 0} (sound : D → Type 0) (mail : D → Mail) (old server next : Machine D) (before link taken sent : Link) (waiting after : Waiting) (g line answer : List ℕ)
-    → Progress sound mail old before server link waiting → Took link taken g → waiting.octets ++ g ≡ ended line ++ after.octets → length g + after.left ≡ waiting.left → IsLine line
+    → Progress sound mail old before server link waiting → Drew link taken g → waiting.octets ++ g ≡ ended line ++ after.octets → length g + after.left ≡ waiting.left → IsLine line
     → AnswersLine sound mail server line answer next → sent ≡ record taken { sent = taken.sent ++ answer } → Progress sound mail old before next sent after
 progress_line sound mail old server next before link taken sent waiting after g line answer p took octets left is turn sends = record {
   gained = p.gained ++ g;
@@ -92,7 +93,7 @@ served_closed sound mail old server before link waiting p closed =
 
 -- one more line came, and memory was wanting for its answer
 pub served_unanswered : {D : Type 0} (sound : D → Type 0) (mail : D → Mail) (old server next : Machine D) (before link taken : Link) (waiting after : Waiting) (g : List ℕ)
-    → Progress sound mail old before server link waiting → Took link taken g → Queues waiting [] after g → SameServer sound mail server next → Served sound mail old before (Err NoMemory) next taken
+    → Progress sound mail old before server link waiting → Drew link taken g → Queues waiting [] after g → SameServer sound mail server next → Served sound mail old before (Err NoMemory) next taken
 served_unanswered sound mail old server next before link taken waiting after g p took takes same =
     let total = within sound mail old server before link waiting g after.left p takes.left in
     record {
@@ -111,7 +112,7 @@ served_unanswered sound mail old server next before link taken waiting after g p
 
 -- one more line came, and its answer went out in part
 pub served_unsent : {D : Type 0} (sound : D → Type 0) (mail : D → Mail) (old server next : Machine D) (before link taken sent : Link) (waiting after : Waiting) (g line answer front rest : List ℕ) (count : ℕ)
-    → Progress sound mail old before server link waiting → Took link taken g → waiting.octets ++ g ≡ ended line ++ after.octets → length g + after.left ≡ waiting.left → IsLine line
+    → Progress sound mail old before server link waiting → Drew link taken g → waiting.octets ++ g ≡ ended line ++ after.octets → length g + after.left ≡ waiting.left → IsLine line
     → AnswersLine sound mail server line answer next → answer ≡ front ++ rest → sent ≡ record taken { sent = taken.sent ++ front; failures = count }
     → Served sound mail old before (Err WriteFailed) next sent
 served_unsent sound mail old server next before link taken sent waiting after g line answer front rest count p took octets left is turn part sends =

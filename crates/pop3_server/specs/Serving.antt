@@ -2,6 +2,7 @@
 use Rattle.std.specs.Prelude.{◌≡◌, ◌⊎◌, ◌≤◌, ◌<◌, ◌+◌, ◌-◌, ℕ, Bool, true, false, List, [], ◌∷◌, ◌++◌, length, Result, Ok, Err}
 use Rattle.std.specs.List.{flat_map, AllByRecursion}
 use Rattle.pop3_wire.specs.Line.{IsLine, ended}
+use Rattle.pop3_wire.specs.Bodies.{Drew}
 use Rattle.pop3_wire.specs.Link.{Link}
 use Rattle.pop3_wire.specs.Place.{HasLine}
 use Rattle.pop3_server.specs.declared.fault.ServerFault.{ServerFault}
@@ -22,11 +23,6 @@ max_octets = 16777216
 
 -- ---- what comes in
 
--- these octets were got, and nothing was sent
-pub record Took (old new : Link) (gained : List ℕ) : Type 0 where
-  pub got : new.got ≡ old.got ++ gained
-  pub sent : new.sent ≡ old.sent
-
 -- the octets got wait behind those that waited, but for a line that was dropped in front
 pub record Queues (before : Waiting) (dropped : List ℕ) (after : Waiting) (gained : List ℕ) : Type 0 where
   pub octets : before.octets ++ gained ≡ dropped ++ after.octets
@@ -35,14 +31,14 @@ pub record Queues (before : Waiting) (dropped : List ℕ) (after : Waiting) (gai
 -- a line waits, one that is too long was dropped, or no whole line will come
 abbrev pub Hears : Link → Waiting → Result Heard ServerFault → Link → Waiting → Type 0
 Hears old before (Ok (Line n)) new after =
-    (gained : List ℕ) × Took old new gained × Queues before [] after gained × HasLine max_line after.octets n
+    (gained : List ℕ) × Drew old new gained × Queues before [] after gained × HasLine max_line after.octets n
 Hears old before (Ok LongLine) new after =
-    (gained line : List ℕ) × Took old new gained × Queues before (ended line) after gained × IsLine line × (max_line - 2 < length line)
+    (gained line : List ℕ) × Drew old new gained × Queues before (ended line) after gained × IsLine line × (max_line - 2 < length line)
 Hears old before (Ok End) new after =
-    (gained rest : List ℕ) × Took old new gained × Queues before rest after gained × IsLine (rest ++ after.octets)
+    (gained rest : List ℕ) × Drew old new gained × Queues before rest after gained × IsLine (rest ++ after.octets)
     × ((new.ended ≡ true) ⊎ (after.left ≡ 0))
 Hears old before (Err fault) new after =
-    (fault ≡ ReadFailed) × ((gained dropped : List ℕ) × Took old new gained × Queues before dropped after gained)
+    (fault ≡ ReadFailed) × ((gained dropped : List ℕ) × Drew old new gained × Queues before dropped after gained)
 
 -- nothing more came because nothing comes any more, or because no more may be taken
 abbrev pub TakesMore : Result Bool ServerFault → ℕ → Link → Type 0

@@ -1,10 +1,11 @@
 //! The lines that a server gets, within its limits.
 ghost use Rattle.std.specs.Prelude.{◌≡◌, ◌≤◌, ◌<◌, ◌+◌, ◌-◌, ◌*◌, ◌++◌, ℕ, List, [], length, take, drop, true, false, IfOk, IfErr, IfSome, IfNone, Ok, Err};
-ghost use Rattle.pop3_wire.specs.Link.{CountsFailure};
+ghost use Rattle.pop3_wire.specs.Link.{CountsFailure, WhereSound};
 ghost use Rattle.pop3_wire.specs.Place.{HasLine, HasNoLine};
 ghost use Rattle.pop3_server.specs.declared.intake.Heard.TheVariants.{LongLine};
 ghost use Rattle.pop3_server.specs.Got.{Waiting};
-ghost use Rattle.pop3_server.specs.Serving.{Took, Hears, TakesMore, Found};
+ghost use Rattle.pop3_server.specs.Serving.{Hears, TakesMore, Found};
+ghost use Rattle.pop3_wire.specs.Bodies.{Drew};
 
 use crate::fault::ServerFault;
 use pop3_wire::{LineReader, Wire};
@@ -86,7 +87,7 @@ impl Intake {
         ensures takes { (piece : List ℕ) × (length piece + self.new.left ≡ self.old.left) × (self.new.octets ≡ self.old.octets ++ piece)
             × (result ≡ Ok true → 0 < length piece)
             × (result ≡ Ok false → length piece ≡ 0)
-            × (W.sound wire.new → W.sound wire.old × W.leads_to wire.old wire.new × Took (W.seen wire.old) (W.seen wire.new) piece
+            × (W.sound wire.new → W.sound wire.old × W.leads_to wire.old wire.new × Drew (W.seen wire.old) (W.seen wire.new) piece
             × TakesMore result self.new.left (W.seen wire.new)) }
     {
         if self.left == 0 {
@@ -109,8 +110,8 @@ impl Intake {
         ensures err { IfErr result (λ e. e ≡ ServerFault.ReadFailed) }
         ensures found { IfOk result (λ heard. Found heard self.new) }
         ensures fewer { length self.new.octets + 2 * self.new.left < length self.old.octets + 2 * self.old.left }
-        ensures hears { W.sound wire.new → W.sound wire.old × W.leads_to wire.old wire.new
-            × Hears (W.seen wire.old) self.old result (W.seen wire.new) self.new }
+        ensures hears { WhereSound W.sound W.leads_to wire.old wire.new
+            (Hears (W.seen wire.old) self.old result (W.seen wire.new) self.new) }
     {
         self.skip(MAX_LINE - 1);
         loop {
@@ -140,8 +141,8 @@ impl Intake {
         ensures found { IfOk result (λ heard. Found heard self.new) }
         ensures fewer { length self.new.octets + 2 * self.new.left ≤ length self.old.octets + 2 * self.old.left }
         ensures dropped { result ≡ Ok LongLine → length self.new.octets + 2 * self.new.left < length self.old.octets + 2 * self.old.left }
-        ensures hears { W.sound wire.new → W.sound wire.old × W.leads_to wire.old wire.new
-            × Hears (W.seen wire.old) self.old result (W.seen wire.new) self.new }
+        ensures hears { WhereSound W.sound W.leads_to wire.old wire.new
+            (Hears (W.seen wire.old) self.old result (W.seen wire.new) self.new) }
     {
         loop {
             if let Some(length) = self.line_end() {

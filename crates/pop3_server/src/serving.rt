@@ -1,6 +1,6 @@
 //! Serving a link: the greeting, and an answer to each line.
 ghost use Rattle.std.specs.Prelude.{◌≡◌, ◌≤◌, ◌<◌, ◌+◌, ◌*◌, ℕ, List, length, true, false, Ok, Err, IfOk, IfErr, IsOk};
-ghost use Rattle.pop3_wire.specs.Link.{CountsFailure, Sends};
+ghost use Rattle.pop3_wire.specs.Link.{CountsFailure, Sends, WhereSound};
 ghost use Rattle.pop3_server.specs.ServerMachine.{is_open};
 ghost use Rattle.pop3_server.specs.Serving.{Served, refusal_of};
 
@@ -14,8 +14,8 @@ use pop3_wire::Wire;
 fn send<W: Wire>(wire: &mut W, bytes: &[u8]) -> Result<(), ServerFault>
     ensures counted { CountsFailure (W.seen wire.old) result (W.seen wire.new) }
     ensures err { IfErr result (λ e. e ≡ ServerFault.WriteFailed) }
-    ensures sends { W.sound wire.new → W.sound wire.old × W.leads_to wire.old wire.new
-        × Sends (W.seen wire.old) bytes.now result (W.seen wire.new) }
+    ensures sends { WhereSound W.sound W.leads_to wire.old wire.new
+        (Sends (W.seen wire.old) bytes.now result (W.seen wire.new)) }
 {
     match wire.send(bytes) {
         Ok(()) => Ok(()),
@@ -36,8 +36,8 @@ pub fn serve<D: Maildrop, W: Wire>(server: &mut Server<D>, wire: &mut W) -> Resu
     ensures counted { CountsFailure (W.seen wire.old) (refusal_of result) (W.seen wire.new) }
     ensures removals { is_open server.new.state ≡ true
         → (D.mail server.new.drop).removals ≡ (D.mail server.old.drop).removals }
-    ensures served { W.sound wire.new → W.sound wire.old × W.leads_to wire.old wire.new
-        × Served D.sound D.mail server.old (W.seen wire.old) result server.new (W.seen wire.new) }
+    ensures served { WhereSound W.sound W.leads_to wire.old wire.new
+        (Served D.sound D.mail server.old (W.seen wire.old) result server.new (W.seen wire.new)) }
 {
     let hello = match server.greeting() {
         Ok(hello) => hello,

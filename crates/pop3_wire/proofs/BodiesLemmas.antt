@@ -4,7 +4,7 @@ use Rattle.std.proofs.lemmas.List.{append-nil, take_at}
 use Rattle.pop3_wire.specs.Body.{HasNoBody}
 use Rattle.pop3_wire.specs.Link.{Link}
 use Rattle.pop3_wire.specs.Place.{Place, at, GoesOn}
-use Rattle.pop3_wire.specs.Bodies.{Drew, DrawsNothing, BodyCause, Leaves, Rest, rest_of, UnderWay, ReadsBody}
+use Rattle.pop3_wire.specs.Bodies.{Drew, DrawsNothing, BodyCause, LeavesRest, Rest, rest_of, UnderWay, ReadsBody}
 use Rattle.pop3_wire.specs.declared.body_reader.BodyFault.{BodyFault}
 use Rattle.pop3_wire.specs.declared.body_reader.BodyFault.TheVariants.{Ended, Failed, TooLong, NoMemory}
 use Rattle.pop3_wire.specs.declared.unstuffer.Spot.{Spot}
@@ -13,7 +13,7 @@ use Rattle.pop3_wire.specs.Unstuffing.{Reaches}
 use Rattle.pop3_wire.proofs.UnstuffingLemmas.{reached_no_body, partly_none}
 
 -- so far what was used is within the limit, and the rest waits
-pub leaves : (limit : ℕ) (old new : Place) (body : Rest) (text : List ℕ) → UnderWay limit old new body text → Leaves limit old new
+pub leaves : (limit : ℕ) (old new : Place) (body : Rest) (text : List ℕ) → UnderWay limit old new body text → LeavesRest limit old new
 leaves limit old new body text now =
     let sizes : length now.used + body.left ≡ limit = now.sizes in
     record { gained = now.gained; used = now.used; got = now.drew.got; within = omega arith; heard = now.heard }
@@ -116,7 +116,7 @@ under_way_on limit old link waits body text now link' more waits1 waits2 n spot'
 -- nothing came
 pub under_way_ends : (limit : ℕ) (old : Place) (link : Link) (waits : List ℕ) (body : Rest) (text : List ℕ) → UnderWay limit old (at link waits) body text
     → body.spot ≢ Done → 0 < body.left → (fault : BodyFault) (link' : Link) (waits' : List ℕ) → waits ≡ [] → waits' ≡ [] → DrawsNothing fault link link'
-    → Leaves limit old (at link' waits') × ((gained : List ℕ) × Drew old.link link' gained × BodyCause limit fault old.link link' (old.waiting ++ gained))
+    → LeavesRest limit old (at link' waits') × ((gained : List ℕ) × Drew old.link link' gained × BodyCause limit fault old.link link' (old.waiting ++ gained))
 under_way_ends limit old link waits body text now other some fault link' waits' none none' nothing =
     let cause = cause_of_nothing fault limit body.left body.spot old.link link link' old.waiting now.gained now.used text
     now.reached other now.sizes some (now.heard ∙ ap (λ (l : List ℕ). now.used ++ l) none) now.drew now.steady nothing in
@@ -127,7 +127,7 @@ under_way_ends limit old link waits body text now other some fault link' waits' 
 
 -- no more octets may be taken
 pub under_way_too_long : (limit : ℕ) (old new : Place) (body : Rest) (text : List ℕ) → UnderWay limit old new body text → body.spot ≢ Done → body.left ≡ 0
-    → Leaves limit old new × ((gained : List ℕ) × Drew old.link new.link gained × BodyCause limit TooLong old.link new.link (old.waiting ++ gained))
+    → LeavesRest limit old new × ((gained : List ℕ) × Drew old.link new.link gained × BodyCause limit TooLong old.link new.link (old.waiting ++ gained))
 under_way_too_long limit old new body text now other none =
     let sizes : length now.used + body.left ≡ limit = now.sizes in
     let whole : length now.used ≡ limit = omega arith in

@@ -29,7 +29,7 @@ pub record TookBody (limit : ℕ) (old new : Place) (text gained : List ℕ) : T
   pub heard : old.waiting ++ gained ≡ body ++ new.waiting
 
 -- of what waited and was gained at most so many octets were used, and all that follows them waits
-pub record Leaves (limit : ℕ) (old new : Place) : Type 0 where
+pub record LeavesRest (limit : ℕ) (old new : Place) : Type 0 where
   pub gained : List ℕ
   pub used : List ℕ
   pub got : new.link.got ≡ old.link.got ++ gained
@@ -68,7 +68,7 @@ pub record UnderWay (limit : ℕ) (old new : Place) (body : Rest) (text : List �
 -- a body that is under way goes on: a piece of the text is put behind what was known, or there is none, and why
 abbrev pub TakesPiece : ℕ → Place → List ℕ → Result Piece BodyFault → List ℕ → Place → Rest → Type 0
 TakesPiece limit start text (Ok piece) out new body = UnderWay limit start new body (text ++ take piece.put out)
-TakesPiece limit start text (Err fault) out new body = Leaves limit start new
+TakesPiece limit start text (Err fault) out new body = LeavesRest limit start new
     × ((gained : List ℕ) × Drew start.link new.link gained × BodyCause limit fault start.link new.link (start.waiting ++ gained))
 
 -- the items of a vector that a call gave

@@ -1,6 +1,6 @@
 //! Taking one body from a link, into its text (RFC 1939, section 3).
 ghost use Rattle.std.specs.Prelude.{◌≡◌, ◌≢◌, ◌≤◌, ◌<◌, ◌+◌, ◌-◌, ◌++◌, ◌↔◌, ℕ, List, [], length, take, drop, min, IsTrue, IfOk, IfErr, OnOk, OnErr};
-ghost use Rattle.pop3_wire.specs.Bodies.{Drew, DrawsNothing, Leaves, ReadsBody, UnderWay, TakesPiece, rest_of, items_of, refusal_of};
+ghost use Rattle.pop3_wire.specs.Bodies.{Drew, DrawsNothing, LeavesRest, ReadsBody, UnderWay, TakesPiece, rest_of, items_of, refusal_of};
 ghost use Rattle.pop3_wire.specs.Link.{CountsFailure, WhereSound};
 ghost use Rattle.pop3_wire.specs.Place.{Place, at, GoesOn};
 ghost use Rattle.pop3_wire.specs.Unstuffing.{Reaches};
@@ -172,7 +172,7 @@ pub fn read_body<W: Wire>(
     ensures counted { CountsFailure (W.seen wire.old) (refusal_of result) (W.seen wire.new) }
     ensures read { WhereSound W.sound W.leads_to wire.old wire.new
         (ReadsBody limit (at (W.seen wire.old) reader.old) (items_of result) (at (W.seen wire.new) reader.new)) }
-    ensures rest { W.sound wire.new → Leaves limit (at (W.seen wire.old) reader.old) (at (W.seen wire.new) reader.new) }
+    ensures rest { W.sound wire.new → LeavesRest limit (at (W.seen wire.old) reader.old) (at (W.seen wire.new) reader.new) }
 {
     let mut body = BodyReader::new(limit);
     let mut out = [0u8; 4097];

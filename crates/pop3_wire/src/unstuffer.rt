@@ -157,14 +157,14 @@ fn copy_run(spot: Spot, piece: &[u8], out: &mut [u8], put: usize) -> usize
 /// Where the first octets of a piece lead, how many they are, and how many octets stand in the
 /// buffer then.
 #[derive(Clone, Copy)]
-struct Turn {
+struct Advance {
     spot: Spot,
     used: usize,
     put: usize,
 }
 
 /// Reads the first octets of a piece, and puts what they give behind the first `put` octets.
-fn take_turn(spot: Spot, piece: &[u8], out: &mut [u8], put: usize) -> Turn
+fn go_on(spot: Spot, piece: &[u8], out: &mut [u8], put: usize) -> Advance
     requires inside { spot ≢ Spot.Done }
     requires some { 0 < length piece.now }
     requires room { put + length piece.now + held_back spot ≤ length out.old }
@@ -175,7 +175,7 @@ fn take_turn(spot: Spot, piece: &[u8], out: &mut [u8], put: usize) -> Turn
 {
     if let Some((next, byte)) = pair(spot, piece) {
         let put = write(out, put, Given::One(byte));
-        return Turn {
+        return Advance {
             spot: next,
             used: 2,
             put,
@@ -183,7 +183,7 @@ fn take_turn(spot: Spot, piece: &[u8], out: &mut [u8], put: usize) -> Turn
     }
     let run = copy_run(spot, piece, out, put);
     if run > 0 {
-        return Turn {
+        return Advance {
             spot,
             used: run,
             put: put + run,
@@ -191,7 +191,7 @@ fn take_turn(spot: Spot, piece: &[u8], out: &mut [u8], put: usize) -> Turn
     }
     let (next, given) = step(spot, piece[0]);
     let put = write(out, put, given);
-    Turn {
+    Advance {
         spot: next,
         used: 1,
         put,
@@ -242,10 +242,10 @@ impl Unstuffer {
         let mut used = 0;
         let mut put = 0;
         'octets: while used < piece.len() && spot != Spot::Done {
-            let turn = take_turn(spot, &piece[used..], out, put);
-            spot = turn.spot;
-            used += turn.used;
-            put = turn.put;
+            let next = go_on(spot, &piece[used..], out, put);
+            spot = next.spot;
+            used += next.used;
+            put = next.put;
         }
         self.spot = spot;
         Fed {

@@ -1,13 +1,101 @@
-//! Files of the file system. What `replace`, `append` and `cut_to` ask of it is watched by the tests
-//! from outside.
+//! Files of the file system, with ample memory. What `replace`, `append` and `cut_to` ask of it is
+//! watched by the tests from outside.
 
-use mail_store::{FlatFile, HostFile, StoreFault};
+use mail_store::{Edges, FlatFile, HostFile, StoreFault};
+use std::alloc::Global;
+use std::fs;
 use std::test::Fail;
+
+/// A text of so many letters.
+pub fn text_of(alloc: Global, letter: u8, count: usize) -> Result<Vec<u8>, Fail> {
+    let mut text = Vec::new(alloc);
+    for _ in 0..count {
+        text.push(letter)?;
+    }
+    Ok(text)
+}
 
 #[test]
 fn a_full_disk_refuses(rt: HostRuntime) -> Result<(), Fail> {
     let mut file = HostFile::at(&rt, String::from_str(rt.alloc(), "/dev/full")?);
     assert_eq!(rt; file.append(b"x"), Err(StoreFault::Refused));
     assert_eq!(rt; file.failures(), 1);
+    Ok(())
+}
+
+/// What a file holds once one text replaced what stood there, and another was appended.
+fn kept(rt: &HostRuntime, replaced: &[u8], appended: &[u8]) -> Result<Vec<u8>, Fail> {
+    let mut file = HostFile::at(rt, String::from_str(rt.alloc(), "long_texts")?);
+    file.replace(b"old")?;
+    file.replace(replaced)?;
+    file.append(appended)?;
+    let found = file.load()?;
+    fs::remove_file(rt, "long_texts")?;
+    Ok(found)
+}
+
+#[test]
+fn keeps_long_texts(rt: HostRuntime) -> Result<(), Fail> {
+    let first = text_of(rt.alloc(), b'x', 100_000)?;
+    let second = text_of(rt.alloc(), b'y', 100_000)?;
+    let found = kept(&rt, first.as_slice(), second.as_slice())?;
+    assert_eq!(rt; found.len(), 200_000);
+    assert!(rt; found.starts_with(first.as_slice()) && found.ends_with(second.as_slice()));
+    Ok(())
+}
+
+/// The edges of a file of these bytes, cut to so many of them.
+fn edges_of(rt: &HostRuntime, bytes: &str, len: u64) -> Result<Edges, Fail> {
+    let mut file = HostFile::at(rt, String::from_str(rt.alloc(), "edges")?);
+    file.replace(bytes.as_bytes())?;
+    file.cut_to(len)?;
+    let edges = file.edges()?;
+    fs::remove_file(rt, "edges")?;
+    Ok(edges)
+}
+
+#[test]
+fn tells_the_edges_of_what_is_left_of_a_file(rt: HostRuntime) -> Result<(), Fail> {
+    let rows: [(&str, u64, [u8; 5], [u8; 2]); 5] = [
+        ("", 0, [0, 0, 0, 0, 0], [0, 0]),
+        ("a", 1, [b'a', 0, 0, 0, 0], [0, b'a']),
+        ("abc", 1, [b'a', 0, 0, 0, 0], [0, b'a']),
+        ("abc", 2, [b'a', b'b', 0, 0, 0], [b'a', b'b']),
+        (
+            "From a\n\n",
+            8,
+            [b'F', b'r', b'o', b'm', b' '],
+            [b'\n', b'\n'],
+        ),
+    ];
+    for (bytes, size, head, tail) in rows {
+        let edges = edges_of(&rt, bytes, size)?;
+        assert!(rt; edges == Edges { size, head, tail }, "of {bytes}");
+    }
+    Ok(())
+}
+
+/// The faults of `load` and of `edges` at a path, and how many calls were refused.
+fn faults_at(
+    rt: &HostRuntime,
+    path: &str,
+) -> Result<(Option<StoreFault>, Option<StoreFault>, u64), Fail> {
+    let mut file = HostFile::at(rt, String::from_str(rt.alloc(), path)?);
+    let loaded = file.load().err();
+    let measured = file.edges().err();
+    Ok((loaded, measured, file.failures()))
+}
+
+#[test]
+fn a_file_is_missing_only_where_none_is(rt: HostRuntime) -> Result<(), Fail> {
+    let _ = fs::remove_dir_all(&rt, "no_file");
+    fs::create_dir(&rt, "no_file")?;
+    fs::write(&rt, "no_file/file", b"x")?;
+    let refused = Some(StoreFault::Refused);
+    let missing = Some(StoreFault::Missing);
+    assert!(rt; faults_at(&rt, "no_file")? == (refused, refused, 2));
+    assert!(rt; faults_at(&rt, "no_file/file/x")? == (refused, refused, 2));
+    assert!(rt; faults_at(&rt, "no_file/nowhere")? == (missing, missing, 0));
+    fs::remove_dir_all(&rt, "no_file")?;
     Ok(())
 }

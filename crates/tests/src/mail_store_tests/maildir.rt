@@ -1,5 +1,6 @@
 //! Delivery to a Maildir in memory and to one in a folder.
 
+use crate::mail_store_tests::file::text_of;
 use crate::mail_store_tests::name::{fred, name_of};
 use crate::mail_terms_tests::listing::listing_of;
 use mail_store::{
@@ -119,6 +120,50 @@ fn delivers_to_a_folder(rt: HostRuntime) -> Result<(), Fail> {
 }
 
 #[test]
+fn delivers_a_long_text(rt: HostRuntime) -> Result<(), Fail> {
+    make_maildir(&rt, "long_delivery", &[])?;
+    let text = text_of(rt.alloc(), b'x', 100_000)?;
+    let mut disk = FolderMaildir::at(&rt, String::from_str(rt.alloc(), "long_delivery")?);
+    deliver(&mut disk, "one", text.as_slice())?;
+    let found = fs::read(&rt, "long_delivery/new/one")?;
+    assert!(rt; found.as_slice() == text.as_slice());
+    fs::remove_dir_all(&rt, "long_delivery")?;
+    Ok(())
+}
+
+#[test]
+fn names_no_file_of_another_folder(rt: HostRuntime) -> Result<(), Fail> {
+    make_maildir(&rt, "folder_within", &[])?;
+    fs::create_dir(&rt, "folder_within/tmp/sub")?;
+    fs::create_dir(&rt, "folder_within/new/sub")?;
+    let mut disk = FolderMaildir::at(&rt, String::from_str(rt.alloc(), "folder_within")?);
+    assert_eq!(rt;
+        deliver(&mut disk, "sub/one", b"x"),
+        Err(StoreFault::Refused)
+    );
+    assert_eq!(rt; disk.failures(), 1);
+    assert!(rt; fs::metadata(&rt, "folder_within/tmp/sub/one").is_err());
+    assert!(rt; fs::metadata(&rt, "folder_within/new/sub/one").is_err());
+    fs::remove_dir_all(&rt, "folder_within")?;
+    Ok(())
+}
+
+#[test]
+fn one_file_is_begun_at_a_time(rt: HostRuntime) -> Result<(), Fail> {
+    make_maildir(&rt, "begun_twice", &[])?;
+    let mut disk = FolderMaildir::at(&rt, String::from_str(rt.alloc(), "begun_twice")?);
+    disk.begin("one")?;
+    assert_eq!(rt; disk.begin("two"), Err(StoreFault::Refused));
+    disk.add(b"x")?;
+    disk.settle()?;
+    assert_eq!(rt; disk.failures(), 1);
+    assert_eq!(rt; files_of(&rt, "begun_twice", "new")?.as_str(), "new/one=x");
+    assert_eq!(rt; files_of(&rt, "begun_twice", "tmp")?.as_str(), "");
+    fs::remove_dir_all(&rt, "begun_twice")?;
+    Ok(())
+}
+
+#[test]
 fn lists_files_alone(rt: HostRuntime) -> Result<(), Fail> {
     make_maildir(
         &rt,
@@ -143,6 +188,20 @@ fn misses_folders_that_are_not_there(rt: HostRuntime) -> Result<(), Fail> {
     assert_eq!(rt; disk.names(Folder::New).err(), Some(StoreFault::Missing));
     assert_eq!(rt; disk.begin("one"), Err(StoreFault::Missing));
     assert_eq!(rt; disk.failures(), 0);
+    Ok(())
+}
+
+#[test]
+fn misses_the_folder_where_a_file_begins(rt: HostRuntime) -> Result<(), Fail> {
+    make_maildir(&rt, "no_tmp", &[("new/one", "x")])?;
+    fs::remove_dir(&rt, "no_tmp/tmp")?;
+    let mut disk = FolderMaildir::at(&rt, String::from_str(rt.alloc(), "no_tmp")?);
+    assert_eq!(rt; disk.begin("two"), Err(StoreFault::Missing));
+    assert_eq!(rt; disk.failures(), 0);
+    let mut through = FolderMaildir::at(&rt, String::from_str(rt.alloc(), "no_tmp/new/one")?);
+    assert_eq!(rt; through.names(Folder::New).err(), Some(StoreFault::Refused));
+    assert_eq!(rt; through.failures(), 1);
+    fs::remove_dir_all(&rt, "no_tmp")?;
     Ok(())
 }
 

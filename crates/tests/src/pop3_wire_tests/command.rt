@@ -43,6 +43,8 @@ fn commands_are_read(rt: HostRuntime) -> Result<(), Fail> {
         ("LIST 00000000001", "BadNumber"),
         ("DELE", "BadArgument"),
         ("DELE  1", "BadArgument"),
+        ("RETR 7", "RETR 7\r\n"),
+        ("DELE 7", "DELE 7\r\n"),
         ("RETR a b", "BadArgument"),
         ("RETR 1\n", "BadNumber"),
         ("top 2 1", "TOP 2 1\r\n"),

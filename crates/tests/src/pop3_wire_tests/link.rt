@@ -1,9 +1,10 @@
 //! Links, and bodies that are taken from them, with ample memory.
 ghost use Rattle.std.specs.Prelude.{◌<◌};
 
-use pop3_wire::{LineReader, ScriptWire, StreamWire, Wire, read_body};
+use pop3_wire::{LineReader, ScriptWire, StreamWire, Wire, WireDown, read_body};
 use std::alloc::Global;
-use std::io::BufWriter;
+use std::io;
+use std::io::{BufWriter, ErrorKind, Read, Write};
 use std::test::Fail;
 
 #[test]
@@ -54,4 +55,45 @@ fn bodies_are_taken(rt: HostRuntime) -> Result<(), Fail> {
         assert!(rt; takes(alloc, body.as_slice(), text.as_slice(), cut)?);
     }
     Ok(())
+}
+
+#[test]
+fn a_script_takes_what_is_sent(rt: HostRuntime) -> Result<(), Fail> {
+    let alloc = rt.alloc();
+    let mut wire = ScriptWire::new(alloc, Vec::new(alloc), 1);
+    let text = [b'x'; 5000];
+    wire.send(&text)?;
+    wire.send(b"y")?;
+    assert!(rt; wire.sent().len() == 5001 && wire.sent().starts_with(&text));
+    Ok(())
+}
+
+/// A reader and a writer that refuse every call.
+#[derive(Drop)]
+struct Broken;
+
+impl Read for Broken {
+    fn read(&mut self, _buf: &mut [u8]) -> io::Result<usize> {
+        Err(io::Error::from(ErrorKind::ConnectionReset))
+    }
+}
+
+impl Write for Broken {
+    fn write(&mut self, _bytes: &[u8]) -> io::Result<usize> {
+        Err(io::Error::from(ErrorKind::BrokenPipe))
+    }
+
+    fn flush(&mut self) -> io::Result<()> {
+        Err(io::Error::from(ErrorKind::BrokenPipe))
+    }
+}
+
+#[test]
+fn a_stream_that_fails_is_refused(rt: HostRuntime) {
+    let mut wire = StreamWire::new(Broken, Broken);
+    let mut piece = [0; 6];
+    assert!(rt; wire.recv(&mut piece) == Err(WireDown));
+    assert!(rt; wire.send(b"QUIT\r\n") == Err(WireDown));
+    assert!(rt; wire.recv(&mut piece) == Err(WireDown));
+    assert_eq!(rt; wire.failures(), 3);
 }

@@ -1,4 +1,4 @@
-use Rattle.std.proofs.Common.{rules, ◌≡◌, ◌≢◌, ◌+◌, true, [], refl, sym, ap, ◌∙◌, arith, length}
+use Rattle.std.proofs.Common.{rules, ◌≡◌, ◌≢◌, ◌+◌, [], sym, ap, ◌∙◌, arith, length}
 use Rattle.pop3_server.specs.Size.{capped}
 use Rattle.pop3_server.specs.TextPiece.{is_open_after}
 use Rattle.pop3_server.specs.declared.size.SizeCount.{SizeCount}
