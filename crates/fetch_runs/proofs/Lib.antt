@@ -17,4 +17,5 @@ pub mod TalkIdle
 pub mod TalkLaw
 pub mod RunLemmas
 pub mod TalkPlan
+pub mod TalkFronts
 pub mod TalkConversation

@@ -8,7 +8,7 @@ use Rattle.pop3_wire.specs.Link.{Link}
 use Rattle.pop3_wire.specs.Place.{Place, at}
 use Rattle.pop3_wire.specs.Reading.{WholeReply}
 use Rattle.pop3_client.specs.declared.fault.Fault.{Fault as TalkFault}
-use Rattle.pop3_client.specs.Turns.{Turn, retr}
+use Rattle.pop3_client.specs.Turns.{Turn, retr, quit}
 use Rattle.pop3_client.specs.Conversation.{ConversationsArePaced, Talks}
 use Rattle.mail_terms.specs.Listing.{Item, Joins}
 use Rattle.mail_terms.specs.declared.listing.UidRow.{UidRow}
@@ -35,16 +35,17 @@ use Rattle.fetch_session.specs.Tails.{tail, Left, turns_in as tail_turns}
 use Rattle.fetch_session.specs.Scenes.{Scene, scene, Went, Stops, Does}
 use Rattle.fetch_session.specs.Plans.{tasks_ahead, Carried, Carries}
 use Rattle.fetch_session.specs.Sessions.{Kept, Noted, Dealt, NotEntered, NoRoom, Proceeds, Leaves, outcome_of, Session}
-use Rattle.fetch_runs.specs.Conversations.{Conversation, Converses, plan_turns, tail_behind, retrieved_by, Counts, SpeaksByPlan, SessionsAreConversations}
+use Rattle.fetch_runs.specs.Conversations.{Conversation, Converses, plan_turns, tail_behind, retrieved_by, Counts, Opens, SpeaksByPlan, SessionsAreConversations}
 use Rattle.fetch_runs.proofs.Courses.{Course, course, stored_done, course_stopped, course_does, course_carried, course_carries, course_dealt, begun_of}
-use Rattle.fetch_runs.proofs.TalkCommands.{all_front}
+use Rattle.fetch_runs.proofs.TalkCommands.{commands_in, CanBeSaid, Commanded, commanded, all_append, all_front, all_back}
 use Rattle.fetch_runs.proofs.TalkReplies.{IsPlain}
-use Rattle.fetch_runs.proofs.TalkTasks.{plain_ahead}
+use Rattle.fetch_runs.proofs.TalkTasks.{plain_ahead, said_tasks}
+use Rattle.fetch_runs.proofs.TalkFronts.{front_of_plan}
 use Rattle.fetch_runs.proofs.TalkCourses.{Took}
 use Rattle.fetch_runs.proofs.TalkPlan.{plan_same, count_on, taken_same}
-use Rattle.fetch_runs.proofs.TalkOpenings.{Replied, replied, few_items, listed}
-use Rattle.fetch_runs.proofs.TalkSpeech.{IsTail, silent, is_tail, Speaks, spoken}
-use Rattle.fetch_runs.proofs.TalkIdle.{Opens, opens_all, opens_cut}
+use Rattle.fetch_runs.proofs.TalkOpenings.{Replied, replied, few_items, listed, said_opening}
+use Rattle.fetch_runs.proofs.TalkSpeech.{IsTail, silent, is_tail, said_tail, Speaks, spoken}
+use Rattle.fetch_runs.proofs.TalkIdle.{Opens as Opening, opens_all, opens_cut}
 use Rattle.fetch_runs.proofs.TalkSessions.{Dealing, tail_for, is_tail_for, dealing, dealing_whole}
 
 -- ---- the lines that were noted are those of the tasks that were taken
@@ -101,6 +102,9 @@ tail_is : (result : Result (Unit {0}) Cut) → tail_for result ≡ tail_behind (
 tail_is (Ok done) = refl
 tail_is (Err cut) = refl
 
+four : (a b c d : List Turn) → (a ++ (b ++ c)) ++ d ≡ a ++ (b ++ (c ++ d))
+four a b c d = simp append_assoc
+
 abbrev outcome : Outcome → Outcome
 outcome o = o
 
@@ -133,10 +137,13 @@ module _ (paced : ConversationsArePaced) (law : FrontsAreAsked) (settings : Sett
         begun = by.took.begun;
         later = flat_map turns_in by.ahead.0;
         replies = (opened.welcome ++ opened.counted ∷ opened.named ∷ opened.sized ∷ []) ++ by.took.replies;
-        split = ap (λ (ts : List Turn). opening name word ++ ts) tasks ∙ sym (append_assoc (opening name word) by.took.done (by.took.begun ++ flat_map turns_in by.ahead.0));
+        split = split;
         one = by.took.one;
         is = subst (λ (ts : List Turn). Conversation (opening name word ++ by.took.done) ((opened.welcome ++ opened.counted ∷ opened.named ∷ opened.sized ∷ []) ++ by.took.replies) by.took.begun ts all.0 all.1) behind all.5;
       };
+      commands = commands_in (opening name word ++ by.took.done) ++ (whole.ahead ++ whole.ends);
+      asked = whole.asked;
+      front = front_of_plan name word (planned settings by.rows items now) (opening name word ++ by.took.done) by.took.begun (flat_map turns_in by.ahead.0) turns all.0 split kind whole;
       hello = r.hello;
       user = r.to_user;
       pass = r.to_pass;
@@ -166,6 +173,17 @@ module _ (paced : ConversationsArePaced) (law : FrontsAreAsked) (settings : Sett
           ∙ flat_map-append turns_in (begun_of c) by.ahead.0 ∙ ap (λ (ts : List Turn). ts ++ flat_map turns_in by.ahead.0) by.took.all
           ∙ append_assoc by.took.done by.took.begun (flat_map turns_in by.ahead.0)
 
+      split : plan_turns name word (planned settings by.rows items now) ≡ (opening name word ++ by.took.done) ++ (by.took.begun ++ flat_map turns_in by.ahead.0)
+      split = ap (λ (ts : List Turn). opening name word ++ ts) tasks ∙ sym (append_assoc (opening name word) by.took.done (by.took.begun ++ flat_map turns_in by.ahead.0))
+
+      can : AllByRecursion CanBeSaid (by.took.done ++ by.took.begun)
+      can = subst (AllByRecursion CanBeSaid) by.took.all (said_tasks (begun_of c) plain)
+
+      whole : Commanded (opening name word ++ by.took.done) by.took.begun turns all.0
+      whole = commanded law (opening name word ++ by.took.done) ((opened.welcome ++ opened.counted ∷ opened.named ∷ opened.sized ∷ []) ++ by.took.replies) by.took.begun turns all.0 all.1
+          (all_append CanBeSaid (opening name word) by.took.done (said_opening name word valid.valid_username valid.valid_password) (all_front CanBeSaid by.took.done by.took.begun can))
+          (all_back CanBeSaid by.took.done by.took.begun can) (said_tail turns kind) all.5
+
       number : retrieved_by (turns_of c.taken) ≡ report.retrieved
       number = sym (taken_same c.taken (all_front IsPlain (tasks_of c.taken) c.under plain) by.took.each) ∙ ap (λ (l : List ReportLine). count_by is_taken l) (sym noted) ∙ sym retrieved
 
@@ -191,16 +209,31 @@ module _ (paced : ConversationsArePaced) (law : FrontsAreAsked) (settings : Sett
   -- it wasn't, or nothing was done with it
   abbrev Said : Type 0
   Said = (sent got : List ℕ) × (link'.sent ≡ link.sent ++ sent) × (link'.got ≡ link.got ++ got)
-      × (Converses (opening name word) (tail_behind report.outcome) sent got ⊎ SpeaksByPlan settings now report sent got)
+      × (Opens settings report sent got ⊎ SpeaksByPlan settings now report sent got)
 
-  opens : (fault : Fault) (last : Place) → report.outcome ≡ WasCut fault → link' ≡ last.link → Opens name word (tail_turns (tail fault)) link last.link → Said
+  opens : (fault : Fault) (last : Place) → report.outcome ≡ WasCut fault → link' ≡ last.link → Opening name word (tail_turns (tail fault)) link last.link → Said
   opens fault last came is it = (
     it.sent,
     it.got,
     ap (λ (l : Link). l.sent) is ∙ it.sent_is,
     ap (λ (l : Link). l.got) is ∙ it.got_is,
-    inl (subst (λ (ts : List Turn). Converses (opening name word) ts it.sent it.got) (sym (ap tail_behind came)) it.said),
+    inl (record {
+      said = subst (λ (ts : List Turn). Converses (opening name word) ts it.sent it.got) (sym (ap tail_behind came)) it.said;
+      commands = commands_in it.said.done ++ (whole.ahead ++ whole.ends);
+      asked = whole.asked;
+      front = front_of_plan name word [] it.said.done it.said.begun (it.said.later ++ quit ∷ []) (tail_turns (tail fault)) it.sent split (is_tail fault) whole;
+    }),
   )
+    where
+      can : AllByRecursion CanBeSaid (it.said.done ++ (it.said.begun ++ it.said.later))
+      can = subst (AllByRecursion CanBeSaid) it.said.split (said_opening name word valid.valid_username valid.valid_password)
+
+      whole : Commanded it.said.done it.said.begun (tail_turns (tail fault)) it.sent
+      whole = commanded law it.said.done it.said.replies it.said.begun (tail_turns (tail fault)) it.sent it.got (all_front CanBeSaid it.said.done (it.said.begun ++ it.said.later) can)
+          (all_front CanBeSaid it.said.begun it.said.later (all_back CanBeSaid it.said.done (it.said.begun ++ it.said.later) can)) (said_tail (tail_turns (tail fault)) (is_tail fault)) it.said.is
+
+      split : plan_turns name word [] ≡ it.said.done ++ (it.said.begun ++ (it.said.later ++ quit ∷ []))
+      split = ap (λ (ts : List Turn). ts ++ quit ∷ []) it.said.split ∙ four it.said.done it.said.begun it.said.later (quit ∷ [])
 
   proceeded : (result : Result (Unit {0}) Cut) → Reports (outcome_of result) notes.total notes.skipped notes.lines report → Proceeds settings account now (at link []) before result new after notes
       → Leaves result new link' → Said

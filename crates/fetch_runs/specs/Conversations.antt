@@ -2,7 +2,9 @@
 use Rattle.std.specs.Prelude.{◌≡◌, ◌⊎◌, ℕ, Bool, true, false, List, [], ◌∷◌, ◌++◌, map, None, Some}
 use Rattle.std.specs.String.{string_bytes}
 use Rattle.std.specs.List.{flat_map, count_by, AllZip}
+use Rattle.pop3_wire.specs.declared.command.Command.{Command}
 use Rattle.pop3_wire.specs.declared.command.Command.TheVariants.{Retr}
+use Rattle.pop3_wire.specs.Honest.{Asked}
 use Rattle.pop3_wire.specs.Link.{Link}
 use Rattle.pop3_wire.specs.Reading.{WholeReply, reply_bytes}
 use Rattle.pop3_client.specs.Turns.{Turn, asking, greeting, retr, IsGood}
@@ -12,7 +14,7 @@ use Rattle.fetch_rules.specs.Plan.{planned}
 use Rattle.fetch_rules.specs.declared.steps.Step.{Step}
 use Rattle.rc_file.specs.Settings.{IsValid}
 use Rattle.rc_file.specs.declared.settings.Settings.{Settings}
-use Rattle.run_law.specs.Plans.{plan_commands}
+use Rattle.run_law.specs.Plans.{plan_commands, IsFrontOfPlan}
 use Rattle.run_law.specs.Readings.{IsListed}
 use Rattle.fetch_session.specs.declared.report.Outcome.{Outcome}
 use Rattle.fetch_session.specs.declared.report.Outcome.TheVariants.{Ended, Cut}
@@ -70,11 +72,21 @@ abbrev pub Counts : List Turn → List Turn → ℕ → Type 0
 Counts done begun count = (retrieved_by done ≡ count)
     ⊎ ((front : List Turn) × (number : ℕ) × (done ≡ front ++ retr number ∷ []) × (retrieved_by front ≡ count) × (begun ≡ []))
 
+-- a session that came no further than its opening
+pub record Opens (settings : Settings) (report : Report) (sent got : List ℕ) : Type 0 where
+  pub said : Converses (opening (string_bytes settings.username) (string_bytes settings.password)) (tail_behind report.outcome) sent got
+  pub commands : List Command
+  pub asked : Asked commands sent
+  pub front : IsFrontOfPlan (string_bytes settings.username) (string_bytes settings.password) [] commands
+
 -- a session whose listing was joined spoke by the plan for it
 pub record SpeaksByPlan (settings : Settings) (now : ℕ) (report : Report) (sent got : List ℕ) : Type 0 where
   pub items : List Item
   pub rows : List Row
   pub said : Converses (plan_turns (string_bytes settings.username) (string_bytes settings.password) (planned settings rows items now)) (tail_behind report.outcome) sent got
+  pub commands : List Command
+  pub asked : Asked commands sent
+  pub front : IsFrontOfPlan (string_bytes settings.username) (string_bytes settings.password) (planned settings rows items now) commands
   pub hello : WholeReply
   pub user : WholeReply
   pub pass : WholeReply
@@ -92,4 +104,4 @@ abbrev pub SessionsAreConversations : Type 0
 SessionsAreConversations = (settings : Settings) (account : List ℕ) (now : ℕ) (link : Link) (before : Kept) (report : Report) (link' : Link) (after : Kept)
     → IsValid settings → Session settings account now link before report link' after
     → (sent got : List ℕ) × (link'.sent ≡ link.sent ++ sent) × (link'.got ≡ link.got ++ got)
-    × (Converses (opening (string_bytes settings.username) (string_bytes settings.password)) (tail_behind report.outcome) sent got ⊎ SpeaksByPlan settings now report sent got)
+    × (Opens settings report sent got ⊎ SpeaksByPlan settings now report sent got)
