@@ -78,9 +78,9 @@ class Cron(unittest.TestCase):
 
     def command(self):
         lines = (programs.ROOT / "examples" / "crontab").read_text().splitlines()
-        entries = [line for line in lines if line and not line.startswith("#")]
-        self.assertEqual(len(entries), 1)
-        return entries[0].split(maxsplit=5)[5]
+        path, entry = [line for line in lines if line and not line.startswith("#")]
+        self.assertIn("/usr/local/bin", path.removeprefix("PATH=").split(":"))
+        return entry.split(maxsplit=5)[5]
 
     def start(self, account):
         path = f"{Path(programs.path_of('getmail')).parent}:{os.environ['PATH']}"
