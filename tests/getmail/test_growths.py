@@ -1,8 +1,11 @@
 """Want of memory: with each growth refused in turn, the answer is the right one, or that memory was wanting."""
 
+import collections
 import unittest
 
 from getmail import conversations as known
+from getmail.account import Account
+from getmail.server import Server
 from harness import growths, programs
 
 # Where the words can't be had, the program has not begun to rehearse.
@@ -81,3 +84,31 @@ class RefusedGrowths(unittest.TestCase):
             with self.subTest(known.PLACES[place]):
                 wanted = known.cut("", known.up_to(place, reply), place, fault)
                 self.check_each_growth(wanted.given, programs.Run(1, wanted.printed, b""))
+
+
+class FetchedTexts(unittest.TestCase):
+    """A text goes from the link to its file through arrays of fixed length, so it takes no memory, however long it is."""
+
+    def ends(self, text):
+        """How sessions with this one message ended, one for each growth that was refused, as often as each end came."""
+        ends = collections.Counter()
+        with Server([(b"a", text)]) as server:
+            thread = server.begin_session()
+            for refusal in growths.refusals():
+                if not thread.is_alive():
+                    thread = server.begin_session()
+                with Account(server.port) as account:
+                    run = account.run(**refusal.environment())
+                    ends[run.status, run.err] += 1
+                    if refusal.came() and run.status != 0:
+                        self.assertIn(account.held(), ([], [(b"a", text)]))
+                    else:
+                        self.assertEqual(account.held(), [(b"a", text)])
+                if run.status != 2:
+                    thread.join(programs.SECONDS)
+        return ends
+
+    def test_a_long_text_grows_as_often_as_a_short_one(self):
+        short = self.ends(b"nine byte\n")
+        self.assertGreater(short[1, b"getmail: out of memory\n"], 0, "no refusal reached the session")
+        self.assertEqual(short, self.ends((b"z" * 99 + b"\n") * 1000))
