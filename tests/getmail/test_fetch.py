@@ -4,6 +4,8 @@ import os
 import signal
 import socket
 import stat
+import subprocess
+import sys
 import threading
 import time
 import unittest
@@ -73,6 +75,41 @@ class Sessions(Fetching):
                 asked = [line.decode().rstrip() for line in commands]
             self.assertEqual(asked, LOGIN + ["RETR 1", "RETR 2", "RETR 3", "QUIT"])
             self.assertEqual(account.held(), [(b"a", b"one\n"), (b"b", b"two\n"), (b"c", b"three\n")])
+
+    def test_the_password_is_told_nowhere(self):
+        secret = "Tr0ub4dor"
+        written = self.account.rcfile.read_text().replace("password = p", f"password = {secret}")
+        told = []
+        for change in (("", ""), ("read_all = false", "read_all = false\nshow = all"), ("Maildir/", "Maildir"),
+                       ("username = u", "use_apop = yes\nusername = u"), ("[retriever]", "[retriever]\nx")):
+            self.account.rcfile.write_text(written.replace(*change))
+            thread = self.server.begin_session()
+            run = self.account.run("-vv")
+            told += [run.out, run.err]
+            if run.status == 2:
+                # It ended before its session; the server still waits for a client.
+                socket.create_connection((LOOPBACK, self.server.port), timeout=programs.SECONDS).close()
+            thread.join(programs.SECONDS)
+        self.account.rcfile.write_text(written)
+        self.server.refuses = (f"PASS {secret}",)
+        run = self.session("-vv")
+        self.assertEqual(run.err, b"getmail: server refused PASS\n")
+        told += [run.out, run.err, self.account.record.read_bytes()]
+        told += [name.encode() for name in os.listdir(self.account.maildir / "new")]
+        self.assertNotIn(secret.encode(), b"".join(told))
+
+    def test_an_account_of_getmail6_goes_on(self):
+        """What its file of old mail names is not fetched again, by the script in `examples`."""
+        oldmail = self.account.folder / f"oldmail-{LOOPBACK}-{self.server.port}-u"
+        oldmail.write_bytes(b"a\x001600000000\nc\x001600000001\ngone\x001600000002\n")
+        words = [sys.executable, programs.ROOT / "examples" / "from-getmail6.py", "-g", self.account.folder, LOOPBACK,
+                 str(self.server.port), "u", oldmail]
+        subprocess.run(words, check=True, stdout=subprocess.DEVNULL, timeout=programs.SECONDS)
+        self.check_good(self.session())
+        self.assertEqual(self.server.commands, LOGIN + ["RETR 2", "QUIT"])
+        self.check_held(THREE[1:2])
+        again = subprocess.run(words, capture_output=True, timeout=programs.SECONDS)
+        self.assertEqual(again.returncode, 1)
 
     def test_nothing_is_fetched_twice(self):
         self.session()
