@@ -19,3 +19,4 @@ pub mod RunLemmas
 pub mod TalkPlan
 pub mod TalkFronts
 pub mod TalkConversation
+pub mod Bridge

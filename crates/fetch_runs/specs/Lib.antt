@@ -1,2 +1,3 @@
 pub mod Conversations
 pub mod Runs
+pub mod Steps

@@ -1,8 +1,16 @@
-//! Laws over what a session's link gained.
+//! Laws over what sessions said and left, for the programs and crates above: a function here does
+//! nothing, and its contract is the law.
 ghost use Rattle.fetch_runs.specs.Conversations.{SessionsAreConversations};
+ghost use Rattle.fetch_runs.specs.Steps.{SessionIsAStep};
 
+use fetch_rules::{
+    files_stand_for_one_record, held_is_delivered, listed_has_row, marked_is_delivered,
+    marked_keeps_rows, plans_fetch_wanted,
+};
+use fetch_session::{steady_files_keep, unsaved_files_keep};
+use mail_store::flags_tell_what_is_held;
 use pop3_client::conversations_are_paced;
-use run_law::fronts_are_asked;
+use run_law::{fronts_are_asked, told_stores};
 
 /// A law: what a link gains by a session is one conversation by the plan. What was sent is the octets
 /// of the plan's first turns, each of which is begun only where the replies to all before it stand whole
@@ -13,6 +21,25 @@ use run_law::fronts_are_asked;
 pub fn sessions_are_conversations()
     ensures { SessionsAreConversations }
 {
+    conversations_are_paced();
+    fronts_are_asked();
+}
+
+/// A law: where the record's file stood for a record, a session is a step that the law over runs takes:
+/// its link gained a conversation by the plan, and it left the account as that conversation says.
+pub fn session_is_a_step()
+    ensures { SessionIsAStep }
+{
+    plans_fetch_wanted();
+    held_is_delivered();
+    listed_has_row();
+    marked_is_delivered();
+    marked_keeps_rows();
+    flags_tell_what_is_held();
+    files_stand_for_one_record();
+    steady_files_keep();
+    unsaved_files_keep();
+    told_stores();
     conversations_are_paced();
     fronts_are_asked();
 }

@@ -12,7 +12,7 @@ use Rattle.run_law.specs.Accounts.{Account, Moves}
 use Rattle.run_law.specs.Steps.{Effect, Leaves, Stores, wanted_at}
 use Rattle.pop3_wire.specs.Reading.{WholeReply}
 use Rattle.run_law.specs.Readings.{Talked, Retrieves, IsListed}
-use Rattle.run_law.specs.Runs.{Frame, IsFrame, Situation, Visited, Moved, Kept, Promises}
+use Rattle.run_law.specs.Runs.{Frame, IsFrame, Situation, Visits, Visited, Moved, Kept, Promises}
 
 -- a DELE that was sent whole is among those begun, by the id of its number
 abbrev pub IsBegun : List Item → List (List ℕ) → Command → Type 0
@@ -98,3 +98,8 @@ AllKept frame before (Shifted after ∷ events) = Kept frame before × Promises 
 -- the headline over links
 abbrev pub LinksKeep : Type 0
 LinksKeep = (frame : Frame) (start : Situation) (events : List LinkEvent) → IsFrame frame → Kept frame start → LinkRun frame start events → AllKept frame start events
+
+-- a law: a session over an honest link is a visit of the law over runs
+abbrev pub LinksAreVisits : Type 0
+LinksAreVisits = (frame : Frame) (before : Situation) (link : Link) → (l : Links frame before link)
+    → Visits frame before (record { settings = link.settings; come = link.come; effect = l.effect; vanished = link.vanished; after = link.after })

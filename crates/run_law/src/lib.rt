@@ -5,7 +5,7 @@ ghost use Rattle.run_law.specs.Runs.{CanEnd, KeptHoldsExactly, KeptStaysKept, St
 ghost use Rattle.run_law.specs.Readings.{HonestIsGranted, ListingIsMaildrop, MarksAreAsked, TextsAreMessages};
 ghost use Rattle.run_law.specs.Chains.{ChainsKeep};
 ghost use Rattle.run_law.specs.Plans.{FrontsAreAsked, PlanGivesNumbers};
-ghost use Rattle.run_law.specs.Sessions.{LinksKeep};
+ghost use Rattle.run_law.specs.Sessions.{LinksAreVisits, LinksKeep};
 ghost use Rattle.run_law.specs.Told.{ToldStores};
 
 /// From a kept state every list of sessions and moves leads to a kept state, and each session keeps its promises.
@@ -46,6 +46,11 @@ pub fn marks_are_asked()
 /// Over honest links, from a kept state, every list of sessions and moves leads through kept states.
 pub fn links_keep()
     ensures { LinksKeep }
+{}
+
+/// A session over an honest link is a visit of the law over runs.
+pub fn links_are_visits()
+    ensures { LinksAreVisits }
 {}
 
 /// In every situation a session can end.

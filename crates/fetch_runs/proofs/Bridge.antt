@@ -1,0 +1,156 @@
+-- A session is a step: what it said and read, and what it left, in one.
+use Rattle.std.proofs.Common.{◌≡◌, inl, inr, ◌-◌, ℕ, Bool, true, false, List, [], ◌∷◌, ◌++◌, Option, Some, Result, Ok, Err, refl, sym, ap, subst, ◌∙◌}
+use Rattle.std.specs.Prelude.{◌↔◌, ◌||◌, bytes_eq, slice_get}
+use Rattle.std.specs.List.{list_any, AllByRecursion}
+use Rattle.std.proofs.lemmas.Bool.{true≢false}
+use Rattle.std.proofs.lemmas.List.Concat.{flat_map-append}
+use Rattle.std.proofs.lemmas.List.Folds.{list_any-append}
+use Rattle.std.proofs.lemmas.Slice.Eq.{bytes_eq-Decides}
+use Rattle.mail_terms.specs.Listing.{Item}
+use Rattle.pop3_wire.specs.declared.command.Command.{Command}
+use Rattle.pop3_wire.specs.declared.command.Command.TheVariants.{User, Pass, Stat, UidlAll, UidlOne, ListAll, ListOne, Retr, Dele, Rset, Noop, Top, Quit}
+use Rattle.pop3_wire.specs.Link.{Link}
+use Rattle.pop3_client.specs.Conversation.{ConversationsArePaced}
+use Rattle.fetch_rules.specs.Record.{Row}
+use Rattle.mail_store.specs.Maildir.{Maildir}
+use Rattle.rc_file.specs.declared.settings.Settings.{Settings}
+use Rattle.run_law.specs.Mails.{has_id}
+use Rattle.run_law.specs.Plans.{FrontsAreAsked}
+use Rattle.run_law.specs.Sessions.{IsBegun}
+use Rattle.run_law.specs.Steps.{Effect}
+use Rattle.run_law.specs.Told.{ToldStores}
+use Rattle.fetch_session.specs.declared.fault.Cut.{Cut}
+use Rattle.fetch_session.specs.declared.report.Outcome.{Outcome}
+use Rattle.fetch_session.specs.declared.report.Outcome.TheVariants.{Ended, Cut as WasCut}
+use Rattle.fetch_session.specs.declared.report.Report.{Report}
+use Rattle.fetch_session.specs.Tasks.{Task, deletes}
+use Rattle.fetch_session.specs.Records.{Keeps}
+use Rattle.fetch_session.specs.Sessions.{Kept, outcome_of}
+use Rattle.fetch_runs.specs.Steps.{holds, IsStep, SessionIsAStep}
+use Rattle.fetch_runs.proofs.Courses.{Way, Idle, Deals, way_of, begun_of, found_of, IsDeleted}
+use Rattle.fetch_runs.proofs.StatePlan.{IsRight, deleted_in, deleted_by, uids_in}
+use Rattle.fetch_runs.proofs.StateBuilt.{Laws, effect_of}
+use Rattle.fetch_runs.proofs.StateCases.{is_ended}
+use Rattle.fetch_runs.proofs.StateLaw.{WayLeads, session_leads}
+use Rattle.fetch_runs.proofs.TalkLaw.{Gained, talks}
+
+-- ---- deletions
+
+right_at : (account : List ℕ) (maildir : Maildir) (items : List Item) (front behind : List Task) (task : Task) → AllByRecursion (IsRight account maildir items) (front ++ task ∷ behind) → IsRight account maildir items task
+right_at account maildir items [] behind task right = right.0
+right_at account maildir items (t ∷ front) behind task right = right_at account maildir items front behind task right.1
+
+or_true : (b : Bool) → (b || true) ≡ true
+or_true true = refl
+or_true false = refl
+
+id_there : (items : List Item) (front behind : List Task) (number : ℕ) (item : Item) → slice_get items (number - 1) ≡ Some item → has_id (deleted_by items (front ++ deletes number ∷ behind)) item.uid ≡ true
+id_there items front behind number item at =
+    ap (λ (ids : List (List ℕ)). has_id ids item.uid) (flat_map-append (deleted_in items) front (deletes number ∷ behind))
+    ∙ list_any-append (bytes_eq item.uid) (deleted_by items front) (uids_in (slice_get items (number - 1)) ++ deleted_by items behind)
+    ∙ ap (λ (b : Bool). list_any (bytes_eq item.uid) (deleted_by items front) || b)
+    (ap (λ (o : Option Item). list_any (bytes_eq item.uid) (uids_in o ++ deleted_by items behind)) at
+    ∙ ap (λ (b : Bool). b || list_any (bytes_eq item.uid) (deleted_by items behind)) ((bytes_eq-Decides item.uid item.uid).1 refl))
+    ∙ or_true (list_any (bytes_eq item.uid) (deleted_by items front))
+
+begun_one : (account : List ℕ) (maildir : Maildir) (items : List Item) (tasks : List Task) → AllByRecursion (IsRight account maildir items) tasks → (command : Command)
+    → IsDeleted tasks command → IsBegun items (deleted_by items tasks) command
+begun_one account maildir items tasks right (Dele number) is =
+    let at = right_at account maildir items is.0 is.1 (deletes number) (subst (AllByRecursion (IsRight account maildir items)) is.2 right) in
+    (at.0, at.1, ap (λ (ts : List Task). has_id (deleted_by items ts) at.0.uid) is.2 ∙ id_there items is.0 is.1 number at.0 at.1)
+begun_one account maildir items tasks right (User name) is = tt
+begun_one account maildir items tasks right (Pass word) is = tt
+begun_one account maildir items tasks right Stat is = tt
+begun_one account maildir items tasks right UidlAll is = tt
+begun_one account maildir items tasks right (UidlOne n) is = tt
+begun_one account maildir items tasks right ListAll is = tt
+begun_one account maildir items tasks right (ListOne n) is = tt
+begun_one account maildir items tasks right (Retr n) is = tt
+begun_one account maildir items tasks right Rset is = tt
+begun_one account maildir items tasks right Noop is = tt
+begun_one account maildir items tasks right (Top n k) is = tt
+begun_one account maildir items tasks right Quit is = tt
+
+begun_all : (account : List ℕ) (maildir : Maildir) (items : List Item) (tasks : List Task) → AllByRecursion (IsRight account maildir items) tasks → (commands : List Command)
+    → AllByRecursion (IsDeleted tasks) commands → AllByRecursion (IsBegun items (deleted_by items tasks)) commands
+begun_all account maildir items tasks right [] all = tt
+begun_all account maildir items tasks right (command ∷ commands) all = (begun_one account maildir items tasks right command all.0, begun_all account maildir items tasks right commands all.1)
+
+-- ---- the outcome
+
+abbrev is_end : Outcome → Bool
+is_end Ended = true
+is_end (WasCut fault) = false
+
+ended_if : (result : Result (Unit {0}) Cut) (outcome : Outcome) → outcome ≡ outcome_of result → (is_ended result ≡ true) ↔ (outcome ≡ Ended)
+ended_if (Ok done) outcome is = (λ yes'. is, λ ended. refl)
+ended_if (Err cut) outcome is = (λ never. absurd (true≢false (sym never)), λ ended. absurd (true≢false (sym (ap is_end ended) ∙ ap is_end is)))
+
+-- ---- both in one
+
+module _ (stores : ToldStores) (settings : Settings) (account : List ℕ) (now : ℕ) (link : Link) (before : Kept) (rows : List Row) (report : Report) (link' : Link) (after : Kept) (ended : Bool)
+    (ends : (ended ≡ true) ↔ (report.outcome ≡ Ended)) (keeps : Keeps before.file.content rows) where
+  abbrev nothing : Effect
+  nothing = record { now = now; listing = []; texts = []; begun = []; ended = false }
+
+  joined : (way : Way) → WayLeads settings account now ended way rows before after → Gained way link link' → IsStep settings account now link before rows report link' after
+  joined Idle left said = record {
+    sent = said.sent;
+    got = said.got;
+    effect = record { now = now; listing = []; texts = []; begun = []; ended = false };
+    rows' = rows;
+    sent_is = said.sent_is;
+    got_is = said.got_is;
+    now_is = refl;
+    ended_is = subst (λ (e : Bool). (e ≡ true) ↔ (report.outcome ≡ Ended)) left.0 ends;
+    keeps = subst (λ (k : Kept). Keeps k.file.content rows) (sym left.1) keeps;
+    stepped = record {
+      commands = said.tells.0;
+      asked = said.tells.1;
+      begun = begun_all account before.maildir [] [] tt said.tells.0 said.tells.2;
+      step = inl (record { rows = refl; in_new = ap (λ (k : Kept). k.maildir.in_new) left.1; in_cur = ap (λ (k : Kept). k.maildir.in_cur) left.1; begun = refl; ended = refl });
+    };
+  }
+  joined (Deals c) left said = record {
+    sent = said.sent;
+    got = said.got;
+    effect = effect_of now ended c;
+    rows' = left.rows';
+    sent_is = said.sent_is;
+    got_is = said.got_is;
+    now_is = refl;
+    ended_is = ends;
+    keeps = left.keeps;
+    stepped = record {
+      commands = User said.tells.name ∷ Pass said.tells.word ∷ Stat ∷ UidlAll ∷ ListAll ∷ said.tells.more;
+      asked = said.tells.talked.asked;
+      begun = begun_all account before.maildir c.items (begun_of c) left.right (User said.tells.name ∷ Pass said.tells.word ∷ Stat ∷ UidlAll ∷ ListAll ∷ said.tells.more) said.tells.deletes;
+      step = inr (
+        stores settings account (holds rows before.maildir) (effect_of now ended c) (holds left.rows' after.maildir) left.told,
+        record {
+          name = said.tells.name;
+          word = said.tells.word;
+          more = said.tells.more;
+          commands_are = refl;
+          user = said.tells.user;
+          pass = said.tells.pass;
+          stat = said.tells.stat;
+          uidl = said.tells.uidl;
+          list = said.tells.list;
+          replies = said.tells.replies;
+          talked = said.tells.talked;
+          listed = said.tells.listed;
+          found = found_of c;
+          retrieves = said.tells.retrieves;
+          texts = refl;
+          numbers = left.numbers;
+        },
+      );
+    };
+  }
+
+pub session_is_a_step : Laws → ToldStores → ConversationsArePaced → FrontsAreAsked → SessionIsAStep
+session_is_a_step laws stores paced fronts settings account now link before rows report link' after valid keeps is =
+    joined stores settings account now link before rows report link' after (is_ended is.result) (ended_if is.result report.outcome is.reports.outcome_is) keeps
+    (way_of settings account now link before report link' after is) (session_leads laws settings account now link before report link' after rows keeps is)
+    (talks paced fronts settings account now link before report link' after valid is)

@@ -1,0 +1,5 @@
+use Rattle.run_law.proofs.Linked as laws
+use Rattle.run_law.proofs.links_are_visits.Goals as goal
+
+pub returns : goal.returns
+returns c = laws.visits
