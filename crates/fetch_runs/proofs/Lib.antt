@@ -16,6 +16,7 @@ pub mod TalkSessions
 pub mod TalkIdle
 pub mod TalkLaw
 pub mod RunLemmas
+pub mod HeadlineLemmas
 pub mod TalkPlan
 pub mod TalkFronts
 pub mod TalkConversation

@@ -1,3 +1,4 @@
 pub mod Conversations
+pub mod Headline
 pub mod Runs
 pub mod Steps
