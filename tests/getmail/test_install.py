@@ -10,7 +10,7 @@ from pathlib import Path
 from getmail.account import Account
 from getmail.server import Server
 from getmail.test_stalls import SilentServer
-from harness import programs
+from harness import kernel, programs
 
 PAGES = {"1": "man1", "5": "man5", "8": "man8"}
 COMPLETIONS = ("share/bash-completion/completions/getmail", "share/zsh/site-functions/_getmail",
@@ -71,6 +71,42 @@ class Install(unittest.TestCase):
         help_text = subprocess.run([self.place / "bin/getmail", "--help"], capture_output=True, check=True,
                                    timeout=programs.SECONDS)
         self.assertEqual(help_text.stdout, programs.run("getmail", "--help").out)
+
+
+class FirstFetch(unittest.TestCase):
+    """The commands in the README, as they stand there but for `make` and the port."""
+
+    def setUp(self):
+        holder = tempfile.TemporaryDirectory()
+        self.addCleanup(holder.cleanup)
+        self.top = Path(holder.name)
+        self.demo = self.top / "examples" / "demo"
+        shutil.copytree(programs.ROOT / "examples" / "demo", self.demo)
+        (self.top / "bin").mkdir()
+        for name in ("getmail", "popd"):
+            shutil.copy(programs.path_of(name), self.top / "bin")
+        self.port = kernel.free_port()
+        rcfile = self.demo / ".getmail" / "getmailrc"
+        rcfile.write_text(rcfile.read_text().replace("port = 1100", f"port = {self.port}"))
+
+    def commands(self):
+        section = (programs.ROOT / "README.md").read_text().split("## A first fetch, in three commands\n")[1]
+        make, *others = [line[4:] for line in section.split("\n## ")[0].splitlines() if line.startswith("    ")]
+        self.assertEqual((make, len(others)), ("make", 2))
+        return "\n".join(others).replace(":1100", f":{self.port}")
+
+    def run_commands(self):
+        done = subprocess.run(["bash", "-c", self.commands()], cwd=self.top, env=programs.environment(),
+                              stdin=subprocess.DEVNULL, capture_output=True, timeout=programs.SECONDS)
+        self.assertEqual((done.returncode, done.stderr), (0, b""))
+        return done.stdout.decode().splitlines()
+
+    def test_the_message_is_fetched_and_then_known(self):
+        self.assertTrue(self.run_commands()[-1].startswith("1 messages "))
+        served, = (path for path in (self.demo / "served" / "new").iterdir() if path.name != ".gitkeep")
+        fetched, = (path for path in (self.demo / "Maildir" / "new").iterdir() if path.name != ".gitkeep")
+        self.assertEqual(fetched.read_bytes(), served.read_bytes())
+        self.assertEqual(self.run_commands()[-1], "0 messages (0 bytes) retrieved, 1 skipped, 0 deleted")
 
 
 class Cron(unittest.TestCase):
