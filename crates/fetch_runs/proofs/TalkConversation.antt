@@ -2,7 +2,6 @@
 use Rattle.std.proofs.Common.{◌≡◌, ◌≤◌, ◌+◌, inl, inr, ◌⊎◌, ℕ, List, [], ◌∷◌, ◌++◌, map, length, Some, Result, Ok, Err, refl, sym, ap, subst, ◌∙◌, arith, append_assoc}
 use Rattle.std.specs.String.{string_bytes}
 use Rattle.std.specs.List.{flat_map, count_by, AllByRecursion}
-use Rattle.std.proofs.lemmas.List.{append-nil}
 use Rattle.std.proofs.lemmas.List.Concat.{flat_map-append}
 use Rattle.pop3_wire.specs.Link.{Link}
 use Rattle.pop3_wire.specs.Place.{Place, at}
@@ -34,19 +33,18 @@ use Rattle.fetch_session.specs.Tasks.{Task, Done, turns_in, tasks_of, turns_of, 
 use Rattle.fetch_session.specs.Tails.{tail, Left, turns_in as tail_turns}
 use Rattle.fetch_session.specs.Scenes.{Scene, scene, Went, Stops, Does}
 use Rattle.fetch_session.specs.Plans.{tasks_ahead, Carried, Carries}
-use Rattle.fetch_session.specs.Sessions.{Kept, Noted, Dealt, NotEntered, NoRoom, Proceeds, Leaves, outcome_of, Session}
+use Rattle.fetch_session.specs.Sessions.{Kept, Noted, Dealt, Proceeds, Leaves, outcome_of}
 use Rattle.fetch_runs.specs.Conversations.{Conversation, Converses, plan_turns, tail_behind, retrieved_by, Counts, Opens, SpeaksByPlan, SessionsAreConversations}
-use Rattle.fetch_runs.proofs.Courses.{Course, course, stored_done, course_stopped, course_does, course_carried, course_carries, course_dealt, begun_of}
+use Rattle.fetch_runs.proofs.Courses.{Course, stored_done, course_stopped, course_does, course_carried, course_carries, course_dealt, begun_of}
 use Rattle.fetch_runs.proofs.TalkCommands.{commands_in, CanBeSaid, Commanded, commanded, all_append, all_front, all_back}
 use Rattle.fetch_runs.proofs.TalkReplies.{IsPlain}
 use Rattle.fetch_runs.proofs.TalkTasks.{plain_ahead, said_tasks}
 use Rattle.fetch_runs.proofs.TalkFronts.{front_of_plan}
-use Rattle.fetch_runs.proofs.TalkCourses.{Took}
 use Rattle.fetch_runs.proofs.TalkPlan.{plan_same, count_on, taken_same}
 use Rattle.fetch_runs.proofs.TalkOpenings.{Replied, replied, few_items, listed, said_opening}
 use Rattle.fetch_runs.proofs.TalkSpeech.{IsTail, silent, is_tail, said_tail, Speaks, spoken}
 use Rattle.fetch_runs.proofs.TalkIdle.{Opens as Opening, opens_all, opens_cut}
-use Rattle.fetch_runs.proofs.TalkSessions.{Dealing, tail_for, is_tail_for, dealing, dealing_whole}
+use Rattle.fetch_runs.proofs.TalkSessions.{Dealing, tail_for, dealing, dealing_whole}
 
 -- ---- the lines that were noted are those of the tasks that were taken
 

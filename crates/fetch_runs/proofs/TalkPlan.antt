@@ -1,5 +1,5 @@
 -- The turns of a plan's tasks are the plan's commands, and each text that was taken is a line of the report.
-use Rattle.std.proofs.Common.{◌≡◌, inl, inr, ◌⊎◌, ℕ, ◌+◌, Bool, true, false, cond, List, [], ◌∷◌, ◌++◌, map, None, Some, Result, Ok, Err, refl, sym, ap, subst, ◌∙◌, arith, append_assoc}
+use Rattle.std.proofs.Common.{◌≡◌, ℕ, ◌+◌, Bool, true, false, cond, List, [], ◌∷◌, ◌++◌, map, Some, refl, sym, ap, subst, ◌∙◌}
 use Rattle.std.specs.List.{flat_map, count_by, AllByRecursion, AllZip, enumerate_from}
 use Rattle.std.proofs.lemmas.List.Sums.{sum_by-append}
 use Rattle.pop3_wire.specs.declared.command.Command.{Command}
@@ -12,7 +12,6 @@ use Rattle.mail_store.specs.Maildir.{Maildir}
 use Rattle.mail_store.specs.FileName.{is_held}
 use Rattle.mail_store.specs.Held.{flags_of}
 use Rattle.run_law.specs.Plans.{asked_if, step_commands}
-use Rattle.fetch_session.specs.declared.report.ReportLine.{ReportLine}
 use Rattle.fetch_session.specs.Reports.{is_taken}
 use Rattle.fetch_session.specs.Tasks.{Task, says, skips, stores, rereads, deletes, Done, fetching, deleting, tasks_planned, turns_in, tasks_of, turns_of, lines_in, lines_of, IsAnswered}
 use Rattle.fetch_runs.specs.Conversations.{is_retrieval, retrieved_by}

@@ -2,14 +2,13 @@
 -- any reply or refused write, the Maildir holds exactly a prefix of the selected messages in maildrop order, each once,
 -- byte for byte with lines ended by LF; an uncut session leaves out only what its limits exclude; and DELE was sent only
 -- for messages held.
-use Rattle.std.specs.Prelude.{◌≡◌, ◌⊎◌, ◌-◌, ℕ, true, false, List, [], ◌∷◌, ◌++◌, map, Some, slice_get}
+use Rattle.std.specs.Prelude.{◌≡◌, ◌⊎◌, ◌-◌, ℕ, true, false, List, [], ◌∷◌, ◌++◌, Some, slice_get}
 use Rattle.std.specs.List.{AllByRecursion}
 use Rattle.pop3_wire.specs.declared.command.Command.{Command}
 use Rattle.pop3_wire.specs.declared.command.Command.TheVariants.{Dele}
 use Rattle.pop3_wire.specs.Honest.{Asked}
 use Rattle.pop3_wire.specs.Link.{Link}
 use Rattle.pop3_wire.specs.World.{Message, IsWorld, maildrop_of}
-use Rattle.mail_terms.specs.Listing.{Item}
 use Rattle.mail_terms.specs.UniqueId.{is_legal_id}
 use Rattle.rc_file.specs.Settings.{IsValid}
 use Rattle.rc_file.specs.declared.settings.Settings.{Settings}

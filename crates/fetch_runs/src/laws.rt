@@ -1,6 +1,7 @@
 //! Laws over what sessions said and left, for the programs and crates above: a function here does
 //! nothing, and its contract is the law.
 ghost use Rattle.fetch_runs.specs.Conversations.{SessionsAreConversations};
+ghost use Rattle.fetch_runs.specs.Headline.{EmptyIsKept, Headline};
 ghost use Rattle.fetch_runs.specs.Steps.{SessionIsAStep};
 
 use fetch_rules::{
@@ -10,7 +11,9 @@ use fetch_rules::{
 use fetch_session::{steady_files_keep, unsaved_files_keep};
 use mail_store::flags_tell_what_is_held;
 use pop3_client::conversations_are_paced;
-use run_law::{fronts_are_asked, told_stores};
+use run_law::{
+    fronts_are_asked, holds_exactly, kept_states, links_are_visits, starts_kept, told_stores,
+};
 
 /// A law: what a link gains by a session is one conversation by the plan. What was sent is the octets
 /// of the plan's first turns, each of which is begun only where the replies to all before it stand whole
@@ -42,4 +45,24 @@ pub fn session_is_a_step()
     told_stores();
     conversations_are_paced();
     fronts_are_asked();
+}
+
+/// Where a server's unique-ids are distinct and persistent and its mail unchanged, after any list of
+/// sessions, each cut at any reply or refused write, the Maildir holds exactly a prefix of the selected
+/// messages in maildrop order, each once, byte for byte with lines ended by LF; an uncut session leaves
+/// out only what its limits exclude; and DELE was sent only for messages held.
+pub fn headline()
+    ensures { Headline }
+{
+    session_is_a_step();
+    links_are_visits();
+    kept_states();
+    holds_exactly();
+}
+
+/// A law: an account with an empty record and no file of its own is where the headline may begin.
+pub fn empty_account_is_kept()
+    ensures { EmptyIsKept }
+{
+    starts_kept();
 }
