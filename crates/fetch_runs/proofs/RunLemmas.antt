@@ -1,14 +1,16 @@
 -- How sessions one after another make a run of them.
 use Rattle.std.proofs.Common.{◌≡◌, ◌≢◌, ◌<◌, ◌≤◌, ◌+◌, ℕ, List, [], ◌∷◌, ◌++◌, take, set, get_or, length, refl, sym, ap, subst, ◌∙◌, arith}
 use Rattle.std.proofs.lemmas.Grind.{take_at_read, take-set_at}
-use Rattle.std.proofs.lemmas.List.{get_or-set_other}
+use Rattle.std.proofs.lemmas.List.{get_or-set_other, take_all}
 use Rattle.pop3_wire.specs.Link.{Link}
 use Rattle.rc_file.specs.declared.settings.Settings.{Settings}
 use Rattle.fetch_session.specs.Accounts.{digits_of}
 use Rattle.fetch_session.specs.declared.report.Report.{Report}
 use Rattle.fetch_session.specs.Sessions.{Kept, Session}
 use Rattle.fetch_runs.specs.declared.run.Visit.{Visit}
-use Rattle.fetch_runs.specs.Runs.{AreSound, Runs}
+use Rattle.run_law.specs.Chains.{Fact}
+use Rattle.fetch_runs.specs.Headline.{World, IsSound, State, Fetched, after_event, IsKept, Headline}
+use Rattle.fetch_runs.specs.Runs.{AreSound, Runs, AreServed, ArePromised, occasion_of}
 
 -- the first of the visits were made
 pub record Ran {W : Type 0} (sound : W → Type 0) (seen : W → Link) (settings : Settings) (olds : List (Visit W)) (start : Kept) (at_start : Type 0) (reports : List Report) (news : List (Visit W)) (last : Kept) (at_last : Type 0) : Type 0 where
@@ -74,3 +76,28 @@ pub others_stay : {V : Type 0} (xs ys : List V) (i : ℕ) (new : V) → ((k : �
 others_stay xs ys i new same k d behind =
     let apart : k ≢ i = λ is. absurd (omega (arith, behind, is)) in
     get_or-set_other xs i k new d apart ∙ same k d (omega (arith, behind))
+
+-- all of them were made
+pub ran_all : {W : Type 0} (sound : W → Type 0) (seen : W → Link) (settings : Settings) (olds news : List (Visit W)) (i : ℕ) (start : Kept) (at_start : Type 0) (reports : List Report) (last : Kept) (at_last : Type 0)
+    → Ran sound seen settings (take i olds) start at_start reports (take i news) last at_last → length olds ≤ i → length news ≤ i
+    → Ran sound seen settings olds start at_start reports news last at_last
+ran_all {W} sound seen settings olds news i start at_start reports last at_last ran past behind =
+    subst (λ (os : List (Visit W)). Ran sound seen settings os start at_start reports news last at_last) (take_all i olds past)
+    (subst (λ (ns : List (Visit W)). Ran sound seen settings (take i olds) start at_start reports ns last at_last) (take_all i news behind) ran)
+
+-- ---- what is promised of them
+
+pub runs_promised : {W : Type 0} → Headline → (seen : W → Link) (world : World) (olds : List (Visit W)) (state : State) (reports : List Report) (news : List (Visit W)) (facts : List Fact) (last : Kept) → IsSound world
+    → IsKept world state → AreServed seen world.all state.gone olds news facts → Runs seen world.settings (digits_of world.settings) olds state.kept reports news last
+    → ArePromised seen world state olds reports news facts last
+runs_promised law seen world [] state [] [] [] last sound is served runs = ((law world state [] sound is tt).0, is, sym runs)
+runs_promised law seen world [] state [] [] (fact ∷ facts) last sound is served runs = absurd served
+runs_promised law seen world [] state [] (new ∷ news) facts last sound is served runs = absurd runs
+runs_promised law seen world [] state (report ∷ reports) news facts last sound is served runs = absurd runs
+runs_promised law seen world (old ∷ olds) state [] news facts last sound is served runs = absurd runs
+runs_promised law seen world (old ∷ olds) state (report ∷ reports) [] facts last sound is served runs = absurd runs
+runs_promised law seen world (old ∷ olds) state (report ∷ reports) (new ∷ news) [] last sound is served runs = absurd served
+runs_promised law seen world (old ∷ olds) state (report ∷ reports) (new ∷ news) (fact ∷ facts) last sound is served runs =
+    let occasion = occasion_of seen old report new fact runs.0 in
+    let one = law world state (Fetched occasion ∷ []) sound is (record { session = runs.1; served = served.0 }, tt) in
+    (runs.0, one.0.0, one.0.1, runs_promised law seen world olds (after_event state (Fetched occasion)) reports news facts last sound one.1 served.1 runs.2)

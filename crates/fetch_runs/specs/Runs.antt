@@ -1,11 +1,15 @@
 -- Sessions one after another, each over its own link.
-use Rattle.std.specs.Prelude.{◌≡◌, ℕ, List, [], ◌∷◌}
+use Rattle.std.specs.Prelude.{◌≡◌, ℕ, List, [], ◌∷◌, ◌++◌}
 use Rattle.std.specs.List.{AllByRecursion}
 use Rattle.pop3_wire.specs.Link.{Link}
+use Rattle.pop3_wire.specs.World.{Message, maildrop_of}
 use Rattle.rc_file.specs.declared.settings.Settings.{Settings}
 use Rattle.fetch_session.specs.declared.report.Report.{Report}
 use Rattle.fetch_session.specs.Sessions.{Kept, Session}
+use Rattle.run_law.specs.Chains.{Fact}
+use Rattle.run_law.specs.Sessions.{Served}
 use Rattle.fetch_runs.specs.declared.run.Visit.{Visit}
+use Rattle.fetch_runs.specs.Headline.{World, State, Occasion, Fetched, after_event, HoldsAPrefix, Promised, IsKept}
 
 -- the links of these visits keep the promises that are made of links
 abbrev pub AreSound : {W : Type 0} → (W → Type 0) → List (Visit W) → Type 0
@@ -20,3 +24,40 @@ Runs seen settings account [] first (report ∷ reports) news last = ⊥
 Runs seen settings account [] first [] (new ∷ news) last = ⊥
 Runs seen settings account (old ∷ olds) first [] news last = ⊥
 Runs seen settings account (old ∷ olds) first (report ∷ reports) [] last = ⊥
+
+-- ---- what is promised of them
+
+abbrev pub world_of : Settings → List Message → World
+world_of settings all = record { settings = settings; all = all }
+
+abbrev pub state_of : Kept → List (List ℕ) → State
+state_of kept gone = record { kept = kept; gone = gone }
+
+-- a visit as an occasion of the headline
+abbrev pub occasion_of : {W : Type 0} → (W → Link) → Visit W → Report → Visit W → Fact → Kept → Occasion
+occasion_of seen old report new fact after = record {
+  now = old.now;
+  report = report;
+  link = seen old.wire;
+  link' = seen new.wire;
+  after = after;
+  come = fact.come;
+  vanished = fact.vanished;
+}
+
+-- what each link gained came from an honest server with the maildrop of its visit
+abbrev pub AreServed : {W : Type 0} → (W → Link) → List Message → List (List ℕ) → List (Visit W) → List (Visit W) → List Fact → Type 0
+AreServed seen all gone [] [] [] = Unit {0}
+AreServed seen all gone (old ∷ olds) (new ∷ news) (fact ∷ facts) =
+    ((sent got : List ℕ) → (seen new.wire).sent ≡ (seen old.wire).sent ++ sent → (seen new.wire).got ≡ (seen old.wire).got ++ got
+    → Served (maildrop_of all fact.come gone) sent got fact.vanished)
+    × AreServed seen all (gone ++ fact.vanished) olds news facts
+AreServed seen all gone olds news facts = ⊥
+
+-- a prefix is held before and after each visit, each keeps what is promised of it, and the last state is kept
+abbrev pub ArePromised : {W : Type 0} → (W → Link) → World → State → List (Visit W) → List Report → List (Visit W) → List Fact → Kept → Type 0
+ArePromised seen world state [] [] [] [] last = HoldsAPrefix world state × IsKept world state × (state.kept ≡ last)
+ArePromised seen world state (old ∷ olds) (report ∷ reports) (new ∷ news) (fact ∷ facts) last =
+    (between : Kept) × HoldsAPrefix world state × Promised world state (Fetched (occasion_of seen old report new fact between))
+    × ArePromised seen world (after_event state (Fetched (occasion_of seen old report new fact between))) olds reports news facts last
+ArePromised seen world state olds reports news facts last = ⊥

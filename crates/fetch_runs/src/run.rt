@@ -1,9 +1,13 @@
 //! Sessions of an account, one after another, each over its own link.
-ghost use Rattle.std.specs.Prelude.{◌≡◌, ◌*◌, length, IfErr, IfOk};
+ghost use Rattle.std.specs.Prelude.{◌≡◌, ◌*◌, ℕ, List, length, IfErr, IfOk};
 ghost use Rattle.fetch_session.specs.Accounts.{digits_of};
 ghost use Rattle.fetch_session.specs.Sessions.{kept};
-ghost use Rattle.fetch_runs.specs.Runs.{AreSound, Runs};
+ghost use Rattle.fetch_runs.specs.Headline.{IsKept, IsSound};
+ghost use Rattle.fetch_runs.specs.Runs.{ArePromised, AreServed, AreSound, Runs, state_of, world_of};
+ghost use Rattle.pop3_wire.specs.World.{Message};
+ghost use Rattle.run_law.specs.Chains.{Fact};
 
+use crate::laws::headline;
 use fetch_session::{Account, Report, session};
 use mail_store::{FlatFile, MaildirDisk};
 use pop3_wire::Wire;
@@ -20,6 +24,9 @@ pub struct Visit<W> {
 
 /// Runs one session for each visit, in order, and tells of each. Room for the reports is made first:
 /// where memory is wanting, no session was begun.
+///
+/// From a kept account, over links to an honest server of one world, each session keeps what the
+/// headline promises, and the account that is left is kept.
 pub fn run_sessions<W: Wire, D: MaildirDisk, F: FlatFile, H: BuildHasher>(
     alloc: Global,
     account: &mut Account<D, F, H>,
@@ -32,7 +39,14 @@ pub fn run_sessions<W: Wire, D: MaildirDisk, F: FlatFile, H: BuildHasher>(
         → AreSound W.sound visits.old × D.sound account.old.disk × F.sound account.old.file
         × Runs W.seen account.old.settings (digits_of account.old.settings) visits.old (kept (D.maildir account.old.disk) (F.stored account.old.file))
         reports.items visits.new (kept (D.maildir account.new.disk) (F.stored account.new.file))) }
+    ensures promised { IfOk result (λ reports. AreSound W.sound visits.new → D.sound account.new.disk → F.sound account.new.file
+        → (all : List Message) (gone : List (List ℕ)) (facts : List Fact) → IsSound (world_of account.old.settings all)
+        → IsKept (world_of account.old.settings all) (state_of (kept (D.maildir account.old.disk) (F.stored account.old.file)) gone)
+        → AreServed W.seen all gone visits.old visits.new facts
+        → ArePromised W.seen (world_of account.old.settings all) (state_of (kept (D.maildir account.old.disk) (F.stored account.old.file)) gone)
+        visits.old reports.items visits.new facts (kept (D.maildir account.new.disk) (F.stored account.new.file))) }
 {
+    headline();
     let mut reports = Vec::with_capacity(alloc, visits.len())?;
     for i in 0..visits.len() {
         let visit = &mut visits[i];

@@ -1,12 +1,13 @@
-use Rattle.std.proofs.Common.{◌≡◌, ◌<◌, ◌+◌, ◌++◌, ◌∷◌, [], ℕ, List, if◌then◌else◌, get_or, take, set, length, sym, ap, subst, ◌∙◌, arith, length-append}
+use Rattle.std.proofs.Common.{◌≤◌, ◌≡◌, ◌<◌, ◌+◌, ◌++◌, ◌∷◌, [], ℕ, List, if◌then◌else◌, get_or, take, set, length, sym, ap, subst, ◌∙◌, arith, length-append}
 use Rattle.std.specs.Result.{is_ok}
 use Rattle.std.proofs.lemmas.List.{length-set}
 use Rattle.rc_file.specs.declared.settings.Settings.{Settings}
 use Rattle.fetch_session.specs.Accounts.{digits_of}
 use Rattle.fetch_session.specs.declared.report.Report.{Report}
 use Rattle.fetch_session.specs.Sessions.{kept, Session}
+use Rattle.fetch_runs.specs.Runs.{world_of, state_of}
 use Rattle.fetch_runs.specs.declared.run.Visit.{Visit}
-use Rattle.fetch_runs.proofs.RunLemmas.{Ran, ran_next, others_stay}
+use Rattle.fetch_runs.proofs.RunLemmas.{Ran, ran_next, others_stay, ran_all, runs_promised}
 use Rattle.fetch_runs.proofs.run.run_sessions.Goals as goal
 
 pub loop-i-preserved : goal.loop-i-preserved
@@ -43,3 +44,17 @@ loop-i-preserved g c =
           (g.D.MaildirDisk.sound c.args.account.now.disk × g.F.FlatFile.sound c.args.account.now.file) rs (take (i + 1) (set c.loop-i.visits i new)) after
           (g.D.MaildirDisk.sound c.session-report.new.account.disk × g.F.FlatFile.sound c.session-report.new.account.file)) (sym pushed) ran,
     )
+
+pub returns-clause-promised : goal.returns-clause-promised
+returns-clause-promised g c = λ sound disk file all gone facts is_sound is_kept served.
+    let inv = c.loop-i.invariant in
+    let done : length c.args.visits.now ≤ c.loop-i.i = omega (arith, c.loop-i-test.false) in
+    let same_length : length c.loop-i.visits ≡ length c.args.visits.now = inv.3 in
+    let behind : length c.loop-i.visits ≤ c.loop-i.i = omega (arith, done, same_length) in
+    let start = kept (g.D.MaildirDisk.maildir c.args.account.now.disk) (g.F.FlatFile.stored c.args.account.now.file) in
+    let last = kept (g.D.MaildirDisk.maildir c.loop-i.account.disk) (g.F.FlatFile.stored c.loop-i.account.file) in
+    let ran = ran_all g.W.Wire.sound g.W.Wire.seen c.args.account.now.settings c.args.visits.now c.loop-i.visits c.loop-i.i start
+    (g.D.MaildirDisk.sound c.args.account.now.disk × g.F.FlatFile.sound c.args.account.now.file) c.loop-i.reports.items last
+    (g.D.MaildirDisk.sound c.loop-i.account.disk × g.F.FlatFile.sound c.loop-i.account.file) inv.5 done behind in
+    runs_promised c.headline.ensures g.W.Wire.seen (world_of c.args.account.now.settings all) c.args.visits.now (state_of start gone) c.loop-i.reports.items c.loop-i.visits facts last
+    is_sound is_kept served (ran.made sound (disk, file)).2
