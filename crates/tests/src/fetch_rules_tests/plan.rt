@@ -1,6 +1,6 @@
 //! Plans of sessions.
 
-use crate::fetch_rules_tests::seen::read_record;
+use crate::fetch_rules_tests::seen::{listing_of_hundreds, read_record};
 use crate::mail_terms_tests::listing::listing_of;
 use fetch_rules::{Dest, Settings, plan};
 use std::alloc::Global;
@@ -97,5 +97,23 @@ fn never_deletes_a_repeated_id(rt: HostRuntime) -> Result<(), Fail> {
     let ids = [("x", 1), ("x", 1), ("a", 1)];
     let planned = steps(rt.alloc(), &settings, "", &ids, 0)?;
     assert_eq!(rt; planned.as_str(), " 1f 2 3fd");
+    Ok(())
+}
+
+#[test]
+fn plans_hundreds_of_messages(rt: HostRuntime) -> Result<(), Fail> {
+    let alloc = rt.alloc();
+    let mut settings = settings(alloc);
+    settings.delete = true;
+    settings.max_count = 300;
+    let listing = listing_of_hundreds(alloc)?;
+    let seen = read_record(alloc, b"getmail-seen 1\nid-2 7 1\nid-250 7 1\n")?;
+    let steps = plan(alloc, &settings, &seen, &listing, 9)?;
+    assert_eq!(rt; steps.len(), 400);
+    let fetched = steps.iter().filter(|step| step.retrieve).count();
+    let deleted = steps.iter().filter(|step| step.delete).count();
+    let last = steps.iter().rposition(|step| step.retrieve);
+    // Two of the first 302 are known to be delivered.
+    assert!(rt; (fetched, deleted, last) == (300, 302, Some(301)));
     Ok(())
 }

@@ -172,23 +172,32 @@ fn gives_the_group_of_a_merge(rt: HostRuntime) -> Result<(), Fail> {
     Ok(())
 }
 
-#[test]
-fn keeps_hundreds_of_rows(rt: HostRuntime) -> Result<(), Fail> {
-    let alloc = rt.alloc();
+/// The listing of 400 messages `id-1` to `id-400`.
+pub(crate) fn listing_of_hundreds(alloc: Global) -> Result<Listing, Fail> {
     let mut uids = Vec::new(alloc);
     let mut sizes = Vec::new(alloc);
-    let mut held = Vec::new(alloc);
-    let mut group = Vec::from_slice(alloc, b"+ 400\n")?;
     for number in 1..=400u32 {
         let uid = Vec::from_slice(alloc, format!(in alloc; "id-{number}")?.as_bytes())?;
         uids.push(UidRow { number, uid })?;
         sizes.push(ScanRow { number, size: 1 })?;
+    }
+    if !have_legal_ids(&uids) {
+        return Err(Fail::from("ids of another form"));
+    }
+    Ok(Listing::join(alloc, 400, &uids, &sizes)?)
+}
+
+#[test]
+fn keeps_hundreds_of_rows(rt: HostRuntime) -> Result<(), Fail> {
+    let alloc = rt.alloc();
+    let listing = listing_of_hundreds(alloc)?;
+    let mut held = Vec::new(alloc);
+    let mut group = Vec::from_slice(alloc, b"+ 400\n")?;
+    for number in 1..=400u32 {
         held.push(number % 2 == 0)?;
         let line = format!(in alloc; "id-{number} 7 {}\n", (number + 1) % 2)?;
         group.extend_from_slice(line.as_bytes())?;
     }
-    assert!(rt; have_legal_ids(&uids));
-    let listing = Listing::join(alloc, 400, &uids, &sizes)?;
     assert!(rt; held.len() == listing.len() as usize);
     let mut seen = read_record(alloc, b"")?;
     assert_eq!(rt;
@@ -201,5 +210,44 @@ fn keeps_hundreds_of_rows(rt: HostRuntime) -> Result<(), Fail> {
     assert_eq!(rt; read.bytes()?.as_slice(), seen.bytes()?.as_slice());
     assert!(rt; read.is_delivered(b"id-400"));
     assert!(rt; !read.is_delivered(b"id-399"));
+    Ok(())
+}
+
+#[test]
+fn reads_a_hundred_thousand_octets(rt: HostRuntime) -> Result<(), Fail> {
+    let alloc = rt.alloc();
+    let mut file = Vec::from_slice(alloc, b"getmail-seen 1\n")?;
+    for number in 1..=1_100u32 {
+        let row = format!(in alloc; "{number:070} 18446744073709551615 1\n")?;
+        file.extend_from_slice(row.as_bytes())?;
+    }
+    assert_eq!(rt; file.len(), 103_415);
+    let seen = read_record(alloc, &file)?;
+    assert_eq!(rt; seen.bytes()?.as_slice(), file.as_slice());
+    file.extend_from_slice(b"x\n")?;
+    let fault = read_record(alloc, &file).err();
+    assert_eq!(rt; fault, Some(SeenFault::BadRow(1_102)));
+    Ok(())
+}
+
+#[test]
+fn goes_on_behind_a_group_that_was_cut(rt: HostRuntime) -> Result<(), Fail> {
+    let alloc = rt.alloc();
+    let mut seen = read_record(alloc, b"getmail-seen 1\na 0 0\nb 0 0\nc 0 0\n+ 1\na")?;
+    assert!(rt; seen.needs_rewrite());
+    let listing = listing_of(alloc, &[("a", 1), ("b", 1), ("c", 1)])?;
+    assert!(rt; listing.len() == 3);
+    assert!(rt; seen.merge(&listing, &[true, false, false], 9)?);
+    let mut file = seen.bytes()?;
+    assert_eq!(rt;
+        file.as_slice(),
+        b"getmail-seen 1\na 0 1\nb 0 0\nc 0 0\n".as_slice()
+    );
+    file.extend_from_slice(&seen.mark_rows(b"b")?)?;
+    file.extend_from_slice(&seen.mark_rows(b"c")?)?;
+    assert_eq!(rt; file.len(), 53);
+    seen.reread(&file)?;
+    assert!(rt; !seen.needs_rewrite());
+    assert!(rt; seen.is_delivered(b"a") && seen.is_delivered(b"b") && seen.is_delivered(b"c"));
     Ok(())
 }
