@@ -21,7 +21,7 @@ use Rattle.run_law.specs.Steps.{Leaves, Stores, IsHonest, ids_wanted, merged_row
 use Rattle.run_law.specs.Runs.{IsFrame, Situation, Visit, Visited, Moved as ShiftedIn, Visits, Kept, KeptStaysKept, KeptHoldsExactly, StartsKept, LeavesOut, DeletesHeld, past_limit}
 use Rattle.run_law.specs.Sessions.{IsBegun, Link as LinkIn, Links, LinksAreVisits}
 use Rattle.fetch_runs.specs.Steps.{holds, IsStep, SessionIsAStep}
-use Rattle.fetch_runs.specs.Headline.{World, IsSound, State, Occasion, Event, Fetched, Moved, maildrop_at, IsSession, after_event, Follows, frame_of, HoldsAPrefix, IsPastCount, LeavesOutOnlyBeyondLimits, IsForHeld, Promised, IsKept, Headline, EmptyIsKept}
+use Rattle.fetch_runs.specs.Headline.{World, IsSound, State, Occasion, Event, Fetched, Moved, maildrop_at, IsSession, after_event, Follows, frame_of, HoldsAPrefix, IsPastCount, LeavesOutOnlyBeyondLimits, IsForHeld, Promised, IsKept, Headline, EmptyIsKept, HeadlineFromEmpty}
 
 -- the laws that are used
 pub record Laws : Type 0 where
@@ -224,9 +224,12 @@ headline laws world start (event ∷ events) sound is run =
     ((holds_prefix laws world start sound is, first.0, later.0), later.1)
 
 pub empty_is_kept : StartsKept → EmptyIsKept
-empty_is_kept starts world start keeps none free = (
+empty_is_kept starts world start empty = (
   [],
-  keeps,
-  subst (λ (ids : List (List ℕ)). let s : Situation = record { account = holds [] start.kept.maildir; gone = ids } in Kept (frame_of world) s) (sym none)
-      (starts (frame_of world) (holds [] start.kept.maildir) refl free),
+  empty.record_is,
+  subst (λ (ids : List (List ℕ)). let s : Situation = record { account = holds [] start.kept.maildir; gone = ids } in Kept (frame_of world) s) (sym empty.none_gone)
+      (starts (frame_of world) (holds [] start.kept.maildir) refl empty.no_file),
 )
+
+pub from_empty : Headline → EmptyIsKept → HeadlineFromEmpty
+from_empty law empty_kept world start events sound empty run = (law world start events sound (empty_kept world start empty) run).0

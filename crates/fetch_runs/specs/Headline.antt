@@ -157,8 +157,16 @@ abbrev pub Headline : Type 0
 Headline = (world : World) (start : State) (events : List Event) → IsSound world → IsKept world start → IsRun world start events
     → Promises world start events × IsKept world (state_after start events)
 
--- an account whose record's file isn't there or is empty, and that has no file of its own, is kept while nothing is gone
+-- the record's file isn't there or holds an empty record, no file is the account's own, and nothing is gone
+pub record IsEmpty (world : World) (state : State) : Type 0 where
+  pub record_is : Keeps state.kept.file.content []
+  pub no_file : (id : List ℕ) → is_legal_id id ≡ true → copies (files (holds [] state.kept.maildir)) (name_of (digits_of world.settings) id) ≡ []
+  pub none_gone : state.gone ≡ []
+
+-- the empty account is kept
 abbrev pub EmptyIsKept : Type 0
-EmptyIsKept = (world : World) (start : State) → Keeps start.kept.file.content [] → start.gone ≡ []
-    → ((id : List ℕ) → is_legal_id id ≡ true → copies (files (holds [] start.kept.maildir)) (name_of (digits_of world.settings) id) ≡ [])
-    → IsKept world start
+EmptyIsKept = (world : World) (start : State) → IsEmpty world start → IsKept world start
+
+-- so the sentence holds from the first session on
+abbrev pub HeadlineFromEmpty : Type 0
+HeadlineFromEmpty = (world : World) (start : State) (events : List Event) → IsSound world → IsEmpty world start → IsRun world start events → Promises world start events

@@ -1,7 +1,7 @@
 //! Laws over what sessions said and left, for the programs and crates above: a function here does
 //! nothing, and its contract is the law.
 ghost use Rattle.fetch_runs.specs.Conversations.{SessionsAreConversations};
-ghost use Rattle.fetch_runs.specs.Headline.{EmptyIsKept, Headline};
+ghost use Rattle.fetch_runs.specs.Headline.{EmptyIsKept, Headline, HeadlineFromEmpty};
 ghost use Rattle.fetch_runs.specs.Steps.{SessionIsAStep};
 
 use fetch_rules::{
@@ -65,4 +65,12 @@ pub fn empty_account_is_kept()
     ensures { EmptyIsKept }
 {
     starts_kept();
+}
+
+/// The headline from the first session on, of an account with an empty record and no file of its own.
+pub fn headline_from_empty()
+    ensures { HeadlineFromEmpty }
+{
+    headline();
+    empty_account_is_kept();
 }
