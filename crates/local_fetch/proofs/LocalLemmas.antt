@@ -1,0 +1,103 @@
+-- A session's commands are such as a server answers honestly.
+use Rattle.std.proofs.Common.{◌≡◌, inl, inr, ◌⊎◌, ℕ, List, [], ◌∷◌, ◌++◌, Bool, true, false, refl, sym, ap, subst, ◌∙◌}
+use Rattle.std.specs.String.{string_bytes}
+use Rattle.std.specs.List.{flat_map, AllByRecursion}
+use Rattle.pop3_wire.specs.declared.command.Command.{Command}
+use Rattle.pop3_wire.specs.declared.command.Command.TheVariants.{Retr, Dele, Quit}
+use Rattle.pop3_wire.specs.Line.{ended}
+use Rattle.pop3_wire.specs.Commands.{line_of, can_be_sent}
+use Rattle.pop3_wire.specs.CommandLine.{HasNumbers}
+use Rattle.pop3_wire.specs.Honest.{Asked}
+use Rattle.pop3_wire.specs.World.{IsMessage}
+use Rattle.rc_file.specs.Settings.{IsValid}
+use Rattle.rc_file.specs.declared.settings.Settings.{Settings}
+use Rattle.fetch_rules.specs.Plan.{planned}
+use Rattle.fetch_rules.specs.declared.steps.Step.{Step}
+use Rattle.fetch_session.specs.declared.report.Report.{Report}
+use Rattle.fetch_session.specs.Sessions.{Kept, Session}
+use Rattle.fetch_runs.specs.Conversations.{Opens, SpeaksByPlan, SessionsAreConversations}
+use Rattle.pop3_server.specs.Maildrop.{Mail, there}
+use Rattle.pop3_server.specs.ServerMachine.{Machine}
+use Rattle.pop3_server.specs.HonestLoop.{IsNew, GivesHonest}
+use Rattle.pop3_server.specs.LoopLink.{Loop, Serves}
+use Rattle.local_fetch.specs.Local.{FetchesFrom, loop_to, unused}
+use Rattle.run_law.specs.Plans.{asked_if, step_commands, plan_commands, IsTail, IsFrontOfPlan}
+use Rattle.pop3_server.specs.HonestServer.{IsOfSession, IsAsked, lines_of}
+
+all_append : {A : Type 0} (P : A → Type 0) (xs ys : List A) → AllByRecursion P xs → AllByRecursion P ys → AllByRecursion P (xs ++ ys)
+all_append P [] ys first then = then
+all_append P (x ∷ xs) ys first then = (first.0, all_append P xs ys first.1 then)
+
+all_front : {A : Type 0} (P : A → Type 0) (xs ys : List A) → AllByRecursion P (xs ++ ys) → AllByRecursion P xs
+all_front P [] ys all = tt
+all_front P (x ∷ xs) ys all = (all.0, all_front P xs ys all.1)
+
+asked_steps : (retrieve delete : Bool) (number : ℕ) (commands : List Command) → AllByRecursion IsOfSession commands
+    → AllByRecursion IsOfSession ((asked_if retrieve (Retr number) ++ asked_if delete (Dele number)) ++ commands)
+asked_steps true true number commands later = (tt, (tt, later))
+asked_steps true false number commands later = (tt, later)
+asked_steps false true number commands later = (tt, later)
+asked_steps false false number commands later = later
+
+of_steps : (steps : List Step) → AllByRecursion IsOfSession (flat_map step_commands steps)
+of_steps [] = tt
+of_steps (s ∷ steps) = asked_steps s.retrieve s.delete s.number (flat_map step_commands steps) (of_steps steps)
+
+of_plan : (name word : List ℕ) (steps : List Step) → AllByRecursion IsOfSession (plan_commands name word steps)
+of_plan name word steps = (tt, (tt, (tt, (tt, (tt, all_append IsOfSession (flat_map step_commands steps) (Quit ∷ []) (of_steps steps) (tt, tt))))))
+
+of_tail : (tail : List Command) → IsTail tail → AllByRecursion IsOfSession tail
+of_tail tail (inl is) = subst (AllByRecursion IsOfSession) (sym is) tt
+of_tail tail (inr (inl is)) = subst (AllByRecursion IsOfSession) (sym is) (tt, tt)
+of_tail tail (inr (inr (inl is))) = subst (AllByRecursion IsOfSession) (sym is) (tt, tt)
+of_tail tail (inr (inr (inr is))) = subst (AllByRecursion IsOfSession) (sym is) (tt, (tt, tt))
+
+of_session : (name word : List ℕ) (steps : List Step) (commands : List Command) → IsFrontOfPlan name word steps commands → AllByRecursion IsOfSession commands
+of_session name word steps commands front =
+    subst (AllByRecursion IsOfSession) (sym front.sent)
+    (all_append IsOfSession front.front front.tail
+    (all_front IsOfSession front.front front.behind (subst (AllByRecursion IsOfSession) front.plan (of_plan name word steps))) (of_tail front.tail front.is_tail))
+
+each_asked : (commands : List Command) → AllByRecursion IsOfSession commands → AllByRecursion HasNumbers commands → AllByRecursion (λ command. can_be_sent command ≡ true) commands → AllByRecursion IsAsked commands
+each_asked [] of_session numbers sendable = tt
+each_asked (c ∷ commands) of_session numbers sendable =
+    (record { of_session = of_session.0; numbers = numbers.0; sendable = sendable.0 }, each_asked commands of_session.1 numbers.1 sendable.1)
+
+pub are_asked : (name word : List ℕ) (steps : List Step) (commands : List Command) (sent : List ℕ) → IsFrontOfPlan name word steps commands → Asked commands sent → AllByRecursion IsAsked commands
+are_asked name word steps commands sent front asked = each_asked commands (of_session name word steps commands front) asked.numbers asked.sendable
+
+pub lines_same : (commands : List Command) → flat_map ended (lines_of commands) ≡ flat_map (λ (command : Command). ended (line_of command)) commands
+lines_same [] = refl
+lines_same (c ∷ commands) = ap (λ (l : List ℕ). ended (line_of c) ++ l) (lines_same commands)
+
+-- some commands were sent whole, of a plan and a tail
+record Sends (settings : Settings) (sent : List ℕ) : Type 0 where
+  steps : List Step
+  commands : List Command
+  asked : Asked commands sent
+  front : IsFrontOfPlan (string_bytes settings.username) (string_bytes settings.password) steps commands
+
+sends : (settings : Settings) (now : ℕ) (report : Report) (sent got : List ℕ) → Opens settings report sent got ⊎ SpeaksByPlan settings now report sent got → Sends settings sent
+sends settings now report sent got (inl said) = record { steps = []; commands = said.commands; asked = said.asked; front = said.front }
+sends settings now report sent got (inr said) = record { steps = planned settings said.rows said.items now; commands = said.commands; asked = said.asked; front = said.front }
+
+module _ {M : Type 0} (sound : M → Type 0) (mail : M → Mail) (conversations : SessionsAreConversations) (honesty : GivesHonest sound mail) where
+  from_new : (settings : Settings) (account : List ℕ) (now : ℕ) (server : Machine M) (loop : Loop M) (before : Kept) (report : Report) (after : Kept) → IsNew (loop_to server) → IsValid settings
+      → Serves sound mail (loop_to server) loop → Session settings account now unused before report loop.link after → sound loop.machine.drop
+      → AllByRecursion IsMessage (there (mail server.drop).slots) → FetchesFrom mail settings account now server loop.machine loop.link before report after
+  from_new settings account now server loop before report after is_new valid serves session sound' messages =
+      let said = conversations settings account now unused before report loop.link after valid session in
+      let s = sends settings now report said.0 said.1 said.4 in
+      let all = honesty (loop_to server) loop s.commands s.asked.part is_new serves
+      (are_asked (string_bytes settings.username) (string_bytes settings.password) s.steps s.commands said.0 s.front s.asked) s.asked.no_line
+      (said.2 ∙ s.asked.whole ∙ ap (λ (l : List ℕ). l ++ s.asked.part) (sym (lines_same s.commands))) sound' messages in
+      record { session = session; marks = all.0; honest = all.1; gone = all.2 }
+
+  pub fetches : (settings : Settings) (account : List ℕ) (now : ℕ) (server new : Machine M) (start loop : Loop M) (before : Kept) (report : Report) (after : Kept) → start ≡ loop_to server
+      → new ≡ loop.machine → IsNew (loop_to server) → IsValid settings → Serves sound mail start loop → Session settings account now start.link before report loop.link after → sound new.drop
+      → AllByRecursion IsMessage (there (mail server.drop).slots) → FetchesFrom mail settings account now server new loop.link before report after
+  fetches settings account now server new start loop before report after first last is_new valid serves session sound' messages =
+      subst (λ (m : Machine M). FetchesFrom mail settings account now server m loop.link before report after) (sym last)
+      (from_new settings account now server loop before report after is_new valid (subst (λ (l : Loop M). Serves sound mail l loop) first serves)
+      (subst (λ (l : Loop M). Session settings account now l.link before report loop.link after) first session)
+      (subst (λ (m : Machine M). sound m.drop) last sound') messages)
