@@ -8,6 +8,7 @@ memory of no more than the largest message and its reply together, above what th
 one line.
 """
 
+import os
 import socket
 import subprocess
 import sys
@@ -16,12 +17,15 @@ import time
 from dataclasses import dataclass
 from pathlib import Path
 
+import dovecot
 import measure
 from harness import kernel
 from harness.kernel import LOOPBACK
 
 TURNS = 9
+VISITS = 4
 SECONDS = 60
+LETTER_HEAD = b"From: Ada <ada@example.org>\nSubject: a letter\n\n"
 LETTER_LINE = b"A line of a common length, as a letter to somebody has them.\n"
 PREPARED_SERVER = Path(__file__).with_name("prepared_server.py")
 
@@ -52,6 +56,11 @@ class Client:
             count += len(piece)
             last = (last + piece)[-len(end):]
         return count
+
+    def ask(self, command, end=b"\r\n"):
+        """Sends a command and reads its reply, which is refused by none of these servers."""
+        self.socket.sendall(command)
+        return self.reply(end)
 
     def log_in(self):
         self.reply(b"\r\n")
@@ -118,7 +127,7 @@ def make_maildir(folder, count, octets):
         (maildir / part).mkdir(parents=True)
     (Path(folder) / "password").write_bytes(b"p\n")
     for number in range(count):
-        (maildir / "new" / f"{number:06}").write_bytes(LETTER_LINE * (octets // len(LETTER_LINE)))
+        (maildir / "new" / f"{number:06}").write_bytes(LETTER_HEAD + LETTER_LINE * (octets // len(LETTER_LINE)))
     return maildir
 
 
@@ -160,12 +169,112 @@ def measure_large(folder):
           f"{multiple:.2f} of a message and its reply ({measure.verdict(multiple <= 1)})", flush=True)
 
 
+@dataclass(frozen=True)
+class Visit:
+    """The times of one connection: from PASS to the answer to STAT, both listings, and a command for each message."""
+
+    login: float
+    listings: float
+    tops: float
+    texts: float
+
+
+def visit(port, count):
+    """Logs in and asks for everything once, one command at a time."""
+    client = Client(port)
+    client.reply(b"\r\n")
+    client.ask(b"USER u\r\n")
+    marks = [time.perf_counter()]
+    client.ask(b"PASS p\r\n")
+    client.ask(b"STAT\r\n")
+    marks.append(time.perf_counter())
+    for command in (b"LIST\r\n", b"UIDL\r\n"):
+        client.ask(command, b"\r\n.\r\n")
+    marks.append(time.perf_counter())
+    for number in range(1, count + 1):
+        client.ask(b"TOP %d 10\r\n" % number, b"\r\n.\r\n")
+    marks.append(time.perf_counter())
+    client.fetch(count)
+    marks.append(time.perf_counter())
+    client.ask(b"QUIT\r\n")
+    client.socket.close()
+    return Visit(*(after - before for before, after in zip(marks, marks[1:])))
+
+
+class Popd:
+    """`popd` over a Maildir."""
+
+    def __init__(self, maildir):
+        self.maildir = maildir
+
+    def __enter__(self):
+        self.port = kernel.free_port()
+        words = [measure.program("popd"), "--listen", f"{LOOPBACK}:{self.port}", "u",
+                 str(self.maildir.parent / "password"), str(self.maildir)]
+        self.process = subprocess.Popen(words)
+        wait_until(lambda: kernel.listens(self.port) or self.process.poll() is not None)
+        return self
+
+    def __exit__(self, *_):
+        self.memory = kernel.peak_of_memory(self.process.pid)
+        self.process.terminate()
+        _, _, usage = os.wait4(self.process.pid, 0)
+        self.process.returncode = 0
+        self.processor = usage.ru_utime + usage.ru_stime
+
+
+def print_visits(name, server, first, later, processor, count):
+    """Prints the times of a server's first visit and the best of the later ones."""
+    best = [min(getattr(one, what) for one in later) for what in ("login", "listings", "tops", "texts")]
+    print(f"  {name}, {server}: PASS and STAT {first.login * 1e3:.1f} ms, later {best[0] * 1e3:.1f} ms; LIST and UIDL "
+          f"{best[1] * 1e3:.1f} ms; TOP 10 {best[2] / count * 1e6:.0f} us; RETR {best[3] / count * 1e6:.0f} us; processor "
+          f"{processor / count / (1 + len(later)) * 1e6:.0f} us a message and visit", flush=True)
+    return best
+
+
+def measure_beside_dovecot(folder, name, count, octets):
+    """The same visits to `popd` and to dovecot, over the same files; their ratios."""
+    maildir = make_maildir(folder, count, octets)
+    with Popd(maildir) as ours:
+        our_visits = [visit(ours.port, count) for _ in range(VISITS)]
+    best = print_visits(name, "popd", our_visits[0], our_visits[1:], ours.processor, count)
+    if not dovecot.is_there():
+        return
+    with dovecot.Dovecot(folder, maildir) as theirs:
+        visits = [visit(theirs.port, count) for _ in range(VISITS)]
+    other = print_visits(name, "dovecot", visits[0], visits[1:], theirs.processor, count)
+    ratios = [mine / yours for mine, yours in zip(best, other)]
+    print(f"  {name}: of dovecot's time: PASS and STAT from the second login on {ratios[0]:.2f} "
+          f"({measure.verdict(ratios[0] < 1)}), LIST and UIDL {ratios[1]:.2f}, TOP {ratios[2]:.2f} "
+          f"({measure.verdict(ratios[2] <= 2)}), RETR {ratios[3]:.2f}, processor time "
+          f"{ours.processor / theirs.processor:.2f}", flush=True)
+
+
+def measure_greatest(folder):
+    """One message of 100 MB: what counts is the memory."""
+    octets = 100_000_000
+    maildir = make_maildir(folder, 1, octets)
+    with Popd(maildir) as server:
+        visit(server.port, 1)
+    multiple = server.memory / octets
+    print(f"  one of 100 MB: peak of memory {multiple:.2f} of the message ({measure.verdict(multiple <= 1.25)})", flush=True)
+
+
 def main():
     print(f"popd --listen, one command at a time, best of {TURNS}; to be reached: ratio above 1 on small messages, "
           "memory of the largest message and its reply")
     with tempfile.TemporaryDirectory() as folder:
         measure_small(folder)
         measure_large(folder)
+    print(f"beside dovecot, best of {VISITS - 1} visits behind the first; to be reached: its time at PASS and STAT, twice "
+          "its time at TOP, memory of the largest message and a quarter")
+    if not dovecot.is_there():
+        print("  dovecot is not installed, or this is not root: popd alone")
+    for name, count, octets in (("2,000 of 2 KB", 2_000, 2_000), ("20,000 of 2 KB", 20_000, 2_000), ("20 of 5 MB", 20, 5_000_000)):
+        with tempfile.TemporaryDirectory() as folder:
+            measure_beside_dovecot(folder, name, count, octets)
+    with tempfile.TemporaryDirectory() as folder:
+        measure_greatest(folder)
 
 
 if __name__ == "__main__":

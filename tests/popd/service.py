@@ -27,6 +27,7 @@ class Maildir:
             (self.folder / part).mkdir(parents=True)
         self.passfile = Path(self.holder.name) / "password"
         self.passfile.write_bytes(password)
+        self.passfile.chmod(0o600)
 
     def __enter__(self):
         return self

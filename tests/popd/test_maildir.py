@@ -5,7 +5,7 @@ import poplib
 import unittest
 from contextlib import closing
 
-from harness import programs
+from harness import preload, programs
 from harness.kernel import LOOPBACK
 from popd import expected
 from popd.service import Maildir, Service, long_lines_allowed
@@ -253,6 +253,77 @@ class Changes(unittest.TestCase):
             with closing(client):
                 client.user("u")
                 client.pass_("q")
+
+
+class Listings(unittest.TestCase):
+    """What a listing reads, and what comes between."""
+
+    def setUp(self):
+        self.maildir = Maildir()
+        self.addCleanup(self.maildir.holder.cleanup)
+        self.path = self.maildir.add("new", "a", b"one\n")
+        self.maildir.add("cur", "b:2,S", b"two\nlines\n")
+
+    def sizes(self, service):
+        with service.client() as client:
+            client.log_in()
+            return client.ask_lines(b"LIST").split(b"\r\n")[1:-2]
+
+    def test_a_size_is_counted_anew_once_the_file_was_changed(self):
+        with Service(self.maildir) as service:
+            self.assertEqual(self.sizes(service), [b"1 5", b"2 12"])
+            stands = os.stat(self.path)
+            with open(self.path, "wb") as file:
+                file.write(b"\n\n\n\n")
+            os.utime(self.path, ns=(stands.st_atime_ns, stands.st_mtime_ns + 1))
+            self.assertEqual(self.sizes(service), [b"1 8", b"2 12"])
+            with open(self.path, "ab") as file:
+                file.write(b"x\n")
+            os.utime(self.path, ns=(stands.st_atime_ns, stands.st_mtime_ns + 1))
+            self.assertEqual(self.sizes(service), [b"1 11", b"2 12"])
+            os.rename(self.path, self.maildir.folder / "cur" / "a:2,S")
+            self.maildir.add("new", "0", b"")
+            self.assertEqual(self.sizes(service), [b"1 0", b"2 11", b"3 12"])
+
+    def test_a_second_login_reads_no_file(self):
+        """A file that was counted is served as it was counted, though it has other lines now: it wasn't read."""
+        with Service(self.maildir) as service:
+            self.assertEqual(self.sizes(service), [b"1 5", b"2 12"])
+            stands = os.stat(self.path)
+            with open(self.path, "wb") as file:
+                file.write(b"\n\n\n\n")
+            os.utime(self.path, ns=(stands.st_atime_ns, stands.st_mtime_ns))
+            self.assertEqual(self.sizes(service), [b"1 5", b"2 12"])
+
+    def meddled(self, **meddling):
+        """A service that somebody meddles with."""
+        library = self.enterContext(preload.library("meddle"))
+        names = {f"MEDDLE_{what.upper()}": str(path) for what, path in meddling.items()}
+        return Service(self.maildir, "--connections", "2", LD_PRELOAD=str(library), **names)
+
+    def test_a_file_that_moves_while_it_is_listed(self):
+        """The folders are looked through anew, and the message is listed under its new name."""
+        moved = self.maildir.folder / "cur" / "a:2,S"
+        with self.meddled(**{"from": os.fsdecode(self.path), "to": moved}) as service:
+            self.assertEqual(self.sizes(service), [b"1 5", b"2 12"])
+            self.assertEqual(self.sizes(service), [b"1 5", b"2 12"])
+            self.assertEqual(service.finish(), (0, b""))
+        self.assertTrue(moved.exists())
+
+    def test_a_file_that_vanishes_while_it_is_listed(self):
+        with self.meddled(**{"from": os.fsdecode(self.path)}) as service:
+            self.assertEqual(self.sizes(service), [b"1 12"])
+            self.assertEqual(self.sizes(service), [b"1 12"])
+            self.assertEqual(service.finish(), (0, b""))
+
+    def test_a_file_that_cannot_be_read_is_named(self):
+        """The maildrop is refused, as a list without that file would be a wrong one, and the file is told."""
+        path = os.fsdecode(self.path)
+        with self.meddled(refused=path) as service:
+            for _ in range(2):
+                with service.client() as client:
+                    self.assertEqual(client.log_in(), b"-ERR maildrop unavailable\r\n")
+            self.assertEqual(service.finish(), (0, f'popd: warning: cannot read "{path}"\n'.encode() * 2))
 
 
 class GreatMaildirs(unittest.TestCase):

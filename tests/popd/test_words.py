@@ -32,8 +32,10 @@ class Words(unittest.TestCase):
             with self.subTest(words):
                 run = self.run_popd(*words)
                 self.assertEqual((run.status, run.err), (0, b""))
-                for word in (b"--listen", b"--connections", b"--rehearse"):
-                    self.assertIn(word, run.out)
+                for word in (b"--listen", b"--connections", b"--rehearse", b"USER PASSFILE MAILDIR"):
+                    lines = [line for line in run.out.splitlines() if line.strip(b" []<").startswith(word)]
+                    self.assertEqual(len(lines), 1, run.out)
+                    self.assertGreater(len(lines[0].split(b"  ")[-1].split()), 3, "it has no line of help")
 
     def test_help_that_cannot_be_written(self):
         with open("/dev/full", "wb") as full:
@@ -65,6 +67,39 @@ class Words(unittest.TestCase):
         for words in ([b"\xff"], [*self.served[:2], b"\xff"]):
             with self.subTest(words):
                 self.assertEqual(self.run_popd(*words), WRONG_COUNT)
+
+    def check_warning(self, told, user="u"):
+        """Serves an empty input, with these warnings and no others."""
+        run = self.run_popd(user, *self.served[1:])
+        self.assertEqual((run.status, run.out), (0, READY))
+        self.assertEqual(run.err.decode().splitlines(), [f"popd: warning: {line}" for line in told])
+
+    def test_a_maildir_without_its_folders(self):
+        folder = self.served[2]
+        self.check_warning([])
+        (self.maildir.folder / "new").rmdir()
+        self.check_warning([f"{folder} has no folder new"])
+        (self.maildir.folder / "new").write_bytes(b"")
+        (self.maildir.folder / "cur").rmdir()
+        self.check_warning([f"{folder} has no folder new", f"{folder} has no folder cur"])
+
+    def test_a_user_or_a_password_that_no_client_can_give(self):
+        reason = "it is empty, longer than 500 octets, or has a CR, LF or NUL in it"
+        self.check_warning([f"no client can give this USER: {reason}"], user="")
+        self.check_warning([f"no client can give this USER: {reason}"], user="u" * 501)
+        self.check_warning([], user="u" * 500)
+        for password in (b"", b"\n", b"p" * 501, b"p\0q\n", b"p\rq\n"):
+            with self.subTest(password):
+                self.maildir.passfile.write_bytes(password)
+                self.check_warning([f"no client can give this password: {reason}"])
+        self.maildir.passfile.write_bytes(b"p" * 500)
+        self.check_warning([])
+
+    def test_a_password_file_that_others_may_read(self):
+        for mode, told in ((0o600, []), (0o640, 1), (0o604, 1), (0o644, 1), (0o622, [])):
+            with self.subTest(oct(mode)):
+                self.maildir.passfile.chmod(mode)
+                self.check_warning(told and [f"others than its owner may read {self.served[1]}"])
 
     def test_a_password_file_that_cannot_be_read(self):
         for name in ("missing", "missing/missing", str(self.maildir.folder), "", "a b\tc"):
@@ -100,7 +135,9 @@ class PasswordFile(unittest.TestCase):
         with Maildir(content) as maildir:
             run = programs.run("popd", "u", maildir.passfile, maildir.folder,
                                given=b"USER u\r\nPASS " + password + b"\r\n")
-        self.assertEqual((run.status, run.err), (0, b""))
+        self.assertEqual(run.status, 0)
+        for line in run.err.splitlines():
+            self.assertTrue(line.startswith(b"popd: warning: no client can give this password: "), line)
         return run.out.splitlines()[-1]
 
     def test_passwords_that_are_right(self):

@@ -11,7 +11,7 @@ use Rattle.std.proofs.lemmas.Map.Text.{is_eq-slice_cmp}
 use Rattle.std.proofs.lemmas.Slice.Eq.{bytes_eq-Decides}
 use Rattle.mail_terms.specs.Distinct.{AreDistinct}
 use Rattle.std.proofs.lemmas.List.{map_push}
-use Rattle.pop3_server.specs.declared.maildir_drop.ListedFile.{ListedFile}
+use Rattle.pop3_server.specs.declared.listed_file.ListedFile.{ListedFile}
 use Rattle.pop3_server.specs.Maildrop.{Listed}
 use Rattle.pop3_server.proofs.DistinctLemmas.{distinct_push}
 use Rattle.pop3_server.specs.RealMaildir.{uid_of, id_of_name, name_of, names_of, HaveIds}

@@ -1,6 +1,6 @@
 -- A Maildir in a real folder: what is known of it, whatever the folder does.
 use Rattle.std.specs.Prelude.{◌≡◌, ℕ, List, [], map, string_bytes, Result, Ok, Err, Vec}
-use Rattle.pop3_server.specs.declared.maildir_drop.ListedFile.{ListedFile}
+use Rattle.pop3_server.specs.declared.listed_file.ListedFile.{ListedFile}
 use Rattle.pop3_server.specs.declared.maildrop.DropFault.{DropFault}
 use Rattle.mail_terms.specs.MaildirName.{base}
 use Rattle.pop3_server.specs.MaildirNames.{id_of}

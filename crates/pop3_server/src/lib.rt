@@ -6,6 +6,7 @@ mod fault;
 mod honesty;
 mod intake;
 mod laws;
+mod listed_file;
 mod loop_wire;
 mod maildir_drop;
 mod maildir_names;

@@ -8,10 +8,11 @@ ghost use Rattle.mail_terms.specs.FailureCount.{Tallies, counted_up, refuses};
 ghost use Rattle.pop3_server.specs.Maildrop.{is_refusal};
 ghost use Rattle.pop3_server.specs.RealMaildir.{mail_of, names_of, uid_of, HaveIds, ListsNames};
 
+use crate::listed_file::{Counted, ListedFile, PIECE, count_size, stamp_of};
 use crate::maildir_names::{Folder, MailFile, unique_id};
 use crate::maildrop::{DropFault, Entry, MAX_COUNT, MAX_SIZE, Maildrop};
-use crate::size::SizeCount;
 use mail_terms::{FailureCount, base};
+use std::alloc::{AllocError, AllocFailed};
 use std::collections::BTreeSet;
 use std::fs;
 use std::io::{self, ErrorKind, Read};
@@ -25,6 +26,10 @@ pub struct MaildirDrop<'a, R: Files + AllocGlobal + Clone + Drop> {
     rt: &'a R,
     path: String,
     files: Vec<ListedFile>,
+    /// The files of an earlier server's listing, whose sizes needn't be counted again.
+    counted: Vec<ListedFile>,
+    /// The path of the file that couldn't be read, where that refused the last listing.
+    unread: Option<String>,
     failures: FailureCount,
     removals: u64,
 }
@@ -43,38 +48,33 @@ impl<'a, R: Files + AllocGlobal + Clone + Drop> Model for MaildirDrop<'a, R> {
     } };
 }
 
-/// How long a file is, and its size as a message, where each line's end counts as two octets.
-struct Extent {
-    length: u64,
-    size: u64,
-}
-
-/// The extent of a file, which is read in pieces.
-fn extent_of<R: Files>(rt: &R, path: &str) -> io::Result<Extent> {
-    let mut file = fs::open(rt, path)?;
-    let mut piece = [0u8; 16384];
-    let mut length = 0u64;
-    let mut count = SizeCount::new();
-    for _ in 0..u64::MAX {
-        let n = file.read(&mut piece)?;
-        if n == 0 {
-            break;
-        }
-        length = length.saturating_add(n as u64);
-        count.add(&piece[..n]);
-    }
-    Ok(Extent {
-        length,
-        size: count.size(),
-    })
-}
-
-/// Where the file of a listed message lies, and how long it was when it was listed.
+/// Why a Maildir couldn't be listed: the error of the system, and the path of the file that couldn't be
+/// read, where it was one.
 #[derive(Drop)]
-struct ListedFile {
-    folder: Folder,
-    name: String,
-    length: u64,
+struct Unlisted {
+    error: io::Error,
+    path: Option<String>,
+}
+
+impl From<io::Error> for Unlisted {
+    fn from(error: io::Error) -> Unlisted {
+        Unlisted { error, path: None }
+    }
+}
+
+impl From<AllocError> for Unlisted {
+    fn from(error: AllocError) -> Unlisted {
+        Unlisted {
+            error: error.into(),
+            path: None,
+        }
+    }
+}
+
+impl<T: Drop> From<AllocFailed<T>> for Unlisted {
+    fn from(error: AllocFailed<T>) -> Unlisted {
+        AllocError::from(error).into()
+    }
 }
 
 /// The messages found in a Maildir, and where their files lie.
@@ -93,8 +93,37 @@ impl<'a, R: Files + AllocGlobal + Clone + Drop> MaildirDrop<'a, R> {
             rt,
             path,
             files: Vec::new(rt.alloc()),
+            counted: Vec::new(rt.alloc()),
+            unread: None,
             failures: FailureCount::new(),
             removals: 0,
+        }
+    }
+
+    /// The same Maildir for another server, as at the start, but that the sizes of the files that were
+    /// listed aren't counted again while these aren't changed.
+    pub fn renewed(self) -> MaildirDrop<'a, R>
+        ensures { result ≡ record { path = self.entry.path; names = []; failures = 0; removals = 0 } }
+    {
+        let MaildirDrop {
+            rt,
+            path,
+            files,
+            counted,
+            ..
+        } = self;
+        let counted = if files.is_empty() { counted } else { files };
+        MaildirDrop {
+            counted,
+            ..MaildirDrop::at(rt, path)
+        }
+    }
+
+    /// The path of the file that couldn't be read, where that refused the last listing.
+    pub fn unread(&self) -> Option<&str> {
+        match &self.unread {
+            Some(path) => Some(path.as_str()),
+            None => None,
         }
     }
 
@@ -125,30 +154,45 @@ impl<'a, R: Files + AllocGlobal + Clone + Drop> MaildirDrop<'a, R> {
             if name.starts_with('.') {
                 continue;
             }
-            if !entry.file_type()?.is_file() {
+            let metadata = entry.metadata()?;
+            if !metadata.is_file() {
                 continue;
             }
             found.push(MailFile {
                 base: Vec::from_slice(alloc, base(name).as_bytes())?,
                 folder,
                 name: String::from_str(alloc, name)?,
+                stamp: stamp_of(&metadata),
             })?;
         }
         Ok(())
     }
 
-    /// All files, in the order in which their messages are listed.
+    /// All files, in the order in which their messages are listed. A file that moves from `new` to `cur`
+    /// meanwhile is found all the same, as `new` is looked through first.
     fn find(&self) -> io::Result<Vec<MailFile>> {
         let mut found = Vec::new(self.rt.alloc());
-        self.find_in(Folder::Cur, &mut found)?;
         self.find_in(Folder::New, &mut found)?;
+        self.find_in(Folder::Cur, &mut found)?;
         found.sort()?;
         Ok(found)
     }
 
+    /// The size of a file, which is read for it.
+    fn count(&self, folder: Folder, name: &str, piece: &mut [u8]) -> Result<u64, Unlisted> {
+        let path = self.path_of(folder, name)?;
+        match count_size(self.rt, path.as_str(), piece) {
+            Ok(size) => Ok(size),
+            Err(error) => Err(Unlisted {
+                error,
+                path: Some(path),
+            }),
+        }
+    }
+
     /// The messages of these files: of several with one id the first, none past the limits.
     #[tactic(auto, using(crate::proofs::MaildirLemmas::ids_push))]
-    fn list(&self, found: Vec<MailFile>) -> io::Result<Listing>
+    fn list(&self, found: Vec<MailFile>) -> Result<Listing, Unlisted>
         ensures within { IfOk result (λ listing. vec_len listing.entries ≤ MAX_COUNT) }
         ensures distinct { IfOk result (λ listing. AreDistinct (map uid_of listing.entries.items)) }
         ensures names { IfOk result (λ listing. HaveIds listing.entries.items (names_of listing.files.items)) }
@@ -157,18 +201,29 @@ impl<'a, R: Files + AllocGlobal + Clone + Drop> MaildirDrop<'a, R> {
         let mut seen: BTreeSet<Vec<u8>> = BTreeSet::new(alloc);
         let mut entries = Vec::new(alloc);
         let mut files = Vec::new(alloc);
+        let mut counted = Counted::new(self.counted.as_slice());
+        let mut piece = Vec::from_elem(alloc, 0u8, PIECE)?;
         for file in found {
             if entries.len() >= MAX_COUNT {
                 break;
             }
-            let MailFile { folder, name, .. } = file;
+            let known = counted.size_of(&file);
+            let MailFile {
+                folder,
+                name,
+                stamp,
+                ..
+            } = file;
             let uid = unique_id(alloc, base(name.as_str()).as_bytes())?;
             let key = Vec::from_slice(alloc, uid.as_slice())?;
-            if seen.contains(&key) {
+            // The size is the length at least.
+            if seen.contains(&key) || stamp.length > MAX_SIZE {
                 continue;
             }
-            let path = self.path_of(folder, name.as_str())?;
-            let Extent { length, size } = extent_of(self.rt, path.as_str())?;
+            let size = match known {
+                Some(size) => size,
+                None => self.count(folder, name.as_str(), piece.as_mut_slice())?,
+            };
             if size > MAX_SIZE {
                 continue;
             }
@@ -177,10 +232,39 @@ impl<'a, R: Files + AllocGlobal + Clone + Drop> MaildirDrop<'a, R> {
             files.push(ListedFile {
                 folder,
                 name,
-                length,
+                stamp,
+                size,
             })?;
         }
         Ok(Listing { entries, files })
+    }
+
+    /// The messages of the Maildir as it is now.
+    fn look(&self) -> Result<Listing, Unlisted>
+        ensures within { IfOk result (λ listing. vec_len listing.entries ≤ MAX_COUNT) }
+        ensures distinct { IfOk result (λ listing. AreDistinct (map uid_of listing.entries.items)) }
+        ensures names { IfOk result (λ listing. HaveIds listing.entries.items (names_of listing.files.items)) }
+    {
+        self.list(self.find()?)
+    }
+
+    /// The messages of the Maildir. Where a file vanished meanwhile or got another name, the folders are
+    /// looked through once more.
+    fn look_twice(&self) -> Result<Listing, Unlisted>
+        ensures within { IfOk result (λ listing. vec_len listing.entries ≤ MAX_COUNT) }
+        ensures distinct { IfOk result (λ listing. AreDistinct (map uid_of listing.entries.items)) }
+        ensures names { IfOk result (λ listing. HaveIds listing.entries.items (names_of listing.files.items)) }
+    {
+        match self.look() {
+            Ok(listing) => Ok(listing),
+            Err(unlisted) => {
+                if unlisted.error.kind() == ErrorKind::NotFound {
+                    self.look()
+                } else {
+                    Err(unlisted)
+                }
+            }
+        }
     }
 
     /// The bytes of the file at a place of the last listing. They go into room for one more than the
@@ -192,7 +276,7 @@ impl<'a, R: Files + AllocGlobal + Clone + Drop> MaildirDrop<'a, R> {
         };
         let path = self.path_of(listed.folder, listed.name.as_str())?;
         let mut file = fs::open(self.rt, path.as_str())?;
-        let room = (listed.length as usize).saturating_add(1);
+        let room = (listed.stamp.length as usize).saturating_add(1);
         let mut text = Vec::with_capacity(self.rt.alloc(), room)?;
         file.read_to_end(&mut text)?;
         Ok(text)
@@ -239,16 +323,16 @@ impl<'a, R: Files + AllocGlobal + Clone + Drop> Maildrop for MaildirDrop<'a, R> 
         if self.failures.is_full() {
             return Err(DropFault::Refused);
         }
-        let listed = match self.find() {
-            Ok(found) => self.list(found),
-            Err(error) => Err(error),
-        };
-        match listed {
+        match self.look_twice() {
             Ok(Listing { entries, files }) => {
                 self.files = files;
+                self.unread = None;
                 Ok(entries)
             }
-            Err(error) => Err(self.refuse(error)),
+            Err(Unlisted { error, path }) => {
+                self.unread = path;
+                Err(self.refuse(error))
+            }
         }
     }
 

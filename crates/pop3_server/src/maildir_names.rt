@@ -29,6 +29,14 @@ impl Folder {
     }
 }
 
+/// How long a file is, and when it was changed last, in seconds and nanoseconds since 1970.
+#[derive(Clone, Copy, PartialEq, Eq, PartialOrd, Ord)]
+pub struct Stamp {
+    pub length: u64,
+    pub seconds: u64,
+    pub nanoseconds: u32,
+}
+
 /// A file of a Maildir. Files are ordered by the bytes of their base, then `cur` before `new`, then
 /// by their whole name.
 #[derive(PartialEq, Eq, PartialOrd, Ord, Drop)]
@@ -36,6 +44,8 @@ pub struct MailFile {
     pub base: Vec<u8>,
     pub folder: Folder,
     pub name: String,
+    /// What the folder says of it.
+    pub stamp: Stamp,
 }
 
 /// The 32 bytes of a digest in lower-case hexadecimal, which are characters of an id.

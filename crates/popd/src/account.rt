@@ -8,9 +8,12 @@ ghost use Rattle.popd.specs.Start.{at_start};
 use crate::failure::{Failure, failure_of};
 use crate::password::password;
 use crate::words::Words;
-use pop3_server::{MaildirDrop, Server};
+use pop3_server::{MaildirDrop, Maildrop, Server};
 use std::alloc::{AllocError, Global};
 use std::fs;
+
+/// A Maildir in a folder of this machine.
+pub type RealMaildir<'a> = MaildirDrop<'a, HostRuntime>;
 
 /// Whose mail is served, and where it lies.
 #[derive(Drop)]
@@ -35,18 +38,21 @@ impl Account {
         })
     }
 
-    /// The server of this account's Maildir at the start of a session: it lets in this user with this
-    /// password.
-    pub fn into_server(self, rt: &HostRuntime) -> Server<MaildirDrop<HostRuntime>>
-        ensures { result ≡ at_start self.user.items self.password.items
-            (record { path = string_bytes self.maildir; names = []; failures = 0; removals = 0 }) }
+    /// The account's Maildir, of which nothing is listed yet.
+    pub fn open_maildir<'a>(&self, rt: &'a HostRuntime) -> Result<RealMaildir<'a>, AllocError>
+        ensures { IfOk result (λ maildir. maildir ≡ record { path = string_bytes self.now.maildir; names = []; failures = 0; removals = 0 }) }
     {
-        let Account {
-            user,
-            password,
-            maildir,
-        } = self;
-        Server::new(rt.alloc(), MaildirDrop::at(rt, maildir), user, password)
+        let path = String::from_str(rt.alloc(), self.maildir.as_str())?;
+        Ok(MaildirDrop::at(rt, path))
+    }
+
+    /// The server of this maildrop at the start of a session: it lets in this account's user with its
+    /// password.
+    pub fn into_server<D: Maildrop + Drop>(self, alloc: Global, maildrop: D) -> Server<D>
+        ensures { result ≡ at_start self.user.items self.password.items maildrop }
+    {
+        let Account { user, password, .. } = self;
+        Server::new(alloc, maildrop, user, password)
     }
 }
 

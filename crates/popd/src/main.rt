@@ -10,12 +10,14 @@ mod failure;
 mod password;
 mod rehearsal;
 mod serving;
+mod warning;
 mod words;
 
 use crate::account::read_account;
 use crate::failure::{Failure, end, failure_of};
 use crate::rehearsal::rehearsal_server;
-use crate::serving::{listen, serve_streams};
+use crate::serving::{listen, serve_maildir, serve_streams};
+use crate::warning::warn_of;
 use crate::words::{Words, read_words};
 use clap::Error;
 use clap::error::ErrorKind;
@@ -48,9 +50,10 @@ fn run<'a>(rt: &HostRuntime, words: &'a Words) -> Result<(), Failure<'a>>
         return Ok(serve_streams(rt, server)?);
     }
     let account = read_account(rt, words)?;
+    warn_of(rt, &account, words.rest[1].as_str())?;
     match &words.listen {
         Some(address) => listen(rt, address.as_str(), words.connections, &account),
-        None => Ok(serve_streams(rt, account.into_server(rt))?),
+        None => Ok(serve_maildir(rt, account)?),
     }
 }
 

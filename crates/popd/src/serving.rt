@@ -2,8 +2,9 @@
 ghost use Rattle.std.specs.Prelude.{◌≡◌, ◌⊎◌, true, IfErr};
 ghost use Rattle.pop3_server.specs.ServerMachine.{is_open};
 
-use crate::account::Account;
+use crate::account::{Account, RealMaildir};
 use crate::failure::{Failure, failure_of, tell};
+use crate::warning::{Warning, warn};
 use pop3_server::{Maildrop, Server, ServerFault, serve};
 use pop3_wire::StreamWire;
 use std::net::{TcpListener, TcpStream};
@@ -37,20 +38,46 @@ fn bound_waits(stream: &TcpStream) -> io::Result<()> {
     stream.set_write_timeout(wait)
 }
 
-/// Serves one connection with a server of its own, over the Maildir as it is then.
-fn serve_stream(
-    rt: &HostRuntime,
+/// Tells which file couldn't be read, where that refused the maildrop.
+fn warn_of_unread(rt: &HostRuntime, maildir: &RealMaildir<'_>) {
+    if let Some(path) = maildir.unread() {
+        warn(rt, Warning::Unread(path));
+    }
+}
+
+/// Serves standard input and output with the account's Maildir.
+pub fn serve_maildir(rt: &HostRuntime, account: Account) -> Result<(), ServerFault> {
+    let maildir = account.open_maildir(rt)?;
+    let mut server = account.into_server(rt.alloc(), maildir);
+    let mut wire = StreamWire::new(rt.stdin(), rt.stdout());
+    let served = serve(&mut server, &mut wire);
+    warn_of_unread(rt, &server.into_drop());
+    served
+}
+
+/// Serves one connection with a server of its own, over the Maildir as it is then, and gives the
+/// Maildir back for the next one.
+fn serve_stream<'a>(
+    rt: &'a HostRuntime,
     stream: &TcpStream,
     account: &Account,
-) -> Result<(), ServerFault> {
-    let mut server = account.copy(rt.alloc())?.into_server(rt);
+    maildir: RealMaildir<'a>,
+) -> (Result<(), ServerFault>, RealMaildir<'a>) {
+    let account = match account.copy(rt.alloc()) {
+        Ok(account) => account,
+        Err(error) => return (Err(error.into()), maildir),
+    };
     if bound_waits(stream).is_err() {
-        return Err(ServerFault::ReadFailed);
+        return (Err(ServerFault::ReadFailed), maildir);
     }
     // A connection without it still works, only slower.
     let _ = stream.set_nodelay(true);
+    let mut server = account.into_server(rt.alloc(), maildir);
     let mut wire = StreamWire::new(stream, stream);
-    serve(&mut server, &mut wire)
+    let served = serve(&mut server, &mut wire);
+    let maildir = server.into_drop();
+    warn_of_unread(rt, &maildir);
+    (served, maildir.renewed())
 }
 
 /// Serves so many connections to an address, one after the other. A fault on one of them, or in
@@ -67,9 +94,14 @@ pub fn listen<'a>(
         Ok(listener) => listener,
         Err(error) => return Err(failure_of(error, Failure::CannotListen(address))),
     };
+    let mut maildir = account.open_maildir(rt)?;
     for _ in 0..connections {
         let served = match listener.accept() {
-            Ok((stream, _)) => serve_stream(rt, &stream, account),
+            Ok((stream, _)) => {
+                let (served, left) = serve_stream(rt, &stream, account, maildir);
+                maildir = left;
+                served
+            }
             Err(_) => {
                 thread::sleep(rt, Duration::from_secs(PAUSE_SECONDS));
                 Err(ServerFault::ReadFailed)

@@ -29,6 +29,9 @@ fn listen_option<'a>(alloc: Global) -> Arg<'a>
     Arg::new(alloc, "listen")
         .long("listen")
         .value_name("ADDRESS")
+        .help(
+            "Serve TCP connections to ADDRESS, HOST:PORT, one after the other [standard input and output]",
+        )
         .action(ArgAction::Set)
 }
 
@@ -40,6 +43,7 @@ fn connections_option<'a>(alloc: Global) -> Arg<'a>
     Arg::new(alloc, "connections")
         .long("connections")
         .value_name("N")
+        .help("End after N connections [4294967295]")
         .value_parser(value_parser!(u32))
         .action(ArgAction::Set)
 }
@@ -51,6 +55,7 @@ fn rehearse_option<'a>(alloc: Global) -> Arg<'a>
 {
     Arg::new(alloc, "rehearse")
         .long("rehearse")
+        .help("Serve two small messages to user u with password p on standard input and output")
         .action(ArgAction::Count)
 }
 
@@ -61,6 +66,7 @@ fn rest_option<'a>(alloc: Global) -> Arg<'a>
 {
     Arg::new(alloc, "rest")
         .value_name("USER PASSFILE MAILDIR")
+        .help("Whom to let in, the file whose first line is the password, and the Maildir to serve")
         .num_args(0..)
         .action(ArgAction::Append)
 }

@@ -1,0 +1,109 @@
+//! The files of a Maildir whose messages are listed, and their sizes as messages.
+ghost use Rattle.std.specs.Prelude.{◌≡◌, IfSome};
+
+use crate::maildir_names::{Folder, MailFile, Stamp};
+use crate::size::SizeCount;
+use mail_terms::base;
+use std::fs::{self, Metadata};
+use std::io::{self, Read};
+use std::rt::Files;
+use std::time::UNIX_EPOCH;
+
+/// How many octets of a file are read at once.
+pub const PIECE: usize = 65_536;
+
+/// Where the file of a listed message lies, how long it was when its size was counted, and that size,
+/// where each line's end counts as two octets.
+#[derive(Drop)]
+pub struct ListedFile {
+    pub folder: Folder,
+    pub name: String,
+    pub stamp: Stamp,
+    pub size: u64,
+}
+
+impl ListedFile {
+    /// The size that was counted, where the file wasn't changed since then.
+    fn size_at(&self, stamp: Stamp) -> Option<u64>
+        ensures { IfSome result (λ size. (size ≡ self.now.size) × (stamp ≡ self.now.stamp)) }
+    {
+        if self.stamp == stamp {
+            Some(self.size)
+        } else {
+            None
+        }
+    }
+}
+
+impl ListedFile {
+    /// Whether it lies where that file was found.
+    fn is_same(&self, found: &MailFile) -> bool {
+        self.folder == found.folder && self.name.as_str() == found.name.as_str()
+    }
+
+    /// Whether it is ordered before a file that was found.
+    fn is_before(&self, found: &MailFile) -> bool {
+        let name = self.name.as_str();
+        let place = (base(name).as_bytes(), self.folder, name);
+        place < (found.base.as_slice(), found.folder, found.name.as_str())
+    }
+}
+
+/// The stamp of a file. A time that can't be had, or is before 1970, counts as 1970.
+pub fn stamp_of(metadata: &Metadata) -> Stamp {
+    let mut stamp = Stamp {
+        length: metadata.len(),
+        seconds: 0,
+        nanoseconds: 0,
+    };
+    if let Ok(modified) = metadata.modified() {
+        if let Ok(passed) = modified.duration_since(UNIX_EPOCH) {
+            stamp.seconds = passed.as_secs();
+            stamp.nanoseconds = passed.subsec_nanos();
+        }
+    }
+    stamp
+}
+
+/// Sizes that were counted for an earlier listing, in the order in which files are listed. They are asked
+/// for in that order too.
+#[derive(Drop)]
+pub struct Counted<'a> {
+    files: &'a [ListedFile],
+}
+
+impl<'a> Counted<'a> {
+    /// The sizes of these files.
+    pub fn new(files: &'a [ListedFile]) -> Counted<'a> {
+        Counted { files }
+    }
+
+    /// The size of a file that was found, where it was counted and the file is as it was then. The files
+    /// that are ordered before it are passed over.
+    pub fn size_of(&mut self, found: &MailFile) -> Option<u64> {
+        while let [file, rest @ ..] = self.files {
+            if file.is_same(found) {
+                return file.size_at(found.stamp);
+            }
+            if !file.is_before(found) {
+                return None;
+            }
+            self.files = rest;
+        }
+        None
+    }
+}
+
+/// The size of a file as a message, which is read in pieces.
+pub fn count_size<R: Files>(rt: &R, path: &str, piece: &mut [u8]) -> io::Result<u64> {
+    let mut file = fs::open(rt, path)?;
+    let mut count = SizeCount::new();
+    for _ in 0..u64::MAX {
+        let n = file.read(piece)?;
+        if n == 0 {
+            break;
+        }
+        count.add(&piece[..n]);
+    }
+    Ok(count.size())
+}
