@@ -20,6 +20,8 @@ use Rattle.pop3_wire.proofs.HonestRows.{is_no_lf, line_without_lf, no_lf_append,
 use Rattle.pop3_server.specs.Maildrop.{Mail, there}
 use Rattle.pop3_server.specs.ServerMachine.{greeting}
 use Rattle.pop3_server.specs.AnswersLines.{AnswersLines}
+use Rattle.pop3_wire.specs.CommandLine.{ReadAsWritten}
+use Rattle.pop3_wire.specs.Stuffed.{StuffedIsBody}
 use Rattle.pop3_server.specs.HonestServer.{IsAsked, Gone, lines_of}
 use Rattle.pop3_server.specs.HonestLoop.{GivesHonest}
 use Rattle.pop3_server.proofs.HonestLemmas.{refused, granted}
@@ -105,8 +107,8 @@ shuffle hello more lost nos got left e =
     ap (λ (l : List ℕ). hello ++ l) (append_assoc more lost nos) ∙ sym (append_assoc hello more (lost ++ nos))
     ∙ ap (λ (l : List ℕ). l ++ (lost ++ nos)) (sym e) ∙ append_assoc got left (lost ++ nos)
 
-pub gives_honest : {D : Type 0} (sound : D → Type 0) (mail : D → Mail) → GivesHonest sound mail
-gives_honest sound mail old new commands part fresh serves asked line sent s served =
+pub gives_honest : StuffedIsBody → ReadAsWritten → {D : Type 0} (sound : D → Type 0) (mail : D → Mail) → GivesHonest sound mail
+gives_honest stuffed read sound mail old new commands part fresh serves asked line sent s served =
     let gained : serves.gained ≡ flat_map ended (lines_of commands) ++ part =
     ap (λ (l : List ℕ). l ++ serves.gained) (sym fresh.sent) ∙ sym serves.sent ∙ sent in
     let heard : flat_map ended serves.lines ++ new.waiting ≡ flat_map ended (lines_of commands) ++ part =
@@ -115,7 +117,7 @@ gives_honest sound mail old new commands part fresh serves asked line sent s ser
     let asked_all = subst (AllByRecursion IsAsked) cut.all asked in
     let run = subst (λ (ls : List (List ℕ)). AnswersLines sound mail old.machine ls (serves.more ++ serves.lost) serves.last) cut.lines_are serves.run in
     let sound_last = (serves.same.unanswered.messages s).0 in
-    let replied = answers_honestly sound mail old.machine serves.last cut.first (serves.more ++ serves.lost) fresh.state
+    let replied = answers_honestly stuffed read sound mail old.machine serves.last cut.first (serves.more ++ serves.lost) fresh.state
     (asked_front cut.first cut.later asked_all) run sound_last served in
     let start : old.link.got ++ old.left ≡ greeting ++ old.answers =
     ap (λ (l : List ℕ). l ++ old.left) fresh.got ∙ fresh.left ∙ sym (append-nil greeting) ∙ ap (λ (l : List ℕ). greeting ++ l) (sym fresh.answers) in

@@ -12,15 +12,13 @@ use Rattle.pop3_wire.specs.declared.reply.Status.TheVariants.{Positive}
 use Rattle.pop3_wire.specs.Line.{ended}
 use Rattle.pop3_wire.specs.Body.{Body}
 use Rattle.pop3_wire.specs.Commands.{line_of, can_be_sent}
-use Rattle.pop3_wire.specs.CommandLine.{HasNumbers}
+use Rattle.pop3_wire.specs.CommandLine.{HasNumbers, ReadAsWritten}
 use Rattle.mail_terms.specs.Text.{lines_of_text}
-use Rattle.pop3_wire.specs.Stuffed.{stuffed_lines}
+use Rattle.pop3_wire.specs.Stuffed.{stuffed_lines, StuffedIsBody}
 use Rattle.pop3_wire.specs.World.{Message, IsMessage}
 use Rattle.pop3_wire.specs.Honest.{Says, SaysAnything, IsUnmarked, IsScanRow, IsUidRow, Grants, Reply, Replies, no_marks}
 use Rattle.pop3_wire.proofs.HonestRows.{scan_read, is_no_lf, no_lf_append, no_lf_decimal}
-use Rattle.pop3_wire.proofs.StuffLemmas.{stuffed_is_body}
 use Rattle.pop3_wire.proofs.LineLemmas.{IsLine-nil}
-use Rattle.pop3_wire.proofs.CommandRoundTrip.{round_trip}
 use Rattle.pop3_server.specs.declared.rows.MessageRow.{MessageRow}
 use Rattle.pop3_server.specs.declared.state.State.{State}
 use Rattle.pop3_server.specs.declared.state.State.TheVariants.{Authorization, Transaction, Closed}
@@ -121,172 +119,7 @@ stands_in : (ms : List Message) (marks : List Bool) (mail : Mail) → InRows ms 
 unfolding InRows
 stands_in ms marks mail h = (h.0, h.1, refl, h.2)
 
--- RETR of an unmarked message
-gave : {D : Type 0} (sound : D → Type 0) (mail : D → Mail) (ms : List Message) (marks : List Bool) (k : ℕ) (m : Message) (old : D) (answer : List ℕ) (next : State) (new : D)
-    → AreServed ms → InRows ms marks (mail old) → sound new → IsUnmarked ms marks k m
-    → Does sound mail (Give (rows_with ms marks) (k - 1) (said (octets_line (row_with m false))) None) old answer next new → Replied ms marks (Retr k) answer next (mail new)
-unfolding InRows
-gave sound mail ms marks k m old answer next new served rows s at (state, inl (is, known)) =
-    let drop = (known s).1 in (
-      marks,
-      refused ms marks (Retr k) answer (codes " message unavailable") is refl,
-      subst (λ (st : State). Stands ms st (mail new) marks) (sym state) (ap (λ (x : Mail). x.slots) drop ∙ rows.0, rows.1, refl, rows.2),
-    )
-gave sound mail ms marks k m old answer next new served rows s at (state, inr (text, is, known)) =
-    let drop = (known s).1 in
-    let message = served_at ms (k - 1) m served.served at.there in
-    let same : drop.1.0 ≡ m = text_at ms (k - 1) m drop.1.0 at.there (subst (λ (slots : List (Option Message)). slice_get slots (k - 1) ≡ Some (Some drop.1.0)) rows.0 drop.1.1) in
-    let words : text ≡ m.text = drop.1.2 ∙ ap (λ (x : Message). x.text) same in
-    let size : m.size < 2 ^ 64 = (let w : m.size ≤ 134217728 = message.within in omega arith) in
-    let none : list_all is_no_lf ((32 ∷ decimal m.size) ++ codes " octets") ≡ true = no_lf_append (32 ∷ decimal m.size) (codes " octets") (no_lf_append (32 ∷ []) (decimal m.size) refl (no_lf_decimal m.size size)) refl in
-    let body : Body (stuffed_lines (lines_of_text text)) m.text = subst (λ (t : List ℕ). Body (stuffed_lines (lines_of_text t)) m.text) (sym words)
-    (subst (Body (stuffed_lines (lines_of_text m.text))) message.is_message.ended (stuffed_is_body m.text)) in (
-      marks,
-      inr (
-        said (octets_line (row_with m false)),
-        stuffed_lines (lines_of_text text),
-        m,
-        is,
-        granted (said (octets_line (row_with m false))) ((32 ∷ decimal m.size) ++ codes " octets") refl none,
-        at,
-        body,
-        refl,
-      ),
-      subst (λ (st : State). Stands ms st (mail new) marks) (sym state) (ap (λ (x : Mail). x.slots) drop.0 ∙ rows.0, rows.1, refl, rows.2),
-    )
-
-left : {D : Type 0} (sound : D → Type 0) (mail : D → Mail) (ms : List Message) (marks : List Bool) (old : D) (answer : List ℕ) (next : State) (new : D)
-    → InRows ms marks (mail old) → sound new → (next ≡ Closed) × RemovesMarked sound mail (rows_with ms marks) old answer new → Replied ms marks Quit answer next (mail new)
-unfolding InRows
-left sound mail ms marks old answer next new rows s (state, (true, is, known)) =
-    (marks, inr (granted answer (codes " bye") is refl, refl), subst (λ (st : State). Stands ms st (mail new) marks) (sym state) (left_by_quit ms marks (mail old) (mail new) true rows.1 rows.0 (known s).1))
-left sound mail ms marks old answer next new rows s (state, (false, is, known)) =
-    (marks, refused ms marks Quit answer (codes " some messages not removed") is refl, subst (λ (st : State). Stands ms st (mail new) marks) (sym state) (left_by_quit ms marks (mail old) (mail new) false rows.1 rows.0 (known s).1))
-
-abbrev counted_with : ℕ → ℕ → Result (ℕ × ℕ) WireFault
-counted_with total count = Ok (count, total)
-
--- STAT
-stated : {D : Type 0} (sound : D → Type 0) (mail : D → Mail) (ms : List Message) (marks : List Bool) (old : D) (answer : List ℕ) (next : State) (new : D)
-    → AreServed ms → InRows ms marks (mail old) → Does sound mail (in_transaction (rows_with ms marks) Stat) old answer next new → Replied ms marks Stat answer next (mail new)
-unfolding InRows
-stated sound mail ms marks old answer next new served rows does =
-    let few : length ms ≤ 100000 = served.few in
-    let n : ℕ = left_count (rows_with ms marks) in
-    let t : ℕ = left_total (rows_with ms marks) in
-    let count : left_count (rows_with ms marks) ≡ count_by not marks = counted_left ms marks rows.1 in
-    let fewer : count_by not marks ≤ length marks = count_by-le-length not marks in
-    let same : length marks ≡ length ms = rows.1 in
-    let total : left_total (rows_with ms marks) ≤ 134217728 * length ms = total_left ms marks served.served in
-    let small : left_count (rows_with ms marks) ≤ 4294967295 = omega arith in
-    let fits : left_total (rows_with ms marks) < 2 ^ 64 = omega arith in
-    let none : list_all is_no_lf ((32 ∷ decimal (left_count (rows_with ms marks))) ++ (32 ∷ decimal (left_total (rows_with ms marks)))) ≡ true =
-    no_lf_append (32 ∷ decimal (left_count (rows_with ms marks))) (32 ∷ decimal (left_total (rows_with ms marks)))
-    (no_lf_append (32 ∷ []) (decimal (left_count (rows_with ms marks))) refl (no_lf_decimal (left_count (rows_with ms marks)) (omega arith)))
-    (no_lf_append (32 ∷ []) (decimal (left_total (rows_with ms marks))) refl (no_lf_decimal (left_total (rows_with ms marks)) fits)) in
-    let line : answer ≡ said (codes "+OK" ++ ((32 ∷ decimal (left_count (rows_with ms marks))) ++ (32 ∷ decimal (left_total (rows_with ms marks))))) =
-    does.0 ∙ ap (λ (l : List ℕ). said (codes "+OK" ++ (32 ∷ l))) (append_assoc (decimal (left_count (rows_with ms marks))) (32 ∷ []) (decimal (left_total (rows_with ms marks)))) in (
-      marks,
-      inr (
-        decimal (left_count (rows_with ms marks)) ++ (32 ∷ decimal (left_total (rows_with ms marks))),
-        left_total (rows_with ms marks),
-        subst (λ (b : List ℕ). Says Positive b (decimal (left_count (rows_with ms marks)) ++ (32 ∷ decimal (left_total (rows_with ms marks))))) (sym line)
-            (ok_says ((32 ∷ decimal (left_count (rows_with ms marks))) ++ (32 ∷ decimal (left_total (rows_with ms marks)))) none),
-        scan_read (left_count (rows_with ms marks)) (left_total (rows_with ms marks)) small fits ∙ ap (counted_with (left_total (rows_with ms marks))) count,
-        refl,
-      ),
-      subst (λ (st : State). Stands ms st (mail new) marks) (sym does.1) (subst (λ d. Stands ms (Transaction (rows_with ms marks)) (mail d) marks) (sym does.2) (stands_in ms marks (mail old) rows)),
-    )
-
--- DELE of an unmarked message
-marked : {D : Type 0} (sound : D → Type 0) (mail : D → Mail) (ms : List Message) (marks : List Bool) (k : ℕ) (m : Message) (old : D) (answer : List ℕ) (next : State) (new : D)
-    → InRows ms marks (mail old) → IsUnmarked ms marks k m → Does sound mail (Say (said (codes "+OK marked")) (Transaction (mark_at (rows_with ms marks) (k - 1)))) old answer next new
-    → Replied ms marks (Dele k) answer next (mail new)
-unfolding InRows
-marked sound mail ms marks k m old answer next new rows at does =
-    says_yes mail ms marks (slice_set marks (k - 1) true) (Dele k) old answer (codes " marked") (Transaction (mark_at (rows_with ms marks) (k - 1))) next new does refl
-    (λ says. (m, says, at, refl)) (rows.0, marked_length marks (k - 1) ∙ rows.1, marked_rows ms marks (k - 1), rows.2)
-
--- RSET
-cleared : {D : Type 0} (sound : D → Type 0) (mail : D → Mail) (ms : List Message) (marks : List Bool) (old : D)
-    → InRows ms marks (mail old) → Stands ms (Transaction (map unmarked (rows_with ms marks))) (mail old) (map (λ _. false) marks)
-unfolding InRows
-cleared sound mail ms marks old rows = (rows.0, cleared_length marks ∙ rows.1, cleared_rows ms marks, rows.2)
-
-in_trans : {D : Type 0} (sound : D → Type 0) (mail : D → Mail) (ms : List Message) (marks : List Bool) (c : Command) (old : D) (answer : List ℕ) (next : State) (new : D)
-    → AreServed ms → InRows ms marks (mail old) → sound new → IsOfSession c → Does sound mail (in_transaction (rows_with ms marks) c) old answer next new → Replied ms marks c answer next (mail new)
-in_trans sound mail ms marks (User name) old answer next new served rows s asked does =
-    says_no mail ms marks (User name) old answer (codes " not now") (Transaction (rows_with ms marks)) next new does refl (stands_in ms marks (mail old) rows)
-in_trans sound mail ms marks (Pass word) old answer next new served rows s asked does =
-    says_no mail ms marks (Pass word) old answer (codes " not now") (Transaction (rows_with ms marks)) next new does refl (stands_in ms marks (mail old) rows)
-in_trans sound mail ms marks Stat old answer next new served rows s asked does = stated sound mail ms marks old answer next new served rows does
-in_trans sound mail ms marks UidlAll old answer next new served rows s asked does = (
-  marks,
-  inr (lists_all uid_line IsUidRow uid_rows ms marks answer served does.0),
-  subst (λ (st : State). Stands ms st (mail new) marks) (sym does.1) (subst (λ d. Stands ms (Transaction (rows_with ms marks)) (mail d) marks) (sym does.2) (stands_in ms marks (mail old) rows)),
-)
-in_trans sound mail ms marks (UidlOne n) old answer next new served rows s asked does = absurd asked
-in_trans sound mail ms marks ListAll old answer next new served rows s asked does = (
-  marks,
-  inr (lists_all scan_line IsScanRow scan_rows ms marks answer served does.0),
-  subst (λ (st : State). Stands ms st (mail new) marks) (sym does.1) (subst (λ d. Stands ms (Transaction (rows_with ms marks)) (mail d) marks) (sym does.2) (stands_in ms marks (mail old) rows)),
-)
-in_trans sound mail ms marks (ListOne n) old answer next new served rows s asked does = absurd asked
-in_trans sound mail ms marks (Retr k) old answer next new served rows s asked does = elim (found ms marks k) [
-  | inl none ↦ says_no mail ms marks (Retr k) old answer (codes " no such message") (Transaction (rows_with ms marks)) next new
-      (subst (λ (r : Option MessageRow). Does sound mail (give (rows_with ms marks) k r octets_line None) old answer next new) none does) refl (stands_in ms marks (mail old) rows)
-  | inr some ↦ gave sound mail ms marks k some.0 old answer next new served rows s some.2
-      (subst (λ (r : Option MessageRow). Does sound mail (give (rows_with ms marks) k r octets_line None) old answer next new) some.1 does)
-]
-in_trans sound mail ms marks (Dele k) old answer next new served rows s asked does = elim (found ms marks k) [
-  | inl none ↦ says_no mail ms marks (Dele k) old answer (codes " no such message") (Transaction (rows_with ms marks)) next new
-      (subst (λ (r : Option MessageRow). Does sound mail (dele (rows_with ms marks) k r) old answer next new) none does) refl (stands_in ms marks (mail old) rows)
-  | inr some ↦ marked sound mail ms marks k some.0 old answer next new rows some.2
-      (subst (λ (r : Option MessageRow). Does sound mail (dele (rows_with ms marks) k r) old answer next new) some.1 does)
-]
-in_trans sound mail ms marks Rset old answer next new served rows s asked does =
-    says_yes mail ms marks (map (λ _. false) marks) Rset old answer [] (Transaction (map unmarked (rows_with ms marks))) next new does refl (λ says. (says, refl))
-    (cleared sound mail ms marks old rows)
-in_trans sound mail ms marks Noop old answer next new served rows s asked does =
-    says_yes mail ms marks marks Noop old answer [] (Transaction (rows_with ms marks)) next new does refl (λ says. (says, refl)) (stands_in ms marks (mail old) rows)
-in_trans sound mail ms marks (Top n k) old answer next new served rows s asked does = absurd asked
-in_trans sound mail ms marks Quit old answer next new served rows s asked does = left sound mail ms marks old answer next new rows s does
-
--- ---- all answers in order
-
-replied : {D : Type 0} (sound : D → Type 0) (mail : D → Mail) (ms : List Message) (marks : List Bool) (user pass : List ℕ) (state : State) (c : Command) (old : D) (answer : List ℕ) (next : State) (new : D)
-    → AllByRecursion IsMessage ms → is_open state ≡ true → Stands ms state (mail old) marks → sound new → IsOfSession c → Does sound mail (deed user pass state (Ok c)) old answer next new → Replied ms marks c answer next (mail new)
-replied sound mail ms marks user pass (Authorization kept) c old answer next new messages opened stands s asked does =
-    subst (λ (bs : List Bool). Replied ms bs c answer next (mail new)) (sym stands.1) (in_auth sound mail ms user pass kept c old answer next new messages stands.0 s asked does)
-replied sound mail ms marks user pass (Transaction rows) c old answer next new messages opened stands s asked does =
-    in_trans sound mail ms marks c old answer next new stands.3 (made_rows ms marks (mail old) stands.0 stands.1 stands.3) s asked
-    (subst (λ (rs : List MessageRow). Does sound mail (in_transaction rs c) old answer next new) stands.2 does)
-replied sound mail ms marks user pass Closed c old answer next new messages opened stands s asked does = absurd (let e : false ≡ true = opened in cc)
-
-did_sound : {D : Type 0} (sound : D → Type 0) (mail : D → Mail) (asked : Deed) (old : D) (answer : List ℕ) (next : State) (new : D) → Does sound mail asked old answer next new → sound new → sound old
-did_sound sound mail (Say bytes state) old answer next new does s = subst sound does.2 s
-did_sound sound mail Open old answer next new (inl (is, state, known)) s = (known s).0
-did_sound sound mail Open old answer next new (inr (rows, limits, is, state, known)) s = (known s).0
-did_sound sound mail (Give rows i line top) old answer next new (state, inl (is, known)) s = (known s).0
-did_sound sound mail (Give rows i line top) old answer next new (state, inr (text, is, known)) s = (known s).0
-did_sound sound mail (Leave rows) old answer next new (state, (all, is, known)) s = (known s).0
-
-pub run_sound : {D : Type 0} (sound : D → Type 0) (mail : D → Mail) (old new : Machine D) (lines : List (List ℕ)) (answers : List ℕ) → AnswersLines sound mail old lines answers new → sound new.drop → sound old.drop
-run_sound sound mail old new [] answers (none, same) s = subst (λ (m : Machine _). sound m.drop) same s
-run_sound sound mail old new (line ∷ lines) answers (first, rest, next, is, turn, run) s =
-    did_sound sound mail _ old.drop first next.state next.drop turn.answers.does (run_sound sound mail next new lines rest run s)
-
-all_replied : {D : Type 0} (sound : D → Type 0) (mail : D → Mail) (ms : List Message) (marks : List Bool) (commands : List Command) (old new : Machine D) (answers : List ℕ)
-    → AllByRecursion IsMessage ms → AllByRecursion IsAsked commands → AnswersLines sound mail old (lines_of commands) answers new → sound new.drop → Stands ms old.state (mail old.drop) marks
-    → (last : List Bool) × Replies ms marks commands answers last × Stands ms new.state (mail new.drop) last
-all_replied sound mail ms marks [] old new answers messages asked run s stands =
-    (marks, (run.0, refl), subst (λ (m : Machine _). Stands ms m.state (mail m.drop) marks) (sym run.1) stands)
-all_replied sound mail ms marks (c ∷ commands) old new answers messages asked (first, rest, next, is, turn, run) s stands =
-    let sound_next = run_sound sound mail next new (lines_of commands) rest run s in
-    let does = subst (λ (r : Result Command WireFault). Does sound mail (deed old.user old.pass old.state r) old.drop first next.state next.drop) (round_trip c asked.0.numbers asked.0.sendable) turn.answers.does in
-    let one = replied sound mail ms marks old.user old.pass old.state c old.drop first next.state next.drop messages turn.was_open stands sound_next asked.0.of_session does in
-    let more = all_replied sound mail ms one.0 commands next new rest messages asked.1 run s one.2 in
-    (more.0, (first, rest, one.0, is, one.1, more.1), more.2)
+-- ---- lists of commands
 
 pub flat_lines : (commands : List Command) → flat_map ended (lines_of commands) ≡ flat_map (λ c. ended (line_of c)) commands
 flat_lines [] = refl
@@ -300,42 +133,211 @@ pub all_numbered : (commands : List Command) → AllByRecursion IsAsked commands
 all_numbered [] all = tt
 all_numbered (c ∷ commands) all = (all.0.numbers, all_numbered commands all.1)
 
-gone_at : (ms : List Message) (marks : List Bool) (state : State) (mail : Mail) → Stands ms state mail marks → Gone ms marks state (there mail.slots)
-gone_at ms marks (Authorization kept) mail stands =
-    record { left = subst (AreLeft ms marks) (sym stands.0) (none_gone ms marks (ap length stands.1 ∙ fresh_length ms)); before_quit = λ _. stands.0 }
-gone_at ms marks (Transaction rows) mail stands =
-    let same : there mail.slots ≡ ms = ap there stands.0 ∙ there_some ms in
-    record { left = subst (AreLeft ms marks) (sym same) (none_gone ms marks stands.1); before_quit = λ _. same }
-gone_at ms marks Closed mail stands = record { left = stands; before_quit = λ e. absurd (let h : false ≡ true = e in cc) }
+-- by the laws that what is written is a body of the text, and that a command's line is read as the command
+module _ (stuffed : StuffedIsBody) (read : ReadAsWritten) where
+  -- RETR of an unmarked message
+  gave : {D : Type 0} (sound : D → Type 0) (mail : D → Mail) (ms : List Message) (marks : List Bool) (k : ℕ) (m : Message) (old : D) (answer : List ℕ) (next : State) (new : D)
+      → AreServed ms → InRows ms marks (mail old) → sound new → IsUnmarked ms marks k m
+      → Does sound mail (Give (rows_with ms marks) (k - 1) (said (octets_line (row_with m false))) None) old answer next new → Replied ms marks (Retr k) answer next (mail new)
+  unfolding InRows
+  gave sound mail ms marks k m old answer next new served rows s at (state, inl (is, known)) =
+      let drop = (known s).1 in (
+        marks,
+        refused ms marks (Retr k) answer (codes " message unavailable") is refl,
+        subst (λ (st : State). Stands ms st (mail new) marks) (sym state) (ap (λ (x : Mail). x.slots) drop ∙ rows.0, rows.1, refl, rows.2),
+      )
+  gave sound mail ms marks k m old answer next new served rows s at (state, inr (text, is, known)) =
+      let drop = (known s).1 in
+      let message = served_at ms (k - 1) m served.served at.there in
+      let same : drop.1.0 ≡ m = text_at ms (k - 1) m drop.1.0 at.there (subst (λ (slots : List (Option Message)). slice_get slots (k - 1) ≡ Some (Some drop.1.0)) rows.0 drop.1.1) in
+      let words : text ≡ m.text = drop.1.2 ∙ ap (λ (x : Message). x.text) same in
+      let size : m.size < 2 ^ 64 = (let w : m.size ≤ 134217728 = message.within in omega arith) in
+      let none : list_all is_no_lf ((32 ∷ decimal m.size) ++ codes " octets") ≡ true = no_lf_append (32 ∷ decimal m.size) (codes " octets") (no_lf_append (32 ∷ []) (decimal m.size) refl (no_lf_decimal m.size size)) refl in
+      let body : Body (stuffed_lines (lines_of_text text)) m.text = subst (λ (t : List ℕ). Body (stuffed_lines (lines_of_text t)) m.text) (sym words)
+      (subst (Body (stuffed_lines (lines_of_text m.text))) message.is_message.ended (stuffed m.text)) in (
+        marks,
+        inr (
+          said (octets_line (row_with m false)),
+          stuffed_lines (lines_of_text text),
+          m,
+          is,
+          granted (said (octets_line (row_with m false))) ((32 ∷ decimal m.size) ++ codes " octets") refl none,
+          at,
+          body,
+          refl,
+        ),
+        subst (λ (st : State). Stands ms st (mail new) marks) (sym state) (ap (λ (x : Mail). x.slots) drop.0 ∙ rows.0, rows.1, refl, rows.2),
+      )
 
--- what was answered is honest, and what is gone then was marked
-abbrev pub AnswersHonestly : {D : Type 0} → (D → Type 0) → (D → Mail) → Type 0
-AnswersHonestly {D} sound mail = (old new : Machine D) (commands : List Command) (answers : List ℕ)
-    → old.state ≡ Authorization None → AllByRecursion IsAsked commands → AnswersLines sound mail old (lines_of commands) answers new
-    → sound new.drop → AllByRecursion IsMessage (there (mail old.drop).slots)
-    → (marks : List Bool) × Replies (there (mail old.drop).slots) (no_marks (there (mail old.drop).slots)) commands answers marks
-    × Gone (there (mail old.drop).slots) marks new.state (there (mail new.drop).slots)
+  left : {D : Type 0} (sound : D → Type 0) (mail : D → Mail) (ms : List Message) (marks : List Bool) (old : D) (answer : List ℕ) (next : State) (new : D)
+      → InRows ms marks (mail old) → sound new → (next ≡ Closed) × RemovesMarked sound mail (rows_with ms marks) old answer new → Replied ms marks Quit answer next (mail new)
+  unfolding InRows
+  left sound mail ms marks old answer next new rows s (state, (true, is, known)) =
+      (marks, inr (granted answer (codes " bye") is refl, refl), subst (λ (st : State). Stands ms st (mail new) marks) (sym state) (left_by_quit ms marks (mail old) (mail new) true rows.1 rows.0 (known s).1))
+  left sound mail ms marks old answer next new rows s (state, (false, is, known)) =
+      (marks, refused ms marks Quit answer (codes " some messages not removed") is refl, subst (λ (st : State). Stands ms st (mail new) marks) (sym state) (left_by_quit ms marks (mail old) (mail new) false rows.1 rows.0 (known s).1))
 
-pub answers_honestly : {D : Type 0} (sound : D → Type 0) (mail : D → Mail) → AnswersHonestly sound mail
-answers_honestly sound mail old new commands answers state asked run s messages =
-    let stands = subst (λ (st : State). Stands (there (mail old.drop).slots) st (mail old.drop) (no_marks (there (mail old.drop).slots))) (sym state) (refl, refl) in
-    let all = all_replied sound mail (there (mail old.drop).slots) (no_marks (there (mail old.drop).slots)) commands old new answers messages asked run s stands in
-    (all.0, all.1, gone_at (there (mail old.drop).slots) all.0 new.state (mail new.drop) all.2)
+  abbrev counted_with : ℕ → ℕ → Result (ℕ × ℕ) WireFault
+  counted_with total count = Ok (count, total)
 
-pub is_honest : {D : Type 0} (sound : D → Type 0) (mail : D → Mail) → IsHonest sound mail
-is_honest sound mail old new commands answers state asked run s messages =
-    let all = answers_honestly sound mail old new commands answers state asked run s messages in (
-      all.0,
-      record {
-        status = Positive;
-        hello = greeting;
-        greets = granted greeting (codes " popd ready") refl refl;
-        commands = commands;
-        asked = record { sendable = all_sendable commands asked; numbers = all_numbered commands asked; part = []; no_line = IsLine-nil; whole = flat_lines commands ∙ sym (append-nil (flat_map (λ c. ended (line_of c)) commands)) };
-        replies = answers;
-        replied = all.1;
-        later = [];
-        begins = sym (append-nil (greeting ++ answers));
-      },
-      all.2,
-    )
+  -- STAT
+  stated : {D : Type 0} (sound : D → Type 0) (mail : D → Mail) (ms : List Message) (marks : List Bool) (old : D) (answer : List ℕ) (next : State) (new : D)
+      → AreServed ms → InRows ms marks (mail old) → Does sound mail (in_transaction (rows_with ms marks) Stat) old answer next new → Replied ms marks Stat answer next (mail new)
+  unfolding InRows
+  stated sound mail ms marks old answer next new served rows does =
+      let few : length ms ≤ 100000 = served.few in
+      let n : ℕ = left_count (rows_with ms marks) in
+      let t : ℕ = left_total (rows_with ms marks) in
+      let count : left_count (rows_with ms marks) ≡ count_by not marks = counted_left ms marks rows.1 in
+      let fewer : count_by not marks ≤ length marks = count_by-le-length not marks in
+      let same : length marks ≡ length ms = rows.1 in
+      let total : left_total (rows_with ms marks) ≤ 134217728 * length ms = total_left ms marks served.served in
+      let small : left_count (rows_with ms marks) ≤ 4294967295 = omega arith in
+      let fits : left_total (rows_with ms marks) < 2 ^ 64 = omega arith in
+      let none : list_all is_no_lf ((32 ∷ decimal (left_count (rows_with ms marks))) ++ (32 ∷ decimal (left_total (rows_with ms marks)))) ≡ true =
+      no_lf_append (32 ∷ decimal (left_count (rows_with ms marks))) (32 ∷ decimal (left_total (rows_with ms marks)))
+      (no_lf_append (32 ∷ []) (decimal (left_count (rows_with ms marks))) refl (no_lf_decimal (left_count (rows_with ms marks)) (omega arith)))
+      (no_lf_append (32 ∷ []) (decimal (left_total (rows_with ms marks))) refl (no_lf_decimal (left_total (rows_with ms marks)) fits)) in
+      let line : answer ≡ said (codes "+OK" ++ ((32 ∷ decimal (left_count (rows_with ms marks))) ++ (32 ∷ decimal (left_total (rows_with ms marks))))) =
+      does.0 ∙ ap (λ (l : List ℕ). said (codes "+OK" ++ (32 ∷ l))) (append_assoc (decimal (left_count (rows_with ms marks))) (32 ∷ []) (decimal (left_total (rows_with ms marks)))) in (
+        marks,
+        inr (
+          decimal (left_count (rows_with ms marks)) ++ (32 ∷ decimal (left_total (rows_with ms marks))),
+          left_total (rows_with ms marks),
+          subst (λ (b : List ℕ). Says Positive b (decimal (left_count (rows_with ms marks)) ++ (32 ∷ decimal (left_total (rows_with ms marks))))) (sym line)
+              (ok_says ((32 ∷ decimal (left_count (rows_with ms marks))) ++ (32 ∷ decimal (left_total (rows_with ms marks)))) none),
+          scan_read (left_count (rows_with ms marks)) (left_total (rows_with ms marks)) small fits ∙ ap (counted_with (left_total (rows_with ms marks))) count,
+          refl,
+        ),
+        subst (λ (st : State). Stands ms st (mail new) marks) (sym does.1) (subst (λ d. Stands ms (Transaction (rows_with ms marks)) (mail d) marks) (sym does.2) (stands_in ms marks (mail old) rows)),
+      )
+
+  -- DELE of an unmarked message
+  marked : {D : Type 0} (sound : D → Type 0) (mail : D → Mail) (ms : List Message) (marks : List Bool) (k : ℕ) (m : Message) (old : D) (answer : List ℕ) (next : State) (new : D)
+      → InRows ms marks (mail old) → IsUnmarked ms marks k m → Does sound mail (Say (said (codes "+OK marked")) (Transaction (mark_at (rows_with ms marks) (k - 1)))) old answer next new
+      → Replied ms marks (Dele k) answer next (mail new)
+  unfolding InRows
+  marked sound mail ms marks k m old answer next new rows at does =
+      says_yes mail ms marks (slice_set marks (k - 1) true) (Dele k) old answer (codes " marked") (Transaction (mark_at (rows_with ms marks) (k - 1))) next new does refl
+      (λ says. (m, says, at, refl)) (rows.0, marked_length marks (k - 1) ∙ rows.1, marked_rows ms marks (k - 1), rows.2)
+
+  -- RSET
+  cleared : {D : Type 0} (sound : D → Type 0) (mail : D → Mail) (ms : List Message) (marks : List Bool) (old : D)
+      → InRows ms marks (mail old) → Stands ms (Transaction (map unmarked (rows_with ms marks))) (mail old) (map (λ _. false) marks)
+  unfolding InRows
+  cleared sound mail ms marks old rows = (rows.0, cleared_length marks ∙ rows.1, cleared_rows ms marks, rows.2)
+
+  in_trans : {D : Type 0} (sound : D → Type 0) (mail : D → Mail) (ms : List Message) (marks : List Bool) (c : Command) (old : D) (answer : List ℕ) (next : State) (new : D)
+      → AreServed ms → InRows ms marks (mail old) → sound new → IsOfSession c → Does sound mail (in_transaction (rows_with ms marks) c) old answer next new → Replied ms marks c answer next (mail new)
+  in_trans sound mail ms marks (User name) old answer next new served rows s asked does =
+      says_no mail ms marks (User name) old answer (codes " not now") (Transaction (rows_with ms marks)) next new does refl (stands_in ms marks (mail old) rows)
+  in_trans sound mail ms marks (Pass word) old answer next new served rows s asked does =
+      says_no mail ms marks (Pass word) old answer (codes " not now") (Transaction (rows_with ms marks)) next new does refl (stands_in ms marks (mail old) rows)
+  in_trans sound mail ms marks Stat old answer next new served rows s asked does = stated sound mail ms marks old answer next new served rows does
+  in_trans sound mail ms marks UidlAll old answer next new served rows s asked does = (
+    marks,
+    inr (lists_all uid_line IsUidRow uid_rows ms marks answer served does.0),
+    subst (λ (st : State). Stands ms st (mail new) marks) (sym does.1) (subst (λ d. Stands ms (Transaction (rows_with ms marks)) (mail d) marks) (sym does.2) (stands_in ms marks (mail old) rows)),
+  )
+  in_trans sound mail ms marks (UidlOne n) old answer next new served rows s asked does = absurd asked
+  in_trans sound mail ms marks ListAll old answer next new served rows s asked does = (
+    marks,
+    inr (lists_all scan_line IsScanRow scan_rows ms marks answer served does.0),
+    subst (λ (st : State). Stands ms st (mail new) marks) (sym does.1) (subst (λ d. Stands ms (Transaction (rows_with ms marks)) (mail d) marks) (sym does.2) (stands_in ms marks (mail old) rows)),
+  )
+  in_trans sound mail ms marks (ListOne n) old answer next new served rows s asked does = absurd asked
+  in_trans sound mail ms marks (Retr k) old answer next new served rows s asked does = elim (found ms marks k) [
+    | inl none ↦ says_no mail ms marks (Retr k) old answer (codes " no such message") (Transaction (rows_with ms marks)) next new
+        (subst (λ (r : Option MessageRow). Does sound mail (give (rows_with ms marks) k r octets_line None) old answer next new) none does) refl (stands_in ms marks (mail old) rows)
+    | inr some ↦ gave sound mail ms marks k some.0 old answer next new served rows s some.2
+        (subst (λ (r : Option MessageRow). Does sound mail (give (rows_with ms marks) k r octets_line None) old answer next new) some.1 does)
+  ]
+  in_trans sound mail ms marks (Dele k) old answer next new served rows s asked does = elim (found ms marks k) [
+    | inl none ↦ says_no mail ms marks (Dele k) old answer (codes " no such message") (Transaction (rows_with ms marks)) next new
+        (subst (λ (r : Option MessageRow). Does sound mail (dele (rows_with ms marks) k r) old answer next new) none does) refl (stands_in ms marks (mail old) rows)
+    | inr some ↦ marked sound mail ms marks k some.0 old answer next new rows some.2
+        (subst (λ (r : Option MessageRow). Does sound mail (dele (rows_with ms marks) k r) old answer next new) some.1 does)
+  ]
+  in_trans sound mail ms marks Rset old answer next new served rows s asked does =
+      says_yes mail ms marks (map (λ _. false) marks) Rset old answer [] (Transaction (map unmarked (rows_with ms marks))) next new does refl (λ says. (says, refl))
+      (cleared sound mail ms marks old rows)
+  in_trans sound mail ms marks Noop old answer next new served rows s asked does =
+      says_yes mail ms marks marks Noop old answer [] (Transaction (rows_with ms marks)) next new does refl (λ says. (says, refl)) (stands_in ms marks (mail old) rows)
+  in_trans sound mail ms marks (Top n k) old answer next new served rows s asked does = absurd asked
+  in_trans sound mail ms marks Quit old answer next new served rows s asked does = left sound mail ms marks old answer next new rows s does
+
+  -- ---- all answers in order
+
+  replied : {D : Type 0} (sound : D → Type 0) (mail : D → Mail) (ms : List Message) (marks : List Bool) (user pass : List ℕ) (state : State) (c : Command) (old : D) (answer : List ℕ) (next : State) (new : D)
+      → AllByRecursion IsMessage ms → is_open state ≡ true → Stands ms state (mail old) marks → sound new → IsOfSession c → Does sound mail (deed user pass state (Ok c)) old answer next new → Replied ms marks c answer next (mail new)
+  replied sound mail ms marks user pass (Authorization kept) c old answer next new messages opened stands s asked does =
+      subst (λ (bs : List Bool). Replied ms bs c answer next (mail new)) (sym stands.1) (in_auth sound mail ms user pass kept c old answer next new messages stands.0 s asked does)
+  replied sound mail ms marks user pass (Transaction rows) c old answer next new messages opened stands s asked does =
+      in_trans sound mail ms marks c old answer next new stands.3 (made_rows ms marks (mail old) stands.0 stands.1 stands.3) s asked
+      (subst (λ (rs : List MessageRow). Does sound mail (in_transaction rs c) old answer next new) stands.2 does)
+  replied sound mail ms marks user pass Closed c old answer next new messages opened stands s asked does = absurd (let e : false ≡ true = opened in cc)
+
+  did_sound : {D : Type 0} (sound : D → Type 0) (mail : D → Mail) (asked : Deed) (old : D) (answer : List ℕ) (next : State) (new : D) → Does sound mail asked old answer next new → sound new → sound old
+  did_sound sound mail (Say bytes state) old answer next new does s = subst sound does.2 s
+  did_sound sound mail Open old answer next new (inl (is, state, known)) s = (known s).0
+  did_sound sound mail Open old answer next new (inr (rows, limits, is, state, known)) s = (known s).0
+  did_sound sound mail (Give rows i line top) old answer next new (state, inl (is, known)) s = (known s).0
+  did_sound sound mail (Give rows i line top) old answer next new (state, inr (text, is, known)) s = (known s).0
+  did_sound sound mail (Leave rows) old answer next new (state, (all, is, known)) s = (known s).0
+
+  pub run_sound : {D : Type 0} (sound : D → Type 0) (mail : D → Mail) (old new : Machine D) (lines : List (List ℕ)) (answers : List ℕ) → AnswersLines sound mail old lines answers new → sound new.drop → sound old.drop
+  run_sound sound mail old new [] answers (none, same) s = subst (λ (m : Machine _). sound m.drop) same s
+  run_sound sound mail old new (line ∷ lines) answers (first, rest, next, is, turn, run) s =
+      did_sound sound mail _ old.drop first next.state next.drop turn.answers.does (run_sound sound mail next new lines rest run s)
+
+  all_replied : {D : Type 0} (sound : D → Type 0) (mail : D → Mail) (ms : List Message) (marks : List Bool) (commands : List Command) (old new : Machine D) (answers : List ℕ)
+      → AllByRecursion IsMessage ms → AllByRecursion IsAsked commands → AnswersLines sound mail old (lines_of commands) answers new → sound new.drop → Stands ms old.state (mail old.drop) marks
+      → (last : List Bool) × Replies ms marks commands answers last × Stands ms new.state (mail new.drop) last
+  all_replied sound mail ms marks [] old new answers messages asked run s stands =
+      (marks, (run.0, refl), subst (λ (m : Machine _). Stands ms m.state (mail m.drop) marks) (sym run.1) stands)
+  all_replied sound mail ms marks (c ∷ commands) old new answers messages asked (first, rest, next, is, turn, run) s stands =
+      let sound_next = run_sound sound mail next new (lines_of commands) rest run s in
+      let does = subst (λ (r : Result Command WireFault). Does sound mail (deed old.user old.pass old.state r) old.drop first next.state next.drop) (read c asked.0.numbers asked.0.sendable) turn.answers.does in
+      let one = replied sound mail ms marks old.user old.pass old.state c old.drop first next.state next.drop messages turn.was_open stands sound_next asked.0.of_session does in
+      let more = all_replied sound mail ms one.0 commands next new rest messages asked.1 run s one.2 in
+      (more.0, (first, rest, one.0, is, one.1, more.1), more.2)
+
+  gone_at : (ms : List Message) (marks : List Bool) (state : State) (mail : Mail) → Stands ms state mail marks → Gone ms marks state (there mail.slots)
+  gone_at ms marks (Authorization kept) mail stands =
+      record { left = subst (AreLeft ms marks) (sym stands.0) (none_gone ms marks (ap length stands.1 ∙ fresh_length ms)); before_quit = λ _. stands.0 }
+  gone_at ms marks (Transaction rows) mail stands =
+      let same : there mail.slots ≡ ms = ap there stands.0 ∙ there_some ms in
+      record { left = subst (AreLeft ms marks) (sym same) (none_gone ms marks stands.1); before_quit = λ _. same }
+  gone_at ms marks Closed mail stands = record { left = stands; before_quit = λ e. absurd (let h : false ≡ true = e in cc) }
+
+  -- what was answered is honest, and what is gone then was marked
+  abbrev pub AnswersHonestly : {D : Type 0} → (D → Type 0) → (D → Mail) → Type 0
+  AnswersHonestly {D} sound mail = (old new : Machine D) (commands : List Command) (answers : List ℕ)
+      → old.state ≡ Authorization None → AllByRecursion IsAsked commands → AnswersLines sound mail old (lines_of commands) answers new
+      → sound new.drop → AllByRecursion IsMessage (there (mail old.drop).slots)
+      → (marks : List Bool) × Replies (there (mail old.drop).slots) (no_marks (there (mail old.drop).slots)) commands answers marks
+      × Gone (there (mail old.drop).slots) marks new.state (there (mail new.drop).slots)
+
+  pub answers_honestly : {D : Type 0} (sound : D → Type 0) (mail : D → Mail) → AnswersHonestly sound mail
+  answers_honestly sound mail old new commands answers state asked run s messages =
+      let stands = subst (λ (st : State). Stands (there (mail old.drop).slots) st (mail old.drop) (no_marks (there (mail old.drop).slots))) (sym state) (refl, refl) in
+      let all = all_replied sound mail (there (mail old.drop).slots) (no_marks (there (mail old.drop).slots)) commands old new answers messages asked run s stands in
+      (all.0, all.1, gone_at (there (mail old.drop).slots) all.0 new.state (mail new.drop) all.2)
+
+  pub is_honest : {D : Type 0} (sound : D → Type 0) (mail : D → Mail) → IsHonest sound mail
+  is_honest sound mail old new commands answers state asked run s messages =
+      let all = answers_honestly sound mail old new commands answers state asked run s messages in (
+        all.0,
+        record {
+          status = Positive;
+          hello = greeting;
+          greets = granted greeting (codes " popd ready") refl refl;
+          commands = commands;
+          asked = record { sendable = all_sendable commands asked; numbers = all_numbered commands asked; part = []; no_line = IsLine-nil; whole = flat_lines commands ∙ sym (append-nil (flat_map (λ c. ended (line_of c)) commands)) };
+          replies = answers;
+          replied = all.1;
+          later = [];
+          begins = sym (append-nil (greeting ++ answers));
+        },
+        all.2,
+      )

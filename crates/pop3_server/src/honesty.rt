@@ -3,16 +3,23 @@ ghost use Rattle.pop3_server.specs.HonestServer.{IsHonest};
 ghost use Rattle.pop3_server.specs.HonestLoop.{GivesHonest};
 
 use crate::maildrop::Maildrop;
+use pop3_wire::{read_as_written, stuffed_is_body};
 
 /// A new server's greeting and its answers to any commands that a session sends, one after another,
 /// are an honest conversation over the messages of its maildrop; while the server is open all of
 /// these are there, and behind QUIT only marked ones may be gone, the others in their order.
 pub fn conversations_are_honest<D: Maildrop>()
     ensures { IsHonest D.sound D.mail }
-{}
+{
+    stuffed_is_body();
+    read_as_written();
+}
 
 /// The same of a [`LoopWire`](crate::LoopWire) to a new server, for whole commands of a session and
 /// a part of one more, also where the link went down.
 pub fn loops_are_honest<D: Maildrop>()
     ensures { GivesHonest D.sound D.mail }
-{}
+{
+    stuffed_is_body();
+    read_as_written();
+}

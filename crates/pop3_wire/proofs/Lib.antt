@@ -10,5 +10,5 @@ mod LineReaderLemmas
 mod ReadingLemmas
 mod RowsLemmas
 mod ScriptLemmas
-pub mod StuffLemmas
+mod StuffLemmas
 mod UnstuffingLemmas

@@ -12,8 +12,8 @@ pub struct WireDown;
 /// A link that takes octets and gives octets, in order.
 ///
 /// Its failure count rises by one exactly where a call is refused; at its greatest value,
-/// 18,446,744,073,709,551,615, it stays, and every call is refused. Everything else that a clause
-/// says of the octets stands under the premise `sound`: nothing is known of a real socket.
+/// 18,446,744,073,709,551,615, it stays. Everything else that a clause says of the octets stands
+/// under the premise `sound`: nothing is known of a real socket.
 pub trait Wire {
     // What is known of the link.
     ghost seen: { Self → Link };

@@ -2,4 +2,4 @@ use Rattle.pop3_server.proofs.HonestLoopLemmas.{gives_honest}
 use Rattle.pop3_server.proofs.honesty.loops_are_honest.Goals as goal
 
 pub returns : goal.returns
-returns g c = gives_honest g.D.Maildrop.sound g.D.Maildrop.mail
+returns g c = gives_honest c.stuffed_is_body.ensures c.read_as_written.ensures g.D.Maildrop.sound g.D.Maildrop.mail
