@@ -66,6 +66,7 @@ bench-record_bench:
 
 bench-store_bench: store_bench
 	@python3 bench/mail_store.py
+	@python3 bench/mboxrd.py
 
 # Where `make install` puts things; DESTDIR stands before all of it.
 PREFIX ?= /usr/local

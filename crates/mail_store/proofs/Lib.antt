@@ -8,4 +8,5 @@ pub mod MboxLines
 pub mod MboxQuoting
 pub mod MboxGroups
 pub mod MboxReading
+pub mod MboxFronts
 pub mod MboxAppends

@@ -1,11 +1,11 @@
 -- Groups of lines in an mboxrd file, and the laws of its texts.
-use Rattle.std.proofs.Common.{◌≡◌, ◌≢◌, inl, inr, ℕ, suc, ◌<◌, ◌≤◌, Bool, true, false, cond, List, [], ◌∷◌, ◌++◌, drop, map, refl, sym, ap, subst, ◌∙◌, arith, append_assoc}
+use Rattle.std.proofs.Common.{◌≡◌, inl, inr, ℕ, Bool, true, false, cond, List, [], ◌∷◌, ◌++◌, drop, map, refl, sym, ap, subst, ◌∙◌, append_assoc}
 use Rattle.std.specs.Prelude.{codes, nat_eq}
 use Rattle.std.specs.List.{flat_map, AllByRecursion}
 use Rattle.std.proofs.lemmas.Bool.{true≢false}
 use Rattle.std.proofs.lemmas.Bool.Decides.{eqb_tells}
 use Rattle.std.proofs.lemmas.List.{append-nil, append_cancel_right, flat_map_more, map-append}
-use Rattle.mail_store.specs.Mboxrd.{lines_of, HasNoLf, IsLine, IsWhole, from_words, begins_entry, quoted, unquoted, quoted_text, separator, entry_of, Group, IsHead, IsInner, IsGroup, group_bytes, group_text, MboxFile, MayGoOn, EntryAddsText, OneReading, TextsMayGoOn}
+use Rattle.mail_store.specs.Mboxrd.{lines_of, HasNoLf, IsLine, IsWhole, from_words, begins_entry, quoted, unquoted, separator, entry_of, Group, IsHead, IsInner, IsGroup, group_bytes, group_text, MboxFile, MayGoOn, EntryAddsText, OneReading, TextsMayGoOn}
 use Rattle.mail_store.specs.MboxScan.{IsApart, OpensEntry}
 use Rattle.mail_store.proofs.MboxLines.{empty_line, lines_kept, lines_joined, whole_lines}
 use Rattle.mail_store.proofs.MboxQuoting.{begins_with, begins_entry_by, quoted_line, quoted_apart, lines_read}
@@ -129,7 +129,7 @@ separator_head = (
   refl,
 )
 
-quoted_inner : (lines : List (List ℕ)) → AllByRecursion IsLine lines → AllByRecursion IsInner (map quoted lines)
+pub quoted_inner : (lines : List (List ℕ)) → AllByRecursion IsLine lines → AllByRecursion IsInner (map quoted lines)
 quoted_inner [] all = tt
 quoted_inner (line ∷ lines) all = ((quoted_line line all.0, quoted_apart line), quoted_inner lines all.1)
 

@@ -1,13 +1,11 @@
 -- Quoting of lines and of texts.
-use Rattle.std.proofs.Common.{◌≡◌, ◌≢◌, ◌⊎◌, inl, inr, ℕ, suc, ◌+◌, ◌-◌, ◌*◌, ◌<◌, ◌≤◌, Bool, true, false, cond, List, [], ◌∷◌, ◌++◌, length, take, drop, map, refl, sym, ap, ◌∙◌, arith, append_assoc}
-use Rattle.std.specs.Prelude.{nat_eq}
-use Rattle.std.specs.List.{flat_map, prefix_len, starts_with, AllByRecursion}
+use Rattle.std.proofs.Common.{◌≡◌, ◌⊎◌, inl, inr, ℕ, suc, ◌+◌, ◌-◌, ◌*◌, ◌<◌, ◌≤◌, true, false, List, [], ◌∷◌, ◌++◌, length, take, drop, map, refl, sym, ap, ◌∙◌, arith, append_assoc}
+use Rattle.std.specs.List.{flat_map, prefix_len, AllByRecursion}
 use Rattle.std.proofs.lemmas.Bool.{cases_Bool, true≢false}
 use Rattle.std.proofs.lemmas.Bool.Decides.{eqb_tells, Decides-eqb}
-use Rattle.std.proofs.lemmas.Grind.{common_steps}
 use Rattle.std.proofs.lemmas.List.{take_at, length-append, take-append-drop}
 use Rattle.std.proofs.lemmas.Slice.Eq.{starts_is}
-use Rattle.mail_store.specs.Mboxrd.{lines_of, HasNoLf, IsLine, IsWhole, from_words, begins_entry, is_greater, is_marked, quoted, unquoted, quoted_text, unquoted_text, UnquotesQuoted}
+use Rattle.mail_store.specs.Mboxrd.{lines_of, HasNoLf, IsLine, from_words, begins_entry, is_greater, is_marked, quoted, unquoted, quoted_text, UnquotesQuoted}
 use Rattle.mail_store.proofs.MboxLines.{line_first, first_cut, whole_lines, lines_joined}
 
 -- ---- marked lines

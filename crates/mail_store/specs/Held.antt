@@ -1,7 +1,7 @@
 -- What `held` answers of a Maildir.
 use Rattle.std.specs.Prelude.{◌≡◌, ℕ, List, map, Bool, true, false, ◌&&◌, bytes_eq, zip, Result, Ok, Err, Vec, ◌⊎◌}
 use Rattle.std.specs.List.{list_any}
-use Rattle.mail_terms.specs.Listing.{Item, has_item}
+use Rattle.mail_terms.specs.Listing.{Item}
 use Rattle.mail_store.specs.declared.fault.StoreFault.{StoreFault}
 use Rattle.mail_store.specs.declared.fault.StoreFault.TheVariants.{Missing, Refused, NotMbox, NoMemory}
 use Rattle.mail_store.specs.Maildir.{Maildir, counted}

@@ -1,8 +1,11 @@
-//! Times two calls of `mail_store` on a Maildir in a folder, for `bench/mail_store.py`, and rewrites a
-//! file. The tests from outside watch what it asks of the system.
+//! Times calls of `mail_store` on a Maildir in a folder, for `bench/mail_store.py`, and on an mboxrd
+//! file, for `bench/mboxrd.py`; appends to such a file, and rewrites a file. The tests from outside
+//! watch what it asks of the system.
 #![tactic(auto)]
 
 ghost use Rattle.std.specs.Prelude.{◌≡◌, IfOk, length};
+
+mod mbox;
 
 use anyhow::{Result, ensure};
 use mail_store::{FlatFile, FolderMaildir, HostFile, account_id, deliver, file_name, held};
@@ -84,7 +87,7 @@ fn rewrite(rt: &HostRuntime, path: &str, count: u32) -> Result<()> {
 }
 
 fn tell_usage(rt: &HostRuntime) -> Result<()> {
-    println!(rt; "usage: store_bench held|deliver|rewrite PATH COUNT")?;
+    println!(rt; "usage: store_bench held|deliver|rewrite|append|texts|quote PATH COUNT")?;
     Ok(())
 }
 
@@ -99,6 +102,9 @@ fn main(rt: HostRuntime) -> Result<()> {
         "held" => time_held(&rt, path, count),
         "deliver" => time_deliver(&rt, path, count),
         "rewrite" => rewrite(&rt, path, count),
+        "append" => mbox::append(&rt, path, count),
+        "texts" => mbox::time_texts(&rt, path),
+        "quote" => mbox::time_quote(&rt, path),
         _ => tell_usage(&rt),
     }
 }

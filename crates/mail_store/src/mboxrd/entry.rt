@@ -4,7 +4,7 @@ ghost use Rattle.std.specs.Prelude.{◌≡◌, ◌≢◌, ◌↔◌, List, ℕ, 
 ghost use Rattle.mail_terms.specs.FailureCount.{Tallies, refuses};
 ghost use Rattle.mail_store.specs.Fault.{is_refusal};
 ghost use Rattle.mail_store.specs.FlatFile.{edges_of};
-ghost use Rattle.mail_store.specs.Mboxrd.{IsWhole, MayGoOn, entry_of, EntryAddsText, OneReading, TextsMayGoOn};
+ghost use Rattle.mail_store.specs.Mboxrd.{IsWhole, MayGoOn, entry_of, EntryAddsText, FrontsOfEntries, OneReading, TextsMayGoOn};
 ghost use Rattle.mail_store.specs.MboxCalls.{Looks, Checks, AppendsEntry, TalliesEntry};
 
 use crate::fault::StoreFault;
@@ -102,4 +102,11 @@ pub fn files_have_one_reading()
 /// An entry may follow each file that stands for texts.
 pub fn entries_may_follow_texts()
     ensures { TextsMayGoOn }
+{}
+
+/// A front of a text's entry behind a file that stands for texts: cut to the size that the file had it
+/// is that file again, and its length tells whether all of the entry is there. Where the file stands
+/// for texts with only a part of the entry, they are the old ones, and perhaps a front of the text.
+pub fn fronts_of_entries_are_cut_off()
+    ensures { FrontsOfEntries }
 {}

@@ -1,4 +1,4 @@
-use Rattle.std.proofs.Common.{◌≡◌, drop, ap, ◌∙◌, ℕ}
+use Rattle.std.proofs.Common.{drop, ap, ◌∙◌, ℕ}
 use Rattle.std.proofs.lemmas.List.{take_rest}
 use Rattle.mail_store.specs.Mboxrd.{begins_entry}
 use Rattle.mail_store.proofs.MboxQuoting.{marked_behind}

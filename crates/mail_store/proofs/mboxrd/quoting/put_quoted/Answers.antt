@@ -1,4 +1,4 @@
-use Rattle.std.proofs.Common.{◌≡◌, ◌++◌, ◌∷◌, [], List, ℕ, ◌∙◌, sym, ap, arith}
+use Rattle.std.proofs.Common.{◌++◌, ◌∷◌, [], List, ℕ, ◌∙◌, sym, ap, arith}
 use Rattle.mail_store.specs.Mboxrd.{quoted}
 use Rattle.mail_store.proofs.MboxQuoting.{cut_off, quoted_marked, quoted_plain, copies_changed, copies_plain}
 use Rattle.mail_store.proofs.mboxrd.quoting.put_quoted.Goals as goal

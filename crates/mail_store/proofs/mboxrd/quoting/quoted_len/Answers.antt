@@ -1,4 +1,4 @@
-use Rattle.std.proofs.Common.{◌≡◌, ◌∙◌, sym, arith}
+use Rattle.std.proofs.Common.{◌∙◌, sym, arith}
 use Rattle.mail_store.proofs.MboxQuoting.{cut_off, counts_marked, counts_plain}
 use Rattle.mail_store.proofs.mboxrd.quoting.quoted_len.Goals as goal
 

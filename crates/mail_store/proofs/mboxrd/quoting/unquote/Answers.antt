@@ -1,4 +1,4 @@
-use Rattle.std.proofs.Common.{◌≡◌, ◌++◌, [], drop, ◌∙◌, sym, arith}
+use Rattle.std.proofs.Common.{[], drop, ◌∙◌, sym, arith}
 use Rattle.std.proofs.lemmas.List.{take_rest, append-nil}
 use Rattle.mail_store.specs.Mboxrd.{unquoted}
 use Rattle.mail_store.proofs.MboxQuoting.{cut_off, without_first, rest_within, copies_changed, copies_plain}

@@ -1,5 +1,5 @@
 use Rattle.std.proofs.Common.{◌≡◌, ◌∙◌, ◌<◌, ℕ, List, [], ◌∷◌, ◌++◌, length, map, cond, refl, sym, ap, subst, inl, inr, String, Vec, Global, string_bytes}
-use Rattle.std.specs.Prelude.{Contains, HoldsAt, is_ok, option_map, ◌≢◌}
+use Rattle.std.specs.Prelude.{Contains, HoldsAt, is_ok, option_map}
 use Rattle.std.proofs.lemmas.Bool.{both_ways}
 use Rattle.mail_store.specs.Maildir.{Maildir, Takes, HaveDistinctNames, file_of, names_of, all_there}
 use Rattle.mail_store.proofs.MoveLemmas.{about_cur, about_new, taken}
