@@ -1,8 +1,9 @@
 -- A session is a step: what it said and read, and what it left, in one.
-use Rattle.std.proofs.Common.{◌≡◌, inl, inr, ◌-◌, ℕ, Bool, true, false, List, [], ◌∷◌, ◌++◌, Option, Some, Result, Ok, Err, refl, sym, ap, subst, ◌∙◌}
+use Rattle.std.proofs.Common.{map, ◌≡◌, ◌⊎◌, inl, inr, ◌-◌, ℕ, Bool, true, false, List, [], ◌∷◌, ◌++◌, Option, Some, Result, Ok, Err, refl, sym, ap, subst, ◌∙◌}
 use Rattle.std.specs.Prelude.{◌↔◌, ◌||◌, bytes_eq, slice_get}
 use Rattle.std.specs.List.{list_any, AllByRecursion}
 use Rattle.std.proofs.lemmas.Bool.{true≢false}
+use Rattle.std.proofs.lemmas.List.{length-map}
 use Rattle.std.proofs.lemmas.List.Concat.{flat_map-append}
 use Rattle.std.proofs.lemmas.List.Folds.{list_any-append}
 use Rattle.std.proofs.lemmas.Slice.Eq.{bytes_eq-Decides}
@@ -17,20 +18,25 @@ use Rattle.rc_file.specs.declared.settings.Settings.{Settings}
 use Rattle.run_law.specs.Mails.{has_id}
 use Rattle.run_law.specs.Plans.{FrontsAreAsked}
 use Rattle.run_law.specs.Sessions.{IsBegun}
-use Rattle.run_law.specs.Steps.{Effect}
+use Rattle.run_law.specs.Steps.{Leaves}
 use Rattle.run_law.specs.Told.{ToldStores}
 use Rattle.fetch_session.specs.declared.fault.Cut.{Cut}
 use Rattle.fetch_session.specs.declared.report.Outcome.{Outcome}
 use Rattle.fetch_session.specs.declared.report.Outcome.TheVariants.{Ended, Cut as WasCut}
 use Rattle.fetch_session.specs.declared.report.Report.{Report}
+use Rattle.fetch_session.specs.declared.fault.Fault.TheVariants.{StoreRefused, SeenRefused, NoMemory}
+use Rattle.fetch_session.specs.declared.fault.Why.TheVariants as why
+use Rattle.fetch_session.specs.declared.report.ReportLine.{ReportLine}
+use Rattle.fetch_session.specs.Reports.{retrieved_in}
 use Rattle.fetch_session.specs.Tasks.{Task, deletes}
 use Rattle.fetch_session.specs.Records.{Keeps}
 use Rattle.fetch_session.specs.Sessions.{Kept, outcome_of}
 use Rattle.fetch_runs.specs.Steps.{holds, IsStep, SessionIsAStep}
 use Rattle.fetch_runs.proofs.Courses.{Way, Idle, Deals, way_of, begun_of, found_of, IsDeleted}
 use Rattle.fetch_runs.proofs.StatePlan.{IsRight, deleted_in, deleted_by, uids_in}
+use Rattle.fetch_runs.proofs.StateDone.{text_found}
 use Rattle.fetch_runs.proofs.StateBuilt.{Laws, effect_of}
-use Rattle.fetch_runs.proofs.StateCases.{is_ended}
+use Rattle.fetch_runs.proofs.StateCases.{is_ended, RefusedIn, UnsavedIn}
 use Rattle.fetch_runs.proofs.StateLaw.{WayLeads, session_leads}
 use Rattle.fetch_runs.proofs.TalkLaw.{Gained, talks}
 
@@ -88,12 +94,18 @@ ended_if (Err cut) outcome is = (λ never. absurd (true≢false (sym never)), λ
 
 -- ---- both in one
 
-module _ (stores : ToldStores) (settings : Settings) (account : List ℕ) (now : ℕ) (link : Link) (before : Kept) (rows : List Row) (report : Report) (link' : Link) (after : Kept) (ended : Bool)
-    (ends : (ended ≡ true) ↔ (report.outcome ≡ Ended)) (keeps : Keeps before.file.content rows) where
-  abbrev nothing : Effect
-  nothing = record { now = now; listing = []; texts = []; begun = []; ended = false }
+refused_is : (result : Result (Unit {0}) Cut) (outcome : Outcome) → outcome ≡ outcome_of result → RefusedIn result → outcome ≡ WasCut (StoreRefused why.Refused)
+refused_is (Ok done) outcome is never = absurd never
+refused_is (Err cut) outcome is fault = is ∙ ap WasCut fault
 
-  joined : (way : Way) → WayLeads settings account now ended way rows before after → Gained way link link' → IsStep settings account now link before rows report link' after
+unsaved_is : (result : Result (Unit {0}) Cut) (outcome : Outcome) → outcome ≡ outcome_of result → UnsavedIn result → (outcome ≡ WasCut SeenRefused) ⊎ (outcome ≡ WasCut NoMemory)
+unsaved_is (Ok done) outcome is never = absurd never
+unsaved_is (Err cut) outcome is (inl fault) = inl (is ∙ ap WasCut fault)
+unsaved_is (Err cut) outcome is (inr fault) = inr (is ∙ ap WasCut fault)
+
+module _ (stores : ToldStores) (settings : Settings) (account : List ℕ) (now : ℕ) (link : Link) (before : Kept) (rows : List Row) (report : Report) (link' : Link) (after : Kept) (result : Result (Unit {0}) Cut)
+    (outcome_is : report.outcome ≡ outcome_of result) (lines : List ReportLine) (counts : report.retrieved ≡ retrieved_in lines) (keeps : Keeps before.file.content rows) where
+  joined : (way : Way) → WayLeads settings account now result way rows before after lines → Gained way link link' → IsStep settings account now link before rows report link' after
   joined Idle left said = record {
     sent = said.sent;
     got = said.got;
@@ -102,31 +114,45 @@ module _ (stores : ToldStores) (settings : Settings) (account : List ℕ) (now :
     sent_is = said.sent_is;
     got_is = said.got_is;
     now_is = refl;
-    ended_is = subst (λ (e : Bool). (e ≡ true) ↔ (report.outcome ≡ Ended)) left.0 ends;
+    ended_is = subst (λ (e : Bool). (e ≡ true) ↔ (report.outcome ≡ Ended)) left.0 (ended_if result report.outcome outcome_is);
     keeps = subst (λ (k : Kept). Keeps k.file.content rows) (sym left.1) keeps;
+    left = inl (unchanged, counts ∙ ap retrieved_in left.2);
     stepped = record {
       commands = said.tells.0;
       asked = said.tells.1;
       begun = begun_all account before.maildir [] [] tt said.tells.0 said.tells.2;
-      step = inl (record { rows = refl; in_new = ap (λ (k : Kept). k.maildir.in_new) left.1; in_cur = ap (λ (k : Kept). k.maildir.in_cur) left.1; begun = refl; ended = refl });
+      step = inl unchanged;
     };
   }
+    where
+      unchanged : Leaves (holds rows before.maildir) (record { now = now; listing = []; texts = []; begun = []; ended = false }) (holds rows after.maildir)
+      unchanged = record { rows = refl; in_new = ap (λ (k : Kept). k.maildir.in_new) left.1; in_cur = ap (λ (k : Kept). k.maildir.in_cur) left.1; begun = refl; ended = refl }
   joined (Deals c) left said = record {
     sent = said.sent;
     got = said.got;
-    effect = effect_of now ended c;
+    effect = effect_of now (is_ended result) c;
     rows' = left.rows';
     sent_is = said.sent_is;
     got_is = said.got_is;
     now_is = refl;
-    ended_is = ends;
+    ended_is = ended_if result report.outcome outcome_is;
     keeps = left.keeps;
+    left = inr (record {
+      told = left.told;
+      retrieved_is = counts ∙ left.counted;
+      one_more = λ is. refused_is result report.outcome outcome_is (left.one_more (is ∙ length-map (found_of c) text_found));
+      one_less = λ is. unsaved_is result report.outcome outcome_is (left.one_less is);
+      recorded = elim left.recorded [
+        | inl is ↦ inl is
+        | inr none ↦ inr (none.0, ap (map text_found) none.1, ap (deleted_by c.items) none.2)
+      ];
+    });
     stepped = record {
       commands = User said.tells.name ∷ Pass said.tells.word ∷ Stat ∷ UidlAll ∷ ListAll ∷ said.tells.more;
       asked = said.tells.talked.asked;
       begun = begun_all account before.maildir c.items (begun_of c) left.right (User said.tells.name ∷ Pass said.tells.word ∷ Stat ∷ UidlAll ∷ ListAll ∷ said.tells.more) said.tells.deletes;
       step = inr (
-        stores settings account (holds rows before.maildir) (effect_of now ended c) (holds left.rows' after.maildir) left.told,
+        stores settings account (holds rows before.maildir) (effect_of now (is_ended result) c) (holds left.rows' after.maildir) left.told,
         record {
           name = said.tells.name;
           word = said.tells.word;
@@ -151,6 +177,6 @@ module _ (stores : ToldStores) (settings : Settings) (account : List ℕ) (now :
 
 pub session_is_a_step : Laws → ToldStores → ConversationsArePaced → FrontsAreAsked → SessionIsAStep
 session_is_a_step laws stores paced fronts settings account now link before rows report link' after valid keeps is =
-    joined stores settings account now link before rows report link' after (is_ended is.result) (ended_if is.result report.outcome is.reports.outcome_is) keeps
+    joined stores settings account now link before rows report link' after is.result is.reports.outcome_is is.notes.lines is.reports.retrieved_is keeps
     (way_of settings account now link before report link' after is) (session_leads laws settings account now link before report link' after rows keeps is)
     (talks paced fronts settings account now link before report link' after valid is)

@@ -1,5 +1,5 @@
 -- What a session told the law over runs, from the tasks that it did.
-use Rattle.std.proofs.Common.{◌≡◌, ◌⊎◌, inl, inr, ◌+◌, ℕ, Bool, true, false, List, [], ◌∷◌, ◌++◌, map, take, zip, length, Option, refl, sym, ap, subst, ◌∙◌}
+use Rattle.std.proofs.Common.{arith, ◌≡◌, ◌⊎◌, inl, inr, ◌+◌, ℕ, Bool, true, false, List, [], ◌∷◌, ◌++◌, map, take, zip, length, Option, refl, sym, ap, subst, ◌∙◌}
 use Rattle.std.specs.List.{filter, AllByRecursion}
 use Rattle.std.proofs.lemmas.Bool.{true≢false}
 use Rattle.std.proofs.lemmas.List.{append-nil, length-map}
@@ -15,9 +15,11 @@ use Rattle.fetch_session.specs.Law.{SteadyFilesKeep, UnsavedFilesKeep}
 use Rattle.fetch_session.specs.Tasks.{Task, Done, IsAnswered, tasks_of, ids_of, ids_ahead, files_of}
 use Rattle.fetch_session.specs.Records.{Keeps, marked_all as marked_by_session}
 use Rattle.fetch_session.specs.Plans.{tasks_ahead}
+use Rattle.fetch_session.specs.Reports.{retrieved_in}
+use Rattle.fetch_session.specs.declared.report.ReportLine.{ReportLine}
 use Rattle.run_law.specs.Accounts.{Account}
 use Rattle.run_law.specs.Steps.{Effect, file_for, is_unheld, marked_all, ids_wanted, wanted_at}
-use Rattle.run_law.specs.Told.{Told}
+use Rattle.run_law.specs.Told.{Told, Records}
 use Rattle.fetch_runs.proofs.Courses.{Course, course, found_of, found_by, begun_of}
 use Rattle.fetch_runs.proofs.StatePlan.{PlansFetchWanted, key, IsRight, Safe, deleted_by, all_front, fetched_ahead, right_ahead, safe_ahead}
 use Rattle.fetch_runs.proofs.StateDone.{number_found, text_found, number_of, texts_by, fetched_first, fetched_all, numbers_first, files_first}
@@ -49,12 +51,17 @@ effect_of now ended course = record {
 }
 
 -- the account that a session left, and what it found
-pub record Leads (settings : Settings) (account : List ℕ) (now : ℕ) (ended : Bool) (course : Course) (rows : List Row) (maildir maildir' : Maildir) (content' : Option (List ℕ)) : Type 0 where
+pub record Leads (settings : Settings) (account : List ℕ) (now : ℕ) (ended : Bool) (course : Course) (rows : List Row) (maildir maildir' : Maildir) (content' : Option (List ℕ)) (lines : List ReportLine) (refused unsaved : Type 0) : Type 0 where
   pub rows' : List Row
   pub keeps : Keeps content' rows'
   pub told : Told settings account (holds rows maildir) (effect_of now ended course) (holds rows' maildir')
   pub numbers : map number_found (found_of course) ≡ map number_of (take (length (found_of course)) (wanted_at settings account (holds rows maildir) (effect_of now ended course)))
   pub right : AllByRecursion (IsRight account maildir course.items) (begun_of course)
+  pub counted : retrieved_in lines ≡ told.k
+  pub one_more : told.k + 1 ≡ length (found_of course) → refused
+  pub one_less : told.j + 1 ≡ told.k → unsaved
+  pub recorded : Records settings account (holds rows maildir) (effect_of now ended course) told.j (holds rows' maildir')
+      ⊎ ((rows' ≡ rows) × (found_of course ≡ []) × (begun_of course ≡ []))
 
 -- a list of done tasks, and those behind it
 pub record Part (tasks : List Task) (dones : List Done) : Type 0 where
@@ -133,8 +140,9 @@ module _ (laws : Laws) (settings : Settings) (account : List ℕ) (items : List 
       → (k ≡ length (found_by full)) ⊎ (k + 1 ≡ length (found_by full)) → (length (found_by noted) ≡ k) ⊎ (length (found_by noted) + 1 ≡ k)
       → maildir'.in_new ≡ maildir.in_new ++ files_of account full → maildir'.in_cur ≡ maildir.in_cur → Keeps content' (marked_by_session all_rows (ids_of noted))
       → AllByRecursion (IsRecorded noted) (deleted_by items (tasks_of taken ++ under)) → (more : List Task) → tasks ≡ (tasks_of taken ++ under) ++ more → (ended ≡ true → k ≡ length messages)
-      → Leads settings account now ended (course items taken spare under) rows maildir maildir' content'
-  lead ended taken spare under full noted maildir' content' k found whole part number mark in_new in_cur keeps begun more front ends = record {
+      → (lines : List ReportLine) (refused unsaved : Type 0) → retrieved_in lines ≡ k → (k + 1 ≡ length (found_by full) → refused) → (length (found_by noted) + 1 ≡ k → unsaved)
+      → Leads settings account now ended (course items taken spare under) rows maildir maildir' content' lines refused unsaved
+  lead ended taken spare under full noted maildir' content' k found whole part number mark in_new in_cur keeps begun more front ends lines refused unsaved counts one_more one_less = record {
     rows' = marked_by_session all_rows (ids_of noted);
     keeps = keeps;
     told = record {
@@ -157,6 +165,10 @@ module _ (laws : Laws) (settings : Settings) (account : List ℕ) (items : List 
     numbers = ap (map number_found) found ∙ numbers_part full whole ∙ ap (λ (l : List (ℕ × List ℕ)). map number_of (take (length l) messages)) (sym found);
     right = all_front (IsRight account maildir items) (tasks_of taken ++ under) more
         (subst (AllByRecursion (IsRight account maildir items)) front (right_ahead settings account items now maildir all_rows));
+    counted = counts;
+    one_more = λ is. one_more (is ∙ ap (λ (l : List (ℕ × List ℕ)). length l) found);
+    one_less = one_less;
+    recorded = inl (records_part noted part);
   }
     where
       same_count : length (found_by full) ≡ length (map text_found (found_of (course items taken spare under)))
@@ -164,8 +176,9 @@ module _ (laws : Laws) (settings : Settings) (account : List ℕ) (items : List 
 
   -- nothing was retrieved, and the record is as it was
   pub lead_nothing : (maildir' : Maildir) (content' : Option (List ℕ)) → maildir'.in_new ≡ maildir.in_new → maildir'.in_cur ≡ maildir.in_cur → Keeps content' rows
-      → Leads settings account now false (course items [] [] []) rows maildir maildir' content'
-  lead_nothing maildir' content' in_new in_cur keeps = record {
+      → (lines : List ReportLine) (refused unsaved : Type 0) → retrieved_in lines ≡ 0
+      → Leads settings account now false (course items [] [] []) rows maildir maildir' content' lines refused unsaved
+  lead_nothing maildir' content' in_new in_cur keeps lines refused unsaved counts = record {
     rows' = rows;
     keeps = keeps;
     told = record {
@@ -181,6 +194,10 @@ module _ (laws : Laws) (settings : Settings) (account : List ℕ) (items : List 
     };
     numbers = numbers_part [] nothing;
     right = tt;
+    counted = counts;
+    one_more = λ never. absurd (omega (arith, never));
+    one_less = λ never. absurd (omega (arith, never));
+    recorded = inr (refl, refl, refl);
   }
     where
       nothing : Part (tasks_ahead settings account items now maildir (merged rows items (flags_of account maildir items) now)) []

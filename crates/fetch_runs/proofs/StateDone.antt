@@ -1,15 +1,17 @@
 -- What tasks that were done retrieved and stored, against what was wanted.
-use Rattle.std.proofs.Common.{◌≡◌, ℕ, Bool, true, false, not, cond, List, [], ◌∷◌, ◌++◌, map, take, zip, length, refl, sym, ap, subst, ◌∙◌}
+use Rattle.std.proofs.Common.{◌≡◌, ℕ, Bool, true, false, not, cond, List, [], ◌∷◌, ◌++◌, map, take, zip, length, length-append, ◌+◌, refl, sym, ap, subst, ◌∙◌}
 use Rattle.std.specs.List.{filter, AllByRecursion, AllZip}
 use Rattle.std.proofs.lemmas.List.{take_at, take-map, length-map, map-append}
 use Rattle.std.proofs.lemmas.List.Concat.{flat_map-append}
+use Rattle.std.proofs.lemmas.List.Sums.{sum_by-append}
 use Rattle.mail_terms.specs.Listing.{Item}
 use Rattle.mail_store.specs.Maildir.{Maildir, File, file}
 use Rattle.mail_store.specs.FileName.{name_of, is_held}
 use Rattle.pop3_wire.specs.Reading.{WholeReply}
 use Rattle.pop3_client.specs.Turns.{IsGood}
 use Rattle.pop3_client.specs.Texts.{body_text}
-use Rattle.fetch_session.specs.Tasks.{Task, says, skips, stores, rereads, deletes, Done, IsAnswered, turns_in, tasks_of, files_in, files_of, file_from}
+use Rattle.fetch_session.specs.Tasks.{Task, says, skips, stores, rereads, deletes, Done, IsAnswered, turns_in, tasks_of, files_in, files_of, file_from, lines_in, lines_of}
+use Rattle.fetch_session.specs.Reports.{is_taken, retrieved_in}
 use Rattle.run_law.specs.Steps.{file_for, is_unheld}
 use Rattle.fetch_runs.proofs.Courses.{found_in, found_by}
 use Rattle.fetch_runs.proofs.StatePlan.{key, fetched_in, fetched, IsRight, all_front}
@@ -137,3 +139,24 @@ files_first account maildir items tasks rest dones messages are right split answ
     files_by account maildir items dones answered (all_front (IsRight account maildir items) (tasks_of dones) rest (subst (AllByRecursion (IsRight account maildir items)) split right))
     ∙ ap (λ (l : List (ℕ × List ℕ)). map (file_at account) (filter (is_free account maildir) (zip l (texts_by dones)))) (fetched_first tasks rest dones messages are split answered)
     ∙ by_messages account maildir (take (length (found_by dones)) messages) (texts_by dones)
+
+-- ---- by the lines that tell of them
+
+counted_in : (task : Task) (replies : List WholeReply) → AllZip IsGood (turns_in task) replies → retrieved_in (lines_in task replies) ≡ length (found_in task replies)
+counted_in (stores number uid) [] answered = absurd answered
+counted_in (stores number uid) (reply ∷ []) answered = refl
+counted_in (stores number uid) (reply ∷ other ∷ more) answered = absurd answered.1
+counted_in (rereads number uid) [] answered = absurd answered
+counted_in (rereads number uid) (reply ∷ []) answered = refl
+counted_in (rereads number uid) (reply ∷ other ∷ more) answered = absurd answered.1
+counted_in (says turn) replies answered = refl
+counted_in (skips number size) replies answered = refl
+counted_in (deletes number) replies answered = refl
+
+pub counted_by : (dones : List Done) → AllByRecursion IsAnswered dones → retrieved_in (lines_of dones) ≡ length (found_by dones)
+counted_by [] answered = refl
+counted_by (d ∷ dones) answered =
+    sum_by-append (λ line. cond (is_taken line) 1 0) (lines_in d.task d.replies) (lines_of dones)
+    ∙ ap (λ (n : ℕ). n + retrieved_in (lines_of dones)) (counted_in d.task d.replies answered.0)
+    ∙ ap (λ (n : ℕ). length (found_in d.task d.replies) + n) (counted_by dones answered.1)
+    ∙ sym (length-append (found_in d.task d.replies) (found_by dones))

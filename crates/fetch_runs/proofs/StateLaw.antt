@@ -1,5 +1,5 @@
 -- What a session leaves of its account.
-use Rattle.std.proofs.Common.{◌≡◌, ◌⊎◌, inl, inr, ℕ, Bool, false, List, [], Option, Result, Ok, Err, refl, sym, ap, subst, ◌∙◌}
+use Rattle.std.proofs.Common.{◌≡◌, ◌⊎◌, inl, inr, ℕ, false, List, [], Option, Result, Ok, Err, refl, sym, ap, subst, ◌∙◌, arith}
 use Rattle.std.proofs.lemmas.Bool.{true≢false}
 use Rattle.std.proofs.lemmas.List.{append-nil}
 use Rattle.mail_terms.specs.Listing.{Item}
@@ -17,12 +17,13 @@ use Rattle.fetch_session.specs.declared.fault.Why.TheVariants as why
 use Rattle.fetch_session.specs.declared.report.Report.{Report}
 use Rattle.fetch_session.specs.declared.report.ReportLine.{ReportLine}
 use Rattle.fetch_session.specs.Records.{Keeps, UnreadyCause, IsMergedAtMost, merged_now}
+use Rattle.fetch_session.specs.Reports.{retrieved_in}
 use Rattle.fetch_session.specs.Scenes.{Scene, scene}
 use Rattle.fetch_session.specs.Plans.{tasks_ahead, Unprepared, Carried, Carries}
 use Rattle.fetch_session.specs.Sessions.{Kept, Noted, Proceeds, Session}
 use Rattle.fetch_runs.proofs.Courses.{Way, Idle, Deals, course, course_carried, course_cut, course_carries, way_proceeded, way_of}
 use Rattle.fetch_runs.proofs.StateBuilt.{Laws, Leads, Part, lead, lead_nothing}
-use Rattle.fetch_runs.proofs.StateCases.{is_ended, does_leads}
+use Rattle.fetch_runs.proofs.StateCases.{is_ended, RefusedIn, UnsavedIn, does_leads}
 
 -- the files are as they were
 abbrev SameFiles : Maildir → Maildir → Type 0
@@ -53,10 +54,10 @@ unready_files TooMany old file new file' never = absurd never
 unready_files TextTooLong old file new file' never = absurd never
 
 module _ (laws : Laws) (settings : Settings) (account : List ℕ) (items : List Item) (now : ℕ) (place : Place) (maildir : Maildir) (file : Stored) (lines : List ReportLine) (rows : List Row)
-    (keeps : Keeps file.content rows) where
+    (keeps : Keeps file.content rows) (no_lines : lines ≡ []) where
   -- nothing was planned
   unprepared_leads : (cut : Cut) (new : Scene) → Unprepared account items now place maildir file lines cut new
-      → Leads settings account now false (course items [] [] []) rows maildir new.maildir new.file.content
+      → Leads settings account now false (course items [] [] []) rows maildir new.maildir new.file.content new.lines (RefusedIn (Err cut)) (UnsavedIn (Err cut))
   unprepared_leads cut new is = by is.unready.content
     where
       same : SameFiles maildir new.maildir
@@ -65,51 +66,57 @@ module _ (laws : Laws) (settings : Settings) (account : List ℕ) (items : List 
       nothing : Part (tasks_ahead settings account items now maildir (merged rows items (flags_of account maildir items) now)) []
       nothing = record { rest = tasks_ahead settings account items now maildir (merged rows items (flags_of account maildir items) now); split = refl; answered = tt }
 
-      by : IsMergedAtMost account items now maildir file new.file → Leads settings account now false (course items [] [] []) rows maildir new.maildir new.file.content
+      told : retrieved_in new.lines ≡ 0
+      told = ap retrieved_in (is.lines_are ∙ no_lines)
+
+      by : IsMergedAtMost account items now maildir file new.file → Leads settings account now false (course items [] [] []) rows maildir new.maildir new.file.content new.lines (RefusedIn (Err cut)) (UnsavedIn (Err cut))
       by (inl content) = lead_nothing laws settings account items now maildir rows new.maildir new.file.content same.0 same.1 (subst (λ (c : Option (List ℕ)). Keeps c rows) (sym content) keeps)
+          new.lines (RefusedIn (Err cut)) (UnsavedIn (Err cut)) told
       by (inr (was, stood, inl stays)) =
           lead_nothing laws settings account items now maildir rows new.maildir new.file.content same.0 same.1
           (subst (λ (r : List Row). Keeps new.file.content r) (laws.one file.content was rows stood keeps) stays)
+          new.lines (RefusedIn (Err cut)) (UnsavedIn (Err cut)) told
       by (inr (was, stood, inr merges)) =
           lead laws settings account items now maildir rows false [] [] [] [] [] new.maildir new.file.content 0 refl nothing nothing (inl refl) (inl refl)
           (same.0 ∙ sym (append-nil maildir.in_new)) same.1
           (subst (λ (r : List Row). Keeps new.file.content (merged_now account maildir items now r)) (laws.one file.content was rows stood keeps) merges) tt (tasks_ahead settings account items now maildir (merged rows items (flags_of account maildir items) now)) refl
-          (λ never. absurd (true≢false (sym never)))
+          (λ never. absurd (true≢false (sym never))) new.lines (RefusedIn (Err cut)) (UnsavedIn (Err cut)) told (λ never. absurd (omega (arith, never))) (λ never. absurd (omega (arith, never)))
 
   carried_leads : (result : Result (Unit {0}) Cut) (new : Scene) (skipped : ℕ) (is : Carried settings account items now place maildir file lines result new skipped)
-      → Leads settings account now (is_ended result) (course_carried settings account items now place maildir file lines result new skipped is) rows maildir new.maildir new.file.content
+      → Leads settings account now (is_ended result) (course_carried settings account items now place maildir file lines result new skipped is) rows maildir new.maildir new.file.content new.lines (RefusedIn result) (UnsavedIn result)
   carried_leads result new skipped is =
       does_leads laws settings account items now maildir rows is.mid is.prepared.maildir_is
-      (is.prepared.rows ∙ ap (merged_now account maildir items now) (laws.one file.content is.prepared.was rows is.prepared.stood keeps)) is.prepared.saved result new is.does
+      (is.prepared.rows ∙ ap (merged_now account maildir items now) (laws.one file.content is.prepared.was rows is.prepared.stood keeps)) (is.prepared.lines_are ∙ no_lines) is.prepared.saved result new is.does
 
   cut_leads : (cut : Cut) (new : Scene) (skipped : ℕ)
       (is : ((skipped ≡ 0) × Unprepared account items now place maildir file lines cut new) ⊎ Carried settings account items now place maildir file lines (Err cut) new skipped)
-      → Leads settings account now false (course_cut settings account items now place maildir file lines cut new skipped is) rows maildir new.maildir new.file.content
+      → Leads settings account now false (course_cut settings account items now place maildir file lines cut new skipped is) rows maildir new.maildir new.file.content new.lines (RefusedIn (Err cut)) (UnsavedIn (Err cut))
   cut_leads cut new skipped (inl is) = unprepared_leads cut new is.1
   cut_leads cut new skipped (inr is) = carried_leads (Err cut) new skipped is
 
   carries_leads : (result : Result (Unit {0}) Cut) (place' : Place) (maildir' : Maildir) (file' : Stored) (lines' : List ReportLine) (skipped : ℕ)
       (is : Carries settings account items now place maildir file lines result place' maildir' file' lines' skipped)
-      → Leads settings account now (is_ended result) (course_carries settings account items now place maildir file lines result place' maildir' file' lines' skipped is) rows maildir maildir' file'.content
+      → Leads settings account now (is_ended result) (course_carries settings account items now place maildir file lines result place' maildir' file' lines' skipped is) rows maildir maildir' file'.content lines' (RefusedIn result) (UnsavedIn result)
   carries_leads (Ok done) place' maildir' file' lines' skipped is = carried_leads (Ok done) (scene place' maildir' file' is.0 lines') skipped is.1
   carries_leads (Err cut) place' maildir' file' lines' skipped is = cut_leads cut (scene place' maildir' file' is.0 lines') skipped is.1
 
 -- the account is as it was, or as the course leaves it
-abbrev pub WayLeads : Settings → List ℕ → ℕ → Bool → Way → List Row → Kept → Kept → Type 0
-WayLeads settings account now ended Idle rows before after = (ended ≡ false) × (after ≡ before)
-WayLeads settings account now ended (Deals course) rows before after = Leads settings account now ended course rows before.maildir after.maildir after.file.content
+abbrev pub WayLeads : Settings → List ℕ → ℕ → Result (Unit {0}) Cut → Way → List Row → Kept → Kept → List ReportLine → Type 0
+WayLeads settings account now result Idle rows before after lines = (is_ended result ≡ false) × (after ≡ before) × (lines ≡ [])
+WayLeads settings account now result (Deals course) rows before after lines =
+    Leads settings account now (is_ended result) course rows before.maildir after.maildir after.file.content lines (RefusedIn result) (UnsavedIn result)
 
 way_leads : (laws : Laws) (settings : Settings) (account : List ℕ) (now : ℕ) (old : Place) (before : Kept) (result : Result (Unit {0}) Cut) (new : Place) (after : Kept) (notes : Noted) (rows : List Row)
     → Keeps before.file.content rows → (is : Proceeds settings account now old before result new after notes)
-    → WayLeads settings account now (is_ended result) (way_proceeded settings account now old before result new after notes is) rows before after
+    → WayLeads settings account now result (way_proceeded settings account now old before result new after notes is) rows before after notes.lines
 way_leads laws settings account now old before (Ok done) new after notes rows keeps dealt =
-    carries_leads laws settings account dealt.items now dealt.mid before.maildir before.file [] rows keeps (Ok done) new after.maildir after.file notes.lines notes.skipped dealt.carries
-way_leads laws settings account now old before (Err cut) new after notes rows keeps (inl stopped) = (refl, stopped.same)
-way_leads laws settings account now old before (Err cut) new after notes rows keeps (inr (inl wanting)) = (refl, wanting.same)
+    carries_leads laws settings account dealt.items now dealt.mid before.maildir before.file [] rows keeps refl (Ok done) new after.maildir after.file notes.lines notes.skipped dealt.carries
+way_leads laws settings account now old before (Err cut) new after notes rows keeps (inl stopped) = (refl, stopped.same, ap (λ (n : Noted). n.lines) stopped.nothing)
+way_leads laws settings account now old before (Err cut) new after notes rows keeps (inr (inl wanting)) = (refl, wanting.same, ap (λ (n : Noted). n.lines) wanting.nothing)
 way_leads laws settings account now old before (Err cut) new after notes rows keeps (inr (inr dealt)) =
-    carries_leads laws settings account dealt.items now dealt.mid before.maildir before.file [] rows keeps (Err cut) new after.maildir after.file notes.lines notes.skipped dealt.carries
+    carries_leads laws settings account dealt.items now dealt.mid before.maildir before.file [] rows keeps refl (Err cut) new after.maildir after.file notes.lines notes.skipped dealt.carries
 
 pub session_leads : (laws : Laws) (settings : Settings) (account : List ℕ) (now : ℕ) (link : Link) (before : Kept) (report : Report) (link' : Link) (after : Kept) (rows : List Row)
     → Keeps before.file.content rows → (is : Session settings account now link before report link' after)
-    → WayLeads settings account now (is_ended is.result) (way_of settings account now link before report link' after is) rows before after
+    → WayLeads settings account now is.result (way_of settings account now link before report link' after is) rows before after is.notes.lines
 session_leads laws settings account now link before report link' after rows keeps is = way_leads laws settings account now (at link []) before is.result is.mid after is.notes rows keeps is.proceeds
