@@ -5,6 +5,8 @@
 #[cfg(test)]
 mod fetch_rules_tests;
 #[cfg(test)]
+mod fetch_session_tests;
+#[cfg(test)]
 mod mail_store_tests;
 #[cfg(test)]
 mod mail_terms_tests;

@@ -3,4 +3,4 @@
 mod file;
 mod fuse;
 mod maildir;
-mod name;
+pub mod name;

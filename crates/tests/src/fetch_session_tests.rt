@@ -1,0 +1,9 @@
+//! Tests of `fetch_session`: whole sessions over written replies, one after the other.
+
+mod cut;
+mod deletion;
+mod refusal;
+mod reply;
+mod selection;
+mod text;
+mod visit;

@@ -1,0 +1,88 @@
+//! Sessions whose link ends or fails, and the sessions after them.
+
+use crate::fetch_session_tests::visit::{
+    A_LISTED, LISTED, ONE, THREE, TWO, Visit, expect, nothing_kept, run,
+};
+use crate::mail_store_tests::name::name_of;
+use mail_store::MemoryFile;
+use std::test::Fail;
+
+#[test]
+fn goes_on_after_a_cut(rt: HostRuntime) -> Result<(), Fail> {
+    let rows = [
+        (
+            Visit::new(rt.alloc(), "", 0, &[LISTED, ONE, "+OK|tw"])?,
+            "P|RETR 1|RETR 2| Cut(ConnectionEnded) 1/3 4 s0 d0 - a=one/ - - \
+             getmail-seen 1/a 0 0/b 0 0/c 0 0/+ 1/a 0 1/",
+        ),
+        (
+            Visit::new(rt.alloc(), "", 0, &[LISTED, TWO, THREE, "+OK|"])?,
+            "P|RETR 2|RETR 3|QUIT| Ended 2/3 10 s1 d0 - a=one/ b=two/ c=three/ - - \
+             getmail-seen 1/a 0 0/b 0 0/c 0 0/+ 1/a 0 1/+ 1/b 0 1/+ 1/c 0 1/",
+        ),
+    ];
+    expect(&rt, &rows)
+}
+
+#[test]
+fn finds_what_a_reader_moved_without_a_record(rt: HostRuntime) -> Result<(), Fail> {
+    let alloc = rt.alloc();
+    let first = Visit::new(alloc, "", 0, &[A_LISTED, ONE, "+OK|"])?;
+    let second = Visit::new(alloc, "", 0, &[LISTED, TWO, THREE, "+OK|"])?;
+    let (mut kept, _told) = run(alloc, nothing_kept(alloc), &first, 4096)?;
+    let name = name_of(alloc, b"a")?;
+    assert!(rt; kept.maildir.move_to_cur(name.as_str(), ":2,S")?);
+    kept.record = MemoryFile::new(alloc);
+    let (_kept, told) = run(alloc, kept, &second, 4096)?;
+    assert_eq!(rt;
+        told.as_str(),
+        "P|RETR 2|RETR 3|QUIT| Ended 2/3 10 s1 d0 - b=two/ c=three/ - a=one/ - \
+         getmail-seen 1/a 0 1/b 0 0/c 0 0/+ 1/b 0 1/+ 1/c 0 1/"
+    );
+    Ok(())
+}
+
+#[test]
+fn tells_reading_from_writing(rt: HostRuntime) -> Result<(), Fail> {
+    let rows = [
+        (4, " Cut(ReadFailed) 0/0 0 s0 d0 - - - none"),
+        (5, " Cut(WriteFailed) 0/0 0 s0 d0 - - - none"),
+    ];
+    for (calls, wanted) in rows {
+        let mut refused = Visit::new(rt.alloc(), "", 0, &["+OK|+OK|+OK|+OK 0 0|+OK|.|+OK|.|+OK|"])?;
+        refused.calls = calls;
+        let (_kept, told) = run(rt.alloc(), nothing_kept(rt.alloc()), &refused, 1)?;
+        assert_eq!(rt; told.as_str(), wanted);
+    }
+    Ok(())
+}
+
+/// What every session over a, b and c leaves at last, whatever was cut before.
+const WHOLE: &str = "P|RETR 1|RETR 2|RETR 3|QUIT| Ended 3/3 14 s0 d0 - a=one/ b=two/ c=three/ - - ";
+
+#[test]
+fn stores_each_message_once_wherever_replies_end(rt: HostRuntime) -> Result<(), Fail> {
+    let alloc = rt.alloc();
+    let mut ended = 0;
+    let mut cut = Visit::new(alloc, "", 0, &[LISTED, ONE, TWO, THREE, "+OK|"])?;
+    let whole = Visit::new(
+        alloc,
+        "read_all = true",
+        0,
+        &[LISTED, ONE, TWO, THREE, "+OK|"],
+    )?;
+    for calls in 0..150 {
+        cut.calls = calls;
+        let (kept, told) = run(alloc, nothing_kept(alloc), &cut, 1)?;
+        if told.as_str().contains("Ended") {
+            ended += 1;
+        }
+        let (_kept, told) = run(alloc, kept, &whole, 4096)?;
+        assert!(rt;
+            told.as_str().starts_with(WHOLE),
+            "after {calls} calls: {told}"
+        );
+    }
+    assert!(rt; ended > 0);
+    Ok(())
+}

@@ -1,0 +1,159 @@
+//! Sessions whose devices refuse a call, and the sessions after them.
+ghost use Rattle.std.specs.Prelude.{◌<◌};
+
+use crate::fetch_session_tests::visit::{
+    Fuse, Kept, LISTED, ONE, SOUND, THREE, TWO, Visit, nothing_kept, run,
+};
+use mail_store::FlatFile;
+use std::alloc::Global;
+use std::test::Fail;
+
+/// What is kept after the session that tells this, where the Maildir refuses a call; which one
+/// depends on the pieces in which the texts come.
+fn refused(
+    alloc: Global,
+    visit: &mut Visit,
+    takes_effect: bool,
+    wanted: &str,
+    cut: usize,
+) -> Result<Kept, Fail>
+    requires { 0 < cut }
+{
+    for passes in 0..32 {
+        visit.disk = Fuse {
+            passes,
+            takes_effect,
+        };
+        let (kept, told) = run(alloc, nothing_kept(alloc), visit, cut)?;
+        if told.as_str() == wanted {
+            return Ok(kept);
+        }
+    }
+    Err(Fail::new("no session tells this"))
+}
+
+#[test]
+fn finds_what_a_refused_settle_left(rt: HostRuntime) -> Result<(), Fail> {
+    let cut_short = "P|RETR 1|RETR 2|RSET|QUIT| Cut(StoreRefused(Refused)) 1/3 4 s0 d0 - \
+        a=one/ b=two/ - - getmail-seen 1/a 0 0/b 0 0/c 0 0/+ 1/a 0 1/";
+    let rest = "P|RETR 3|QUIT| Ended 1/3 6 s2 d0 - a=one/ b=two/ c=three/ - - \
+        getmail-seen 1/a 0 0/b 0 0/c 0 0/+ 1/a 0 1/+ 1/b 0 1/+ 1/c 0 1/";
+    let alloc = rt.alloc();
+    let mut first = Visit::new(alloc, "", 0, &[LISTED, ONE, TWO, "+OK|+OK|"])?;
+    let next = Visit::new(alloc, "", 0, &[LISTED, THREE, "+OK|"])?;
+    for cut in [1usize, 2, 3, 4096] {
+        assert!(rt; cut > 0);
+        let kept = refused(alloc, &mut first, true, cut_short, cut)?;
+        let (_kept, told) = run(alloc, kept, &next, cut)?;
+        assert_eq!(rt; told.as_str(), rest);
+    }
+    Ok(())
+}
+
+#[test]
+fn takes_back_marks_after_a_refused_begin(rt: HostRuntime) -> Result<(), Fail> {
+    let delete = "delete = true";
+    let cut_short = "P|RETR 1|DELE 1|RETR 2|RSET|QUIT| Cut(StoreRefused(Refused)) 1/3 4 s0 d0 - \
+        a=one/ - - getmail-seen 1/a 0 0/b 0 0/c 0 0/+ 1/a 0 1/";
+    let rest = "P|DELE 1|RETR 2|DELE 2|RETR 3|DELE 3|QUIT| Ended 2/3 10 s1 d3 - \
+        a=one/ b=two/ c=three/ - - \
+        getmail-seen 1/a 0 0/b 0 0/c 0 0/+ 1/a 0 1/+ 1/b 0 1/+ 1/c 0 1/";
+    let alloc = rt.alloc();
+    let first = [LISTED, ONE, "+OK|", TWO, "+OK|+OK|"];
+    let mut first = Visit::new(alloc, delete, 0, &first)?;
+    let next = [LISTED, "+OK|", TWO, "+OK|", THREE, "+OK|+OK|"];
+    let next = Visit::new(alloc, delete, 0, &next)?;
+    for cut in [1usize, 2, 3, 4096] {
+        assert!(rt; cut > 0);
+        let kept = refused(alloc, &mut first, false, cut_short, cut)?;
+        let (_kept, told) = run(alloc, kept, &next, cut)?;
+        assert_eq!(rt; told.as_str(), rest);
+    }
+    Ok(())
+}
+
+#[test]
+fn mends_a_record_whose_append_was_refused(rt: HostRuntime) -> Result<(), Fail> {
+    let alloc = rt.alloc();
+    // the record is loaded and replaced, and then half of the first group is appended
+    let mut refusing = Visit::new(alloc, "", 0, &[LISTED, ONE, "+OK|+OK|"])?;
+    refusing.record = Fuse {
+        passes: 2,
+        takes_effect: true,
+    };
+    let next = Visit::new(alloc, "", 0, &[LISTED, TWO, THREE, "+OK|"])?;
+    let (kept, told) = run(alloc, nothing_kept(alloc), &refusing, 4096)?;
+    assert_eq!(rt;
+        told.as_str(),
+        "P|RETR 1|RSET|QUIT| Cut(SeenRefused) 1/3 4 s0 d0 - a=one/ - - \
+         getmail-seen 1/a 0 0/b 0 0/c 0 0/+ 1/a"
+    );
+    let (_kept, told) = run(alloc, kept, &next, 4096)?;
+    assert_eq!(rt;
+        told.as_str(),
+        "P|RETR 2|RETR 3|QUIT| Ended 2/3 10 s1 d0 - a=one/ b=two/ c=three/ - - \
+         getmail-seen 1/a 0 1/b 0 0/c 0 0/+ 1/b 0 1/+ 1/c 0 1/"
+    );
+    Ok(())
+}
+
+#[test]
+fn leaves_alone_what_is_no_record(rt: HostRuntime) -> Result<(), Fail> {
+    let alloc = rt.alloc();
+    let rows = [
+        ("x\n", "P|RSET|QUIT| Cut(BadSeen(1)) 0/3 0 s0 d0 - - - x/"),
+        (
+            "getmail-seen 1\na 0 2\n",
+            "P|RSET|QUIT| Cut(BadSeen(2)) 0/3 0 s0 d0 - - - getmail-seen 1/a 0 2/",
+        ),
+    ];
+    let visit = Visit::new(alloc, "", 0, &[LISTED, "+OK|+OK|"])?;
+    for (bytes, wanted) in rows {
+        let mut kept = nothing_kept(alloc);
+        kept.record.replace(bytes.as_bytes())?;
+        let (_kept, told) = run(alloc, kept, &visit, 4096)?;
+        assert_eq!(rt; told.as_str(), wanted);
+    }
+    Ok(())
+}
+
+/// Runs a session whose Maildir and record refuse calls so, and then one with sound devices, and
+/// tells whether the first one ended and whether each message is there once after the second.
+fn recovers(alloc: Global, disk: Fuse, record: Fuse) -> Result<(bool, bool), Fail> {
+    let replies = [LISTED, ONE, TWO, THREE, "+OK|+OK|"];
+    let mut refusing = Visit::new(alloc, "", 0, &replies)?;
+    refusing.disk = disk;
+    refusing.record = record;
+    let (kept, first) = run(alloc, nothing_kept(alloc), &refusing, 4096)?;
+    let again = Visit::new(alloc, "read_all = true", 0, &replies)?;
+    let (_kept, told) = run(alloc, kept, &again, 4096)?;
+    let whole = "P|RETR 1|RETR 2|RETR 3|QUIT| Ended 3/3 14 s0 d0 - a=one/ b=two/ c=three/ - - ";
+    Ok((
+        first.as_str().contains("Ended"),
+        told.as_str().starts_with(whole),
+    ))
+}
+
+#[test]
+fn recovers_from_each_call_that_is_refused(rt: HostRuntime) -> Result<(), Fail> {
+    for takes_effect in [false, true] {
+        // two calls on what is held, and three for each text; a load, a replace and three appends
+        for passes in 0..12 {
+            let fuse = Fuse {
+                passes,
+                takes_effect,
+            };
+            let disk = recovers(rt.alloc(), fuse, SOUND)?;
+            assert!(rt;
+                disk == (passes == 11, true),
+                "Maildir after {passes} calls"
+            );
+            let record = recovers(rt.alloc(), SOUND, fuse)?;
+            assert!(rt;
+                record == (passes >= 5, true),
+                "record after {passes} calls"
+            );
+        }
+    }
+    Ok(())
+}

@@ -1,0 +1,241 @@
+//! One session over written replies, and all that it leaves, as one text.
+ghost use Rattle.std.specs.Prelude.{◌≡◌, ◌<◌, None, IfOk};
+ghost use Rattle.rc_file.specs.Settings.{IsValid};
+
+use crate::mail_store_tests::name::fred;
+use fetch_rules::{Settings, read_rc};
+use fetch_session::{Account, Report, Store, session};
+use mail_store::{FlatFile, Folder, Fused, MaildirDisk, MemoryFile, MemoryMaildir, uid_of};
+use pop3_wire::{FusedWire, ScriptWire};
+use std::alloc::{AllocError, Global};
+use std::hash::{BuildHasherDefault, FoldHasher};
+use std::process::Abort;
+use std::test::Fail;
+
+/// The replies up to those of LIST, where messages a, b and c are listed, each of one line: `one`,
+/// `two` and `three`.
+pub const LISTED: &str = "+OK|+OK|+OK|+OK 3 17|+OK|1 a|2 b|3 c|.|+OK|1 5|2 5|3 7|.|";
+
+/// The replies up to those of LIST, where a alone is listed.
+pub const A_LISTED: &str = "+OK|+OK|+OK|+OK 1 5|+OK|1 a|.|+OK|1 5|.|";
+
+/// What answers RETR of these messages.
+pub const ONE: &str = "+OK|one|.|";
+
+pub const TWO: &str = "+OK|two|.|";
+
+pub const THREE: &str = "+OK|three|.|";
+
+/// After how many calls a device refuses, and whether the first call that it refuses takes effect
+/// nevertheless.
+#[derive(Clone, Copy)]
+pub struct Fuse {
+    pub passes: u64,
+    pub takes_effect: bool,
+}
+
+/// A device that refuses nothing.
+pub const SOUND: Fuse = Fuse {
+    passes: u64::MAX,
+    takes_effect: false,
+};
+
+/// What one session meets.
+#[derive(Drop)]
+pub struct Visit {
+    /// Lines of the section `[options]`; `read_all` is false unless they say otherwise.
+    options: String,
+    now: u64,
+    /// What the server says, from its greeting on.
+    replies: Vec<u8>,
+    /// How many calls the link passes.
+    pub calls: u64,
+    pub disk: Fuse,
+    pub record: Fuse,
+}
+
+impl Visit {
+    /// A session over these replies at this time, of an account with these options, with nothing
+    /// refused. In the replies `|` stands for CR LF.
+    pub fn new(
+        alloc: Global,
+        options: &str,
+        now: u64,
+        replies: &[&str],
+    ) -> Result<Visit, AllocError> {
+        let mut octets = Vec::new(alloc);
+        for reply in replies {
+            put_octets(&mut octets, reply)?;
+        }
+        Ok(Visit {
+            options: String::from_str(alloc, options)?,
+            now,
+            replies: octets,
+            calls: u64::MAX,
+            disk: SOUND,
+            record: SOUND,
+        })
+    }
+}
+
+/// What stands between sessions.
+#[derive(Drop)]
+pub struct Kept {
+    pub maildir: MemoryMaildir,
+    pub record: MemoryFile,
+}
+
+/// An empty Maildir, and no file of a record.
+pub fn nothing_kept(alloc: Global) -> Kept {
+    Kept {
+        maildir: MemoryMaildir::new(alloc),
+        record: MemoryFile::missing(alloc),
+    }
+}
+
+fn settings(alloc: Global, options: &str) -> Result<Settings, Fail>
+    ensures { IfOk result IsValid }
+{
+    let file = format!(in alloc;
+        "[retriever]\ntype = SimplePOP3Retriever\n\
+        server = mail.example.org\nusername = fred\npassword = secret\n\
+        [destination]\ntype = Maildir\npath = mail/\n\
+        [options]\nread_all = false\n{options}\n"
+    )?;
+    let (settings, _warnings) = read_rc(alloc, file.as_bytes())?;
+    Ok(settings)
+}
+
+/// Puts the octets of a reply behind others.
+fn put_octets(octets: &mut Vec<u8>, reply: &str) -> Result<(), AllocError> {
+    for octet in reply.bytes() {
+        match octet {
+            b'|' => octets.extend_from_slice(b"\r\n")?,
+            other => octets.push(other)?,
+        }
+    }
+    Ok(())
+}
+
+/// Bytes as a text in which `|` stands for CR LF and `/` for any other LF.
+fn shown(alloc: Global, bytes: &[u8]) -> Result<String, AllocError> {
+    let mut text = Vec::new(alloc);
+    for byte in bytes {
+        match *byte {
+            b'\n' if text.last() == Some(&b'\r') => {
+                text.pop();
+                text.push(b'|')?;
+            }
+            b'\n' => text.push(b'/')?,
+            other => text.push(other)?,
+        }
+    }
+    String::from_utf8_lossy(alloc, &text)
+}
+
+/// What was sent; `P` stands for all that comes before the first RETR of a session that is let in.
+fn sent(alloc: Global, wire: FusedWire<ScriptWire>) -> Result<String, AllocError> {
+    let script = wire.into_inner();
+    let text = shown(alloc, script.sent())?;
+    match text.strip_prefix("USER fred|PASS secret|STAT|UIDL|LIST|") {
+        Some(rest) => format!(in alloc; "P|{rest}"),
+        None => Ok(text),
+    }
+}
+
+/// The files of a folder: of each the id that it stands for, or its name, and its content.
+fn files(alloc: Global, maildir: &MemoryMaildir, folder: Folder) -> Result<String, AllocError> {
+    let mut text = String::new(alloc);
+    for (name, content) in maildir.files(folder) {
+        let content = shown(alloc, content)?;
+        match uid_of(alloc, &fred(), name.as_str())? {
+            Some(uid) => text.push_str(String::from_utf8_lossy(alloc, &uid)?.as_str())?,
+            None => text.push_str(name.as_str())?,
+        }
+        text.push_str(format!(in alloc; "={content} ")?.as_str())?;
+    }
+    Ok(text)
+}
+
+/// The outcome and the counts.
+fn counts(alloc: Global, report: &Report) -> Result<String, AllocError> {
+    let Report {
+        outcome,
+        total,
+        retrieved,
+        bytes,
+        skipped,
+        deleted,
+        ..
+    } = report;
+    format!(in alloc; "{outcome:?} {retrieved}/{total} {bytes} s{skipped} d{deleted}")
+}
+
+/// What a Maildir and a record's file hold: the files of `new`, those of `cur`, and the bytes.
+pub fn held(alloc: Global, kept: &Kept) -> Result<String, AllocError> {
+    let new = files(alloc, &kept.maildir, Folder::New)?;
+    let cur = files(alloc, &kept.maildir, Folder::Cur)?;
+    let record = match kept.record.content() {
+        Some(bytes) => shown(alloc, bytes)?,
+        None => String::from_str(alloc, "none")?,
+    };
+    format!(in alloc; "{new}- {cur}- {record}")
+}
+
+/// Runs one session over what is kept, its replies coming in pieces of at most `cut` octets, and
+/// tells what was sent, how it came out, and what is kept then.
+pub fn run(alloc: Global, kept: Kept, visit: &Visit, cut: usize) -> Result<(Kept, String), Fail>
+    requires { 0 < cut }
+{
+    let settings = settings(alloc, visit.options.as_str())?;
+    let script = ScriptWire::new(alloc, visit.replies.clone()?, cut);
+    let mut wire = FusedWire::new(script, visit.calls);
+    let Kept {
+        mut maildir,
+        record,
+    } = kept;
+    maildir.abandon();
+    let mut account = Account::new(
+        alloc,
+        settings,
+        Store::Maildir(Fused::new(maildir, visit.disk.passes, visit.disk.takes_effect)),
+        Fused::new(record, visit.record.passes, visit.record.takes_effect),
+        BuildHasherDefault::<FoldHasher>::new(),
+    );
+    let report = session(&mut account, &mut wire, visit.now);
+    let (_settings, store, record) = account.into_parts();
+    let Store::Maildir(disk) = store;
+    let kept = Kept {
+        maildir: disk.into_inner(),
+        record: record.into_inner(),
+    };
+    let sent = sent(alloc, wire)?;
+    let counts = counts(alloc, &report)?;
+    let held = held(alloc, &kept)?;
+    let told = format!(in alloc; "{sent} {counts} - {held}")?;
+    Ok((kept, told))
+}
+
+/// Runs sessions one after the other, with replies in pieces of at most `cut` octets, and compares
+/// what each tells.
+fn compare(rt: &(impl Abort + AllocGlobal), rows: &[(Visit, &str)], cut: usize) -> Result<(), Fail>
+    requires { 0 < cut }
+{
+    let mut kept = nothing_kept(rt.alloc());
+    for (visit, wanted) in rows {
+        let (after, told) = run(rt.alloc(), kept, visit, cut)?;
+        assert_eq!(rt; told.as_str(), *wanted, "in pieces of {cut}");
+        kept = after;
+    }
+    Ok(())
+}
+
+/// Runs these sessions one after the other, from an empty Maildir and no record, and compares what
+/// each tells; all of it with replies in pieces of 1, 2, 3 and 4,096 octets.
+pub fn expect(rt: &(impl Abort + AllocGlobal), rows: &[(Visit, &str)]) -> Result<(), Fail> {
+    for cut in [1usize, 2, 3, 4096] {
+        assert!(rt; cut > 0);
+        compare(rt, rows, cut)?;
+    }
+    Ok(())
+}
