@@ -1,5 +1,5 @@
 -- A session's commands are such as a server answers honestly.
-use Rattle.std.proofs.Common.{◌≡◌, inl, inr, ◌⊎◌, ℕ, List, [], ◌∷◌, ◌++◌, Bool, true, false, refl, sym, ap, subst, ◌∙◌}
+use Rattle.std.proofs.Common.{◌≡◌, inl, inr, ◌⊎◌, ℕ, suc, Option, Some, List, [], ◌∷◌, ◌++◌, Bool, true, false, refl, sym, ap, subst, ◌∙◌}
 use Rattle.std.specs.String.{string_bytes}
 use Rattle.std.specs.List.{flat_map, AllByRecursion}
 use Rattle.pop3_wire.specs.declared.command.Command.{Command}
@@ -8,7 +8,8 @@ use Rattle.pop3_wire.specs.Line.{ended}
 use Rattle.pop3_wire.specs.Commands.{line_of, can_be_sent}
 use Rattle.pop3_wire.specs.CommandLine.{HasNumbers}
 use Rattle.pop3_wire.specs.Honest.{Asked}
-use Rattle.pop3_wire.specs.World.{IsMessage}
+use Rattle.pop3_wire.specs.World.{Message, IsMessage}
+use Rattle.run_law.specs.Sessions.{IsMarked}
 use Rattle.rc_file.specs.Settings.{IsValid}
 use Rattle.rc_file.specs.declared.settings.Settings.{Settings}
 use Rattle.fetch_rules.specs.Plan.{planned}
@@ -20,9 +21,9 @@ use Rattle.pop3_server.specs.Maildrop.{Mail, there}
 use Rattle.pop3_server.specs.ServerMachine.{Machine}
 use Rattle.pop3_server.specs.HonestLoop.{IsNew, GivesHonest}
 use Rattle.pop3_server.specs.LoopLink.{Loop, Serves}
-use Rattle.local_fetch.specs.Local.{FetchesFrom, loop_to, unused}
+use Rattle.local_fetch.specs.Local.{AreWithout, FetchesFrom, loop_to, unused}
 use Rattle.run_law.specs.Plans.{asked_if, step_commands, plan_commands, IsTail, IsFrontOfPlan}
-use Rattle.pop3_server.specs.HonestServer.{IsOfSession, IsAsked, lines_of}
+use Rattle.pop3_server.specs.HonestServer.{IsOfSession, IsAsked, IsClosedByQuit, AreLeft, Gone, lines_of}
 
 all_append : {A : Type 0} (P : A → Type 0) (xs ys : List A) → AllByRecursion P xs → AllByRecursion P ys → AllByRecursion P (xs ++ ys)
 all_append P [] ys first then = then
@@ -70,6 +71,56 @@ pub lines_same : (commands : List Command) → flat_map ended (lines_of commands
 lines_same [] = refl
 lines_same (c ∷ commands) = ap (λ (l : List ℕ). ended (line_of c) ++ l) (lines_same commands)
 
+-- ---- what vanished
+
+later_marked : (message : Message) (mark : Bool) (messages : List Message) (marks : List Bool) (ids : List (List ℕ)) → AllByRecursion (IsMarked messages marks) ids
+    → AllByRecursion (IsMarked (message ∷ messages) (mark ∷ marks)) ids
+later_marked message mark messages marks [] all = tt
+later_marked message mark messages marks (id ∷ ids) all =
+    ((suc all.0.0, all.0.1, all.0.2, all.0.3, all.0.4), later_marked message mark messages marks ids all.1)
+
+-- the ids of the marked messages that are gone
+record Missing (before : List Message) (marks : List Bool) (after : List Message) : Type 0 where
+  ids : List (List ℕ)
+  marked : AllByRecursion (IsMarked before marks) ids
+  left : AreWithout before ids after
+
+missing : (before : List Message) (marks : List Bool) (after : List Message) → AreLeft before marks after → Missing before marks after
+missing [] marks after none = record { ids = []; marked = tt; left = (refl, none) }
+missing (m ∷ before) [] after never = absurd never
+missing (m ∷ before) (mark ∷ marks) after (inl (rest, is, left)) =
+    let more = missing before marks rest left in
+    record { ids = more.ids; marked = later_marked m mark before marks more.ids more.marked; left = inl (rest, is, more.left) }
+missing (m ∷ before) (mark ∷ marks) after (inr (is, left)) =
+    let more = missing before marks after left in
+    record {
+      ids = m.uid ∷ more.ids;
+      marked = ((0, m, ap some is, refl, refl), later_marked m mark before marks more.ids more.marked);
+      left = inr (more.ids, refl, more.left);
+    }
+  where
+    some : Bool → Option Bool
+    some b = Some b
+
+all_left : (messages : List Message) → AreWithout messages [] messages
+all_left [] = (refl, refl)
+all_left (m ∷ messages) = inl (messages, refl, all_left messages)
+
+record Vanishing (before : List Message) (marks : List Bool) (after : List Message) (commands : List Command) : Type 0 where
+  vanished : List (List ℕ)
+  quits : (vanished ≡ []) ⊎ ((front behind : List Command) × (commands ≡ front ++ Quit ∷ behind))
+  marked : AllByRecursion (IsMarked before marks) vanished
+  left : AreWithout before vanished after
+
+vanishing : {M : Type 0} (before : List Message) (marks : List Bool) (after : List Message) (machine : Machine M) (commands : List Command) → Gone before marks machine.state after
+    → IsClosedByQuit machine.state commands
+    → Vanishing before marks after commands
+vanishing before marks after machine commands gone (inl still) =
+    record { vanished = []; quits = inl refl; marked = tt; left = subst (AreWithout before []) (sym (gone.before_quit still)) (all_left before) }
+vanishing before marks after machine commands gone (inr quits) =
+    let more = missing before marks after gone.left in
+    record { vanished = more.ids; quits = inr quits; marked = more.marked; left = more.left }
+
 -- some commands were sent whole, of a plan and a tail
 record Sends (settings : Settings) (sent : List ℕ) : Type 0 where
   steps : List Step
@@ -91,7 +142,14 @@ module _ {M : Type 0} (sound : M → Type 0) (mail : M → Mail) (conversations 
       let all = honesty (loop_to server) loop s.commands s.asked.part is_new serves
       (are_asked (string_bytes settings.username) (string_bytes settings.password) s.steps s.commands said.0 s.front s.asked) s.asked.no_line
       (said.2 ∙ s.asked.whole ∙ ap (λ (l : List ℕ). l ++ s.asked.part) (sym (lines_same s.commands))) sound' messages in
-      record { session = session; marks = all.0; honest = all.1; gone = all.2 }
+      let messages_were = there (mail server.drop).slots in
+      let gone = vanishing messages_were all.0 (there (mail loop.machine.drop).slots) loop.machine all.1.commands all.2 all.3 in
+      record {
+        session = session;
+        vanished = gone.vanished;
+        served = record { marks = all.0; honest = all.1; quits = gone.quits; marked = gone.marked };
+        left = gone.left;
+      }
 
   pub fetches : (settings : Settings) (account : List ℕ) (now : ℕ) (server new : Machine M) (start loop : Loop M) (before : Kept) (report : Report) (after : Kept) → start ≡ loop_to server
       → new ≡ loop.machine → IsNew (loop_to server) → IsValid settings → Serves sound mail start loop → Session settings account now start.link before report loop.link after → sound new.drop

@@ -1,11 +1,11 @@
 -- One session over a server in memory.
-use Rattle.std.specs.Prelude.{ℕ, Bool, false, List, []}
+use Rattle.std.specs.Prelude.{◌≡◌, ◌⊎◌, ℕ, false, List, [], ◌∷◌}
 use Rattle.pop3_wire.specs.Link.{Link}
-use Rattle.pop3_wire.specs.Honest.{Honest}
+use Rattle.pop3_wire.specs.World.{Message}
+use Rattle.run_law.specs.Sessions.{Served}
 use Rattle.rc_file.specs.declared.settings.Settings.{Settings}
 use Rattle.pop3_server.specs.Maildrop.{Mail, there}
 use Rattle.pop3_server.specs.ServerMachine.{Machine, greeting}
-use Rattle.pop3_server.specs.HonestServer.{Gone}
 use Rattle.pop3_server.specs.LoopLink.{Loop}
 use Rattle.fetch_session.specs.declared.report.Report.{Report}
 use Rattle.fetch_session.specs.Sessions.{Kept, Session}
@@ -18,10 +18,16 @@ unused = record { sent = []; got = []; ended = false; failures = 0 }
 abbrev pub loop_to : {D : Type 0} → Machine D → Loop D
 loop_to machine = record { machine = machine; link = unused; answers = []; left = greeting; waiting = []; down = false }
 
--- over a new server's link a session was run; what was got is honest over the maildrop's messages, and of these only
--- marked ones are gone, none while the server is open
+-- these are the messages that were there before, in their order, without those whose ids vanished
+abbrev pub AreWithout : List Message → List (List ℕ) → List Message → Type 0
+AreWithout [] vanished after = (vanished ≡ []) × (after ≡ [])
+AreWithout (m ∷ before) vanished after = ((rest : List Message) × (after ≡ m ∷ rest) × AreWithout before vanished rest)
+    ⊎ ((more : List (List ℕ)) × (vanished ≡ m.uid ∷ more) × AreWithout before more after)
+
+-- over a new server's link a session was run, and it was served as an honest server serves it whose maildrop this is: what
+-- was got is honest, and what vanished was marked, and vanished with a QUIT
 pub record FetchesFrom {M : Type 0} (mail : M → Mail) (settings : Settings) (account : List ℕ) (now : ℕ) (old new : Machine M) (link : Link) (before : Kept) (report : Report) (after : Kept) : Type 0 where
   pub session : Session settings account now unused before report link after
-  pub marks : List Bool
-  pub honest : Honest (there (mail old.drop).slots) link.sent link.got marks
-  pub gone : Gone (there (mail old.drop).slots) marks new.state (there (mail new.drop).slots)
+  pub vanished : List (List ℕ)
+  pub served : Served (there (mail old.drop).slots) link.sent link.got vanished
+  pub left : AreWithout (there (mail old.drop).slots) vanished (there (mail new.drop).slots)

@@ -1,5 +1,5 @@
 -- What a link to a new server gives is honest: the lines that were answered are the first of the commands that were sent.
-use Rattle.std.proofs.Common.{◌≡◌, ◌<◌, ◌^◌, ℕ, Bool, true, List, [], ◌∷◌, ◌++◌, refl, sym, ap, subst, ◌∙◌, arith, append_assoc}
+use Rattle.std.proofs.Common.{◌≡◌, inl, inr, ◌<◌, ◌^◌, ℕ, Bool, true, List, [], ◌∷◌, ◌++◌, refl, sym, ap, subst, ◌∙◌, arith, append_assoc}
 use Rattle.std.specs.Prelude.{codes}
 use Rattle.std.specs.List.{flat_map, AllByRecursion, list_all}
 use Rattle.std.specs.Fmt.{decimal}
@@ -18,13 +18,14 @@ use Rattle.pop3_wire.specs.Honest.{Replies, no_marks}
 use Rattle.pop3_wire.proofs.LineLemmas.{first_line_same}
 use Rattle.pop3_wire.proofs.HonestRows.{is_no_lf, line_without_lf, no_lf_append, no_lf_decimal, all_pass}
 use Rattle.pop3_server.specs.Maildrop.{Mail, there}
-use Rattle.pop3_server.specs.ServerMachine.{greeting}
+use Rattle.pop3_server.specs.ServerMachine.{greeting, is_open}
 use Rattle.pop3_server.specs.AnswersLines.{AnswersLines}
 use Rattle.pop3_wire.specs.CommandLine.{ReadAsWritten}
 use Rattle.pop3_wire.specs.Stuffed.{StuffedIsBody}
-use Rattle.pop3_server.specs.HonestServer.{IsAsked, Gone, lines_of}
+use Rattle.pop3_server.specs.HonestServer.{IsAsked, Gone, IsClosedByQuit, lines_of}
 use Rattle.pop3_server.specs.HonestLoop.{GivesHonest}
 use Rattle.pop3_server.proofs.HonestLemmas.{refused, granted}
+use Rattle.pop3_server.proofs.CloseLemmas.{closed_by_quit}
 use Rattle.pop3_server.proofs.HonestTurns.{answers_honestly, flat_lines, all_sendable, all_numbered}
 
 plain_no_lf : (b : ℕ) → is_plain b ≡ true → is_no_lf b ≡ true
@@ -107,6 +108,11 @@ shuffle hello more lost nos got left e =
     ap (λ (l : List ℕ). hello ++ l) (append_assoc more lost nos) ∙ sym (append_assoc hello more (lost ++ nos))
     ∙ ap (λ (l : List ℕ). l ++ (lost ++ nos)) (sym e) ∙ append_assoc got left (lost ++ nos)
 
+closed_later : (state : State) (first later : List Command) → IsClosedByQuit state first → IsClosedByQuit state (first ++ later)
+closed_later state first later (inl still) = inl still
+closed_later state first later (inr (front, behind, split)) =
+    inr (front, behind ++ later, ap (λ (l : List Command). l ++ later) split ∙ append_assoc front (Quit ∷ behind) later)
+
 pub gives_honest : StuffedIsBody → ReadAsWritten → {D : Type 0} (sound : D → Type 0) (mail : D → Mail) → GivesHonest sound mail
 gives_honest stuffed read sound mail old new commands part fresh serves asked line sent s served =
     let gained : serves.gained ≡ flat_map ended (lines_of commands) ++ part =
@@ -144,4 +150,6 @@ gives_honest stuffed read sound mail old new commands part fresh serves asked li
       },
       subst (λ (st : State). Gone (there (mail old.machine.drop).slots) replied.0 st (there (mail new.machine.drop).slots)) (sym serves.same.state)
           (subst (Gone (there (mail old.machine.drop).slots) replied.0 serves.last.state) (sym (serves.same.unanswered.messages s).1) replied.2),
+      closed_later new.machine.state cut.first cut.later (subst (λ (st : State). IsClosedByQuit st cut.first) (sym serves.same.state)
+          (closed_by_quit read sound mail cut.first old.machine serves.last (serves.more ++ serves.lost) (ap is_open fresh.state) (asked_front cut.first cut.later asked_all) run)),
     )

@@ -2,6 +2,7 @@ pub mod DigestLemmas
 pub mod DistinctLemmas
 pub mod GoneLemmas
 pub mod HonestLemmas
+pub mod CloseLemmas
 pub mod HonestLoopLemmas
 pub mod HonestTurns
 pub mod LeaveLemmas

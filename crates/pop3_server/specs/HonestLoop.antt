@@ -8,7 +8,7 @@ use Rattle.pop3_wire.specs.Honest.{Honest}
 use Rattle.pop3_server.specs.declared.state.State.TheVariants.{Authorization}
 use Rattle.pop3_server.specs.Maildrop.{Mail, there}
 use Rattle.pop3_server.specs.ServerMachine.{greeting}
-use Rattle.pop3_server.specs.HonestServer.{IsAsked, Gone, lines_of}
+use Rattle.pop3_server.specs.HonestServer.{IsAsked, Gone, IsClosedByQuit, lines_of}
 use Rattle.pop3_server.specs.LoopLink.{Loop, Serves}
 
 -- a link to a new server, which was sent nothing yet
@@ -20,11 +20,12 @@ pub record IsNew {D : Type 0} (loop : Loop D) : Type 0 where
   pub left : loop.left ≡ greeting
   pub waiting : loop.waiting ≡ []
 
--- where whole commands of a session and a part of one more were sent, what was got is honest, and what is gone was marked
+-- where whole commands of a session and a part of one more were sent, what was got is honest, what is gone was marked, and QUIT alone closes the server
 abbrev pub GivesHonest : {D : Type 0} → (D → Type 0) → (D → Mail) → Type 0
 GivesHonest {D} sound mail = (old new : Loop D) (commands : List Command) (part : List ℕ)
     → IsNew old → Serves sound mail old new → AllByRecursion IsAsked commands → IsLine part
     → new.link.sent ≡ flat_map ended (lines_of commands) ++ part
     → sound new.machine.drop → AllByRecursion IsMessage (there (mail old.machine.drop).slots)
-    → (marks : List Bool) × Honest (there (mail old.machine.drop).slots) new.link.sent new.link.got marks
+    → (marks : List Bool) × (honest : Honest (there (mail old.machine.drop).slots) new.link.sent new.link.got marks)
     × Gone (there (mail old.machine.drop).slots) marks new.machine.state (there (mail new.machine.drop).slots)
+    × IsClosedByQuit new.machine.state honest.commands

@@ -50,6 +50,10 @@ pub record Gone (before : List Message) (marks : List Bool) (state : State) (aft
   pub left : AreLeft before marks after
   pub before_quit : is_open state ≡ true → after ≡ before
 
+-- the server is open, or QUIT is one of these commands
+abbrev pub IsClosedByQuit : State → List Command → Type 0
+IsClosedByQuit state commands = (is_open state ≡ true) ⊎ ((front behind : List Command) × (commands ≡ front ++ Quit ∷ behind))
+
 -- a new server's greeting and its answers to these commands are an honest conversation over its maildrop's messages,
 -- and what is gone then was marked
 abbrev pub IsHonest : {D : Type 0} → (D → Type 0) → (D → Mail) → Type 0

@@ -16,7 +16,8 @@ pub fn conversations_are_honest<D: Maildrop>()
 }
 
 /// The same of a [`LoopWire`](crate::LoopWire) to a new server, for whole commands of a session and
-/// a part of one more, also where the link went down.
+/// a part of one more, also where the link went down; and the server is open unless QUIT was sent
+/// whole.
 pub fn loops_are_honest<D: Maildrop>()
     ensures { GivesHonest D.sound D.mail }
 {
