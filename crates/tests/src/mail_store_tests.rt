@@ -3,4 +3,5 @@
 mod file;
 mod fuse;
 mod maildir;
+mod mbox;
 pub mod name;
