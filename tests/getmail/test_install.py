@@ -31,7 +31,7 @@ class Install(unittest.TestCase):
         for name in ("man", "completions"):
             shutil.copytree(programs.ROOT / name, self.top / name)
         for name in ("getmail", "popd"):
-            shutil.copy(programs.path_of(name), self.top / "bin")
+            shutil.copy(programs.path_of(name), self.top / "bin" / name)
 
     def make(self, *words):
         """Runs `make`, with what it would build taken as built."""
@@ -82,9 +82,11 @@ class FirstFetch(unittest.TestCase):
         self.top = Path(holder.name)
         self.demo = self.top / "examples" / "demo"
         shutil.copytree(programs.ROOT / "examples" / "demo", self.demo)
+        # As it comes with the repository others may read it, of which popd warns.
+        (self.demo / "password").chmod(0o600)
         (self.top / "bin").mkdir()
         for name in ("getmail", "popd"):
-            shutil.copy(programs.path_of(name), self.top / "bin")
+            shutil.copy(programs.path_of(name), self.top / "bin" / name)
         self.port = kernel.free_port()
         rcfile = self.demo / ".getmail" / "getmailrc"
         rcfile.write_text(rcfile.read_text().replace("port = 1100", f"port = {self.port}"))
