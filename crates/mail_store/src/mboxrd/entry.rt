@@ -49,11 +49,18 @@ pub fn check_mbox<F: FlatFile>(file: &mut F) -> Result<(), StoreFault>
     Ok(())
 }
 
+/// How many bytes the entry of a text takes.
+fn entry_size(text: &[u8]) -> usize
+    ensures { result ≡ length (entry_of text.now) }
+{
+    SEPARATOR.len() + quoted_len(text) + 1
+}
+
 /// The entry of a text.
 fn entry_of(alloc: Global, text: &[u8]) -> Result<Vec<u8>, AllocError>
     ensures { IfOk result (λ entry. entry.items ≡ entry_of text.now) }
 {
-    let mut entry = Vec::with_capacity(alloc, SEPARATOR.len() + quoted_len(text) + 1)?;
+    let mut entry = Vec::with_capacity(alloc, entry_size(text))?;
     entry.extend_from_slice(SEPARATOR)?;
     put_quoted(&mut entry, text)?;
     entry.push(b'\n')?;
@@ -65,7 +72,7 @@ pub fn entry_len(text: &[u8]) -> u64
     requires { IsWhole text.now }
     ensures { result ≡ length (entry_of text.now) }
 {
-    (SEPARATOR.len() + quoted_len(text) + 1) as u64
+    entry_size(text) as u64
 }
 
 /// Puts the entry of a text behind a file, by one `append`. The text is whole, which `is_whole`
