@@ -1,5 +1,6 @@
 pub mod CommandLine
 pub mod Failures
+pub mod Hashing
 pub mod Places
 pub mod Progress
 pub mod Rehearsal
