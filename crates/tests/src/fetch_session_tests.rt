@@ -6,4 +6,4 @@ mod refusal;
 mod reply;
 mod selection;
 mod text;
-mod visit;
+pub mod visit;

@@ -1,5 +1,5 @@
 //! Tests of `pop3_server` over maildrops and links in memory.
 
 mod lock_step;
-mod memory_drop;
+pub mod memory_drop;
 mod serving;

@@ -93,7 +93,8 @@ pub fn nothing_kept(alloc: Global) -> Kept {
     }
 }
 
-fn settings(alloc: Global, options: &str) -> Result<Settings, Fail>
+/// The settings of an account with these options.
+pub fn settings(alloc: Global, options: &str) -> Result<Settings, Fail>
     ensures { IfOk result IsValid }
 {
     let file = format!(in alloc;

@@ -6,7 +6,7 @@ use std::process::Abort;
 use std::test::Fail;
 
 /// A maildrop of these messages, each an id and a text.
-fn maildrop_of(
+pub fn maildrop_of(
     rt: &(impl Abort + AllocGlobal),
     messages: &[(&str, &str)],
 ) -> Result<MemoryDrop, Fail> {
