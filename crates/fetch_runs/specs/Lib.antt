@@ -1,3 +1,4 @@
+pub mod AnyServer
 pub mod Conversations
 pub mod Headline
 pub mod Runs

@@ -1,5 +1,6 @@
 //! Laws over what sessions said and left, for the programs and crates above: a function here does
 //! nothing, and its contract is the law.
+ghost use Rattle.fetch_runs.specs.AnyServer.{AnyServer};
 ghost use Rattle.fetch_runs.specs.Conversations.{SessionsAreConversations};
 ghost use Rattle.fetch_runs.specs.Headline.{EmptyIsKept, Headline, HeadlineFromEmpty};
 ghost use Rattle.fetch_runs.specs.Steps.{SessionIsAStep};
@@ -12,7 +13,8 @@ use fetch_session::{steady_files_keep, unsaved_files_keep};
 use mail_store::flags_tell_what_is_held;
 use pop3_client::conversations_are_paced;
 use run_law::{
-    fronts_are_asked, holds_exactly, kept_states, links_are_visits, starts_kept, told_stores,
+    fronts_are_asked, holds_exactly, kept_states, links_are_visits, sessions_are_safe, starts_kept,
+    told_stores,
 };
 
 /// A law: what a link gains by a session is one conversation by the plan. What was sent is the octets
@@ -45,6 +47,16 @@ pub fn session_is_a_step()
     told_stores();
     conversations_are_paced();
     fronts_are_asked();
+}
+
+/// A law: whatever its server says, a session loses and changes no file of `new` and `cur`, and each
+/// DELE that it began is for a message that was recorded as delivered before, or was held, or whose
+/// text, as it got it, it stored; where the record's file stood for a record.
+pub fn any_server()
+    ensures { AnyServer }
+{
+    session_is_a_step();
+    sessions_are_safe();
 }
 
 /// Where a server's unique-ids are distinct and persistent and its mail unchanged, after any list of

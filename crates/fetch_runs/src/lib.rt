@@ -5,7 +5,7 @@ mod laws;
 mod run;
 
 pub use laws::{
-    empty_account_is_kept, headline, headline_from_empty, session_is_a_step,
+    any_server, empty_account_is_kept, headline, headline_from_empty, session_is_a_step,
     sessions_are_conversations,
 };
 pub use run::{Visit, run_sessions};

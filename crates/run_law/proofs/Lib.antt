@@ -17,3 +17,4 @@ pub mod Planned
 pub mod Chained
 pub mod Tells
 pub mod Fronts
+pub mod Safety

@@ -4,6 +4,7 @@ pub mod Mails
 pub mod Plans
 pub mod Readings
 pub mod Runs
+pub mod Safety
 pub mod Sessions
 pub mod Steps
 pub mod Told

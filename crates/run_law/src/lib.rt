@@ -5,6 +5,7 @@ ghost use Rattle.run_law.specs.Runs.{CanEnd, KeptHoldsExactly, KeptStaysKept, St
 ghost use Rattle.run_law.specs.Readings.{HonestIsGranted, ListingIsMaildrop, MarksAreAsked, TextsAreMessages};
 ghost use Rattle.run_law.specs.Chains.{ChainsKeep};
 ghost use Rattle.run_law.specs.Plans.{FrontsAreAsked, PlanGivesNumbers};
+ghost use Rattle.run_law.specs.Safety.{SessionsAreSafe};
 ghost use Rattle.run_law.specs.Sessions.{LinksAreVisits, LinksKeep};
 ghost use Rattle.run_law.specs.Told.{ToldStores};
 
@@ -82,4 +83,10 @@ pub fn told_stores()
 /// more.
 pub fn fronts_are_asked()
     ensures { FrontsAreAsked }
+{}
+
+/// Whatever its server says, a session loses and changes no file of `new` and `cur`, and begins a DELE
+/// only for a message that was recorded as delivered before, or was held, or whose text it stored.
+pub fn sessions_are_safe()
+    ensures { SessionsAreSafe }
 {}

@@ -1,0 +1,152 @@
+-- No server makes a session lose a text, or delete a message that isn't known.
+use Rattle.std.proofs.Common.{◌≡◌, ◌⊎◌, inl, inr, ◌≤◌, ◌+◌, ℕ, zero, suc, Bool, true, false, cond, not, ◌&&◌, ◌||◌, List, [], ◌∷◌, ◌++◌, map, take, zip, min, length, refl, sym, ap, subst, ◌∙◌, arith}
+use Rattle.std.specs.Prelude.{bytes_eq}
+use Rattle.std.specs.List.{filter, AllByRecursion}
+use Rattle.std.proofs.lemmas.Bool.{or_cases, and_parts, true≢false}
+use Rattle.std.proofs.lemmas.List.{append-nil, length-take}
+use Rattle.mail_terms.specs.Listing.{Item, has_item}
+use Rattle.rc_file.specs.declared.settings.Settings.{Settings}
+use Rattle.fetch_rules.specs.Record.{Row, is_delivered}
+use Rattle.mail_store.specs.Maildir.{Maildir, File, file}
+use Rattle.mail_store.specs.FileName.{name_of, is_held}
+use Rattle.run_law.specs.Mails.{has_id}
+use Rattle.run_law.specs.Accounts.{Account}
+use Rattle.run_law.specs.Steps.{Effect, Leaves, Stores, file_for, is_unheld, ids_wanted, wanted_at, merged_rows}
+use Rattle.run_law.specs.Sessions.{IsBegun}
+use Rattle.pop3_wire.specs.Honest.{Asked}
+use Rattle.pop3_wire.specs.declared.command.Command.{Command}
+use Rattle.pop3_wire.specs.declared.command.Command.TheVariants.{User, Pass, Stat, UidlAll, UidlOne, ListAll, ListOne, Retr, Dele, Rset, Noop, Top, Quit}
+use Rattle.run_law.specs.Safety.{IsAmong, IsKept, DeletesKept, IsSafe, SessionsAreSafe}
+use Rattle.run_law.proofs.Lists.{all_map}
+use Rattle.run_law.proofs.Ids.{bytes_same, all_ids_at}
+use Rattle.run_law.proofs.Records.{delivered_marked, delivered_merged}
+
+-- the files are still there, and each id for which a DELE was begun is kept
+pub record KeepsAll (account : List ℕ) (before : Account) (effect : Effect) (after : Account) : Type 0 where
+  pub gained : List File
+  pub in_new : after.maildir.in_new ≡ before.maildir.in_new ++ gained
+  pub in_cur : after.maildir.in_cur ≡ before.maildir.in_cur
+  pub begun : AllByRecursion (IsKept account before effect gained) effect.begun
+
+behind_one : {X : Type 0} (x y : X) (xs : List X) → IsAmong x xs → IsAmong x (y ∷ xs)
+behind_one x y xs (front, behind, is) = (y ∷ front, behind, ap (λ l. y ∷ l) is)
+
+-- fewer of these ids
+take_fewer : (m n : ℕ) (qs : List (ℕ × Item)) (id : List ℕ) → m ≤ n → has_id (ids_wanted (take m qs)) id ≡ true → has_id (ids_wanted (take n qs)) id ≡ true
+take_fewer zero n qs id less never = absurd (true≢false (sym never))
+take_fewer (suc m) zero qs id less is = let no : ⊥ = omega (arith, less) in absurd no
+take_fewer (suc m) (suc n) [] id less never = absurd (true≢false (sym never))
+take_fewer (suc m) (suc n) (q ∷ qs) id less is =
+    elim (or_cases (bytes_eq id q.1.uid) (has_id (ids_wanted (take m qs)) id) is) [
+      | inl same ↦ ap (λ b. b || has_id (ids_wanted (take n qs)) id) same
+      | inr more ↦ ap (λ b. bytes_eq id q.1.uid || b) (take_fewer m n qs id (omega (arith, less)) more) ∙ or_true (bytes_eq id q.1.uid)
+    ]
+  where
+    or_true : (b : Bool) → (b || true) ≡ true
+    or_true true = refl
+    or_true false = refl
+
+-- the files of texts whose ids aren't held
+abbrev brought : List ℕ → Maildir → List ((ℕ × Item) × List ℕ) → List File
+brought account maildir pairs = map (file_for account) (filter (is_unheld account maildir) pairs)
+
+found : (account : List ℕ) (maildir : Maildir) (qs : List (ℕ × Item)) (texts : List (List ℕ)) (id : List ℕ) → length qs ≤ length texts → has_id (ids_wanted qs) id ≡ true → is_held account maildir id ≡ false
+    → (text : List ℕ) × IsAmong text texts × IsAmong (file (name_of account id) text) (brought account maildir (zip qs texts))
+found account maildir [] texts id less never free = absurd (true≢false (sym never))
+found account maildir (q ∷ qs) [] id less is free = let no : ⊥ = omega (arith, less) in absurd no
+found account maildir (q ∷ qs) (t ∷ ts) id less is free =
+    elim (or_cases (bytes_eq id q.1.uid) (has_id (ids_wanted qs) id) is) [
+      | inl same ↦ (t, ([], ts, refl), first (bytes_same id q.1.uid same) (is_unheld account maildir (q, t)) (ap not (ap (is_held account maildir) (sym (bytes_same id q.1.uid same)) ∙ free)))
+      | inr more ↦ let there = found account maildir qs ts id (omega (arith, less)) more free in (there.0, behind_one there.0 t ts there.1, next there.0 there.2 (is_unheld account maildir (q, t)))
+    ]
+  where
+    later : List ((ℕ × Item) × List ℕ)
+    later = filter (is_unheld account maildir) (zip qs ts)
+
+    first : id ≡ q.1.uid → (b : Bool) → b ≡ true → IsAmong (file (name_of account id) t) (map (file_for account) (cond b ((q, t) ∷ later) later))
+    first same true e = ([], map (file_for account) later, ap (λ (i : List ℕ). file (name_of account i) t ∷ map (file_for account) later) (sym same))
+    first same false e = absurd (true≢false (sym e))
+
+    next : (text : List ℕ) → IsAmong (file (name_of account id) text) (map (file_for account) later) → (b : Bool) → IsAmong (file (name_of account id) text) (map (file_for account) (cond b ((q, t) ∷ later) later))
+    next text there true = behind_one (file (name_of account id) text) (file_for account (q, t)) (map (file_for account) later) there
+    next text there false = there
+
+module _ (settings : Settings) (account : List ℕ) (before : Account) (effect : Effect) (after : Account) (stores : Stores settings account before effect after) where
+  stored_ids : (id : List ℕ) (b : Bool) → is_held account before.maildir id ≡ b → has_id (ids_wanted (take stores.recorded (wanted_at settings account before effect))) id ≡ true
+      → IsKept account before effect (brought account before.maildir (zip (take stores.stored (wanted_at settings account before effect)) effect.texts)) id
+  stored_ids id true held is = inr (inl held)
+  stored_ids id false free is =
+      let size : length (take stores.stored (wanted_at settings account before effect)) ≡ min stores.stored (length (wanted_at settings account before effect)) = length-take stores.stored (wanted_at settings account before effect) in
+      let fetched = stores.fetched in
+      inr (inr (found account before.maildir (take stores.stored (wanted_at settings account before effect)) effect.texts id (omega (arith, size, fetched))
+      (take_fewer stores.recorded stores.stored (wanted_at settings account before effect) id stores.order is) free))
+
+  merged_ids : (id : List ℕ) → is_delivered (merged_rows account before effect) id ≡ true
+      → IsKept account before effect (brought account before.maildir (zip (take stores.stored (wanted_at settings account before effect)) effect.texts)) id
+  merged_ids id is =
+      elim (or_cases (is_delivered before.rows id) (has_item effect.listing id && is_held account before.maildir id) (sym (delivered_merged account before.maildir before.rows effect.listing effect.now id) ∙ is)) [
+        | inl known ↦ inl known
+        | inr held ↦ inr (inl (and_parts (has_item effect.listing id) (is_held account before.maildir id) held).1)
+      ]
+
+  kept_ids : (id : List ℕ) → is_delivered after.rows id ≡ true → IsKept account before effect (brought account before.maildir (zip (take stores.stored (wanted_at settings account before effect)) effect.texts)) id
+  kept_ids id is =
+      elim stores.rows [
+        | inl same ↦ inl (ap (λ (rows : List Row). is_delivered rows id) (sym same) ∙ is)
+        | inr marks ↦
+            elim (delivered_marked (merged_rows account before effect) (ids_wanted (take stores.recorded (wanted_at settings account before effect))) id (ap (λ (rows : List Row). is_delivered rows id) (sym marks) ∙ is)) [
+              | inl known ↦ merged_ids id known
+              | inr stored ↦ stored_ids id (is_held account before.maildir id) refl stored
+            ]
+      ]
+
+  kept_all : KeepsAll account before effect after
+  kept_all = record {
+    gained = brought account before.maildir (zip (take stores.stored (wanted_at settings account before effect)) effect.texts);
+    in_new = stores.in_new;
+    in_cur = stores.in_cur;
+    begun = all_map (λ id. is_delivered after.rows id ≡ true) (IsKept account before effect (brought account before.maildir (zip (take stores.stored (wanted_at settings account before effect)) effect.texts)))
+        kept_ids effect.begun stores.begun;
+  }
+
+kept_none : (account : List ℕ) (before : Account) (effect : Effect) (after : Account) → Leaves before effect after → KeepsAll account before effect after
+kept_none account before effect after leaves = record {
+  gained = [];
+  in_new = leaves.in_new ∙ sym (append-nil before.maildir.in_new);
+  in_cur = leaves.in_cur;
+  begun = subst (λ (ids : List (List ℕ)). AllByRecursion (IsKept account before effect []) ids) (sym leaves.begun) tt;
+}
+
+deletes_kept : (account : List ℕ) (before : Account) (effect : Effect) (after : Account) (keeps : KeepsAll account before effect after) (command : Command)
+    → IsBegun effect.listing effect.begun command → DeletesKept account before effect keeps.gained command
+deletes_kept account before effect after keeps (Dele number) (item, at, is) = (item, at, all_ids_at (IsKept account before effect keeps.gained) effect.begun item.uid keeps.begun is)
+deletes_kept account before effect after keeps (User name) is = tt
+deletes_kept account before effect after keeps (Pass word) is = tt
+deletes_kept account before effect after keeps Stat is = tt
+deletes_kept account before effect after keeps UidlAll is = tt
+deletes_kept account before effect after keeps (UidlOne number) is = tt
+deletes_kept account before effect after keeps ListAll is = tt
+deletes_kept account before effect after keeps (ListOne number) is = tt
+deletes_kept account before effect after keeps (Retr number) is = tt
+deletes_kept account before effect after keeps Rset is = tt
+deletes_kept account before effect after keeps Noop is = tt
+deletes_kept account before effect after keeps (Top number lines) is = tt
+deletes_kept account before effect after keeps Quit is = tt
+
+safe : (account : List ℕ) (before : Account) (sent : List ℕ) (effect : Effect) (after : Account) → KeepsAll account before effect after → (commands : List Command) → Asked commands sent
+    → AllByRecursion (IsBegun effect.listing effect.begun) commands → IsSafe account before sent effect after
+safe account before sent effect after keeps commands asked begun = record {
+  gained = keeps.gained;
+  in_new = keeps.in_new;
+  in_cur = keeps.in_cur;
+  commands = commands;
+  asked = asked;
+  deletes = all_map (IsBegun effect.listing effect.begun) (DeletesKept account before effect keeps.gained) (deletes_kept account before effect after keeps) commands begun;
+}
+
+pub sessions_are_safe : SessionsAreSafe
+sessions_are_safe settings account before sent got effect after session =
+    elim session.step [
+      | inl leaves ↦ safe account before sent effect after (kept_none account before effect after leaves) session.commands session.asked session.begun
+      | inr (stores, reads) ↦ safe account before sent effect after (kept_all settings account before effect after stores) session.commands session.asked session.begun
+    ]
