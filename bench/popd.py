@@ -125,7 +125,9 @@ def make_maildir(folder, count, octets):
     maildir = Path(folder) / f"Maildir-{count}"
     for part in ("tmp", "new", "cur"):
         (maildir / part).mkdir(parents=True)
-    (Path(folder) / "password").write_bytes(b"p\n")
+    password = Path(folder) / "password"
+    password.write_bytes(b"p\n")
+    password.chmod(0o600)
     for number in range(count):
         (maildir / "new" / f"{number:06}").write_bytes(LETTER_HEAD + LETTER_LINE * (octets // len(LETTER_LINE)))
     return maildir

@@ -150,10 +150,10 @@ module _ (stuffed : StuffedIsBody) (read : ReadAsWritten) where
       let drop = (known s).1 in
       let message = served_at ms (k - 1) m served.served at.there in
       let same : drop.1.0 ≡ m = text_at ms (k - 1) m drop.1.0 at.there (subst (λ (slots : List (Option Message)). slice_get slots (k - 1) ≡ Some (Some drop.1.0)) rows.0 drop.1.1) in
-      let words : text ≡ m.text = drop.1.2 ∙ ap (λ (x : Message). x.text) same in
+      let words : stuffed_lines (lines_of_text text) ≡ stuffed_lines (lines_of_text m.text) = drop.1.2 ∙ ap (λ (x : Message). stuffed_lines (lines_of_text x.text)) same in
       let size : m.size < 2 ^ 64 = (let w : m.size ≤ 134217728 = message.within in omega arith) in
       let none : list_all is_no_lf ((32 ∷ decimal m.size) ++ codes " octets") ≡ true = no_lf_append (32 ∷ decimal m.size) (codes " octets") (no_lf_append (32 ∷ []) (decimal m.size) refl (no_lf_decimal m.size size)) refl in
-      let body : Body (stuffed_lines (lines_of_text text)) m.text = subst (λ (t : List ℕ). Body (stuffed_lines (lines_of_text t)) m.text) (sym words)
+      let body : Body (stuffed_lines (lines_of_text text)) m.text = subst (λ (b : List ℕ). Body b m.text) (sym words)
       (subst (Body (stuffed_lines (lines_of_text m.text))) message.is_message.ended (stuffed m.text)) in (
         marks,
         inr (

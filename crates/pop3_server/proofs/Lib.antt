@@ -16,4 +16,5 @@ pub mod ServeIntakeLemmas
 pub mod ServeLemmas
 pub mod SizeLemmas
 pub mod SlotLemmas
+pub mod TextPartLemmas
 pub mod TextPieceLemmas

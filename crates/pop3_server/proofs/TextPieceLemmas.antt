@@ -1,7 +1,14 @@
 -- Pieces of a text, cut at their first LF.
-use Rattle.std.proofs.Common.{◌≡◌, ◌≢◌, ◌==◌, ℕ, Bool, true, false, not, List, [], ◌∷◌, ◌++◌, length, refl, arith, inl, inr}
+use Rattle.std.proofs.Common.{◌≡◌, ◌≢◌, ◌==◌, ℕ, suc, Bool, true, false, not, List, [], ◌∷◌, ◌++◌, length, refl, sym, ap, ◌∙◌, append_assoc, arith, inl, inr, if◌then◌else◌}
+use Rattle.std.specs.List.{flat_map, onto_first}
 use Rattle.std.proofs.lemmas.Bool.Decides.{eqb_tells}
-use Rattle.pop3_server.specs.TextPiece.{HasNoEnd, is_open_after}
+use Rattle.mail_terms.specs.Text.{lines_of_text}
+use Rattle.pop3_wire.specs.Line.{crlf, ended}
+use Rattle.pop3_wire.specs.Body.{dot}
+use Rattle.pop3_wire.specs.Stuffed.{sent_line, stuffed_lines}
+use Rattle.pop3_server.specs.ServerMachine.{top_from}
+use Rattle.pop3_server.specs.TextPiece.{HasNoEnd, HoldsTop, is_open_after, sent_end, sent_piece, stuffing}
+use Rattle.pop3_server.proofs.ReplyLemmas.{top_from-none}
 
 -- two pieces, one behind the other
 pub open_append : (in_line : Bool) (one two : List ℕ) → is_open_after in_line (one ++ two) ≡ is_open_after (is_open_after in_line one) two
@@ -32,3 +39,136 @@ open_some in_line (byte ∷ rest) none some = open_rest in_line byte rest none
 pub none_of : (rest : List ℕ) → length rest ≡ 0 → rest ≡ []
 none_of [] zero = refl
 none_of (byte ∷ rest) zero = absurd (omega (arith, zero))
+
+-- ---- what pieces add to a body
+
+sent_on : (line after : List ℕ) → HasNoEnd line → sent_piece true (line ++ 10 ∷ after) ≡ line ++ (crlf ++ sent_piece false after)
+sent_on [] after none = refl
+sent_on (byte ∷ line) after none = elim (eqb_tells byte 10) [
+  | inl p ↦ absurd (none.0 p.1)
+  | inr p ↦ rw p.0 (ap (λ (l : List ℕ). byte ∷ l) (sent_on line after none.1))
+]
+
+sent_on_rest : (rest : List ℕ) → HasNoEnd rest → sent_piece true rest ≡ rest
+sent_on_rest [] none = refl
+sent_on_rest (byte ∷ rest) none = elim (eqb_tells byte 10) [
+  | inl p ↦ absurd (none.0 p.1)
+  | inr p ↦ rw p.0 (ap (λ (l : List ℕ). byte ∷ l) (sent_on_rest rest none.1))
+]
+
+-- a line and its end
+pub sent_line_more : (in_line : Bool) (line after : List ℕ) → HasNoEnd line
+    → sent_piece in_line (line ++ 10 ∷ after) ≡ ((stuffing in_line line ++ line) ++ crlf) ++ sent_piece false after
+sent_line_more in_line [] after none = refl
+sent_line_more in_line (byte ∷ line) after none = elim (eqb_tells byte 10) [
+  | inl p ↦ absurd (none.0 p.1)
+  | inr p ↦ rw p.0 (
+      let start = stuffing in_line (byte ∷ []) in
+      ap (λ (l : List ℕ). (start ++ byte ∷ []) ++ l) (sent_on line after none.1)
+      ∙ append_assoc start (byte ∷ []) (line ++ (crlf ++ sent_piece false after))
+      ∙ sym (append_assoc (start ++ byte ∷ line) crlf (sent_piece false after) ∙ append_assoc start (byte ∷ line) (crlf ++ sent_piece false after))
+      )
+]
+
+-- octets without LF
+pub sent_rest : (in_line : Bool) (rest : List ℕ) → HasNoEnd rest → sent_piece in_line rest ≡ stuffing in_line rest ++ rest
+sent_rest in_line [] none = refl
+sent_rest in_line (byte ∷ rest) none = elim (eqb_tells byte 10) [
+  | inl p ↦ absurd (none.0 p.1)
+  | inr p ↦ rw p.0 (
+      let start = stuffing in_line (byte ∷ []) in
+      ap (λ (l : List ℕ). (start ++ byte ∷ []) ++ l) (sent_on_rest rest none.1) ∙ append_assoc start (byte ∷ []) rest
+      )
+]
+
+-- two pieces, one behind the other
+pub sent_append : (in_line : Bool) (one two : List ℕ) → sent_piece in_line (one ++ two) ≡ sent_piece in_line one ++ sent_piece (is_open_after in_line one) two
+sent_append in_line [] two = refl
+sent_append in_line (byte ∷ one) two =
+    let first = if byte == 10 then crlf else stuffing in_line (byte ∷ []) ++ byte ∷ [] in
+    ap (λ (l : List ℕ). first ++ l) (sent_append (not (byte == 10)) one two)
+    ∙ sym (append_assoc first (sent_piece (not (byte == 10)) one) (sent_piece (is_open_after (not (byte == 10)) one) two))
+
+-- ---- the body of a whole text
+
+-- the octets of lines, the first of which has begun
+abbrev go_on : List (List ℕ) → List ℕ
+go_on [] = crlf
+go_on (line ∷ lines) = ended line ++ flat_map sent_line lines
+
+go_on_first : (byte : ℕ) (lines : List (List ℕ)) → go_on (onto_first byte lines) ≡ byte ∷ go_on lines
+go_on_first byte [] = refl
+go_on_first byte (line ∷ lines) = refl
+
+sent_first : (byte : ℕ) (lines : List (List ℕ)) → flat_map sent_line (onto_first byte lines) ≡ stuffing false (byte ∷ []) ++ byte ∷ go_on lines
+sent_first byte [] = elim (eqb_tells byte 46) [
+  | inl p ↦ rw p.0 refl
+  | inr p ↦ rw p.0 refl
+]
+sent_first byte (line ∷ lines) = elim (eqb_tells byte 46) [
+  | inl p ↦ rw p.0 refl
+  | inr p ↦ rw p.0 refl
+]
+
+-- what is still to come, by whether a line is open
+abbrev lines_left : Bool → List (List ℕ) → List ℕ
+lines_left true lines = go_on lines
+lines_left false lines = flat_map sent_line lines
+
+closed : (in_line : Bool) (text : List ℕ) → sent_piece in_line text ++ (if is_open_after in_line text then crlf else []) ≡ lines_left in_line (lines_of_text text)
+closed true [] = refl
+closed false [] = refl
+closed true (byte ∷ text) = elim (eqb_tells byte 10) [
+  | inl p ↦ rw p.0 (ap (λ (l : List ℕ). crlf ++ l) (closed false text))
+  | inr p ↦ rw p.0 (ap (λ (l : List ℕ). byte ∷ l) (closed true text) ∙ sym (go_on_first byte (lines_of_text text)))
+]
+closed false (byte ∷ text) = elim (eqb_tells byte 10) [
+  | inl p ↦ rw p.0 (ap (λ (l : List ℕ). crlf ++ l) (closed false text))
+  | inr p ↦ rw p.0 (
+      let start = stuffing false (byte ∷ []) in
+      append_assoc (start ++ byte ∷ []) (sent_piece true text) (if is_open_after true text then crlf else [])
+      ∙ ap (λ (l : List ℕ). (start ++ byte ∷ []) ++ l) (closed true text)
+      ∙ append_assoc start (byte ∷ []) (go_on (lines_of_text text)) ∙ sym (sent_first byte (lines_of_text text))
+      )
+]
+
+-- all pieces of a text and the end of its body
+pub sent_whole : (text : List ℕ) → sent_piece false text ++ sent_end (is_open_after false text) ≡ stuffed_lines (lines_of_text text)
+sent_whole text =
+    sym (append_assoc (sent_piece false text) (if is_open_after false text then crlf else []) (ended dot))
+    ∙ ap (λ (l : List ℕ). l ++ ended dot) (closed false text)
+
+-- ---- the top of a text by its beginning
+
+pub first_line : (line after : List ℕ) → HasNoEnd line → lines_of_text (line ++ 10 ∷ after) ≡ line ∷ lines_of_text after
+first_line [] after none = refl
+first_line (byte ∷ line) after none = elim (eqb_tells byte 10) [
+  | inl p ↦ absurd (none.0 p.1)
+  | inr p ↦ rw (p.0, first_line line after none.1) refl
+]
+
+-- with one line in front
+pub holds_more : (n : ℕ) (text line after : List ℕ) → HasNoEnd line → text ≡ line ++ 10 ∷ after → HoldsTop (not (length line == 0)) n after → HoldsTop true n text
+holds_more n text line after none is holds more =
+    ap (λ (t : List ℕ). top_from true n (lines_of_text (t ++ more))) is
+    ∙ ap (λ (t : List ℕ). top_from true n (lines_of_text t)) (append_assoc line (10 ∷ after) more)
+    ∙ ap (top_from true n) (first_line line (after ++ more) none)
+    ∙ ap (λ (l : List (List ℕ)). line ∷ l) (holds more)
+    ∙ sym (ap (λ (t : List ℕ). top_from true n (lines_of_text t)) is ∙ ap (top_from true n) (first_line line after none))
+
+pub counts_more : (n : ℕ) (text line after : List ℕ) → HasNoEnd line → text ≡ line ++ 10 ∷ after → HoldsTop false n after → HoldsTop false (suc n) text
+counts_more n text line after none is holds more =
+    ap (λ (t : List ℕ). top_from false (suc n) (lines_of_text (t ++ more))) is
+    ∙ ap (λ (t : List ℕ). top_from false (suc n) (lines_of_text t)) (append_assoc line (10 ∷ after) more)
+    ∙ ap (top_from false (suc n)) (first_line line (after ++ more) none)
+    ∙ ap (λ (l : List (List ℕ)). line ∷ l) (holds more)
+    ∙ sym (ap (λ (t : List ℕ). top_from false (suc n) (lines_of_text t)) is ∙ ap (top_from false (suc n)) (first_line line after none))
+
+pub counts_none : (text : List ℕ) → HoldsTop false 0 text
+counts_none text more = top_from-none (lines_of_text (text ++ more)) ∙ sym (top_from-none (lines_of_text text))
+
+-- ---- what was put behind what stood
+
+pub regroup : (before start line end after : List ℕ) → (((before ++ start) ++ line) ++ end) ++ after ≡ before ++ (((start ++ line) ++ end) ++ after)
+regroup [] start line end after = refl
+regroup (byte ∷ before) start line end after = ap (λ (l : List ℕ). byte ∷ l) (regroup before start line end after)

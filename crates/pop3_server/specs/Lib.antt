@@ -11,4 +11,5 @@ pub mod Removal
 pub mod ServerMachine
 pub mod Serving
 pub mod Size
+pub mod TextPart
 pub mod TextPiece

@@ -1,5 +1,5 @@
 -- A maildrop: what is known of it, and what each call does to it.
-use Rattle.std.specs.Prelude.{◌≡◌, ◌⊎◌, ℕ, ◌+◌, Bool, true, false, List, [], ◌∷◌, map, Option, Some, None, Result, Ok, Err, Vec, slice_get, slice_set}
+use Rattle.std.specs.Prelude.{◌≡◌, ◌⊎◌, ◌≤◌, ℕ, ◌+◌, length, take, drop, Bool, true, false, List, [], ◌∷◌, map, Option, Some, None, Result, Ok, Err, Vec, slice_get, slice_set}
 use Rattle.mail_terms.specs.FailureCount.{counted_up}
 use Rattle.pop3_wire.specs.World.{Message}
 use Rattle.pop3_server.specs.declared.maildrop.DropFault.{DropFault}
@@ -70,6 +70,14 @@ abbrev pub Gives : {Z : Type 0} → Mail → ℕ → Result (Vec ℕ Z) DropFaul
 Gives old i (Ok text) new =
     (new ≡ old) × ((message : Message) × (slice_get old.slots i ≡ Some (Some message)) × (text.items ≡ message.text))
 Gives old i (Err fault) new = Denies old fault new
+
+-- so many octets of the text of the message at a place, from `start` on, stand in front of a piece; none only where none
+-- are left
+abbrev pub GivesPart : Mail → ℕ → ℕ → Result ℕ DropFault → List ℕ → Mail → Type 0
+GivesPart old i start (Ok n) piece new =
+    (new ≡ old) × ((message : Message) × (slice_get old.slots i ≡ Some (Some message))
+    × (take n piece ≡ take n (drop start message.text)) × (n ≡ 0 → length message.text ≤ start))
+GivesPart old i start (Err fault) piece new = Denies old fault new
 
 -- the message at a place was removed; after a refusal it may be there or not
 abbrev pub Removes : Mail → ℕ → Result (Unit {0}) DropFault → Mail → Type 0

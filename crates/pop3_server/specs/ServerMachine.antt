@@ -214,7 +214,7 @@ GivesText sound mail i line top old answer new =
     × Known sound mail old new (λ before after. after ≡ refusing before))
     ⊎ ((text : List ℕ) × (answer ≡ line ++ text_body top text)
     × Known sound mail old new (λ before after. (after ≡ before)
-    × ((message : Message) × (slice_get before.slots i ≡ Some (Some message)) × (text ≡ message.text))))
+    × ((message : Message) × (slice_get before.slots i ≡ Some (Some message)) × (text_body top text ≡ text_body top message.text))))
 
 -- the marked messages were removed, all of them or not
 abbrev pub RemovesMarked : {D : Type 0} → (D → Type 0) → (D → Mail) → List MessageRow → D → List ℕ → D → Type 0

@@ -11,10 +11,11 @@ ghost use Rattle.pop3_server.specs.ServerMachine.{Say, Open, Leave, Answers, Sam
 use crate::fault::ServerFault;
 use crate::maildrop::{DropFault, Maildrop};
 use crate::reply::{
-    say, say_count, say_left, say_size, say_sizes, say_text, say_top, say_uid, say_uids,
+    begin_text, say, say_count, say_left, say_size, say_sizes, say_top, say_uid, say_uids,
 };
 use crate::rows::{MessageRow, Rows};
 use crate::state::State;
+use crate::text_part::{put_text, read_top};
 use pop3_wire::{Bytes, Command};
 use std::alloc::Global;
 
@@ -54,8 +55,9 @@ fn retr<D: Maildrop>(
         return Ok(say(alloc, b"-ERR no such message")?);
     };
     let unavailable = say(alloc, b"-ERR message unavailable")?;
-    match drop.text(i) {
-        Ok(text) => say_text(alloc, rows.row(i), text.as_slice()),
+    let mut reply = begin_text(alloc, rows.row(i))?;
+    match put_text(drop, i, &mut reply) {
+        Ok(()) => Ok(reply),
         Err(DropFault::NoMemory) => Err(ServerFault::NoMemory),
         Err(DropFault::Refused) => Ok(unavailable),
     }
@@ -78,8 +80,8 @@ fn top<D: Maildrop>(
         return Ok(say(alloc, b"-ERR no such message")?);
     };
     let unavailable = say(alloc, b"-ERR message unavailable")?;
-    match drop.text(i) {
-        Ok(text) => say_top(alloc, count, text.as_slice()),
+    match read_top(alloc, drop, i, count) {
+        Ok(beginning) => say_top(alloc, count, beginning.as_slice()),
         Err(DropFault::NoMemory) => Err(ServerFault::NoMemory),
         Err(DropFault::Refused) => Ok(unavailable),
     }

@@ -18,7 +18,9 @@ mod server;
 mod serving;
 mod size;
 mod state;
+mod stuffer;
 mod text_line;
+mod text_part;
 
 pub use fault::ServerFault;
 pub use honesty::{conversations_are_honest, loops_are_honest};

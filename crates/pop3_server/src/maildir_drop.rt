@@ -1,7 +1,7 @@
 //! A Maildir in a real folder as a maildrop. Its files are listed as they lie in `cur` and `new`,
 //! those whose names begin with a full stop left out (the Maildir format: a name up to its first
 //! colon stays, and flags follow).
-ghost use Rattle.std.specs.Prelude.{◌≡◌, ◌≤◌, map, vec_len, IfOk, IfErr, []};
+ghost use Rattle.std.specs.Prelude.{◌≡◌, ◌≤◌, length, map, vec_len, IfOk, IfErr, []};
 ghost use Rattle.std.specs.String.{string_bytes};
 ghost use Rattle.mail_terms.specs.Distinct.{AreDistinct};
 ghost use Rattle.mail_terms.specs.FailureCount.{Tallies, counted_up, refuses};
@@ -15,7 +15,8 @@ use mail_terms::{FailureCount, base};
 use std::alloc::{AllocError, AllocFailed};
 use std::collections::BTreeSet;
 use std::fs;
-use std::io::{self, ErrorKind, Read};
+use std::fs::OpenFile;
+use std::io::{self, ErrorKind, Read, Seek, SeekFrom};
 use std::marker::Model;
 use std::rt::Files;
 
@@ -30,8 +31,18 @@ pub struct MaildirDrop<'a, R: Files + AllocGlobal + Clone + Drop> {
     counted: Vec<ListedFile>,
     /// The path of the file that couldn't be read, where that refused the last listing.
     unread: Option<String>,
+    /// The file of which a part was given last.
+    open: Option<OpenText<R::File>>,
     failures: FailureCount,
     removals: u64,
+}
+
+/// A message's file that is read in parts: the message's place, and how many octets were read.
+#[derive(Drop)]
+struct OpenText<F: Drop> {
+    place: usize,
+    read: usize,
+    file: F,
 }
 
 impl<'a, R: Files + AllocGlobal + Clone + Drop> Model for MaildirDrop<'a, R> {
@@ -95,6 +106,7 @@ impl<'a, R: Files + AllocGlobal + Clone + Drop> MaildirDrop<'a, R> {
             files: Vec::new(rt.alloc()),
             counted: Vec::new(rt.alloc()),
             unread: None,
+            open: None,
             failures: FailureCount::new(),
             removals: 0,
         }
@@ -282,6 +294,47 @@ impl<'a, R: Files + AllocGlobal + Clone + Drop> MaildirDrop<'a, R> {
         Ok(text)
     }
 
+    /// Opens the file at a place of the last listing, to be read from the octet `start` on.
+    fn open_text(&self, i: usize, start: usize) -> io::Result<OpenText<R::File>> {
+        let Some(listed) = self.files.get(i) else {
+            return Err(ErrorKind::NotFound.into());
+        };
+        let path = self.path_of(listed.folder, listed.name.as_str())?;
+        let mut file = fs::open(self.rt, path.as_str())?;
+        if start > 0 {
+            file.seek(SeekFrom::Start(start as u64))?;
+        }
+        Ok(OpenText {
+            place: i,
+            read: start,
+            file,
+        })
+    }
+
+    /// Reads a part of the file at a place. The file stays open until its end was read, so that it is
+    /// the same one from the first part on.
+    fn read_part(&mut self, i: usize, start: usize, piece: &mut [u8]) -> io::Result<usize>
+        ensures same { self.new ≡ self.old }
+        ensures within { IfOk result (λ n. n ≤ length piece.new) }
+    {
+        let mut text = match self.open.take() {
+            Some(open) => {
+                if start > 0 && open.place == i && open.read == start {
+                    open
+                } else {
+                    self.open_text(i, start)?
+                }
+            }
+            None => self.open_text(i, start)?,
+        };
+        let n = text.file.read(piece)?;
+        if n > 0 {
+            text.read = text.read.saturating_add(n);
+            self.open = Some(text);
+        }
+        Ok(n)
+    }
+
     /// Removes the file at a place of the last listing.
     fn remove_file(&self, i: usize) -> io::Result<()> {
         match self.files.get(i) {
@@ -345,6 +398,20 @@ impl<'a, R: Files + AllocGlobal + Clone + Drop> Maildrop for MaildirDrop<'a, R> 
         }
         match self.read_file(i) {
             Ok(text) => Ok(text),
+            Err(error) => Err(self.refuse(error)),
+        }
+    }
+
+    fn part(&mut self, i: usize, start: usize, piece: &mut [u8]) -> Result<usize, DropFault>
+        ensures within { IfOk result (λ n. n ≤ length piece.new) }
+        ensures tally { Tallies (refuses is_refusal result) self.old.failures self.new.failures }
+        ensures others { self.new ≡ record self.old { failures = self.new.failures } }
+    {
+        if self.failures.is_full() {
+            return Err(DropFault::Refused);
+        }
+        match self.read_part(i, start, piece) {
+            Ok(n) => Ok(n),
             Err(error) => Err(self.refuse(error)),
         }
     }

@@ -1,5 +1,5 @@
 //! A maildrop in memory.
-ghost use Rattle.std.specs.Prelude.{◌≡◌, ◌≤◌, ◌<◌, ◌∷◌, [], ◌++◌, ◌↔◌, ◌==◌, IsTrue, IfOk, IfErr, OnErr, IsOk, map, length, vec_len, Some};
+ghost use Rattle.std.specs.Prelude.{◌≡◌, ◌≤◌, ◌<◌, ◌∷◌, [], ◌++◌, ◌↔◌, ◌==◌, IsTrue, IfOk, IfErr, OnErr, IsOk, map, length, take, drop, vec_len, Some};
 ghost use Rattle.std.specs.List.{Contains};
 ghost use Rattle.mail_terms.specs.UniqueId.{is_legal_id};
 ghost use Rattle.pop3_wire.specs.World.{Message};
@@ -62,6 +62,28 @@ impl Kept {
         ensures { IsTrue result ↔ (self.now.uid ≡ uid.now) }
     {
         self.entry.uid() == uid
+    }
+
+    /// Puts its text from the octet `start` on into a piece, as much as there is room for, and says how
+    /// much that is.
+    fn put_part(&self, start: usize, piece: &mut [u8]) -> usize
+        requires { 0 < length piece.old }
+        ensures within { result ≤ length piece.new }
+        ensures part { take result piece.new ≡ take result (drop start self.now.text) }
+        ensures none { result ≡ 0 → length self.now.text ≤ start }
+    {
+        let text = self.text.as_slice();
+        if start >= text.len() {
+            return 0;
+        }
+        let rest = &text[start..];
+        let n = if rest.len() < piece.len() {
+            rest.len()
+        } else {
+            piece.len()
+        };
+        piece[..n].copy_from_slice(&rest[..n]);
+        n
     }
 
     /// Its text.
@@ -215,6 +237,13 @@ impl Maildrop for MemoryDrop {
     fn text(&mut self, i: usize) -> Result<Vec<u8>, DropFault> {
         match self.slots.get(i) {
             Some(Some(kept)) => Ok(kept.copied(self.alloc)?),
+            _ => unreachable!(),
+        }
+    }
+
+    fn part(&mut self, i: usize, start: usize, piece: &mut [u8]) -> Result<usize, DropFault> {
+        match self.slots.get(i) {
+            Some(Some(kept)) => Ok(kept.put_part(start, piece)),
             _ => unreachable!(),
         }
     }

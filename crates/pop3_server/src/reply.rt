@@ -10,7 +10,7 @@ use crate::fault::ServerFault;
 use crate::maildrop::MAX_COUNT;
 use crate::rows::{MessageRow, left};
 use mail_terms::cut_text;
-use pop3_wire::{put_body, put_line};
+use pop3_wire::put_line;
 use std::alloc::Global;
 
 /// One line.
@@ -129,19 +129,16 @@ pub fn say_uids(alloc: Global, rows: &[MessageRow]) -> Result<Vec<u8>, ServerFau
     Ok(reply)
 }
 
-/// A text behind the line with its size, in answer to RETR.
-pub fn say_text(alloc: Global, row: &MessageRow, text: &[u8]) -> Result<Vec<u8>, ServerFault>
-    ensures ok { IfOk result (λ reply. reply.items ≡ said (octets_line row.now) ++ text_body None text.now) }
+/// The line with a message's size, in answer to RETR, and room for its text behind it.
+pub fn begin_text(alloc: Global, row: &MessageRow) -> Result<Vec<u8>, ServerFault>
+    ensures ok { IfOk result (λ reply. reply.items ≡ said (octets_line row.now)) }
     ensures err { IfErr result (λ e. e ≡ ServerFault.NoMemory) }
 {
     let size = row.entry.size();
     let mut reply = format!(in alloc; "+OK {size} octets\r\n")?.into_bytes();
     // The size counts all that is sent but dots that are stuffed in and the end mark.
     reply.reserve(size as usize + b".\r\n".len())?;
-    match put_body(&mut reply, text) {
-        Ok(()) => Ok(reply),
-        Err(_) => Err(ServerFault::NoMemory),
-    }
+    Ok(reply)
 }
 
 /// Puts the lines of a text up to and including its first empty one behind what stands there, and

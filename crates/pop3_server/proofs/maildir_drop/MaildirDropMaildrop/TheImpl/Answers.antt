@@ -19,6 +19,14 @@ text-tells g c = record {
   gives = λ sound. absurd sound;
 }
 
+pub part-tells : goal.part-tells
+part-tells g c = record {
+  within = c.ensures.within;
+  tally = c.ensures.tally;
+  removes_none = ap (λ (maildir : RealMaildir). maildir.removals) c.ensures.others;
+  gives = λ sound. absurd sound;
+}
+
 pub remove-tells : goal.remove-tells
 remove-tells g c = record {
   err = c.ensures.err;

@@ -1,0 +1,67 @@
+//! The body of a text that comes piece by piece, dot-stuffed (RFC 1939, section 3).
+ghost use Rattle.std.specs.Prelude.{◌≡◌, ◌++◌, false, IfOk};
+ghost use Rattle.pop3_server.specs.TextPiece.{is_open_after, sent_end, sent_piece, stuffing};
+
+use crate::text_line::cut_line;
+use std::alloc::AllocError;
+
+/// How far the body of a text has come.
+#[derive(Clone, Copy)]
+pub struct Stuffer {
+    in_line: bool,
+}
+
+impl Stuffer {
+    /// Nothing has come yet.
+    pub fn new() -> Stuffer
+        ensures { result.in_line ≡ false }
+    {
+        Stuffer { in_line: false }
+    }
+
+    /// Puts what stands in front of some octets of a line.
+    fn put_stuffing(self, body: &mut Vec<u8>, octets: &[u8]) -> Result<(), AllocError>
+        ensures { IfOk result (λ _. body.new.items ≡ body.old.items ++ stuffing self.in_line octets.now) }
+    {
+        if self.in_line {
+            return Ok(());
+        }
+        if let [b'.', ..] = octets {
+            body.push(b'.')?;
+        }
+        Ok(())
+    }
+
+    /// Puts what a piece of the text adds behind what stands in its body.
+    pub fn put(&mut self, body: &mut Vec<u8>, piece: &[u8]) -> Result<(), AllocError>
+        ensures body { IfOk result (λ _. body.new.items ≡ body.old.items ++ sent_piece self.old.in_line piece.now) }
+        ensures in_line { IfOk result (λ _. self.new.in_line ≡ is_open_after self.old.in_line piece.now) }
+    {
+        let mut rest = piece;
+        while let Some((line, after)) = cut_line(rest) {
+            self.put_stuffing(body, line)?;
+            body.extend_from_slice(line)?;
+            body.extend_from_slice(b"\r\n")?;
+            self.in_line = false;
+            rest = after;
+        }
+        if rest.is_empty() {
+            return Ok(());
+        }
+        self.put_stuffing(body, rest)?;
+        body.extend_from_slice(rest)?;
+        self.in_line = true;
+        Ok(())
+    }
+
+    /// Ends the body: the text's last line, where it has no LF, and the end mark.
+    pub fn end(self, body: &mut Vec<u8>) -> Result<(), AllocError>
+        ensures { IfOk result (λ _. body.new.items ≡ body.old.items ++ sent_end self.in_line) }
+    {
+        if self.in_line {
+            body.extend_from_slice(b"\r\n")?;
+        }
+        body.extend_from_slice(b".\r\n")?;
+        Ok(())
+    }
+}
