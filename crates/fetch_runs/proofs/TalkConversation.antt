@@ -33,8 +33,8 @@ use Rattle.fetch_session.specs.Tasks.{Task, Done, turns_in, tasks_of, turns_of, 
 use Rattle.fetch_session.specs.Tails.{tail, Left, turns_in as tail_turns}
 use Rattle.fetch_session.specs.Scenes.{Scene, scene, Went, Stops, Does}
 use Rattle.fetch_session.specs.Plans.{tasks_ahead, Carried, Carries}
-use Rattle.fetch_session.specs.Sessions.{Kept, Noted, Dealt, Proceeds, Leaves, outcome_of}
-use Rattle.fetch_runs.specs.Conversations.{Conversation, Converses, plan_turns, tail_behind, retrieved_by, Counts, Opens, SpeaksByPlan, SessionsAreConversations}
+use Rattle.fetch_session.specs.Sessions.{Kept, Noted, Dealt, Proceeds, LeavesLink, outcome_of}
+use Rattle.fetch_runs.specs.Conversations.{Conversation, Converses, plan_turns, tail_behind, retrieved_by, CountsTexts, Opens, SpeaksByPlan, SessionsAreConversations}
 use Rattle.fetch_runs.proofs.Courses.{Course, stored_done, course_stopped, course_does, course_carried, course_carries, course_dealt, begun_of}
 use Rattle.fetch_runs.proofs.TalkCommands.{commands_in, CanBeSaid, Commanded, commanded, all_append, all_front, all_back}
 use Rattle.fetch_runs.proofs.TalkReplies.{IsPlain}
@@ -85,7 +85,7 @@ retrieved_open name word turns =
     omega (arith, both, none)
 
 counts : (name word : List ℕ) (taken : List Done) (done begun : List Turn) (count : ℕ) → retrieved_by (turns_of taken) ≡ count
-    → (done ≡ turns_of taken) ⊎ ((number : ℕ) × (done ≡ turns_of taken ++ retr number ∷ []) × (begun ≡ [])) → Counts (opening name word ++ done) begun count
+    → (done ≡ turns_of taken) ⊎ ((number : ℕ) × (done ≡ turns_of taken ++ retr number ∷ []) × (begun ≡ [])) → CountsTexts (opening name word ++ done) begun count
 counts name word taken done begun count is (inl same) = inl (retrieved_open name word done ∙ ap retrieved_by same ∙ is)
 counts name word taken done begun count is (inr (number, same, none)) =
     inr (
@@ -186,7 +186,7 @@ module _ (paced : ConversationsArePaced) (law : FrontsAreAsked) (settings : Sett
       number = sym (taken_same c.taken (all_front IsPlain (tasks_of c.taken) c.under plain) by.took.each) ∙ ap (λ (l : List ReportLine). count_by is_taken l) (sym noted) ∙ sym retrieved
 
   dealt : (result : Result (Unit {0}) Cut) → Reports (outcome_of result) notes.total notes.skipped notes.lines report → (is : Dealt settings account now (at link []) before result new after notes)
-      → Leaves result new link' → (sent got : List ℕ) × (link'.sent ≡ link.sent ++ sent) × (link'.got ≡ link.got ++ got) × SpeaksByPlan settings now report sent got
+      → LeavesLink result new link' → (sent got : List ℕ) × (link'.sent ≡ link.sent ++ sent) × (link'.got ≡ link.got ++ got) × SpeaksByPlan settings now report sent got
   dealt (Ok done) tells is leaves =
       let opened = is.enters.3 in
       let few = few_items opened.counted is.enters.0 is.enters.1 is.enters.2 is.items (replied name word opened.welcome opened.counted opened.named opened.sized opened.talked.good).good.1.1.1.0 opened.tells is.enters.4 in
@@ -234,7 +234,7 @@ module _ (paced : ConversationsArePaced) (law : FrontsAreAsked) (settings : Sett
       split = ap (λ (ts : List Turn). ts ++ quit ∷ []) it.said.split ∙ four it.said.done it.said.begun it.said.later (quit ∷ [])
 
   proceeded : (result : Result (Unit {0}) Cut) → Reports (outcome_of result) notes.total notes.skipped notes.lines report → Proceeds settings account now (at link []) before result new after notes
-      → Leaves result new link' → Said
+      → LeavesLink result new link' → Said
   proceeded (Ok done) tells is leaves = let said = dealt (Ok done) tells is leaves in (said.0, said.1, said.2, said.3, inr said.4)
   proceeded (Err cut) tells (inl is) leaves =
       let said : (result : Result (Unit {0}) TalkFault) × Talks (tail_turns (tail (fault_of is.why))) new result leaves.0 = subst (λ (c : Cut). Left c new leaves.0) is.is leaves.1 in

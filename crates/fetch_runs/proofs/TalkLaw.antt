@@ -18,7 +18,7 @@ use Rattle.fetch_session.specs.declared.fault.Fault.TheVariants.{NoMemory}
 use Rattle.fetch_session.specs.Faults.{fault_of}
 use Rattle.fetch_session.specs.declared.report.Report.{Report}
 use Rattle.fetch_session.specs.Tails.{tail, Left, turns_in as tail_turns}
-use Rattle.fetch_session.specs.Sessions.{Kept, Noted, Dealt, NotEntered, NoRoom, Proceeds, Leaves, Session}
+use Rattle.fetch_session.specs.Sessions.{Kept, Noted, Dealt, NotEntered, NoRoom, Proceeds, LeavesLink, Session}
 use Rattle.fetch_runs.proofs.Courses.{Course, Way, Idle, Deals, course_dealt, way_proceeded, way_of, begun_of, IsDeleted}
 use Rattle.fetch_runs.proofs.TalkCommands.{all_front}
 use Rattle.fetch_runs.proofs.TalkReplies.{IsPlain}
@@ -57,7 +57,7 @@ module _ (paced : ConversationsArePaced) (law : FrontsAreAsked) (settings : Sett
     tells = idle_said law name word valid.valid_username valid.valid_password (tail_turns (tail cut.fault)) (is_tail cut.fault) opens.sent opens.got opens.said;
   }
 
-  not_entered : (cut : Cut) → NotEntered settings (at link []) before cut new after notes → Leaves (Err cut) new link' → Gained Idle link link'
+  not_entered : (cut : Cut) → NotEntered settings (at link []) before cut new after notes → LeavesLink (Err cut) new link' → Gained Idle link link'
   not_entered cut is leaves =
       idle cut (subst (λ (l : Link). Opens name word (tail_turns (tail cut.fault)) link l) (sym leaves.2) (subst (λ (f : Fault). Opens name word (tail_turns (tail f)) link leaves.0.link) (sym fault)
       (opens_cut paced name word (at link []) new leaves.0 refl is.why is.enters said.0 said.1)))
@@ -68,7 +68,7 @@ module _ (paced : ConversationsArePaced) (law : FrontsAreAsked) (settings : Sett
       said : (result : Result (Unit {0}) TalkFault) × Talks (tail_turns (tail (fault_of is.why))) new result leaves.0
       said = subst (λ (c : Cut). Left c new leaves.0) is.is leaves.1
 
-  no_room : (cut : Cut) → NoRoom settings (at link []) before cut new after notes → Leaves (Err cut) new link' → Gained Idle link link'
+  no_room : (cut : Cut) → NoRoom settings (at link []) before cut new after notes → LeavesLink (Err cut) new link' → Gained Idle link link'
   no_room cut is leaves =
       idle cut (subst (λ (l : Link). Opens name word (tail_turns (tail cut.fault)) link l) (sym leaves.2) (subst (λ (f : Fault). Opens name word (tail_turns (tail f)) link leaves.0.link) (sym fault)
       (opens_all paced name word (at link []) new leaves.0 refl is.enters.0 is.enters.1 is.enters.2 (tail_turns (tail NoMemory)) is.enters.3 said.0 said.1)))
@@ -79,7 +79,7 @@ module _ (paced : ConversationsArePaced) (law : FrontsAreAsked) (settings : Sett
       said : (result : Result (Unit {0}) TalkFault) × Talks (tail_turns (tail NoMemory)) new result leaves.0
       said = subst (λ (c : Cut). Left c new leaves.0) is.is leaves.1
 
-  dealt : (result : Result (Unit {0}) Cut) → (is : Dealt settings account now (at link []) before result new after notes) → Leaves result new link'
+  dealt : (result : Result (Unit {0}) Cut) → (is : Dealt settings account now (at link []) before result new after notes) → LeavesLink result new link'
       → Gained (Deals (course_dealt settings account now (at link []) before result new after notes is)) link link'
   dealt result is leaves = record { sent = whole.0; got = whole.1; sent_is = whole.2; got_is = whole.3; tells = whole.4 }
     where
@@ -103,7 +103,7 @@ module _ (paced : ConversationsArePaced) (law : FrontsAreAsked) (settings : Sett
           is.enters.3 (subst (Joins is.enters.0 is.enters.1 is.enters.2) (sym by.ahead.1) is.enters.4) plain by.took in
           (all.0, all.1, all.2, all.3, all.4)
 
-  proceeded : (result : Result (Unit {0}) Cut) → (is : Proceeds settings account now (at link []) before result new after notes) → Leaves result new link'
+  proceeded : (result : Result (Unit {0}) Cut) → (is : Proceeds settings account now (at link []) before result new after notes) → LeavesLink result new link'
       → Gained (way_proceeded settings account now (at link []) before result new after notes is) link link'
   proceeded (Ok done) is leaves = dealt (Ok done) is leaves
   proceeded (Err cut) (inl stopped) leaves = not_entered cut stopped leaves

@@ -17,7 +17,7 @@ use Rattle.fetch_session.specs.Tasks.{Task, stores, Done, task_in, tasks_of}
 use Rattle.fetch_session.specs.Tails.{tail, Left, turns_in as tail_turns}
 use Rattle.fetch_session.specs.Scenes.{Scene, scene, Stops, Does}
 use Rattle.fetch_session.specs.Plans.{tasks_ahead, Unprepared, Carried, Carries}
-use Rattle.fetch_session.specs.Sessions.{Leaves}
+use Rattle.fetch_session.specs.Sessions.{LeavesLink}
 use Rattle.fetch_runs.proofs.Courses.{Course, course, stored_done, course_stopped, course_does, course_carried, course_carries, begun_of}
 use Rattle.fetch_runs.proofs.TalkCommands.{all_front}
 use Rattle.fetch_runs.proofs.TalkReplies.{IsPlain}
@@ -62,7 +62,7 @@ pub record Dealing (settings : Settings) (account : List ℕ) (items : List Item
 
 module _ (paced : ConversationsArePaced) where
   took_does : (account : List ℕ) (items : List Item) (tasks : List Task) (old new : Scene) (result : Result (Unit {0}) Cut) (link : Link) → (does : Does account tasks old result new)
-      → AllByRecursion IsPlain tasks → Leaves result new.place link → Took (course_does account items tasks old new result does) old.place (tail_for result) link
+      → AllByRecursion IsPlain tasks → LeavesLink result new.place link → Took (course_does account items tasks old new result does) old.place (tail_for result) link
   took_does account items tasks old new (Ok done) link went plain leaves =
       subst (λ (l : Link). Took (course items went.dones [] []) old.place [] l) (sym leaves)
       (took_all paced items account went.dones [] old new went.went (subst (AllByRecursion IsPlain) went.all plain))
@@ -74,7 +74,7 @@ module _ (paced : ConversationsArePaced) where
 
   module _ (settings : Settings) (account : List ℕ) (items : List Item) (now : ℕ) (place : Place) (maildir : Maildir) (file : Stored) (lines : List ReportLine) (few : length items ≤ 100000) where
     dealing_carried : (result : Result (Unit {0}) Cut) (new : Scene) (skipped : ℕ) (link : Link) → (is : Carried settings account items now place maildir file lines result new skipped)
-        → Leaves result new.place link → Dealing settings account items now maildir (course_carried settings account items now place maildir file lines result new skipped is) place (tail_for result) link
+        → LeavesLink result new.place link → Dealing settings account items now maildir (course_carried settings account items now place maildir file lines result new skipped is) place (tail_for result) link
     dealing_carried result new skipped link is leaves = record {
       rows = is.mid.rows;
       ahead = ahead_does account items (tasks_ahead settings account items now maildir is.mid.rows) is.mid new result is.does;
@@ -82,7 +82,7 @@ module _ (paced : ConversationsArePaced) where
           (took_does account items (tasks_ahead settings account items now maildir is.mid.rows) is.mid new result link is.does (plain_ahead settings account items now maildir is.mid.rows few) leaves);
     }
 
-    dealing_unprepared : (cut : Cut) (new : Scene) (link : Link) → Unprepared account items now place maildir file lines cut new → Leaves (Err cut) new.place link
+    dealing_unprepared : (cut : Cut) (new : Scene) (link : Link) → Unprepared account items now place maildir file lines cut new → LeavesLink (Err cut) new.place link
         → Dealing settings account items now maildir (course items [] [] []) place (tail_turns (tail cut.fault)) link
     dealing_unprepared cut new link is leaves = record {
       rows = [];
@@ -92,7 +92,7 @@ module _ (paced : ConversationsArePaced) where
     }
 
     pub dealing : (result : Result (Unit {0}) Cut) (place' : Place) (maildir' : Maildir) (file' : Stored) (lines' : List ReportLine) (skipped : ℕ) (link : Link)
-        → (is : Carries settings account items now place maildir file lines result place' maildir' file' lines' skipped) → Leaves result place' link
+        → (is : Carries settings account items now place maildir file lines result place' maildir' file' lines' skipped) → LeavesLink result place' link
         → Dealing settings account items now maildir (course_carries settings account items now place maildir file lines result place' maildir' file' lines' skipped is) place (tail_for result) link
     dealing (Ok done) place' maildir' file' lines' skipped link is leaves = dealing_carried (Ok done) (scene place' maildir' file' is.0 lines') skipped link is.1 leaves
     dealing (Err cut) place' maildir' file' lines' skipped link (rows, inl (none, unprepared)) leaves = dealing_unprepared cut (scene place' maildir' file' rows lines') link unprepared leaves
@@ -100,7 +100,7 @@ module _ (paced : ConversationsArePaced) where
 
     -- where all was done nothing is left of the plan
     pub dealing_whole : (done : Unit {0}) (place' : Place) (maildir' : Maildir) (file' : Stored) (lines' : List ReportLine) (skipped : ℕ) (link : Link)
-        → (is : Carries settings account items now place maildir file lines (Ok done) place' maildir' file' lines' skipped) → (leaves : Leaves (Ok done) place' link)
+        → (is : Carries settings account items now place maildir file lines (Ok done) place' maildir' file' lines' skipped) → (leaves : LeavesLink (Ok done) place' link)
         → (dealing (Ok done) place' maildir' file' lines' skipped link is leaves).ahead.0 ≡ []
     unfolding dealing dealing_carried ahead_does
     dealing_whole done place' maildir' file' lines' skipped link is leaves = refl

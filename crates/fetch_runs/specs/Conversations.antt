@@ -68,8 +68,8 @@ abbrev pub retrieved_by : List Turn → ℕ
 retrieved_by turns = count_by is_retrieval turns
 
 -- the turns ask for as many texts as are counted; or for one more, by the last of them, behind which only the tail is begun
-abbrev pub Counts : List Turn → List Turn → ℕ → Type 0
-Counts done begun count = (retrieved_by done ≡ count)
+abbrev pub CountsTexts : List Turn → List Turn → ℕ → Type 0
+CountsTexts done begun count = (retrieved_by done ≡ count)
     ⊎ ((front : List Turn) × (number : ℕ) × (done ≡ front ++ retr number ∷ []) × (retrieved_by front ≡ count) × (begun ≡ []))
 
 -- a session that came no further than its opening
@@ -96,7 +96,7 @@ pub record SpeaksByPlan (settings : Settings) (now : ℕ) (report : Report) (sen
   pub more : List WholeReply
   pub replies : said.replies ≡ hello ∷ user ∷ pass ∷ stat ∷ uidl ∷ list ∷ more
   pub listed : IsListed stat uidl list items
-  pub counts : Counts said.done said.begun report.retrieved
+  pub counts : CountsTexts said.done said.begun report.retrieved
   pub ended : report.outcome ≡ Ended → (said.begun ≡ []) × (said.later ≡ [])
 
 -- a law: what the link gained by a session is one conversation, of the opening where it came no further

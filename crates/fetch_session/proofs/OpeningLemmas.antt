@@ -8,7 +8,7 @@ use Rattle.mail_terms.specs.declared.listing.ScanRow.{ScanRow}
 use Rattle.pop3_client.specs.declared.fault.Fault.{Fault}
 use Rattle.pop3_client.specs.Turns.{stat, uidl, list}
 use Rattle.pop3_client.specs.Conversation.{Talked, Stopped, Broke, TellsCount, login}
-use Rattle.pop3_client.specs.Listing.{Listed, Lists}
+use Rattle.pop3_client.specs.Listing.{Listed, GetsListing}
 use Rattle.fetch_session.specs.Openings.{Opened, Enters}
 use Rattle.fetch_session.proofs.TurnLemmas.{talked_on, stopped_first, stopped_before, stopped_behind}
 
@@ -34,7 +34,7 @@ module _ (name password : List ℕ) (a b c d : Place) (welcome : List WholeReply
     octets = listed.octets;
   }
 
-  pub listed_too : (counted : WholeReply) (count : ℕ) (result : Result (List Item) Fault) → Talked (stat ∷ []) (counted ∷ []) b c → TellsCount counted count → Lists count c result d
+  pub listed_too : (counted : WholeReply) (count : ℕ) (result : Result (List Item) Fault) → Talked (stat ∷ []) (counted ∷ []) b c → TellsCount counted count → GetsListing count c result d
       → Enters name password a result d
   listed_too counted count (Ok items) talked tells (uids, sizes, listed, joins) = (count, uids, sizes, all_opened counted count uids sizes talked tells listed, joins)
   listed_too counted count (Err fault) talked tells (inl stopped) =

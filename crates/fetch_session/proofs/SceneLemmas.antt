@@ -14,7 +14,7 @@ use Rattle.fetch_session.specs.declared.report.ReportLine.{ReportLine}
 use Rattle.fetch_session.specs.Tasks.{Task, Done, IsAnswered, task_in, turns_in, ids_in, files_in, lines_in, tasks_of, turns_of, replies_of, ids_of, files_of, lines_of}
 use Rattle.fetch_session.specs.Stores.{Gained}
 use Rattle.fetch_session.specs.Records.{marked_all}
-use Rattle.fetch_session.specs.Scenes.{Scene, Went, AllWent, Fell, Stops, Takes, Does}
+use Rattle.fetch_session.specs.Scenes.{Scene, Went, AllWent, Fell, Stops, TakesTask, Does}
 
 pub gained_none : (m : Maildir) → Gained m m []
 gained_none m = record { in_new = sym (append-nil m.in_new); in_cur = refl; there = refl; calm = λ calm. calm; failures = omega arith }
@@ -102,7 +102,7 @@ pub does_more : (account : List ℕ) (xs ys : List Task) (a b c : Scene) (r : Re
 does_more account xs ys a b c (Ok done) first then = all_on account xs ys a b c first then
 does_more account xs ys a b c (Err f) first then = fell_on account xs ys a b c f first then
 
-pub takes_does : (account : List ℕ) (task : Task) (a b : Scene) (r : Result (Unit {0}) Cut) → Takes account task a r b → Does account (task ∷ []) a r b
+pub takes_does : (account : List ℕ) (task : Task) (a b : Scene) (r : Result (Unit {0}) Cut) → TakesTask account task a r b → Does account (task ∷ []) a r b
 takes_does account task a b (Ok done) took = record { dones = record { task = task; replies = took.0 } ∷ []; all = refl; went = took.1 }
 takes_does account task a b (Err f) took = fell_first account task [] a b f took
 

@@ -21,7 +21,7 @@ use Rattle.pop3_wire.specs.Bodies.{Rest}
 use Rattle.fetch_session.specs.Tasks.{Task, stores, skips, rereads, deletes, turns_in, file_from, delivered, fetching, deleting}
 use Rattle.fetch_session.specs.Stores.{RefusesText, StopsStoring, StoresText, StopsReading, ReadsText, PassesText}
 use Rattle.fetch_session.specs.Records.{Steady, Saves}
-use Rattle.fetch_session.specs.Scenes.{scene, AllWent, Stops, Takes}
+use Rattle.fetch_session.specs.Scenes.{scene, AllWent, Stops, TakesTask}
 use Rattle.std.specs.Prelude.{not}
 use Rattle.std.proofs.lemmas.Bool.{true≢false}
 use Rattle.fetch_session.proofs.TurnLemmas.{talked_none}
@@ -88,7 +88,7 @@ same_file account uid name text reply named is = ap (λ (k : List ℕ). file k t
 pub text_stored : (account : List ℕ) (n octets : ℕ) (uid text name : List ℕ) (a b : Place) (maildir maildir' : Maildir) (file' file'' : Stored) (rows rows' : List Row) (lines lines' : List ReportLine)
     → name ≡ name_of account uid → StoresText name maildir text (Ok octets) maildir' → ReadsText n a text (Ok octets) b → rows' ≡ marked rows uid → Saves file' rows (marked rows uid) (Ok tt) file''
     → lines' ≡ lines ++ Delivered n octets ∷ []
-    → Takes account (stores n uid) (scene a maildir file' rows lines) (Ok tt) (scene b maildir' file'' rows' lines')
+    → TakesTask account (stores n uid) (scene a maildir file' rows lines) (Ok tt) (scene b maildir' file'' rows' lines')
 text_stored account n octets uid text name a b maildir maildir' file' file'' rows rows' lines lines' named stored reads mark saves told = (
   reads.0 ∷ [],
   record {
@@ -142,7 +142,7 @@ deleted account number reply a b maildir file rows lines lines' talked told = re
 
 pub reread_taken : (account : List ℕ) (number octets : ℕ) (uid : List ℕ) (a b : Place) (maildir : Maildir) (file : Stored) (rows : List Row) (lines lines' : List ReportLine) → PassesText number a (Ok octets) b
     → lines' ≡ lines ++ Held number octets ∷ []
-    → Takes account (rereads number uid) (scene a maildir file rows lines) (Ok tt) (scene b maildir file rows lines')
+    → TakesTask account (rereads number uid) (scene a maildir file rows lines) (Ok tt) (scene b maildir file rows lines')
 reread_taken account number octets uid a b maildir file rows lines lines' passes told =
     (passes.0 ∷ [], record { talked = passes.1; each = (passes.1.good, tt); stored = gained_none maildir; rows = refl; saved = λ stands. stands; file_count = omega arith; lines = told ∙ ap (λ (k : ℕ). lines ++ Held number k ∷ []) passes.2 })
 

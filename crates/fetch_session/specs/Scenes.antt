@@ -102,9 +102,9 @@ pub record AllWent (account : List ℕ) (tasks : List Task) (old new : Scene) : 
   pub went : Went account dones old new
 
 -- one task
-abbrev pub Takes : List ℕ → Task → Scene → Result (Unit {0}) Cut → Scene → Type 0
-Takes account task old (Ok done) new = (replies : List WholeReply) × Went account (record { task = task; replies = replies } ∷ []) old new
-Takes account task old (Err cut) new = Stops account task old cut new
+abbrev pub TakesTask : List ℕ → Task → Scene → Result (Unit {0}) Cut → Scene → Type 0
+TakesTask account task old (Ok done) new = (replies : List WholeReply) × Went account (record { task = task; replies = replies } ∷ []) old new
+TakesTask account task old (Err cut) new = Stops account task old cut new
 
 -- a list of tasks
 abbrev pub Does : List ℕ → List Task → Scene → Result (Unit {0}) Cut → Scene → Type 0

@@ -76,9 +76,9 @@ outcome_of (Ok done) = Ended
 outcome_of (Err cut) = WasCut cut.fault
 
 -- after a cut the reply under way is dropped and the tail said
-abbrev pub Leaves : Result (Unit {0}) Cut → Place → Link → Type 0
-Leaves (Ok done) mid link = link ≡ mid.link
-Leaves (Err cut) mid link = (new : Place) × Left cut mid new × (link ≡ new.link)
+abbrev pub LeavesLink : Result (Unit {0}) Cut → Place → Link → Type 0
+LeavesLink (Ok done) mid link = link ≡ mid.link
+LeavesLink (Err cut) mid link = (new : Place) × Left cut mid new × (link ≡ new.link)
 
 -- a whole session, from a link of which nothing waits to be used
 pub record Session (settings : Settings) (account : List ℕ) (now : ℕ) (link : Link) (before : Kept) (report : Report) (link' : Link) (after : Kept) : Type 0 where
@@ -86,5 +86,5 @@ pub record Session (settings : Settings) (account : List ℕ) (now : ℕ) (link 
   pub mid : Place
   pub notes : Noted
   pub proceeds : Proceeds settings account now (at link []) before result mid after notes
-  pub leaves : Leaves result mid link'
+  pub leaves : LeavesLink result mid link'
   pub reports : Reports (outcome_of result) notes.total notes.skipped notes.lines report

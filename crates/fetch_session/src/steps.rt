@@ -10,7 +10,7 @@ ghost use Rattle.fetch_session.specs.Stores.{Grows, GrowsBy};
 ghost use Rattle.fetch_session.specs.Tasks.{stores, rereads, fetching, deleting, tasks_in, tasks_planned, ids_ahead, AreFresh};
 ghost use Rattle.fetch_session.specs.Records.{Steady};
 ghost use Rattle.fetch_session.specs.Reports.{HasRoom, Adds};
-ghost use Rattle.fetch_session.specs.Scenes.{scene, Takes, Does};
+ghost use Rattle.fetch_session.specs.Scenes.{scene, TakesTask, Does};
 
 use crate::fault::{Cut, Fault, plain, told};
 use crate::record::remember;
@@ -51,7 +51,7 @@ pub fn take<W: Wire, D: MaildirDisk, F: FlatFile, H: BuildHasher>(
         × Grows (name_of account.now uid.now) (D.maildir disk.old) (D.maildir disk.new) }
     ensures takes { W.sound wire.new → D.sound disk.new → F.sound file.new
         → W.sound wire.old × D.sound disk.old × F.sound file.old × W.leads_to wire.old wire.new
-        × Takes account.now (stores number uid.now)
+        × TakesTask account.now (stores number uid.now)
         (scene (at (W.seen wire.old) reader.old) (D.maildir disk.old) (F.stored file.old) seen.old.rows lines.old.items) result
         (scene (at (W.seen wire.new) reader.new) (D.maildir disk.new) (F.stored file.new) seen.new.rows lines.new.items) }
 {
@@ -87,7 +87,7 @@ fn reread<W: Wire>(
     ensures few { Adds lines.old 1 lines.new }
     ensures rereads { (account uid : List ℕ) (maildir : Maildir) (file : Stored) (rows : List Row)
         → W.sound wire.new → W.sound wire.old × W.leads_to wire.old wire.new
-        × Takes account (rereads number uid)
+        × TakesTask account (rereads number uid)
         (scene (at (W.seen wire.old) reader.old) maildir file rows lines.old.items) result
         (scene (at (W.seen wire.new) reader.new) maildir file rows lines.new.items) }
 {

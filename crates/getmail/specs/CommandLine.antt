@@ -53,7 +53,7 @@ flags_in rows = record {
 }
 
 -- the matches ask for this
-pub record Asks (rows : List Row) (words : Words) : Type 0 where
+pub record AsksFor (rows : List Row) (words : Words) : Type 0 where
   pub rcfile : option_map string_bytes words.rcfile ≡ first_of (codes "rcfile") rows
   pub dir : option_map string_bytes words.dir ≡ first_of (codes "getmaildir") rows
   pub flags : words.flags ≡ flags_in rows

@@ -3,7 +3,7 @@ ghost use Rattle.std.specs.Prelude.{◌≡◌, ◌≢◌, ℕ, IfOk, IfErr, Err,
 ghost use Rattle.std.specs.String.{string_bytes};
 ghost use Rattle.clap.specs.Values.{kind_of};
 ghost use Rattle.clap.specs.Words.{app_of, fault_of, found_of, matches_of, rows_of, rule_of};
-ghost use Rattle.getmail.specs.CommandLine.{Asks, IsHelp, IsMistake, flag_rule, flags_in, getmail, long_flag_rule, value_rule};
+ghost use Rattle.getmail.specs.CommandLine.{AsksFor, IsHelp, IsMistake, flag_rule, flags_in, getmail, long_flag_rule, value_rule};
 
 use clap::error::ErrorKind;
 use clap::{Arg, ArgAction, ArgMatches, Command, Error};
@@ -165,7 +165,7 @@ fn flags_of(matches: &ArgMatches<'_>) -> Flags
 
 /// What clap's matches ask for.
 fn words_of(alloc: Global, matches: &ArgMatches<'_>) -> Result<Words, AllocError>
-    ensures { IfOk result (Asks (rows_of (found_of matches.now))) }
+    ensures { IfOk result (AsksFor (rows_of (found_of matches.now))) }
 {
     Ok(Words {
         rcfile: copy(alloc, matches.get_str("rcfile"))?,
@@ -191,7 +191,7 @@ fn fault_of_error(error: &Error) -> WordsFault
 
 /// What these words ask for, the program's name first.
 pub fn read_words(alloc: Global, words: &[String]) -> Result<Words, WordsFault>
-    ensures asks { IfOk result (Asks (matches_of getmail (map string_bytes words.now))) }
+    ensures asks { IfOk result (AsksFor (matches_of getmail (map string_bytes words.now))) }
     ensures passes { fault_of getmail (map string_bytes words.now) ≡ [] → IfErr result (λ fault. fault ≡ WordsFault.NoMemory) }
     ensures help { result ≡ Err WordsFault.Help → IsHelp (fault_of getmail (map string_bytes words.now)) }
     ensures usage { result ≡ Err WordsFault.Usage → IsMistake (fault_of getmail (map string_bytes words.now)) }

@@ -2,7 +2,6 @@
 ghost use Rattle.std.specs.Prelude.{◌≡◌, ◌<◌};
 ghost use Rattle.std.specs.List.{AllByRecursion};
 ghost use Rattle.mail_terms.specs.FailureCount.{greatest_count};
-ghost use Rattle.pop3_wire.specs.Link.{Link};
 ghost use Rattle.pop3_wire.specs.World.{IsMessage};
 ghost use Rattle.pop3_server.specs.Maildrop.{there};
 ghost use Rattle.pop3_server.specs.HonestLoop.{IsNew};
@@ -17,8 +16,8 @@ use pop3_server::{LoopWire, Maildrop, Server, loops_are_honest};
 use std::alloc::Global;
 use std::hash::BuildHasher;
 
-/// Runs one session of an account over a link to this server, which is new, and gives the server as
-/// its answers left it. `now` is in seconds since 1970.
+/// Runs one session of an account over a link to this server, which is new, and gives the link, whose
+/// `into_inner` is the server as its answers left it. `now` is in seconds since 1970.
 ///
 /// There is no premise on the server but its maildrop's: the conversation is honest over the
 /// maildrop's messages, and of these only marked ones are gone, none while the server is open.
@@ -27,19 +26,19 @@ pub fn fetch_local<D: MaildirDisk, F: FlatFile, H: BuildHasher, M: Maildrop>(
     account: &mut Account<D, F, H>,
     server: Server<M>,
     now: u64,
-) -> (Report, Server<M>)
+) -> (Report, LoopWire<M>)
     requires new { IsNew (loop_to server) }
     ensures settings { account.new.settings ≡ account.old.settings }
-    ensures fetches { (link : Link) × (link.failures < greatest_count → D.sound account.new.disk → F.sound account.new.file → M.sound result.1.drop
+    ensures fetches { result.1.link.failures < greatest_count → D.sound account.new.disk → F.sound account.new.file → M.sound result.1.machine.drop
         → AllByRecursion IsMessage (there (M.mail server.drop).slots)
         → D.sound account.old.disk × F.sound account.old.file
-        × FetchesFrom M.mail account.old.settings (digits_of account.old.settings) now server result.1 link
-        (kept (D.maildir account.old.disk) (F.stored account.old.file)) result.0 (kept (D.maildir account.new.disk) (F.stored account.new.file))) }
+        × FetchesFrom M.mail account.old.settings (digits_of account.old.settings) now server result.1.machine result.1.link
+        (kept (D.maildir account.old.disk) (F.stored account.old.file)) result.0 (kept (D.maildir account.new.disk) (F.stored account.new.file)) }
 {
     sessions_are_conversations();
     loops_are_honest::<M>();
     let _ = account.settings();
     let mut wire = LoopWire::new(alloc, server);
     let report = session(account, &mut wire, now);
-    (report, wire.into_inner())
+    (report, wire)
 }

@@ -16,9 +16,9 @@ use Rattle.pop3_client.specs.declared.fault.Asked.{Asked}
 use Rattle.pop3_client.specs.declared.fault.Fault.{Fault}
 use Rattle.pop3_client.specs.declared.fault.Fault.TheVariants.{ConnectionEnded, ReadFailed, WriteFailed, ReplyTooLong, BadReply, Refused, BadListing, ListingsDisagree, TooMany, TextTooLong, NoMemory}
 use Rattle.pop3_client.specs.Turns.{Turn, uidl, list, IsRow, IsListing, IsShort, LinesFit, line_limit, row_limit, most}
-use Rattle.pop3_client.specs.Causes.{IsPartOfListing, IsPartOfBody, HasRows, NextLine, Begins, Cause}
+use Rattle.pop3_client.specs.Causes.{IsPartOfListing, IsPartOfBody, HasRows, NextLine, BeginsPositive, Cause}
 use Rattle.pop3_client.specs.Conversation.{Opened}
-use Rattle.pop3_client.specs.Listing.{IsUidRow, IsScanRow, Listed, Lists, ListsRows, RowBehind, RowCause, RowsCause, NotTaken, TakesRows}
+use Rattle.pop3_client.specs.Listing.{IsUidRow, IsScanRow, Listed, GetsListing, ListsRows, RowBehind, RowCause, RowsCause, NotTaken, TakesRows}
 use Rattle.pop3_client.proofs.MostLemmas.{lines_within}
 use Rattle.pop3_client.proofs.TalkLemmas.{drew_of, talked_on, talked_body, broke_behind, begins_of}
 
@@ -215,7 +215,7 @@ most_of_listing turn (inl is) = ap most is
 most_of_listing turn (inr is) = ap most is
 
 -- the row behind a listing's first line is its reply's next line
-next_line_of : (turn : Turn) (bytes after row : List ℕ) (rows : ℕ) → Begins bytes after → RowBehind turn after row rows → NextLine turn bytes row rows
+next_line_of : (turn : Turn) (bytes after row : List ℕ) (rows : ℕ) → BeginsPositive bytes after → RowBehind turn after row rows → NextLine turn bytes row rows
 next_line_of turn bytes after row rows begins there = record {
   after = after;
   behind = there.behind;
@@ -228,7 +228,7 @@ next_line_of turn bytes after row rows begins there = record {
 }
 
 -- why a listing isn't good, told of its whole reply
-cause_of_rows : (fault : Fault) (turn : Turn) (old new : Link) (bytes after : List ℕ) → Begins bytes after → IsListing turn
+cause_of_rows : (fault : Fault) (turn : Turn) (old new : Link) (bytes after : List ℕ) → BeginsPositive bytes after → IsListing turn
     → RowsCause fault turn old new after → Cause fault turn old new bytes × ((to : Asked) → fault ≡ Refused to → ⊥)
 cause_of_rows ConnectionEnded turn old new bytes after begins listing why = ((why.0, inr (after, begins, part_of_body turn after listing why.1)), λ to is. cc)
 cause_of_rows ReadFailed turn old new bytes after begins listing why = ((why.0, inr (after, begins, part_of_body turn after listing why.1)), λ to is. cc)
@@ -273,7 +273,7 @@ listed old mid new uids sizes first second = record {
 
 -- and joined or not
 pub lists_joined : (count : ℕ) (old new : Place) (uids : List UidRow) (sizes : List ScanRow) (result : Result (List Item) Fault) → Listed old new uids sizes
-    → IfOk result (Joins count uids sizes) → IfErr result (λ fault. ((fault ≡ ListingsDisagree) × (Agree count uids sizes → ⊥)) ⊎ (fault ≡ NoMemory)) → Lists count old result new
+    → IfOk result (Joins count uids sizes) → IfErr result (λ fault. ((fault ≡ ListingsDisagree) × (Agree count uids sizes → ⊥)) ⊎ (fault ≡ NoMemory)) → GetsListing count old result new
 lists_joined count old new uids sizes (Ok items) all ok err = (uids, sizes, all, ok)
 lists_joined count old new uids sizes (Err fault) all ok err = elim err [
   | inl apart ↦ inr (inl (apart.0, (uids, sizes, all, apart.1)))

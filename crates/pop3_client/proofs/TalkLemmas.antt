@@ -18,8 +18,8 @@ use Rattle.pop3_client.specs.declared.fault.Asked.{Asked}
 use Rattle.pop3_client.specs.declared.fault.Fault.{Fault}
 use Rattle.pop3_client.specs.declared.fault.Fault.TheVariants.{ConnectionEnded, ReadFailed, WriteFailed, ReplyTooLong, BadReply, Refused, BadListing, ListingsDisagree, TooMany, TextTooLong, NoMemory}
 use Rattle.pop3_client.specs.Turns.{Turn, turn_bytes, asking, Names, stat, uidl, list, rset, quit, tells_count, gives_body, Fits, IsBody, IsGood, line_limit, IsShort, most}
-use Rattle.pop3_client.specs.Causes.{Cause, Begins, FirstLine}
-use Rattle.pop3_client.specs.Conversation.{Opened, Talked, NoLineCause, Takes, Heard, Broke, Stopped, Sent, TellsFew, Asks, Tells, Talks}
+use Rattle.pop3_client.specs.Causes.{Cause, BeginsPositive, FirstLine}
+use Rattle.pop3_client.specs.Conversation.{Opened, Talked, NoLineCause, TakesRefusal, Heard, Broke, Stopped, Sent, TellsFew, AsksTurn, Tells, Talks}
 use Rattle.pop3_client.proofs.MostLemmas.{most_least}
 
 pub none_in_all : (limit : ℕ) (bytes : List ℕ) → HasNoLine limit bytes → length bytes < limit → IsLine bytes
@@ -87,7 +87,7 @@ opened turn old said mid gained n rest is gains has steady positive fits =
     }
 
 -- what is used before a fault that is no refusal
-pub takes_other : (fault : Fault) (used : List ℕ) → ((to : Asked) → fault ≡ Refused to → ⊥) → Takes fault used
+pub takes_other : (fault : Fault) (used : List ℕ) → ((to : Asked) → fault ≡ Refused to → ⊥) → TakesRefusal fault used
 takes_other ConnectionEnded used other = tt
 takes_other ReadFailed used other = tt
 takes_other WriteFailed used other = tt
@@ -378,11 +378,11 @@ pub fits_other : (turn : Turn) (rest : List ℕ) → tells_count turn ≡ false 
 fits_other turn rest other is = absurd (false≢true (sym other ∙ is))
 
 -- a turn begins its reply
-pub begins_of : (turn : Turn) (line : List ℕ) (old mid : Place) (after : List ℕ) → Opened turn line old mid → Begins (ended line ++ after) after
+pub begins_of : (turn : Turn) (line : List ℕ) (old mid : Place) (after : List ℕ) → Opened turn line old mid → BeginsPositive (ended line ++ after) after
 begins_of turn line old mid after begun = record { line = line; rest = begun.rest; is = begun.is; short = begun.short; whole = refl; positive = begun.positive }
 
 -- a turn with a reply of one line was talked, or it broke
-pub asks_tells : (turn : Turn) (old new : Place) (result : Result (Unit {0}) Fault) → gives_body turn ≡ false → Asks turn old result new → Tells turn old result new
+pub asks_tells : (turn : Turn) (old new : Place) (result : Result (Unit {0}) Fault) → gives_body turn ≡ false → AsksTurn turn old result new → Tells turn old result new
 asks_tells turn old new (Ok done) none asks = (record { first = asks.0; body = None }, talked_line turn asks.0 old new asks.1 none)
 asks_tells turn old new (Err fault) none asks = asks
 

@@ -14,7 +14,7 @@ use Rattle.pop3_client.specs.declared.fault.Fault.TheVariants.{ConnectionEnded, 
 use Rattle.pop3_client.specs.Turns.{Turn, Names, tells_count, retr, line_limit, text_limit, row_limit, IsShort, IsListing, IsRow}
 
 -- the octets begin with a positive first line, and this follows it
-pub record Begins (bytes after : List ℕ) : Type 0 where
+pub record BeginsPositive (bytes after : List ℕ) : Type 0 where
   pub line : List ℕ
   pub rest : List ℕ
   pub is : IsLine line
@@ -48,7 +48,7 @@ IsPartOfBody _ bytes = ⊥
 
 -- a reply is under way: its first line, or the body behind a positive one
 abbrev pub NotWhole : Turn → List ℕ → Type 0
-NotWhole turn bytes = IsPartOfLine bytes ⊎ ((after : List ℕ) × Begins bytes after × IsPartOfBody turn after)
+NotWhole turn bytes = IsPartOfLine bytes ⊎ ((after : List ℕ) × BeginsPositive bytes after × IsPartOfBody turn after)
 
 -- where a line should stand, as many octets as its limit hold none
 abbrev pub IsOverlong : List ℕ → Type 0
@@ -59,7 +59,7 @@ pub record NextLine (turn : Turn) (bytes row : List ℕ) (rows : ℕ) : Type 0 w
   pub after : List ℕ
   pub behind : List ℕ
   pub lines : List (List ℕ)
-  pub begins : Begins bytes after
+  pub begins : BeginsPositive bytes after
   pub has : HasRows turn after (ended row ++ behind) lines
   pub count : length lines ≡ rows
   pub content : IsContent row
@@ -78,7 +78,7 @@ Cause ConnectionEnded turn old new bytes = (new.ended ≡ true) × NotWhole turn
 Cause ReadFailed turn old new bytes = (old.failures < new.failures) × NotWhole turn bytes
 Cause WriteFailed turn old new bytes = ⊥
 Cause ReplyTooLong turn old new bytes = IsOverlong bytes
-    ⊎ ((after behind : List ℕ) × (lines : List (List ℕ)) × Begins bytes after × HasRows turn after behind lines × IsOverlong behind)
+    ⊎ ((after behind : List ℕ) × (lines : List (List ℕ)) × BeginsPositive bytes after × HasRows turn after behind lines × IsOverlong behind)
 Cause BadReply turn old new bytes = (line : List ℕ) × FirstLine bytes line
     × ((rest : List ℕ) → IsFirstLine line Negative rest → ⊥)
     × ((rest : List ℕ) → IsFirstLine line Positive rest → (tells_count turn ≡ true) × (IsOk (number_and_size rest) → ⊥))
@@ -89,6 +89,6 @@ Cause TooMany turn old new bytes =
     ((tells_count turn ≡ true) × ((line rest : List ℕ) × (count size : ℕ) × FirstLine bytes line
     × IsFirstLine line Positive rest × (number_and_size rest ≡ Ok (count, size)) × (row_limit < count)))
     ⊎ ((row : List ℕ) × NextLine turn bytes row row_limit)
-Cause TextTooLong turn old new bytes = ((number : ℕ) × (turn ≡ retr number)) × ((after : List ℕ) × Begins bytes after
+Cause TextTooLong turn old new bytes = ((number : ℕ) × (turn ≡ retr number)) × ((after : List ℕ) × BeginsPositive bytes after
     × HasNoBody (take text_limit after) × (text_limit ≤ length after))
 Cause NoMemory turn old new bytes = (row : List ℕ) × (rows : ℕ) × NextLine turn bytes row rows × (rows < row_limit) × IsRow turn row

@@ -45,9 +45,9 @@ may_want (Some (Dele number)) = true
 may_want _ = false
 
 -- a negative reply is taken whole; of what was used before any other fault nothing more is said
-abbrev pub Takes : Fault → List ℕ → Type 0
-Takes (Refused to) used = (line : List ℕ) × IsLine line × (used ≡ ended line)
-Takes _ used = Unit {0}
+abbrev pub TakesRefusal : Fault → List ℕ → Type 0
+TakesRefusal (Refused to) used = (line : List ℕ) × IsLine line × (used ≡ ended line)
+TakesRefusal _ used = Unit {0}
 
 -- a part of the turn was sent, and the call was refused
 pub record SentInPart (turn : Turn) (old new : Place) : Type 0 where
@@ -68,7 +68,7 @@ pub record NotAnswered (turn : Turn) (old new : Place) (fault : Fault) : Type 0 
   pub heard : old.waiting ++ gained ≡ used ++ new.waiting
   pub within : length used ≤ most turn
   pub cause : Cause fault turn old.link new.link (old.waiting ++ gained)
-  pub takes : Takes fault used
+  pub takes : TakesRefusal fault used
 
 -- a turn broke: not all of it was sent, it wasn't answered well, or memory was wanting before it, and nothing changed
 abbrev pub Broke : Turn → Place → Place → Fault → Type 0
@@ -94,9 +94,9 @@ Talks turns old (Ok done) new = (replies : List WholeReply) × Talked turns repl
 Talks turns old (Err fault) new = Stopped turns old new fault
 
 -- the first line of a turn's reply was taken, or the turn broke
-abbrev pub Asks : Turn → Place → Result (Unit {0}) Fault → Place → Type 0
-Asks turn old (Ok done) new = (line : List ℕ) × Opened turn line old new
-Asks turn old (Err fault) new = Broke turn old new fault
+abbrev pub AsksTurn : Turn → Place → Result (Unit {0}) Fault → Place → Type 0
+AsksTurn turn old (Ok done) new = (line : List ℕ) × Opened turn line old new
+AsksTurn turn old (Err fault) new = Broke turn old new fault
 
 -- a turn was talked, or it broke
 abbrev pub Tells : Turn → Place → Result (Unit {0}) Fault → Place → Type 0
@@ -108,9 +108,9 @@ abbrev pub TellsCount : WholeReply → ℕ → Type 0
 TellsCount reply count = (rest : List ℕ) × (size : ℕ) × IsFirstLine reply.first Positive rest × (number_and_size rest ≡ Ok (count, size))
 
 -- STAT was talked, and its reply tells this count; or it broke
-abbrev pub Counts : Place → Result ℕ Fault → Place → Type 0
-Counts old (Ok count) new = (reply : WholeReply) × Talked (stat ∷ []) (reply ∷ []) old new × TellsCount reply count
-Counts old (Err fault) new = Broke stat old new fault
+abbrev pub CountsMessages : Place → Result ℕ Fault → Place → Type 0
+CountsMessages old (Ok count) new = (reply : WholeReply) × Talked (stat ∷ []) (reply ∷ []) old new × TellsCount reply count
+CountsMessages old (Err fault) new = Broke stat old new fault
 
 -- logging in
 abbrev pub login : List ℕ → List ℕ → List Turn
@@ -180,7 +180,7 @@ pub record NotHeard (turn : Turn) (old new : Place) (fault : Fault) : Type 0 whe
   pub heard : old.waiting ++ gained ≡ used ++ new.waiting
   pub within : length used ≤ line_limit
   pub cause : Cause fault turn old.link new.link (old.waiting ++ gained)
-  pub takes : Takes fault used
+  pub takes : TakesRefusal fault used
 
 -- a positive first line waits, or why none does
 abbrev pub Heard : Turn → Place → Result ℕ Fault → Place → Type 0

@@ -37,9 +37,9 @@ pub record Listed (old new : Place) (uids : List UidRow) (sizes : List ScanRow) 
   pub octets : HasListing IsScanRow second sizes
 
 -- both listings were taken, and these are the messages, joined; or the conversation stopped; or the listings don't join with the count; or memory was wanting to join them, before anything else was sent
-abbrev pub Lists : ℕ → Place → Result (List Item) Fault → Place → Type 0
-Lists count old (Ok items) new = (uids : List UidRow) × (sizes : List ScanRow) × Listed old new uids sizes × Joins count uids sizes items
-Lists count old (Err fault) new = Stopped (uidl ∷ list ∷ []) old new fault
+abbrev pub GetsListing : ℕ → Place → Result (List Item) Fault → Place → Type 0
+GetsListing count old (Ok items) new = (uids : List UidRow) × (sizes : List ScanRow) × Listed old new uids sizes × Joins count uids sizes items
+GetsListing count old (Err fault) new = Stopped (uidl ∷ list ∷ []) old new fault
     ⊎ ((fault ≡ ListingsDisagree) × ((uids : List UidRow) × (sizes : List ScanRow) × Listed old new uids sizes × (Agree count uids sizes → ⊥)))
     ⊎ ((fault ≡ NoMemory) × ((uids : List UidRow) × (sizes : List ScanRow) × Listed old new uids sizes))
 

@@ -6,7 +6,7 @@ ghost use Rattle.pop3_wire.specs.Link.{CountsFailure};
 ghost use Rattle.pop3_wire.specs.Place.{at, HasLine};
 ghost use Rattle.pop3_client.specs.Turns.{uidl as uidl_turn, list as list_turn, row_limit, IsRow};
 ghost use Rattle.pop3_client.specs.Conversation.{refusal_of};
-ghost use Rattle.pop3_client.specs.Listing.{IsUidRow, IsScanRow, NextRow, TakesRows, ListsRows, Lists, items_of};
+ghost use Rattle.pop3_client.specs.Listing.{IsUidRow, IsScanRow, NextRow, TakesRows, ListsRows, GetsListing, items_of};
 
 use crate::fault::{Asked, Fault};
 use crate::talk::{ask, next_line};
@@ -183,7 +183,7 @@ pub fn list<W: Wire>(
     ensures counted { CountsFailure (W.seen wire.old) (refusal_of result) (W.seen wire.new) }
     ensures legal { IfOk result (λ listing. All (λ item. IsLegalId item.uid) listing) }
     ensures lists { W.sound wire.new → W.sound wire.old × W.leads_to wire.old wire.new
-        × Lists count (at (W.seen wire.old) reader.old) result (at (W.seen wire.new) reader.new) }
+        × GetsListing count (at (W.seen wire.old) reader.old) result (at (W.seen wire.new) reader.new) }
 {
     let uids = match uidl(alloc, wire, reader) {
         Ok(uids) => uids,

@@ -5,7 +5,7 @@ ghost use Rattle.pop3_wire.specs.Link.{CountsFailure};
 ghost use Rattle.pop3_wire.specs.Place.{at, Gains, HasLine};
 ghost use Rattle.pop3_wire.specs.Reply.{IsFirstLine};
 ghost use Rattle.pop3_client.specs.Turns.{Turn, Names, turn_bytes, tells_count, greeting, dele, quit, row_limit};
-ghost use Rattle.pop3_client.specs.Conversation.{Waits, Heard, Sent, Asks, Counts, Tells, refusal_of, TellsFew};
+ghost use Rattle.pop3_client.specs.Conversation.{Waits, Heard, Sent, AsksTurn, CountsMessages, Tells, refusal_of, TellsFew};
 
 use crate::fault::{Asked, Fault};
 use mail_terms::MESSAGE_LIMIT;
@@ -69,7 +69,7 @@ fn hear<W: Wire>(wire: &mut W, reader: &mut LineReader, asked: Asked) -> Result<
 pub fn greet<W: Wire>(wire: &mut W, reader: &mut LineReader) -> Result<(), Fault>
     ensures counted { CountsFailure (W.seen wire.old) (refusal_of result) (W.seen wire.new) }
     ensures asks { W.sound wire.new → W.sound wire.old × W.leads_to wire.old wire.new
-        × Asks greeting (at (W.seen wire.old) reader.old) result (at (W.seen wire.new) reader.new) }
+        × AsksTurn greeting (at (W.seen wire.old) reader.old) result (at (W.seen wire.new) reader.new) }
 {
     let length = match hear(wire, reader, Asked::Greeting) {
         Ok(length) => length,
@@ -90,7 +90,7 @@ pub fn ask<W: Wire>(
     ensures counted { CountsFailure (W.seen wire.old) (refusal_of result) (W.seen wire.new) }
     ensures asks { W.sound wire.new → W.sound wire.old × W.leads_to wire.old wire.new
         × ((turn : Turn) → Names asked turn → tells_count turn ≡ false → bytes.now ≡ turn_bytes turn
-        → Asks turn (at (W.seen wire.old) reader.old) result (at (W.seen wire.new) reader.new)) }
+        → AsksTurn turn (at (W.seen wire.old) reader.old) result (at (W.seen wire.new) reader.new)) }
 {
     if let Err(fault) = say(wire, bytes) {
         return Err(fault);
@@ -128,7 +128,7 @@ pub fn count<W: Wire>(wire: &mut W, reader: &mut LineReader) -> Result<u32, Faul
     ensures counted { CountsFailure (W.seen wire.old) (refusal_of result) (W.seen wire.new) }
     ensures few { IfOk result (λ n. n ≤ row_limit) }
     ensures counts { W.sound wire.new → W.sound wire.old × W.leads_to wire.old wire.new
-        × Counts (at (W.seen wire.old) reader.old) result (at (W.seen wire.new) reader.new) }
+        × CountsMessages (at (W.seen wire.old) reader.old) result (at (W.seen wire.new) reader.new) }
 {
     if let Err(fault) = say(wire, b"STAT\r\n") {
         return Err(fault);

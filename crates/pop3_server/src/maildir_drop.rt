@@ -90,7 +90,7 @@ impl<T: Drop> From<AllocFailed<T>> for Unlisted {
 
 /// The messages found in a Maildir, and where their files lie.
 #[derive(Drop)]
-struct Listing {
+struct ListedFiles {
     entries: Vec<Entry>,
     files: Vec<ListedFile>,
 }
@@ -204,7 +204,7 @@ impl<'a, R: Files + AllocGlobal + Clone + Drop> MaildirDrop<'a, R> {
 
     /// The messages of these files: of several with one id the first, none past the limits.
     #[tactic(auto, using(crate::proofs::MaildirLemmas::ids_push))]
-    fn list(&self, found: Vec<MailFile>) -> Result<Listing, Unlisted>
+    fn list(&self, found: Vec<MailFile>) -> Result<ListedFiles, Unlisted>
         ensures within { IfOk result (λ listing. vec_len listing.entries ≤ MAX_COUNT) }
         ensures distinct { IfOk result (λ listing. AreDistinct (map uid_of listing.entries.items)) }
         ensures names { IfOk result (λ listing. HaveIds listing.entries.items (names_of listing.files.items)) }
@@ -248,11 +248,11 @@ impl<'a, R: Files + AllocGlobal + Clone + Drop> MaildirDrop<'a, R> {
                 size,
             })?;
         }
-        Ok(Listing { entries, files })
+        Ok(ListedFiles { entries, files })
     }
 
     /// The messages of the Maildir as it is now.
-    fn look(&self) -> Result<Listing, Unlisted>
+    fn look(&self) -> Result<ListedFiles, Unlisted>
         ensures within { IfOk result (λ listing. vec_len listing.entries ≤ MAX_COUNT) }
         ensures distinct { IfOk result (λ listing. AreDistinct (map uid_of listing.entries.items)) }
         ensures names { IfOk result (λ listing. HaveIds listing.entries.items (names_of listing.files.items)) }
@@ -262,7 +262,7 @@ impl<'a, R: Files + AllocGlobal + Clone + Drop> MaildirDrop<'a, R> {
 
     /// The messages of the Maildir. Where a file vanished meanwhile or got another name, the folders are
     /// looked through once more.
-    fn look_twice(&self) -> Result<Listing, Unlisted>
+    fn look_twice(&self) -> Result<ListedFiles, Unlisted>
         ensures within { IfOk result (λ listing. vec_len listing.entries ≤ MAX_COUNT) }
         ensures distinct { IfOk result (λ listing. AreDistinct (map uid_of listing.entries.items)) }
         ensures names { IfOk result (λ listing. HaveIds listing.entries.items (names_of listing.files.items)) }
@@ -377,7 +377,7 @@ impl<'a, R: Files + AllocGlobal + Clone + Drop> Maildrop for MaildirDrop<'a, R> 
             return Err(DropFault::Refused);
         }
         match self.look_twice() {
-            Ok(Listing { entries, files }) => {
+            Ok(ListedFiles { entries, files }) => {
                 self.files = files;
                 self.unread = None;
                 Ok(entries)

@@ -21,7 +21,7 @@ use Rattle.run_law.proofs.Ids.{Distinct, distinct_is, distinct_take, distinct_fi
 use Rattle.run_law.proofs.Records.{delivered_merged, delivered_marked}
 use Rattle.run_law.proofs.Files.{held_done, copies-append, copies_messages, message_file, deliveries_keep}
 use Rattle.run_law.proofs.Wants.{num_item, asked, offered, wants, offered_by_number, wants_by_number, wanted_are, candidates_are, wants_snd, offered_snd, wants_placed, zipped, stored_files, ids_are, begins, both_parts, past-map, snd}
-use Rattle.run_law.proofs.Bridge.{IsLeft, Begins, bridge, left_is, known_is}
+use Rattle.run_law.proofs.Bridge.{IsLeft, BeginsWith, bridge, left_is, known_is}
 
 or_true : (b : Bool) → (b || true) ≡ true
 or_true true = refl
@@ -210,7 +210,7 @@ module _ (frame : Frame) (is : IsFrame frame) (before : Situation) (v : Visit) (
   offered_parts : filter unheld os ≡ stored ++ filter unheld behind
   offered_parts = ap (filter unheld) (sym (begins s.stored v.settings.max_count os)) ∙ filter-append unheld (take s.stored ws) behind
 
-  stored_begins : Begins stored kept.rest
+  stored_begins : BeginsWith stored kept.rest
   stored_begins =
       let r = bridge fit is_left kept.done come (filter fit (drop v.come frame.all)) kept.rest (distinct_take v.come frame.all distinct_all) selected_parts each_left in
       (filter unheld behind ++ r.0, r.1 ∙ ap (λ l. l ++ r.0) (left_filters ∙ offered_parts) ∙ append_assoc stored (filter unheld behind) r.0)

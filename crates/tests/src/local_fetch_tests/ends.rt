@@ -47,8 +47,8 @@ fn fetch(
     let pass = Vec::from_slice(alloc, b"secret")?;
     let mut account = account(alloc, kept)?;
     let server = Server::new(alloc, maildrop, user, pass);
-    let (report, server) = fetch_local(alloc, &mut account, server, 0);
-    Ok((kept_by(account), server.into_drop(), report))
+    let (report, wire) = fetch_local(alloc, &mut account, server, 0);
+    Ok((kept_by(account), wire.into_inner().into_drop(), report))
 }
 
 /// A session whose link passes so many calls, with all that it leaves.

@@ -2,13 +2,13 @@ use Rattle.std.proofs.Common.{◌∙◌, List, ap, map, rules, subst}
 use Rattle.std.specs.String.{string_bytes}
 use Rattle.clap.specs.Kinds.{HasKind}
 use Rattle.clap.specs.Words.{App, Row, fault_of, is_simple_and_free}
-use Rattle.getmail.specs.CommandLine.{Asks}
+use Rattle.getmail.specs.CommandLine.{AsksFor}
 use Rattle.getmail.proofs.WordsLemmas.{getmail_is_free, mistake, rows_are}
 use Rattle.getmail.proofs.words.read_words.Goals as goal
 
 pub returns-in_ok-words_of-in-Ok-clause-asks : goal.returns-in_ok-words_of-in-Ok-clause-asks
 returns-in_ok-words_of-in-Ok-clause-asks c =
-    subst (λ (rows : List Row). Asks rows c.in_ok-words_of-in-Ok.field-0)
+    subst (λ (rows : List Row). AsksFor rows c.in_ok-words_of-in-Ok.field-0)
     (rows_are _ _ c.in-Ok.matches c.in_ok-command.ensures c.in-Ok.ensures.matches) c.in_ok-words_of-in-Ok.ensures
 
 pub returns-in-Err-clause-usage : goal.returns-in-Err-clause-usage
