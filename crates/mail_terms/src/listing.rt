@@ -1,9 +1,9 @@
 //! The listing of a maildrop: what UIDL and LIST answer, joined by message number (RFC 1939,
 //! sections 5 and 7).
 
-ghost use Rattle.std.specs.Prelude.{◌≡◌, ◌↔◌, ◌<◌, ◌≤◌, [], length, map, ◌+◌, bytes_eq, All, HoldsAt, IfOk, IsTrue};
+ghost use Rattle.std.specs.Prelude.{◌≡◌, ◌↔◌, ◌<◌, ◌≤◌, [], length, map, All, HoldsAt, IfOk, IsTrue};
 ghost use Rattle.mail_terms.specs.UniqueId.{IsLegalId};
-ghost use Rattle.mail_terms.specs.Listing.{AreAt, has_item, is_first, is_last, message_limit};
+ghost use Rattle.mail_terms.specs.Listing.{AreAt, message_limit};
 
 use crate::numbering::places_in_order;
 use crate::unique_id::is_legal_id;
@@ -77,20 +77,6 @@ impl Model for Item {
     ghost view = { λ item. record { uid = item.uid.items; size = item.size } };
 
     ghost invariant = { λ item. IsLegalId item.uid.items };
-}
-
-impl Item {
-    fn is_of(&self, uid: &[u8]) -> bool
-        ensures { result ≡ bytes_eq uid.now self.now.uid }
-    {
-        uid == self.uid.as_slice()
-    }
-}
-
-fn has_item(items: &[Item], uid: &[u8]) -> bool
-    ensures { result ≡ has_item items.now uid.now }
-{
-    items.iter().any(|item| item.is_of(uid))
 }
 
 /// The messages of a maildrop, numbered from 1: each has a legal unique-id and its listed size.
@@ -207,24 +193,6 @@ impl Listing {
     {
         let item = &self.items[i as usize];
         &item.uid
-    }
-
-    /// Whether no message before that of number `i + 1` has its unique-id. Searches them from the
-    /// front.
-    pub fn is_first(&self, i: u32) -> bool
-        requires { i < length self.now }
-        ensures { HoldsAt (λ item. result ≡ is_first self.now (i + 1, item)) self.now i }
-    {
-        !has_item(&self.items[..i as usize], self.uid(i))
-    }
-
-    /// Whether no message behind that of number `i + 1` has its unique-id. Searches them from the
-    /// front.
-    pub fn is_last(&self, i: u32) -> bool
-        requires { i < length self.now }
-        ensures { HoldsAt (λ item. result ≡ is_last self.now (i + 1, item)) self.now i }
-    {
-        !has_item(&self.items[i as usize + 1..], self.uid(i))
     }
 
     /// The listed size, in octets, of the message of number `i + 1`.
