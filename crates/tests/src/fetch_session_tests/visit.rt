@@ -107,6 +107,15 @@ pub fn settings(alloc: Global, options: &str) -> Result<Settings, Fail>
     Ok(settings)
 }
 
+/// A link that gives these replies, in which `|` stands for CR LF.
+pub fn script(alloc: Global, replies: &[&str]) -> Result<ScriptWire, AllocError> {
+    let mut octets = Vec::new(alloc);
+    for reply in replies {
+        put_octets(&mut octets, reply)?;
+    }
+    Ok(ScriptWire::new(alloc, octets, 4096))
+}
+
 /// Puts the octets of a reply behind others.
 fn put_octets(octets: &mut Vec<u8>, reply: &str) -> Result<(), AllocError> {
     for octet in reply.bytes() {
@@ -159,7 +168,7 @@ fn files(alloc: Global, maildir: &MemoryMaildir, folder: Folder) -> Result<Strin
 }
 
 /// The outcome and the counts.
-fn counts(alloc: Global, report: &Report) -> Result<String, AllocError> {
+pub fn counts(alloc: Global, report: &Report) -> Result<String, AllocError> {
     let Report {
         outcome,
         total,
