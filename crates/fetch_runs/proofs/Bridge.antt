@@ -144,7 +144,7 @@ module _ (stores : ToldStores) (settings : Settings) (account : List ℕ) (now :
       one_less = λ is. unsaved_is result report.outcome outcome_is (left.one_less is);
       recorded = elim left.recorded [
         | inl is ↦ inl is
-        | inr none ↦ inr (none.0, ap (map text_found) none.1, ap (deleted_by c.items) none.2)
+        | inr none ↦ inr (none.0, ap (map text_found) none.1, ap (deleted_by c.items) none.2, none.3)
       ];
     });
     stepped = record {

@@ -3,6 +3,7 @@ use Rattle.std.proofs.Common.{◌≡◌, ◌⊎◌, inl, inr, ◌-◌, ℕ, zero
 use Rattle.std.specs.Prelude.{bytes_eq, slice_get}
 use Rattle.std.specs.List.{AllByRecursion}
 use Rattle.std.proofs.lemmas.Bool.{or_cases, true≢false}
+use Rattle.std.proofs.lemmas.List.{append-nil}
 use Rattle.std.proofs.lemmas.Slice.Eq.{bytes_eq-Decides}
 use Rattle.pop3_wire.specs.declared.command.Command.{Command}
 use Rattle.pop3_wire.specs.declared.command.Command.TheVariants.{User, Pass, Stat, UidlAll, UidlOne, ListAll, ListOne, Retr, Dele, Rset, Noop, Top, Quit}
@@ -21,7 +22,7 @@ use Rattle.run_law.specs.Steps.{Leaves, Stores, IsHonest, ids_wanted, merged_row
 use Rattle.run_law.specs.Runs.{IsFrame, Situation, Visit, Visited, Moved as ShiftedIn, Visits, Kept, KeptStaysKept, KeptHoldsExactly, StartsKept, LeavesOut, DeletesHeld, past_limit}
 use Rattle.run_law.specs.Sessions.{IsBegun, Link as LinkIn, Links, LinksAreVisits}
 use Rattle.fetch_runs.specs.Steps.{holds, IsStep, SessionIsAStep}
-use Rattle.fetch_runs.specs.Headline.{World, IsSound, State, Occasion, Event, Fetched, Moved, maildrop_at, IsSession, after_event, Follows, frame_of, HoldsAPrefix, IsPastCount, LeavesOutOnlyBeyondLimits, IsForHeld, Promised, IsKept, Headline, EmptyIsKept, HeadlineFromEmpty}
+use Rattle.fetch_runs.specs.Headline.{World, IsSound, State, Occasion, Event, Fetched, Moved, maildrop_at, IsSession, after_event, Follows, frame_of, HoldsAPrefix, IsPastCount, LeavesOutOnlyBeyondLimits, IsForHeld, FilesStay, Promised, IsKept, Headline, EmptyIsKept, HeadlineFromEmpty}
 
 -- the laws that are used
 pub record Laws : Type 0 where
@@ -171,12 +172,20 @@ module _ (laws : Laws) (world : World) (state : State) (occasion : Occasion) (so
     all_for_held held [] all = tt
     all_for_held held (command ∷ commands) all = (for_held held command all.0, all_for_held held commands all.1)
 
+    files_stay : Leaves (holds rows state.kept.maildir) s.effect (holds s.rows' occasion.after.maildir)
+        ⊎ (Stores world.settings (digits_of world.settings) (holds rows state.kept.maildir) s.effect (holds s.rows' occasion.after.maildir)
+        × IsHonest world.settings (digits_of world.settings) (holds rows state.kept.maildir) (maildrop_at world state occasion) s.effect)
+        → FilesStay state.kept.maildir occasion.after.maildir
+    files_stay (inl left) = record { gained = []; in_new = left.in_new ∙ sym (append-nil state.kept.maildir.in_new); in_cur = left.in_cur }
+    files_stay (inr (stores, honest)) = record { gained = _; in_new = stores.in_new; in_cur = stores.in_cur }
+
     session_promised : promised → Promised world state (Fetched occasion) × IsKept world (after_event state (Fetched occasion))
     session_promised all = (
       (
         leaves_out all.1,
         record { sent = s.sent; sent_is = s.sent_is; commands = s.stepped.commands; asked = s.stepped.asked; each = all_for_held all.2 s.stepped.commands s.stepped.begun },
         all.3,
+        files_stay visits.step,
       ),
       (s.rows', s.keeps, all.0),
     )

@@ -61,7 +61,7 @@ pub record Leads (settings : Settings) (account : List ℕ) (now : ℕ) (ended :
   pub one_more : told.k + 1 ≡ length (found_of course) → refused
   pub one_less : told.j + 1 ≡ told.k → unsaved
   pub recorded : Records settings account (holds rows maildir) (effect_of now ended course) told.j (holds rows' maildir')
-      ⊎ ((rows' ≡ rows) × (found_of course ≡ []) × (begun_of course ≡ []))
+      ⊎ ((rows' ≡ rows) × (found_of course ≡ []) × (begun_of course ≡ []) × (ended ≡ false))
 
 -- a list of done tasks, and those behind it
 pub record Part (tasks : List Task) (dones : List Done) : Type 0 where
@@ -197,7 +197,7 @@ module _ (laws : Laws) (settings : Settings) (account : List ℕ) (items : List 
     counted = counts;
     one_more = λ never. absurd (omega (arith, never));
     one_less = λ never. absurd (omega (arith, never));
-    recorded = inr (refl, refl, refl);
+    recorded = inr (refl, refl, refl, refl);
   }
     where
       nothing : Part (tasks_ahead settings account items now maildir (merged rows items (flags_of account maildir items) now)) []

@@ -16,7 +16,7 @@ use Rattle.fetch_rules.specs.Record.{Row, merged}
 use Rattle.fetch_rules.specs.Wanted.{candidates}
 use Rattle.mail_store.specs.FileName.{name_of, is_held, IsAccountText}
 use Rattle.mail_store.specs.Held.{flags_of}
-use Rattle.mail_store.specs.Maildir.{Maildir}
+use Rattle.mail_store.specs.Maildir.{Maildir, File}
 use Rattle.fetch_session.specs.Accounts.{digits_of}
 use Rattle.fetch_session.specs.Records.{Keeps}
 use Rattle.fetch_session.specs.Sessions.{Kept, kept, Session}
@@ -131,9 +131,16 @@ pub record DeletesOnlyHeld (world : World) (state : State) (occasion : Occasion)
 abbrev pub OthersStay : World → State → State → Type 0
 OthersStay world before after = KeepsOthers (digits_of world.settings) (holds [] before.kept.maildir) (holds [] after.kept.maildir)
 
+-- every file of `new` and `cur` is there as before, and what came stands behind those of `new`: so a session loses none
+pub record FilesStay (before after : Maildir) : Type 0 where
+  pub gained : List File
+  pub in_new : after.in_new ≡ before.in_new ++ gained
+  pub in_cur : after.in_cur ≡ before.in_cur
+
 abbrev pub Promised : World → State → Event → Type 0
 Promised world state (Fetched occasion) =
     LeavesOutOnlyBeyondLimits world state occasion × DeletesOnlyHeld world state occasion × OthersStay world state (after_event state (Fetched occasion))
+    × FilesStay state.kept.maildir occasion.after.maildir
 Promised world state (Moved maildir) = OthersStay world state (after_event state (Moved maildir))
 
 -- before and after each event a prefix is held, and each event keeps what is promised of it

@@ -5,6 +5,7 @@ use Rattle.pop3_wire.specs.Link.{Link}
 use Rattle.pop3_wire.specs.World.{Message, maildrop_of}
 use Rattle.rc_file.specs.declared.settings.Settings.{Settings}
 use Rattle.fetch_session.specs.declared.report.Report.{Report}
+use Rattle.fetch_session.specs.Accounts.{digits_of}
 use Rattle.fetch_session.specs.Sessions.{Kept, Session}
 use Rattle.run_law.specs.Chains.{Fact}
 use Rattle.run_law.specs.Sessions.{Served}
@@ -15,11 +16,12 @@ use Rattle.fetch_runs.specs.Headline.{World, State, Occasion, Fetched, after_eve
 abbrev pub AreSound : {W : Type 0} → (W → Type 0) → List (Visit W) → Type 0
 AreSound {W} sound visits = AllByRecursion (λ (visit : Visit W). sound visit.wire) visits
 
--- each visit was one session, in order, from what the one before left, and has its report
+-- each visit was one session at its time, in order, from what the one before left, and has its report
 abbrev pub Runs : {W : Type 0} → (W → Link) → Settings → List ℕ → List (Visit W) → Kept → List Report → List (Visit W) → Kept → Type 0
 Runs seen settings account [] first [] [] last = last ≡ first
 Runs seen settings account (old ∷ olds) first (report ∷ reports) (new ∷ news) last =
-    (between : Kept) × Session settings account old.now (seen old.wire) first report (seen new.wire) between × Runs seen settings account olds between reports news last
+    (between : Kept) × Session settings account old.now (seen old.wire) first report (seen new.wire) between × (new.now ≡ old.now)
+    × Runs seen settings account olds between reports news last
 Runs seen settings account [] first (report ∷ reports) news last = ⊥
 Runs seen settings account [] first [] (new ∷ news) last = ⊥
 Runs seen settings account (old ∷ olds) first [] news last = ⊥
@@ -58,6 +60,7 @@ AreServed seen all gone olds news facts = ⊥
 abbrev pub ArePromised : {W : Type 0} → (W → Link) → World → State → List (Visit W) → List Report → List (Visit W) → List Fact → Kept → Type 0
 ArePromised seen world state [] [] [] [] last = HoldsAPrefix world state × IsKept world state × (state.kept ≡ last)
 ArePromised seen world state (old ∷ olds) (report ∷ reports) (new ∷ news) (fact ∷ facts) last =
-    (between : Kept) × HoldsAPrefix world state × Promised world state (Fetched (occasion_of seen old report new fact between))
+    (between : Kept) × Session world.settings (digits_of world.settings) old.now (seen old.wire) state.kept report (seen new.wire) between
+    × HoldsAPrefix world state × Promised world state (Fetched (occasion_of seen old report new fact between))
     × ArePromised seen world (after_event state (Fetched (occasion_of seen old report new fact between))) olds reports news facts last
 ArePromised seen world state olds reports news facts last = ⊥

@@ -1,5 +1,5 @@
 -- A session of the code as one that the law over runs speaks of.
-use Rattle.std.specs.Prelude.{◌≡◌, ◌↔◌, ◌⊎◌, ◌+◌, ℕ, true, List, [], ◌++◌, length}
+use Rattle.std.specs.Prelude.{◌≡◌, ◌↔◌, ◌⊎◌, ◌+◌, ℕ, true, false, List, [], ◌++◌, length}
 use Rattle.pop3_wire.specs.Link.{Link}
 use Rattle.fetch_rules.specs.Record.{Row}
 use Rattle.mail_store.specs.Maildir.{Maildir}
@@ -21,13 +21,13 @@ abbrev pub holds : List Row → Maildir → Account
 holds rows maildir = record { rows = rows; maildir = maildir }
 
 -- the account as it was left, by how many texts the report counts and how many of these are recorded: a text more came whole and its
--- file may be there, only where the store refused it; a text less is recorded, only where the record wasn't saved; and the record is the old one, only where nothing was retrieved and no DELE begun
+-- file may be there, only where the store refused it; a text less is recorded, only where the record wasn't saved; and the record is the old one, only where nothing was retrieved, no DELE begun, and the session was cut
 pub record IsTold (settings : Settings) (account : List ℕ) (before : Account) (effect : Effect) (after : Account) (report : Report) : Type 0 where
   pub told : Told settings account before effect after
   pub retrieved_is : report.retrieved ≡ told.k
   pub one_more : told.k + 1 ≡ length effect.texts → report.outcome ≡ Cut (StoreRefused Refused)
   pub one_less : told.j + 1 ≡ told.k → (report.outcome ≡ Cut SeenRefused) ⊎ (report.outcome ≡ Cut NoMemory)
-  pub recorded : Records settings account before effect told.j after ⊎ ((after.rows ≡ before.rows) × (effect.texts ≡ []) × (effect.begun ≡ []))
+  pub recorded : Records settings account before effect told.j after ⊎ ((after.rows ≡ before.rows) × (effect.texts ≡ []) × (effect.begun ≡ []) × (effect.ended ≡ false))
 
 -- what the link gained, what was done to the account, and the record that its file stands for afterwards
 pub record IsStep (settings : Settings) (account : List ℕ) (now : ℕ) (link : Link) (before : Kept) (rows : List Row) (report : Report) (link' : Link) (after : Kept) : Type 0 where

@@ -1,4 +1,4 @@
-use Rattle.std.proofs.Common.{◌≤◌, ◌≡◌, ◌<◌, ◌+◌, ◌++◌, ◌∷◌, [], ℕ, List, if◌then◌else◌, get_or, take, set, length, sym, ap, subst, ◌∙◌, arith, length-append}
+use Rattle.std.proofs.Common.{◌≤◌, ◌≡◌, ◌<◌, ◌+◌, ◌++◌, ◌∷◌, [], ℕ, List, if◌then◌else◌, get_or, take, set, length, refl, sym, ap, subst, ◌∙◌, arith, length-append}
 use Rattle.std.specs.Result.{is_ok}
 use Rattle.std.proofs.lemmas.List.{length-set}
 use Rattle.rc_file.specs.declared.settings.Settings.{Settings}
@@ -28,7 +28,7 @@ loop-i-preserved g c =
     let ran = ran_next g.W.Wire.sound g.W.Wire.seen c.args.account.now.settings c.args.visits.now c.loop-i.visits i start
     (g.D.MaildirDisk.sound c.args.account.now.disk × g.F.FlatFile.sound c.args.account.now.file) c.loop-i.reports.items before
     (g.D.MaildirDisk.sound c.loop-i.account.disk × g.F.FlatFile.sound c.loop-i.account.file) old new c.session-report.result after
-    (g.D.MaildirDisk.sound c.session-report.new.account.disk × g.F.FlatFile.sound c.session-report.new.account.file) inv.5 inside within here
+    (g.D.MaildirDisk.sound c.session-report.new.account.disk × g.F.FlatFile.sound c.session-report.new.account.file) inv.5 inside within here refl
     (λ sound held.
     let met = c.session-report.ensures.session sound held.0 held.1 in (
       met.0,
