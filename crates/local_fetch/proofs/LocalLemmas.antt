@@ -9,7 +9,7 @@ use Rattle.pop3_wire.specs.Commands.{line_of, can_be_sent}
 use Rattle.pop3_wire.specs.CommandLine.{HasNumbers}
 use Rattle.pop3_wire.specs.Honest.{Asked}
 use Rattle.pop3_wire.specs.World.{Message, IsMessage}
-use Rattle.run_law.specs.Sessions.{IsMarked}
+use Rattle.run_law.specs.Sessions.{IsMarked, Served}
 use Rattle.rc_file.specs.Settings.{IsValid}
 use Rattle.rc_file.specs.declared.settings.Settings.{Settings}
 use Rattle.fetch_rules.specs.Plan.{planned}
@@ -21,7 +21,7 @@ use Rattle.pop3_server.specs.Maildrop.{Mail, there}
 use Rattle.pop3_server.specs.ServerMachine.{Machine}
 use Rattle.pop3_server.specs.HonestLoop.{IsNew, GivesHonest}
 use Rattle.pop3_server.specs.LoopLink.{Loop, Serves}
-use Rattle.local_fetch.specs.Local.{AreWithout, FetchesFrom, loop_to, unused}
+use Rattle.local_fetch.specs.Local.{AreSessions, AreWithout, FetchesFrom, loop_to, unused}
 use Rattle.run_law.specs.Plans.{asked_if, step_commands, plan_commands, IsTail, IsFrontOfPlan}
 use Rattle.pop3_server.specs.HonestServer.{IsOfSession, IsAsked, IsClosedByQuit, AreLeft, Gone, lines_of}
 
@@ -159,3 +159,12 @@ module _ {M : Type 0} (sound : M → Type 0) (mail : M → Mail) (conversations 
       (from_new settings account now server loop before report after is_new valid (subst (λ (l : Loop M). Serves sound mail l loop) first serves)
       (subst (λ (l : Loop M). Session settings account now l.link before report loop.link after) first session)
       (subst (λ (m : Machine M). sound m.drop) last sound') messages)
+
+pub are_sessions : {M : Type 0} (mail : M → Mail) → AreSessions mail
+are_sessions mail world state now come old new link report after local drop = record {
+  session = local.session;
+  served = λ sent got sent_is got_is.
+      subst (λ (ms : List Message). Served ms sent got local.vanished) drop
+      (subst (λ (s : List ℕ). Served (there (mail old.drop).slots) s got local.vanished) sent_is
+      (subst (λ (g : List ℕ). Served (there (mail old.drop).slots) link.sent g local.vanished) got_is local.served));
+}

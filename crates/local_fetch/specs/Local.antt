@@ -1,14 +1,16 @@
 -- One session over a server in memory.
 use Rattle.std.specs.Prelude.{◌≡◌, ◌⊎◌, ℕ, false, List, [], ◌∷◌}
 use Rattle.pop3_wire.specs.Link.{Link}
-use Rattle.pop3_wire.specs.World.{Message}
+use Rattle.pop3_wire.specs.World.{Message, maildrop_of}
 use Rattle.run_law.specs.Sessions.{Served}
 use Rattle.rc_file.specs.declared.settings.Settings.{Settings}
 use Rattle.pop3_server.specs.Maildrop.{Mail, there}
 use Rattle.pop3_server.specs.ServerMachine.{Machine, greeting}
 use Rattle.pop3_server.specs.LoopLink.{Loop}
+use Rattle.fetch_session.specs.Accounts.{digits_of}
 use Rattle.fetch_session.specs.declared.report.Report.{Report}
 use Rattle.fetch_session.specs.Sessions.{Kept, Session}
+use Rattle.fetch_runs.specs.Headline.{World, State, IsSession}
 
 -- a link that was used for nothing yet
 abbrev pub unused : Link
@@ -31,3 +33,10 @@ pub record FetchesFrom {M : Type 0} (mail : M → Mail) (settings : Settings) (a
   pub vanished : List (List ℕ)
   pub served : Served (there (mail old.drop).slots) link.sent link.got vanished
   pub left : AreWithout (there (mail old.drop).slots) vanished (there (mail new.drop).slots)
+
+-- a law: over the maildrop of a world such a session is one of those that the headline speaks of
+abbrev pub AreSessions : {M : Type 0} → (M → Mail) → Type 0
+AreSessions {M} mail = (world : World) (state : State) (now come : ℕ) (old new : Machine M) (link : Link) (report : Report) (after : Kept)
+    → (local : FetchesFrom mail world.settings (digits_of world.settings) now old new link state.kept report after)
+    → there (mail old.drop).slots ≡ maildrop_of world.all come state.gone
+    → IsSession world state (record { now = now; report = report; link = unused; link' = link; after = after; come = come; vanished = local.vanished })

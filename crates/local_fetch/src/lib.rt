@@ -2,5 +2,7 @@
 #![tactic(auto)]
 
 mod fetch;
+mod laws;
 
 pub use fetch::fetch_local;
+pub use laws::local_sessions_are_sessions;

@@ -1,0 +1,10 @@
+//! Laws over what sessions over a server in memory did.
+ghost use Rattle.local_fetch.specs.Local.{AreSessions};
+
+use pop3_server::Maildrop;
+
+/// A law: over the maildrop of a world, what [`fetch_local`](crate::fetch_local) did is a session of
+/// those that the headline speaks of.
+pub fn local_sessions_are_sessions<M: Maildrop>()
+    ensures { AreSessions M.mail }
+{}
