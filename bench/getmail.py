@@ -25,6 +25,7 @@ from dataclasses import dataclass
 from pathlib import Path
 
 import measure
+from getmail.account import RC
 from harness import kernel
 from harness.kernel import LOOPBACK
 
@@ -36,22 +37,6 @@ MOST_MEMORY = 8 * measure.MEBIBYTE
 FEW, MANY = 5_000, 20_000
 MOST_POLL = 0.030
 SHAPES = (("2,000 of 2 KB", 2000, 2_000), ("20 of 5 MB", 20, 5_000_000), ("one of 100 MB", 1, 100_000_000))
-
-RC = """\
-[retriever]
-type = SimplePOP3Retriever
-server = {server}
-port = {port}
-username = u
-password = p
-
-[destination]
-type = Maildir
-path = {maildir}/
-
-[options]
-read_all = false
-"""
 
 
 @dataclass(frozen=True)
@@ -127,7 +112,8 @@ def account_at(folder, port):
     shutil.rmtree(folder / "account", ignore_errors=True)
     (folder / "account").mkdir()
     maildir = make_maildir(folder / "account" / "Maildir")
-    (folder / "account" / "getmailrc").write_text(RC.format(server=LOOPBACK, port=port, maildir=maildir))
+    (folder / "account" / "getmailrc").write_text(
+        RC.format(server=LOOPBACK, port=port).replace("~/Maildir/", f"{maildir}/"))
     return [measure.program("getmail"), "-q", "-g", folder / "account"]
 
 

@@ -22,27 +22,13 @@ from pathlib import Path
 
 import measure  # noqa: F401 (puts the tests' folder on the path)
 from getmail import server as servers
+from getmail.account import RC
 from harness.kernel import LOOPBACK
 
 TOP = Path(__file__).resolve().parent.parent
 SECONDS = 3
 HEAD = "From: a@example.org\nTo: u@example.org\nSubject: {0}\nMessage-Id: <{0}@example.org>\nDate: Sun, 22 Nov 2026 12:00:00 +0000\n\n"
 TEXTS = {uid: (HEAD.format(uid) + f"text of {uid}\n.\nend of {uid}\n").encode() for uid in ("first", "second", "third")}
-RC = """[retriever]
-type = SimplePOP3Retriever
-server = {host}
-port = {port}
-username = u
-password = p
-
-[destination]
-type = Maildir
-path = {home}/Maildir/
-
-[options]
-read_all = false
-delete = {delete}
-"""
 FETCHMAILRC = """poll {host} service {port} protocol pop3 uidl auth password
 user "u" password "p" {keep} sslproto "" mda "{home}/store"
 """
@@ -90,7 +76,7 @@ class Fetcher:
         for part in ("Maildir/tmp", "Maildir/new", "Maildir/cur", ".getmail"):
             (home / part).mkdir(parents=True)
         words = {"host": LOOPBACK, "port": port, "home": home, "delete": delete, "keep": "nokeep" if delete else "keep"}
-        (home / ".getmail/getmailrc").write_text(RC.format(**words))
+        (home / ".getmail/getmailrc").write_text(RC.format(server=LOOPBACK, port=port).replace("~/", f"{home}/") + f"delete = {delete}\n")
         (home / ".fetchmailrc").write_text(FETCHMAILRC.format(**words))
         (home / "store").write_text(STORE.format(**words))
         (home / "store").chmod(0o755)

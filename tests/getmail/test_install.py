@@ -50,7 +50,7 @@ class Install(unittest.TestCase):
         self.assertEqual(self.files(prefix), wanted)
 
     def test_each_file_has_its_place_and_is_taken_away(self):
-        for words, prefix in (([], "usr/local"), (["PREFIX=/usr"], "usr"), (["PREFIX=/opt/mail"], "opt/mail")):
+        for words, prefix in (([], "usr/local"), (["PREFIX=/usr"], "usr"), (["PREFIX=/srv/mail"], "srv/mail")):
             with self.subTest(prefix):
                 self.make("install", f"DESTDIR={self.place}", *words)
                 self.check_installed(prefix)
