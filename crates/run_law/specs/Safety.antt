@@ -29,7 +29,7 @@ abbrev pub DeletesKept : List ℕ → Account → Effect → List File → Comma
 DeletesKept account before effect gained (Dele number) = (item : Item) × (slice_get effect.listing (number - 1) ≡ Some item) × IsKept account before effect gained item.uid
 DeletesKept account before effect gained _ = Unit {0}
 
--- every file of `new` and `cur` is still there, with what it held, and each DELE that was begun asks for such a message
+-- every file of `new` and `cur` is still there, with what it held, and each DELE that was sent whole asks for such a message
 pub record IsSafe (account : List ℕ) (before : Account) (sent : List ℕ) (effect : Effect) (after : Account) : Type 0 where
   pub gained : List File
   pub in_new : after.maildir.in_new ≡ before.maildir.in_new ++ gained

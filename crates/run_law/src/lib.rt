@@ -85,7 +85,7 @@ pub fn fronts_are_asked()
     ensures { FrontsAreAsked }
 {}
 
-/// Whatever its server says, a session loses and changes no file of `new` and `cur`, and begins a DELE
+/// Whatever its server says, a session loses and changes no file of `new` and `cur`, and sends a DELE
 /// only for a message that was recorded as delivered before, or was held, or whose text it stored.
 pub fn sessions_are_safe()
     ensures { SessionsAreSafe }
