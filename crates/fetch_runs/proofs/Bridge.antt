@@ -27,10 +27,10 @@ use Rattle.fetch_session.specs.declared.report.Report.{Report}
 use Rattle.fetch_session.specs.declared.fault.Fault.TheVariants.{StoreRefused, SeenRefused, NoMemory}
 use Rattle.fetch_session.specs.declared.fault.Why.TheVariants as why
 use Rattle.fetch_session.specs.declared.report.ReportLine.{ReportLine}
-use Rattle.fetch_session.specs.Reports.{retrieved_in}
-use Rattle.fetch_session.specs.Tasks.{Task, deletes}
-use Rattle.fetch_session.specs.Records.{Keeps}
-use Rattle.fetch_session.specs.Sessions.{Kept, outcome_of}
+use Rattle.fetch_session.specs.Report.{retrieved_in}
+use Rattle.fetch_session.specs.Task.{Task, deletes}
+use Rattle.fetch_session.specs.Record.{Keeps}
+use Rattle.fetch_session.specs.Session.{Kept, outcome_of}
 use Rattle.fetch_runs.specs.Steps.{holds, IsStep, SessionIsAStep}
 use Rattle.fetch_runs.proofs.Courses.{Way, Idle, Deals, way_of, begun_of, found_of, IsDeleted}
 use Rattle.fetch_runs.proofs.StatePlan.{IsRight, deleted_in, deleted_by, uids_in}

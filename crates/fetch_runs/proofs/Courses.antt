@@ -19,11 +19,11 @@ use Rattle.fetch_session.specs.declared.fault.Cut.{Cut}
 use Rattle.fetch_session.specs.declared.fault.Fault.{Fault}
 use Rattle.fetch_session.specs.declared.report.Report.{Report}
 use Rattle.fetch_session.specs.declared.report.ReportLine.{ReportLine}
-use Rattle.fetch_session.specs.Tasks.{Task, stores, rereads, deletes, Done, tasks_of}
-use Rattle.fetch_session.specs.Stores.{RefusesText}
-use Rattle.fetch_session.specs.Scenes.{Scene, scene, Stops, Does, NotStored}
-use Rattle.fetch_session.specs.Plans.{tasks_ahead, Unprepared, Carried, Carries}
-use Rattle.fetch_session.specs.Sessions.{Kept, Noted, Dealt, Proceeds, Session}
+use Rattle.fetch_session.specs.Task.{Task, stores, rereads, deletes, Done, tasks_of}
+use Rattle.fetch_session.specs.Store.{RefusesText}
+use Rattle.fetch_session.specs.Scene.{Scene, scene, Stops, Does, NotStored}
+use Rattle.fetch_session.specs.Plan.{tasks_ahead, Unprepared, Carried, Carries}
+use Rattle.fetch_session.specs.Session.{Kept, Noted, Dealt, Proceeds, Session}
 
 -- the joined listing; the tasks that were brought to their end, whatever became of the record's file; the task that
 -- was begun and wasn't, if there is one; and the reply to that, where its text may be stored

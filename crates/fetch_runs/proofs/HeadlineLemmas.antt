@@ -14,8 +14,8 @@ use Rattle.mail_store.specs.Held.{flags_of}
 use Rattle.mail_store.specs.Maildir.{Maildir}
 use Rattle.fetch_rules.specs.Record.{Row, merged}
 use Rattle.fetch_rules.specs.Wanted.{candidates}
-use Rattle.fetch_session.specs.Accounts.{digits_of}
-use Rattle.fetch_session.specs.Records.{Keeps}
+use Rattle.fetch_session.specs.Account.{digits_of}
+use Rattle.fetch_session.specs.Record.{Keeps}
 use Rattle.run_law.specs.Mails.{has_id, item_of, listing_of, is_selected}
 use Rattle.run_law.specs.Accounts.{Moves, KeepsOthers}
 use Rattle.run_law.specs.Steps.{Leaves, Stores, IsHonest, ids_wanted, merged_rows}

@@ -11,11 +11,11 @@ use Rattle.fetch_rules.specs.Wanted.{wanted}
 use Rattle.mail_store.specs.Maildir.{Maildir, File}
 use Rattle.mail_store.specs.Held.{flags_of}
 use Rattle.pop3_wire.specs.Reading.{WholeReply}
-use Rattle.fetch_session.specs.Law.{SteadyFilesKeep, UnsavedFilesKeep}
-use Rattle.fetch_session.specs.Tasks.{Task, Done, IsAnswered, tasks_of, ids_of, ids_ahead, files_of}
-use Rattle.fetch_session.specs.Records.{Keeps, marked_all as marked_by_session}
-use Rattle.fetch_session.specs.Plans.{tasks_ahead}
-use Rattle.fetch_session.specs.Reports.{retrieved_in}
+use Rattle.fetch_session.specs.Laws.{SteadyFilesKeep, UnsavedFilesKeep}
+use Rattle.fetch_session.specs.Task.{Task, Done, IsAnswered, tasks_of, ids_of, ids_ahead, files_of}
+use Rattle.fetch_session.specs.Record.{Keeps, marked_all as marked_by_session}
+use Rattle.fetch_session.specs.Plan.{tasks_ahead}
+use Rattle.fetch_session.specs.Report.{retrieved_in}
 use Rattle.fetch_session.specs.declared.report.ReportLine.{ReportLine}
 use Rattle.run_law.specs.Accounts.{Account}
 use Rattle.run_law.specs.Steps.{Effect, file_for, is_unheld, marked_all, ids_wanted, wanted_at}

@@ -15,11 +15,11 @@ use Rattle.pop3_wire.specs.Reading.{WholeReply}
 use Rattle.pop3_client.specs.Turns.{IsGood, retr}
 use Rattle.pop3_client.specs.Texts.{body_text}
 use Rattle.fetch_session.specs.declared.fault.Cut.{Cut}
-use Rattle.fetch_session.specs.Tasks.{Task, says, skips, rereads, deletes, Done, IsAnswered, stores, task_in, tasks_of, ids_in, ids_of, ids_ahead, files_in, files_of, file_from, lines_in, lines_of, delivered}
-use Rattle.fetch_session.specs.Stores.{RefusesText, Gained}
-use Rattle.fetch_session.specs.Records.{Keeps, Steady, Saves, marked_all as marked_by_session}
-use Rattle.fetch_session.specs.Scenes.{Scene, Went, AllWent, Fell, Broken, NotStored, Stops, Does}
-use Rattle.fetch_session.specs.Plans.{tasks_ahead}
+use Rattle.fetch_session.specs.Task.{Task, says, skips, rereads, deletes, Done, IsAnswered, stores, task_in, tasks_of, ids_in, ids_of, ids_ahead, files_in, files_of, file_from, lines_in, lines_of, delivered}
+use Rattle.fetch_session.specs.Store.{RefusesText, Gained}
+use Rattle.fetch_session.specs.Record.{Keeps, Steady, Saves, marked_all as marked_by_session}
+use Rattle.fetch_session.specs.Scene.{Scene, Went, AllWent, Fell, Broken, NotStored, Stops, Does}
+use Rattle.fetch_session.specs.Plan.{tasks_ahead}
 use Rattle.fetch_runs.proofs.Courses.{course, stored_done, spare_in, spare_of, course_stopped, course_does, found_in, found_by, found_of}
 use Rattle.fetch_runs.proofs.StatePlan.{Safe, all_on, all_front, deleted_by}
 use Rattle.fetch_runs.proofs.StateMarks.{safe_next, safe_done}
@@ -28,7 +28,7 @@ use Rattle.fetch_session.specs.declared.fault.Fault.{Fault}
 use Rattle.fetch_session.specs.declared.fault.Fault.TheVariants.{ConnectionEnded, ReadFailed, WriteFailed, ReplyTooLong, BadReply, Refused, BadListing, ListingsDisagree, TooMany, TextTooLong, StoreRefused, SeenRefused, NoMemory, BadSeen}
 use Rattle.fetch_session.specs.declared.fault.Why.TheVariants as why
 use Rattle.fetch_session.specs.declared.report.ReportLine.{ReportLine}
-use Rattle.fetch_session.specs.Reports.{retrieved_in}
+use Rattle.fetch_session.specs.Report.{retrieved_in}
 use Rattle.fetch_runs.proofs.StateDone.{counted_by}
 
 -- without a reply nothing was found

@@ -10,8 +10,8 @@ use Rattle.mail_store.specs.FileName.{name_of, is_held}
 use Rattle.pop3_wire.specs.Reading.{WholeReply}
 use Rattle.pop3_client.specs.Turns.{IsGood}
 use Rattle.pop3_client.specs.Texts.{body_text}
-use Rattle.fetch_session.specs.Tasks.{Task, says, skips, stores, rereads, deletes, Done, IsAnswered, turns_in, tasks_of, files_in, files_of, file_from, lines_in, lines_of}
-use Rattle.fetch_session.specs.Reports.{is_taken, retrieved_in}
+use Rattle.fetch_session.specs.Task.{Task, says, skips, stores, rereads, deletes, Done, IsAnswered, turns_in, tasks_of, files_in, files_of, file_from, lines_in, lines_of}
+use Rattle.fetch_session.specs.Report.{is_taken, retrieved_in}
 use Rattle.run_law.specs.Steps.{file_for, is_unheld}
 use Rattle.fetch_runs.proofs.Courses.{found_in, found_by}
 use Rattle.fetch_runs.proofs.StatePlan.{key, fetched_in, fetched, IsRight, all_front}

@@ -16,11 +16,11 @@ use Rattle.fetch_session.specs.declared.fault.Fault.TheVariants.{ConnectionEnded
 use Rattle.fetch_session.specs.declared.fault.Why.TheVariants as why
 use Rattle.fetch_session.specs.declared.report.Report.{Report}
 use Rattle.fetch_session.specs.declared.report.ReportLine.{ReportLine}
-use Rattle.fetch_session.specs.Records.{Keeps, UnreadyCause, IsMergedAtMost, merged_now}
-use Rattle.fetch_session.specs.Reports.{retrieved_in}
-use Rattle.fetch_session.specs.Scenes.{Scene, scene}
-use Rattle.fetch_session.specs.Plans.{tasks_ahead, Unprepared, Carried, Carries}
-use Rattle.fetch_session.specs.Sessions.{Kept, Noted, Proceeds, Session}
+use Rattle.fetch_session.specs.Record.{Keeps, UnreadyCause, IsMergedAtMost, merged_now}
+use Rattle.fetch_session.specs.Report.{retrieved_in}
+use Rattle.fetch_session.specs.Scene.{Scene, scene}
+use Rattle.fetch_session.specs.Plan.{tasks_ahead, Unprepared, Carried, Carries}
+use Rattle.fetch_session.specs.Session.{Kept, Noted, Proceeds, Session}
 use Rattle.fetch_runs.proofs.Courses.{Way, Idle, Deals, course, course_carried, course_cut, course_carries, way_proceeded, way_of}
 use Rattle.fetch_runs.proofs.StateBuilt.{Laws, Leads, Part, lead, lead_nothing}
 use Rattle.fetch_runs.proofs.StateCases.{is_ended, RefusedIn, UnsavedIn, does_leads}

@@ -8,8 +8,8 @@ use Rattle.fetch_rules.specs.Record.{Row, is_of, has_row, is_delivered, is_flagg
 use Rattle.mail_store.specs.Maildir.{Maildir}
 use Rattle.mail_store.specs.FileName.{is_held}
 use Rattle.mail_store.specs.Held.{flags_of, has_flagged}
-use Rattle.fetch_session.specs.Tasks.{Task, says, skips, stores, rereads, deletes, Done, tasks_of, ids_in, ids_of, ids_ahead}
-use Rattle.fetch_session.specs.Records.{marked_all as marked_by_session}
+use Rattle.fetch_session.specs.Task.{Task, says, skips, stores, rereads, deletes, Done, tasks_of, ids_in, ids_of, ids_ahead}
+use Rattle.fetch_session.specs.Record.{marked_all as marked_by_session}
 use Rattle.run_law.specs.Steps.{marked_all}
 use Rattle.fetch_runs.proofs.StatePlan.{fetched, fetched_in, IsRight, deleted_in, deleted_by, Safe, all_on}
 

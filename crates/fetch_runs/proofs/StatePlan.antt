@@ -16,8 +16,8 @@ use Rattle.mail_store.specs.Maildir.{Maildir}
 use Rattle.mail_store.specs.FileName.{is_held}
 use Rattle.mail_store.specs.Held.{flags_of}
 use Rattle.pop3_client.specs.Turns.{quit}
-use Rattle.fetch_session.specs.Tasks.{Task, says, stores, rereads, deletes, fetching, deleting, tasks_in, tasks_planned}
-use Rattle.fetch_session.specs.Plans.{tasks_ahead}
+use Rattle.fetch_session.specs.Task.{Task, says, stores, rereads, deletes, fetching, deleting, tasks_in, tasks_planned}
+use Rattle.fetch_session.specs.Plan.{tasks_ahead}
 
 abbrev pub second : ℕ × Item → Item
 second message = message.1

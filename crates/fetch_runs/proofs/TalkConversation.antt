@@ -26,14 +26,14 @@ use Rattle.fetch_session.specs.declared.report.Outcome.{Outcome}
 use Rattle.fetch_session.specs.declared.report.Outcome.TheVariants.{Ended, Cut as WasCut}
 use Rattle.fetch_session.specs.declared.report.Report.{Report}
 use Rattle.fetch_session.specs.declared.report.ReportLine.{ReportLine}
-use Rattle.fetch_session.specs.Faults.{fault_of}
-use Rattle.fetch_session.specs.Openings.{opening, Opened}
-use Rattle.fetch_session.specs.Reports.{Reports, is_taken}
-use Rattle.fetch_session.specs.Tasks.{Task, Done, turns_in, tasks_of, turns_of, lines_in, lines_of, delivered}
-use Rattle.fetch_session.specs.Tails.{tail, Left, turns_in as tail_turns}
-use Rattle.fetch_session.specs.Scenes.{Scene, scene, Went, Stops, Does}
-use Rattle.fetch_session.specs.Plans.{tasks_ahead, Carried, Carries}
-use Rattle.fetch_session.specs.Sessions.{Kept, Noted, Dealt, Proceeds, LeavesLink, outcome_of}
+use Rattle.fetch_session.specs.Fault.{fault_of}
+use Rattle.fetch_session.specs.Opening.{opening, Opened}
+use Rattle.fetch_session.specs.Report.{Reports, is_taken}
+use Rattle.fetch_session.specs.Task.{Task, Done, turns_in, tasks_of, turns_of, lines_in, lines_of, delivered}
+use Rattle.fetch_session.specs.Tail.{tail, Left, turns_in as tail_turns}
+use Rattle.fetch_session.specs.Scene.{Scene, scene, Went, Stops, Does}
+use Rattle.fetch_session.specs.Plan.{tasks_ahead, Carried, Carries}
+use Rattle.fetch_session.specs.Session.{Kept, Noted, Dealt, Proceeds, LeavesLink, outcome_of}
 use Rattle.fetch_runs.specs.Conversations.{Conversation, Converses, plan_turns, tail_behind, retrieved_by, CountsTexts, Opens, SpeaksByPlan, SessionsAreConversations}
 use Rattle.fetch_runs.proofs.Courses.{Course, stored_done, course_stopped, course_does, course_carried, course_carries, course_dealt, begun_of}
 use Rattle.fetch_runs.proofs.TalkCommands.{commands_in, CanBeSaid, Commanded, commanded, all_append, all_front, all_back}

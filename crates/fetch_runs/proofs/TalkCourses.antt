@@ -19,10 +19,10 @@ use Rattle.mail_store.specs.FileName.{name_of}
 use Rattle.run_law.specs.Readings.{Retrieves}
 use Rattle.fetch_session.specs.declared.fault.Cut.{Cut}
 use Rattle.fetch_session.specs.declared.fault.Fault.{Fault}
-use Rattle.fetch_session.specs.Tasks.{Task, stores, Done, task_in, turns_in, tasks_of, turns_of, replies_of, IsAnswered}
-use Rattle.fetch_session.specs.Stores.{RefusesText}
-use Rattle.fetch_session.specs.Tails.{tail, LeftBy, Left, turns_in as tail_turns}
-use Rattle.fetch_session.specs.Scenes.{Scene, Went, Stops, Broken, NotStored, NotSaved}
+use Rattle.fetch_session.specs.Task.{Task, stores, Done, task_in, turns_in, tasks_of, turns_of, replies_of, IsAnswered}
+use Rattle.fetch_session.specs.Store.{RefusesText}
+use Rattle.fetch_session.specs.Tail.{tail, LeftBy, Left, turns_in as tail_turns}
+use Rattle.fetch_session.specs.Scene.{Scene, Went, Stops, Broken, NotStored, NotSaved}
 use Rattle.fetch_session.proofs.TurnLemmas.{talked_none, talked_on}
 use Rattle.fetch_runs.proofs.Courses.{Course, course, course_stopped, stored_done, spare_in, found_in, found_by, found_of, begun_of}
 use Rattle.fetch_runs.proofs.TalkParts.{Goes, Fronted, fronted, goes_tail, goes_nothing, goes_broke, goes_under}

@@ -13,9 +13,9 @@ use Rattle.mail_terms.specs.Credential.{is_credential}
 use Rattle.mail_terms.specs.declared.listing.UidRow.{UidRow}
 use Rattle.mail_terms.specs.declared.listing.ScanRow.{ScanRow}
 use Rattle.run_law.specs.Plans.{FrontsAreAsked}
-use Rattle.fetch_session.specs.Faults.{fault_of}
-use Rattle.fetch_session.specs.Openings.{opening, Opened, Enters}
-use Rattle.fetch_session.specs.Tails.{tail, turns_in as tail_turns}
+use Rattle.fetch_session.specs.Fault.{fault_of}
+use Rattle.fetch_session.specs.Opening.{opening, Opened, Enters}
+use Rattle.fetch_session.specs.Tail.{tail, turns_in as tail_turns}
 use Rattle.fetch_runs.specs.Conversations.{Converses}
 use Rattle.fetch_runs.proofs.Courses.{IsDeleted}
 use Rattle.fetch_runs.proofs.TalkParts.{fronted, goes_tail, goes_broke, conversation}

@@ -15,10 +15,10 @@ use Rattle.run_law.specs.Plans.{FrontsAreAsked}
 use Rattle.fetch_session.specs.declared.fault.Cut.{Cut}
 use Rattle.fetch_session.specs.declared.fault.Fault.{Fault}
 use Rattle.fetch_session.specs.declared.fault.Fault.TheVariants.{NoMemory}
-use Rattle.fetch_session.specs.Faults.{fault_of}
+use Rattle.fetch_session.specs.Fault.{fault_of}
 use Rattle.fetch_session.specs.declared.report.Report.{Report}
-use Rattle.fetch_session.specs.Tails.{tail, Left, turns_in as tail_turns}
-use Rattle.fetch_session.specs.Sessions.{Kept, Noted, Dealt, NotEntered, NoRoom, Proceeds, LeavesLink, Session}
+use Rattle.fetch_session.specs.Tail.{tail, Left, turns_in as tail_turns}
+use Rattle.fetch_session.specs.Session.{Kept, Noted, Dealt, NotEntered, NoRoom, Proceeds, LeavesLink, Session}
 use Rattle.fetch_runs.proofs.Courses.{Course, Way, Idle, Deals, course_dealt, way_proceeded, way_of, begun_of, IsDeleted}
 use Rattle.fetch_runs.proofs.TalkCommands.{all_front}
 use Rattle.fetch_runs.proofs.TalkReplies.{IsPlain}

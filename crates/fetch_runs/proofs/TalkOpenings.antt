@@ -15,7 +15,7 @@ use Rattle.mail_terms.specs.declared.listing.ScanRow.{ScanRow}
 use Rattle.pop3_client.specs.Turns.{greeting, stat, IsBody, IsGood}
 use Rattle.pop3_client.specs.Conversation.{TellsCount}
 use Rattle.run_law.specs.Readings.{IsListed}
-use Rattle.fetch_session.specs.Openings.{opening, Opened}
+use Rattle.fetch_session.specs.Opening.{opening, Opened}
 use Rattle.fetch_runs.proofs.TalkCommands.{CanBeSaid}
 
 -- the six replies to an opening

@@ -8,8 +8,8 @@ use Rattle.pop3_wire.specs.Reading.{WholeReply, reply_bytes}
 use Rattle.pop3_client.specs.declared.fault.Fault.{Fault as TalkFault}
 use Rattle.pop3_client.specs.Turns.{Turn, turn_bytes, asking}
 use Rattle.pop3_client.specs.Conversation.{Talked, Talks, Broke, IsFrontOfNext, ConversationsArePaced}
-use Rattle.fetch_session.specs.Faults.{fault_of}
-use Rattle.fetch_session.specs.Tails.{turns_in, tail}
+use Rattle.fetch_session.specs.Fault.{fault_of}
+use Rattle.fetch_session.specs.Tail.{turns_in, tail}
 use Rattle.fetch_runs.specs.Conversations.{SentBehind, Conversation}
 
 cons_parts : {A : Type 0} (x y : A) (xs ys : List A) → x ∷ xs ≡ y ∷ ys → (x ≡ y) × (xs ≡ ys)

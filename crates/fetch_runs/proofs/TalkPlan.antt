@@ -12,8 +12,8 @@ use Rattle.mail_store.specs.Maildir.{Maildir}
 use Rattle.mail_store.specs.FileName.{is_held}
 use Rattle.mail_store.specs.Held.{flags_of}
 use Rattle.run_law.specs.Plans.{asked_if, step_commands}
-use Rattle.fetch_session.specs.Reports.{is_taken}
-use Rattle.fetch_session.specs.Tasks.{Task, says, skips, stores, rereads, deletes, Done, fetching, deleting, tasks_planned, turns_in, tasks_of, turns_of, lines_in, lines_of, IsAnswered}
+use Rattle.fetch_session.specs.Report.{is_taken}
+use Rattle.fetch_session.specs.Task.{Task, says, skips, stores, rereads, deletes, Done, fetching, deleting, tasks_planned, turns_in, tasks_of, turns_of, lines_in, lines_of, IsAnswered}
 use Rattle.fetch_runs.specs.Conversations.{is_retrieval, retrieved_by}
 use Rattle.fetch_runs.proofs.TalkReplies.{IsPlain}
 

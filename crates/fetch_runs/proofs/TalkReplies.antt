@@ -9,7 +9,7 @@ use Rattle.pop3_wire.specs.Reading.{WholeReply, body_bytes}
 use Rattle.pop3_client.specs.Turns.{Turn, retr, quit, IsBody, IsGood}
 use Rattle.pop3_client.specs.Texts.{body_text}
 use Rattle.run_law.specs.Readings.{AreGood, Retrieves, IsGood as IsRead, IsBody as IsReadBody}
-use Rattle.fetch_session.specs.Tasks.{Task, says, skips, stores, rereads, deletes, Done, turns_in, tasks_of, turns_of, replies_of, IsAnswered}
+use Rattle.fetch_session.specs.Task.{Task, says, skips, stores, rereads, deletes, Done, turns_in, tasks_of, turns_of, replies_of, IsAnswered}
 use Rattle.fetch_runs.proofs.Courses.{found_in, found_by}
 use Rattle.fetch_runs.proofs.TalkCommands.{said_in, commands_in}
 

@@ -13,11 +13,11 @@ use Rattle.mail_store.specs.Maildir.{Maildir}
 use Rattle.mail_store.specs.FlatFile.{Stored}
 use Rattle.fetch_session.specs.declared.fault.Cut.{Cut}
 use Rattle.fetch_session.specs.declared.report.ReportLine.{ReportLine}
-use Rattle.fetch_session.specs.Tasks.{Task, stores, Done, task_in, tasks_of}
-use Rattle.fetch_session.specs.Tails.{tail, Left, turns_in as tail_turns}
-use Rattle.fetch_session.specs.Scenes.{Scene, scene, Stops, Does}
-use Rattle.fetch_session.specs.Plans.{tasks_ahead, Unprepared, Carried, Carries}
-use Rattle.fetch_session.specs.Sessions.{LeavesLink}
+use Rattle.fetch_session.specs.Task.{Task, stores, Done, task_in, tasks_of}
+use Rattle.fetch_session.specs.Tail.{tail, Left, turns_in as tail_turns}
+use Rattle.fetch_session.specs.Scene.{Scene, scene, Stops, Does}
+use Rattle.fetch_session.specs.Plan.{tasks_ahead, Unprepared, Carried, Carries}
+use Rattle.fetch_session.specs.Session.{LeavesLink}
 use Rattle.fetch_runs.proofs.Courses.{Course, course, stored_done, course_stopped, course_does, course_carried, course_carries, begun_of}
 use Rattle.fetch_runs.proofs.TalkCommands.{all_front}
 use Rattle.fetch_runs.proofs.TalkReplies.{IsPlain}

@@ -15,12 +15,12 @@ use Rattle.mail_terms.specs.declared.listing.ScanRow.{ScanRow}
 use Rattle.pop3_client.specs.Turns.{Turn, quit, rset}
 use Rattle.run_law.specs.Plans.{FrontsAreAsked}
 use Rattle.run_law.specs.Readings.{AreGood, Talked as IsTalked, IsListed, Retrieves}
-use Rattle.fetch_session.specs.Openings.{opening, Opened}
-use Rattle.fetch_session.specs.Tasks.{Task}
+use Rattle.fetch_session.specs.Opening.{opening, Opened}
+use Rattle.fetch_session.specs.Task.{Task}
 use Rattle.pop3_client.specs.declared.fault.Asked.TheVariants.{Greeting as ByGreeting, User as ByUser, Pass as ByPass, Stat as ByStat, Uidl as ByUidl, List as ByList, Retr as ByRetr, Dele as ByDele, Quit as ByQuit}
 use Rattle.fetch_session.specs.declared.fault.Fault.{Fault}
 use Rattle.fetch_session.specs.declared.fault.Fault.TheVariants.{ConnectionEnded, ReadFailed, WriteFailed, ReplyTooLong, BadReply, Refused, BadListing, ListingsDisagree, TooMany, TextTooLong, StoreRefused, SeenRefused, NoMemory, BadSeen}
-use Rattle.fetch_session.specs.Tails.{tail, turns_in as tail_turns}
+use Rattle.fetch_session.specs.Tail.{tail, turns_in as tail_turns}
 use Rattle.fetch_session.proofs.TurnLemmas.{talked_on}
 use Rattle.fetch_runs.specs.Conversations.{Conversation}
 use Rattle.fetch_runs.proofs.Courses.{Course, found_of, begun_of, IsDeleted}

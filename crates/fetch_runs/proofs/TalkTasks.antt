@@ -10,8 +10,8 @@ use Rattle.fetch_rules.specs.declared.steps.Step.{Step}
 use Rattle.rc_file.specs.declared.settings.Settings.{Settings}
 use Rattle.mail_store.specs.Maildir.{Maildir}
 use Rattle.mail_store.specs.Held.{flags_of}
-use Rattle.fetch_session.specs.Tasks.{Task, says, skips, stores, rereads, deletes, Done, fetching, deleting, tasks_planned, turns_in, tasks_of, turns_of}
-use Rattle.fetch_session.specs.Plans.{tasks_ahead}
+use Rattle.fetch_session.specs.Task.{Task, says, skips, stores, rereads, deletes, Done, fetching, deleting, tasks_planned, turns_in, tasks_of, turns_of}
+use Rattle.fetch_session.specs.Plan.{tasks_ahead}
 use Rattle.fetch_runs.proofs.Courses.{IsDeleted}
 use Rattle.fetch_runs.proofs.TalkCommands.{said_in, commands_in, CanBeSaid, all_append}
 use Rattle.fetch_runs.proofs.TalkReplies.{IsCommand, IsPlain}

@@ -5,8 +5,8 @@ use Rattle.fetch_rules.specs.Record.{Row}
 use Rattle.rc_file.specs.Settings.{IsValid}
 use Rattle.rc_file.specs.declared.settings.Settings.{Settings}
 use Rattle.fetch_session.specs.declared.report.Report.{Report}
-use Rattle.fetch_session.specs.Records.{Keeps}
-use Rattle.fetch_session.specs.Sessions.{Kept, Session}
+use Rattle.fetch_session.specs.Record.{Keeps}
+use Rattle.fetch_session.specs.Session.{Kept, Session}
 use Rattle.run_law.specs.Safety.{IsSafe}
 use Rattle.fetch_runs.specs.Steps.{holds, IsStep}
 

@@ -19,9 +19,9 @@ use Rattle.run_law.specs.Readings.{IsListed}
 use Rattle.fetch_session.specs.declared.report.Outcome.{Outcome}
 use Rattle.fetch_session.specs.declared.report.Outcome.TheVariants.{Ended, Cut}
 use Rattle.fetch_session.specs.declared.report.Report.{Report}
-use Rattle.fetch_session.specs.Openings.{opening}
-use Rattle.fetch_session.specs.Tails.{tail, turns_in}
-use Rattle.fetch_session.specs.Sessions.{Kept, Session}
+use Rattle.fetch_session.specs.Opening.{opening}
+use Rattle.fetch_session.specs.Tail.{tail, turns_in}
+use Rattle.fetch_session.specs.Session.{Kept, Session}
 
 -- what was sent behind the turns that were talked: a front of the octets of the turn that was begun, if one was; or
 -- these whole, and a front of the tail's

@@ -17,9 +17,9 @@ use Rattle.fetch_rules.specs.Wanted.{candidates}
 use Rattle.mail_store.specs.FileName.{name_of, is_held, IsAccountText}
 use Rattle.mail_store.specs.Held.{flags_of}
 use Rattle.mail_store.specs.Maildir.{Maildir, File}
-use Rattle.fetch_session.specs.Accounts.{digits_of}
-use Rattle.fetch_session.specs.Records.{Keeps}
-use Rattle.fetch_session.specs.Sessions.{Kept, kept, Session}
+use Rattle.fetch_session.specs.Account.{digits_of}
+use Rattle.fetch_session.specs.Record.{Keeps}
+use Rattle.fetch_session.specs.Session.{Kept, kept, Session}
 use Rattle.fetch_session.specs.declared.report.Outcome.TheVariants.{Ended}
 use Rattle.fetch_session.specs.declared.report.Report.{Report}
 use Rattle.run_law.specs.Mails.{has_id, listing_of, is_selected}

@@ -5,8 +5,8 @@ use Rattle.pop3_wire.specs.Link.{Link}
 use Rattle.pop3_wire.specs.World.{Message, maildrop_of}
 use Rattle.rc_file.specs.declared.settings.Settings.{Settings}
 use Rattle.fetch_session.specs.declared.report.Report.{Report}
-use Rattle.fetch_session.specs.Accounts.{digits_of}
-use Rattle.fetch_session.specs.Sessions.{Kept, Session}
+use Rattle.fetch_session.specs.Account.{digits_of}
+use Rattle.fetch_session.specs.Session.{Kept, Session}
 use Rattle.run_law.specs.Chains.{Fact}
 use Rattle.run_law.specs.Sessions.{Served}
 use Rattle.fetch_runs.specs.declared.run.Visit.{Visit}

@@ -9,8 +9,8 @@ use Rattle.fetch_session.specs.declared.report.Outcome.TheVariants.{Ended, Cut}
 use Rattle.fetch_session.specs.declared.fault.Fault.TheVariants.{StoreRefused, SeenRefused, NoMemory}
 use Rattle.fetch_session.specs.declared.fault.Why.TheVariants.{Refused}
 use Rattle.fetch_session.specs.declared.report.Report.{Report}
-use Rattle.fetch_session.specs.Records.{Keeps}
-use Rattle.fetch_session.specs.Sessions.{Kept, Session}
+use Rattle.fetch_session.specs.Record.{Keeps}
+use Rattle.fetch_session.specs.Session.{Kept, Session}
 use Rattle.run_law.specs.Accounts.{Account}
 use Rattle.run_law.specs.Steps.{Effect, Leaves}
 use Rattle.run_law.specs.Told.{Told, Records}

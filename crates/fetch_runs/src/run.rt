@@ -1,7 +1,7 @@
 //! Sessions of an account, one after another, each over its own link.
 ghost use Rattle.std.specs.Prelude.{◌≡◌, ◌*◌, ℕ, List, length, IfErr, IfOk};
-ghost use Rattle.fetch_session.specs.Accounts.{digits_of};
-ghost use Rattle.fetch_session.specs.Sessions.{kept};
+ghost use Rattle.fetch_session.specs.Account.{digits_of};
+ghost use Rattle.fetch_session.specs.Session.{kept};
 ghost use Rattle.fetch_runs.specs.Headline.{IsKept, IsSound};
 ghost use Rattle.fetch_runs.specs.Runs.{ArePromised, AreServed, AreSound, Runs, state_of, world_of};
 ghost use Rattle.pop3_wire.specs.World.{Message};

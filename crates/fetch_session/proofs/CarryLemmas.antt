@@ -19,12 +19,12 @@ use Rattle.fetch_session.specs.declared.fault.Fault.{Fault}
 use Rattle.fetch_session.specs.declared.readiness.Ready.{Ready}
 use Rattle.fetch_session.specs.declared.fault.Cut.{Cut}
 use Rattle.fetch_session.specs.declared.report.ReportLine.{ReportLine}
-use Rattle.fetch_session.specs.Faults.{fault_of, cut_of}
-use Rattle.fetch_session.specs.Tasks.{Task, says, tasks_planned}
-use Rattle.fetch_session.specs.Records.{IsReady, Unready}
-use Rattle.fetch_session.specs.Reports.{skipped_in}
-use Rattle.fetch_session.specs.Scenes.{Scene, scene, AllWent, Fell}
-use Rattle.fetch_session.specs.Plans.{tasks_ahead, Prepared, Unprepared, Carried}
+use Rattle.fetch_session.specs.Fault.{fault_of, cut_of}
+use Rattle.fetch_session.specs.Task.{Task, says, tasks_planned}
+use Rattle.fetch_session.specs.Record.{IsReady, Unready}
+use Rattle.fetch_session.specs.Report.{skipped_in}
+use Rattle.fetch_session.specs.Scene.{Scene, scene, AllWent, Fell}
+use Rattle.fetch_session.specs.Plan.{tasks_ahead, Prepared, Unprepared, Carried}
 use Rattle.fetch_session.proofs.SceneLemmas.{gained_none, all_on, fell_on, fell_first, fell_before}
 use Rattle.fetch_session.proofs.TakeLemmas.{text_broken}
 

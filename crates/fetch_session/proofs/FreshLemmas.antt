@@ -10,8 +10,8 @@ use Rattle.mail_terms.specs.Listing.{Item}
 use Rattle.fetch_rules.specs.declared.steps.Step.{Step}
 use Rattle.mail_store.specs.Maildir.{Maildir, File, file, with_file}
 use Rattle.mail_store.specs.FileName.{name_of, names_id, is_held, IsAccountText}
-use Rattle.fetch_session.specs.Tasks.{Task, ids_in, ids_ahead, AreFresh, fetching, deleting, tasks_in, tasks_planned}
-use Rattle.fetch_session.specs.Stores.{Grows, GrowsBy, Rests}
+use Rattle.fetch_session.specs.Task.{Task, ids_in, ids_ahead, AreFresh, fetching, deleting, tasks_in, tasks_planned}
+use Rattle.fetch_session.specs.Store.{Grows, GrowsBy, Rests}
 
 -- what is held goes by the names in `new` and `cur` alone
 held_by_files : (account uid : List ℕ) (a b : Maildir) → b.in_new ≡ a.in_new → b.in_cur ≡ a.in_cur → is_held account b uid ≡ is_held account a uid

@@ -26,15 +26,15 @@ use Rattle.fetch_session.specs.declared.fault.Fault.{Fault}
 use Rattle.fetch_session.specs.declared.fault.Fault.TheVariants.{Refused}
 use Rattle.fetch_session.specs.declared.fault.Cut.{Cut}
 use Rattle.fetch_session.specs.declared.report.ReportLine.{ReportLine}
-use Rattle.fetch_session.specs.declared.tails.Tail.{Tail}
-use Rattle.fetch_session.specs.declared.tails.Tail.TheVariants.{Nothing, Leave, Undo}
-use Rattle.fetch_session.specs.Faults.{fault_of}
-use Rattle.fetch_session.specs.Tasks.{Task, says, stores, turns_in, fetching, deleting, tasks_in, tasks_planned, Done, tasks_of, turns_of}
-use Rattle.fetch_session.specs.Scenes.{Scene, scene, Went, Fell, Stops}
-use Rattle.fetch_session.specs.Tails.{turns_in as tail_turns, tail, Left, LeftBy}
-use Rattle.fetch_session.specs.Openings.{opening, Enters}
-use Rattle.fetch_session.specs.Plans.{Carried, Carries}
-use Rattle.fetch_session.specs.Sessions.{Kept, Noted, Proceeds}
+use Rattle.fetch_session.specs.declared.tail.Tail.{Tail}
+use Rattle.fetch_session.specs.declared.tail.Tail.TheVariants.{Nothing, Leave, Undo}
+use Rattle.fetch_session.specs.Fault.{fault_of}
+use Rattle.fetch_session.specs.Task.{Task, says, stores, turns_in, fetching, deleting, tasks_in, tasks_planned, Done, tasks_of, turns_of}
+use Rattle.fetch_session.specs.Scene.{Scene, scene, Went, Fell, Stops}
+use Rattle.fetch_session.specs.Tail.{turns_in as tail_turns, tail, Left, LeftBy}
+use Rattle.fetch_session.specs.Opening.{opening, Enters}
+use Rattle.fetch_session.specs.Plan.{Carried, Carries}
+use Rattle.fetch_session.specs.Session.{Kept, Noted, Proceeds}
 use Rattle.fetch_session.specs.Intake.{session_limit, GotAtMost}
 use Rattle.fetch_session.proofs.TurnLemmas.{stopped_first}
 

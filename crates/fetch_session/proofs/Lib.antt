@@ -9,7 +9,7 @@ pub mod ReadLemmas
 pub mod ReadyLemmas
 pub mod CarryLemmas
 pub mod TailLemmas
-pub mod StepLemmas
+pub mod StoppingLemmas
 pub mod ReportLemmas
 pub mod SessionLemmas
 pub mod OpeningLemmas

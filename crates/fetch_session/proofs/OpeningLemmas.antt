@@ -9,7 +9,7 @@ use Rattle.pop3_client.specs.declared.fault.Fault.{Fault}
 use Rattle.pop3_client.specs.Turns.{stat, uidl, list}
 use Rattle.pop3_client.specs.Conversation.{Talked, Stopped, Broke, TellsCount, login}
 use Rattle.pop3_client.specs.Listing.{Listed, GetsListing}
-use Rattle.fetch_session.specs.Openings.{Opened, Enters}
+use Rattle.fetch_session.specs.Opening.{Opened, Enters}
 use Rattle.fetch_session.proofs.TurnLemmas.{talked_on, stopped_first, stopped_before, stopped_behind}
 
 module _ (name password : List ℕ) (a b c d : Place) (welcome : List WholeReply) (entered : Talked (login name password) welcome a b) where

@@ -13,7 +13,7 @@ use Rattle.mail_store.specs.Maildir.{Maildir}
 use Rattle.mail_store.specs.FileName.{is_held}
 use Rattle.mail_store.specs.Held.{flags_of}
 use Rattle.fetch_rules.specs.Laws.{FetchesFirsts}
-use Rattle.fetch_session.specs.Tasks.{ids_ahead, AreFresh, fetching, tasks_planned}
+use Rattle.fetch_session.specs.Task.{ids_ahead, AreFresh, fetching, tasks_planned}
 use Rattle.fetch_session.proofs.FreshLemmas.{ahead}
 use Rattle.fetch_session.proofs.SceneLemmas.{all_append}
 

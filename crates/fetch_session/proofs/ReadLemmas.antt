@@ -7,7 +7,7 @@ use Rattle.fetch_rules.specs.declared.seen.SeenFault.TheVariants.{NoMemory as Wa
 use Rattle.mail_store.specs.FlatFile.{Stored}
 use Rattle.fetch_session.specs.declared.fault.Fault.{Fault}
 use Rattle.fetch_session.specs.declared.fault.Fault.TheVariants.{ConnectionEnded, ReadFailed, WriteFailed, ReplyTooLong, BadReply, Refused, BadListing, ListingsDisagree, TooMany, TextTooLong, StoreRefused, SeenRefused, NoMemory, BadSeen}
-use Rattle.fetch_session.specs.Records.{bytes_in, LineOf, Reads, IsLineFault}
+use Rattle.fetch_session.specs.Record.{bytes_in, LineOf, Reads, IsLineFault}
 
 -- a fault with a line isn't want of memory
 has_line : (why : SeenFault) (line : ℕ) → LineOf why line → why ≢ WantsMemory

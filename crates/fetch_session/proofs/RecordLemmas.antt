@@ -11,7 +11,7 @@ use Rattle.mail_store.specs.FlatFile.{Stored, holding, counted, Appends}
 use Rattle.mail_store.specs.declared.fault.StoreFault.{StoreFault}
 use Rattle.fetch_session.specs.declared.fault.Fault.{Fault}
 use Rattle.fetch_session.specs.declared.fault.Fault.TheVariants.{ConnectionEnded, ReadFailed, WriteFailed, ReplyTooLong, BadReply, Refused, BadListing, ListingsDisagree, TooMany, TextTooLong, StoreRefused, SeenRefused, NoMemory, BadSeen}
-use Rattle.fetch_session.specs.Records.{bytes_in, Keeps, Steady, ReadAs, Writes, Saves, Merges}
+use Rattle.fetch_session.specs.Record.{bytes_in, Keeps, Steady, ReadAs, Writes, Saves, Merges}
 
 abbrev rows_of : Meaning → List Row
 rows_of (Rows rows torn) = rows

@@ -11,10 +11,10 @@ use Rattle.pop3_client.specs.Conversation.{Talked}
 use Rattle.fetch_session.proofs.TurnLemmas.{talked_none, talked_on}
 use Rattle.fetch_session.specs.declared.fault.Cut.{Cut}
 use Rattle.fetch_session.specs.declared.report.ReportLine.{ReportLine}
-use Rattle.fetch_session.specs.Tasks.{Task, Done, IsAnswered, task_in, turns_in, ids_in, files_in, lines_in, tasks_of, turns_of, replies_of, ids_of, files_of, lines_of}
-use Rattle.fetch_session.specs.Stores.{Gained}
-use Rattle.fetch_session.specs.Records.{marked_all}
-use Rattle.fetch_session.specs.Scenes.{Scene, Went, AllWent, Fell, Stops, TakesTask, Does}
+use Rattle.fetch_session.specs.Task.{Task, Done, IsAnswered, task_in, turns_in, ids_in, files_in, lines_in, tasks_of, turns_of, replies_of, ids_of, files_of, lines_of}
+use Rattle.fetch_session.specs.Store.{Gained}
+use Rattle.fetch_session.specs.Record.{marked_all}
+use Rattle.fetch_session.specs.Scene.{Scene, Went, AllWent, Fell, Stops, TakesTask, Does}
 
 pub gained_none : (m : Maildir) → Gained m m []
 gained_none m = record { in_new = sym (append-nil m.in_new); in_cur = refl; there = refl; calm = λ calm. calm; failures = omega arith }

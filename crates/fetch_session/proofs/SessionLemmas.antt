@@ -6,10 +6,10 @@ use Rattle.mail_terms.specs.Listing.{Item}
 use Rattle.rc_file.specs.declared.settings.Settings.{Settings}
 use Rattle.fetch_session.specs.declared.fault.Cut.{Cut}
 use Rattle.fetch_session.specs.declared.report.ReportLine.{ReportLine}
-use Rattle.fetch_session.specs.Plans.{Carries}
-use Rattle.fetch_session.specs.Sessions.{Kept, Noted, Enters_with, Proceeds, Session}
-use Rattle.fetch_session.specs.Tails.{Left}
-use Rattle.fetch_session.specs.Reports.{Reports}
+use Rattle.fetch_session.specs.Plan.{Carries}
+use Rattle.fetch_session.specs.Session.{Kept, Noted, Enters_with, Proceeds, Session}
+use Rattle.fetch_session.specs.Tail.{Left}
+use Rattle.fetch_session.specs.Report.{Reports}
 use Rattle.fetch_session.specs.declared.report.Report.{Report}
 use Rattle.fetch_session.specs.declared.report.Outcome.TheVariants.{Ended, Cut as WasCut}
 

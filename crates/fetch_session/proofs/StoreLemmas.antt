@@ -4,14 +4,14 @@ use Rattle.std.proofs.lemmas.List.{length-take-le}
 use Rattle.mail_store.specs.Maildir.{Maildir, File, file, with_file, dropped, counted}
 use Rattle.fetch_session.specs.declared.fault.Fault.{Fault}
 use Rattle.fetch_session.specs.declared.fault.Cut.{Cut}
-use Rattle.fetch_session.specs.Faults.{fault_of, cut_of}
+use Rattle.fetch_session.specs.Fault.{fault_of, cut_of}
 use Rattle.pop3_wire.specs.Place.{Place}
 use Rattle.pop3_wire.specs.Bodies.{Rest}
 use Rattle.pop3_wire.specs.declared.unstuffer.Spot.TheVariants.{Done}
 use Rattle.pop3_client.specs.declared.fault.Fault.{Fault as TalkFault}
 use Rattle.pop3_client.specs.Conversation.{Broke}
 use Rattle.pop3_client.specs.Turns.{retr}
-use Rattle.fetch_session.specs.Stores.{Gained, Grows, begun_with, Starts, Puts, Ends, RefusesText, StopsStoring, StoresText, StopsReading}
+use Rattle.fetch_session.specs.Store.{Gained, Grows, begun_with, Starts, Puts, Ends, RefusesText, StopsStoring, StoresText, StopsReading}
 
 pub gained_file : (old new : Maildir) (f : File) → new ≡ with_file old f → Gained old new (f ∷ [])
 gained_file old new f is =

@@ -6,7 +6,7 @@ use Rattle.pop3_client.specs.declared.fault.Fault.{Fault as TalkFault}
 use Rattle.pop3_client.specs.Turns.{retr}
 use Rattle.pop3_client.specs.Conversation.{Talks}
 use Rattle.fetch_session.specs.declared.fault.Fault.{Fault}
-use Rattle.fetch_session.specs.Tails.{turns_in, tail, Drops, LeftBy}
+use Rattle.fetch_session.specs.Tail.{turns_in, tail, Drops, LeftBy}
 use Rattle.fetch_session.proofs.TurnLemmas.{talks_on, stopped_first}
 
 abbrev result_of : Result (Unit {0}) TalkFault → Result (Unit {0}) TalkFault

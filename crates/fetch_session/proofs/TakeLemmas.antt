@@ -16,12 +16,12 @@ use Rattle.fetch_session.specs.declared.fault.Fault.TheVariants.{NoMemory}
 use Rattle.fetch_session.specs.declared.fault.Cut.{Cut}
 use Rattle.fetch_session.specs.declared.report.ReportLine.{ReportLine}
 use Rattle.fetch_session.specs.declared.report.ReportLine.TheVariants.{Delivered, Held, Skipped, Deleted}
-use Rattle.fetch_session.specs.Faults.{fault_of, cut_of}
+use Rattle.fetch_session.specs.Fault.{fault_of, cut_of}
 use Rattle.pop3_wire.specs.Bodies.{Rest}
-use Rattle.fetch_session.specs.Tasks.{Task, stores, skips, rereads, deletes, turns_in, file_from, delivered, fetching, deleting}
-use Rattle.fetch_session.specs.Stores.{RefusesText, StopsStoring, StoresText, StopsReading, ReadsText, PassesText}
-use Rattle.fetch_session.specs.Records.{Steady, Saves}
-use Rattle.fetch_session.specs.Scenes.{scene, AllWent, Stops, TakesTask}
+use Rattle.fetch_session.specs.Task.{Task, stores, skips, rereads, deletes, turns_in, file_from, delivered, fetching, deleting}
+use Rattle.fetch_session.specs.Store.{RefusesText, StopsStoring, StoresText, StopsReading, ReadsText, PassesText}
+use Rattle.fetch_session.specs.Record.{Steady, Saves}
+use Rattle.fetch_session.specs.Scene.{scene, AllWent, Stops, TakesTask}
 use Rattle.std.specs.Prelude.{not}
 use Rattle.std.proofs.lemmas.Bool.{true≢false}
 use Rattle.fetch_session.proofs.TurnLemmas.{talked_none}

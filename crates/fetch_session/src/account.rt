@@ -1,7 +1,7 @@
 //! The account that sessions are for.
 ghost use Rattle.std.specs.Prelude.{◌≡◌, None};
 ghost use Rattle.rc_file.specs.Settings.{IsValid};
-ghost use Rattle.fetch_session.specs.Accounts.{disk_of};
+ghost use Rattle.fetch_session.specs.Account.{disk_of};
 
 use fetch_rules::{Seen, Settings};
 use mail_store::{AccountId, FlatFile, MaildirDisk, account_id};
@@ -33,7 +33,7 @@ impl<D: MaildirDisk, F: FlatFile, H: BuildHasher> Model for Account<D, F, H> {
     ghost use Rattle.rc_file.specs.Settings.{IsValid};
     ghost use Rattle.mail_store.specs.FileName.{IsAccountText, account_text};
     ghost use Rattle.std.specs.String.{string_bytes};
-    ghost use Rattle.fetch_session.specs.Accounts.{Holding};
+    ghost use Rattle.fetch_session.specs.Account.{Holding};
 
     ghost Value = { Holding D F };
 

@@ -1,6 +1,6 @@
 //! Why a session is cut.
 ghost use Rattle.std.specs.Prelude.{◌≡◌, None};
-ghost use Rattle.fetch_session.specs.Faults.{fault_of, cut_of};
+ghost use Rattle.fetch_session.specs.Fault.{fault_of, cut_of};
 
 use pop3_client::{Asked, Fault as TalkFault};
 use pop3_wire::BodyReader;
@@ -64,7 +64,8 @@ pub enum Fault {
     BadSeen(u32),
 }
 
-/// Why a session is cut, and the reply that is under way then, if one is.
+/// Why a session is cut, and the reply that is under way then, if one is. No call outside gives or takes
+/// one: it is public since the words on what a session did speak of it.
 #[derive(Drop)]
 pub struct Cut {
     /// Why.

@@ -4,7 +4,7 @@ ghost use Rattle.std.specs.String.{string_bytes};
 ghost use Rattle.pop3_wire.specs.Place.{at};
 ghost use Rattle.mail_terms.specs.UniqueId.{IsLegalId};
 ghost use Rattle.rc_file.specs.Settings.{IsValid};
-ghost use Rattle.fetch_session.specs.Openings.{Enters};
+ghost use Rattle.fetch_session.specs.Opening.{Enters};
 
 use fetch_rules::Settings;
 use mail_terms::Listing;

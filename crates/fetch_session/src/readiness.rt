@@ -3,7 +3,7 @@ ghost use Rattle.std.specs.Prelude.{◌≡◌, ◌≢◌, ℕ, List, [], false, 
 ghost use Rattle.fetch_rules.specs.Record.{merged};
 ghost use Rattle.fetch_rules.specs.Plan.{planned};
 ghost use Rattle.mail_store.specs.Held.{flags_of};
-ghost use Rattle.fetch_session.specs.Records.{Gets, Reads, ReadAs, Merges, Readies, IsLineFault, FindsHeld, Steady, bytes_in};
+ghost use Rattle.fetch_session.specs.Record.{Gets, Reads, ReadAs, Merges, Readies, IsLineFault, FindsHeld, Steady, bytes_in};
 
 use crate::fault::{Fault, Why};
 use crate::record::{grow, save};

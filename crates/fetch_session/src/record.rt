@@ -4,7 +4,7 @@ ghost use Rattle.fetch_rules.specs.Record.{Row, marked};
 ghost use Rattle.fetch_rules.specs.RecordFile.{file_of};
 ghost use Rattle.fetch_rules.specs.RecordMeaning.{Means, Rows};
 ghost use Rattle.fetch_rules.specs.RecordGrowth.{Updates};
-ghost use Rattle.fetch_session.specs.Records.{Writes, Saves, Steady, bytes_in};
+ghost use Rattle.fetch_session.specs.Record.{Writes, Saves, Steady, bytes_in};
 
 use crate::fault::Fault;
 use fetch_rules::{Seen, appended_counts, bytes_stand, cut_is_ignored};

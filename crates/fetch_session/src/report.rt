@@ -1,7 +1,7 @@
 //! What a session tells of itself.
 ghost use Rattle.std.specs.Prelude.{◌≡◌, ◌≤◌, ◌+◌, ◌++◌, ◌∷◌, [], vec_len, length, filter, not};
 ghost use Rattle.std.specs.Vec.{vec_capacity};
-ghost use Rattle.fetch_session.specs.Reports.{HasRoom, is_deletion, is_taken, length_in, takes_back, kept_lines, retrieved_in, length_of, deleted_in, skipped_in, most_bytes, Reports};
+ghost use Rattle.fetch_session.specs.Report.{HasRoom, is_deletion, is_taken, length_in, takes_back, kept_lines, retrieved_in, length_of, deleted_in, skipped_in, most_bytes, Reports};
 
 use crate::fault::Fault;
 use fetch_rules::Step;

@@ -5,7 +5,7 @@ ghost use Rattle.pop3_wire.specs.declared.unstuffer.Spot.TheVariants.{Done};
 ghost use Rattle.pop3_client.specs.Turns.{retr};
 ghost use Rattle.pop3_client.specs.Texts.{Fetching};
 ghost use Rattle.mail_store.specs.Maildir.{File, IsInNew, file};
-ghost use Rattle.fetch_session.specs.Stores.{Starts, Puts, Ends, StoresText, ReadsText, PassesText};
+ghost use Rattle.fetch_session.specs.Store.{Starts, Puts, Ends, StoresText, ReadsText, PassesText};
 
 use crate::fault::{Cut, Fault, Why, plain, told};
 use mail_store::{MaildirDisk, StoreFault};

@@ -3,7 +3,7 @@ use Rattle.std.specs.Prelude.{◌≡◌, ℕ, Bool, ◌||◌, nat_eq, List, ◌+
 use Rattle.std.specs.List.{starts_with, ends_with}
 use Rattle.std.specs.String.{string_bytes}
 use Rattle.rc_file.specs.Settings.{begins_at_home, destination_of, maildir}
-use Rattle.fetch_session.specs.Accounts.{digits_of}
+use Rattle.fetch_session.specs.Account.{digits_of}
 use Rattle.getmail.specs.declared.setup.Setup.{Setup}
 use Rattle.getmail.specs.declared.words.Words.{Words}
 

@@ -6,7 +6,7 @@ use Rattle.fetch_session.specs.declared.fault.Fault.{Fault}
 use Rattle.fetch_session.specs.declared.report.Outcome.{Outcome}
 use Rattle.fetch_session.specs.declared.report.Outcome.TheVariants.{Ended, Cut}
 use Rattle.fetch_session.specs.declared.report.Report.{Report}
-use Rattle.fetch_session.specs.Texts.{fault_text, report_text}
+use Rattle.fetch_session.specs.Text.{fault_text, report_text}
 use Rattle.getmail.specs.declared.fetching.Fetched.{Fetched}
 
 -- the line of a fault

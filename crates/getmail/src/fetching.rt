@@ -1,9 +1,9 @@
 //! One session over a link, and what is told of it.
 ghost use Rattle.std.specs.Prelude.{◌≡◌, OnOk};
 ghost use Rattle.std.specs.Io.KnownBytes.{Appends};
-ghost use Rattle.fetch_session.specs.Accounts.{digits_of};
-ghost use Rattle.fetch_session.specs.Sessions.{Session, kept};
-ghost use Rattle.fetch_session.specs.Texts.{report_text};
+ghost use Rattle.fetch_session.specs.Account.{digits_of};
+ghost use Rattle.fetch_session.specs.Session.{Session, kept};
+ghost use Rattle.fetch_session.specs.Text.{report_text};
 ghost use Rattle.fetch_session.specs.declared.report.Report.{Report};
 ghost use Rattle.getmail.specs.Telling.{Tells, fault_line, outcome_line, status_of};
 

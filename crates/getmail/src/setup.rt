@@ -2,7 +2,7 @@
 ghost use Rattle.std.specs.Prelude.{◌≡◌, ◌++◌, IfOk, codes};
 ghost use Rattle.std.specs.String.{string_bytes};
 ghost use Rattle.rc_file.specs.Settings.{IsValid};
-ghost use Rattle.fetch_session.specs.Accounts.{digits_of};
+ghost use Rattle.fetch_session.specs.Account.{digits_of};
 ghost use Rattle.getmail.specs.Places.{IsPlaced, joined};
 
 use crate::failure::{Failure, failure_of};

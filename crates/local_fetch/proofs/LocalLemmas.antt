@@ -15,7 +15,7 @@ use Rattle.rc_file.specs.declared.settings.Settings.{Settings}
 use Rattle.fetch_rules.specs.Plan.{planned}
 use Rattle.fetch_rules.specs.declared.steps.Step.{Step}
 use Rattle.fetch_session.specs.declared.report.Report.{Report}
-use Rattle.fetch_session.specs.Sessions.{Kept, Session}
+use Rattle.fetch_session.specs.Session.{Kept, Session}
 use Rattle.fetch_runs.specs.Conversations.{Opens, SpeaksByPlan, SessionsAreConversations}
 use Rattle.pop3_server.specs.Maildrop.{Mail, there}
 use Rattle.pop3_server.specs.ServerMachine.{Machine}

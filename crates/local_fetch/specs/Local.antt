@@ -7,9 +7,9 @@ use Rattle.rc_file.specs.declared.settings.Settings.{Settings}
 use Rattle.pop3_server.specs.Maildrop.{Mail, there}
 use Rattle.pop3_server.specs.ServerMachine.{Machine, greeting}
 use Rattle.pop3_server.specs.LoopLink.{Loop}
-use Rattle.fetch_session.specs.Accounts.{digits_of}
+use Rattle.fetch_session.specs.Account.{digits_of}
 use Rattle.fetch_session.specs.declared.report.Report.{Report}
-use Rattle.fetch_session.specs.Sessions.{Kept, Session}
+use Rattle.fetch_session.specs.Session.{Kept, Session}
 use Rattle.fetch_runs.specs.Headline.{World, State, IsSession}
 
 -- a link that was used for nothing yet

@@ -5,8 +5,8 @@ ghost use Rattle.mail_terms.specs.FailureCount.{greatest_count};
 ghost use Rattle.pop3_wire.specs.World.{IsMessage};
 ghost use Rattle.pop3_server.specs.Maildrop.{there};
 ghost use Rattle.pop3_server.specs.HonestLoop.{IsNew};
-ghost use Rattle.fetch_session.specs.Accounts.{digits_of};
-ghost use Rattle.fetch_session.specs.Sessions.{kept};
+ghost use Rattle.fetch_session.specs.Account.{digits_of};
+ghost use Rattle.fetch_session.specs.Session.{kept};
 ghost use Rattle.local_fetch.specs.Local.{FetchesFrom, loop_to};
 
 use fetch_runs::sessions_are_conversations;

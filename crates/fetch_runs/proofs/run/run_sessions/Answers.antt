@@ -2,9 +2,9 @@ use Rattle.std.proofs.Common.{◌≤◌, ◌≡◌, ◌<◌, ◌+◌, ◌++◌, 
 use Rattle.std.specs.Result.{is_ok}
 use Rattle.std.proofs.lemmas.List.{length-set}
 use Rattle.rc_file.specs.declared.settings.Settings.{Settings}
-use Rattle.fetch_session.specs.Accounts.{digits_of}
+use Rattle.fetch_session.specs.Account.{digits_of}
 use Rattle.fetch_session.specs.declared.report.Report.{Report}
-use Rattle.fetch_session.specs.Sessions.{kept, Session}
+use Rattle.fetch_session.specs.Session.{kept, Session}
 use Rattle.fetch_runs.specs.Runs.{world_of, state_of}
 use Rattle.fetch_runs.specs.declared.run.Visit.{Visit}
 use Rattle.fetch_runs.proofs.RunLemmas.{Ran, ran_next, others_stay, ran_all, runs_promised}

@@ -1,6 +1,6 @@
 use Rattle.std.proofs.Common.{◌≡◌, ◌≤◌, ℕ, take, get_or, length}
 use Rattle.std.specs.Vec.{vec_capacity}
-use Rattle.fetch_session.specs.Sessions.{kept}
+use Rattle.fetch_session.specs.Session.{kept}
 use Rattle.fetch_runs.specs.declared.run.Visit.{Visit}
 use Rattle.fetch_runs.proofs.RunLemmas.{Ran}
 use Rattle.fetch_runs.proofs.run.run_sessions.Given as goal

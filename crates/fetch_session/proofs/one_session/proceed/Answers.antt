@@ -1,6 +1,6 @@
 use Rattle.std.proofs.Common.{◌∙◌}
 use Rattle.pop3_wire.specs.Place.{at}
-use Rattle.fetch_session.specs.Sessions.{noted, kept}
+use Rattle.fetch_session.specs.Session.{noted, kept}
 use Rattle.fetch_session.proofs.SessionLemmas.{dealt}
 use Rattle.fetch_session.proofs.one_session.proceed.Goals as goal
 

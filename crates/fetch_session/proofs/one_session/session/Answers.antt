@@ -1,8 +1,8 @@
 use Rattle.std.proofs.Common.{◌≤◌, ℕ, List, length, Ok, Err, sym, subst}
 use Rattle.pop3_wire.specs.Place.{at}
-use Rattle.fetch_session.specs.Accounts.{digits_of}
+use Rattle.fetch_session.specs.Account.{digits_of}
 use Rattle.fetch_session.specs.Intake.{GotAtMost, session_limit}
-use Rattle.fetch_session.specs.Sessions.{noted, kept, Proceeds, Session}
+use Rattle.fetch_session.specs.Session.{noted, kept, Proceeds, Session}
 use Rattle.fetch_session.proofs.IntakeLemmas.{cut_within, ended_within}
 use Rattle.fetch_session.proofs.SessionLemmas.{cut_session, ended_session}
 use Rattle.fetch_session.proofs.one_session.session.Goals as goal

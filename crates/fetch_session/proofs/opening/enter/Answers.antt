@@ -1,7 +1,7 @@
 use Rattle.std.proofs.Common.{List, ℕ, subst, Err}
 use Rattle.std.specs.String.{string_bytes}
 use Rattle.pop3_wire.specs.Place.{at}
-use Rattle.fetch_session.specs.Openings.{Enters}
+use Rattle.fetch_session.specs.Opening.{Enters}
 use Rattle.fetch_session.proofs.OpeningLemmas.{not_entered, not_counted, listed_too}
 use Rattle.fetch_session.proofs.opening.enter.Goals as goal
 

@@ -1,6 +1,6 @@
 use Rattle.std.proofs.Common.{◌≡◌, ◌≤◌, take}
 use Rattle.std.specs.List.{count_by}
-use Rattle.fetch_session.specs.Reports.{is_deletion}
+use Rattle.fetch_session.specs.Report.{is_deletion}
 use Rattle.fetch_session.proofs.report.deleted_in.Given as goal
 
 abbrev pub invariant-loop-line : goal.invariant-loop-line

@@ -1,6 +1,6 @@
 use Rattle.std.proofs.Common.{◌≡◌, take}
 use Rattle.std.specs.List.{sum_by}
-use Rattle.fetch_session.specs.Reports.{length_in, most_bytes}
+use Rattle.fetch_session.specs.Report.{length_in, most_bytes}
 use Rattle.fetch_session.proofs.report.length_of.Given as goal
 
 abbrev pub invariant-loop-line : goal.invariant-loop-line

@@ -1,6 +1,6 @@
 use Rattle.std.proofs.Common.{◌≡◌, ◌≤◌, take}
 use Rattle.std.specs.List.{count_by}
-use Rattle.fetch_session.specs.Reports.{is_taken}
+use Rattle.fetch_session.specs.Report.{is_taken}
 use Rattle.fetch_session.proofs.report.retrieved_in.Given as goal
 
 abbrev pub invariant-loop-line : goal.invariant-loop-line

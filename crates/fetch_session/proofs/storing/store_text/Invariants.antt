@@ -4,7 +4,7 @@ use Rattle.pop3_wire.specs.declared.unstuffer.Spot.TheVariants.{Done}
 use Rattle.pop3_client.specs.Turns.{retr}
 use Rattle.pop3_client.specs.Texts.{Fetching}
 use Rattle.mail_store.specs.Maildir.{file}
-use Rattle.fetch_session.specs.Stores.{begun_with}
+use Rattle.fetch_session.specs.Store.{begun_with}
 use Rattle.fetch_session.proofs.storing.store_text.Given as goal
 
 abbrev pub invariant-pieces : goal.invariant-pieces

@@ -1,7 +1,7 @@
 use Rattle.std.proofs.Common.{◌≡◌, ◌++◌, take}
 use Rattle.std.specs.Prelude.{flat_map}
 use Rattle.std.specs.String.{string_bytes}
-use Rattle.fetch_session.specs.Texts.{heading, line_text}
+use Rattle.fetch_session.specs.Text.{heading, line_text}
 use Rattle.fetch_session.proofs.text.report_text.Given as goal
 
 abbrev pub invariant-loop-line : goal.invariant-loop-line

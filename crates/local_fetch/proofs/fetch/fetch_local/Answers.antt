@@ -1,7 +1,7 @@
 use Rattle.std.proofs.Common.{refl, subst}
 use Rattle.rc_file.specs.Settings.{IsValid}
-use Rattle.fetch_session.specs.Accounts.{digits_of}
-use Rattle.fetch_session.specs.Sessions.{kept}
+use Rattle.fetch_session.specs.Account.{digits_of}
+use Rattle.fetch_session.specs.Session.{kept}
 use Rattle.local_fetch.proofs.LocalLemmas.{fetches}
 use Rattle.local_fetch.proofs.fetch.fetch_local.Goals as goal
 

@@ -1,0 +1,233 @@
+-- Where a list of tasks stopped, it leaves what tasks that were cut short leave.
+use Rattle.std.proofs.Common.{◌≡◌, inl, inr, ◌⊎◌, ℕ, List, [], ◌∷◌, ◌++◌, Err, refl, sym, ap, subst, ◌∙◌, append_assoc}
+use Rattle.std.proofs.lemmas.List.{append-nil, map-append}
+use Rattle.std.proofs.lemmas.Grind.{flat_map-append}
+use Rattle.std.specs.List.{flat_map}
+use Rattle.pop3_wire.specs.Place.{Place}
+use Rattle.fetch_rules.specs.Record.{Row, marked}
+use Rattle.mail_store.specs.Maildir.{Maildir, File, file, dropped, counted}
+use Rattle.mail_store.specs.FlatFile.{Stored}
+use Rattle.pop3_client.specs.declared.fault.Fault.{Fault as TalkFault}
+use Rattle.pop3_client.specs.Turns.{Turn, retr}
+use Rattle.pop3_wire.specs.Reading.{WholeReply, reply_bytes}
+use Rattle.pop3_client.specs.Conversation.{Talked, Broke}
+use Rattle.fetch_session.proofs.TurnLemmas.{talked_on}
+use Rattle.fetch_session.specs.declared.fault.Fault.{Fault}
+use Rattle.fetch_session.specs.declared.fault.Fault.TheVariants.{ConnectionEnded, ReadFailed, WriteFailed, ReplyTooLong, BadReply, Refused, BadListing, ListingsDisagree, TooMany, TextTooLong, StoreRefused, SeenRefused, NoMemory, BadSeen}
+use Rattle.fetch_session.specs.declared.fault.Why.TheVariants.{Refused as DeviceRefused}
+use Rattle.fetch_session.specs.Task.{Task, Done, stores, task_in, tasks_of, turns_in, turns_of, replies_of, ids_in, ids_of, files_in, files_of, file_from, delivered, lines_in, lines_of}
+use Rattle.fetch_session.specs.declared.fault.Cut.{Cut}
+use Rattle.fetch_session.specs.declared.report.ReportLine.{ReportLine}
+use Rattle.pop3_wire.specs.Bodies.{Rest}
+use Rattle.pop3_wire.specs.declared.unstuffer.Spot.TheVariants.{Done as AtEnd}
+use Rattle.pop3_client.specs.Texts.{Fetching}
+use Rattle.mail_store.specs.FileName.{name_of}
+use Rattle.fetch_session.specs.Record.{Keeps, Steady, Saves, marked_all}
+use Rattle.fetch_session.specs.Scene.{Scene, Fell, Broken, NotStored, NotSaved}
+use Rattle.fetch_session.specs.Laws.{Stands, ExtraIs, MarksAre, CutShort}
+use Rattle.fetch_session.proofs.SceneLemmas.{marked_on}
+use Rattle.fetch_session.proofs.RecordLemmas.{keeps_at, steady_keeps}
+
+-- what came after the replies
+broke_got : (turn : Turn) (mid new : Place) (why : TalkFault) → Broke turn mid new why → (more : List ℕ) × (new.link.got ≡ mid.link.got ++ more)
+broke_got turn mid new why (inl said) = ([], said.1.got ∙ sym (append-nil mid.link.got))
+broke_got turn mid new why (inr (inl there)) = (there.gained, there.got)
+broke_got turn mid new why (inr (inr wanting)) = ([], ap (λ (p : Place). p.link.got) wanting.2 ∙ sym (append-nil mid.link.got))
+
+stand : (turns : List Turn) (replies : List WholeReply) (old mid new : Scene) (more : List ℕ) → old.place.waiting ≡ [] → Talked turns replies old.place mid.place
+    → new.place.link.got ≡ mid.place.link.got ++ more → Stands replies old new
+stand turns replies old mid new more none talked is = (
+  mid.place.waiting ++ more,
+  is ∙ ap (λ (l : List ℕ). l ++ more) talked.got ∙ append_assoc old.place.link.got talked.gained more
+      ∙ ap (λ (l : List ℕ). old.place.link.got ++ l) (ap (λ (l : List ℕ). l ++ more) heard ∙ append_assoc (flat_map reply_bytes replies) mid.place.waiting more),
+)
+  where
+    heard : talked.gained ≡ flat_map reply_bytes replies ++ mid.place.waiting
+    heard = ap (λ (l : List ℕ). l ++ talked.gained) (sym none) ∙ talked.heard
+
+-- the conversation broke
+short_broken : (account : List ℕ) (tasks : List Task) (old new : Scene) (cut : Cut) (fell : Fell account tasks old cut new) → old.place.waiting ≡ [] → Steady old.file.content old.rows
+    → Broken fell.next fell.mid new cut → CutShort account tasks old cut.fault new
+short_broken account tasks old new cut fell none stood broken =
+    let more = broke_got broken.turn fell.mid.place new.place broken.why broken.broke in
+    record {
+      taken = fell.dones;
+      next = fell.next ∷ fell.later;
+      extra = [];
+      marks = ids_of fell.dones;
+      split = fell.split;
+      good = fell.went.talked.good;
+      got = stand (turns_of fell.dones) (replies_of fell.dones) old fell.mid new more.0 none fell.went.talked more.1;
+      told = broken.lines ∙ fell.went.lines;
+      files = ap (λ (m : Maildir). m.in_new) broken.maildir ∙ fell.went.stored.in_new ∙ ap (λ (l : List File). old.maildir.in_new ++ l) (sym (append-nil (files_of account fell.dones)));
+      others = ap (λ (m : Maildir). m.in_cur) broken.maildir ∙ fell.went.stored.in_cur;
+      extra_is = inl refl;
+      marks_are = inl refl;
+      record_is = keeps_at fell.mid.file new.file fell.mid.file.content (marked_all old.rows (ids_of fell.dones)) (ap (λ (s : Stored). s.content) broken.file)
+          (subst (λ (r : List Row). Keeps fell.mid.file.content r) fell.went.rows (steady_keeps fell.mid.file.content fell.mid.rows (fell.went.saved stood)));
+    }
+
+-- the store refused: which files are there more
+pub record Extra (account : List ℕ) (taken : List Done) (next : List Task) (old : Scene) (fault : Fault) (new mid : Scene) : Type 0 where
+  pub extra : List File
+  pub in_new : new.maildir.in_new ≡ mid.maildir.in_new ++ extra
+  pub in_cur : new.maildir.in_cur ≡ mid.maildir.in_cur
+  pub extra_is : ExtraIs account taken next old fault new extra
+
+-- what came of a text
+fetching_got : (n : ℕ) (start now : Place) (rest : Rest) (text : List ℕ) → Fetching (retr n) start now rest text → (more : List ℕ) × (now.link.got ≡ start.link.got ++ more)
+fetching_got n start now rest text is =
+    (is.opened.gained ++ is.under.gained, is.under.drew.got ∙ ap (λ (l : List ℕ). l ++ is.under.gained) is.opened.got ∙ append_assoc start.link.got is.opened.gained is.under.gained)
+
+short_not_stored : (account : List ℕ) (tasks : List Task) (old new : Scene) (cut : Cut) (fell : Fell account tasks old cut new) → old.place.waiting ≡ [] → Steady old.file.content old.rows
+    → NotStored account fell.next fell.mid new cut → CutShort account tasks old cut.fault new
+short_not_stored account tasks old new cut fell none stood refused = record {
+  taken = fell.dones;
+  next = fell.next ∷ fell.later;
+  extra = kept.extra;
+  marks = ids_of fell.dones;
+  split = fell.split;
+  good = fell.went.talked.good;
+  got = stand (turns_of fell.dones) (replies_of fell.dones) old fell.mid new more.0 none fell.went.talked more.1;
+  told = refused.lines ∙ fell.went.lines;
+  files = kept.in_new ∙ ap (λ (l : List File). l ++ kept.extra) fell.went.stored.in_new ∙ append_assoc old.maildir.in_new (files_of account fell.dones) kept.extra;
+  others = kept.in_cur ∙ fell.went.stored.in_cur;
+  extra_is = kept.extra_is;
+  marks_are = inl refl;
+  record_is = keeps_at fell.mid.file new.file fell.mid.file.content (marked_all old.rows (ids_of fell.dones)) (ap (λ (s : Stored). s.content) refused.file)
+      (subst (λ (r : List Row). Keeps fell.mid.file.content r) fell.went.rows (steady_keeps fell.mid.file.content fell.mid.rows (fell.went.saved stood)));
+}
+  where
+    more : (more : List ℕ) × (new.place.link.got ≡ fell.mid.place.link.got ++ more)
+    more = fetching_got refused.number fell.mid.place new.place refused.rest refused.text refused.fetching
+
+    -- the text came whole
+    whole : refused.rest.spot ≡ AtEnd → cut.fault ≡ StoreRefused DeviceRefused → ExtraIs account fell.dones (fell.next ∷ fell.later) old cut.fault new (file (name_of account refused.uid) refused.text ∷ [])
+    whole done is =
+        let came = refused.whole done in
+        inr (
+          is,
+          (
+            refused.number,
+            refused.uid,
+            fell.later,
+            came.0,
+            ap (λ (t : Task). t ∷ fell.later) refused.is,
+            ap (λ (t : List ℕ). file (name_of account refused.uid) t ∷ []) came.2,
+            stand (turns_of fell.dones ++ retr refused.number ∷ []) (replies_of fell.dones ++ came.0 ∷ []) old new new [] none
+                (talked_on (turns_of fell.dones) (retr refused.number ∷ []) (replies_of fell.dones) (came.0 ∷ []) old.place fell.mid.place new.place fell.went.talked came.1)
+                (sym (append-nil new.place.link.got)),
+          ),
+        )
+
+    nothing_new : (m : Maildir) → new.maildir ≡ m → m.in_new ≡ fell.mid.maildir.in_new → m.in_cur ≡ fell.mid.maildir.in_cur → Extra account fell.dones (fell.next ∷ fell.later) old cut.fault new fell.mid
+    nothing_new m is files cur = record {
+      extra = [];
+      in_new = ap (λ (x : Maildir). x.in_new) is ∙ files ∙ sym (append-nil fell.mid.maildir.in_new);
+      in_cur = ap (λ (x : Maildir). x.in_cur) is ∙ cur;
+      extra_is = inl refl;
+    }
+
+    kept : Extra account fell.dones (fell.next ∷ fell.later) old cut.fault new fell.mid
+    kept = elim refused.refuses [
+      | inl missing ↦ nothing_new fell.mid.maildir missing.2 refl refl
+      | inr (is, inl same) ↦ nothing_new (counted (dropped fell.mid.maildir)) same refl refl
+      | inr (is, inr (done, there)) ↦ record {
+        extra = file (name_of account refused.uid) refused.text ∷ [];
+        in_new = ap (λ (m : Maildir). m.in_new) there;
+        in_cur = ap (λ (m : Maildir). m.in_cur) there;
+        extra_is = whole done is;
+      }
+    ]
+
+-- the record wasn't saved: why, and which record its file stands for
+pub record Unsaved (old : Stored) (was rows : List Row) (fault : Fault) (new : Stored) : Type 0 where
+  pub why : (fault ≡ SeenRefused) ⊎ (fault ≡ NoMemory)
+  pub content : Steady old.content was → Keeps new.content was ⊎ Keeps new.content rows
+
+unsaved : (old : Stored) (was rows : List Row) (fault : Fault) (new : Stored) → Saves old was rows (Err fault) new → Unsaved old was rows fault new
+unsaved old was rows SeenRefused new is = record { why = inl refl; content = is.1 }
+unsaved old was rows NoMemory new is = record { why = inr refl; content = λ stood. inl (keeps_at old new old.content was (ap (λ (s : Stored). s.content) is) (steady_keeps old.content was stood)) }
+unsaved old was rows ConnectionEnded new never = absurd never
+unsaved old was rows ReadFailed new never = absurd never
+unsaved old was rows WriteFailed new never = absurd never
+unsaved old was rows ReplyTooLong new never = absurd never
+unsaved old was rows BadReply new never = absurd never
+unsaved old was rows (Refused to) new never = absurd never
+unsaved old was rows BadListing new never = absurd never
+unsaved old was rows ListingsDisagree new never = absurd never
+unsaved old was rows TooMany new never = absurd never
+unsaved old was rows TextTooLong new never = absurd never
+unsaved old was rows (StoreRefused why) new never = absurd never
+unsaved old was rows (BadSeen line) new never = absurd never
+
+pub unsaved_keeps : (old : Stored) (was rows : List Row) (fault : Fault) (new : Stored) → Saves old was rows (Err fault) new → Steady old.content was → Keeps new.content was ⊎ Keeps new.content rows
+unsaved_keeps old was rows fault new saves = (unsaved old was rows fault new saves).content
+
+short_not_saved : (account : List ℕ) (tasks : List Task) (old new : Scene) (cut : Cut) (fell : Fell account tasks old cut new) → old.place.waiting ≡ [] → Steady old.file.content old.rows
+    → NotSaved account fell.next fell.mid new cut → CutShort account tasks old cut.fault new
+short_not_saved account tasks old new cut fell none stood refused =
+    elim (missed.content (fell.went.saved stood)) [
+      | inl was ↦ with_marks (ids_of fell.dones) (inr (missed.why, (refused.uid, ids))) (subst (λ (r : List Row). Keeps new.file.content r) fell.went.rows was)
+      | inr is ↦ with_marks (ids_of taken) (inl refl) (subst (λ (r : List Row). Keeps new.file.content r) rows is)
+    ]
+  where
+    last : Done
+    last = record { task = stores refused.number refused.uid; replies = refused.reply ∷ [] }
+
+    taken : List Done
+    taken = fell.dones ++ last ∷ []
+
+    missed : Unsaved fell.mid.file fell.mid.rows (marked fell.mid.rows refused.uid) cut.fault new.file
+    missed = unsaved fell.mid.file fell.mid.rows (marked fell.mid.rows refused.uid) cut.fault new.file refused.saves
+
+    ids : ids_of (fell.dones ++ last ∷ []) ≡ ids_of fell.dones ++ refused.uid ∷ []
+    ids = flat_map-append (λ (d : Done). ids_in d.task) fell.dones (last ∷ [])
+
+    rows : marked fell.mid.rows refused.uid ≡ marked_all old.rows (ids_of (fell.dones ++ last ∷ []))
+    rows = ap (λ (r : List Row). marked r refused.uid) fell.went.rows ∙ sym (marked_on old.rows (ids_of fell.dones) (refused.uid ∷ []))
+        ∙ ap (λ (l : List (List ℕ)). marked_all old.rows l) (sym ids)
+
+    replies : replies_of (fell.dones ++ last ∷ []) ≡ replies_of fell.dones ++ refused.reply ∷ []
+    replies = flat_map-append (λ (d : Done). d.replies) fell.dones (last ∷ [])
+
+    turns : turns_of (fell.dones ++ last ∷ []) ≡ turns_of fell.dones ++ retr refused.number ∷ []
+    turns = flat_map-append (λ (d : Done). turns_in d.task) fell.dones (last ∷ [])
+
+    talked : Talked (turns_of (fell.dones ++ last ∷ [])) (replies_of (fell.dones ++ last ∷ [])) old.place new.place
+    talked = subst (λ (ts : List Turn). Talked ts (replies_of (fell.dones ++ last ∷ [])) old.place new.place) (sym turns)
+        (subst (λ (rs : List WholeReply). Talked (turns_of fell.dones ++ retr refused.number ∷ []) rs old.place new.place) (sym replies)
+        (talked_on (turns_of fell.dones) (retr refused.number ∷ []) (replies_of fell.dones) (refused.reply ∷ []) old.place fell.mid.place new.place fell.went.talked refused.talked))
+
+    with_marks : (marks : List (List ℕ)) → MarksAre (ids_of (fell.dones ++ last ∷ [])) cut.fault marks → Keeps new.file.content (marked_all old.rows marks)
+        → CutShort account tasks old cut.fault new
+    with_marks marks are stands = record {
+      taken = fell.dones ++ last ∷ [];
+      next = fell.later;
+      extra = [];
+      marks = marks;
+      split = fell.split ∙ ap (λ (t : Task). tasks_of fell.dones ++ t ∷ fell.later) refused.is
+          ∙ sym (append_assoc (tasks_of fell.dones) (stores refused.number refused.uid ∷ []) fell.later)
+          ∙ ap (λ (l : List Task). l ++ fell.later) (sym (map-append task_in fell.dones (last ∷ [])));
+      good = talked.good;
+      got = stand (turns_of (fell.dones ++ last ∷ [])) (replies_of (fell.dones ++ last ∷ [])) old new new [] none talked (sym (append-nil new.place.link.got));
+      told = refused.lines ∙ ap (λ (l : List ReportLine). l ++ delivered refused.number refused.reply ∷ []) fell.went.lines
+          ∙ append_assoc old.lines (lines_of fell.dones) (delivered refused.number refused.reply ∷ [])
+          ∙ ap (λ (l : List ReportLine). old.lines ++ l) (sym (flat_map-append (λ (d : Done). lines_in d.task d.replies) fell.dones (last ∷ [])));
+      files = refused.stored.in_new ∙ ap (λ (l : List File). l ++ file_from account refused.uid refused.reply ∷ []) fell.went.stored.in_new
+          ∙ append_assoc old.maildir.in_new (files_of account fell.dones) (file_from account refused.uid refused.reply ∷ [])
+          ∙ ap (λ (l : List File). old.maildir.in_new ++ l)
+          (sym (flat_map-append (λ (d : Done). files_in account d.task d.replies) fell.dones (last ∷ [])) ∙ sym (append-nil (files_of account (fell.dones ++ last ∷ []))));
+      others = refused.stored.in_cur ∙ fell.went.stored.in_cur;
+      extra_is = inl refl;
+      marks_are = are;
+      record_is = stands;
+    }
+
+pub stopping_cuts_short : (account : List ℕ) (tasks : List Task) (old new : Scene) (cut : Cut) → Fell account tasks old cut new → old.place.waiting ≡ [] → Steady old.file.content old.rows → CutShort account tasks old cut.fault new
+stopping_cuts_short account tasks old new cut fell none stood =
+    elim fell.stops [
+      | inl broken ↦ short_broken account tasks old new cut fell none stood broken
+      | inr (inl refused) ↦ short_not_stored account tasks old new cut fell none stood refused
+      | inr (inr refused) ↦ short_not_saved account tasks old new cut fell none stood refused
+    ]

@@ -1,0 +1,80 @@
+use Rattle.std.proofs.Common.{List, [], Bool, inl, inr, arith, length, sym, ap, subst, ◌∙◌}
+use Rattle.pop3_wire.specs.Place.{at}
+use Rattle.fetch_rules.specs.Plan.{planned}
+use Rattle.fetch_rules.specs.declared.steps.Step.{Step}
+use Rattle.mail_store.specs.Held.{flags_of}
+use Rattle.fetch_session.specs.Task.{tasks_planned, ids_ahead, AreFresh}
+use Rattle.fetch_session.specs.Report.{skipped_in}
+use Rattle.fetch_session.specs.Scene.{scene}
+use Rattle.fetch_session.proofs.PlanLemmas.{fresh_firsts}
+use Rattle.fetch_session.proofs.CarryLemmas.{unprepared, carry_fell, carry_quit, carry_broke}
+use Rattle.fetch_session.proofs.plan.carry_out.Goals as goal
+
+pub returns-in-Err-clause-carries : goal.returns-in-Err-clause-carries
+returns-in-Err-clause-carries g c = λ w d f.
+    let ready = c.in-Err.ensures.readies d f in
+    (w, ready.0, ready.1, g.met.W.Wire.leads_same c.args.wire.now, ([], inl (c.requires.none_skipped, unprepared c.args.account.now c.args.listing.now c.args.now (at (g.W.Wire.seen c.args.wire.now) c.args.reader.now) (g.D.MaildirDisk.maildir c.args.disk.now) (g.F.FlatFile.stored c.args.file.now) c.args.lines.now.items c.in-Err.fault c.plain.result (g.D.MaildirDisk.maildir c.prepare.new.disk) (g.F.FlatFile.stored c.prepare.new.file) c.plain.ensures ready.2)))
+
+pub skipped_in-requires : goal.skipped_in-requires
+skipped_in-requires g c = omega (arith, ap length c.deref.ensures.value, c.in-Ok.ensures.lengths.0, c.requires.few)
+
+pub do_steps-requires-clause-free : goal.do_steps-requires-clause-free
+do_steps-requires-clause-free g c = λ kept.
+    let stays = c.in-Ok.ensures.stays kept in
+    let account = c.args.account.now in
+    let items = c.args.listing.now in
+    let maildir = g.D.MaildirDisk.maildir c.prepare.new.disk in
+    let rows = c.prepare.new.seen.rows in
+    subst (λ (held : List Bool). AreFresh account maildir (ids_ahead (tasks_planned c.deref-2.result.now items held))) (sym (c.deref-3.ensures.value ∙ stays.2))
+    (subst (λ (steps : List Step). AreFresh account maildir (ids_ahead (tasks_planned steps items (flags_of account maildir items)))) (sym (c.deref-2.ensures.value ∙ c.in-Ok.ensures.plans))
+    (fresh_firsts account maildir [] (planned c.args.settings.now rows items c.args.now) items (c.firsts_are_fetched.ensures c.args.settings.now rows items c.args.now) c.requires.legal))
+
+pub returns-in-Err-do_steps-clause-carries : goal.returns-in-Err-do_steps-clause-carries
+returns-in-Err-do_steps-clause-carries g c = λ w d f.
+    let done = c.in-Err-do_steps.ensures.does w d f in
+    let ready = c.in-Ok.ensures.readies done.1 done.2 in
+    let old = at (g.W.Wire.seen c.args.wire.now) c.args.reader.now in
+    let maildir = g.D.MaildirDisk.maildir c.args.disk.now in
+    let file = g.F.FlatFile.stored c.args.file.now in
+    let new = scene (at (g.W.Wire.seen c.do_steps.new.wire) c.do_steps.new.reader) (g.D.MaildirDisk.maildir c.do_steps.new.disk) (g.F.FlatFile.stored c.do_steps.new.file) c.do_steps.new.seen.rows c.do_steps.new.lines.items in
+    (done.0, ready.0, ready.1, done.3, (c.do_steps.new.seen.rows, inr (carry_fell c.args.settings.now c.args.account.now c.args.listing.now c.args.now old maildir file c.args.lines.now.items c.in-Ok.ready c.prepare.new.seen.rows (g.D.MaildirDisk.maildir c.prepare.new.disk) (g.F.FlatFile.stored c.prepare.new.file) ready.2 c.deref-2.result.now c.deref-3.result.now c.deref-2.ensures.value c.deref-3.ensures.value c.skipped_in.result (c.skipped_in.ensures ∙ ap skipped_in (c.deref.ensures.value ∙ sym c.deref-2.ensures.value)) new c.in-Err-do_steps.cut done.4)))
+
+pub returns-in-Ok-quit-clause-carries : goal.returns-in-Ok-quit-clause-carries
+returns-in-Ok-quit-clause-carries g c = λ w d f.
+    let tells = c.in-Ok-quit.ensures.tells w in
+    let done = c.in_default.ensures.does tells.0 d f in
+    let ready = c.in-Ok.ensures.readies done.1 done.2 in
+    let old = at (g.W.Wire.seen c.args.wire.now) c.args.reader.now in
+    let maildir = g.D.MaildirDisk.maildir c.args.disk.now in
+    let file = g.F.FlatFile.stored c.args.file.now in (
+      done.0,
+      ready.0,
+      ready.1,
+      g.met.W.Wire.leads_on _ _ _ done.3 tells.1,
+      (
+        c.do_steps.new.seen.rows,
+        carry_quit c.args.settings.now c.args.account.now c.args.listing.now c.args.now old maildir file c.args.lines.now.items c.in-Ok.ready c.prepare.new.seen.rows (g.D.MaildirDisk.maildir c.prepare.new.disk) (g.F.FlatFile.stored c.prepare.new.file) ready.2 c.deref-2.result.now c.deref-3.result.now c.deref-2.ensures.value c.deref-3.ensures.value c.skipped_in.result (c.skipped_in.ensures ∙ ap skipped_in (c.deref.ensures.value ∙ sym c.deref-2.ensures.value))
+            (at (g.W.Wire.seen c.do_steps.new.wire) c.do_steps.new.reader) (at (g.W.Wire.seen c.quit.new.wire) c.quit.new.reader)
+            (g.D.MaildirDisk.maildir c.do_steps.new.disk) (g.F.FlatFile.stored c.do_steps.new.file) c.do_steps.new.seen.rows c.do_steps.new.lines.items tells.2.0 done.4 tells.2.1,
+      ),
+    )
+
+pub returns-clause-carries : goal.returns-clause-carries
+returns-clause-carries g c = λ w d f.
+    let tells = c.in-Err-quit.ensures.tells w in
+    let done = c.in_default.ensures.does tells.0 d f in
+    let ready = c.in-Ok.ensures.readies done.1 done.2 in
+    let old = at (g.W.Wire.seen c.args.wire.now) c.args.reader.now in
+    let maildir = g.D.MaildirDisk.maildir c.args.disk.now in
+    let file = g.F.FlatFile.stored c.args.file.now in (
+      done.0,
+      ready.0,
+      ready.1,
+      g.met.W.Wire.leads_on _ _ _ done.3 tells.1,
+      (
+        c.do_steps.new.seen.rows,
+        inr (carry_broke c.args.settings.now c.args.account.now c.args.listing.now c.args.now old maildir file c.args.lines.now.items c.in-Ok.ready c.prepare.new.seen.rows (g.D.MaildirDisk.maildir c.prepare.new.disk) (g.F.FlatFile.stored c.prepare.new.file) ready.2 c.deref-2.result.now c.deref-3.result.now c.deref-2.ensures.value c.deref-3.ensures.value c.skipped_in.result (c.skipped_in.ensures ∙ ap skipped_in (c.deref.ensures.value ∙ sym c.deref-2.ensures.value))
+            (at (g.W.Wire.seen c.do_steps.new.wire) c.do_steps.new.reader) (at (g.W.Wire.seen c.quit.new.wire) c.quit.new.reader)
+            (g.D.MaildirDisk.maildir c.do_steps.new.disk) (g.F.FlatFile.stored c.do_steps.new.file) c.do_steps.new.seen.rows c.do_steps.new.lines.items c.in-Err-quit.fault c.told.result c.plain-in-Err-quit.result done.4 c.plain-in-Err-quit.ensures c.told.ensures tells.2),
+      ),
+    )

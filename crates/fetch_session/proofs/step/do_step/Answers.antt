@@ -1,0 +1,21 @@
+use Rattle.pop3_wire.specs.Place.{at}
+use Rattle.fetch_session.specs.Task.{fetching, deleting}
+use Rattle.fetch_session.specs.Scene.{scene}
+use Rattle.fetch_session.proofs.SceneLemmas.{does_more}
+use Rattle.fetch_session.proofs.step.do_step.Goals as goal
+
+pub returns-clause-does : goal.returns-clause-does
+returns-clause-does g c = λ w d f.
+    let maildir = g.D.MaildirDisk.maildir c.fetch_if.new.disk in
+    let file = g.F.FlatFile.stored c.fetch_if.new.file in
+    let deletes = c.delete_if.ensures.deletes c.args.account.now maildir file c.fetch_if.new.seen.rows w in
+    let fetches = c.in_default.ensures.does deletes.0 d f in (
+      fetches.0,
+      fetches.1,
+      fetches.2,
+      g.met.W.Wire.leads_on _ _ _ fetches.3 deletes.1,
+      does_more c.args.account.now (fetching c.args.step.retrieve c.args.held c.args.step.number c.args.uid.now c.args.size) (deleting c.args.step.delete c.args.step.number)
+          (scene (at (g.W.Wire.seen c.args.wire.now) c.args.reader.now) (g.D.MaildirDisk.maildir c.args.disk.now) (g.F.FlatFile.stored c.args.file.now) c.args.seen.now.rows c.args.lines.now.items)
+          (scene (at (g.W.Wire.seen c.fetch_if.new.wire) c.fetch_if.new.reader) maildir file c.fetch_if.new.seen.rows c.fetch_if.new.lines.items)
+          (scene (at (g.W.Wire.seen c.delete_if.new.wire) c.delete_if.new.reader) maildir file c.fetch_if.new.seen.rows c.delete_if.new.lines.items) c.delete_if.result fetches.4 deletes.2,
+    )

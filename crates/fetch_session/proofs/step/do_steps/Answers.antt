@@ -1,0 +1,98 @@
+use Rattle.std.proofs.Common.{◌<◌, ◌+◌, List, Bool, false, length, drop, get_or, ap, subst, arith}
+use Rattle.std.proofs.lemmas.List.{drop_all}
+use Rattle.mail_terms.specs.Listing.{Item}
+use Rattle.fetch_rules.specs.declared.steps.Step.{Step}
+use Rattle.fetch_session.specs.Task.{Task, tasks_in, tasks_planned, fetching, ids_ahead, AreFresh}
+use Rattle.fetch_session.proofs.SceneLemmas.{leads_on, leads_fell, leads_end}
+use Rattle.fetch_session.proofs.FreshLemmas.{fresh_step, fresh_later, grows_calm, tasks_left, no_item}
+use Rattle.fetch_session.proofs.ReportLemmas.{adds_on}
+use Rattle.fetch_session.proofs.step.do_steps.Goals as goal
+
+pub do_step-requires-clause-free : goal.do_step-requires-clause-free
+do_step-requires-clause-free g c = λ kept.
+    let i = c.loop-i.i in
+    let account = c.args.account.now in
+    let steps = c.args.steps.now in
+    let items = c.args.listing.now in
+    let held = c.args.held.now in
+    let in_items : i < length items = omega (arith, c.loop-i-test.true, c.len-i-end.ensures.count) in
+    let in_steps : i < length steps = omega (arith, in_items, c.requires.all_steps) in
+    let in_held : i < length held = omega (arith, in_items, c.requires.all_flags) in
+    let step : Step = get_or steps i (record { number = 0; retrieve = false; delete = false }) in
+    let item : Item = record { uid = c.uid.result.now; size = c.size.result } in
+    let flag : Bool = get_or held i false in
+    let later = tasks_planned (drop (i + 1) steps) (drop (i + 1) items) (drop (i + 1) held) in
+    let split = tasks_left steps items held i c.uid.result.now c.size.result in_steps in_items in_held (c.uid.ensures.value no_item) (c.size.ensures no_item) in
+    let inv = c.loop-i.invariant.2 kept in
+    let maildir = g.D.MaildirDisk.maildir c.loop-i.disk in
+    fresh_step account step item flag later maildir (subst (λ (ts : List Task). AreFresh account maildir (ids_ahead ts)) split inv.2)
+
+pub returns-in-Err-clause-does : goal.returns-in-Err-clause-does
+returns-in-Err-clause-does g c = λ w d f.
+    let i = c.loop-i.i in
+    let account = c.args.account.now in
+    let steps = c.args.steps.now in
+    let items = c.args.listing.now in
+    let held = c.args.held.now in
+    let in_items : i < length items = omega (arith, c.loop-i-test.true, c.len-i-end.ensures.count) in
+    let in_steps : i < length steps = omega (arith, in_items, c.requires.all_steps) in
+    let in_held : i < length held = omega (arith, in_items, c.requires.all_flags) in
+    let step : Step = get_or steps i (record { number = 0; retrieve = false; delete = false }) in
+    let item : Item = record { uid = c.uid.result.now; size = c.size.result } in
+    let flag : Bool = get_or held i false in
+    let later = tasks_planned (drop (i + 1) steps) (drop (i + 1) items) (drop (i + 1) held) in
+    let split = tasks_left steps items held i c.uid.result.now c.size.result in_steps in_items in_held (c.uid.ensures.value no_item) (c.size.ensures no_item) in
+    let done = c.in-Err.ensures.does w d f in
+    let inv = c.loop-i.invariant.3 done.0 done.1 done.2 in (
+      inv.0,
+      inv.1,
+      inv.2,
+      g.met.W.Wire.leads_on _ _ _ inv.3 done.3,
+      leads_fell account (tasks_planned steps items held) _ (tasks_in step item flag) later _ _ _ c.in-Err.cut split inv.4 done.4,
+    )
+
+pub loop-i-preserved : goal.loop-i-preserved
+loop-i-preserved g c =
+    let i = c.loop-i.i in
+    let account = c.args.account.now in
+    let steps = c.args.steps.now in
+    let items = c.args.listing.now in
+    let held = c.args.held.now in
+    let in_items : i < length items = omega (arith, c.loop-i-test.true, c.len-i-end.ensures.count) in
+    let in_steps : i < length steps = omega (arith, in_items, c.requires.all_steps) in
+    let in_held : i < length held = omega (arith, in_items, c.requires.all_flags) in
+    let step : Step = get_or steps i (record { number = 0; retrieve = false; delete = false }) in
+    let item : Item = record { uid = c.uid.result.now; size = c.size.result } in
+    let flag : Bool = get_or held i false in
+    let later = tasks_planned (drop (i + 1) steps) (drop (i + 1) items) (drop (i + 1) held) in
+    let split = tasks_left steps items held i c.uid.result.now c.size.result in_steps in_items in_held (c.uid.ensures.value no_item) (c.size.ensures no_item) in (
+      adds_on c.args.lines.now c.loop-i.lines c.do_step.new.lines i c.loop-i.invariant.0 c.do_step.ensures.few,
+      λ f. let after = c.in_default.ensures.steady f in ((c.loop-i.invariant.1 after.0).0, after.1),
+      λ d.
+          let grows = c.do_step.ensures.grows d in
+          let inv = c.loop-i.invariant.2 grows.0 in
+          let ids = ids_ahead (fetching step.retrieve flag step.number item.uid item.size) in
+          let maildir = g.D.MaildirDisk.maildir c.loop-i.disk in
+          let maildir' = g.D.MaildirDisk.maildir c.do_step.new.disk in (
+            inv.0,
+            grows_calm account ids maildir maildir' grows.1,
+            fresh_later c.one_more_is_held.ensures account step item flag later maildir maildir' c.requires.digits grows.1 (subst (λ (ts : List Task). AreFresh account maildir (ids_ahead ts)) split inv.2),
+          ),
+      λ w d f.
+          let done = c.in_default.ensures.does w d f in
+          let inv = c.loop-i.invariant.3 done.0 done.1 done.2 in (
+            inv.0,
+            inv.1,
+            inv.2,
+            g.met.W.Wire.leads_on _ _ _ inv.3 done.3,
+            leads_on account (tasks_planned steps items held) _ (tasks_in step item flag) later _ _ _ split inv.4 done.4,
+          ),
+    )
+
+pub returns-clause-does : goal.returns-clause-does
+returns-clause-does g c = λ w d f.
+    let inv = c.loop-i.invariant.3 w d f in
+    let steps = c.args.steps.now in
+    let none = ap (λ (ss : List Step). tasks_planned ss (drop c.loop-i.i c.args.listing.now) (drop c.loop-i.i c.args.held.now))
+    (drop_all c.loop-i.i steps (omega (arith, c.loop-i-test.false, c.len-i-end.ensures.count, c.requires.all_steps))) in
+    (inv.0, inv.1, inv.2, inv.3, leads_end c.args.account.now (tasks_planned steps c.args.listing.now c.args.held.now) _ _ _ none inv.4)

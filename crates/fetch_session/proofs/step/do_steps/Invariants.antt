@@ -1,0 +1,22 @@
+use Rattle.std.proofs.Common.{◌≡◌, ◌*◌, drop, None}
+use Rattle.pop3_wire.specs.Place.{at}
+use Rattle.fetch_session.specs.Task.{tasks_planned, ids_ahead, AreFresh}
+use Rattle.fetch_session.specs.Record.{Steady}
+use Rattle.fetch_session.specs.Report.{Adds}
+use Rattle.fetch_session.specs.Scene.{scene}
+use Rattle.fetch_session.proofs.SceneLemmas.{Leads}
+use Rattle.fetch_session.proofs.step.do_steps.Given as goal
+
+abbrev pub invariant-loop-i : goal.invariant-loop-i
+invariant-loop-i g l =
+    Adds l.fn.lines (2 * l.i) l.lines
+    × (g.F.FlatFile.sound l.file → g.F.FlatFile.sound l.fn.file × Steady (g.F.FlatFile.stored l.file).content l.seen.rows)
+    × (g.D.MaildirDisk.sound l.disk
+    → g.D.MaildirDisk.sound l.fn.disk × ((g.D.MaildirDisk.maildir l.disk).begun ≡ None)
+    × AreFresh l.fn.account (g.D.MaildirDisk.maildir l.disk) (ids_ahead (tasks_planned (drop l.i l.fn.steps) (drop l.i l.fn.listing) (drop l.i l.fn.held))))
+    × (g.W.Wire.sound l.wire → g.D.MaildirDisk.sound l.disk → g.F.FlatFile.sound l.file
+    → g.W.Wire.sound l.fn.wire × g.D.MaildirDisk.sound l.fn.disk × g.F.FlatFile.sound l.fn.file × g.W.Wire.leads_to l.fn.wire l.wire
+    × Leads l.fn.account (tasks_planned l.fn.steps l.fn.listing l.fn.held)
+    (scene (at (g.W.Wire.seen l.fn.wire) l.fn.reader) (g.D.MaildirDisk.maildir l.fn.disk) (g.F.FlatFile.stored l.fn.file) l.fn.seen.rows l.fn.lines.items)
+    (tasks_planned (drop l.i l.fn.steps) (drop l.i l.fn.listing) (drop l.i l.fn.held))
+    (scene (at (g.W.Wire.seen l.wire) l.reader) (g.D.MaildirDisk.maildir l.disk) (g.F.FlatFile.stored l.file) l.seen.rows l.lines.items))

@@ -1,0 +1,28 @@
+use Rattle.std.proofs.Common.{refl}
+use Rattle.pop3_wire.specs.Place.{at}
+use Rattle.pop3_client.specs.Turns.{retr}
+use Rattle.fetch_session.specs.Task.{rereads}
+use Rattle.fetch_session.proofs.TakeLemmas.{reread_taken, text_broken}
+use Rattle.fetch_session.proofs.step.reread.Goals as goal
+
+pub returns-in-Ok-pass_text-clause-rereads : goal.returns-in-Ok-pass_text-clause-rereads
+returns-in-Ok-pass_text-clause-rereads g c = λ account uid maildir file rows w.
+    let passed = c.in-Ok-pass_text.ensures.passes w in
+    let opened = c.in-Ok.ensures.opens passed.0 in
+    let old = at (g.W.Wire.seen c.args.wire.now) c.args.reader.now in (
+      opened.0,
+      g.met.W.Wire.leads_on _ _ _ opened.1 passed.1,
+      reread_taken account c.args.number c.in-Ok-pass_text.length uid old (at (g.W.Wire.seen c.pass_text.new.wire) c.pass_text.new.reader) maildir file rows c.args.lines.now.items c.note.new.lines.items
+          (passed.2 c.args.number old opened.2) c.note.ensures.items,
+    )
+
+pub returns-in-Err-pass_text-clause-rereads : goal.returns-in-Err-pass_text-clause-rereads
+returns-in-Err-pass_text-clause-rereads g c = λ account uid maildir file rows w.
+    let passed = c.in-Err-pass_text.ensures.passes w in
+    let opened = c.in-Ok.ensures.opens passed.0 in
+    let old = at (g.W.Wire.seen c.args.wire.now) c.args.reader.now in (
+      opened.0,
+      g.met.W.Wire.leads_on _ _ _ opened.1 passed.1,
+      text_broken account (rereads c.args.number uid) (retr c.args.number) old (at (g.W.Wire.seen c.pass_text.new.wire) c.pass_text.new.reader) maildir file rows c.args.lines.now.items
+          c.in-Err-pass_text.fault c.told-in-Err-pass_text.result c.plain-in-Err-pass_text.result refl c.plain-in-Err-pass_text.ensures c.told-in-Err-pass_text.ensures (passed.2 c.args.number old opened.2),
+    )

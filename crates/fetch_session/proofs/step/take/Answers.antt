@@ -1,0 +1,101 @@
+use Rattle.std.proofs.Common.{List, ℕ, Ok, Err, subst, ◌∙◌}
+use Rattle.pop3_wire.specs.Place.{at}
+use Rattle.mail_store.specs.Maildir.{IsInNew}
+use Rattle.fetch_session.specs.Store.{Grows}
+use Rattle.fetch_session.proofs.StoreLemmas.{stores_grows}
+use Rattle.fetch_session.proofs.TakeLemmas.{text_wanting, text_stops, text_stored, text_not_saved}
+use Rattle.fetch_session.proofs.step.take.Goals as goal
+
+pub returns-in-Err-clause-takes : goal.returns-in-Err-clause-takes
+returns-in-Err-clause-takes g c = λ w d f. (
+  w,
+  d,
+  f,
+  g.met.W.Wire.leads_same c.args.wire.now,
+  text_wanting c.args.account.now c.args.number c.args.uid.now (at (g.W.Wire.seen c.args.wire.now) c.args.reader.now) (g.D.MaildirDisk.maildir c.args.disk.now)
+      (g.F.FlatFile.stored c.args.file.now) c.args.seen.now.rows c.args.lines.now.items c.plain.result c.plain.ensures,
+)
+
+pub store_text-requires-clause-not_there : goal.store_text-requires-clause-not_there
+store_text-requires-clause-not_there g c = λ kept there.
+    c.unheld_ids_are_not_in_new.ensures c.args.account.now c.args.uid.now (g.D.MaildirDisk.maildir c.args.disk.now) c.requires.digits (c.requires.free kept)
+    (subst (λ (name : List ℕ). IsInNew (g.D.MaildirDisk.maildir c.args.disk.now) name) (c.as_str.ensures.value ∙ c.in-Ok.ensures.name) there)
+
+pub returns-in-Err-store_text-clause-takes : goal.returns-in-Err-store_text-clause-takes
+returns-in-Err-store_text-clause-takes g c = λ w d f.
+    let stored = c.in-Err-store_text.ensures.stores d in
+    let link = stored.1.2 w in
+    let opened = c.in-Ok-open.ensures.opens link.0 in
+    let old = at (g.W.Wire.seen c.args.wire.now) c.args.reader.now in (
+      opened.0,
+      stored.0,
+      f,
+      g.met.W.Wire.leads_on _ _ _ opened.1 link.1,
+      text_stops c.args.account.now c.args.number c.args.uid.now stored.1.0 c.as_str.result.now old (at (g.W.Wire.seen c.store_text.new.wire) c.store_text.new.reader)
+          (g.D.MaildirDisk.maildir c.args.disk.now) (g.D.MaildirDisk.maildir c.store_text.new.disk) (g.F.FlatFile.stored c.args.file.now) c.args.seen.now.rows c.args.lines.now.items c.in-Err-store_text.cut
+          (c.as_str.ensures.value ∙ c.in-Ok.ensures.name) stored.1.1 (link.2 c.args.number old opened.2),
+    )
+
+pub returns-in-Ok-remember-clause-takes : goal.returns-in-Ok-remember-clause-takes
+returns-in-Ok-remember-clause-takes g c = λ w d f.
+    let saved = c.in-Ok-remember.ensures.saves f in
+    let stored = c.in-Ok-store_text.ensures.stores d in
+    let link = stored.1.2 w in
+    let opened = c.in-Ok-open.ensures.opens link.0 in
+    let old = at (g.W.Wire.seen c.args.wire.now) c.args.reader.now in (
+      opened.0,
+      stored.0,
+      saved.0,
+      g.met.W.Wire.leads_on _ _ _ opened.1 link.1,
+      text_stored c.args.account.now c.args.number c.in-Ok-store_text.length c.args.uid.now stored.1.0 c.as_str.result.now old (at (g.W.Wire.seen c.store_text.new.wire) c.store_text.new.reader)
+          (g.D.MaildirDisk.maildir c.args.disk.now) (g.D.MaildirDisk.maildir c.store_text.new.disk) (g.F.FlatFile.stored c.args.file.now) (g.F.FlatFile.stored c.remember.new.file)
+          c.args.seen.now.rows c.remember.new.seen.rows c.args.lines.now.items c.note.new.lines.items
+          (c.as_str.ensures.value ∙ c.in-Ok.ensures.name) stored.1.1 (link.2 c.args.number old opened.2) c.in-Ok-remember.ensures.rows saved.1 c.note.ensures.items,
+    )
+
+pub returns-clause-takes : goal.returns-clause-takes
+returns-clause-takes g c = λ w d f.
+    let saved = c.in-Err-remember.ensures.saves f in
+    let stored = c.in-Ok-store_text.ensures.stores d in
+    let link = stored.1.2 w in
+    let opened = c.in-Ok-open.ensures.opens link.0 in
+    let old = at (g.W.Wire.seen c.args.wire.now) c.args.reader.now in (
+      opened.0,
+      stored.0,
+      saved.0,
+      g.met.W.Wire.leads_on _ _ _ opened.1 link.1,
+      text_not_saved c.args.account.now c.args.number c.in-Ok-store_text.length c.args.uid.now stored.1.0 c.as_str.result.now old (at (g.W.Wire.seen c.store_text.new.wire) c.store_text.new.reader)
+          (g.D.MaildirDisk.maildir c.args.disk.now) (g.D.MaildirDisk.maildir c.store_text.new.disk) (g.F.FlatFile.stored c.args.file.now) (g.F.FlatFile.stored c.remember.new.file)
+          c.args.seen.now.rows c.remember.new.seen.rows c.args.lines.now.items c.note.new.lines.items c.in-Err-remember.fault c.plain-in-Err-remember.result
+          (c.as_str.ensures.value ∙ c.in-Ok.ensures.name) stored.1.1 (link.2 c.args.number old opened.2) saved.1 c.plain-in-Err-remember.ensures c.note.ensures.items,
+    )
+
+pub returns-in-Err-store_text-clause-grows : goal.returns-in-Err-store_text-clause-grows
+returns-in-Err-store_text-clause-grows g c = λ d.
+    let stored = c.in-Err-store_text.ensures.stores d in
+    let maildir = g.D.MaildirDisk.maildir c.args.disk.now in
+    let maildir' = g.D.MaildirDisk.maildir c.store_text.new.disk in (
+      stored.0,
+      subst (λ (name : List ℕ). Grows name maildir maildir') (c.as_str.ensures.value ∙ c.in-Ok.ensures.name)
+          (stores_grows maildir maildir' c.as_str.result.now stored.1.0 (Err c.in-Err-store_text.cut) (c.requires.calm stored.0) stored.1.1),
+    )
+
+pub returns-in-Ok-remember-clause-grows : goal.returns-in-Ok-remember-clause-grows
+returns-in-Ok-remember-clause-grows g c = λ d.
+    let stored = c.in-Ok-store_text.ensures.stores d in
+    let maildir = g.D.MaildirDisk.maildir c.args.disk.now in
+    let maildir' = g.D.MaildirDisk.maildir c.store_text.new.disk in (
+      stored.0,
+      subst (λ (name : List ℕ). Grows name maildir maildir') (c.as_str.ensures.value ∙ c.in-Ok.ensures.name)
+          (stores_grows maildir maildir' c.as_str.result.now stored.1.0 (Ok c.in-Ok-store_text.length) (c.requires.calm stored.0) stored.1.1),
+    )
+
+pub returns-clause-grows : goal.returns-clause-grows
+returns-clause-grows g c = λ d.
+    let stored = c.in-Ok-store_text.ensures.stores d in
+    let maildir = g.D.MaildirDisk.maildir c.args.disk.now in
+    let maildir' = g.D.MaildirDisk.maildir c.store_text.new.disk in (
+      stored.0,
+      subst (λ (name : List ℕ). Grows name maildir maildir') (c.as_str.ensures.value ∙ c.in-Ok.ensures.name)
+          (stores_grows maildir maildir' c.as_str.result.now stored.1.0 (Ok c.in-Ok-store_text.length) (c.requires.calm stored.0) stored.1.1),
+    )

@@ -1,0 +1,58 @@
+-- What a list of tasks that stopped leaves, told by the tasks that were brought to their end.
+use Rattle.std.specs.Prelude.{◌≡◌, ◌⊎◌, ℕ, List, [], ◌∷◌, ◌++◌, Option, Err}
+use Rattle.std.specs.List.{flat_map, AllZip}
+use Rattle.fetch_rules.specs.Record.{Row}
+use Rattle.mail_store.specs.FlatFile.{Stored}
+use Rattle.mail_store.specs.Maildir.{File}
+use Rattle.pop3_wire.specs.Reading.{WholeReply, reply_bytes}
+use Rattle.pop3_client.specs.Turns.{IsGood}
+use Rattle.fetch_session.specs.declared.fault.Fault.{Fault}
+use Rattle.fetch_session.specs.declared.fault.Cut.{Cut}
+use Rattle.fetch_session.specs.declared.fault.Fault.TheVariants.{StoreRefused, SeenRefused, NoMemory}
+use Rattle.fetch_session.specs.declared.fault.Why.TheVariants.{Refused}
+use Rattle.fetch_session.specs.Task.{Task, Done, stores, tasks_of, turns_of, replies_of, ids_of, files_of, file_from, lines_of}
+use Rattle.fetch_session.specs.Record.{Keeps, Steady, Saves, marked_all}
+use Rattle.fetch_session.specs.Scene.{Scene, Fell}
+
+-- these replies stand whole at the front of what was got
+abbrev pub Stands : List WholeReply → Scene → Scene → Type 0
+Stands replies old new = (rest : List ℕ) × (new.place.link.got ≡ old.place.link.got ++ (flat_map reply_bytes replies ++ rest))
+
+-- a file more, whose reply stands behind those taken, only where the store refused
+abbrev pub ExtraIs : List ℕ → List Done → List Task → Scene → Fault → Scene → List File → Type 0
+ExtraIs account taken next old fault new extra = (extra ≡ [])
+    ⊎ ((fault ≡ StoreRefused Refused) × ((number : ℕ) × (uid : List ℕ) × (later : List Task) × (reply : WholeReply) × (next ≡ stores number uid ∷ later)
+    × (extra ≡ file_from account uid reply ∷ []) × Stands (replies_of taken ++ reply ∷ []) old new))
+
+-- the last id that was to be marked isn't saved, only where the record wasn't
+abbrev pub MarksAre : List (List ℕ) → Fault → List (List ℕ) → Type 0
+MarksAre taken fault marks = (marks ≡ taken) ⊎ (((fault ≡ SeenRefused) ⊎ (fault ≡ NoMemory)) × ((uid : List ℕ) × (taken ≡ marks ++ uid ∷ [])))
+
+-- what tasks that were cut short leave
+pub record CutShort (account : List ℕ) (tasks : List Task) (old : Scene) (fault : Fault) (new : Scene) : Type 0 where
+  pub taken : List Done
+  pub next : List Task
+  pub extra : List File
+  pub marks : List (List ℕ)
+  pub split : tasks ≡ tasks_of taken ++ next
+  pub good : AllZip IsGood (turns_of taken) (replies_of taken)
+  pub got : Stands (replies_of taken) old new
+  pub told : new.lines ≡ old.lines ++ lines_of taken
+  pub files : new.maildir.in_new ≡ old.maildir.in_new ++ (files_of account taken ++ extra)
+  pub others : new.maildir.in_cur ≡ old.maildir.in_cur
+  pub extra_is : ExtraIs account taken next old fault new extra
+  pub marks_are : MarksAre (ids_of taken) fault marks
+  pub record_is : Keeps new.file.content (marked_all old.rows marks)
+
+-- where a list of tasks stopped, it leaves what tasks that were cut short leave
+abbrev pub StoppingCutsShort : Type 0
+StoppingCutsShort = (account : List ℕ) (tasks : List Task) (old new : Scene) (cut : Cut) → Fell account tasks old cut new → old.place.waiting ≡ [] → Steady old.file.content old.rows → CutShort account tasks old cut.fault new
+
+-- a file that stands for a record without a torn end stands for it
+abbrev pub SteadyFilesKeep : Type 0
+SteadyFilesKeep = (content : Option (List ℕ)) (rows : List Row) → Steady content rows → Keeps content rows
+
+-- a record that wasn't saved left its file standing for the one before or for this one
+abbrev pub UnsavedFilesKeep : Type 0
+UnsavedFilesKeep = (old : Stored) (was rows : List Row) (fault : Fault) (new : Stored) → Saves old was rows (Err fault) new → Steady old.content was
+    → Keeps new.content was ⊎ Keeps new.content rows

@@ -1,0 +1,90 @@
+-- A whole session: how far it came, what it said at its end, and what it tells.
+use Rattle.std.specs.Prelude.{◌≡◌, ◌⊎◌, ℕ, List, [], length, None, Result, Ok, Err}
+use Rattle.std.specs.String.{string_bytes}
+use Rattle.pop3_wire.specs.Link.{Link}
+use Rattle.pop3_wire.specs.Place.{Place, at}
+use Rattle.mail_terms.specs.Listing.{Item}
+use Rattle.rc_file.specs.declared.settings.Settings.{Settings}
+use Rattle.mail_store.specs.Maildir.{Maildir}
+use Rattle.mail_store.specs.FlatFile.{Stored}
+use Rattle.pop3_client.specs.declared.fault.Fault.{Fault as TalkFault}
+use Rattle.fetch_session.specs.declared.fault.Fault.TheVariants.{NoMemory}
+use Rattle.fetch_session.specs.declared.fault.Cut.{Cut}
+use Rattle.fetch_session.specs.declared.report.Outcome.{Outcome}
+use Rattle.fetch_session.specs.declared.report.Outcome.TheVariants.{Ended, Cut as WasCut}
+use Rattle.fetch_session.specs.declared.report.Report.{Report}
+use Rattle.fetch_session.specs.declared.report.ReportLine.{ReportLine}
+use Rattle.fetch_session.specs.Fault.{fault_of, cut_of}
+use Rattle.fetch_session.specs.Opening.{Enters}
+use Rattle.fetch_session.specs.Plan.{Carries}
+use Rattle.fetch_session.specs.Tail.{Left}
+use Rattle.fetch_session.specs.Report.{Reports}
+
+-- what a session noted: how many messages were listed, how many its plan passes over, and what was done
+pub record Noted : Type 0 where
+  pub total : ℕ
+  pub skipped : ℕ
+  pub lines : List ReportLine
+
+abbrev pub noted : ℕ → ℕ → List ReportLine → Noted
+noted total skipped lines = record { total = total; skipped = skipped; lines = lines }
+
+-- the store and the record's file
+pub record Kept : Type 0 where
+  pub maildir : Maildir
+  pub file : Stored
+
+abbrev pub kept : Maildir → Stored → Kept
+kept maildir file = record { maildir = maildir; file = file }
+
+abbrev pub Enters_with : Settings → Place → Result (List Item) TalkFault → Place → Type 0
+Enters_with settings old result new = Enters (string_bytes settings.username) (string_bytes settings.password) old result new
+
+-- the conversation stopped before a listing was known: nothing was stored
+pub record NotEntered (settings : Settings) (old : Place) (before : Kept) (cut : Cut) (new : Place) (after : Kept) (notes : Noted) : Type 0 where
+  pub why : TalkFault
+  pub is : cut ≡ cut_of (fault_of why) None
+  pub enters : Enters_with settings old (Err why) new
+  pub same : after ≡ before
+  pub nothing : notes ≡ noted 0 0 []
+
+-- memory was wanting for the notes on what the listing names
+pub record NoRoom (settings : Settings) (old : Place) (before : Kept) (cut : Cut) (new : Place) (after : Kept) (notes : Noted) : Type 0 where
+  pub items : List Item
+  pub is : cut ≡ cut_of NoMemory None
+  pub enters : Enters_with settings old (Ok items) new
+  pub same : after ≡ before
+  pub nothing : notes ≡ noted (length items) 0 []
+
+-- the listing was known, and its messages were dealt with, or as far as went well
+pub record Dealt (settings : Settings) (account : List ℕ) (now : ℕ) (old : Place) (before : Kept) (result : Result (Unit {0}) Cut) (new : Place) (after : Kept) (notes : Noted) : Type 0 where
+  pub items : List Item
+  pub mid : Place
+  pub enters : Enters_with settings old (Ok items) mid
+  pub total : notes.total ≡ length items
+  pub carries : Carries settings account items now mid before.maildir before.file [] result new after.maildir after.file notes.lines notes.skipped
+
+-- a session up to its QUIT, or to where it was cut
+abbrev pub Proceeds : Settings → List ℕ → ℕ → Place → Kept → Result (Unit {0}) Cut → Place → Kept → Noted → Type 0
+Proceeds settings account now old before (Ok done) new after notes = Dealt settings account now old before (Ok done) new after notes
+Proceeds settings account now old before (Err cut) new after notes = NotEntered settings old before cut new after notes
+    ⊎ (NoRoom settings old before cut new after notes ⊎ Dealt settings account now old before (Err cut) new after notes)
+
+-- how a session came out
+abbrev pub outcome_of : Result (Unit {0}) Cut → Outcome
+outcome_of (Ok done) = Ended
+outcome_of (Err cut) = WasCut cut.fault
+
+-- after a cut the reply under way is dropped and the tail said
+abbrev pub LeavesLink : Result (Unit {0}) Cut → Place → Link → Type 0
+LeavesLink (Ok done) mid link = link ≡ mid.link
+LeavesLink (Err cut) mid link = (new : Place) × Left cut mid new × (link ≡ new.link)
+
+-- a whole session, from a link of which nothing waits to be used
+pub record Session (settings : Settings) (account : List ℕ) (now : ℕ) (link : Link) (before : Kept) (report : Report) (link' : Link) (after : Kept) : Type 0 where
+  pub result : Result (Unit {0}) Cut
+  pub mid : Place
+  pub notes : Noted
+  pub proceeds : Proceeds settings account now (at link []) before result mid after notes
+  pub leaves : LeavesLink result mid link'
+  pub reports : Reports (outcome_of result) notes.total notes.skipped notes.lines report

@@ -1,0 +1,92 @@
+-- What storing one text does.
+use Rattle.std.specs.Prelude.{◌≡◌, ◌⊎◌, ◌≤◌, ℕ, false, List, [], ◌∷◌, ◌++◌, length, Option, None, Some, Result, Ok, Err}
+use Rattle.pop3_wire.specs.Place.{Place}
+use Rattle.pop3_wire.specs.Bodies.{Rest}
+use Rattle.pop3_wire.specs.declared.unstuffer.Spot.TheVariants.{Done}
+use Rattle.pop3_client.specs.declared.fault.Fault.{Fault as TalkFault}
+use Rattle.pop3_wire.specs.Reading.{WholeReply}
+use Rattle.pop3_client.specs.Conversation.{Talked, Broke}
+use Rattle.pop3_client.specs.Turns.{retr}
+use Rattle.pop3_client.specs.Texts.{Fetching, Fetched, body_text}
+use Rattle.fetch_session.specs.Fault.{fault_of}
+use Rattle.fetch_session.specs.declared.fault.Cut.{Cut}
+use Rattle.mail_store.specs.Maildir.{Maildir, File, file, with_file, dropped, counted}
+use Rattle.mail_store.specs.FileName.{name_of}
+use Rattle.fetch_session.specs.declared.fault.Fault.{Fault}
+use Rattle.fetch_session.specs.declared.fault.Fault.TheVariants.{StoreRefused}
+use Rattle.fetch_session.specs.declared.fault.Why.TheVariants.{Missing, Refused}
+
+-- `new` gained these files behind the others, and nothing else changed
+pub record Gained (old new : Maildir) (files : List File) : Type 0 where
+  pub in_new : new.in_new ≡ old.in_new ++ files
+  pub in_cur : new.in_cur ≡ old.in_cur
+  pub there : new.there ≡ old.there
+  pub calm : old.begun ≡ None → new.begun ≡ None
+  pub failures : old.failures ≤ new.failures
+
+-- at most a file of this name came into `new`, and none is begun
+pub record Grows (name : List ℕ) (old new : Maildir) : Type 0 where
+  pub calm : new.begun ≡ None
+  pub in_cur : new.in_cur ≡ old.in_cur
+  pub in_new : (new.in_new ≡ old.in_new) ⊎ ((content : List ℕ) × (new.in_new ≡ old.in_new ++ file name content ∷ []))
+
+-- nothing came into `new`, and none is begun
+pub record Rests (old new : Maildir) : Type 0 where
+  pub calm : new.begun ≡ None
+  pub in_cur : new.in_cur ≡ old.in_cur
+  pub in_new : new.in_new ≡ old.in_new
+
+-- at most a file of this id came into `new`, if there is one
+abbrev pub GrowsBy : List ℕ → List (List ℕ) → Maildir → Maildir → Type 0
+GrowsBy account [] old new = Rests old new
+GrowsBy account (uid ∷ []) old new = Grows (name_of account uid) old new
+GrowsBy account (uid ∷ other ∷ more) old new = ⊥
+
+-- ---- a text, piece by piece
+
+-- this file is being written
+abbrev pub begun_with : Maildir → File → Maildir
+begun_with old f = record old { begun = Some f }
+
+-- an empty file of this name is being written, or none is
+abbrev pub Starts : Maildir → List ℕ → Result (Unit {0}) Fault → Maildir → Type 0
+Starts old name (Ok done) new = new ≡ begun_with old (file name [])
+Starts old name (Err fault) new = ((fault ≡ StoreRefused Missing) × (old.there.tmp ≡ false) × (new ≡ old)) ⊎ ((fault ≡ StoreRefused Refused) × (new ≡ counted old))
+
+-- the bytes stand behind those of the file that is being written, or none is any more
+abbrev pub Puts : Maildir → List ℕ → Result (Unit {0}) Fault → Maildir → Type 0
+Puts old bytes (Ok done) new = (f : File) → old.begun ≡ Some f → new ≡ begun_with old (file f.name (f.content ++ bytes))
+Puts old bytes (Err fault) new = (fault ≡ StoreRefused Refused) × ((f : File) → old.begun ≡ Some f → new ≡ counted (dropped old))
+
+-- the file that is being written stands in `new`, or, refused, it may
+abbrev pub Ends : Maildir → Result (Unit {0}) Fault → Maildir → Type 0
+Ends old (Ok done) new = (f : File) → old.begun ≡ Some f → new ≡ with_file old f
+Ends old (Err fault) new = (fault ≡ StoreRefused Refused) × ((f : File) → old.begun ≡ Some f → (new ≡ counted (dropped old)) ⊎ (new ≡ counted (with_file old f)))
+
+-- the store refused a text of which this much has come: nothing came into `new`, or, only where the text had come whole, the file
+abbrev pub RefusesText : Maildir → List ℕ → Rest → List ℕ → Fault → Maildir → Type 0
+RefusesText old name rest text fault new = ((fault ≡ StoreRefused Missing) × (old.there.tmp ≡ false) × (new ≡ old))
+    ⊎ ((fault ≡ StoreRefused Refused) × ((new ≡ counted (dropped old)) ⊎ ((rest.spot ≡ Done) × (new ≡ counted (with_file old (file name text))))))
+
+-- the link stopped, and nothing was stored; or the store refused
+abbrev pub StopsStoring : List ℕ → Maildir → List ℕ → Fault → Option Rest → Maildir → Type 0
+StopsStoring name old text fault None new = new ≡ old
+StopsStoring name old text fault (Some rest) new = RefusesText old name rest text fault new
+
+abbrev pub StoresText : List ℕ → Maildir → List ℕ → Result ℕ Cut → Maildir → Type 0
+StoresText name old text (Ok octets) new = (new ≡ with_file old (file name text)) × (octets ≡ length text)
+StoresText name old text (Err cut) new = StopsStoring name old text cut.fault cut.rest new
+
+-- the conversation broke; or the reply is under way, or whole
+abbrev pub StopsReading : ℕ → Place → List ℕ → Fault → Option Rest → Place → Type 0
+StopsReading number start text fault None new = (why : TalkFault) × (fault ≡ fault_of why) × Broke (retr number) start new why
+StopsReading number start text fault (Some rest) new = Fetching (retr number) start new rest text × (rest.spot ≡ Done → Fetched (retr number) start text new)
+
+abbrev pub ReadsText : ℕ → Place → List ℕ → Result ℕ Cut → Place → Type 0
+ReadsText number start text (Ok octets) new = Fetched (retr number) start text new
+ReadsText number start text (Err cut) new = StopsReading number start text cut.fault cut.rest new
+
+-- a text that is read and not stored: its length
+abbrev pub PassesText : ℕ → Place → Result ℕ TalkFault → Place → Type 0
+PassesText number start (Ok octets) new = (reply : WholeReply) × Talked (retr number ∷ []) (reply ∷ []) start new × (octets ≡ length (body_text reply.body))
+PassesText number start (Err why) new = Broke (retr number) start new why

@@ -1,0 +1,46 @@
+-- What is said after a fault.
+use Rattle.std.specs.Prelude.{◌≡◌, ℕ, List, [], ◌∷◌, Option, None, Some, Result, Ok, Err}
+use Rattle.pop3_wire.specs.Bodies.{Rest}
+use Rattle.pop3_wire.specs.declared.unstuffer.Spot.TheVariants.{Done}
+use Rattle.pop3_client.specs.Texts.{Fetching}
+use Rattle.fetch_session.specs.declared.fault.Cut.{Cut}
+use Rattle.pop3_wire.specs.Place.{Place}
+use Rattle.pop3_client.specs.declared.fault.Asked.TheVariants.{Quit}
+use Rattle.pop3_client.specs.declared.fault.Fault.{Fault as TalkFault}
+use Rattle.pop3_client.specs.Turns.{Turn, quit, rset, retr}
+use Rattle.pop3_client.specs.Conversation.{Tells, Talks}
+use Rattle.fetch_session.specs.declared.fault.Fault.{Fault}
+use Rattle.fetch_session.specs.declared.fault.Fault.TheVariants.{Refused, StoreRefused, SeenRefused, BadSeen}
+use Rattle.fetch_session.specs.declared.tail.Tail.{Tail}
+use Rattle.fetch_session.specs.declared.tail.Tail.TheVariants.{Nothing, Leave, Undo}
+
+abbrev pub turns_in : Tail → List Turn
+turns_in Nothing = []
+turns_in Leave = quit ∷ []
+turns_in Undo = rset ∷ quit ∷ []
+
+-- nothing after a refused QUIT, QUIT after any other refused command, and after a refused store or record RSET, and QUIT once that is answered well
+abbrev pub tail : Fault → Tail
+tail (Refused Quit) = Nothing
+tail (Refused to) = Leave
+tail (StoreRefused why) = Undo
+tail SeenRefused = Undo
+tail (BadSeen line) = Undo
+tail _ = Nothing
+
+-- the rest of the reply under way, if one is, was read and dropped, where nothing is left of a whole one; or its turn broke
+abbrev pub Drops : Option Rest → Place → Result (Unit {0}) TalkFault → Place → Type 0
+Drops None old (Ok done) new = new ≡ old
+Drops None old (Err fault) new = ⊥
+Drops (Some rest) old result new = (rest.spot ≡ Done → (result ≡ Ok tt) × (new ≡ old))
+    × ((number : ℕ) (start : Place) (text : List ℕ) → Fetching (retr number) start old rest text → Tells (retr number) start result new)
+
+-- with no reply under way the tail was talked, or it stopped; else the turn of that reply and then the tail, from where that turn began, and behind a whole reply the tail alone
+abbrev pub LeftBy : Fault → Option Rest → Place → Place → Type 0
+LeftBy fault None old new = (result : Result (Unit {0}) TalkFault) × Talks (turns_in (tail fault)) old result new
+LeftBy fault (Some rest) old new = (rest.spot ≡ Done → (result : Result (Unit {0}) TalkFault) × Talks (turns_in (tail fault)) old result new)
+    × ((number : ℕ) (start : Place) (text : List ℕ) → Fetching (retr number) start old rest text
+    → (result : Result (Unit {0}) TalkFault) × Talks (retr number ∷ turns_in (tail fault)) start result new)
+
+abbrev pub Left : Cut → Place → Place → Type 0
+Left cut old new = LeftBy cut.fault cut.rest old new
