@@ -1,6 +1,7 @@
 pub mod Deliveries
 pub mod FusedCalls
 pub mod NameLemmas
+mod AccountLemmas
 pub mod HeldLemmas
 pub mod MoveLemmas
 pub mod DistinctNames

@@ -1,6 +1,6 @@
 //! What tells accounts apart in the names of their files.
 
-ghost use Rattle.std.specs.Prelude.{◌≡◌, [], ◌∷◌, ◌++◌, length, decimal};
+ghost use Rattle.std.specs.Prelude.{◌≡◌, ℕ, List, [], ◌∷◌, ◌++◌, length, decimal};
 ghost use Rattle.std.specs.List.{AllPass};
 ghost use Rattle.hex.specs.Hex.{encode_lower};
 ghost use Rattle.sha2.specs.Sha256.{sha256};
@@ -75,3 +75,8 @@ pub fn account_id(server: &str, port: u16, username: &str) -> AccountId
         text: lower_hex(&digest),
     }
 }
+
+/// The text of every account is 64 hexadecimal digits in lower case.
+pub fn account_texts_are_digits()
+    ensures { (server : List ℕ) (port : ℕ) (username : List ℕ) → IsAccountText (account_text server port username) }
+{}

@@ -10,7 +10,7 @@ mod mboxrd;
 mod refusal;
 mod system;
 
-pub use account::{AccountId, account_id};
+pub use account::{AccountId, account_id, account_texts_are_digits};
 pub use fault::StoreFault;
 pub use file::flat_file::{Edges, FlatFile};
 pub use file::host::HostFile;
