@@ -214,7 +214,7 @@ class Killed(Fetching):
 class Floods(unittest.TestCase):
     """Servers that mean no good: whatever they send, the program ends, with its line."""
 
-    def check_flood(self, replies, line):
+    def check_flood(self, replies, line, *words, held=(), missing=()):
         with socket.create_server((LOOPBACK, 0)) as listener:
             listener.settimeout(programs.SECONDS)
 
@@ -234,10 +234,14 @@ class Floods(unittest.TestCase):
             thread = threading.Thread(target=serve, daemon=True)
             thread.start()
             with Account(listener.getsockname()[1]) as account:
-                run = account.run("-q")
+                for uid, text in held:
+                    (account.maildir / "new" / account.name(uid)).write_bytes(text)
+                for part in missing:
+                    (account.maildir / part).rmdir()
+                run = account.run("-q", *words)
                 self.assertEqual((run.status, run.err), (1, line))
-                self.assertEqual(account.held(), [])
-                self.assertEqual(os.listdir(account.maildir / "tmp"), [])
+                self.assertEqual(account.held(), list(held))
+                self.assertEqual(list(account.maildir.glob("tmp/*")), [])
             thread.join(programs.SECONDS)
 
     def test_a_greeting_that_never_ends(self):
@@ -246,9 +250,18 @@ class Floods(unittest.TestCase):
     def test_a_greeting_that_is_none(self):
         self.check_flood([b"HTTP/1.1 400 Bad Request\r\n"], b"getmail: reply not understood\n")
 
+    # The replies up to that of RETR, whose text never ends; the program takes 268,435,456 octets of it.
+    ENDLESS = [b"+OK\r\n" * 3, b"+OK 1 5\r\n+OK\r\n1 a\r\n.\r\n+OK\r\n1 5\r\n.\r\n+OK\r\n",
+               *[b"a line\r\n" * 8000] * 4300]
+
     def test_a_message_that_never_ends(self):
-        opening = b"+OK\r\n" * 3 + b"+OK 1 5\r\n+OK\r\n1 a\r\n.\r\n+OK\r\n1 5\r\n.\r\n+OK\r\n"
-        self.check_flood([opening] + [b"a line\r\n" * 8000] * 4300, b"getmail: message too long\n")
+        self.check_flood(self.ENDLESS, b"getmail: message too long\n")
+
+    def test_a_message_that_never_ends_and_is_held(self):
+        self.check_flood(self.ENDLESS, b"getmail: message too long\n", "-a", held=[(b"a", b"one\n")])
+
+    def test_a_message_that_never_ends_and_is_dropped(self):
+        self.check_flood(self.ENDLESS, b"getmail: destination missing\n", missing=["tmp"])
 
     def test_a_listing_that_never_ends(self):
         opening = b"+OK\r\n" * 3 + b"+OK 1 5\r\n+OK\r\n"

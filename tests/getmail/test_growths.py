@@ -112,3 +112,25 @@ class FetchedTexts(unittest.TestCase):
         short = self.ends(b"nine byte\n")
         self.assertGreater(short[1, b"getmail: out of memory\n"], 0, "no refusal reached the session")
         self.assertEqual(short, self.ends((b"z" * 99 + b"\n") * 1000))
+
+
+class CompletedSessions(unittest.TestCase):
+    """After a run with a refused growth the next one, with nothing refused, leaves each message once."""
+
+    MESSAGES = [(b"a", b"one\n"), (b"b", b"two\n" * 3000), (b"c", b"three\n")]
+
+    def test_each_refused_growth(self):
+        for refusal in growths.refusals():
+            with self.subTest(growth=refusal.number), Server(self.MESSAGES) as server, Account(server.port) as account:
+                thread = server.begin_session()
+                run = account.run("-q", "-d", **refusal.environment())
+                held = account.held()
+                self.assertEqual(held, self.MESSAGES[:len(held)])
+                self.assertEqual(run.status == 0, len(held) == 3 and server.messages == [])
+                if run.status != 2:
+                    thread.join(programs.SECONDS)
+                    thread = server.begin_session()
+                self.assertEqual(account.run("-q", "-d"), programs.Run(0, b"", b""))
+                thread.join(programs.SECONDS)
+                self.assertEqual(account.held(), self.MESSAGES)
+                self.assertEqual(server.messages, [])
