@@ -4,6 +4,7 @@ It knows what `getmail` sends (USER, PASS, STAT, UIDL, LIST, RETR, DELE, RSET, Q
 marked messages at QUIT, as RFC 1939 has it.
 """
 
+import itertools
 import socket
 import threading
 import time
@@ -30,7 +31,8 @@ def size_of(text):
 class Server:
     """The messages, as pairs of a unique-id and a text whose lines end in LF, and one session after the other.
 
-    With `pause` each octet comes alone, so many seconds after the one before.
+    With `pause` each octet comes alone, so many seconds after the one before. With `deaf_after` it reads so many commands,
+    and nothing more while the connection stands.
     """
 
     def __init__(self, messages, refuses=()):
@@ -39,6 +41,8 @@ class Server:
         self.commands = []
         self.room = None
         self.pause = None
+        self.deaf_after = None
+        self.hung_up = threading.Event()
         self.socket = socket.create_server((LOOPBACK, 0))
         self.socket.settimeout(programs.SECONDS)
         self.port = self.socket.getsockname()[1]
@@ -78,12 +82,14 @@ class Server:
         with self.client, self.client.makefile("rb") as given:
             try:
                 self._say(b"+OK ready\r\n")
-                for line in given:
+                for line in given if self.deaf_after is None else itertools.islice(given, self.deaf_after):
                     command = line.removesuffix(b"\r\n")
                     self.commands.append(command.decode())
                     self._say(self._answer(command))
                     if command == b"QUIT":
                         return
+                if self.deaf_after is not None:
+                    self.hung_up.wait(programs.SECONDS)
             except (Cut, ConnectionError):
                 # What the client still sends is read, so that the end comes in order and isn't a reset.
                 try:

@@ -1,4 +1,4 @@
-"""Servers that fall silent: each wait has an end, and what was fetched before it stays."""
+"""Servers that fall silent or take nothing: each wait has an end, and what was fetched before it stays."""
 
 import contextlib
 import socket
@@ -8,7 +8,7 @@ import unittest
 
 from getmail.account import Account
 from getmail.server import Server
-from harness import programs, waits
+from harness import preload, programs, waits
 from harness.kernel import LOOPBACK
 
 # What the program asks for, in milliseconds.
@@ -20,6 +20,7 @@ SOON = 15
 
 OPENING = b"+OK\r\n" * 3 + b"+OK 2 10\r\n+OK\r\n1 a\r\n2 b\r\n.\r\n+OK\r\n1 5\r\n2 5\r\n.\r\n"
 READING_FAILED = b"getmail: reading from the server failed\n"
+WRITING_FAILED = b"getmail: writing to the server failed\n"
 
 
 class SilentServer:
@@ -116,3 +117,57 @@ class Stalls(unittest.TestCase):
             thread.join(programs.SECONDS)
             self.assertEqual(run, programs.Run(0, b"", b""))
             self.assertEqual(account.held(), messages)
+
+
+class Deaf(unittest.TestCase):
+    """A server that takes nothing more from one command on: what the program says then waits for its bound."""
+
+    messages = [(b"a", b"one\n"), (b"b", b"two\n"), (b"c", b"three\n")]
+
+    @classmethod
+    def setUpClass(cls):
+        cls.hurry = waits.hurry_for(cls)
+        library = preload.library("fill_socket")
+        cls.filler = library.__enter__()
+        cls.addClassCleanup(library.__exit__, None, None, None)
+
+    def run_deaf(self, server, account, commands):
+        """A run whose server reads so many commands, and the seconds that it took."""
+        environment = self.hurry.environment()
+        environment["LD_PRELOAD"] = f"{self.filler} {environment['LD_PRELOAD']}"
+        server.deaf_after = commands
+        thread = server.begin_session()
+        begun = time.monotonic()
+        run = account.run("-q", FILL_BEFORE=str(commands + 1), **environment)
+        passed = time.monotonic() - begun
+        server.hung_up.set()
+        thread.join(programs.SECONDS)
+        server.deaf_after = None
+        return run, passed
+
+    def check_deaf(self, commands, held):
+        with Server(self.messages) as server, Account(server.port, "delete = true\n") as account:
+            run, passed = self.run_deaf(server, account, commands)
+            self.assertEqual(run, programs.Run(1, b"", WRITING_FAILED))
+            self.assertGreaterEqual(passed, WAIT / 1000 / waits.SPEED)
+            self.assertLess(passed, SOON)
+            self.assertIn(("write", WAIT), self.hurry.asked())
+            self.assertEqual(account.held(), self.messages[:held])
+            self.assertEqual(list((account.maildir / "tmp").iterdir()), [])
+            thread = server.begin_session()
+            self.assertEqual(account.run("-q"), programs.Run(0, b"", b""))
+            thread.join(programs.SECONDS)
+            self.assertEqual(account.held(), self.messages)
+            self.assertEqual(server.messages, [])
+
+    def test_the_first_command(self):
+        self.check_deaf(0, 0)
+
+    def test_a_deletion(self):
+        self.check_deaf(6, 1)
+
+    def test_a_retrieval(self):
+        self.check_deaf(7, 1)
+
+    def test_quitting(self):
+        self.check_deaf(11, 3)
