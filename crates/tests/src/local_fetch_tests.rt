@@ -1,3 +1,4 @@
 //! Tests of `local_fetch`: sessions with both ends in one program.
 
+mod cuts;
 mod ends;

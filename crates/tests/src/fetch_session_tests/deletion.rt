@@ -1,5 +1,6 @@
 //! Which messages sessions delete.
 
+use crate::fetch_session_tests::list::expect_by_one_call;
 use crate::fetch_session_tests::visit::{A_LISTED, ONE, TWO, Visit, expect};
 use std::test::Fail;
 
@@ -28,7 +29,8 @@ fn deletes_after_seven_days_and_never_while_the_clock_is_back(rt: HostRuntime) -
              getmail-seen 1/a 1000000 0/+ 1/a 1000000 1/",
         ),
     ];
-    expect(&rt, &rows)
+    expect(&rt, &rows)?;
+    expect_by_one_call(&rt, days, &rows)
 }
 
 #[test]
@@ -56,7 +58,8 @@ fn deletes_later_what_a_cut_left(rt: HostRuntime) -> Result<(), Fail> {
              a=one/ b=two/ - - getmail-seen 1/a 0 0/b 0 0/+ 1/a 0 1/+ 1/b 0 1/",
         ),
     ];
-    expect(&rt, &rows)
+    expect(&rt, &rows)?;
+    expect_by_one_call(&rt, "delete = true", &rows)
 }
 
 #[test]

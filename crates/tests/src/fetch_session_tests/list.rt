@@ -1,48 +1,55 @@
-//! A list of sessions by one call, each over its own link.
+//! Lists of sessions by one call, each over its own link.
 
 use crate::fetch_session_tests::visit::{
-    Kept, LISTED, ONE, THREE, TWO, counts, held, script, settings,
+    self, SOUND, account, counts, held, kept_by, nothing_kept, sent,
 };
 use fetch_runs::{Visit, run_sessions};
-use fetch_session::{Account, Store};
-use mail_store::{MemoryFile, MemoryMaildir};
-use std::hash::{BuildHasherDefault, FoldHasher};
+use pop3_wire::{FusedWire, ScriptWire};
+use std::alloc::{AllocError, Global};
+use std::process::Abort;
 use std::test::Fail;
 
-#[test]
-fn runs_a_session_for_each_visit(rt: HostRuntime) -> Result<(), Fail> {
-    let alloc = rt.alloc();
-    let mut visits = [
-        Visit {
-            wire: script(alloc, &[LISTED, ONE, "+OK|tw"])?,
-            now: 0,
-        },
-        Visit {
-            wire: script(alloc, &[LISTED, TWO, THREE, "+OK|"])?,
-            now: 7,
-        },
-    ];
-    let settings = settings(alloc, "")?;
-    let mut account = Account::new(
-        alloc,
-        settings,
-        Store::Maildir(MemoryMaildir::new(alloc)),
-        MemoryFile::missing(alloc),
-        BuildHasherDefault::<FoldHasher>::new(),
-    );
-    let reports = run_sessions(alloc, &mut account, &mut visits);
-    let (_settings, store, record) = account.into_parts();
-    let Store::Maildir(maildir) = store;
-    let mut told = String::new(alloc);
-    for report in &reports? {
-        told.push_str(counts(alloc, report)?.as_str())?;
-        told.push_str("; ")?;
+/// The links and the times of these sessions.
+fn visits(
+    alloc: Global,
+    rows: &[(visit::Visit, &str)],
+) -> Result<Vec<Visit<FusedWire<ScriptWire>>>, AllocError> {
+    let mut visits = Vec::new(alloc);
+    for (visit, _wanted) in rows {
+        visits.push(Visit {
+            wire: visit.link(alloc, 4096)?,
+            now: visit.now,
+        })?;
     }
-    told.push_str(held(alloc, &Kept { maildir, record })?.as_str())?;
-    assert_eq!(rt;
-        told.as_str(),
-        "Cut(ConnectionEnded) 1/3 4 s0 d0; Ended 2/3 10 s1 d0; a=one/ b=two/ c=three/ - - \
-         getmail-seen 1/a 0 0/b 0 0/c 0 0/+ 1/a 0 1/+ 1/b 0 1/+ 1/c 0 1/"
-    );
+    Ok(visits)
+}
+
+/// Runs these sessions by one call, from an empty Maildir and no record, and compares what was sent in
+/// each and how it came out, and what is kept at last, with what each is to tell. All of them have the
+/// options of the account.
+pub fn expect_by_one_call(
+    rt: &(impl Abort + AllocGlobal),
+    options: &str,
+    rows: &[(visit::Visit, &str)],
+) -> Result<(), Fail> {
+    let alloc = rt.alloc();
+    let mut visits = visits(alloc, rows)?;
+    let mut account = account(alloc, options, nothing_kept(alloc), SOUND, SOUND)?;
+    let reports = run_sessions(alloc, &mut account, &mut visits);
+    let held = held(alloc, &kept_by(account))?;
+    let reports = reports?;
+    assert_eq!(rt; reports.len(), rows.len());
+    let mut told = String::new(alloc);
+    for ((visit, report), (_, wanted)) in visits.into_iter().zip(&reports).zip(rows) {
+        let Visit { wire, now: _ } = visit;
+        let sent = sent(alloc, wire)?;
+        let counts = counts(alloc, report)?;
+        told = format!(in alloc; "{sent} {counts} - ")?;
+        assert!(rt; wanted.starts_with(told.as_str()), "{told}");
+    }
+    told.push_str(held.as_str())?;
+    if let Some((_, wanted)) = rows.last() {
+        assert_eq!(rt; told.as_str(), *wanted);
+    }
     Ok(())
 }

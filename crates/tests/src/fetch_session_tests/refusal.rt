@@ -2,7 +2,7 @@
 ghost use Rattle.std.specs.Prelude.{◌<◌};
 
 use crate::fetch_session_tests::visit::{
-    Fuse, Kept, LISTED, ONE, SOUND, THREE, TWO, Visit, nothing_kept, run,
+    Fuse, Kept, LISTED, ONE, THREE, TWO, Visit, nothing_kept, run,
 };
 use mail_store::FlatFile;
 use std::alloc::Global;
@@ -113,47 +113,6 @@ fn leaves_alone_what_is_no_record(rt: HostRuntime) -> Result<(), Fail> {
         kept.record.replace(bytes.as_bytes())?;
         let (_kept, told) = run(alloc, kept, &visit, 4096)?;
         assert_eq!(rt; told.as_str(), wanted);
-    }
-    Ok(())
-}
-
-/// Runs a session whose Maildir and record refuse calls so, and then one with sound devices, and
-/// tells whether the first one ended and whether each message is there once after the second.
-fn recovers(alloc: Global, disk: Fuse, record: Fuse) -> Result<(bool, bool), Fail> {
-    let replies = [LISTED, ONE, TWO, THREE, "+OK|+OK|"];
-    let mut refusing = Visit::new(alloc, "", 0, &replies)?;
-    refusing.disk = disk;
-    refusing.record = record;
-    let (kept, first) = run(alloc, nothing_kept(alloc), &refusing, 4096)?;
-    let again = Visit::new(alloc, "read_all = true", 0, &replies)?;
-    let (_kept, told) = run(alloc, kept, &again, 4096)?;
-    let whole = "P|RETR 1|RETR 2|RETR 3|QUIT| Ended 3/3 14 s0 d0 - a=one/ b=two/ c=three/ - - ";
-    Ok((
-        first.as_str().contains("Ended"),
-        told.as_str().starts_with(whole),
-    ))
-}
-
-#[test]
-fn recovers_from_each_call_that_is_refused(rt: HostRuntime) -> Result<(), Fail> {
-    for takes_effect in [false, true] {
-        // two calls on what is held, and three for each text; a load, a replace and three appends
-        for passes in 0..12 {
-            let fuse = Fuse {
-                passes,
-                takes_effect,
-            };
-            let disk = recovers(rt.alloc(), fuse, SOUND)?;
-            assert!(rt;
-                disk == (passes == 11, true),
-                "Maildir after {passes} calls"
-            );
-            let record = recovers(rt.alloc(), SOUND, fuse)?;
-            assert!(rt;
-                record == (passes >= 5, true),
-                "record after {passes} calls"
-            );
-        }
     }
     Ok(())
 }

@@ -1,5 +1,6 @@
 //! Which messages sessions fetch.
 
+use crate::fetch_session_tests::list::expect_by_one_call;
 use crate::fetch_session_tests::visit::{LISTED, ONE, THREE, TWO, Visit, expect};
 use std::test::Fail;
 
@@ -50,7 +51,8 @@ fn fetches_five_messages_in_three_sessions(rt: HostRuntime) -> Result<(), Fail> 
              + 1/c 0 1/+ 1/d 0 1/+ 1/e 0 1/",
         ),
     ];
-    expect(&rt, &rows)
+    expect(&rt, &rows)?;
+    expect_by_one_call(&rt, limit, &rows)
 }
 
 #[test]

@@ -1,94 +1,120 @@
 //! Sessions over a server in memory, and what they leave at both ends.
 
-use crate::fetch_session_tests::visit::{Kept, held, nothing_kept, settings};
-use crate::pop3_server_tests::memory_drop::maildrop_of;
-use fetch_session::{Account, Outcome, Report, Store, session};
+use crate::fetch_session_tests::visit::{
+    Kept, SOUND, account, counts, held, kept_by, nothing_kept,
+};
+use crate::pop3_server_tests::memory_drop::{maildrop_of, put};
+use fetch_runs::{Visit, run_sessions};
+use fetch_session::Report;
 use local_fetch::fetch_local;
-use mail_store::{MaildirDisk, MemoryFile, MemoryMaildir};
+use mail_store::Folder;
 use pop3_server::{LoopWire, MemoryDrop, Server};
 use pop3_wire::FusedWire;
-use std::alloc::Global;
-use std::hash::{BuildHasherDefault, FoldHasher};
+use std::alloc::{AllocError, Global};
 use std::test::Fail;
 
 /// The messages of the maildrop.
-const MESSAGES: [(&str, &str); 3] = [("a", "one\n"), ("b", "two\n"), ("c", "three\n")];
+pub const MESSAGES: [(&str, &str); 3] = [("a", "one\n"), ("b", "two\n"), ("c", "three\n")];
 
-type Fred = Account<MemoryMaildir, MemoryFile, BuildHasherDefault<FoldHasher>>;
-
-fn account(alloc: Global, kept: Kept) -> Result<Fred, Fail> {
-    let Kept {
-        mut maildir,
-        record,
-    } = kept;
-    maildir.abandon();
-    Ok(Account::new(
-        alloc,
-        settings(alloc, "delete = true")?,
-        Store::Maildir(maildir),
-        record,
-        BuildHasherDefault::<FoldHasher>::new(),
-    ))
+/// What stands at both ends between sessions.
+#[derive(Drop)]
+pub struct Ends {
+    pub kept: Kept,
+    pub maildrop: MemoryDrop,
 }
 
-fn kept_by(account: Fred) -> Kept {
-    let (_settings, store, record) = account.into_parts();
-    let Store::Maildir(maildir) = store;
-    Kept { maildir, record }
-}
-
-/// A whole session, with all that it leaves.
-fn fetch(
+/// A link to a new server over this maildrop, which passes so many calls.
+pub fn link(
     alloc: Global,
-    kept: Kept,
     maildrop: MemoryDrop,
-) -> Result<(Kept, MemoryDrop, Report), Fail> {
+    calls: u64,
+) -> Result<FusedWire<LoopWire<MemoryDrop>>, AllocError> {
     let user = Vec::from_slice(alloc, b"fred")?;
     let pass = Vec::from_slice(alloc, b"secret")?;
-    let mut account = account(alloc, kept)?;
+    let server = Server::new(alloc, maildrop, user, pass);
+    Ok(FusedWire::new(LoopWire::new(alloc, server), calls))
+}
+
+/// Runs a whole session of an account with these options.
+pub fn fetch(alloc: Global, options: &str, ends: Ends) -> Result<(Ends, Report), Fail> {
+    let Ends { kept, maildrop } = ends;
+    let user = Vec::from_slice(alloc, b"fred")?;
+    let pass = Vec::from_slice(alloc, b"secret")?;
+    let mut account = account(alloc, options, kept, SOUND, SOUND)?;
     let server = Server::new(alloc, maildrop, user, pass);
     let (report, wire) = fetch_local(alloc, &mut account, server, 0);
-    Ok((kept_by(account), wire.into_inner().into_drop(), report))
-}
-
-/// A session whose link passes so many calls, with all that it leaves.
-fn cut_after(alloc: Global, maildrop: MemoryDrop, calls: u64) -> Result<(Kept, MemoryDrop), Fail> {
-    let user = Vec::from_slice(alloc, b"fred")?;
-    let pass = Vec::from_slice(alloc, b"secret")?;
-    let mut account = account(alloc, nothing_kept(alloc))?;
-    let server = Server::new(alloc, maildrop, user, pass);
-    let mut wire = FusedWire::new(LoopWire::new(alloc, server), calls);
-    let _report = session(&mut account, &mut wire, 0);
-    Ok((kept_by(account), wire.into_inner().into_inner().into_drop()))
+    let ends = Ends {
+        kept: kept_by(account),
+        maildrop: wire.into_inner().into_drop(),
+    };
+    Ok((ends, report))
 }
 
 #[test]
 fn ends_over_an_empty_maildrop(rt: HostRuntime) -> Result<(), Fail> {
     let alloc = rt.alloc();
-    let (kept, maildrop, report) = fetch(alloc, nothing_kept(alloc), MemoryDrop::new(alloc))?;
-    assert!(rt; matches!(&report.outcome, Outcome::Ended));
-    assert_eq!(rt; report.total, 0);
-    assert!(rt; maildrop.is_empty());
-    assert!(rt; held(alloc, &kept)?.as_str().starts_with("- - "));
+    let ends = Ends {
+        kept: nothing_kept(alloc),
+        maildrop: MemoryDrop::new(alloc),
+    };
+    let (ends, report) = fetch(alloc, "", ends)?;
+    assert_eq!(rt; counts(alloc, &report)?.as_str(), "Ended 0/0 0 s0 d0");
+    assert_eq!(rt; held(alloc, &ends.kept)?.as_str(), "- - none");
+    assert!(rt; ends.maildrop.is_empty());
     Ok(())
 }
 
 #[test]
-fn stores_each_message_once_wherever_the_link_fails(rt: HostRuntime) -> Result<(), Fail> {
+fn goes_on_after_a_cut_by_one_call(rt: HostRuntime) -> Result<(), Fail> {
     let alloc = rt.alloc();
-    for calls in 0u64..40 {
-        let (kept, maildrop) = cut_after(alloc, maildrop_of(&rt, &MESSAGES)?, calls)?;
-        let (kept, maildrop, report) = fetch(alloc, kept, maildrop)?;
-        assert!(rt;
-            matches!(&report.outcome, Outcome::Ended),
-            "after {calls} calls"
-        );
-        assert!(rt; maildrop.is_empty(), "after {calls} calls");
-        let held = held(alloc, &kept)?;
-        assert!(rt;
-            held.as_str().starts_with("a=one/ b=two/ c=three/ - - "),
-            "after {calls} calls: {held}"
-        );
+    // the greeting, six commands with their replies, and RETR 2 without its own
+    let cut = link(alloc, maildrop_of(&rt, &MESSAGES)?, 14)?;
+    let whole = link(alloc, maildrop_of(&rt, &MESSAGES)?, u64::MAX)?;
+    let mut visits = [
+        Visit { wire: cut, now: 0 },
+        Visit {
+            wire: whole,
+            now: 7,
+        },
+    ];
+    let mut account = account(alloc, "", nothing_kept(alloc), SOUND, SOUND)?;
+    let reports = run_sessions(alloc, &mut account, &mut visits);
+    let kept = kept_by(account);
+    let mut told = String::new(alloc);
+    for report in &reports? {
+        told.push_str(counts(alloc, report)?.as_str())?;
+        told.push_str("; ")?;
     }
+    told.push_str(held(alloc, &kept)?.as_str())?;
+    assert_eq!(rt;
+        told.as_str(),
+        "Cut(ReadFailed) 1/3 4 s0 d0; Ended 2/3 10 s1 d0; a=one/ b=two/ c=three/ - - \
+         getmail-seen 1/a 0 0/b 0 0/c 0 0/+ 1/a 0 1/+ 1/b 0 1/+ 1/c 0 1/"
+    );
+    Ok(())
+}
+
+#[test]
+fn fetches_and_deletes_three_hundred_messages(rt: HostRuntime) -> Result<(), Fail> {
+    let alloc = rt.alloc();
+    let mut maildrop = MemoryDrop::new(alloc);
+    let mut text = Vec::new(alloc);
+    for i in 1u64..=300 {
+        text.extend_from_slice(&[b'x'; 80])?;
+        text.push(b'\n')?;
+        let uid = format!(in alloc; "m{i}")?;
+        put(&rt, &mut maildrop, uid.as_bytes(), text.as_slice())?;
+    }
+    let ends = Ends {
+        kept: nothing_kept(alloc),
+        maildrop,
+    };
+    let (ends, report) = fetch(alloc, "delete = true", ends)?;
+    assert_eq!(rt;
+        counts(alloc, &report)?.as_str(),
+        "Ended 300/300 3657150 s0 d300"
+    );
+    assert_eq!(rt; ends.kept.maildir.files(Folder::New).len(), 300);
+    assert_eq!(rt; ends.maildrop.len(), 0);
     Ok(())
 }

@@ -5,6 +5,21 @@ use pop3_wire::is_legal_id;
 use std::process::Abort;
 use std::test::Fail;
 
+/// Puts a message into a maildrop.
+pub fn put(
+    rt: &(impl Abort + AllocGlobal),
+    maildrop: &mut MemoryDrop,
+    uid: &[u8],
+    text: &[u8],
+) -> Result<(), Fail> {
+    assert!(rt; is_legal_id(uid));
+    assert!(rt; !maildrop.contains(uid));
+    assert!(rt; size_of(text) <= 100_000);
+    assert!(rt; maildrop.len() < 1000);
+    maildrop.push(uid, text)?;
+    Ok(())
+}
+
 /// A maildrop of these messages, each an id and a text.
 pub fn maildrop_of(
     rt: &(impl Abort + AllocGlobal),
@@ -12,11 +27,7 @@ pub fn maildrop_of(
 ) -> Result<MemoryDrop, Fail> {
     let mut maildrop = MemoryDrop::new(rt.alloc());
     for (uid, text) in messages {
-        assert!(rt; is_legal_id(uid.as_bytes()));
-        assert!(rt; !maildrop.contains(uid.as_bytes()));
-        assert!(rt; size_of(text.as_bytes()) <= 1000);
-        assert!(rt; maildrop.len() < 1000);
-        maildrop.push(uid.as_bytes(), text.as_bytes())?;
+        put(rt, &mut maildrop, uid.as_bytes(), text.as_bytes())?;
     }
     Ok(maildrop)
 }

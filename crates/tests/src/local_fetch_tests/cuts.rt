@@ -1,0 +1,146 @@
+//! Sessions that are cut, each at another place, and a whole session behind each.
+
+use crate::fetch_session_tests::visit::{
+    Fuse, LISTED, ONE, SOUND, THREE, TWO, Visit, account, held, kept_by, nothing_kept, run,
+};
+use crate::local_fetch_tests::ends::{Ends, MESSAGES, fetch, link};
+use crate::pop3_server_tests::memory_drop::maildrop_of;
+use fetch_session::{Outcome, session};
+use std::process::Abort;
+use std::test::Fail;
+
+/// What refuses calls in a session.
+#[derive(Clone, Copy)]
+enum Refusing {
+    Link,
+    /// The Maildir; whether the first call that it refuses takes effect.
+    Maildir(bool),
+    /// The record's file; whether the first call that it refuses takes effect.
+    Record(bool),
+}
+
+/// Options of accounts: one that fetches what it doesn't hold, one that fetches all each time, and one
+/// that deletes what it holds.
+const PLAIN: &str = "";
+
+const READING_ALL: &str = "read_all = true";
+
+const DELETING: &str = "delete = true";
+
+/// Runs a session in which calls are refused behind so many of them, and tells whether it ended.
+fn cut_after(
+    rt: &(impl Abort + AllocGlobal),
+    refusing: Refusing,
+    options: &str,
+    passes: u64,
+) -> Result<(Ends, bool), Fail> {
+    let alloc = rt.alloc();
+    let fuse = |takes_effect| Fuse {
+        passes,
+        takes_effect,
+    };
+    let (calls, disk, record) = match refusing {
+        Refusing::Link => (passes, SOUND, SOUND),
+        Refusing::Maildir(takes_effect) => (u64::MAX, fuse(takes_effect), SOUND),
+        Refusing::Record(takes_effect) => (u64::MAX, SOUND, fuse(takes_effect)),
+    };
+    let mut wire = link(alloc, maildrop_of(rt, &MESSAGES)?, calls)?;
+    let mut account = account(alloc, options, nothing_kept(alloc), disk, record)?;
+    let report = session(&mut account, &mut wire, 0);
+    let ends = Ends {
+        kept: kept_by(account),
+        maildrop: wire.into_inner().into_inner().into_drop(),
+    };
+    Ok((ends, matches!(&report.outcome, Outcome::Ended)))
+}
+
+/// Runs a whole session behind one that was cut at this place. Each message is held once then, and the
+/// maildrop is empty, if the sessions delete.
+fn complete(
+    rt: &(impl Abort + AllocGlobal),
+    options: &str,
+    ends: Ends,
+    place: u64,
+) -> Result<(), Fail> {
+    let (ends, report) = fetch(rt.alloc(), options, ends)?;
+    assert!(rt; matches!(&report.outcome, Outcome::Ended), "cut at {place}");
+    let held = held(rt.alloc(), &ends.kept)?;
+    assert!(rt;
+        held.as_str().starts_with("a=one/ b=two/ c=three/ - - "),
+        "cut at {place}: {held}"
+    );
+    let left = if options == DELETING { 0 } else { 3 };
+    assert_eq!(rt; ends.maildrop.len(), left, "cut at {place}");
+    Ok(())
+}
+
+/// Cuts a session at its first call, its second, and so on until no call is refused, with a whole
+/// session behind each, and tells how many calls there are.
+fn cut_at_each_call(
+    rt: &(impl Abort + AllocGlobal),
+    refusing: Refusing,
+    options: &str,
+) -> Result<u64, Fail> {
+    for passes in 0..100 {
+        let (ends, has_ended) = cut_after(rt, refusing, options, passes)?;
+        complete(rt, options, ends, passes)?;
+        if has_ended {
+            return Ok(passes);
+        }
+    }
+    Err(Fail::new("a session has too many calls"))
+}
+
+#[test]
+fn stores_each_message_once_whichever_call_is_refused(rt: HostRuntime) -> Result<(), Fail> {
+    let rows = [
+        // the greeting, and nine commands with their replies, or twelve
+        (Refusing::Link, 19, 25),
+        // two calls on what is held, and three for each text
+        (Refusing::Maildir(false), 11, 11),
+        (Refusing::Maildir(true), 11, 11),
+        // a load, a replace and three appends
+        (Refusing::Record(false), 5, 5),
+        (Refusing::Record(true), 5, 5),
+    ];
+    for (refusing, calls, calls_with_deletion) in rows {
+        assert_eq!(rt; cut_at_each_call(&rt, refusing, PLAIN)?, calls);
+        assert_eq!(rt; cut_at_each_call(&rt, refusing, READING_ALL)?, calls);
+        assert_eq!(rt;
+            cut_at_each_call(&rt, refusing, DELETING)?,
+            calls_with_deletion
+        );
+    }
+    Ok(())
+}
+
+/// Runs a session over these replies without their last octets, of which one more is missing each time,
+/// until none is left, with a whole session behind each.
+fn cut_at_each_octet(
+    rt: &(impl Abort + AllocGlobal),
+    options: &str,
+    replies: &[&str],
+) -> Result<(), Fail> {
+    let alloc = rt.alloc();
+    let mut visit = Visit::new(alloc, options, 0, replies)?;
+    for missing in 0..1000 {
+        let (kept, told) = run(alloc, nothing_kept(alloc), &visit, 4096)?;
+        let is_cut = told.as_str().contains(" Cut(ConnectionEnded) ");
+        assert_eq!(rt; is_cut, missing > 0, "without {missing} octets");
+        let maildrop = maildrop_of(rt, &MESSAGES)?;
+        complete(rt, options, Ends { kept, maildrop }, missing)?;
+        if visit.replies.pop().is_none() {
+            return Ok(());
+        }
+    }
+    Err(Fail::new("the replies are too long"))
+}
+
+#[test]
+fn stores_each_message_once_wherever_the_replies_end(rt: HostRuntime) -> Result<(), Fail> {
+    let replies = [LISTED, ONE, TWO, THREE, "+OK|"];
+    cut_at_each_octet(&rt, PLAIN, &replies)?;
+    cut_at_each_octet(&rt, READING_ALL, &replies)?;
+    let replies = [LISTED, ONE, "+OK|", TWO, "+OK|", THREE, "+OK|+OK|"];
+    cut_at_each_octet(&rt, DELETING, &replies)
+}
