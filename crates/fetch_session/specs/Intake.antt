@@ -1,7 +1,13 @@
 -- How much a session takes from its link.
-use Rattle.std.specs.Prelude.{◌≡◌, ◌≤◌, ◌+◌, ◌*◌, ℕ, List, ◌++◌, length}
+use Rattle.std.specs.Prelude.{◌≡◌, ◌≤◌, ◌+◌, ◌*◌, ℕ, List, ◌++◌, length, Option, None, Some, Result, Ok, Err}
+use Rattle.pop3_wire.specs.Bodies.{Rest}
 use Rattle.pop3_wire.specs.Link.{Link}
-use Rattle.pop3_client.specs.Turns.{line_limit, row_limit, text_limit}
+use Rattle.pop3_wire.specs.Place.{Place}
+use Rattle.pop3_client.specs.Turns.{line_limit, row_limit, text_limit, most, retr}
+use Rattle.pop3_client.specs.Conversation.{most_of}
+use Rattle.pop3_client.specs.Texts.{Fetching}
+use Rattle.fetch_session.specs.declared.fault.Cut.{Cut}
+use Rattle.fetch_session.specs.Tail.{turns_in, tail}
 
 -- the most octets that a session of so many messages takes: first lines, two listings, and a text for each message
 abbrev pub session_limit : ℕ → ℕ
@@ -10,3 +16,47 @@ session_limit messages = line_limit * (2 * messages + 10) + 2 * (line_limit * (r
 -- between these two at most so many octets were got
 abbrev pub GotAtMost : ℕ → Link → Link → Type 0
 GotAtMost most old new = (gained : List ℕ) × (new.got ≡ old.got ++ gained) × (length gained ≤ most)
+
+-- ---- the parts of a session
+
+-- for what is done with a message: RETR's first line, the text, and DELE's first line
+abbrev pub message_limit : ℕ
+message_limit = 2 * line_limit + text_limit
+
+-- for logging in, STAT and the two listings
+abbrev pub opening_limit : ℕ
+opening_limit = 6 * line_limit + 2 * (line_limit * (row_limit + 1))
+
+-- for the planned QUIT, or for what is said after a fault
+abbrev pub tail_limit : ℕ
+tail_limit = 2 * line_limit
+
+-- of what waited and was got at most so many octets were used
+pub record Took (limit : ℕ) (old new : Place) : Type 0 where
+  pub gained : List ℕ
+  pub got : new.link.got ≡ old.link.got ++ gained
+  pub within : length old.waiting + length gained ≤ limit + length new.waiting
+
+-- a text is under way, or at its end: it was asked for where at most so many were used that the most of its reply is within the limit too
+pub record TookSoFar (limit : ℕ) (old new : Place) (rest : Rest) : Type 0 where
+  pub before : ℕ
+  pub number : ℕ
+  pub start : Place
+  pub text : List ℕ
+  pub took : Took before old start
+  pub fetching : Fetching (retr number) start new rest text
+  pub within : before + most (retr number) ≤ limit
+
+abbrev pub TookBefore : ℕ → Place → Option Rest → Place → Type 0
+TookBefore limit old None new = Took limit old new
+TookBefore limit old (Some rest) new = TookSoFar limit old new rest
+
+-- a part of a session, well or cut: at most so many, and what is left of a reply under way stays within them
+abbrev pub Takes : ℕ → Place → Result (Unit {0}) Cut → Place → Type 0
+Takes limit old (Ok done) new = Took limit old new
+Takes limit old (Err cut) new = TookBefore limit old cut.rest new
+
+-- the same, where what is said after the fault stays within them too
+abbrev pub TakesWithTail : ℕ → Place → Result (Unit {0}) Cut → Place → Type 0
+TakesWithTail limit old (Ok done) new = Took limit old new
+TakesWithTail limit old (Err cut) new = (before : ℕ) × TookBefore before old cut.rest new × (before + most_of (turns_in (tail cut.fault)) ≤ limit)

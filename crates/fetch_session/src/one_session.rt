@@ -1,11 +1,11 @@
 //! One session, from its greeting to its end.
-ghost use Rattle.std.specs.Prelude.{◌≡◌, ◌≤◌, ◌*◌, [], None, length};
+ghost use Rattle.std.specs.Prelude.{◌≡◌, ◌≤◌, ◌+◌, ◌*◌, [], None, length};
 ghost use Rattle.std.specs.Vec.{vec_len};
 ghost use Rattle.pop3_wire.specs.Place.{at};
 ghost use Rattle.rc_file.specs.Settings.{IsValid};
 ghost use Rattle.mail_store.specs.FileName.{IsAccountText};
 ghost use Rattle.fetch_session.specs.Account.{digits_of};
-ghost use Rattle.fetch_session.specs.Intake.{GotAtMost, session_limit};
+ghost use Rattle.fetch_session.specs.Intake.{GotAtMost, session_limit, TakesWithTail, opening_limit, message_limit, tail_limit};
 ghost use Rattle.fetch_session.specs.Report.{Reports};
 ghost use Rattle.fetch_session.specs.Session.{Proceeds, Session, noted, kept};
 
@@ -67,7 +67,10 @@ fn proceed<W: Wire, D: MaildirDisk, F: FlatFile, H: BuildHasher>(
         → W.sound wire.old × D.sound disk.old × F.sound file.old × W.leads_to wire.old wire.new
         × Proceeds settings.now account.now now (at (W.seen wire.old) reader.old) (kept (D.maildir disk.old) (F.stored file.old)) result
         (at (W.seen wire.new) reader.new) (kept (D.maildir disk.new) (F.stored file.new)) (noted notes.new.total notes.new.skipped notes.new.lines.items) }
+    ensures took { W.sound wire.new → W.sound wire.old
+        × TakesWithTail (opening_limit + (notes.new.total * message_limit + tail_limit)) (at (W.seen wire.old) reader.old) result (at (W.seen wire.new) reader.new) }
 {
+    conversations_are_paced();
     let listing = match enter(alloc, settings, wire, reader) {
         Ok(listing) => listing,
         Err(fault) => return Err(plain(told(fault))),
@@ -98,7 +101,7 @@ fn proceed<W: Wire, D: MaildirDisk, F: FlatFile, H: BuildHasher>(
 /// The first fault cuts it. Whatever the server sends and whichever call is refused, no text that is
 /// stored is lost or changed. Of the link it takes, with n messages, at most 2,048 octets for each of
 /// 2n + 10 lines, as many for each row of two listings of 100,000 rows and their ends, and 268,435,456
-/// octets for each message.
+/// octets for each message, also where the store and the record's file don't do what their traits say.
 pub fn session<W: Wire, D: MaildirDisk, F: FlatFile, H: BuildHasher>(
     account: &mut Account<D, F, H>,
     wire: &mut W,
@@ -109,7 +112,7 @@ pub fn session<W: Wire, D: MaildirDisk, F: FlatFile, H: BuildHasher>(
         → W.sound wire.old × D.sound account.old.disk × F.sound account.old.file × W.leads_to wire.old wire.new
         × Session account.old.settings (digits_of account.old.settings) now (W.seen wire.old) (kept (D.maildir account.old.disk) (F.stored account.old.file))
         result (W.seen wire.new) (kept (D.maildir account.new.disk) (F.stored account.new.file)) }
-    ensures bounded { W.sound wire.new → D.sound account.new.disk → F.sound account.new.file
+    ensures bounded { W.sound wire.new
         → GotAtMost (session_limit result.total) (W.seen wire.old) (W.seen wire.new) }
 {
     conversations_are_paced();

@@ -1,9 +1,10 @@
 //! The part of a session behind its listing.
-ghost use Rattle.std.specs.Prelude.{◌≡◌, ◌≤◌, ◌*◌, None, length};
+ghost use Rattle.std.specs.Prelude.{◌≡◌, ◌≤◌, ◌+◌, ◌*◌, None, length};
 ghost use Rattle.std.specs.List.{AllByRecursion};
 ghost use Rattle.pop3_wire.specs.Place.{at};
 ghost use Rattle.mail_terms.specs.UniqueId.{IsLegalId};
 ghost use Rattle.mail_store.specs.FileName.{IsAccountText};
+ghost use Rattle.fetch_session.specs.Intake.{TakesWithTail, message_limit, tail_limit};
 ghost use Rattle.fetch_session.specs.Plan.{Carries};
 ghost use Rattle.fetch_session.specs.Report.{HasRoom, Adds};
 
@@ -13,7 +14,7 @@ use crate::report::{ReportLine, skipped_in};
 use crate::step::do_steps;
 use fetch_rules::{Listing, Seen, Settings, firsts_are_fetched};
 use mail_store::{AccountId, FlatFile, MaildirDisk};
-use pop3_client::quit;
+use pop3_client::{conversations_are_paced, quit};
 use pop3_wire::{LineReader, Wire};
 use std::alloc::Global;
 use std::hash::BuildHasher;
@@ -47,7 +48,10 @@ pub fn carry_out<W: Wire, D: MaildirDisk, F: FlatFile, H: BuildHasher>(
         × Carries settings.now account.now listing.now now
         (at (W.seen wire.old) reader.old) (D.maildir disk.old) (F.stored file.old) lines.old.items result
         (at (W.seen wire.new) reader.new) (D.maildir disk.new) (F.stored file.new) lines.new.items skipped.new }
+    ensures took { W.sound wire.new → W.sound wire.old
+        × TakesWithTail (length listing.now * message_limit + tail_limit) (at (W.seen wire.old) reader.old) result (at (W.seen wire.new) reader.new) }
 {
+    conversations_are_paced();
     firsts_are_fetched();
     let ready = match prepare(alloc, settings, account, disk, file, seen, listing, now) {
         Ok(ready) => ready,

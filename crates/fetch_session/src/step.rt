@@ -1,6 +1,7 @@
 //! What is done with each message.
 ghost use Rattle.std.specs.Prelude.{◌≡◌, ◌*◌, ℕ, List, None, false, length, OnOk};
 ghost use Rattle.pop3_wire.specs.Place.{at};
+ghost use Rattle.pop3_client.specs.Turns.{most, retr, dele};
 ghost use Rattle.mail_terms.specs.UniqueId.{IsLegalId};
 ghost use Rattle.mail_store.specs.FileName.{is_held, name_of, IsAccountText};
 ghost use Rattle.fetch_rules.specs.Record.{Row};
@@ -11,6 +12,7 @@ ghost use Rattle.fetch_session.specs.Task.{stores, rereads, fetching, deleting, 
 ghost use Rattle.fetch_session.specs.Record.{Steady};
 ghost use Rattle.fetch_session.specs.Report.{HasRoom, Adds};
 ghost use Rattle.fetch_session.specs.Scene.{scene, TakesTask, Does};
+ghost use Rattle.fetch_session.specs.Intake.{Takes, message_limit};
 
 use crate::fault::{Cut, Fault, plain, told};
 use crate::record::remember;
@@ -20,7 +22,7 @@ use fetch_rules::{Listing, Seen, Step};
 use mail_store::{
     AccountId, FlatFile, MaildirDisk, file_name, one_more_is_held, unheld_ids_are_not_in_new,
 };
-use pop3_client::{delete, open};
+use pop3_client::{conversations_are_paced, delete, open};
 use pop3_wire::{LineReader, Wire};
 use std::alloc::Global;
 use std::hash::BuildHasher;
@@ -54,7 +56,10 @@ pub fn take<W: Wire, D: MaildirDisk, F: FlatFile, H: BuildHasher>(
         × TakesTask account.now (stores number uid.now)
         (scene (at (W.seen wire.old) reader.old) (D.maildir disk.old) (F.stored file.old) seen.old.rows lines.old.items) result
         (scene (at (W.seen wire.new) reader.new) (D.maildir disk.new) (F.stored file.new) seen.new.rows lines.new.items) }
+    ensures took { W.sound wire.new → W.sound wire.old
+        × Takes (most (retr number)) (at (W.seen wire.old) reader.old) result (at (W.seen wire.new) reader.new) }
 {
+    conversations_are_paced();
     unheld_ids_are_not_in_new();
     let name = match file_name(alloc, account, uid) {
         Ok(name) => name,
@@ -90,7 +95,10 @@ fn reread<W: Wire>(
         × TakesTask account (rereads number uid)
         (scene (at (W.seen wire.old) reader.old) maildir file rows lines.old.items) result
         (scene (at (W.seen wire.new) reader.new) maildir file rows lines.new.items) }
+    ensures took { W.sound wire.new → W.sound wire.old
+        × Takes (most (retr number)) (at (W.seen wire.old) reader.old) result (at (W.seen wire.new) reader.new) }
 {
+    conversations_are_paced();
     let body = match open(alloc, wire, reader, number) {
         Ok(body) => body,
         Err(fault) => return Err(plain(told(fault))),
@@ -120,7 +128,10 @@ fn delete_if<W: Wire>(
         × Does account (deleting wanted number)
         (scene (at (W.seen wire.old) reader.old) maildir file rows lines.old.items) result
         (scene (at (W.seen wire.new) reader.new) maildir file rows lines.new.items) }
+    ensures took { W.sound wire.new → W.sound wire.old
+        × Takes (most (dele number)) (at (W.seen wire.old) reader.old) result (at (W.seen wire.new) reader.new) }
 {
+    conversations_are_paced();
     if !wanted {
         return Ok(());
     }
@@ -163,6 +174,8 @@ fn fetch_if<W: Wire, D: MaildirDisk, F: FlatFile, H: BuildHasher>(
         × Does account.now (fetching step.retrieve held step.number uid.now size)
         (scene (at (W.seen wire.old) reader.old) (D.maildir disk.old) (F.stored file.old) seen.old.rows lines.old.items) result
         (scene (at (W.seen wire.new) reader.new) (D.maildir disk.new) (F.stored file.new) seen.new.rows lines.new.items) }
+    ensures took { W.sound wire.new → W.sound wire.old
+        × Takes (most (retr step.number)) (at (W.seen wire.old) reader.old) result (at (W.seen wire.new) reader.new) }
 {
     let number = step.number;
     if !step.retrieve {
@@ -207,6 +220,8 @@ fn do_step<W: Wire, D: MaildirDisk, F: FlatFile, H: BuildHasher>(
         × Does account.now (tasks_in step (record { uid = uid.now; size = size }) held)
         (scene (at (W.seen wire.old) reader.old) (D.maildir disk.old) (F.stored file.old) seen.old.rows lines.old.items) result
         (scene (at (W.seen wire.new) reader.new) (D.maildir disk.new) (F.stored file.new) seen.new.rows lines.new.items) }
+    ensures took { W.sound wire.new → W.sound wire.old
+        × Takes message_limit (at (W.seen wire.old) reader.old) result (at (W.seen wire.new) reader.new) }
 {
     if let Err(cut) = fetch_if(
         alloc, wire, reader, disk, file, account, seen, lines, step, uid, size, held,
@@ -244,6 +259,8 @@ pub fn do_steps<W: Wire, D: MaildirDisk, F: FlatFile, H: BuildHasher>(
         × Does account.now (tasks_planned steps.now listing.now held.now)
         (scene (at (W.seen wire.old) reader.old) (D.maildir disk.old) (F.stored file.old) seen.old.rows lines.old.items) result
         (scene (at (W.seen wire.new) reader.new) (D.maildir disk.new) (F.stored file.new) seen.new.rows lines.new.items) }
+    ensures took { W.sound wire.new → W.sound wire.old
+        × Takes (length listing.now * message_limit) (at (W.seen wire.old) reader.old) result (at (W.seen wire.new) reader.new) }
 {
     one_more_is_held();
     for i in 0..listing.len() {

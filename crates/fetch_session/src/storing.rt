@@ -75,6 +75,9 @@ pub(crate) fn store_text<W: Wire, D: MaildirDisk>(
         × (W.sound wire.new → W.sound wire.old × W.leads_to wire.old wire.new
         × ((number : ℕ) (start : Place) → Fetching (retr number) start (at (W.seen wire.old) reader.old) body []
         → ReadsText number start text result (at (W.seen wire.new) reader.new)))) }
+    ensures reads { W.sound wire.new → W.sound wire.old
+        × ((number : ℕ) (start : Place) → Fetching (retr number) start (at (W.seen wire.old) reader.old) body []
+        → (text : List ℕ) × ReadsText number start text result (at (W.seen wire.new) reader.new)) }
 {
     let mut rest = body;
     if let Err(fault) = begin_file(disk, name) {

@@ -1,7 +1,9 @@
-use Rattle.std.proofs.Common.{◌∙◌}
+use Rattle.std.proofs.Common.{◌+◌, ◌*◌, length, Ok, Err, arith, ◌∙◌}
 use Rattle.pop3_wire.specs.Place.{at}
+use Rattle.fetch_session.specs.declared.fault.Fault.TheVariants.{NoMemory}
 use Rattle.fetch_session.specs.Session.{noted, kept}
 use Rattle.fetch_session.proofs.SessionLemmas.{dealt}
+use Rattle.fetch_session.proofs.IntakeLemmas.{takes_plain, took_entering, with_any_tail, with_tail_on, with_tail_less}
 use Rattle.fetch_session.proofs.one_session.proceed.Goals as goal
 
 pub returns-clause-proceeds : goal.returns-clause-proceeds
@@ -17,4 +19,39 @@ returns-clause-proceeds g c = λ w d f.
           (kept (g.D.MaildirDisk.maildir c.args.disk.now) (g.F.FlatFile.stored c.args.file.now)) c.carry_out.result
           (at (g.W.Wire.seen new.wire) new.reader) (kept (g.D.MaildirDisk.maildir new.disk) (g.F.FlatFile.stored new.file)) (noted c.len-notes.result new.skipped new.lines.items)
           c.in-Ok.listing (at (g.W.Wire.seen c.enter.new.wire) c.enter.new.reader) c.reserve.new.self.items (c.reserve.ensures.items ∙ c.requires.nothing.2) entered.2 c.len-notes.ensures.count does.4,
+    )
+
+pub returns-in-Err-clause-took : goal.returns-in-Err-clause-took
+returns-in-Err-clause-took g c = λ w.
+    let entered = c.in-Err.ensures.enters w in
+    let old = at (g.W.Wire.seen c.args.wire.now) c.args.reader.now in
+    let new = at (g.W.Wire.seen c.enter.new.wire) c.enter.new.reader in
+    let cut = c.plain.result in (
+      entered.0,
+      with_tail_less (409616384 + 4096) (409616384 + (c.args.notes.now.total * 268439552 + 4096)) old new (Err cut) (omega arith)
+          (with_any_tail 409616384 old new cut (takes_plain 409616384 old new c.told.result cut c.plain.ensures (took_entering c.conversations_are_paced.ensures _ _ old new (Err c.in-Err.fault) entered.2))),
+    )
+
+pub returns-in-Err-reserve-clause-took : goal.returns-in-Err-reserve-clause-took
+returns-in-Err-reserve-clause-took g c = λ w.
+    let entered = c.in-Ok.ensures.enters w in
+    let old = at (g.W.Wire.seen c.args.wire.now) c.args.reader.now in
+    let new = at (g.W.Wire.seen c.enter.new.wire) c.enter.new.reader in
+    let cut = c.plain-in-Err-reserve.result in (
+      entered.0,
+      with_tail_less (409616384 + 4096) (409616384 + (c.len-notes.result * 268439552 + 4096)) old new (Err cut) (omega arith)
+          (with_any_tail 409616384 old new cut (takes_plain 409616384 old new NoMemory cut c.plain-in-Err-reserve.ensures (took_entering c.conversations_are_paced.ensures _ _ old new (Ok c.in-Ok.listing) entered.2))),
+    )
+
+pub returns-clause-took : goal.returns-clause-took
+returns-clause-took g c = λ w.
+    let does = c.carry_out.ensures.took w in
+    let entered = c.in-Ok.ensures.enters does.0 in
+    let old = at (g.W.Wire.seen c.args.wire.now) c.args.reader.now in
+    let mid = at (g.W.Wire.seen c.enter.new.wire) c.enter.new.reader in
+    let new = at (g.W.Wire.seen c.carry_out.new.wire) c.carry_out.new.reader in
+    let n = length c.in-Ok.listing in (
+      entered.0,
+      with_tail_less (409616384 + (n * 268439552 + 4096)) (409616384 + (c.len-notes.result * 268439552 + 4096)) old new c.carry_out.result (omega (arith, c.len-notes.ensures.count))
+          (with_tail_on 409616384 (n * 268439552 + 4096) old mid new c.carry_out.result (took_entering c.conversations_are_paced.ensures _ _ old mid (Ok c.in-Ok.listing) entered.2) does.1),
     )

@@ -1,8 +1,8 @@
-use Rattle.std.proofs.Common.{◌≤◌, ℕ, List, length, Ok, Err, sym, subst}
+use Rattle.std.proofs.Common.{◌≤◌, ◌+◌, ◌*◌, ℕ, List, length, Err, sym, subst}
 use Rattle.pop3_wire.specs.Place.{at}
 use Rattle.fetch_session.specs.Account.{digits_of}
-use Rattle.fetch_session.specs.Intake.{GotAtMost, session_limit}
-use Rattle.fetch_session.specs.Session.{noted, kept, Proceeds, Session}
+use Rattle.fetch_session.specs.Intake.{GotAtMost, session_limit, Took, TakesWithTail, opening_limit, message_limit, tail_limit}
+use Rattle.fetch_session.specs.Session.{noted, kept, Session}
 use Rattle.fetch_session.proofs.IntakeLemmas.{cut_within, ended_within}
 use Rattle.fetch_session.proofs.SessionLemmas.{cut_session, ended_session}
 use Rattle.fetch_session.proofs.one_session.session.Goals as goal
@@ -46,33 +46,26 @@ returns-clause-session g c = λ w d f.
     )
 
 pub returns-in-Err-clause-bounded : goal.returns-in-Err-clause-bounded
-returns-in-Err-clause-bounded g c = λ w d f.
+returns-in-Err-clause-bounded g c = λ w.
     let says = c.leave.ensures.leaves w in
-    let went = c.in-Err.ensures.proceeds says.0 d f in
+    let took = c.in-Err.ensures.took says.0 in
     let done = c.proceed.new in
-    let inside = c.account.inside in
     let link = g.W.Wire.seen c.args.wire.now in
-    let before = kept (g.D.MaildirDisk.maildir inside.disk) (g.F.FlatFile.stored inside.seen_file) in
-    let after = kept (g.D.MaildirDisk.maildir done.disk) (g.F.FlatFile.stored done.file) in
     let mid = at (g.W.Wire.seen done.wire) done.reader in
     let last = at (g.W.Wire.seen c.leave.new.wire) c.leave.new.reader in
-    let notes = noted done.notes.total done.notes.skipped done.notes.lines.items in
+    let n = done.notes.total in
     subst (λ (n : ℕ). GotAtMost (session_limit n) link last.link) (sym c.tell.ensures.total_is)
-    (cut_within c.conversations_are_paced.ensures inside.settings inside.id c.args.now link before c.in-Err.cut mid last after notes
-    (subst (λ (r : List ℕ). Proceeds inside.settings inside.id c.args.now (at link r) before (Err c.in-Err.cut) mid after notes) c.new-reader.ensures went.4) says.2
+    (cut_within c.conversations_are_paced.ensures n link c.in-Err.cut mid last
+    (subst (λ (r : List ℕ). TakesWithTail (opening_limit + (n * message_limit + tail_limit)) (at link r) (Err c.in-Err.cut) mid) c.new-reader.ensures took.1) says.2
     (subst (λ (r : List ℕ). length r ≤ 4096) c.waiting.ensures.value c.waiting.ensures.short))
 
 pub returns-clause-bounded : goal.returns-clause-bounded
-returns-clause-bounded g c = λ w d f.
-    let went = c.in_default.ensures.proceeds w d f in
+returns-clause-bounded g c = λ w.
+    let took = c.in_default.ensures.took w in
     let done = c.proceed.new in
-    let inside = c.account.inside in
     let link = g.W.Wire.seen c.args.wire.now in
-    let before = kept (g.D.MaildirDisk.maildir inside.disk) (g.F.FlatFile.stored inside.seen_file) in
-    let after = kept (g.D.MaildirDisk.maildir done.disk) (g.F.FlatFile.stored done.file) in
     let mid = at (g.W.Wire.seen done.wire) done.reader in
-    let notes = noted done.notes.total done.notes.skipped done.notes.lines.items in
+    let n = done.notes.total in
     subst (λ (n : ℕ). GotAtMost (session_limit n) link mid.link) (sym c.tell-2.ensures.total_is)
-    (ended_within c.conversations_are_paced.ensures inside.settings inside.id c.args.now link before mid after notes
-    (subst (λ (r : List ℕ). Proceeds inside.settings inside.id c.args.now (at link r) before (Ok tt) mid after notes) c.new-reader.ensures went.4)
+    (ended_within n link mid (subst (λ (r : List ℕ). Took (opening_limit + (n * message_limit + tail_limit)) (at link r) mid) c.new-reader.ensures took.1)
     (subst (λ (r : List ℕ). length r ≤ 4096) c.waiting-2.ensures.value c.waiting-2.ensures.short))

@@ -1,4 +1,4 @@
-use Rattle.std.proofs.Common.{List, [], Bool, inl, inr, arith, length, sym, ap, subst, ◌∙◌}
+use Rattle.std.proofs.Common.{◌+◌, ◌*◌, List, [], Bool, inl, inr, arith, length, Err, sym, ap, subst, ◌∙◌}
 use Rattle.pop3_wire.specs.Place.{at}
 use Rattle.fetch_rules.specs.Plan.{planned}
 use Rattle.fetch_rules.specs.declared.steps.Step.{Step}
@@ -8,6 +8,7 @@ use Rattle.fetch_session.specs.Report.{skipped_in}
 use Rattle.fetch_session.specs.Scene.{scene}
 use Rattle.fetch_session.proofs.PlanLemmas.{fresh_firsts}
 use Rattle.fetch_session.proofs.CarryLemmas.{unprepared, carry_fell, carry_quit, carry_broke}
+use Rattle.fetch_session.proofs.IntakeLemmas.{takes_plain, took_nothing, took_less, took_on, with_any_tail, with_tail_on, with_tail_less, quit_told, quit_broke}
 use Rattle.fetch_session.proofs.plan.carry_out.Goals as goal
 
 pub returns-in-Err-clause-carries : goal.returns-in-Err-clause-carries
@@ -77,4 +78,43 @@ returns-clause-carries g c = λ w d f.
             (at (g.W.Wire.seen c.do_steps.new.wire) c.do_steps.new.reader) (at (g.W.Wire.seen c.quit.new.wire) c.quit.new.reader)
             (g.D.MaildirDisk.maildir c.do_steps.new.disk) (g.F.FlatFile.stored c.do_steps.new.file) c.do_steps.new.seen.rows c.do_steps.new.lines.items c.in-Err-quit.fault c.told.result c.plain-in-Err-quit.result done.4 c.plain-in-Err-quit.ensures c.told.ensures tells.2),
       ),
+    )
+
+-- ---- what was taken of the link
+
+pub returns-in-Err-clause-took : goal.returns-in-Err-clause-took
+returns-in-Err-clause-took g c = λ w.
+    let here = at (g.W.Wire.seen c.args.wire.now) c.args.reader.now in (
+      w,
+      with_tail_less (0 + 4096) (length c.args.listing.now * 268439552 + 4096) here here (Err c.plain.result) (omega arith)
+          (with_any_tail 0 here here c.plain.result (takes_plain 0 here here c.in-Err.fault c.plain.result c.plain.ensures (took_nothing here))),
+    )
+
+pub returns-in-Err-do_steps-clause-took : goal.returns-in-Err-do_steps-clause-took
+returns-in-Err-do_steps-clause-took g c = λ w.
+    let done = c.in-Err-do_steps.ensures.took w in
+    (done.0, with_any_tail (length c.args.listing.now * 268439552) (at (g.W.Wire.seen c.args.wire.now) c.args.reader.now) (at (g.W.Wire.seen c.do_steps.new.wire) c.do_steps.new.reader) c.in-Err-do_steps.cut done.1)
+
+pub returns-in-Ok-quit-clause-took : goal.returns-in-Ok-quit-clause-took
+returns-in-Ok-quit-clause-took g c = λ w.
+    let tells = c.in-Ok-quit.ensures.tells w in
+    let done = c.in_default.ensures.took tells.0 in
+    let most = length c.args.listing.now * 268439552 in
+    let old = at (g.W.Wire.seen c.args.wire.now) c.args.reader.now in
+    let mid = at (g.W.Wire.seen c.do_steps.new.wire) c.do_steps.new.reader in
+    let new = at (g.W.Wire.seen c.quit.new.wire) c.quit.new.reader in
+    (done.0, took_less (most + 2048) (most + 4096) old new (omega arith) (took_on most 2048 old mid new done.1 (quit_told c.conversations_are_paced.ensures mid new tells.2)))
+
+pub returns-clause-took : goal.returns-clause-took
+returns-clause-took g c = λ w.
+    let tells = c.in-Err-quit.ensures.tells w in
+    let done = c.in_default.ensures.took tells.0 in
+    let most = length c.args.listing.now * 268439552 in
+    let old = at (g.W.Wire.seen c.args.wire.now) c.args.reader.now in
+    let mid = at (g.W.Wire.seen c.do_steps.new.wire) c.do_steps.new.reader in
+    let new = at (g.W.Wire.seen c.quit.new.wire) c.quit.new.reader in
+    let cut = c.plain-in-Err-quit.result in (
+      done.0,
+      with_tail_less (most + 2048) (most + 4096) old new (Err cut) (omega arith) (with_tail_on most 2048 old mid new (Err cut) done.1
+          (quit_broke c.conversations_are_paced.ensures mid new c.in-Err-quit.fault c.told.result cut tells.2 c.told.ensures c.plain-in-Err-quit.ensures)),
     )

@@ -1,10 +1,11 @@
-use Rattle.std.proofs.Common.{List, [], sym, refl, subst}
+use Rattle.std.proofs.Common.{List, [], Ok, Err, arith, sym, refl, subst}
 use Rattle.pop3_wire.specs.Place.{at}
 use Rattle.pop3_client.specs.Turns.{dele}
 use Rattle.fetch_session.specs.Task.{Task, deletes}
 use Rattle.fetch_session.specs.Scene.{scene, AllWent, Fell}
 use Rattle.fetch_session.proofs.SceneLemmas.{all_none, fell_first}
 use Rattle.fetch_session.proofs.TakeLemmas.{deleted, no_deletes, one_delete, text_broken}
+use Rattle.fetch_session.proofs.IntakeLemmas.{takes_plain, took_nothing, took_less, took_deleting}
 use Rattle.fetch_session.proofs.step.delete_if.Goals as goal
 
 pub returns-then-not-wanted-clause-deletes : goal.returns-then-not-wanted-clause-deletes
@@ -37,3 +38,20 @@ returns-in-Err-clause-deletes g c = λ account maildir file rows sound.
           (fell_first account (deletes c.args.number) [] (scene old maildir file rows lines) (scene new maildir file rows lines) c.plain.result
           (text_broken account (deletes c.args.number) (dele c.args.number) old new maildir file rows lines c.in-Err.fault c.told.result c.plain.result refl c.plain.ensures c.told.ensures tells.2)),
     )
+
+pub returns-then-not-wanted-clause-took : goal.returns-then-not-wanted-clause-took
+returns-then-not-wanted-clause-took g c = λ w.
+    let here = at (g.W.Wire.seen c.args.wire.now) c.args.reader.now in
+    (w, took_less 0 2048 here here (omega arith) (took_nothing here))
+
+pub returns-in-Ok-clause-took : goal.returns-in-Ok-clause-took
+returns-in-Ok-clause-took g c = λ w.
+    let tells = c.in-Ok.ensures.tells w in
+    (tells.0, took_deleting c.conversations_are_paced.ensures c.args.number (at (g.W.Wire.seen c.args.wire.now) c.args.reader.now) (at (g.W.Wire.seen c.delete.new.wire) c.delete.new.reader) (Ok tt) tells.2)
+
+pub returns-in-Err-clause-took : goal.returns-in-Err-clause-took
+returns-in-Err-clause-took g c = λ w.
+    let tells = c.in-Err.ensures.tells w in
+    let old = at (g.W.Wire.seen c.args.wire.now) c.args.reader.now in
+    let new = at (g.W.Wire.seen c.delete.new.wire) c.delete.new.reader in
+    (tells.0, takes_plain 2048 old new c.told.result c.plain.result c.plain.ensures (took_deleting c.conversations_are_paced.ensures c.args.number old new (Err c.in-Err.fault) tells.2))

@@ -1,7 +1,9 @@
+use Rattle.std.proofs.Common.{Err, arith}
 use Rattle.pop3_wire.specs.Place.{at}
 use Rattle.fetch_session.specs.Task.{fetching, deleting}
 use Rattle.fetch_session.specs.Scene.{scene}
 use Rattle.fetch_session.proofs.SceneLemmas.{does_more}
+use Rattle.fetch_session.proofs.IntakeLemmas.{takes_on, takes_less}
 use Rattle.fetch_session.proofs.step.do_step.Goals as goal
 
 pub returns-clause-does : goal.returns-clause-does
@@ -19,3 +21,14 @@ returns-clause-does g c = λ w d f.
           (scene (at (g.W.Wire.seen c.fetch_if.new.wire) c.fetch_if.new.reader) maildir file c.fetch_if.new.seen.rows c.fetch_if.new.lines.items)
           (scene (at (g.W.Wire.seen c.delete_if.new.wire) c.delete_if.new.reader) maildir file c.fetch_if.new.seen.rows c.delete_if.new.lines.items) c.delete_if.result fetches.4 deletes.2,
     )
+
+pub returns-in-Err-clause-took : goal.returns-in-Err-clause-took
+returns-in-Err-clause-took g c = λ w.
+    let fetches = c.in-Err.ensures.took w in
+    (fetches.0, takes_less 268437504 268439552 (at (g.W.Wire.seen c.args.wire.now) c.args.reader.now) (at (g.W.Wire.seen c.fetch_if.new.wire) c.fetch_if.new.reader) (Err c.in-Err.cut) (omega arith) fetches.1)
+
+pub returns-clause-took : goal.returns-clause-took
+returns-clause-took g c = λ w.
+    let deletes = c.delete_if.ensures.took w in
+    let fetches = c.in_default.ensures.took deletes.0 in
+    (fetches.0, takes_on 268437504 2048 (at (g.W.Wire.seen c.args.wire.now) c.args.reader.now) (at (g.W.Wire.seen c.fetch_if.new.wire) c.fetch_if.new.reader) (at (g.W.Wire.seen c.delete_if.new.wire) c.delete_if.new.reader) c.delete_if.result fetches.1 deletes.1)

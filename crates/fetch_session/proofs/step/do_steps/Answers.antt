@@ -1,11 +1,13 @@
-use Rattle.std.proofs.Common.{◌<◌, ◌+◌, List, Bool, false, length, drop, get_or, ap, subst, arith}
+use Rattle.std.proofs.Common.{◌<◌, ◌+◌, ◌*◌, List, Bool, false, length, drop, get_or, Err, ap, subst, arith}
 use Rattle.std.proofs.lemmas.List.{drop_all}
+use Rattle.pop3_wire.specs.Place.{at}
 use Rattle.mail_terms.specs.Listing.{Item}
 use Rattle.fetch_rules.specs.declared.steps.Step.{Step}
 use Rattle.fetch_session.specs.Task.{Task, tasks_in, tasks_planned, fetching, ids_ahead, AreFresh}
-use Rattle.fetch_session.proofs.SceneLemmas.{leads_on, leads_fell, leads_end}
+use Rattle.fetch_session.proofs.SceneLemmas.{leads_start, leads_on, leads_fell, leads_end}
 use Rattle.fetch_session.proofs.FreshLemmas.{fresh_step, fresh_later, grows_calm, tasks_left, no_item}
 use Rattle.fetch_session.proofs.ReportLemmas.{adds_on}
+use Rattle.fetch_session.proofs.IntakeLemmas.{took_on, took_less, took_nothing, takes_on, takes_less}
 use Rattle.fetch_session.proofs.step.do_steps.Goals as goal
 
 pub do_step-requires-clause-free : goal.do_step-requires-clause-free
@@ -51,6 +53,15 @@ returns-in-Err-clause-does g c = λ w d f.
       leads_fell account (tasks_planned steps items held) _ (tasks_in step item flag) later _ _ _ c.in-Err.cut split inv.4 done.4,
     )
 
+pub loop-i-init : goal.loop-i-init
+loop-i-init g c = (
+  (omega arith, omega arith),
+  λ f. (f, c.requires.steady f),
+  λ d. (d, c.requires.calm d, c.requires.free d),
+  λ w d f. (w, d, f, g.met.W.Wire.leads_same c.args.wire.now, leads_start _ _ _),
+  λ w. (w, took_nothing _),
+)
+
 pub loop-i-preserved : goal.loop-i-preserved
 loop-i-preserved g c =
     let i = c.loop-i.i in
@@ -87,6 +98,12 @@ loop-i-preserved g c =
             g.met.W.Wire.leads_on _ _ _ inv.3 done.3,
             leads_on account (tasks_planned steps items held) _ (tasks_in step item flag) later _ _ _ split inv.4 done.4,
           ),
+      λ w.
+          let done = c.in_default.ensures.took w in
+          let inv = c.loop-i.invariant.4 done.0 in
+          let old = at (g.W.Wire.seen c.args.wire.now) c.args.reader.now in
+          let new = at (g.W.Wire.seen c.do_step.new.wire) c.do_step.new.reader in
+          (inv.0, took_less (i * 268439552 + 268439552) ((i + 1) * 268439552) old new (omega arith) (took_on (i * 268439552) 268439552 old (at (g.W.Wire.seen c.loop-i.wire) c.loop-i.reader) new inv.1 done.1)),
     )
 
 pub returns-clause-does : goal.returns-clause-does
@@ -96,3 +113,22 @@ returns-clause-does g c = λ w d f.
     let none = ap (λ (ss : List Step). tasks_planned ss (drop c.loop-i.i c.args.listing.now) (drop c.loop-i.i c.args.held.now))
     (drop_all c.loop-i.i steps (omega (arith, c.loop-i-test.false, c.len-i-end.ensures.count, c.requires.all_steps))) in
     (inv.0, inv.1, inv.2, inv.3, leads_end c.args.account.now (tasks_planned steps c.args.listing.now c.args.held.now) _ _ _ none inv.4)
+
+pub returns-in-Err-clause-took : goal.returns-in-Err-clause-took
+returns-in-Err-clause-took g c = λ w.
+    let i = c.loop-i.i in
+    let in_items : i < length c.args.listing.now = omega (arith, c.loop-i-test.true, c.len-i-end.ensures.count) in
+    let done = c.in-Err.ensures.took w in
+    let inv = c.loop-i.invariant.4 done.0 in
+    let old = at (g.W.Wire.seen c.args.wire.now) c.args.reader.now in
+    let new = at (g.W.Wire.seen c.do_step.new.wire) c.do_step.new.reader in (
+      inv.0,
+      takes_less (i * 268439552 + 268439552) (length c.args.listing.now * 268439552) old new (Err c.in-Err.cut) (omega (arith, in_items))
+          (takes_on (i * 268439552) 268439552 old (at (g.W.Wire.seen c.loop-i.wire) c.loop-i.reader) new (Err c.in-Err.cut) inv.1 done.1),
+    )
+
+pub returns-clause-took : goal.returns-clause-took
+returns-clause-took g c = λ w.
+    let i = c.loop-i.i in
+    let inv = c.loop-i.invariant.4 w in
+    (inv.0, took_less (i * 268439552) (length c.args.listing.now * 268439552) (at (g.W.Wire.seen c.args.wire.now) c.args.reader.now) (at (g.W.Wire.seen c.loop-i.wire) c.loop-i.reader) (omega arith) inv.1)

@@ -4,6 +4,7 @@ use Rattle.fetch_session.specs.Task.{tasks_planned, ids_ahead, AreFresh}
 use Rattle.fetch_session.specs.Record.{Steady}
 use Rattle.fetch_session.specs.Report.{Adds}
 use Rattle.fetch_session.specs.Scene.{scene}
+use Rattle.fetch_session.specs.Intake.{Took}
 use Rattle.fetch_session.proofs.SceneLemmas.{Leads}
 use Rattle.fetch_session.proofs.step.do_steps.Given as goal
 
@@ -20,3 +21,4 @@ invariant-loop-i g l =
     (scene (at (g.W.Wire.seen l.fn.wire) l.fn.reader) (g.D.MaildirDisk.maildir l.fn.disk) (g.F.FlatFile.stored l.fn.file) l.fn.seen.rows l.fn.lines.items)
     (tasks_planned (drop l.i l.fn.steps) (drop l.i l.fn.listing) (drop l.i l.fn.held))
     (scene (at (g.W.Wire.seen l.wire) l.reader) (g.D.MaildirDisk.maildir l.disk) (g.F.FlatFile.stored l.file) l.seen.rows l.lines.items))
+    × (g.W.Wire.sound l.wire → g.W.Wire.sound l.fn.wire × Took (l.i * 268439552) (at (g.W.Wire.seen l.fn.wire) l.fn.reader) (at (g.W.Wire.seen l.wire) l.reader))

@@ -1,9 +1,10 @@
-use Rattle.std.proofs.Common.{List, sym, subst}
+use Rattle.std.proofs.Common.{List, arith, sym, subst}
 use Rattle.pop3_wire.specs.Place.{at}
 use Rattle.fetch_session.specs.Task.{Task, stores, rereads}
 use Rattle.fetch_session.specs.Scene.{scene, AllWent, Does}
 use Rattle.fetch_session.proofs.SceneLemmas.{takes_does}
 use Rattle.fetch_session.proofs.TakeLemmas.{skipped, no_fetch, one_reread, one_store, was_true, was_false}
+use Rattle.fetch_session.proofs.IntakeLemmas.{took_nothing, took_less}
 use Rattle.fetch_session.proofs.step.fetch_if.Goals as goal
 
 pub returns-then-not-step-clause-does : goal.returns-then-not-step-clause-does
@@ -49,3 +50,8 @@ returns-clause-does g c = λ w d f.
       subst (λ (ts : List Task). Does c.args.account.now ts old c.take.result new) (sym (one_store c.args.step.retrieve c.args.held c.args.step.number c.args.uid.now c.args.size (was_true c.args.step.retrieve c.if-not-step.false) c.if-held.false))
           (takes_does c.args.account.now (stores c.args.step.number c.args.uid.now) old new c.take.result took.4),
     )
+
+pub returns-then-not-step-clause-took : goal.returns-then-not-step-clause-took
+returns-then-not-step-clause-took g c = λ w.
+    let here = at (g.W.Wire.seen c.args.wire.now) c.args.reader.now in
+    (w, took_less 0 268437504 here here (omega arith) (took_nothing here))

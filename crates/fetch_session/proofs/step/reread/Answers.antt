@@ -1,8 +1,9 @@
-use Rattle.std.proofs.Common.{refl}
+use Rattle.std.proofs.Common.{Ok, Err, refl}
 use Rattle.pop3_wire.specs.Place.{at}
 use Rattle.pop3_client.specs.Turns.{retr}
 use Rattle.fetch_session.specs.Task.{rereads}
 use Rattle.fetch_session.proofs.TakeLemmas.{reread_taken, text_broken}
+use Rattle.fetch_session.proofs.IntakeLemmas.{takes_plain, took_retr, took_passing}
 use Rattle.fetch_session.proofs.step.reread.Goals as goal
 
 pub returns-in-Ok-pass_text-clause-rereads : goal.returns-in-Ok-pass_text-clause-rereads
@@ -26,3 +27,25 @@ returns-in-Err-pass_text-clause-rereads g c = λ account uid maildir file rows w
       text_broken account (rereads c.args.number uid) (retr c.args.number) old (at (g.W.Wire.seen c.pass_text.new.wire) c.pass_text.new.reader) maildir file rows c.args.lines.now.items
           c.in-Err-pass_text.fault c.told-in-Err-pass_text.result c.plain-in-Err-pass_text.result refl c.plain-in-Err-pass_text.ensures c.told-in-Err-pass_text.ensures (passed.2 c.args.number old opened.2),
     )
+
+pub returns-in-Err-clause-took : goal.returns-in-Err-clause-took
+returns-in-Err-clause-took g c = λ w.
+    let opened = c.in-Err.ensures.opens w in
+    let old = at (g.W.Wire.seen c.args.wire.now) c.args.reader.now in
+    let new = at (g.W.Wire.seen c.open.new.wire) c.open.new.reader in
+    (opened.0, takes_plain 268437504 old new c.told.result c.plain.result c.plain.ensures (took_retr c.conversations_are_paced.ensures c.args.number old new c.in-Err.fault opened.2))
+
+pub returns-in-Ok-pass_text-clause-took : goal.returns-in-Ok-pass_text-clause-took
+returns-in-Ok-pass_text-clause-took g c = λ w.
+    let passed = c.in-Ok-pass_text.ensures.passes w in
+    let opened = c.in-Ok.ensures.opens passed.0 in
+    let old = at (g.W.Wire.seen c.args.wire.now) c.args.reader.now in
+    (opened.0, took_passing c.conversations_are_paced.ensures c.args.number old (Ok c.in-Ok-pass_text.length) (at (g.W.Wire.seen c.pass_text.new.wire) c.pass_text.new.reader) (passed.2 c.args.number old opened.2))
+
+pub returns-in-Err-pass_text-clause-took : goal.returns-in-Err-pass_text-clause-took
+returns-in-Err-pass_text-clause-took g c = λ w.
+    let passed = c.in-Err-pass_text.ensures.passes w in
+    let opened = c.in-Ok.ensures.opens passed.0 in
+    let old = at (g.W.Wire.seen c.args.wire.now) c.args.reader.now in
+    let new = at (g.W.Wire.seen c.pass_text.new.wire) c.pass_text.new.reader in
+    (opened.0, takes_plain 268437504 old new c.told-in-Err-pass_text.result c.plain-in-Err-pass_text.result c.plain-in-Err-pass_text.ensures (took_passing c.conversations_are_paced.ensures c.args.number old (Err c.in-Err-pass_text.fault) new (passed.2 c.args.number old opened.2)))

@@ -1,9 +1,11 @@
-use Rattle.std.proofs.Common.{List, ℕ, Ok, Err, subst, ◌∙◌}
+use Rattle.std.proofs.Common.{List, ℕ, Ok, Err, arith, subst, ◌∙◌}
 use Rattle.pop3_wire.specs.Place.{at}
 use Rattle.mail_store.specs.Maildir.{IsInNew}
+use Rattle.fetch_session.specs.declared.fault.Fault.TheVariants.{NoMemory}
 use Rattle.fetch_session.specs.Store.{Grows}
 use Rattle.fetch_session.proofs.StoreLemmas.{stores_grows}
 use Rattle.fetch_session.proofs.TakeLemmas.{text_wanting, text_stops, text_stored, text_not_saved}
+use Rattle.fetch_session.proofs.IntakeLemmas.{takes_plain, took_retr, took_nothing, took_less, takes_text, takes_stopped}
 use Rattle.fetch_session.proofs.step.take.Goals as goal
 
 pub returns-in-Err-clause-takes : goal.returns-in-Err-clause-takes
@@ -99,3 +101,42 @@ returns-clause-grows g c = λ d.
       subst (λ (name : List ℕ). Grows name maildir maildir') (c.as_str.ensures.value ∙ c.in-Ok.ensures.name)
           (stores_grows maildir maildir' c.as_str.result.now stored.1.0 (Ok c.in-Ok-store_text.length) (c.requires.calm stored.0) stored.1.1),
     )
+
+-- ---- what was taken of the link
+
+pub returns-in-Err-clause-took : goal.returns-in-Err-clause-took
+returns-in-Err-clause-took g c = λ w.
+    let here = at (g.W.Wire.seen c.args.wire.now) c.args.reader.now in
+    (w, takes_plain 268437504 here here NoMemory c.plain.result c.plain.ensures (took_less 0 268437504 here here (omega arith) (took_nothing here)))
+
+pub returns-in-Err-open-clause-took : goal.returns-in-Err-open-clause-took
+returns-in-Err-open-clause-took g c = λ w.
+    let opened = c.in-Err-open.ensures.opens w in
+    let old = at (g.W.Wire.seen c.args.wire.now) c.args.reader.now in
+    let new = at (g.W.Wire.seen c.open.new.wire) c.open.new.reader in
+    (opened.0, takes_plain 268437504 old new c.told.result c.plain-in-Err-open.result c.plain-in-Err-open.ensures (took_retr c.conversations_are_paced.ensures c.args.number old new c.in-Err-open.fault opened.2))
+
+pub returns-in-Err-store_text-clause-took : goal.returns-in-Err-store_text-clause-took
+returns-in-Err-store_text-clause-took g c = λ w.
+    let link = c.in-Err-store_text.ensures.reads w in
+    let opened = c.in-Ok-open.ensures.opens link.0 in
+    let old = at (g.W.Wire.seen c.args.wire.now) c.args.reader.now in
+    let reads = link.1 c.args.number old opened.2 in
+    (opened.0, takes_stopped c.conversations_are_paced.ensures c.args.number old reads.0 c.in-Err-store_text.cut (at (g.W.Wire.seen c.store_text.new.wire) c.store_text.new.reader) reads.1)
+
+pub returns-in-Ok-remember-clause-took : goal.returns-in-Ok-remember-clause-took
+returns-in-Ok-remember-clause-took g c = λ w.
+    let link = c.in-Ok-store_text.ensures.reads w in
+    let opened = c.in-Ok-open.ensures.opens link.0 in
+    let old = at (g.W.Wire.seen c.args.wire.now) c.args.reader.now in
+    let reads = link.1 c.args.number old opened.2 in
+    (opened.0, takes_text c.conversations_are_paced.ensures c.args.number old reads.0 c.in-Ok-store_text.length (at (g.W.Wire.seen c.store_text.new.wire) c.store_text.new.reader) reads.1)
+
+pub returns-clause-took : goal.returns-clause-took
+returns-clause-took g c = λ w.
+    let link = c.in-Ok-store_text.ensures.reads w in
+    let opened = c.in-Ok-open.ensures.opens link.0 in
+    let old = at (g.W.Wire.seen c.args.wire.now) c.args.reader.now in
+    let new = at (g.W.Wire.seen c.store_text.new.wire) c.store_text.new.reader in
+    let reads = link.1 c.args.number old opened.2 in
+    (opened.0, takes_plain 268437504 old new c.in-Err-remember.fault c.plain-in-Err-remember.result c.plain-in-Err-remember.ensures (takes_text c.conversations_are_paced.ensures c.args.number old reads.0 c.in-Ok-store_text.length new reads.1))

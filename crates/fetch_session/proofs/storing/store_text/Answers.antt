@@ -5,62 +5,56 @@ use Rattle.mail_store.specs.Maildir.{Maildir, file, IsInNew}
 use Rattle.fetch_session.proofs.StoreLemmas.{refused_start, stopped_store, stopped_read, refused_piece, put_on, settled, refused_end, longer}
 use Rattle.fetch_session.proofs.storing.store_text.Goals as goal
 
-pub returns-in-Err : goal.returns-in-Err
-returns-in-Err g c = record {
-  stores = λ d.
-      let starts = c.in-Err.ensures.starts d in (
-        starts.0,
-        (
-          [],
-          refused_start (g.D.MaildirDisk.maildir c.args.disk.now) (g.D.MaildirDisk.maildir c.begin_file.new.disk) c.args.name.now c.args.body c.in-Err.fault (c.requires.calm starts.0) starts.1,
-          λ w. (w, g.met.W.Wire.leads_same c.args.wire.now, λ number start now. (now, λ done. absurd (c.requires.open done))),
-        ),
-      );
-}
+pub returns-in-Err-clause-stores : goal.returns-in-Err-clause-stores
+returns-in-Err-clause-stores g c = λ d.
+    let starts = c.in-Err.ensures.starts d in (
+      starts.0,
+      (
+        [],
+        refused_start (g.D.MaildirDisk.maildir c.args.disk.now) (g.D.MaildirDisk.maildir c.begin_file.new.disk) c.args.name.now c.args.body c.in-Err.fault (c.requires.calm starts.0) starts.1,
+        λ w. (w, g.met.W.Wire.leads_same c.args.wire.now, λ number start now. (now, λ done. absurd (c.requires.open done))),
+      ),
+    )
 
-pub returns-in-Err-next_piece : goal.returns-in-Err-next_piece
-returns-in-Err-next_piece g c = record {
-  stores = λ d.
-      let drops = c.abandon.ensures.drops d in
-      let inv = c.pieces.invariant.2 drops.0 in (
-        inv.0,
-        (
-          inv.1.0,
-          stopped_store (g.D.MaildirDisk.maildir c.args.disk.now) (g.D.MaildirDisk.maildir c.pieces.disk) (g.D.MaildirDisk.maildir c.abandon.new.self) c.args.name.now inv.1.0
-              c.plain.result c.told.result (c.requires.calm inv.0) inv.1.1 drops.1 c.plain.ensures,
-          λ w.
-              let took = c.in-Err-next_piece.ensures.takes w in
-              let before = inv.1.3 took.0 in (
-                before.0,
-                g.met.W.Wire.leads_on _ _ _ before.1 took.1,
-                λ number start now. stopped_read number start (at (g.W.Wire.seen c.next_piece.new.wire) c.next_piece.new.reader) inv.1.0 c.plain.result c.told.result c.in-Err-next_piece.fault
-                    c.plain.ensures c.told.ensures (took.2 number start inv.1.0 (before.2 number start now)),
-              ),
-        ),
-      );
-}
+pub returns-in-Err-next_piece-clause-stores : goal.returns-in-Err-next_piece-clause-stores
+returns-in-Err-next_piece-clause-stores g c = λ d.
+    let drops = c.abandon.ensures.drops d in
+    let inv = c.pieces.invariant.2 drops.0 in (
+      inv.0,
+      (
+        inv.1.0,
+        stopped_store (g.D.MaildirDisk.maildir c.args.disk.now) (g.D.MaildirDisk.maildir c.pieces.disk) (g.D.MaildirDisk.maildir c.abandon.new.self) c.args.name.now inv.1.0
+            c.plain.result c.told.result (c.requires.calm inv.0) inv.1.1 drops.1 c.plain.ensures,
+        λ w.
+            let took = c.in-Err-next_piece.ensures.takes w in
+            let before = inv.1.3 took.0 in (
+              before.0,
+              g.met.W.Wire.leads_on _ _ _ before.1 took.1,
+              λ number start now. stopped_read number start (at (g.W.Wire.seen c.next_piece.new.wire) c.next_piece.new.reader) inv.1.0 c.plain.result c.told.result c.in-Err-next_piece.fault
+                  c.plain.ensures c.told.ensures (took.2 number start inv.1.0 (before.2 number start now)),
+            ),
+      ),
+    )
 
-pub returns-in-Err-put_piece : goal.returns-in-Err-put_piece
-returns-in-Err-put_piece g c = record {
-  stores = λ d.
-      let puts = c.in-Err-put_piece.ensures.puts d in
-      let inv = c.pieces.invariant.2 puts.0 in
-      let more = inv.1.0 ++ take c.in-Ok.piece.put c.next_piece.new.out in (
-        inv.0,
-        (
-          more,
-          refused_piece (g.D.MaildirDisk.maildir c.args.disk.now) (g.D.MaildirDisk.maildir c.pieces.disk) (g.D.MaildirDisk.maildir c.put_piece.new.disk) c.args.name.now inv.1.0 (take c.in-Ok.piece.put c.next_piece.new.out) more
-              c.next_piece.new.body c.in-Err-put_piece.fault inv.1.1 puts.1,
-          λ w.
-              let took = c.in-Ok.ensures.takes w in
-              let before = inv.1.3 took.0 in (
-                before.0,
-                g.met.W.Wire.leads_on _ _ _ before.1 took.1,
-                λ number start now. let more = took.2 number start inv.1.0 (before.2 number start now) in (more.0, λ done. more.1 (c.in-Ok.ensures.ended.1 done)),
-              ),
-        ),
-      );
-}
+pub returns-in-Err-put_piece-clause-stores : goal.returns-in-Err-put_piece-clause-stores
+returns-in-Err-put_piece-clause-stores g c = λ d.
+    let puts = c.in-Err-put_piece.ensures.puts d in
+    let inv = c.pieces.invariant.2 puts.0 in
+    let more = inv.1.0 ++ take c.in-Ok.piece.put c.next_piece.new.out in (
+      inv.0,
+      (
+        more,
+        refused_piece (g.D.MaildirDisk.maildir c.args.disk.now) (g.D.MaildirDisk.maildir c.pieces.disk) (g.D.MaildirDisk.maildir c.put_piece.new.disk) c.args.name.now inv.1.0 (take c.in-Ok.piece.put c.next_piece.new.out) more
+            c.next_piece.new.body c.in-Err-put_piece.fault inv.1.1 puts.1,
+        λ w.
+            let took = c.in-Ok.ensures.takes w in
+            let before = inv.1.3 took.0 in (
+              before.0,
+              g.met.W.Wire.leads_on _ _ _ before.1 took.1,
+              λ number start now. let more = took.2 number start inv.1.0 (before.2 number start now) in (more.0, λ done. more.1 (c.in-Ok.ensures.ended.1 done)),
+            ),
+      ),
+    )
 
 pub settle_file-requires : goal.settle_file-requires
 settle_file-requires g c = λ d.
@@ -73,55 +67,51 @@ settle_file-requires g c = λ d.
       λ there. c.requires.not_there inv.0 (subst (λ (m : Maildir). IsInNew m c.args.name.now) is there),
     )
 
-pub returns-in-Ok-settle_file : goal.returns-in-Ok-settle_file
-returns-in-Ok-settle_file g c = record {
-  stores = λ d.
-      let ends = c.in-Ok-settle_file.ensures.ends d in
-      let puts = c.in_default-put_piece.ensures.puts ends.0 in
-      let inv = c.pieces.invariant.2 puts.0 in
-      let bytes = take c.in-Ok.piece.put c.next_piece.new.out in
-      let is = put_on (g.D.MaildirDisk.maildir c.args.disk.now) (g.D.MaildirDisk.maildir c.pieces.disk) (g.D.MaildirDisk.maildir c.put_piece.new.disk) c.args.name.now inv.1.0 bytes inv.1.1 puts.1 in (
-        inv.0,
+pub returns-in-Ok-settle_file-clause-stores : goal.returns-in-Ok-settle_file-clause-stores
+returns-in-Ok-settle_file-clause-stores g c = λ d.
+    let ends = c.in-Ok-settle_file.ensures.ends d in
+    let puts = c.in_default-put_piece.ensures.puts ends.0 in
+    let inv = c.pieces.invariant.2 puts.0 in
+    let bytes = take c.in-Ok.piece.put c.next_piece.new.out in
+    let is = put_on (g.D.MaildirDisk.maildir c.args.disk.now) (g.D.MaildirDisk.maildir c.pieces.disk) (g.D.MaildirDisk.maildir c.put_piece.new.disk) c.args.name.now inv.1.0 bytes inv.1.1 puts.1 in (
+      inv.0,
+      (
+        inv.1.0 ++ bytes,
         (
-          inv.1.0 ++ bytes,
-          (
-            settled (g.D.MaildirDisk.maildir c.args.disk.now) (g.D.MaildirDisk.maildir c.put_piece.new.disk) (g.D.MaildirDisk.maildir c.settle_file.new.disk) c.args.name.now (inv.1.0 ++ bytes) is ends.1,
-            longer c.pieces.length c.in-Ok.piece.put inv.1.0 c.next_piece.new.out inv.1.2 c.in-Ok.ensures.fits,
-          ),
-          λ w.
-              let took = c.in-Ok.ensures.takes w in
-              let before = inv.1.3 took.0 in (
-                before.0,
-                g.met.W.Wire.leads_on _ _ _ before.1 took.1,
-                λ number start now. (took.2 number start inv.1.0 (before.2 number start now)).1 c.if-piece.true,
-              ),
+          settled (g.D.MaildirDisk.maildir c.args.disk.now) (g.D.MaildirDisk.maildir c.put_piece.new.disk) (g.D.MaildirDisk.maildir c.settle_file.new.disk) c.args.name.now (inv.1.0 ++ bytes) is ends.1,
+          longer c.pieces.length c.in-Ok.piece.put inv.1.0 c.next_piece.new.out inv.1.2 c.in-Ok.ensures.fits,
         ),
-      );
-}
+        λ w.
+            let took = c.in-Ok.ensures.takes w in
+            let before = inv.1.3 took.0 in (
+              before.0,
+              g.met.W.Wire.leads_on _ _ _ before.1 took.1,
+              λ number start now. (took.2 number start inv.1.0 (before.2 number start now)).1 c.if-piece.true,
+            ),
+      ),
+    )
 
-pub returns-in-Err-settle_file : goal.returns-in-Err-settle_file
-returns-in-Err-settle_file g c = record {
-  stores = λ d.
-      let ends = c.in-Err-settle_file.ensures.ends d in
-      let puts = c.in_default-put_piece.ensures.puts ends.0 in
-      let inv = c.pieces.invariant.2 puts.0 in
-      let bytes = take c.in-Ok.piece.put c.next_piece.new.out in
-      let is = put_on (g.D.MaildirDisk.maildir c.args.disk.now) (g.D.MaildirDisk.maildir c.pieces.disk) (g.D.MaildirDisk.maildir c.put_piece.new.disk) c.args.name.now inv.1.0 bytes inv.1.1 puts.1 in (
-        inv.0,
-        (
-          inv.1.0 ++ bytes,
-          refused_end (g.D.MaildirDisk.maildir c.args.disk.now) (g.D.MaildirDisk.maildir c.put_piece.new.disk) (g.D.MaildirDisk.maildir c.settle_file.new.disk) c.args.name.now (inv.1.0 ++ bytes)
-              c.next_piece.new.body c.in-Err-settle_file.fault is (c.in-Ok.ensures.ended.0 c.if-piece.true) ends.1,
-          λ w.
-              let took = c.in-Ok.ensures.takes w in
-              let before = inv.1.3 took.0 in (
-                before.0,
-                g.met.W.Wire.leads_on _ _ _ before.1 took.1,
-                λ number start now. let more = took.2 number start inv.1.0 (before.2 number start now) in (more.0, λ done. more.1 c.if-piece.true),
-              ),
-        ),
-      );
-}
+pub returns-in-Err-settle_file-clause-stores : goal.returns-in-Err-settle_file-clause-stores
+returns-in-Err-settle_file-clause-stores g c = λ d.
+    let ends = c.in-Err-settle_file.ensures.ends d in
+    let puts = c.in_default-put_piece.ensures.puts ends.0 in
+    let inv = c.pieces.invariant.2 puts.0 in
+    let bytes = take c.in-Ok.piece.put c.next_piece.new.out in
+    let is = put_on (g.D.MaildirDisk.maildir c.args.disk.now) (g.D.MaildirDisk.maildir c.pieces.disk) (g.D.MaildirDisk.maildir c.put_piece.new.disk) c.args.name.now inv.1.0 bytes inv.1.1 puts.1 in (
+      inv.0,
+      (
+        inv.1.0 ++ bytes,
+        refused_end (g.D.MaildirDisk.maildir c.args.disk.now) (g.D.MaildirDisk.maildir c.put_piece.new.disk) (g.D.MaildirDisk.maildir c.settle_file.new.disk) c.args.name.now (inv.1.0 ++ bytes)
+            c.next_piece.new.body c.in-Err-settle_file.fault is (c.in-Ok.ensures.ended.0 c.if-piece.true) ends.1,
+        λ w.
+            let took = c.in-Ok.ensures.takes w in
+            let before = inv.1.3 took.0 in (
+              before.0,
+              g.met.W.Wire.leads_on _ _ _ before.1 took.1,
+              λ number start now. let more = took.2 number start inv.1.0 (before.2 number start now) in (more.0, λ done. more.1 c.if-piece.true),
+            ),
+      ),
+    )
 
 pub pieces-preserved : goal.pieces-preserved
 pieces-preserved g c = (
@@ -147,4 +137,47 @@ pieces-preserved g c = (
               ),
         ),
       ),
+  λ w.
+      let took = c.in-Ok.ensures.takes w in
+      let before = c.pieces.invariant.3 took.0 in (
+        before.0,
+        λ number start now. let so_far = before.1 number start now in (_, (took.2 number start so_far.0 so_far.1).0),
+      ),
 )
+
+pub returns-in-Err-clause-reads : goal.returns-in-Err-clause-reads
+returns-in-Err-clause-reads g c = λ w. (w, λ number start now. ([], (now, λ done. absurd (c.requires.open done))))
+
+pub returns-in-Err-next_piece-clause-reads : goal.returns-in-Err-next_piece-clause-reads
+returns-in-Err-next_piece-clause-reads g c = λ w.
+    let took = c.in-Err-next_piece.ensures.takes w in
+    let before = c.pieces.invariant.3 took.0 in (
+      before.0,
+      λ number start now.
+          let so_far = before.1 number start now in
+          (so_far.0, stopped_read number start (at (g.W.Wire.seen c.next_piece.new.wire) c.next_piece.new.reader) so_far.0 c.plain.result c.told.result c.in-Err-next_piece.fault c.plain.ensures c.told.ensures (took.2 number start so_far.0 so_far.1)),
+    )
+
+pub returns-in-Err-put_piece-clause-reads : goal.returns-in-Err-put_piece-clause-reads
+returns-in-Err-put_piece-clause-reads g c = λ w.
+    let took = c.in-Ok.ensures.takes w in
+    let before = c.pieces.invariant.3 took.0 in (
+      before.0,
+      λ number start now. let so_far = before.1 number start now in let more = took.2 number start so_far.0 so_far.1 in (_, (more.0, λ done. more.1 (c.in-Ok.ensures.ended.1 done))),
+    )
+
+pub returns-in-Ok-settle_file-clause-reads : goal.returns-in-Ok-settle_file-clause-reads
+returns-in-Ok-settle_file-clause-reads g c = λ w.
+    let took = c.in-Ok.ensures.takes w in
+    let before = c.pieces.invariant.3 took.0 in (
+      before.0,
+      λ number start now. let so_far = before.1 number start now in (_, (took.2 number start so_far.0 so_far.1).1 c.if-piece.true),
+    )
+
+pub returns-in-Err-settle_file-clause-reads : goal.returns-in-Err-settle_file-clause-reads
+returns-in-Err-settle_file-clause-reads g c = λ w.
+    let took = c.in-Ok.ensures.takes w in
+    let before = c.pieces.invariant.3 took.0 in (
+      before.0,
+      λ number start now. let so_far = before.1 number start now in let more = took.2 number start so_far.0 so_far.1 in (_, (more.0, λ done. more.1 c.if-piece.true)),
+    )
