@@ -16,7 +16,7 @@ use Rattle.fetch_rules.specs.Record.{Row}
 use Rattle.mail_store.specs.Maildir.{Maildir}
 use Rattle.rc_file.specs.declared.settings.Settings.{Settings}
 use Rattle.run_law.specs.Mails.{has_id}
-use Rattle.run_law.specs.Plans.{FrontsAreAsked}
+use Rattle.pop3_wire.specs.Honest.{FrontsAreAsked}
 use Rattle.run_law.specs.Sessions.{IsBegun}
 use Rattle.run_law.specs.Steps.{Leaves}
 use Rattle.run_law.specs.Told.{ToldStores}
@@ -27,6 +27,7 @@ use Rattle.fetch_session.specs.declared.report.Report.{Report}
 use Rattle.fetch_session.specs.declared.fault.Fault.TheVariants.{StoreRefused, SeenRefused, NoMemory}
 use Rattle.fetch_session.specs.declared.fault.Why.TheVariants as why
 use Rattle.fetch_session.specs.declared.report.ReportLine.{ReportLine}
+use Rattle.fetch_session.specs.Laws.{TurnsJoin}
 use Rattle.fetch_session.specs.Report.{retrieved_in}
 use Rattle.fetch_session.specs.Task.{Task, deletes}
 use Rattle.fetch_session.specs.Record.{Keeps}
@@ -175,8 +176,8 @@ module _ (stores : ToldStores) (settings : Settings) (account : List ℕ) (now :
     };
   }
 
-pub session_is_a_step : Laws → ToldStores → ConversationsArePaced → FrontsAreAsked → SessionIsAStep
-session_is_a_step laws stores paced fronts settings account now link before rows report link' after valid keeps is =
+pub session_is_a_step : Laws → ToldStores → TurnsJoin → ConversationsArePaced → FrontsAreAsked → SessionIsAStep
+session_is_a_step laws stores joining paced fronts settings account now link before rows report link' after valid keeps is =
     joined stores settings account now link before rows report link' after is.result is.reports.outcome_is is.notes.lines is.reports.retrieved_is keeps
     (way_of settings account now link before report link' after is) (session_leads laws settings account now link before report link' after rows keeps is)
-    (talks paced fronts settings account now link before report link' after valid is)
+    (talks joining paced fronts settings account now link before report link' after valid is)

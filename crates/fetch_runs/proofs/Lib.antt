@@ -1,23 +1,23 @@
-pub mod Courses
-pub mod StatePlan
-pub mod StateDone
-pub mod StateMarks
-pub mod StateBuilt
-pub mod StateCases
-pub mod StateLaw
-pub mod TalkParts
-pub mod TalkCommands
-pub mod TalkReplies
-pub mod TalkTasks
-pub mod TalkCourses
-pub mod TalkOpenings
-pub mod TalkSpeech
-pub mod TalkSessions
-pub mod TalkIdle
-pub mod TalkLaw
-pub mod RunLemmas
-pub mod HeadlineLemmas
-pub mod TalkPlan
-pub mod TalkFronts
-pub mod TalkConversation
-pub mod Bridge
+mod Bridge
+mod Courses
+mod HeadlineLemmas
+mod RunLemmas
+mod StateBuilt
+mod StateCases
+mod StateDone
+mod StateLaw
+mod StateMarks
+mod StatePlan
+mod TalkCommands
+mod TalkConversation
+mod TalkCourses
+mod TalkFronts
+mod TalkIdle
+mod TalkLaw
+mod TalkOpenings
+mod TalkParts
+mod TalkPlan
+mod TalkReplies
+mod TalkSessions
+mod TalkSpeech
+mod TalkTasks

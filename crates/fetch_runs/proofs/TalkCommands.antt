@@ -5,12 +5,11 @@ use Rattle.std.proofs.lemmas.List.{append-nil}
 use Rattle.std.proofs.lemmas.List.Concat.{flat_map-append}
 use Rattle.pop3_wire.specs.declared.command.Command.{Command}
 use Rattle.pop3_wire.specs.Line.{ended}
-use Rattle.pop3_wire.specs.Commands.{line_of, can_be_sent}
+use Rattle.pop3_wire.specs.Commands.{line_of, can_be_sent, octets_of}
 use Rattle.pop3_wire.specs.CommandLine.{HasNumbers}
-use Rattle.pop3_wire.specs.Honest.{Asked}
+use Rattle.pop3_wire.specs.Honest.{Asked, FrontsAreAsked}
 use Rattle.pop3_wire.specs.Reading.{WholeReply}
 use Rattle.pop3_client.specs.Turns.{Turn, asking}
-use Rattle.run_law.specs.Plans.{octets_of, FrontsAreAsked}
 use Rattle.fetch_runs.specs.Conversations.{SentBehind, Conversation}
 
 -- the command of a turn, if it has one

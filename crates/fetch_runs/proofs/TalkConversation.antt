@@ -18,7 +18,8 @@ use Rattle.fetch_rules.specs.Plan.{planned, step_of}
 use Rattle.mail_store.specs.Maildir.{Maildir}
 use Rattle.mail_store.specs.FlatFile.{Stored}
 use Rattle.pop3_wire.specs.declared.command.Command.TheVariants.{Quit}
-use Rattle.run_law.specs.Plans.{step_commands, FrontsAreAsked}
+use Rattle.pop3_wire.specs.Honest.{FrontsAreAsked}
+use Rattle.run_law.specs.Plans.{step_commands}
 use Rattle.fetch_session.specs.declared.fault.Cut.{Cut}
 use Rattle.fetch_session.specs.declared.fault.Fault.{Fault}
 use Rattle.fetch_session.specs.declared.fault.Fault.TheVariants.{NoMemory}
@@ -26,6 +27,7 @@ use Rattle.fetch_session.specs.declared.report.Outcome.{Outcome}
 use Rattle.fetch_session.specs.declared.report.Outcome.TheVariants.{Ended, Cut as WasCut}
 use Rattle.fetch_session.specs.declared.report.Report.{Report}
 use Rattle.fetch_session.specs.declared.report.ReportLine.{ReportLine}
+use Rattle.fetch_session.specs.Laws.{TurnsJoin}
 use Rattle.fetch_session.specs.Fault.{fault_of}
 use Rattle.fetch_session.specs.Opening.{opening, Opened}
 use Rattle.fetch_session.specs.Report.{Reports, is_taken}
@@ -109,7 +111,7 @@ outcome o = o
 not_ended : (fault : Fault) → outcome (WasCut fault) ≡ outcome Ended → ⊥
 not_ended fault e = cc
 
-module _ (paced : ConversationsArePaced) (law : FrontsAreAsked) (settings : Settings) (valid : IsValid settings) (account : List ℕ) (now : ℕ) (link link' : Link) (before after : Kept)
+module _ (joining : TurnsJoin) (paced : ConversationsArePaced) (law : FrontsAreAsked) (settings : Settings) (valid : IsValid settings) (account : List ℕ) (now : ℕ) (link link' : Link) (before after : Kept)
     (new : Place) (notes : Noted) (report : Report) where
   abbrev name : List ℕ
   name = string_bytes settings.username
@@ -164,7 +166,7 @@ module _ (paced : ConversationsArePaced) (law : FrontsAreAsked) (settings : Sett
 
       all : (sent got : List ℕ) × (link'.sent ≡ link.sent ++ sent) × (link'.got ≡ link.got ++ got) × Speaks c sent got
           × Conversation (opening name word ++ by.took.done) ((opened.welcome ++ opened.counted ∷ opened.named ∷ opened.sized ∷ []) ++ by.took.replies) by.took.begun turns sent got
-      all = spoken law name word valid.valid_username valid.valid_password c count uids sizes (at link []) mid turns kind link' refl opened (subst (Joins count uids sizes) (sym by.ahead.1) joins) plain by.took
+      all = spoken joining law name word valid.valid_username valid.valid_password c count uids sizes (at link []) mid turns kind link' refl opened (subst (Joins count uids sizes) (sym by.ahead.1) joins) plain by.took
 
       tasks : map Some (flat_map step_commands (planned settings by.rows items now) ++ Quit ∷ []) ≡ by.took.done ++ (by.took.begun ++ flat_map turns_in by.ahead.0)
       tasks = sym (plan_same account before.maildir (step_of settings by.rows items now) 1 items) ∙ ap (λ (ts : List Task). flat_map turns_in ts) by.ahead.2
@@ -191,15 +193,15 @@ module _ (paced : ConversationsArePaced) (law : FrontsAreAsked) (settings : Sett
       let opened = is.enters.3 in
       let few = few_items opened.counted is.enters.0 is.enters.1 is.enters.2 is.items (replied name word opened.welcome opened.counted opened.named opened.sized opened.talked.good).good.1.1.1.0 opened.tells is.enters.4 in
       by_plan (course_dealt settings account now (at link []) before (Ok done) new after notes is) is.items is.enters.0 is.enters.1 is.enters.2 is.mid [] opened is.enters.4 few
-      (dealing paced settings account is.items now is.mid before.maildir before.file [] few (Ok done) new after.maildir after.file notes.lines notes.skipped link' is.carries leaves)
+      (dealing joining paced settings account is.items now is.mid before.maildir before.file [] few (Ok done) new after.maildir after.file notes.lines notes.skipped link' is.carries leaves)
       silent (sym (ap tail_behind tells.outcome_is)) tells.retrieved_is
       (lines_carries settings account is.items now is.mid before.maildir before.file (Ok done) new after.maildir after.file notes.lines notes.skipped is.carries)
-      (λ e. (refl, dealing_whole paced settings account is.items now is.mid before.maildir before.file [] few done new after.maildir after.file notes.lines notes.skipped link' is.carries leaves))
+      (λ e. (refl, dealing_whole joining paced settings account is.items now is.mid before.maildir before.file [] few done new after.maildir after.file notes.lines notes.skipped link' is.carries leaves))
   dealt (Err cut) tells is leaves =
       let opened = is.enters.3 in
       let few = few_items opened.counted is.enters.0 is.enters.1 is.enters.2 is.items (replied name word opened.welcome opened.counted opened.named opened.sized opened.talked.good).good.1.1.1.0 opened.tells is.enters.4 in
       by_plan (course_dealt settings account now (at link []) before (Err cut) new after notes is) is.items is.enters.0 is.enters.1 is.enters.2 is.mid (tail_turns (tail cut.fault)) opened is.enters.4 few
-      (dealing paced settings account is.items now is.mid before.maildir before.file [] few (Err cut) new after.maildir after.file notes.lines notes.skipped link' is.carries leaves)
+      (dealing joining paced settings account is.items now is.mid before.maildir before.file [] few (Err cut) new after.maildir after.file notes.lines notes.skipped link' is.carries leaves)
       (is_tail cut.fault) (sym (ap tail_behind tells.outcome_is)) tells.retrieved_is
       (lines_carries settings account is.items now is.mid before.maildir before.file (Err cut) new after.maildir after.file notes.lines notes.skipped is.carries)
       (λ e. absurd (not_ended cut.fault (sym tells.outcome_is ∙ e)))
@@ -245,6 +247,6 @@ module _ (paced : ConversationsArePaced) (law : FrontsAreAsked) (settings : Sett
       (opens_all paced name word (at link []) new leaves.0 refl is.enters.0 is.enters.1 is.enters.2 (tail_turns (tail NoMemory)) is.enters.3 said.0 said.1)
   proceeded (Err cut) tells (inr (inr is)) leaves = let said = dealt (Err cut) tells is leaves in (said.0, said.1, said.2, said.3, inr said.4)
 
-pub sessions_are_conversations : ConversationsArePaced → FrontsAreAsked → SessionsAreConversations
-sessions_are_conversations paced law settings account now link before report link' after valid session =
-    proceeded paced law settings valid account now link link' before after session.mid session.notes report session.result session.reports session.proceeds session.leaves
+pub sessions_are_conversations : TurnsJoin → ConversationsArePaced → FrontsAreAsked → SessionsAreConversations
+sessions_are_conversations joining paced law settings account now link before report link' after valid session =
+    proceeded joining paced law settings valid account now link link' before after session.mid session.notes report session.result session.reports session.proceeds session.leaves

@@ -23,7 +23,7 @@ use Rattle.fetch_session.specs.Task.{Task, stores, Done, task_in, turns_in, task
 use Rattle.fetch_session.specs.Store.{RefusesText}
 use Rattle.fetch_session.specs.Tail.{tail, LeftBy, Left, turns_in as tail_turns}
 use Rattle.fetch_session.specs.Scene.{Scene, Went, Stops, Broken, NotStored, NotSaved}
-use Rattle.fetch_session.proofs.TurnLemmas.{talked_none, talked_on}
+use Rattle.fetch_session.specs.Laws.{TurnsJoin}
 use Rattle.fetch_runs.proofs.Courses.{Course, course, course_stopped, stored_done, spare_in, found_in, found_by, found_of, begun_of}
 use Rattle.fetch_runs.proofs.TalkParts.{Goes, Fronted, fronted, goes_tail, goes_nothing, goes_broke, goes_under}
 use Rattle.fetch_runs.proofs.TalkCommands.{commands_in, all_append, all_front, all_back}
@@ -56,7 +56,7 @@ read_dones dones others none plain each more =
     (subst (λ (rs : List WholeReply). Retrieves (commands_in (turns_of dones) ++ more) rs (found_by dones ++ [])) (append-nil (replies_of dones))
     (dones_read dones [] more [] plain each refl))
 
-module _ (paced : ConversationsArePaced) (items : List Item) where
+module _ (joining : TurnsJoin) (paced : ConversationsArePaced) (items : List Item) where
   -- the next turn was begun, and its text isn't stored
   begun_next : (dones : List Done) (next : Task) (turn : Turn) (tail : List Turn) (first there : Place) (link : Link) → turns_in next ≡ turn ∷ []
       → Talked (turns_of dones) (replies_of dones) first there → AllByRecursion IsPlain (tasks_of dones) → AllByRecursion IsAnswered dones → Goes (turn ∷ []) tail there.link link
@@ -100,7 +100,7 @@ module _ (paced : ConversationsArePaced) (items : List Item) where
     replies = replies_of dones ++ reply ∷ [];
     begun = [];
     there = there;
-    talked = talked_on (turns_of dones) (retr number ∷ []) (replies_of dones) (reply ∷ []) first mid there talked fetched;
+    talked = joining.on (turns_of dones) (retr number ∷ []) (replies_of dones) (reply ∷ []) first mid there talked fetched;
     goes = goes;
     all = turns_on dones (next ∷ []) ∙ ap (λ (ts : List Turn). turns_of dones ++ ts) (append-nil (turns_in next) ∙ ap turns_in is) ∙ sym (append-nil (turns_of dones ++ retr number ∷ []));
     one = inl refl;
@@ -168,7 +168,7 @@ module _ (paced : ConversationsArePaced) (items : List Item) where
       all_done (dones ++ one ∷ []) (tail_turns (tail cut.fault)) first.place new.place last.link
       (subst (λ (ts : List Turn). Talked ts (replies_of (dones ++ one ∷ [])) first.place new.place) (sym (flat_map-append (λ (d : Done). turns_in d.task) dones (one ∷ [])))
       (subst (λ (rs : List WholeReply). Talked (turns_of dones ++ retr unsaved.number ∷ []) rs first.place new.place) (sym (flat_map-append (λ (d : Done). d.replies) dones (one ∷ [])))
-      (talked_on (turns_of dones) (retr unsaved.number ∷ []) (replies_of dones) (unsaved.reply ∷ []) first.place mid.place new.place talked unsaved.talked)))
+      (joining.on (turns_of dones) (retr unsaved.number ∷ []) (replies_of dones) (unsaved.reply ∷ []) first.place mid.place new.place talked unsaved.talked)))
       (subst (AllByRecursion IsPlain) (sym (map-append task_in dones (one ∷ []))) (all_append IsPlain (tasks_of dones) (stores unsaved.number unsaved.uid ∷ []) plain (subst IsPlain unsaved.is small, tt)))
       (all_append IsAnswered dones (one ∷ []) each (unsaved.talked.good, tt))
       (goes_tail (tail_turns (tail cut.fault)) new.place.link last.link (fronted paced (tail_turns (tail cut.fault)) new.place last said.0 said.1))
@@ -199,5 +199,5 @@ module _ (paced : ConversationsArePaced) (items : List Item) where
   pub took_nothing : (cut : Cut) (there last : Place) → cut.rest ≡ None → Left cut there last → Took (course items [] [] []) there (tail_turns (tail cut.fault)) last.link
   took_nothing cut there last none left =
       let said : (result : Result (Unit {0}) TalkFault) × Talks (tail_turns (tail cut.fault)) there result last = subst (λ (r : Option Rest). LeftBy cut.fault r there last) none left in
-      all_done [] (tail_turns (tail cut.fault)) there there last.link (talked_none there) tt tt
+      all_done [] (tail_turns (tail cut.fault)) there there last.link (joining.none there) tt tt
       (goes_tail (tail_turns (tail cut.fault)) there.link last.link (fronted paced (tail_turns (tail cut.fault)) there last said.0 said.1))

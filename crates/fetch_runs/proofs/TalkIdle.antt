@@ -3,7 +3,7 @@ use Rattle.std.proofs.Common.{◌≡◌, inl, inr, ℕ, List, [], ◌∷◌, ◌
 use Rattle.std.specs.List.{AllByRecursion}
 use Rattle.std.proofs.lemmas.List.{append-nil}
 use Rattle.pop3_wire.specs.declared.command.Command.{Command}
-use Rattle.pop3_wire.specs.Honest.{Asked}
+use Rattle.pop3_wire.specs.Honest.{Asked, FrontsAreAsked}
 use Rattle.pop3_wire.specs.Link.{Link}
 use Rattle.pop3_wire.specs.Place.{Place}
 use Rattle.pop3_client.specs.declared.fault.Fault.{Fault as TalkFault}
@@ -12,7 +12,6 @@ use Rattle.pop3_client.specs.Conversation.{ConversationsArePaced, Stopped, Talks
 use Rattle.mail_terms.specs.Credential.{is_credential}
 use Rattle.mail_terms.specs.declared.listing.UidRow.{UidRow}
 use Rattle.mail_terms.specs.declared.listing.ScanRow.{ScanRow}
-use Rattle.run_law.specs.Plans.{FrontsAreAsked}
 use Rattle.fetch_session.specs.Fault.{fault_of}
 use Rattle.fetch_session.specs.Opening.{opening, Opened, Enters}
 use Rattle.fetch_session.specs.Tail.{tail, turns_in as tail_turns}

@@ -3,7 +3,7 @@ use Rattle.std.proofs.Common.{◌≡◌, ◌≤◌, inl, inr, ℕ, List, [], ◌
 use Rattle.std.specs.String.{string_bytes}
 use Rattle.std.specs.List.{AllByRecursion}
 use Rattle.pop3_wire.specs.declared.command.Command.{Command}
-use Rattle.pop3_wire.specs.Honest.{Asked}
+use Rattle.pop3_wire.specs.Honest.{Asked, FrontsAreAsked}
 use Rattle.pop3_wire.specs.Link.{Link}
 use Rattle.pop3_wire.specs.Place.{Place, at}
 use Rattle.pop3_client.specs.declared.fault.Fault.{Fault as TalkFault}
@@ -11,10 +11,10 @@ use Rattle.pop3_client.specs.Conversation.{ConversationsArePaced, Talks}
 use Rattle.mail_terms.specs.Listing.{Joins}
 use Rattle.rc_file.specs.Settings.{IsValid}
 use Rattle.rc_file.specs.declared.settings.Settings.{Settings}
-use Rattle.run_law.specs.Plans.{FrontsAreAsked}
 use Rattle.fetch_session.specs.declared.fault.Cut.{Cut}
 use Rattle.fetch_session.specs.declared.fault.Fault.{Fault}
 use Rattle.fetch_session.specs.declared.fault.Fault.TheVariants.{NoMemory}
+use Rattle.fetch_session.specs.Laws.{TurnsJoin}
 use Rattle.fetch_session.specs.Fault.{fault_of}
 use Rattle.fetch_session.specs.declared.report.Report.{Report}
 use Rattle.fetch_session.specs.Tail.{tail, Left, turns_in as tail_turns}
@@ -40,7 +40,7 @@ pub record Gained (way : Way) (old new : Link) : Type 0 where
   pub got_is : new.got ≡ old.got ++ got
   pub tells : Tells way sent got
 
-module _ (paced : ConversationsArePaced) (law : FrontsAreAsked) (settings : Settings) (valid : IsValid settings) (account : List ℕ) (now : ℕ) (link link' : Link) (before after : Kept)
+module _ (joining : TurnsJoin) (paced : ConversationsArePaced) (law : FrontsAreAsked) (settings : Settings) (valid : IsValid settings) (account : List ℕ) (now : ℕ) (link link' : Link) (before after : Kept)
     (new : Place) (notes : Noted) where
   abbrev name : List ℕ
   name = string_bytes settings.username
@@ -92,14 +92,14 @@ module _ (paced : ConversationsArePaced) (law : FrontsAreAsked) (settings : Sett
           few_items opened.counted is.enters.0 is.enters.1 is.enters.2 is.items (replied name word opened.welcome opened.counted opened.named opened.sized opened.talked.good).good.1.1.1.0 opened.tells is.enters.4
 
       by : Dealing settings account is.items now before.maildir c is.mid (tail_for result) link'
-      by = dealing paced settings account is.items now is.mid before.maildir before.file [] few result new after.maildir after.file notes.lines notes.skipped link' is.carries leaves
+      by = dealing joining paced settings account is.items now is.mid before.maildir before.file [] few result new after.maildir after.file notes.lines notes.skipped link' is.carries leaves
 
       plain : AllByRecursion IsPlain (begun_of c)
       plain = all_front IsPlain (begun_of c) by.ahead.0 (subst (AllByRecursion IsPlain) by.ahead.2 (plain_ahead settings account is.items now before.maildir by.rows few))
 
       whole : (sent got : List ℕ) × (link'.sent ≡ link.sent ++ sent) × (link'.got ≡ link.got ++ got) × Speaks c sent got
       whole =
-          let all = spoken law name word valid.valid_username valid.valid_password c is.enters.0 is.enters.1 is.enters.2 (at link []) is.mid (tail_for result) (is_tail_for result) link' refl
+          let all = spoken joining law name word valid.valid_username valid.valid_password c is.enters.0 is.enters.1 is.enters.2 (at link []) is.mid (tail_for result) (is_tail_for result) link' refl
           is.enters.3 (subst (Joins is.enters.0 is.enters.1 is.enters.2) (sym by.ahead.1) is.enters.4) plain by.took in
           (all.0, all.1, all.2, all.3, all.4)
 
@@ -111,7 +111,7 @@ module _ (paced : ConversationsArePaced) (law : FrontsAreAsked) (settings : Sett
   proceeded (Err cut) (inr (inr is)) leaves = dealt (Err cut) is leaves
 
 -- what each session said and read
-pub talks : ConversationsArePaced → FrontsAreAsked → (settings : Settings) (account : List ℕ) (now : ℕ) (link : Link) (before : Kept) (report : Report) (link' : Link) (after : Kept)
+pub talks : TurnsJoin → ConversationsArePaced → FrontsAreAsked → (settings : Settings) (account : List ℕ) (now : ℕ) (link : Link) (before : Kept) (report : Report) (link' : Link) (after : Kept)
     → IsValid settings → (session : Session settings account now link before report link' after) → Gained (way_of settings account now link before report link' after session) link link'
-talks paced law settings account now link before report link' after valid session =
-    proceeded paced law settings valid account now link link' before after session.mid session.notes session.result session.proceeds session.leaves
+talks joining paced law settings account now link before report link' after valid session =
+    proceeded joining paced law settings valid account now link link' before after session.mid session.notes session.result session.proceeds session.leaves

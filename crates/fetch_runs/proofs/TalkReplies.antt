@@ -1,14 +1,14 @@
 -- The replies of a conversation, as the law over runs reads them.
-use Rattle.std.proofs.Common.{◌≡◌, ◌<◌, ◌^◌, ℕ, List, [], ◌∷◌, ◌++◌, Option, None, Some, refl, sym, ap, subst, ◌∙◌, append_assoc}
+use Rattle.std.proofs.Common.{◌≡◌, ◌<◌, ◌^◌, ℕ, Bool, List, [], ◌∷◌, ◌++◌, Option, None, Some, refl, sym, ap, subst, ◌∙◌, append_assoc}
 use Rattle.std.specs.List.{AllByRecursion, AllZip}
 use Rattle.std.proofs.lemmas.Bool.{true≢false}
 use Rattle.pop3_wire.specs.declared.command.Command.{Command}
 use Rattle.pop3_wire.specs.declared.command.Command.TheVariants.{User, Pass, Stat, UidlAll, UidlOne, ListAll, ListOne, Retr, Dele, Rset, Noop, Top, Quit}
 use Rattle.pop3_wire.specs.Body.{Body}
-use Rattle.pop3_wire.specs.Reading.{WholeReply, body_bytes}
+use Rattle.pop3_wire.specs.Reading.{WholeReply, body_bytes, has_body, IsBodyIf}
 use Rattle.pop3_client.specs.Turns.{Turn, retr, quit, IsBody, IsGood}
 use Rattle.pop3_client.specs.Texts.{body_text}
-use Rattle.run_law.specs.Readings.{AreGood, Retrieves, IsGood as IsRead, IsBody as IsReadBody}
+use Rattle.run_law.specs.Readings.{AreGood, Retrieves, IsGood as IsRead}
 use Rattle.fetch_session.specs.Task.{Task, says, skips, stores, rereads, deletes, Done, turns_in, tasks_of, turns_of, replies_of, IsAnswered}
 use Rattle.fetch_runs.proofs.Courses.{found_in, found_by}
 use Rattle.fetch_runs.proofs.TalkCommands.{said_in, commands_in}
@@ -18,16 +18,16 @@ abbrev pub IsCommand : Turn → Type 0
 IsCommand None = ⊥
 IsCommand (Some command) = Unit {0}
 
-body_read : (command : Command) (body : Option (List (List ℕ))) → IsBody (Some command) body → IsReadBody command body
-body_read command None none = none
+body_read : (command : Command) (body : Option (List (List ℕ))) → IsBody (Some command) body → IsBodyIf (has_body command) body
+body_read command None none = subst (λ (has : Bool). IsBodyIf has None) (sym none) tt
 body_read (User name) (Some lines) is = absurd is.1
 body_read (Pass password) (Some lines) is = absurd is.1
 body_read Stat (Some lines) is = absurd is.1
-body_read UidlAll (Some lines) is = (refl, is.0)
+body_read UidlAll (Some lines) is = is.0
 body_read (UidlOne number) (Some lines) is = absurd is.1
-body_read ListAll (Some lines) is = (refl, is.0)
+body_read ListAll (Some lines) is = is.0
 body_read (ListOne number) (Some lines) is = absurd is.1
-body_read (Retr number) (Some lines) is = (refl, is.0)
+body_read (Retr number) (Some lines) is = is.0
 body_read (Dele number) (Some lines) is = absurd is.1
 body_read Rset (Some lines) is = absurd is.1
 body_read Noop (Some lines) is = absurd is.1

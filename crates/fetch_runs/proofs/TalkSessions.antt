@@ -22,6 +22,7 @@ use Rattle.fetch_runs.proofs.Courses.{Course, course, stored_done, course_stoppe
 use Rattle.fetch_runs.proofs.TalkCommands.{all_front}
 use Rattle.fetch_runs.proofs.TalkReplies.{IsPlain}
 use Rattle.fetch_runs.proofs.TalkTasks.{plain_ahead}
+use Rattle.fetch_session.specs.Laws.{TurnsJoin}
 use Rattle.fetch_runs.proofs.TalkCourses.{Took, took_stopped, took_all, took_nothing}
 use Rattle.fetch_runs.proofs.TalkSpeech.{IsTail, is_tail, silent}
 
@@ -60,15 +61,15 @@ pub record Dealing (settings : Settings) (account : List ℕ) (items : List Item
   pub ahead : Ahead items (tasks_ahead settings account items now maildir rows) c
   pub took : Took c start turns link
 
-module _ (paced : ConversationsArePaced) where
+module _ (joining : TurnsJoin) (paced : ConversationsArePaced) where
   took_does : (account : List ℕ) (items : List Item) (tasks : List Task) (old new : Scene) (result : Result (Unit {0}) Cut) (link : Link) → (does : Does account tasks old result new)
       → AllByRecursion IsPlain tasks → LeavesLink result new.place link → Took (course_does account items tasks old new result does) old.place (tail_for result) link
   took_does account items tasks old new (Ok done) link went plain leaves =
       subst (λ (l : Link). Took (course items went.dones [] []) old.place [] l) (sym leaves)
-      (took_all paced items account went.dones [] old new went.went (subst (AllByRecursion IsPlain) went.all plain))
+      (took_all joining paced items account went.dones [] old new went.went (subst (AllByRecursion IsPlain) went.all plain))
   took_does account items tasks old new (Err cut) link fell plain leaves =
       subst (λ (l : Link). Took (course_stopped account items fell.dones fell.next fell.mid new cut fell.stops) old.place (tail_turns (tail cut.fault)) l) (sym leaves.2)
-      (took_stopped paced items account fell.dones fell.next old fell.mid new cut leaves.0 fell.went
+      (took_stopped joining paced items account fell.dones fell.next old fell.mid new cut leaves.0 fell.went
       (all_front IsPlain (tasks_of fell.dones ++ fell.next ∷ []) fell.later
       (subst (AllByRecursion IsPlain) (fell.split ∙ sym (append_assoc (tasks_of fell.dones) (fell.next ∷ []) fell.later)) plain)) fell.stops leaves.1)
 
@@ -88,7 +89,7 @@ module _ (paced : ConversationsArePaced) where
       rows = [];
       ahead = (tasks_ahead settings account items now maildir [], refl, refl);
       took = subst (λ (l : Link). Took (course items [] [] []) place (tail_turns (tail cut.fault)) l) (sym leaves.2)
-          (took_nothing paced items cut place leaves.0 is.none (subst (λ (p : Place). Left cut p leaves.0) is.place_is leaves.1));
+          (took_nothing joining paced items cut place leaves.0 is.none (subst (λ (p : Place). Left cut p leaves.0) is.place_is leaves.1));
     }
 
     pub dealing : (result : Result (Unit {0}) Cut) (place' : Place) (maildir' : Maildir) (file' : Stored) (lines' : List ReportLine) (skipped : ℕ) (link : Link)

@@ -13,7 +13,7 @@ use Rattle.mail_terms.specs.Listing.{Joins}
 use Rattle.mail_terms.specs.declared.listing.UidRow.{UidRow}
 use Rattle.mail_terms.specs.declared.listing.ScanRow.{ScanRow}
 use Rattle.pop3_client.specs.Turns.{Turn, quit, rset}
-use Rattle.run_law.specs.Plans.{FrontsAreAsked}
+use Rattle.pop3_wire.specs.Honest.{FrontsAreAsked}
 use Rattle.run_law.specs.Readings.{AreGood, Talked as IsTalked, IsListed, Retrieves}
 use Rattle.fetch_session.specs.Opening.{opening, Opened}
 use Rattle.fetch_session.specs.Task.{Task}
@@ -21,7 +21,7 @@ use Rattle.pop3_client.specs.declared.fault.Asked.TheVariants.{Greeting as ByGre
 use Rattle.fetch_session.specs.declared.fault.Fault.{Fault}
 use Rattle.fetch_session.specs.declared.fault.Fault.TheVariants.{ConnectionEnded, ReadFailed, WriteFailed, ReplyTooLong, BadReply, Refused, BadListing, ListingsDisagree, TooMany, TextTooLong, StoreRefused, SeenRefused, NoMemory, BadSeen}
 use Rattle.fetch_session.specs.Tail.{tail, turns_in as tail_turns}
-use Rattle.fetch_session.proofs.TurnLemmas.{talked_on}
+use Rattle.fetch_session.specs.Laws.{TurnsJoin}
 use Rattle.fetch_runs.specs.Conversations.{Conversation}
 use Rattle.fetch_runs.proofs.Courses.{Course, found_of, begun_of, IsDeleted}
 use Rattle.fetch_runs.proofs.TalkParts.{conversation}
@@ -95,7 +95,7 @@ undeleted tasks done begun turns sent kind c all =
     (all_front (IsDeleted tasks) c.ahead c.unsaid (subst (AllByRecursion (IsDeleted tasks)) c.of_begun (all_back (IsDeleted tasks) (commands_in done) (commands_in begun) all)))
     (all_front (IsDeleted tasks) c.ends c.unended (subst (AllByRecursion (IsDeleted tasks)) c.of_tail (undeleted_tail tasks turns kind))))
 
-module _ (law : FrontsAreAsked) (name word : List ℕ) (named' : is_credential name ≡ true) (worded : is_credential word ≡ true) where
+module _ (joining : TurnsJoin) (law : FrontsAreAsked) (name word : List ℕ) (named' : is_credential name ≡ true) (worded : is_credential word ≡ true) where
   speaks : (c : Course) (count : ℕ) (uids : List UidRow) (sizes : List ScanRow) (start mid : Place) (turns : List Turn) (kind : IsTail turns) (link : Link) (opened : Opened name word start mid count uids sizes)
       → Joins count uids sizes c.items → AllByRecursion IsPlain (begun_of c) → (took : Took c mid turns link) → (r : Replied name word opened.welcome opened.counted opened.named opened.sized)
       → (sent got : List ℕ) → Conversation (opening name word ++ took.done) ((opened.welcome ++ opened.counted ∷ opened.named ∷ opened.sized ∷ []) ++ took.replies) took.begun turns sent got
@@ -166,5 +166,5 @@ module _ (law : FrontsAreAsked) (name word : List ℕ) (named' : is_credential n
       let first = opened.welcome ++ opened.counted ∷ opened.named ∷ opened.sized ∷ [] in
       let r = replied name word opened.welcome opened.counted opened.named opened.sized opened.talked.good in
       let is = conversation (opening name word ++ took.done) (first ++ took.replies) took.begun turns start took.there link none
-      (talked_on (opening name word) took.done first took.replies start mid took.there opened.talked took.talked) took.goes in
+      (joining.on (opening name word) took.done first took.replies start mid took.there opened.talked took.talked) took.goes in
       (is.0, is.1, is.2, is.3, speaks c count uids sizes start mid turns kind link opened joins plain took r is.0 is.1 is.4, is.4)

@@ -9,12 +9,12 @@ use fetch_rules::{
     files_stand_for_one_record, held_is_delivered, listed_has_row, marked_is_delivered,
     marked_keeps_rows, plans_fetch_wanted,
 };
-use fetch_session::{steady_files_keep, unsaved_files_keep};
+use fetch_session::{steady_files_keep, turns_join, unsaved_files_keep};
 use mail_store::flags_tell_what_is_held;
 use pop3_client::conversations_are_paced;
+use pop3_wire::fronts_are_asked;
 use run_law::{
-    fronts_are_asked, holds_exactly, kept_states, links_are_visits, sessions_are_safe, starts_kept,
-    told_stores,
+    holds_exactly, kept_states, links_are_visits, sessions_are_safe, starts_kept, told_stores,
 };
 
 /// A law: what a link gains by a session is one conversation by the plan. What was sent is the octets
@@ -26,6 +26,7 @@ use run_law::{
 pub fn sessions_are_conversations()
     ensures { SessionsAreConversations }
 {
+    turns_join();
     conversations_are_paced();
     fronts_are_asked();
 }
@@ -45,6 +46,7 @@ pub fn session_is_a_step()
     steady_files_keep();
     unsaved_files_keep();
     told_stores();
+    turns_join();
     conversations_are_paced();
     fronts_are_asked();
 }

@@ -1,16 +1,16 @@
-pub mod TurnLemmas
-pub mod RecordLemmas
-pub mod SceneLemmas
-pub mod StoreLemmas
-pub mod TakeLemmas
-pub mod FreshLemmas
-pub mod PlanLemmas
-pub mod ReadLemmas
-pub mod ReadyLemmas
-pub mod CarryLemmas
-pub mod TailLemmas
-pub mod StoppingLemmas
-pub mod ReportLemmas
-pub mod SessionLemmas
-pub mod OpeningLemmas
-pub mod IntakeLemmas
+mod CarryLemmas
+mod FreshLemmas
+mod IntakeLemmas
+mod OpeningLemmas
+mod PlanLemmas
+mod ReadLemmas
+mod ReadyLemmas
+mod RecordLemmas
+mod ReportLemmas
+mod SceneLemmas
+mod SessionLemmas
+mod StoppingLemmas
+mod StoreLemmas
+mod TailLemmas
+mod TakeLemmas
+mod TurnLemmas

@@ -5,7 +5,9 @@ use Rattle.fetch_rules.specs.Record.{Row}
 use Rattle.mail_store.specs.FlatFile.{Stored}
 use Rattle.mail_store.specs.Maildir.{File}
 use Rattle.pop3_wire.specs.Reading.{WholeReply, reply_bytes}
-use Rattle.pop3_client.specs.Turns.{IsGood}
+use Rattle.pop3_wire.specs.Place.{Place}
+use Rattle.pop3_client.specs.Conversation.{Talked}
+use Rattle.pop3_client.specs.Turns.{Turn, IsGood}
 use Rattle.fetch_session.specs.declared.fault.Fault.{Fault}
 use Rattle.fetch_session.specs.declared.fault.Cut.{Cut}
 use Rattle.fetch_session.specs.declared.fault.Fault.TheVariants.{StoreRefused, SeenRefused, NoMemory}
@@ -56,3 +58,9 @@ SteadyFilesKeep = (content : Option (List ℕ)) (rows : List Row) → Steady con
 abbrev pub UnsavedFilesKeep : Type 0
 UnsavedFilesKeep = (old : Stored) (was rows : List Row) (fault : Fault) (new : Stored) → Saves old was rows (Err fault) new → Steady old.content was
     → Keeps new.content was ⊎ Keeps new.content rows
+
+-- of no turns there is a conversation in which nothing happens, and turns behind turns make one conversation
+pub record TurnsJoin : Type 0 where
+  pub none : (place : Place) → Talked [] [] place place
+  pub on : (turns others : List Turn) (replies more : List WholeReply) (old mid new : Place)
+      → Talked turns replies old mid → Talked others more mid new → Talked (turns ++ others) (replies ++ more) old new

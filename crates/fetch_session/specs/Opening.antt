@@ -1,7 +1,7 @@
 -- The beginning of a session: logging in, and what is there.
 use Rattle.std.specs.Prelude.{◌≡◌, ◌⊎◌, ℕ, List, [], ◌∷◌, ◌++◌, Result, Ok, Err}
 use Rattle.pop3_wire.specs.Place.{Place}
-use Rattle.pop3_wire.specs.Reading.{WholeReply}
+use Rattle.pop3_wire.specs.Reading.{WholeReply, HasListing, IsUidLine, IsScanLine}
 use Rattle.mail_terms.specs.Listing.{Item, Agree, Joins}
 use Rattle.mail_terms.specs.declared.listing.UidRow.{UidRow}
 use Rattle.mail_terms.specs.declared.listing.ScanRow.{ScanRow}
@@ -9,7 +9,6 @@ use Rattle.pop3_client.specs.declared.fault.Fault.{Fault}
 use Rattle.pop3_client.specs.declared.fault.Fault.TheVariants.{ListingsDisagree, NoMemory}
 use Rattle.pop3_client.specs.Turns.{Turn, stat, uidl, list}
 use Rattle.pop3_client.specs.Conversation.{Talked, Stopped, TellsCount, login}
-use Rattle.pop3_client.specs.Listing.{HasListing, IsUidRow, IsScanRow}
 
 -- the turns of the beginning
 abbrev pub opening : List ℕ → List ℕ → List Turn
@@ -23,8 +22,8 @@ pub record Opened (name password : List ℕ) (old new : Place) (count : ℕ) (ui
   pub sized : WholeReply
   pub talked : Talked (opening name password) (welcome ++ counted ∷ named ∷ sized ∷ []) old new
   pub tells : TellsCount counted count
-  pub names : HasListing IsUidRow named uids
-  pub octets : HasListing IsScanRow sized sizes
+  pub names : HasListing IsUidLine named uids
+  pub octets : HasListing IsScanLine sized sizes
 
 -- the listing is the rows, joined with the count; or the conversation stopped; or the rows don't join; or memory was wanting to join them
 abbrev pub Enters : List ℕ → List ℕ → Place → Result (List Item) Fault → Place → Type 0

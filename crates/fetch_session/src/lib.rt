@@ -17,7 +17,7 @@ mod text;
 
 pub use account::{Account, Store};
 pub use fault::{Cut, Fault, Why};
-pub use laws::{steady_files_keep, stopping_cuts_short, unsaved_files_keep};
+pub use laws::{steady_files_keep, stopping_cuts_short, turns_join, unsaved_files_keep};
 pub use one_session::session;
 pub use report::{Outcome, Report, ReportLine};
 pub use text::{fault_number, fault_text, report_text};

@@ -1,1 +1,1 @@
-pub mod WordsLemmas
+mod WordsLemmas

@@ -1,1 +1,1 @@
-pub mod LocalLemmas
+mod LocalLemmas

@@ -1,13 +1,13 @@
-pub mod Deliveries
-pub mod FusedCalls
-pub mod NameLemmas
 mod AccountLemmas
-pub mod HeldLemmas
-pub mod MoveLemmas
-pub mod DistinctNames
-pub mod MboxLines
-pub mod MboxQuoting
-pub mod MboxGroups
-pub mod MboxReading
-pub mod MboxFronts
-pub mod MboxAppends
+mod Deliveries
+mod DistinctNames
+mod FusedCalls
+mod HeldLemmas
+mod MboxAppends
+mod MboxFronts
+mod MboxGroups
+mod MboxLines
+mod MboxQuoting
+mod MboxReading
+mod MoveLemmas
+mod NameLemmas

@@ -4,6 +4,7 @@ use Rattle.std.specs.List.{AllPass, list_any}
 use Rattle.hex.specs.Hex.{encode_lower}
 use Rattle.sha2.specs.Sha256.{sha256}
 use Rattle.mail_terms.specs.MaildirName.{base}
+use Rattle.mail_terms.specs.UniqueId.{IsLegalId}
 use Rattle.mail_store.specs.Maildir.{Maildir, File}
 
 -- the text by which accounts are told apart: the digest of server, NUL, port, NUL, user name in
@@ -24,6 +25,14 @@ IsAccountText text = (length text ≡ 64) × AllPass is_lower_hex_digit text
 -- hexadecimal
 abbrev pub name_of : List ℕ → List ℕ → List ℕ
 name_of account uid = account ++ 46 ∷ encode_lower uid
+
+-- two ids of one account have different names
+abbrev pub NamesDiffer : Type 0
+NamesDiffer = (account a b : List ℕ) → IsLegalId a → IsLegalId b → name_of account a ≡ name_of account b → a ≡ b
+
+-- the base of an id's name is the name: it holds no colon
+abbrev pub NamesAreBases : Type 0
+NamesAreBases = (account uid : List ℕ) → IsAccountText account → base (name_of account uid) ≡ name_of account uid
 
 -- the bytes of the longest such name: 64 digits, a full stop, and two digits for each of 70 characters
 abbrev pub longest_name : ℕ

@@ -1,6 +1,6 @@
-pub mod IdLemmas
-pub mod LawLemmas
-pub mod ListingLemmas
-pub mod MostLemmas
-pub mod TalkLemmas
-pub mod TextLemmas
+mod IdLemmas
+mod LawLemmas
+mod ListingLemmas
+mod MostLemmas
+mod TalkLemmas
+mod TextLemmas

@@ -18,7 +18,8 @@ use Rattle.pop3_client.specs.declared.fault.Fault.TheVariants.{ConnectionEnded, 
 use Rattle.pop3_client.specs.Turns.{Turn, uidl, list, IsRow, IsListing, IsShort, LinesFit, line_limit, row_limit, most}
 use Rattle.pop3_client.specs.Causes.{IsPartOfListing, IsPartOfBody, HasRows, NextLine, BeginsPositive, Cause}
 use Rattle.pop3_client.specs.Conversation.{Opened}
-use Rattle.pop3_client.specs.Listing.{IsUidRow, IsScanRow, Listed, GetsListing, ListsRows, RowBehind, RowCause, RowsCause, NotTaken, TakesRows}
+use Rattle.pop3_wire.specs.Reading.{IsUidLine, IsScanLine}
+use Rattle.pop3_client.specs.Listing.{Listed, GetsListing, ListsRows, RowBehind, RowCause, RowsCause, NotTaken, TakesRows}
 use Rattle.pop3_client.proofs.MostLemmas.{lines_within}
 use Rattle.pop3_client.proofs.TalkLemmas.{drew_of, talked_on, talked_body, broke_behind, begins_of}
 
@@ -262,7 +263,7 @@ lists_of turn IsThisRow line old mid new (Err fault) begun listing takes =
     broke_behind turn line old mid new takes.gained (flat_map ended takes.used) fault begun takes.drew cause.0 takes.has.whole (omega arith) cause.1
 
 -- both listings were talked
-pub listed : (old mid new : Place) (uids : List UidRow) (sizes : List ScanRow) → ListsRows uidl IsUidRow old (Ok uids) mid → ListsRows list IsScanRow mid (Ok sizes) new → Listed old new uids sizes
+pub listed : (old mid new : Place) (uids : List UidRow) (sizes : List ScanRow) → ListsRows uidl IsUidLine old (Ok uids) mid → ListsRows list IsScanLine mid (Ok sizes) new → Listed old new uids sizes
 listed old mid new uids sizes first second = record {
   first = first.0;
   second = second.0;

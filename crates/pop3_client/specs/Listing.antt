@@ -2,9 +2,8 @@
 use Rattle.std.specs.Prelude.{◌≡◌, ◌≢◌, ◌⊎◌, ◌<◌, ◌≤◌, ℕ, true, List, [], ◌∷◌, ◌++◌, length, take, Option, None, Some, Result, Ok, Err, Vec}
 use Rattle.std.specs.List.{AllByRecursion, AllZip}
 use Rattle.pop3_wire.specs.Line.{ended}
-use Rattle.pop3_wire.specs.Body.{IsContent, unstuffed, body_of, dot}
-use Rattle.pop3_wire.specs.Fields.{number_and_size, number_and_id}
-use Rattle.pop3_wire.specs.Reading.{WholeReply}
+use Rattle.pop3_wire.specs.Body.{IsContent, body_of, dot}
+use Rattle.pop3_wire.specs.Reading.{WholeReply, IsUidLine, IsScanLine, HasListing}
 use Rattle.pop3_wire.specs.Link.{Link}
 use Rattle.pop3_wire.specs.Place.{Place, GoesOn, Gains, HasLine}
 use Rattle.pop3_wire.specs.Bodies.{Drew}
@@ -17,24 +16,13 @@ use Rattle.pop3_client.specs.Turns.{Turn, uidl, list, line_limit, row_limit, IsS
 use Rattle.pop3_client.specs.Causes.{IsPartOfListing, HasRows, IsOverlong}
 use Rattle.pop3_client.specs.Conversation.{NoLineCause, Talked, Stopped, Broke}
 
--- the row that a line of UIDL stands for, and that of LIST
-abbrev pub IsUidRow : List ℕ → UidRow → Type 0
-IsUidRow line row = number_and_id (unstuffed line) ≡ Ok (row.number, row.uid.items)
-
-abbrev pub IsScanRow : List ℕ → ScanRow → Type 0
-IsScanRow line row = number_and_size (unstuffed line) ≡ Ok (row.number, row.size)
-
--- the lines of a reply's body stand for these rows
-abbrev pub HasListing : {R : Type 0} → (List ℕ → R → Type 0) → WholeReply → List R → Type 0
-HasListing IsThisRow reply rows = (lines : List (List ℕ)) × (reply.body ≡ Some lines) × AllZip IsThisRow lines rows
-
 -- both listings were asked for and taken, whole
 pub record Listed (old new : Place) (uids : List UidRow) (sizes : List ScanRow) : Type 0 where
   pub first : WholeReply
   pub second : WholeReply
   pub talked : Talked (uidl ∷ list ∷ []) (first ∷ second ∷ []) old new
-  pub names : HasListing IsUidRow first uids
-  pub octets : HasListing IsScanRow second sizes
+  pub names : HasListing IsUidLine first uids
+  pub octets : HasListing IsScanLine second sizes
 
 -- both listings were taken, and these are the messages, joined; or the conversation stopped; or the listings don't join with the count; or memory was wanting to join them, before anything else was sent
 abbrev pub GetsListing : ℕ → Place → Result (List Item) Fault → Place → Type 0

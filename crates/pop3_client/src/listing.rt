@@ -6,7 +6,8 @@ ghost use Rattle.pop3_wire.specs.Link.{CountsFailure};
 ghost use Rattle.pop3_wire.specs.Place.{at, HasLine};
 ghost use Rattle.pop3_client.specs.Turns.{uidl as uidl_turn, list as list_turn, row_limit, IsRow};
 ghost use Rattle.pop3_client.specs.Conversation.{refusal_of};
-ghost use Rattle.pop3_client.specs.Listing.{IsUidRow, IsScanRow, NextRow, TakesRows, ListsRows, GetsListing, items_of};
+ghost use Rattle.pop3_wire.specs.Reading.{IsUidLine, IsScanLine};
+ghost use Rattle.pop3_client.specs.Listing.{NextRow, TakesRows, ListsRows, GetsListing, items_of};
 
 use crate::fault::{Asked, Fault};
 use crate::talk::{ask, next_line};
@@ -44,7 +45,7 @@ fn next_row<W: Wire>(
 
 /// The row of UIDL that a line of its body stands for.
 fn uid_row(alloc: Global, line: &[u8]) -> Result<UidRow, Fault>
-    ensures ok { IfOk result (λ row. IsUidRow line.now row) }
+    ensures ok { IfOk result (λ row. IsUidLine line.now row) }
     ensures legal { IfOk result (λ row. IsLegalId row.uid.items) }
     ensures err { IfErr result (λ fault. ((fault ≡ Fault.NoMemory) × IsRow uidl_turn line.now)
         ⊎ ((fault ≡ Fault.BadListing) × (IsRow uidl_turn line.now → ⊥))) }
@@ -60,7 +61,7 @@ fn uid_row(alloc: Global, line: &[u8]) -> Result<UidRow, Fault>
 
 /// The row of LIST that a line of its body stands for.
 fn scan_row(line: &[u8]) -> Result<ScanRow, Fault>
-    ensures ok { IfOk result (λ row. IsScanRow line.now row) }
+    ensures ok { IfOk result (λ row. IsScanLine line.now row) }
     ensures err { IfErr result (λ fault. (fault ≡ Fault.BadListing) × (IsRow list_turn line.now → ⊥)) }
 {
     match read_scan(without_dot(line)) {
@@ -78,7 +79,7 @@ fn uid_rows<W: Wire>(
     ensures counted { CountsFailure (W.seen wire.old) (refusal_of result) (W.seen wire.new) }
     ensures legal { IfOk result (λ rows. All (λ row. IsLegalId row.uid.items) rows.items) }
     ensures takes { W.sound wire.new → W.sound wire.old × W.leads_to wire.old wire.new
-        × TakesRows uidl_turn IsUidRow (at (W.seen wire.old) reader.old) (items_of result) (at (W.seen wire.new) reader.new) }
+        × TakesRows uidl_turn IsUidLine (at (W.seen wire.old) reader.old) (items_of result) (at (W.seen wire.new) reader.new) }
 {
     let mut rows = Vec::new(alloc);
     'rows: loop {
@@ -106,7 +107,7 @@ fn scan_rows<W: Wire>(
 ) -> Result<Vec<ScanRow>, Fault>
     ensures counted { CountsFailure (W.seen wire.old) (refusal_of result) (W.seen wire.new) }
     ensures takes { W.sound wire.new → W.sound wire.old × W.leads_to wire.old wire.new
-        × TakesRows list_turn IsScanRow (at (W.seen wire.old) reader.old) (items_of result) (at (W.seen wire.new) reader.new) }
+        × TakesRows list_turn IsScanLine (at (W.seen wire.old) reader.old) (items_of result) (at (W.seen wire.new) reader.new) }
 {
     let mut rows = Vec::new(alloc);
     'rows: loop {
@@ -131,7 +132,7 @@ fn uidl<W: Wire>(alloc: Global, wire: &mut W, reader: &mut LineReader) -> Result
     ensures counted { CountsFailure (W.seen wire.old) (refusal_of result) (W.seen wire.new) }
     ensures legal { IfOk result (λ rows. All (λ row. IsLegalId row.uid.items) rows.items) }
     ensures lists { W.sound wire.new → W.sound wire.old × W.leads_to wire.old wire.new
-        × ListsRows uidl_turn IsUidRow (at (W.seen wire.old) reader.old) (items_of result) (at (W.seen wire.new) reader.new) }
+        × ListsRows uidl_turn IsUidLine (at (W.seen wire.old) reader.old) (items_of result) (at (W.seen wire.new) reader.new) }
 {
     if let Err(fault) = ask(wire, reader, Asked::Uidl, b"UIDL\r\n") {
         return Err(fault);
@@ -147,7 +148,7 @@ fn sizes<W: Wire>(
 ) -> Result<Vec<ScanRow>, Fault>
     ensures counted { CountsFailure (W.seen wire.old) (refusal_of result) (W.seen wire.new) }
     ensures lists { W.sound wire.new → W.sound wire.old × W.leads_to wire.old wire.new
-        × ListsRows list_turn IsScanRow (at (W.seen wire.old) reader.old) (items_of result) (at (W.seen wire.new) reader.new) }
+        × ListsRows list_turn IsScanLine (at (W.seen wire.old) reader.old) (items_of result) (at (W.seen wire.new) reader.new) }
 {
     if let Err(fault) = ask(wire, reader, Asked::List, b"LIST\r\n") {
         return Err(fault);

@@ -1,5 +1,5 @@
 -- A server is closed by QUIT alone.
-use Rattle.std.proofs.Common.{◌≡◌, inl, inr, ◌⊎◌, ℕ, Bool, true, false, cond, List, [], ◌∷◌, ◌++◌, refl, sym, ap, subst, ◌∙◌, Option, Some, None, Result, Ok}
+use Rattle.std.proofs.Common.{◌≡◌, inl, inr, ◌⊎◌, ℕ, Bool, true, false, cond, List, [], ◌∷◌, refl, ap, subst, ◌∙◌, Option, Some, None, Result, Ok}
 use Rattle.std.specs.Prelude.{◌&&◌, bytes_eq}
 use Rattle.std.specs.List.{AllByRecursion}
 use Rattle.pop3_wire.specs.declared.fault.WireFault.{WireFault}
@@ -10,7 +10,7 @@ use Rattle.pop3_server.specs.declared.rows.MessageRow.{MessageRow}
 use Rattle.pop3_server.specs.declared.state.State.{State}
 use Rattle.pop3_server.specs.declared.state.State.TheVariants.{Authorization, Transaction, Closed}
 use Rattle.pop3_server.specs.Maildrop.{Mail}
-use Rattle.pop3_server.specs.ServerMachine.{Machine, Deed, Say, Open, Does, Opens, deed, is_open, in_authorization, in_transaction, give, dele, octets_line, row_at}
+use Rattle.pop3_server.specs.ServerMachine.{Machine, Say, Open, Does, Opens, deed, is_open, in_authorization, in_transaction, give, dele, octets_line, row_at}
 use Rattle.pop3_server.specs.AnswersLines.{AnswersLines}
 use Rattle.pop3_server.specs.HonestServer.{IsOfSession, IsAsked, lines_of, IsClosedByQuit}
 

@@ -1,10 +1,11 @@
 -- The server's conversations are honest: how its rows follow the messages and their marks, and what each answer says.
-use Rattle.std.proofs.Common.{◌≡◌, ◌≢◌, ◌⊎◌, inl, inr, ◌<◌, ◌≤◌, ◌+◌, ◌-◌, ◌*◌, ◌^◌, ℕ, zero, suc, Bool, true, false, cond, List, [], ◌∷◌, ◌++◌, map, length, refl, sym, ap, subst, ◌∙◌, arith, append_assoc, Some, None, ne_eqb}
+use Rattle.std.proofs.Common.{◌≡◌, ◌≢◌, ◌⊎◌, inl, inr, ◌<◌, ◌≤◌, ◌+◌, ◌-◌, ◌*◌, ◌^◌, ℕ, zero, suc, Bool, true, false, cond, List, [], ◌∷◌, ◌++◌, map, length, refl, sym, ap, subst, ◌∙◌, arith, append_assoc, Some, None}
 use Rattle.std.specs.Prelude.{codes, not, slice_get, slice_set, if◌then◌else◌}
 use Rattle.std.specs.List.{flat_map, All, AllByRecursion, AllZip, count_by, list_all}
 use Rattle.std.specs.Fmt.{decimal}
 use Rattle.std.specs.Char.{is_ascii_digit}
-use Rattle.std.proofs.lemmas.Bool.{cond-true, cond-false}
+use Rattle.std.proofs.lemmas.Bool.{and_parts, and_from, cond-true, cond-false}
+use Rattle.std.proofs.lemmas.List.Folds.{list_all-append}
 use Rattle.std.proofs.lemmas.Bool.Decides.{eqb_tells, nat_tests}
 use Rattle.std.proofs.lemmas.List.Elements.{recursion_from_All}
 use Rattle.std.proofs.lemmas.List.Sums.{sum_by-cons}
@@ -13,17 +14,23 @@ use Rattle.std.proofs.lemmas.List.Sorted.{IsPermutation-refl}
 use Rattle.pop3_wire.specs.declared.command.Command.{Command}
 use Rattle.pop3_wire.specs.declared.reply.Status.{Status}
 use Rattle.pop3_wire.specs.declared.reply.Status.TheVariants.{Positive, Negative}
-use Rattle.pop3_wire.specs.Line.{crlf, ended}
+use Rattle.pop3_wire.specs.Line.{crlf, ended, is_no_lf, HoldsNoLf}
 use Rattle.pop3_wire.specs.Body.{dot, IsContent, unstuffed}
-use Rattle.pop3_wire.specs.Reply.{without_space}
 use Rattle.pop3_wire.specs.Fields.{number_and_size, number_and_id}
-use Rattle.mail_terms.specs.UniqueId.{is_legal_id}
+use Rattle.mail_terms.specs.Numeral.{greatest_size}
 use Rattle.pop3_wire.specs.World.{Message, IsMessage}
-use Rattle.pop3_wire.specs.Honest.{Says, SaysAnything, IsUnmarked, unmarked_from, IsScanRow, IsUidRow, ListsAll, Reply, no_marks}
-use Rattle.pop3_wire.proofs.HonestRows.{scan_read, uid_read, is_no_lf, line_without_lf, no_lf_append, no_lf_decimal, no_lf_id, digit_first}
+use Rattle.pop3_wire.specs.Honest.{Says, SaysAnything, FirstLinesAreRead, IsUnmarked, unmarked_from, IsScanRow, IsUidRow, ListsAll, Reply, no_marks}
+use Rattle.pop3_wire.specs.Rows.{NumbersAreRead, ScanRowsAreRead, UidRowsAreRead}
 use Rattle.pop3_server.specs.declared.rows.MessageRow.{MessageRow}
 use Rattle.pop3_server.specs.Maildrop.{entry_of, max_count, max_size}
 use Rattle.pop3_server.specs.ServerMachine.{said, is_left, left_count, left_size, left_total, unless_marked, row_at, mark_at, unmarked, row_of, scan_line, uid_line, lines_from, listed, IsSmall, KeepLimits}
+
+-- what the laws of the wire say of what a server writes
+pub record Written : Type 0 where
+  pub first : FirstLinesAreRead
+  pub numbers : NumbersAreRead
+  pub scan : ScanRowsAreRead
+  pub uid : UidRowsAreRead
 
 -- ---- messages that PASS listed
 
@@ -153,30 +160,30 @@ total_left (m ∷ ms) (false ∷ bs) all =
 
 -- ---- first lines
 
-pub ok_says : (after : List ℕ) → list_all is_no_lf after ≡ true → Says Positive (said (codes "+OK" ++ after)) (without_space after)
-ok_says after none = record {
-  line = codes "+OK" ++ after;
-  is_line = line_without_lf (codes "+OK" ++ after) none;
-  first = (after, refl, refl);
-  whole = refl;
-}
+digits_no_lf : (digits : List ℕ) → list_all is_ascii_digit digits ≡ true → HoldsNoLf digits
+digits_no_lf [] e = refl
+digits_no_lf (d ∷ ds) e =
+    let parts = and_parts (is_ascii_digit d) (list_all is_ascii_digit ds) e in
+    and_from (is_no_lf d) (list_all is_no_lf ds) (digit_no_lf d parts.0) (digits_no_lf ds parts.1)
+  where
+    digit_no_lf : (d : ℕ) → is_ascii_digit d ≡ true → is_no_lf d ≡ true
+    digit_no_lf d e = grind (arith, nat_tests)
 
-err_says : (after : List ℕ) → list_all is_no_lf after ≡ true → Says Negative (said (codes "-ERR" ++ after)) (without_space after)
-err_says after none = record {
-  line = codes "-ERR" ++ after;
-  is_line = line_without_lf (codes "-ERR" ++ after) none;
-  first = (after, refl, refl);
-  whole = refl;
-}
+pub no_lf_decimal : Written → (n : ℕ) → n < 2 ^ 64 → HoldsNoLf (decimal n)
+no_lf_decimal written n fits =
+    digits_no_lf (decimal n) (and_parts _ (list_all is_ascii_digit (decimal n)) (written.numbers n n (omega arith) (omega (arith, fits))).numeral).1
+
+pub no_lf_append : (xs ys : List ℕ) → HoldsNoLf xs → HoldsNoLf ys → HoldsNoLf (xs ++ ys)
+no_lf_append xs ys a b = list_all-append is_no_lf xs ys ∙ and_from (list_all is_no_lf xs) (list_all is_no_lf ys) a b
 
 anything : (status : Status) (bytes rest : List ℕ) → Says status bytes rest → SaysAnything status bytes
 anything status bytes rest says = (rest, says)
 
-pub refused : (ms : List Message) (bs : List Bool) (c : Command) (answer after : List ℕ) → answer ≡ said (codes "-ERR" ++ after) → list_all is_no_lf after ≡ true → Reply ms bs c answer bs
-refused ms bs c answer after is none = inl (subst (SaysAnything Negative) (sym is) (anything Negative (said (codes "-ERR" ++ after)) _ (err_says after none)), refl)
+pub refused : Written → (ms : List Message) (bs : List Bool) (c : Command) (answer after : List ℕ) → answer ≡ said (codes "-ERR" ++ after) → HoldsNoLf after → Reply ms bs c answer bs
+refused written ms bs c answer after is none = inl (subst (SaysAnything Negative) (sym is) (anything Negative (said (codes "-ERR" ++ after)) _ (written.first Negative after none)), refl)
 
-pub granted : (answer after : List ℕ) → answer ≡ said (codes "+OK" ++ after) → list_all is_no_lf after ≡ true → SaysAnything Positive answer
-granted answer after is none = subst (SaysAnything Positive) (sym is) (anything Positive (said (codes "+OK" ++ after)) _ (ok_says after none))
+pub granted : Written → (answer after : List ℕ) → answer ≡ said (codes "+OK" ++ after) → HoldsNoLf after → SaysAnything Positive answer
+granted written answer after is none = subst (SaysAnything Positive) (sym is) (anything Positive (said (codes "+OK" ++ after)) _ (written.first Positive after none))
 
 -- ---- listings
 
@@ -206,49 +213,28 @@ rows_content line IsRow good k (m ∷ ms) (false ∷ bs) few all =
     let more = rows_content line IsRow good (k + 1) ms bs (omega arith) all.1 in
     ((one.0, more.0), (one.1, more.1))
 
--- a line that begins with a digit
-digit_content : (k : ℕ) (rest : List ℕ) → k < 2 ^ 64 → list_all is_no_lf rest ≡ true → IsContent (decimal k ++ rest) × (unstuffed (decimal k ++ rest) ≡ decimal k ++ rest)
-digit_content k rest fits none =
-    let first = digit_first k fits in
-    let begin : decimal k ++ rest ≡ first.0 ∷ (first.1 ++ rest) = ap (λ (l : List ℕ). l ++ rest) first.2 in
-    let other : first.0 ≢ 46 = (λ (e : first.0 ≡ 46). digit_no_stop first.0 first.3 e) in (
-      (line_without_lf (decimal k ++ rest) (no_lf_append (decimal k) rest (no_lf_decimal k fits) none), λ e. other (first_same first.0 46 (first.1 ++ rest) [] (sym begin ∙ e))),
-      ap unstuffed begin ∙ cond-false _ _ _ (ne_eqb first.0 46 other) ∙ sym begin,
-    )
-  where
-    digit_no_stop : (d : ℕ) → is_ascii_digit d ≡ true → d ≡ 46 → ⊥
-    digit_no_stop d e is = grind (arith, nat_tests)
-
-    first_same : (a b : ℕ) (x y : List ℕ) → a ∷ x ≡ b ∷ y → a ≡ b
-    first_same a b x y e = cc
-
-pub scan_rows : GoodRows scan_line IsScanRow
+pub scan_rows : Written → GoodRows scan_line IsScanRow
 unfolding GoodRows
-scan_rows k m few served =
-    let size : m.size < 2 ^ 64 = (let w : m.size ≤ 134217728 = served.within in omega arith) in
-    let none : list_all is_no_lf (32 ∷ decimal m.size) ≡ true = no_lf_append (32 ∷ []) (decimal m.size) refl (no_lf_decimal m.size size) in
-    let same : scan_line k (row_with m false) ≡ decimal k ++ 32 ∷ decimal m.size = append_assoc (decimal k) (32 ∷ []) (decimal m.size) in
-    let good = digit_content k (32 ∷ decimal m.size) (omega arith) none in
-    (subst IsContent (sym same) good.0, ap number_and_size (ap unstuffed same ∙ good.1) ∙ scan_read k m.size few size)
+scan_rows written k m few served =
+    let size : m.size ≤ greatest_size = (let w : m.size ≤ 134217728 = served.within in omega arith) in
+    let row = written.scan k m.size few size in
+    (row.0.0, ap number_and_size row.0.1 ∙ row.1)
 
-pub uid_rows : GoodRows uid_line IsUidRow
+pub uid_rows : Written → GoodRows uid_line IsUidRow
 unfolding GoodRows
-uid_rows k m few served =
-    let legal : is_legal_id m.uid ≡ true = served.is_message.legal in
-    let none : list_all is_no_lf (32 ∷ m.uid) ≡ true = no_lf_append (32 ∷ []) m.uid refl (no_lf_id m.uid legal) in
-    let same : uid_line k (row_with m false) ≡ decimal k ++ 32 ∷ m.uid = append_assoc (decimal k) (32 ∷ []) m.uid in
-    let good = digit_content k (32 ∷ m.uid) (omega arith) none in
-    (subst IsContent (sym same) good.0, ap number_and_id (ap unstuffed same ∙ good.1) ∙ uid_read k m.uid few legal)
+uid_rows written k m few served =
+    let row = written.uid k m.uid few served.is_message.legal in
+    (row.0.0, ap number_and_id row.0.1 ∙ row.1)
 
-pub lists_all : (line : ℕ → MessageRow → List ℕ) (IsRow : ℕ × Message → List ℕ → Type 0) → GoodRows line IsRow → (ms : List Message) (bs : List Bool) (answer : List ℕ) → AreServed ms → answer ≡ listed line (rows_with ms bs)
+pub lists_all : Written → (line : ℕ → MessageRow → List ℕ) (IsRow : ℕ × Message → List ℕ → Type 0) → GoodRows line IsRow → (ms : List Message) (bs : List Bool) (answer : List ℕ) → AreServed ms → answer ≡ listed line (rows_with ms bs)
     → (first body : List ℕ) × (answer ≡ first ++ body) × SaysAnything Positive first × ListsAll IsRow ms bs body × (bs ≡ bs)
-lists_all line IsRow good ms bs answer served is =
+lists_all written line IsRow good ms bs answer served is =
     let few : length ms ≤ 100000 = served.few in
     let rows = rows_content line IsRow good 1 ms bs (omega arith) served.served in (
       said (codes "+OK"),
       lines_from line 1 (rows_with ms bs) ++ ended dot,
       is ∙ append_assoc (codes "+OK" ++ crlf) (lines_from line 1 (rows_with ms bs)) (ended dot),
-      granted (said (codes "+OK")) [] refl refl,
+      granted written (said (codes "+OK")) [] refl refl,
       record {
         lines = row_lines line 1 (rows_with ms bs);
         content = rows.0;

@@ -1,57 +1,25 @@
 -- What a link to a new server gives is honest: the lines that were answered are the first of the commands that were sent.
-use Rattle.std.proofs.Common.{◌≡◌, inl, inr, ◌<◌, ◌^◌, ℕ, Bool, true, List, [], ◌∷◌, ◌++◌, refl, sym, ap, subst, ◌∙◌, arith, append_assoc}
+use Rattle.std.proofs.Common.{◌≡◌, inl, inr, ℕ, Bool, List, [], ◌∷◌, ◌++◌, refl, sym, ap, subst, ◌∙◌, append_assoc}
 use Rattle.std.specs.Prelude.{codes}
-use Rattle.std.specs.List.{flat_map, AllByRecursion, list_all}
-use Rattle.std.specs.Fmt.{decimal}
+use Rattle.std.specs.List.{flat_map, AllByRecursion}
 use Rattle.std.proofs.lemmas.List.{append-nil}
-use Rattle.std.proofs.lemmas.Bool.{and_parts}
-use Rattle.std.proofs.lemmas.Bool.Decides.{nat_tests}
 use Rattle.pop3_wire.specs.declared.command.Command.{Command}
-use Rattle.pop3_wire.specs.declared.command.Command.TheVariants.{User, Pass, Stat, UidlAll, UidlOne, ListAll, ListOne, Retr, Dele, Rset, Noop, Top, Quit}
+use Rattle.pop3_wire.specs.declared.command.Command.TheVariants.{Quit}
 use Rattle.pop3_wire.specs.declared.reply.Status.TheVariants.{Positive}
 use Rattle.pop3_server.specs.declared.state.State.{State}
-use Rattle.pop3_wire.specs.Line.{crlf, IsLine, ended}
+use Rattle.pop3_wire.specs.Line.{crlf, IsLine, ended, OneLine}
 use Rattle.pop3_wire.specs.Commands.{line_of}
-use Rattle.mail_terms.specs.Credential.{is_plain, is_credential}
 use Rattle.pop3_wire.specs.World.{Message}
 use Rattle.pop3_wire.specs.Honest.{Replies, no_marks}
-use Rattle.pop3_wire.proofs.LineLemmas.{first_line_same}
-use Rattle.pop3_wire.proofs.HonestRows.{is_no_lf, line_without_lf, no_lf_append, no_lf_decimal, all_pass}
 use Rattle.pop3_server.specs.Maildrop.{Mail, there}
 use Rattle.pop3_server.specs.ServerMachine.{greeting, is_open}
 use Rattle.pop3_server.specs.AnswersLines.{AnswersLines}
-use Rattle.pop3_wire.specs.CommandLine.{ReadAsWritten}
-use Rattle.pop3_wire.specs.Stuffed.{StuffedIsBody}
+use Rattle.pop3_wire.specs.CommandLine.{CommandsAreLines}
 use Rattle.pop3_server.specs.HonestServer.{IsAsked, Gone, IsClosedByQuit, lines_of}
 use Rattle.pop3_server.specs.HonestLoop.{GivesHonest}
-use Rattle.pop3_server.proofs.HonestLemmas.{refused, granted}
+use Rattle.pop3_server.proofs.HonestLemmas.{Written, refused, granted}
 use Rattle.pop3_server.proofs.CloseLemmas.{closed_by_quit}
-use Rattle.pop3_server.proofs.HonestTurns.{answers_honestly, flat_lines, all_sendable, all_numbered}
-
-plain_no_lf : (b : ℕ) → is_plain b ≡ true → is_no_lf b ≡ true
-plain_no_lf b e = grind (arith, nat_tests)
-
-argument_no_lf : (text : List ℕ) → is_credential text ≡ true → list_all is_no_lf text ≡ true
-argument_no_lf text good = all_pass is_plain is_no_lf plain_no_lf text (and_parts _ (list_all is_plain text) good).1
-
-numbered : (word : List ℕ) (n : ℕ) → list_all is_no_lf word ≡ true → n < 2 ^ 32 → list_all is_no_lf (word ++ decimal n) ≡ true
-numbered word n e fits = no_lf_append word (decimal n) e (no_lf_decimal n (omega arith))
-
-no_lf_line : (c : Command) → IsAsked c → list_all is_no_lf (line_of c) ≡ true
-unfolding line_of
-no_lf_line (User name) asked = no_lf_append (codes "USER ") name refl (argument_no_lf name asked.sendable)
-no_lf_line (Pass password) asked = no_lf_append (codes "PASS ") password refl (argument_no_lf password asked.sendable)
-no_lf_line Stat asked = refl
-no_lf_line UidlAll asked = refl
-no_lf_line (UidlOne n) asked = absurd asked.of_session
-no_lf_line ListAll asked = refl
-no_lf_line (ListOne n) asked = absurd asked.of_session
-no_lf_line (Retr n) asked = numbered (codes "RETR ") n refl asked.numbers
-no_lf_line (Dele n) asked = numbered (codes "DELE ") n refl asked.numbers
-no_lf_line Rset asked = refl
-no_lf_line Noop asked = refl
-no_lf_line (Top n k) asked = absurd asked.of_session
-no_lf_line Quit asked = refl
+use Rattle.pop3_server.proofs.HonestTurns.{Laws, answers_honestly, flat_lines, all_sendable, all_numbered}
 
 -- lines in front of whole commands are the lines of the first of these
 pub record Cut (lines : List (List ℕ)) (commands : List Command) (waiting part : List ℕ) : Type 0 where
@@ -61,17 +29,15 @@ pub record Cut (lines : List (List ℕ)) (commands : List Command) (waiting part
   pub lines_are : lines ≡ lines_of first
   pub rest : waiting ≡ flat_map ended (lines_of later) ++ part
 
-reassoc : (l x w : List ℕ) → (ended l ++ x) ++ w ≡ l ++ (crlf ++ (x ++ w))
-reassoc l x w = append_assoc (ended l) x w ∙ append_assoc l crlf (x ++ w)
-
-cut_at : (lines : List (List ℕ)) (commands : List Command) (waiting part : List ℕ) → AllByRecursion IsLine lines → AllByRecursion IsAsked commands → IsLine part
+cut_at : OneLine → CommandsAreLines → (lines : List (List ℕ)) (commands : List Command) (waiting part : List ℕ) → AllByRecursion IsLine lines → AllByRecursion IsAsked commands → IsLine part
     → flat_map ended lines ++ waiting ≡ flat_map ended (lines_of commands) ++ part → Cut lines commands waiting part
-cut_at [] commands waiting part each asked whole e = record { first = []; later = commands; all = refl; lines_are = refl; rest = e }
-cut_at (l ∷ ls) [] waiting part each asked whole e = absurd (whole l (flat_map ended ls ++ waiting) (sym e ∙ reassoc l (flat_map ended ls) waiting))
-cut_at (l ∷ ls) (c ∷ cs) waiting part each asked whole e =
-    let same = first_line_same l (line_of c) (flat_map ended ls ++ waiting) (flat_map ended (lines_of cs) ++ part) each.0 (line_without_lf (line_of c) (no_lf_line c asked.0))
-    (sym (reassoc l (flat_map ended ls) waiting) ∙ e ∙ reassoc (line_of c) (flat_map ended (lines_of cs)) part) in
-    let more = cut_at ls cs waiting part each.1 asked.1 whole same.1 in
+cut_at one are_lines [] commands waiting part each asked whole e = record { first = []; later = commands; all = refl; lines_are = refl; rest = e }
+cut_at one are_lines (l ∷ ls) [] waiting part each asked whole e =
+    absurd (whole l (flat_map ended ls ++ waiting) (sym e ∙ append_assoc (ended l) (flat_map ended ls) waiting ∙ append_assoc l crlf (flat_map ended ls ++ waiting)))
+cut_at one are_lines (l ∷ ls) (c ∷ cs) waiting part each asked whole e =
+    let same = one l (line_of c) (flat_map ended ls ++ waiting) (flat_map ended (lines_of cs) ++ part) each.0 (are_lines c asked.0.numbers asked.0.sendable)
+    (sym (append_assoc (ended l) (flat_map ended ls) waiting) ∙ e ∙ append_assoc (ended (line_of c)) (flat_map ended (lines_of cs)) part) in
+    let more = cut_at one are_lines ls cs waiting part each.1 asked.1 whole same.1 in
     record {
       first = c ∷ more.first;
       later = more.later;
@@ -92,10 +58,10 @@ nos : List Command → List ℕ
 nos [] = []
 nos (c ∷ commands) = no ++ nos commands
 
-refused_all : (ms : List Message) (marks : List Bool) (commands : List Command) → Replies ms marks commands (nos commands) marks
+refused_all : Written → (ms : List Message) (marks : List Bool) (commands : List Command) → Replies ms marks commands (nos commands) marks
 unfolding nos
-refused_all ms marks [] = (refl, refl)
-refused_all ms marks (c ∷ commands) = (no, nos commands, marks, refl, refused ms marks c no [] refl refl, refused_all ms marks commands)
+refused_all written ms marks [] = (refl, refl)
+refused_all written ms marks (c ∷ commands) = (no, nos commands, marks, refl, refused written ms marks c no [] refl refl, refused_all written ms marks commands)
 
 replies_on : (ms : List Message) (marks mid last : List Bool) (a b : List Command) (x y : List ℕ) → Replies ms marks a x mid → Replies ms mid b y last → Replies ms marks (a ++ b) (x ++ y) last
 replies_on ms marks mid last [] b x y first second =
@@ -113,17 +79,17 @@ closed_later state first later (inl still) = inl still
 closed_later state first later (inr (front, behind, split)) =
     inr (front, behind ++ later, ap (λ (l : List Command). l ++ later) split ∙ append_assoc front (Quit ∷ behind) later)
 
-pub gives_honest : StuffedIsBody → ReadAsWritten → {D : Type 0} (sound : D → Type 0) (mail : D → Mail) → GivesHonest sound mail
-gives_honest stuffed read sound mail old new commands part fresh serves asked line sent s served =
+pub gives_honest : Laws → OneLine → CommandsAreLines → {D : Type 0} (sound : D → Type 0) (mail : D → Mail) → GivesHonest sound mail
+gives_honest laws one are_lines sound mail old new commands part fresh serves asked line sent s served =
     let gained : serves.gained ≡ flat_map ended (lines_of commands) ++ part =
     ap (λ (l : List ℕ). l ++ serves.gained) (sym fresh.sent) ∙ sym serves.sent ∙ sent in
     let heard : flat_map ended serves.lines ++ new.waiting ≡ flat_map ended (lines_of commands) ++ part =
     sym serves.heard ∙ ap (λ (l : List ℕ). l ++ serves.gained) fresh.waiting ∙ gained in
-    let cut = cut_at serves.lines commands new.waiting part serves.each asked line heard in
+    let cut = cut_at one are_lines serves.lines commands new.waiting part serves.each asked line heard in
     let asked_all = subst (AllByRecursion IsAsked) cut.all asked in
     let run = subst (λ (ls : List (List ℕ)). AnswersLines sound mail old.machine ls (serves.more ++ serves.lost) serves.last) cut.lines_are serves.run in
     let sound_last = (serves.same.unanswered.messages s).0 in
-    let replied = answers_honestly stuffed read sound mail old.machine serves.last cut.first (serves.more ++ serves.lost) fresh.state
+    let replied = answers_honestly laws sound mail old.machine serves.last cut.first (serves.more ++ serves.lost) fresh.state
     (asked_front cut.first cut.later asked_all) run sound_last served in
     let start : old.link.got ++ old.left ≡ greeting ++ old.answers =
     ap (λ (l : List ℕ). l ++ old.left) fresh.got ∙ fresh.left ∙ sym (append-nil greeting) ∙ ap (λ (l : List ℕ). greeting ++ l) (sym fresh.answers) in
@@ -133,7 +99,7 @@ gives_honest stuffed read sound mail old new commands part fresh serves asked li
       record {
         status = Positive;
         hello = greeting;
-        greets = granted greeting (codes " popd ready") refl refl;
+        greets = granted laws.written greeting (codes " popd ready") refl refl;
         commands = cut.first ++ cut.later;
         asked = record {
           sendable = all_sendable (cut.first ++ cut.later) asked_all;
@@ -144,12 +110,12 @@ gives_honest stuffed read sound mail old new commands part fresh serves asked li
         };
         replies = (serves.more ++ serves.lost) ++ nos cut.later;
         replied = replies_on (there (mail old.machine.drop).slots) (no_marks (there (mail old.machine.drop).slots)) replied.0 replied.0 cut.first cut.later (serves.more ++ serves.lost) (nos cut.later) replied.1
-            (refused_all (there (mail old.machine.drop).slots) replied.0 cut.later);
+            (refused_all laws.written (there (mail old.machine.drop).slots) replied.0 cut.later);
         later = new.left ++ (serves.lost ++ nos cut.later);
         begins = shuffle greeting serves.more serves.lost (nos cut.later) new.link.got new.left told;
       },
       subst (λ (st : State). Gone (there (mail old.machine.drop).slots) replied.0 st (there (mail new.machine.drop).slots)) (sym serves.same.state)
           (subst (Gone (there (mail old.machine.drop).slots) replied.0 serves.last.state) (sym (serves.same.unanswered.messages s).1) replied.2),
       closed_later new.machine.state cut.first cut.later (subst (λ (st : State). IsClosedByQuit st cut.first) (sym serves.same.state)
-          (closed_by_quit read sound mail cut.first old.machine serves.last (serves.more ++ serves.lost) (ap is_open fresh.state) (asked_front cut.first cut.later asked_all) run)),
+          (closed_by_quit laws.read sound mail cut.first old.machine serves.last (serves.more ++ serves.lost) (ap is_open fresh.state) (asked_front cut.first cut.later asked_all) run)),
     )

@@ -1,7 +1,7 @@
 -- Each answer of the server to a command of a session is an honest reply, and so are all of them in order.
-use Rattle.std.proofs.Common.{◌≡◌, inl, inr, ◌<◌, ◌≤◌, ◌-◌, ◌*◌, ◌^◌, ℕ, Bool, true, false, cond, List, [], ◌∷◌, ◌++◌, map, length, refl, sym, ap, subst, ◌∙◌, arith, append_assoc, Option, Some, None, Result, Ok}
+use Rattle.std.proofs.Common.{◌≡◌, inl, inr, ◌<◌, ◌≤◌, ◌-◌, ◌*◌, ◌^◌, ℕ, Bool, true, false, cond, List, [], ◌∷◌, ◌++◌, map, length, refl, sym, ap, subst, ◌∙◌, arith, Option, Some, None, Result, Ok}
 use Rattle.std.specs.Prelude.{codes, not, slice_get, slice_set, bytes_eq, ◌&&◌}
-use Rattle.std.specs.List.{flat_map, AllByRecursion, count_by, list_all}
+use Rattle.std.specs.List.{flat_map, AllByRecursion, count_by}
 use Rattle.std.specs.Fmt.{decimal}
 use Rattle.std.proofs.lemmas.List.{append-nil}
 use Rattle.std.proofs.lemmas.List.Sums.{count_by-le-length}
@@ -9,16 +9,15 @@ use Rattle.pop3_wire.specs.declared.command.Command.{Command}
 use Rattle.pop3_wire.specs.declared.command.Command.TheVariants.{User, Pass, Stat, UidlAll, UidlOne, ListAll, ListOne, Retr, Dele, Rset, Noop, Top, Quit}
 use Rattle.pop3_wire.specs.declared.fault.WireFault.{WireFault}
 use Rattle.pop3_wire.specs.declared.reply.Status.TheVariants.{Positive}
-use Rattle.pop3_wire.specs.Line.{ended}
+use Rattle.pop3_wire.specs.Line.{ended, IsLine, HoldsNoLf}
 use Rattle.pop3_wire.specs.Body.{Body}
-use Rattle.pop3_wire.specs.Commands.{line_of, can_be_sent}
+use Rattle.pop3_wire.specs.Commands.{line_of, can_be_sent, octets_of}
 use Rattle.pop3_wire.specs.CommandLine.{HasNumbers, ReadAsWritten}
 use Rattle.mail_terms.specs.Text.{lines_of_text}
 use Rattle.pop3_wire.specs.Stuffed.{stuffed_lines, StuffedIsBody}
 use Rattle.pop3_wire.specs.World.{Message, IsMessage}
 use Rattle.pop3_wire.specs.Honest.{Says, SaysAnything, IsUnmarked, IsScanRow, IsUidRow, Grants, Reply, Replies, no_marks}
-use Rattle.pop3_wire.proofs.HonestRows.{scan_read, is_no_lf, no_lf_append, no_lf_decimal}
-use Rattle.pop3_wire.proofs.LineLemmas.{IsLine-nil}
+use Rattle.pop3_wire.specs.Rows.{scan_row}
 use Rattle.pop3_server.specs.declared.rows.MessageRow.{MessageRow}
 use Rattle.pop3_server.specs.declared.state.State.{State}
 use Rattle.pop3_server.specs.declared.state.State.TheVariants.{Authorization, Transaction, Closed}
@@ -27,7 +26,13 @@ use Rattle.pop3_server.specs.ServerMachine.{Machine, Deed, Say, Open, Give, Leav
 use Rattle.pop3_server.specs.AnswersLines.{AnswersLines}
 use Rattle.pop3_server.specs.HonestServer.{IsOfSession, IsAsked, lines_of, IsHonest, AreLeft, Gone}
 use Rattle.pop3_server.proofs.GoneLemmas.{there_some, none_gone, left_by_quit}
-use Rattle.pop3_server.proofs.HonestLemmas.{AreServed, are_served, row_with, rows_with, fresh_rows, fresh_length, cleared_rows, cleared_length, marked_rows, marked_length, found, served_at, text_at, counted_left, total_left, ok_says, granted, refused, scan_rows, uid_rows, lists_all}
+use Rattle.pop3_server.proofs.HonestLemmas.{Written, AreServed, are_served, row_with, rows_with, fresh_rows, fresh_length, cleared_rows, cleared_length, marked_rows, marked_length, found, served_at, text_at, counted_left, total_left, no_lf_append, no_lf_decimal, granted, refused, scan_rows, uid_rows, lists_all}
+
+-- what the laws of the wire say of what is written
+pub record Laws : Type 0 where
+  pub written : Written
+  pub stuffed : StuffedIsBody
+  pub read : ReadAsWritten
 
 -- where the server stands with these messages, when these are marked
 abbrev pub Stands : List Message → State → Mail → List Bool → Type 0
@@ -40,71 +45,71 @@ abbrev pub Replied : List Message → List Bool → Command → List ℕ → Sta
 Replied ms marks c answer next mail = (after : List Bool) × Reply ms marks c answer after × Stands ms next mail after
 
 -- a line that says no, and nothing changes
-says_no : {D : Type 0} (mail : D → Mail) (ms : List Message) (marks : List Bool) (c : Command) (old : D) (answer after : List ℕ) (state next : State) (new : D)
-    → (answer ≡ said (codes "-ERR" ++ after)) × (next ≡ state) × (new ≡ old) → list_all is_no_lf after ≡ true → Stands ms state (mail old) marks → Replied ms marks c answer next (mail new)
-says_no mail ms marks c old answer after state next new does none stands =
-    (marks, refused ms marks c answer after does.0 none, subst (λ (s : State). Stands ms s (mail new) marks) (sym does.1) (subst (λ d. Stands ms state (mail d) marks) (sym does.2) stands))
+says_no : Laws → {D : Type 0} (mail : D → Mail) (ms : List Message) (marks : List Bool) (c : Command) (old : D) (answer after : List ℕ) (state next : State) (new : D)
+    → (answer ≡ said (codes "-ERR" ++ after)) × (next ≡ state) × (new ≡ old) → HoldsNoLf after → Stands ms state (mail old) marks → Replied ms marks c answer next (mail new)
+says_no laws mail ms marks c old answer after state next new does none stands =
+    (marks, refused laws.written ms marks c answer after does.0 none, subst (λ (s : State). Stands ms s (mail new) marks) (sym does.1) (subst (λ d. Stands ms state (mail d) marks) (sym does.2) stands))
 
 -- a line that says yes, where that is all that is asked
-says_yes : {D : Type 0} (mail : D → Mail) (ms : List Message) (marks after_marks : List Bool) (c : Command) (old : D) (answer after : List ℕ) (state next : State) (new : D)
-    → (answer ≡ said (codes "+OK" ++ after)) × (next ≡ state) × (new ≡ old) → list_all is_no_lf after ≡ true
+says_yes : Laws → {D : Type 0} (mail : D → Mail) (ms : List Message) (marks after_marks : List Bool) (c : Command) (old : D) (answer after : List ℕ) (state next : State) (new : D)
+    → (answer ≡ said (codes "+OK" ++ after)) × (next ≡ state) × (new ≡ old) → HoldsNoLf after
     → (SaysAnything Positive answer → Grants ms marks c answer after_marks) → Stands ms state (mail old) after_marks → Replied ms marks c answer next (mail new)
-says_yes mail ms marks after_marks c old answer after state next new does none grants stands = (
+says_yes laws mail ms marks after_marks c old answer after state next new does none grants stands = (
   after_marks,
-  inr (grants (granted answer after does.0 none)),
+  inr (grants (granted laws.written answer after does.0 none)),
   subst (λ (s : State). Stands ms s (mail new) after_marks) (sym does.1) (subst (λ d. Stands ms state (mail d) after_marks) (sym does.2) stands),
 )
 
 -- ---- AUTHORIZATION
 
-opened : {D : Type 0} (sound : D → Type 0) (mail : D → Mail) (ms : List Message) (word : List ℕ) (old : D) (answer : List ℕ) (next : State) (new : D)
+opened : Laws → {D : Type 0} (sound : D → Type 0) (mail : D → Mail) (ms : List Message) (word : List ℕ) (old : D) (answer : List ℕ) (next : State) (new : D)
     → AllByRecursion IsMessage ms → there (mail old).slots ≡ ms → sound new → Opens sound mail old answer next new → Replied ms (no_marks ms) (Pass word) answer next (mail new)
-opened sound mail ms word old answer next new messages same s (inl (is, state, known)) =
+opened laws sound mail ms word old answer next new messages same s (inl (is, state, known)) =
     let drop = (known s).1 in (
       no_marks ms,
-      refused ms (no_marks ms) (Pass word) answer (codes " maildrop unavailable") is refl,
+      refused laws.written ms (no_marks ms) (Pass word) answer (codes " maildrop unavailable") is refl,
       subst (λ (st : State). Stands ms st (mail new) (no_marks ms)) (sym state) (ap (λ (m : Mail). there m.slots) drop ∙ same, refl),
     )
-opened sound mail ms word old answer next new messages same s (inr (rows, limits, is, state, known)) =
+opened laws sound mail ms word old answer next new messages same s (inr (rows, limits, is, state, known)) =
     let drop = (known s).1 in
     let same_rows : rows ≡ map row_of ms = drop.1 ∙ ap (map row_of) same in
     let few : length rows ≤ 100000 = limits.few in
-    let digits : list_all is_no_lf (decimal (length rows)) ≡ true = no_lf_decimal (length rows) (omega arith) in
-    let none : list_all is_no_lf ((32 ∷ decimal (length rows)) ++ codes " messages") ≡ true = no_lf_append (32 ∷ decimal (length rows)) (codes " messages") (no_lf_append (32 ∷ []) (decimal (length rows)) refl digits) refl in (
+    let digits : HoldsNoLf (decimal (length rows)) = no_lf_decimal laws.written (length rows) (omega arith) in
+    let none : HoldsNoLf ((32 ∷ decimal (length rows)) ++ codes " messages") = no_lf_append (32 ∷ decimal (length rows)) (codes " messages") (no_lf_append (32 ∷ []) (decimal (length rows)) refl digits) refl in (
       no_marks ms,
-      inr (granted answer ((32 ∷ decimal (length rows)) ++ codes " messages") is none, refl),
+      inr (granted laws.written answer ((32 ∷ decimal (length rows)) ++ codes " messages") is none, refl),
       subst (λ (st : State). Stands ms st (mail new) (no_marks ms)) (sym state)
           (ap (λ (m : Mail). m.slots) drop.0 ∙ ap (map Some) same, fresh_length ms, same_rows ∙ fresh_rows ms, are_served ms rows messages limits same_rows),
     )
 
-passed : {D : Type 0} (sound : D → Type 0) (mail : D → Mail) (ms : List Message) (word : List ℕ) (old : D) (answer : List ℕ) (next : State) (new : D)
+passed : Laws → {D : Type 0} (sound : D → Type 0) (mail : D → Mail) (ms : List Message) (word : List ℕ) (old : D) (answer : List ℕ) (next : State) (new : D)
     → AllByRecursion IsMessage ms → there (mail old).slots ≡ ms → sound new → (right : Bool)
     → Does sound mail (cond right Open (Say (said (codes "-ERR refused")) (Authorization None))) old answer next new → Replied ms (no_marks ms) (Pass word) answer next (mail new)
-passed sound mail ms word old answer next new messages same s true does = opened sound mail ms word old answer next new messages same s does
-passed sound mail ms word old answer next new messages same s false does =
-    says_no mail ms (no_marks ms) (Pass word) old answer (codes " refused") (Authorization None) next new does refl (same, refl)
+passed laws sound mail ms word old answer next new messages same s true does = opened laws sound mail ms word old answer next new messages same s does
+passed laws sound mail ms word old answer next new messages same s false does =
+    says_no laws mail ms (no_marks ms) (Pass word) old answer (codes " refused") (Authorization None) next new does refl (same, refl)
 
-in_auth : {D : Type 0} (sound : D → Type 0) (mail : D → Mail) (ms : List Message) (user pass : List ℕ) (kept : Option (List ℕ)) (c : Command) (old : D) (answer : List ℕ) (next : State) (new : D)
+in_auth : Laws → {D : Type 0} (sound : D → Type 0) (mail : D → Mail) (ms : List Message) (user pass : List ℕ) (kept : Option (List ℕ)) (c : Command) (old : D) (answer : List ℕ) (next : State) (new : D)
     → AllByRecursion IsMessage ms → there (mail old).slots ≡ ms → sound new → IsOfSession c → Does sound mail (in_authorization user pass kept c) old answer next new → Replied ms (no_marks ms) c answer next (mail new)
-in_auth sound mail ms user pass kept (User name) old answer next new messages same s asked does =
-    says_yes mail ms (no_marks ms) (no_marks ms) (User name) old answer (codes " send PASS") (Authorization (Some name)) next new does refl (λ says. (says, refl)) (same, refl)
-in_auth sound mail ms user pass None (Pass word) old answer next new messages same s asked does =
-    says_no mail ms (no_marks ms) (Pass word) old answer (codes " USER first") (Authorization None) next new does refl (same, refl)
-in_auth sound mail ms user pass (Some name) (Pass word) old answer next new messages same s asked does =
-    passed sound mail ms word old answer next new messages same s (bytes_eq name user && bytes_eq word pass) does
-in_auth sound mail ms user pass kept Quit old answer next new messages same s asked does =
-    says_yes mail ms (no_marks ms) (no_marks ms) Quit old answer (codes " bye") Closed next new does refl (λ says. (says, refl))
+in_auth laws sound mail ms user pass kept (User name) old answer next new messages same s asked does =
+    says_yes laws mail ms (no_marks ms) (no_marks ms) (User name) old answer (codes " send PASS") (Authorization (Some name)) next new does refl (λ says. (says, refl)) (same, refl)
+in_auth laws sound mail ms user pass None (Pass word) old answer next new messages same s asked does =
+    says_no laws mail ms (no_marks ms) (Pass word) old answer (codes " USER first") (Authorization None) next new does refl (same, refl)
+in_auth laws sound mail ms user pass (Some name) (Pass word) old answer next new messages same s asked does =
+    passed laws sound mail ms word old answer next new messages same s (bytes_eq name user && bytes_eq word pass) does
+in_auth laws sound mail ms user pass kept Quit old answer next new messages same s asked does =
+    says_yes laws mail ms (no_marks ms) (no_marks ms) Quit old answer (codes " bye") Closed next new does refl (λ says. (says, refl))
     (subst (AreLeft ms (no_marks ms)) (sym same) (none_gone ms (no_marks ms) (fresh_length ms)))
-in_auth sound mail ms user pass kept Stat old answer next new messages same s asked does = says_no mail ms (no_marks ms) Stat old answer (codes " not now") (Authorization kept) next new does refl (same, refl)
-in_auth sound mail ms user pass kept UidlAll old answer next new messages same s asked does = says_no mail ms (no_marks ms) UidlAll old answer (codes " not now") (Authorization kept) next new does refl (same, refl)
-in_auth sound mail ms user pass kept (UidlOne n) old answer next new messages same s asked does = absurd asked
-in_auth sound mail ms user pass kept ListAll old answer next new messages same s asked does = says_no mail ms (no_marks ms) ListAll old answer (codes " not now") (Authorization kept) next new does refl (same, refl)
-in_auth sound mail ms user pass kept (ListOne n) old answer next new messages same s asked does = absurd asked
-in_auth sound mail ms user pass kept (Retr n) old answer next new messages same s asked does = says_no mail ms (no_marks ms) (Retr n) old answer (codes " not now") (Authorization kept) next new does refl (same, refl)
-in_auth sound mail ms user pass kept (Dele n) old answer next new messages same s asked does = says_no mail ms (no_marks ms) (Dele n) old answer (codes " not now") (Authorization kept) next new does refl (same, refl)
-in_auth sound mail ms user pass kept Rset old answer next new messages same s asked does = says_no mail ms (no_marks ms) Rset old answer (codes " not now") (Authorization kept) next new does refl (same, refl)
-in_auth sound mail ms user pass kept Noop old answer next new messages same s asked does = says_no mail ms (no_marks ms) Noop old answer (codes " not now") (Authorization kept) next new does refl (same, refl)
-in_auth sound mail ms user pass kept (Top n k) old answer next new messages same s asked does = absurd asked
+in_auth laws sound mail ms user pass kept Stat old answer next new messages same s asked does = says_no laws mail ms (no_marks ms) Stat old answer (codes " not now") (Authorization kept) next new does refl (same, refl)
+in_auth laws sound mail ms user pass kept UidlAll old answer next new messages same s asked does = says_no laws mail ms (no_marks ms) UidlAll old answer (codes " not now") (Authorization kept) next new does refl (same, refl)
+in_auth laws sound mail ms user pass kept (UidlOne n) old answer next new messages same s asked does = absurd asked
+in_auth laws sound mail ms user pass kept ListAll old answer next new messages same s asked does = says_no laws mail ms (no_marks ms) ListAll old answer (codes " not now") (Authorization kept) next new does refl (same, refl)
+in_auth laws sound mail ms user pass kept (ListOne n) old answer next new messages same s asked does = absurd asked
+in_auth laws sound mail ms user pass kept (Retr n) old answer next new messages same s asked does = says_no laws mail ms (no_marks ms) (Retr n) old answer (codes " not now") (Authorization kept) next new does refl (same, refl)
+in_auth laws sound mail ms user pass kept (Dele n) old answer next new messages same s asked does = says_no laws mail ms (no_marks ms) (Dele n) old answer (codes " not now") (Authorization kept) next new does refl (same, refl)
+in_auth laws sound mail ms user pass kept Rset old answer next new messages same s asked does = says_no laws mail ms (no_marks ms) Rset old answer (codes " not now") (Authorization kept) next new does refl (same, refl)
+in_auth laws sound mail ms user pass kept Noop old answer next new messages same s asked does = says_no laws mail ms (no_marks ms) Noop old answer (codes " not now") (Authorization kept) next new does refl (same, refl)
+in_auth laws sound mail ms user pass kept (Top n k) old answer next new messages same s asked does = absurd asked
 
 -- ---- TRANSACTION
 
@@ -121,7 +126,7 @@ stands_in ms marks mail h = (h.0, h.1, refl, h.2)
 
 -- ---- lists of commands
 
-pub flat_lines : (commands : List Command) → flat_map ended (lines_of commands) ≡ flat_map (λ c. ended (line_of c)) commands
+pub flat_lines : (commands : List Command) → flat_map ended (lines_of commands) ≡ octets_of commands
 flat_lines [] = refl
 flat_lines (c ∷ commands) = ap (λ (l : List ℕ). ended (line_of c) ++ l) (flat_lines commands)
 
@@ -133,8 +138,7 @@ pub all_numbered : (commands : List Command) → AllByRecursion IsAsked commands
 all_numbered [] all = tt
 all_numbered (c ∷ commands) all = (all.0.numbers, all_numbered commands all.1)
 
--- by the laws that what is written is a body of the text, and that a command's line is read as the command
-module _ (stuffed : StuffedIsBody) (read : ReadAsWritten) where
+module _ (laws : Laws) where
   -- RETR of an unmarked message
   gave : {D : Type 0} (sound : D → Type 0) (mail : D → Mail) (ms : List Message) (marks : List Bool) (k : ℕ) (m : Message) (old : D) (answer : List ℕ) (next : State) (new : D)
       → AreServed ms → InRows ms marks (mail old) → sound new → IsUnmarked ms marks k m
@@ -143,7 +147,7 @@ module _ (stuffed : StuffedIsBody) (read : ReadAsWritten) where
   gave sound mail ms marks k m old answer next new served rows s at (state, inl (is, known)) =
       let drop = (known s).1 in (
         marks,
-        refused ms marks (Retr k) answer (codes " message unavailable") is refl,
+        refused laws.written ms marks (Retr k) answer (codes " message unavailable") is refl,
         subst (λ (st : State). Stands ms st (mail new) marks) (sym state) (ap (λ (x : Mail). x.slots) drop ∙ rows.0, rows.1, refl, rows.2),
       )
   gave sound mail ms marks k m old answer next new served rows s at (state, inr (text, is, known)) =
@@ -152,16 +156,16 @@ module _ (stuffed : StuffedIsBody) (read : ReadAsWritten) where
       let same : drop.1.0 ≡ m = text_at ms (k - 1) m drop.1.0 at.there (subst (λ (slots : List (Option Message)). slice_get slots (k - 1) ≡ Some (Some drop.1.0)) rows.0 drop.1.1) in
       let words : stuffed_lines (lines_of_text text) ≡ stuffed_lines (lines_of_text m.text) = drop.1.2 ∙ ap (λ (x : Message). stuffed_lines (lines_of_text x.text)) same in
       let size : m.size < 2 ^ 64 = (let w : m.size ≤ 134217728 = message.within in omega arith) in
-      let none : list_all is_no_lf ((32 ∷ decimal m.size) ++ codes " octets") ≡ true = no_lf_append (32 ∷ decimal m.size) (codes " octets") (no_lf_append (32 ∷ []) (decimal m.size) refl (no_lf_decimal m.size size)) refl in
+      let none : HoldsNoLf ((32 ∷ decimal m.size) ++ codes " octets") = no_lf_append (32 ∷ decimal m.size) (codes " octets") (no_lf_append (32 ∷ []) (decimal m.size) refl (no_lf_decimal laws.written m.size size)) refl in
       let body : Body (stuffed_lines (lines_of_text text)) m.text = subst (λ (b : List ℕ). Body b m.text) (sym words)
-      (subst (Body (stuffed_lines (lines_of_text m.text))) message.is_message.ended (stuffed m.text)) in (
+      (subst (Body (stuffed_lines (lines_of_text m.text))) message.is_message.ended (laws.stuffed m.text)) in (
         marks,
         inr (
           said (octets_line (row_with m false)),
           stuffed_lines (lines_of_text text),
           m,
           is,
-          granted (said (octets_line (row_with m false))) ((32 ∷ decimal m.size) ++ codes " octets") refl none,
+          granted laws.written (said (octets_line (row_with m false))) ((32 ∷ decimal m.size) ++ codes " octets") refl none,
           at,
           body,
           refl,
@@ -173,9 +177,9 @@ module _ (stuffed : StuffedIsBody) (read : ReadAsWritten) where
       → InRows ms marks (mail old) → sound new → (next ≡ Closed) × RemovesMarked sound mail (rows_with ms marks) old answer new → Replied ms marks Quit answer next (mail new)
   unfolding InRows
   left sound mail ms marks old answer next new rows s (state, (true, is, known)) =
-      (marks, inr (granted answer (codes " bye") is refl, refl), subst (λ (st : State). Stands ms st (mail new) marks) (sym state) (left_by_quit ms marks (mail old) (mail new) true rows.1 rows.0 (known s).1))
+      (marks, inr (granted laws.written answer (codes " bye") is refl, refl), subst (λ (st : State). Stands ms st (mail new) marks) (sym state) (left_by_quit ms marks (mail old) (mail new) true rows.1 rows.0 (known s).1))
   left sound mail ms marks old answer next new rows s (state, (false, is, known)) =
-      (marks, refused ms marks Quit answer (codes " some messages not removed") is refl, subst (λ (st : State). Stands ms st (mail new) marks) (sym state) (left_by_quit ms marks (mail old) (mail new) false rows.1 rows.0 (known s).1))
+      (marks, refused laws.written ms marks Quit answer (codes " some messages not removed") is refl, subst (λ (st : State). Stands ms st (mail new) marks) (sym state) (left_by_quit ms marks (mail old) (mail new) false rows.1 rows.0 (known s).1))
 
   abbrev counted_with : ℕ → ℕ → Result (ℕ × ℕ) WireFault
   counted_with total count = Ok (count, total)
@@ -194,19 +198,17 @@ module _ (stuffed : StuffedIsBody) (read : ReadAsWritten) where
       let total : left_total (rows_with ms marks) ≤ 134217728 * length ms = total_left ms marks served.served in
       let small : left_count (rows_with ms marks) ≤ 4294967295 = omega arith in
       let fits : left_total (rows_with ms marks) < 2 ^ 64 = omega arith in
-      let none : list_all is_no_lf ((32 ∷ decimal (left_count (rows_with ms marks))) ++ (32 ∷ decimal (left_total (rows_with ms marks)))) ≡ true =
-      no_lf_append (32 ∷ decimal (left_count (rows_with ms marks))) (32 ∷ decimal (left_total (rows_with ms marks)))
-      (no_lf_append (32 ∷ []) (decimal (left_count (rows_with ms marks))) refl (no_lf_decimal (left_count (rows_with ms marks)) (omega arith)))
-      (no_lf_append (32 ∷ []) (decimal (left_total (rows_with ms marks))) refl (no_lf_decimal (left_total (rows_with ms marks)) fits)) in
-      let line : answer ≡ said (codes "+OK" ++ ((32 ∷ decimal (left_count (rows_with ms marks))) ++ (32 ∷ decimal (left_total (rows_with ms marks))))) =
-      does.0 ∙ ap (λ (l : List ℕ). said (codes "+OK" ++ (32 ∷ l))) (append_assoc (decimal (left_count (rows_with ms marks))) (32 ∷ []) (decimal (left_total (rows_with ms marks)))) in (
+      let none : HoldsNoLf (32 ∷ scan_row (left_count (rows_with ms marks)) (left_total (rows_with ms marks))) =
+      no_lf_append (32 ∷ (decimal (left_count (rows_with ms marks)) ++ 32 ∷ [])) (decimal (left_total (rows_with ms marks)))
+      (no_lf_append (32 ∷ decimal (left_count (rows_with ms marks))) (32 ∷ []) (no_lf_decimal laws.written (left_count (rows_with ms marks)) (omega arith)) refl)
+      (no_lf_decimal laws.written (left_total (rows_with ms marks)) fits) in (
         marks,
         inr (
-          decimal (left_count (rows_with ms marks)) ++ (32 ∷ decimal (left_total (rows_with ms marks))),
+          scan_row (left_count (rows_with ms marks)) (left_total (rows_with ms marks)),
           left_total (rows_with ms marks),
-          subst (λ (b : List ℕ). Says Positive b (decimal (left_count (rows_with ms marks)) ++ (32 ∷ decimal (left_total (rows_with ms marks))))) (sym line)
-              (ok_says ((32 ∷ decimal (left_count (rows_with ms marks))) ++ (32 ∷ decimal (left_total (rows_with ms marks)))) none),
-          scan_read (left_count (rows_with ms marks)) (left_total (rows_with ms marks)) small fits ∙ ap (counted_with (left_total (rows_with ms marks))) count,
+          subst (λ (b : List ℕ). Says Positive b (scan_row (left_count (rows_with ms marks)) (left_total (rows_with ms marks)))) (sym does.0)
+              (laws.written.first Positive (32 ∷ scan_row (left_count (rows_with ms marks)) (left_total (rows_with ms marks))) none),
+          (laws.written.scan (left_count (rows_with ms marks)) (left_total (rows_with ms marks)) small (omega arith)).1 ∙ ap (counted_with (left_total (rows_with ms marks))) count,
           refl,
         ),
         subst (λ (st : State). Stands ms st (mail new) marks) (sym does.1) (subst (λ d. Stands ms (Transaction (rows_with ms marks)) (mail d) marks) (sym does.2) (stands_in ms marks (mail old) rows)),
@@ -218,7 +220,7 @@ module _ (stuffed : StuffedIsBody) (read : ReadAsWritten) where
       → Replied ms marks (Dele k) answer next (mail new)
   unfolding InRows
   marked sound mail ms marks k m old answer next new rows at does =
-      says_yes mail ms marks (slice_set marks (k - 1) true) (Dele k) old answer (codes " marked") (Transaction (mark_at (rows_with ms marks) (k - 1))) next new does refl
+      says_yes laws mail ms marks (slice_set marks (k - 1) true) (Dele k) old answer (codes " marked") (Transaction (mark_at (rows_with ms marks) (k - 1))) next new does refl
       (λ says. (m, says, at, refl)) (rows.0, marked_length marks (k - 1) ∙ rows.1, marked_rows ms marks (k - 1), rows.2)
 
   -- RSET
@@ -230,39 +232,39 @@ module _ (stuffed : StuffedIsBody) (read : ReadAsWritten) where
   in_trans : {D : Type 0} (sound : D → Type 0) (mail : D → Mail) (ms : List Message) (marks : List Bool) (c : Command) (old : D) (answer : List ℕ) (next : State) (new : D)
       → AreServed ms → InRows ms marks (mail old) → sound new → IsOfSession c → Does sound mail (in_transaction (rows_with ms marks) c) old answer next new → Replied ms marks c answer next (mail new)
   in_trans sound mail ms marks (User name) old answer next new served rows s asked does =
-      says_no mail ms marks (User name) old answer (codes " not now") (Transaction (rows_with ms marks)) next new does refl (stands_in ms marks (mail old) rows)
+      says_no laws mail ms marks (User name) old answer (codes " not now") (Transaction (rows_with ms marks)) next new does refl (stands_in ms marks (mail old) rows)
   in_trans sound mail ms marks (Pass word) old answer next new served rows s asked does =
-      says_no mail ms marks (Pass word) old answer (codes " not now") (Transaction (rows_with ms marks)) next new does refl (stands_in ms marks (mail old) rows)
+      says_no laws mail ms marks (Pass word) old answer (codes " not now") (Transaction (rows_with ms marks)) next new does refl (stands_in ms marks (mail old) rows)
   in_trans sound mail ms marks Stat old answer next new served rows s asked does = stated sound mail ms marks old answer next new served rows does
   in_trans sound mail ms marks UidlAll old answer next new served rows s asked does = (
     marks,
-    inr (lists_all uid_line IsUidRow uid_rows ms marks answer served does.0),
+    inr (lists_all laws.written uid_line IsUidRow (uid_rows laws.written) ms marks answer served does.0),
     subst (λ (st : State). Stands ms st (mail new) marks) (sym does.1) (subst (λ d. Stands ms (Transaction (rows_with ms marks)) (mail d) marks) (sym does.2) (stands_in ms marks (mail old) rows)),
   )
   in_trans sound mail ms marks (UidlOne n) old answer next new served rows s asked does = absurd asked
   in_trans sound mail ms marks ListAll old answer next new served rows s asked does = (
     marks,
-    inr (lists_all scan_line IsScanRow scan_rows ms marks answer served does.0),
+    inr (lists_all laws.written scan_line IsScanRow (scan_rows laws.written) ms marks answer served does.0),
     subst (λ (st : State). Stands ms st (mail new) marks) (sym does.1) (subst (λ d. Stands ms (Transaction (rows_with ms marks)) (mail d) marks) (sym does.2) (stands_in ms marks (mail old) rows)),
   )
   in_trans sound mail ms marks (ListOne n) old answer next new served rows s asked does = absurd asked
   in_trans sound mail ms marks (Retr k) old answer next new served rows s asked does = elim (found ms marks k) [
-    | inl none ↦ says_no mail ms marks (Retr k) old answer (codes " no such message") (Transaction (rows_with ms marks)) next new
+    | inl none ↦ says_no laws mail ms marks (Retr k) old answer (codes " no such message") (Transaction (rows_with ms marks)) next new
         (subst (λ (r : Option MessageRow). Does sound mail (give (rows_with ms marks) k r octets_line None) old answer next new) none does) refl (stands_in ms marks (mail old) rows)
     | inr some ↦ gave sound mail ms marks k some.0 old answer next new served rows s some.2
         (subst (λ (r : Option MessageRow). Does sound mail (give (rows_with ms marks) k r octets_line None) old answer next new) some.1 does)
   ]
   in_trans sound mail ms marks (Dele k) old answer next new served rows s asked does = elim (found ms marks k) [
-    | inl none ↦ says_no mail ms marks (Dele k) old answer (codes " no such message") (Transaction (rows_with ms marks)) next new
+    | inl none ↦ says_no laws mail ms marks (Dele k) old answer (codes " no such message") (Transaction (rows_with ms marks)) next new
         (subst (λ (r : Option MessageRow). Does sound mail (dele (rows_with ms marks) k r) old answer next new) none does) refl (stands_in ms marks (mail old) rows)
     | inr some ↦ marked sound mail ms marks k some.0 old answer next new rows some.2
         (subst (λ (r : Option MessageRow). Does sound mail (dele (rows_with ms marks) k r) old answer next new) some.1 does)
   ]
   in_trans sound mail ms marks Rset old answer next new served rows s asked does =
-      says_yes mail ms marks (map (λ _. false) marks) Rset old answer [] (Transaction (map unmarked (rows_with ms marks))) next new does refl (λ says. (says, refl))
+      says_yes laws mail ms marks (map (λ _. false) marks) Rset old answer [] (Transaction (map unmarked (rows_with ms marks))) next new does refl (λ says. (says, refl))
       (cleared sound mail ms marks old rows)
   in_trans sound mail ms marks Noop old answer next new served rows s asked does =
-      says_yes mail ms marks marks Noop old answer [] (Transaction (rows_with ms marks)) next new does refl (λ says. (says, refl)) (stands_in ms marks (mail old) rows)
+      says_yes laws mail ms marks marks Noop old answer [] (Transaction (rows_with ms marks)) next new does refl (λ says. (says, refl)) (stands_in ms marks (mail old) rows)
   in_trans sound mail ms marks (Top n k) old answer next new served rows s asked does = absurd asked
   in_trans sound mail ms marks Quit old answer next new served rows s asked does = left sound mail ms marks old answer next new rows s does
 
@@ -271,7 +273,7 @@ module _ (stuffed : StuffedIsBody) (read : ReadAsWritten) where
   replied : {D : Type 0} (sound : D → Type 0) (mail : D → Mail) (ms : List Message) (marks : List Bool) (user pass : List ℕ) (state : State) (c : Command) (old : D) (answer : List ℕ) (next : State) (new : D)
       → AllByRecursion IsMessage ms → is_open state ≡ true → Stands ms state (mail old) marks → sound new → IsOfSession c → Does sound mail (deed user pass state (Ok c)) old answer next new → Replied ms marks c answer next (mail new)
   replied sound mail ms marks user pass (Authorization kept) c old answer next new messages opened stands s asked does =
-      subst (λ (bs : List Bool). Replied ms bs c answer next (mail new)) (sym stands.1) (in_auth sound mail ms user pass kept c old answer next new messages stands.0 s asked does)
+      subst (λ (bs : List Bool). Replied ms bs c answer next (mail new)) (sym stands.1) (in_auth laws sound mail ms user pass kept c old answer next new messages stands.0 s asked does)
   replied sound mail ms marks user pass (Transaction rows) c old answer next new messages opened stands s asked does =
       in_trans sound mail ms marks c old answer next new stands.3 (made_rows ms marks (mail old) stands.0 stands.1 stands.3) s asked
       (subst (λ (rs : List MessageRow). Does sound mail (in_transaction rs c) old answer next new) stands.2 does)
@@ -297,7 +299,7 @@ module _ (stuffed : StuffedIsBody) (read : ReadAsWritten) where
       (marks, (run.0, refl), subst (λ (m : Machine _). Stands ms m.state (mail m.drop) marks) (sym run.1) stands)
   all_replied sound mail ms marks (c ∷ commands) old new answers messages asked (first, rest, next, is, turn, run) s stands =
       let sound_next = run_sound sound mail next new (lines_of commands) rest run s in
-      let does = subst (λ (r : Result Command WireFault). Does sound mail (deed old.user old.pass old.state r) old.drop first next.state next.drop) (read c asked.0.numbers asked.0.sendable) turn.answers.does in
+      let does = subst (λ (r : Result Command WireFault). Does sound mail (deed old.user old.pass old.state r) old.drop first next.state next.drop) (laws.read c asked.0.numbers asked.0.sendable) turn.answers.does in
       let one = replied sound mail ms marks old.user old.pass old.state c old.drop first next.state next.drop messages turn.was_open stands sound_next asked.0.of_session does in
       let more = all_replied sound mail ms one.0 commands next new rest messages asked.1 run s one.2 in
       (more.0, (first, rest, one.0, is, one.1, more.1), more.2)
@@ -331,9 +333,9 @@ module _ (stuffed : StuffedIsBody) (read : ReadAsWritten) where
         record {
           status = Positive;
           hello = greeting;
-          greets = granted greeting (codes " popd ready") refl refl;
+          greets = granted laws.written greeting (codes " popd ready") refl refl;
           commands = commands;
-          asked = record { sendable = all_sendable commands asked; numbers = all_numbered commands asked; part = []; no_line = IsLine-nil; whole = flat_lines commands ∙ sym (append-nil (flat_map (λ c. ended (line_of c)) commands)) };
+          asked = record { sendable = all_sendable commands asked; numbers = all_numbered commands asked; part = []; no_line = nothing; whole = flat_lines commands ∙ sym (append-nil (octets_of commands)) };
           replies = answers;
           replied = all.1;
           later = [];
@@ -341,3 +343,7 @@ module _ (stuffed : StuffedIsBody) (read : ReadAsWritten) where
         },
         all.2,
       )
+    where
+      nothing : IsLine []
+      nothing [] rest e = cc
+      nothing (b ∷ front) rest e = cc

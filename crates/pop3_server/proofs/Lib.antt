@@ -1,20 +1,20 @@
-pub mod DigestLemmas
-pub mod DistinctLemmas
-pub mod GoneLemmas
-pub mod HonestLemmas
-pub mod CloseLemmas
-pub mod HonestLoopLemmas
-pub mod HonestTurns
-pub mod LeaveLemmas
-pub mod LoopLemmas
-pub mod MaildirLemmas
-pub mod OpenLemmas
-pub mod RemovalLemmas
-pub mod ReplyLemmas
-pub mod RowLemmas
-pub mod ServeIntakeLemmas
-pub mod ServeLemmas
-pub mod SizeLemmas
-pub mod SlotLemmas
-pub mod TextPartLemmas
-pub mod TextPieceLemmas
+mod CloseLemmas
+mod DigestLemmas
+mod DistinctLemmas
+mod GoneLemmas
+mod HonestLemmas
+mod HonestLoopLemmas
+mod HonestTurns
+mod LeaveLemmas
+mod LoopLemmas
+mod MaildirLemmas
+mod OpenLemmas
+mod RemovalLemmas
+mod ReplyLemmas
+mod RowLemmas
+mod ServeIntakeLemmas
+mod ServeLemmas
+mod SizeLemmas
+mod SlotLemmas
+mod TextPartLemmas
+mod TextPieceLemmas

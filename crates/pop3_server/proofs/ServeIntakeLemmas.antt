@@ -4,10 +4,16 @@ use Rattle.std.proofs.lemmas.List.{take_all, append-nil, length-drop}
 use Rattle.pop3_wire.specs.Line.{crlf, IsLine, ended}
 use Rattle.pop3_wire.specs.Link.{Link}
 use Rattle.pop3_wire.specs.Place.{HasLine, HasNoLine}
-use Rattle.pop3_wire.proofs.LineLemmas.{IsLine-front, IsLine-back}
 use Rattle.pop3_server.specs.Got.{Waiting}
 use Rattle.pop3_server.specs.Serving.{Queues}
 use Rattle.pop3_wire.specs.Bodies.{Drew}
+
+-- the parts of a line are lines
+IsLine-front : (a b : List ℕ) → IsLine (a ++ b) → IsLine a
+IsLine-front a b line front rest e = line front (rest ++ b) (ap (λ l. l ++ b) e ∙ append_assoc front (crlf ++ rest) b)
+
+IsLine-back : (a b : List ℕ) → IsLine (a ++ b) → IsLine b
+IsLine-back a b line front rest e = line (a ++ front) rest (ap (λ l. a ++ l) e ∙ sym (append_assoc a front (crlf ++ rest)))
 
 -- two pieces that share an octet are a line if both are
 no_split : (part back : List ℕ) (b : ℕ) → IsLine (part ++ b ∷ []) → IsLine (b ∷ back) → (front rest : List ℕ) → part ++ b ∷ back ≡ front ++ (crlf ++ rest) → ⊥

@@ -7,6 +7,7 @@ use Rattle.pop3_wire.specs.declared.command.Command.TheVariants.{User, Pass, Sta
 use Rattle.pop3_wire.specs.declared.fault.WireFault.{WireFault}
 use Rattle.pop3_wire.specs.Line.{crlf, ended}
 use Rattle.pop3_wire.specs.Body.{dot}
+use Rattle.pop3_wire.specs.Rows.{scan_row, uid_row}
 use Rattle.mail_terms.specs.Text.{lines_of_text}
 use Rattle.pop3_wire.specs.Stuffed.{stuffed_lines}
 use Rattle.mail_terms.specs.FailureCount.{counted_up}
@@ -76,10 +77,10 @@ greeting = said (codes "+OK popd ready")
 
 -- a message's line in a listing, behind its number
 abbrev pub scan_line : ℕ → MessageRow → List ℕ
-scan_line k row = decimal k ++ codes " " ++ decimal row.entry.size
+scan_line k row = scan_row k row.entry.size
 
 abbrev pub uid_line : ℕ → MessageRow → List ℕ
-uid_line k row = decimal k ++ codes " " ++ row.entry.uid
+uid_line k row = uid_row k row.entry.uid
 
 -- the lines of the rows that aren't marked, numbered from k on
 abbrev pub lines_from : (ℕ → MessageRow → List ℕ) → ℕ → List MessageRow → List ℕ

@@ -3,7 +3,10 @@ ghost use Rattle.pop3_server.specs.HonestServer.{IsHonest};
 ghost use Rattle.pop3_server.specs.HonestLoop.{GivesHonest};
 
 use crate::maildrop::Maildrop;
-use pop3_wire::{read_as_written, stuffed_is_body};
+use pop3_wire::{
+    commands_are_lines, only_one_line, read_as_written, replies_are_read_as_written,
+    stuffed_is_body,
+};
 
 /// A new server's greeting and its answers to any commands that a session sends, one after another,
 /// are an honest conversation over the messages of its maildrop; while the server is open all of
@@ -13,6 +16,7 @@ pub fn conversations_are_honest<D: Maildrop>()
 {
     stuffed_is_body();
     read_as_written();
+    replies_are_read_as_written();
 }
 
 /// The same of a [`LoopWire`](crate::LoopWire) to a new server, for whole commands of a session and
@@ -23,4 +27,7 @@ pub fn loops_are_honest<D: Maildrop>()
 {
     stuffed_is_body();
     read_as_written();
+    replies_are_read_as_written();
+    only_one_line();
+    commands_are_lines();
 }

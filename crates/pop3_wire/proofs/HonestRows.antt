@@ -1,21 +1,23 @@
 -- Rows of listings as a server writes them are read as they were meant, and no line break stands in them.
-use Rattle.std.proofs.Common.{ℕ, ◌^◌, ◌<◌, ◌≤◌, ◌≡◌, true, List, [], ◌∷◌, ◌++◌, length, refl, sym, ap, arith, Ok}
-use Rattle.std.specs.Prelude.{not, ◌&&◌, ◌==◌, Bool}
+use Rattle.std.proofs.Common.{ℕ, ◌^◌, ◌<◌, ◌≤◌, ◌≡◌, ◌≢◌, ◌∙◌, true, List, [], ◌∷◌, ◌++◌, length, refl, sym, ap, subst, append_assoc, arith, Ok, ne_eqb}
+use Rattle.std.specs.Prelude.{◌&&◌, Bool, codes}
 use Rattle.std.specs.List.{list_all}
 use Rattle.std.specs.Fmt.{decimal}
 use Rattle.std.specs.Char.{is_ascii_digit}
-use Rattle.std.proofs.lemmas.Bool.{and_parts, and_from, le-leb, lt-ltb}
+use Rattle.std.proofs.lemmas.Bool.{and_parts, and_from, cond-false, le-leb, lt-ltb}
 use Rattle.std.proofs.lemmas.Bool.Decides.{nat_tests}
 use Rattle.std.proofs.lemmas.Fmt.{decimal_is_IsNumeral, length-decimal-le, decimal_nonempty}
 use Rattle.std.proofs.lemmas.List.{append-nil}
-use Rattle.pop3_wire.specs.Line.{crlf, IsLine}
+use Rattle.pop3_wire.specs.Line.{crlf, IsLine, is_no_lf}
+use Rattle.pop3_wire.specs.Body.{unstuffed}
+use Rattle.pop3_wire.specs.declared.reply.Status.TheVariants.{Positive, Negative}
+use Rattle.pop3_wire.specs.Honest.{FirstLinesAreRead}
 use Rattle.pop3_wire.specs.Fields.{number_and_size, number_and_id}
-use Rattle.pop3_wire.specs.Rows.{StandsFor, HasNumber}
+use Rattle.pop3_wire.specs.Rows.{StandsFor, HasNumber, NumbersAreRead, scan_row, uid_row, IsSentAsIs, ScanRowsAreRead, UidRowsAreRead}
 use Rattle.mail_terms.specs.Numeral.{greatest_number, greatest_size}
 use Rattle.mail_terms.specs.UniqueId.{is_id_byte, is_legal_id}
 use Rattle.pop3_wire.proofs.CommandRoundTrip.{digits_of_decimal}
-use Rattle.pop3_wire.proofs.RowsLemmas.{bytes_of, scan_form_read, uid_form_read}
-pub use Rattle.pop3_wire.proofs.RowsLemmas.{all_pass}
+use Rattle.pop3_wire.proofs.RowsLemmas.{all_pass, bytes_of, scan_form_read, uid_form_read}
 
 -- bytes with a first one that passes
 starts : (test : ℕ → Bool) (ds : List ℕ) → 0 < length ds → list_all test ds ≡ true → (d : ℕ) × (rest : List ℕ) × (ds ≡ d ∷ rest) × (test d ≡ true)
@@ -46,7 +48,7 @@ numbered k row rest few same = record {
 }
 
 -- the row of LIST, and the rest of STAT's first line
-pub scan_read : (k size : ℕ) → k ≤ 4294967295 → size < 2 ^ 64 → number_and_size (decimal k ++ 32 ∷ decimal size) ≡ Ok (k, size)
+scan_read : (k size : ℕ) → k ≤ 4294967295 → size < 2 ^ 64 → number_and_size (decimal k ++ 32 ∷ decimal size) ≡ Ok (k, size)
 scan_read k size few fits = scan_form_read (decimal k ++ 32 ∷ decimal size) k size (record {
   digits = decimal size;
   behind = [];
@@ -56,7 +58,7 @@ scan_read k size few fits = scan_form_read (decimal k ++ 32 ∷ decimal size) k 
 })
 
 -- the row of UIDL
-pub uid_read : (k : ℕ) (uid : List ℕ) → k ≤ 4294967295 → is_legal_id uid ≡ true → number_and_id (decimal k ++ 32 ∷ uid) ≡ Ok (k, uid)
+uid_read : (k : ℕ) (uid : List ℕ) → k ≤ 4294967295 → is_legal_id uid ≡ true → number_and_id (decimal k ++ 32 ∷ uid) ≡ Ok (k, uid)
 uid_read k uid few legal = uid_form_read (decimal k ++ 32 ∷ uid) k uid (record {
   behind = [];
   front = numbered k uid (uid ++ []) few (sym (append-nil uid));
@@ -65,9 +67,6 @@ uid_read k uid few legal = uid_form_read (decimal k ++ 32 ∷ uid) k uid (record
 })
 
 -- ---- no line break stands in these
-
-abbrev pub is_no_lf : ℕ → Bool
-is_no_lf byte = not (byte == 10)
 
 pub line_without_lf : (line : List ℕ) → list_all is_no_lf line ≡ true → IsLine line
 line_without_lf [] e [] rest h = cc
@@ -90,9 +89,55 @@ no_lf_append (x ∷ xs) ys a b =
 pub no_lf_decimal : (n : ℕ) → n < 2 ^ 64 → list_all is_no_lf (decimal n) ≡ true
 no_lf_decimal n fits = all_pass is_ascii_digit is_no_lf (λ d e. grind (arith, nat_tests)) (decimal n) (digits_of_decimal n fits)
 
-pub no_lf_id : (uid : List ℕ) → is_legal_id uid ≡ true → list_all is_no_lf uid ≡ true
+no_lf_id : (uid : List ℕ) → is_legal_id uid ≡ true → list_all is_no_lf uid ≡ true
 no_lf_id uid legal = all_pass is_id_byte is_no_lf (λ d e. grind (arith, nat_tests)) uid (bytes_of uid legal).1
 
 -- a row begins with a digit, so that it is no end mark and has no full stop to be dropped
-pub digit_first : (n : ℕ) → n < 2 ^ 64 → (d : ℕ) × (ds : List ℕ) × (decimal n ≡ d ∷ ds) × (is_ascii_digit d ≡ true)
+digit_first : (n : ℕ) → n < 2 ^ 64 → (d : ℕ) × (ds : List ℕ) × (decimal n ≡ d ∷ ds) × (is_ascii_digit d ≡ true)
 digit_first n fits = starts is_ascii_digit (decimal n) (decimal_nonempty n fits) (digits_of_decimal n fits)
+
+digit_content : (k : ℕ) (rest : List ℕ) → k < 2 ^ 64 → list_all is_no_lf rest ≡ true → IsSentAsIs (decimal k ++ rest)
+digit_content k rest fits none =
+    let first = digit_first k fits in
+    let begin : decimal k ++ rest ≡ first.0 ∷ (first.1 ++ rest) = ap (λ (l : List ℕ). l ++ rest) first.2 in
+    let other : first.0 ≢ 46 = (λ (e : first.0 ≡ 46). digit_no_stop first.0 first.3 e) in (
+      (line_without_lf (decimal k ++ rest) (no_lf_append (decimal k) rest (no_lf_decimal k fits) none), λ e. other (first_same first.0 46 (first.1 ++ rest) [] (sym begin ∙ e))),
+      ap unstuffed begin ∙ cond-false _ _ _ (ne_eqb first.0 46 other) ∙ sym begin,
+    )
+  where
+    digit_no_stop : (d : ℕ) → is_ascii_digit d ≡ true → d ≡ 46 → ⊥
+    digit_no_stop d e is = grind (arith, nat_tests)
+
+    first_same : (a b : ℕ) (x y : List ℕ) → a ∷ x ≡ b ∷ y → a ≡ b
+    first_same a b x y e = cc
+
+-- ---- what is written is read
+
+pub numbers_are_read : NumbersAreRead
+numbers_are_read limit number within fits = written limit number (omega arith) within
+
+pub scan_rows_are_read : ScanRowsAreRead
+scan_rows_are_read number size few fits =
+    let none : list_all is_no_lf (32 ∷ decimal size) ≡ true = no_lf_append (32 ∷ []) (decimal size) refl (no_lf_decimal size (omega arith)) in
+    let same : scan_row number size ≡ decimal number ++ 32 ∷ decimal size = append_assoc (decimal number) (32 ∷ []) (decimal size) in
+    (subst IsSentAsIs (sym same) (digit_content number (32 ∷ decimal size) (omega arith) none), ap number_and_size same ∙ scan_read number size few (omega arith))
+
+pub uid_rows_are_read : UidRowsAreRead
+uid_rows_are_read number uid few legal =
+    let none : list_all is_no_lf (32 ∷ uid) ≡ true = no_lf_append (32 ∷ []) uid refl (no_lf_id uid legal) in
+    let same : uid_row number uid ≡ decimal number ++ 32 ∷ uid = append_assoc (decimal number) (32 ∷ []) uid in
+    (subst IsSentAsIs (sym same) (digit_content number (32 ∷ uid) (omega arith) none), ap number_and_id same ∙ uid_read number uid few legal)
+
+pub first_lines_are_read : FirstLinesAreRead
+first_lines_are_read Positive after none = record {
+  line = codes "+OK" ++ after;
+  is_line = line_without_lf (codes "+OK" ++ after) none;
+  first = (after, refl, refl);
+  whole = refl;
+}
+first_lines_are_read Negative after none = record {
+  line = codes "-ERR" ++ after;
+  is_line = line_without_lf (codes "-ERR" ++ after) none;
+  first = (after, refl, refl);
+  whole = refl;
+}

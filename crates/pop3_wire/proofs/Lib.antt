@@ -1,14 +1,15 @@
 mod BeginningLemmas
 mod BodiesLemmas
-pub mod BodyLemmas
+mod BodyLemmas
 mod CommandLineLemmas
-pub mod CommandRoundTrip
+mod CommandRoundTrip
 mod FieldsLemmas
-pub mod HonestRows
-pub mod LineLemmas
+mod HonestRows
+mod LineLemmas
 mod LineReaderLemmas
 mod ReadingLemmas
 mod RowsLemmas
 mod ScriptLemmas
+mod SentLemmas
 mod StuffLemmas
 mod UnstuffingLemmas

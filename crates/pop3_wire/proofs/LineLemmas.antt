@@ -3,7 +3,7 @@ use Rattle.std.proofs.Common.{◌≡◌, ◌⊎◌, inl, inr, ℕ, ◌+◌, ◌�
 use Rattle.std.proofs.Math.Seq.{drop-append_seam}
 use Rattle.memchr.specs.Find.{OccursAt, Nowhere, NoneBefore}
 use Rattle.memchr.proofs.lemmas.MatchLemmas.{OccursAt-split, OccursAt-from_part}
-use Rattle.pop3_wire.specs.Line.{crlf, IsLine}
+use Rattle.pop3_wire.specs.Line.{crlf, IsLine, OneLine}
 
 -- a list is empty, or has a last element
 pub last_split : (xs : List ℕ) → (xs ≡ []) ⊎ ((ys : List ℕ) × (y : ℕ) × (xs ≡ ys ++ y ∷ []))
@@ -82,3 +82,7 @@ first_line_same (c ∷ a) (d ∷ b) x y la lb e =
     let heads = same_cons c d (a ++ (crlf ++ x)) (b ++ (crlf ++ y)) e in
     let rest = first_line_same a b x y (IsLine-back (c ∷ []) a la) (IsLine-back (d ∷ []) b lb) heads.1 in
     (cons_same c d a b heads.0 rest.0, rest.1)
+
+pub one_line : OneLine
+one_line line other rest more is is' e =
+    first_line_same line other rest more is is' (sym (append_assoc line crlf rest) ∙ e ∙ append_assoc other crlf more)

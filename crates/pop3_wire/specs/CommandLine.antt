@@ -9,6 +9,7 @@ use Rattle.pop3_wire.specs.declared.command.Command.TheVariants.{User, Pass, Sta
 use Rattle.pop3_wire.specs.declared.keyword.Keyword.{Keyword}
 use Rattle.pop3_wire.specs.declared.keyword.Keyword.TheVariants as keyword
 use Rattle.mail_terms.specs.Credential.{is_credential}
+use Rattle.pop3_wire.specs.Line.{IsLine}
 use Rattle.pop3_wire.specs.Commands.{can_be_sent, line_of}
 use Rattle.pop3_wire.specs.Fields.{◌>>=◌, is_space, number}
 use Rattle.mail_terms.specs.Numeral.{greatest_number}
@@ -152,3 +153,7 @@ HasNumbers _ = Unit {0}
 -- the line that asks for a command is read as that command
 abbrev pub ReadAsWritten : Type 0
 ReadAsWritten = (c : Command) → HasNumbers c → can_be_sent c ≡ true → command_of (line_of c) ≡ Ok c
+
+-- what asks for a command is one line
+abbrev pub CommandsAreLines : Type 0
+CommandsAreLines = (c : Command) → HasNumbers c → can_be_sent c ≡ true → IsLine (line_of c)

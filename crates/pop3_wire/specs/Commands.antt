@@ -1,7 +1,9 @@
 -- The lines of commands (RFC 1939, sections 3 and 5 to 7).
 use Rattle.std.specs.Prelude.{ℕ, Bool, true, List, ◌++◌, codes}
 use Rattle.std.specs.Fmt.{decimal}
+use Rattle.std.specs.List.{flat_map}
 use Rattle.mail_terms.specs.Credential.{is_credential}
+use Rattle.pop3_wire.specs.Line.{ended}
 use Rattle.pop3_wire.specs.declared.command.Command.{Command}
 use Rattle.pop3_wire.specs.declared.command.Command.TheVariants.{User, Pass, Stat, UidlAll, UidlOne, ListAll, ListOne, Retr, Dele, Rset, Noop, Top, Quit}
 
@@ -26,3 +28,7 @@ line_of Rset = codes "RSET"
 line_of Noop = codes "NOOP"
 line_of (Top number lines) = codes "TOP " ++ decimal number ++ codes " " ++ decimal lines
 line_of Quit = codes "QUIT"
+
+-- the octets of these commands, each on one line
+abbrev pub octets_of : List Command → List ℕ
+octets_of commands = flat_map (λ command. ended (line_of command)) commands

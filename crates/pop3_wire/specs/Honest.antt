@@ -1,16 +1,16 @@
 -- What a server may answer to the commands of a session, and whole conversations (RFC 1939, sections 3 to 7).
 use Rattle.std.specs.Prelude.{◌≡◌, ◌⊎◌, ◌<◌, ◌-◌, ◌+◌, ℕ, Bool, true, false, not, List, [], ◌∷◌, ◌++◌, map, Some, Ok, slice_get, slice_set, if◌then◌else◌}
-use Rattle.std.specs.List.{flat_map, count_by, AllZip, AllByRecursion}
+use Rattle.std.specs.List.{count_by, AllZip, AllByRecursion}
 use Rattle.std.specs.List.Sorted.{IsPermutation}
 use Rattle.pop3_wire.specs.declared.command.Command.{Command}
 use Rattle.pop3_wire.specs.declared.command.Command.TheVariants.{User, Pass, Stat, UidlAll, UidlOne, ListAll, ListOne, Retr, Dele, Rset, Noop, Top, Quit}
 use Rattle.pop3_wire.specs.declared.reply.Status.{Status}
 use Rattle.pop3_wire.specs.declared.reply.Status.TheVariants.{Positive, Negative}
-use Rattle.pop3_wire.specs.Line.{IsLine, ended}
+use Rattle.pop3_wire.specs.Line.{IsLine, ended, HoldsNoLf}
 use Rattle.pop3_wire.specs.Body.{IsContent, unstuffed, body_of, Body}
-use Rattle.pop3_wire.specs.Reply.{IsFirstLine}
+use Rattle.pop3_wire.specs.Reply.{IsFirstLine, indicator, without_space}
 use Rattle.pop3_wire.specs.Fields.{number_and_size, number_and_id}
-use Rattle.pop3_wire.specs.Commands.{line_of, can_be_sent}
+use Rattle.pop3_wire.specs.Commands.{line_of, can_be_sent, octets_of}
 use Rattle.pop3_wire.specs.CommandLine.{HasNumbers}
 use Rattle.pop3_wire.specs.World.{Message}
 
@@ -20,6 +20,10 @@ pub record Says (status : Status) (bytes rest : List ℕ) : Type 0 where
   pub is_line : IsLine line
   pub first : IsFirstLine line status rest
   pub whole : bytes ≡ ended line
+
+-- a status and what is written behind it, without LF, are read as that status and what follows the space between the two
+abbrev pub FirstLinesAreRead : Type 0
+FirstLinesAreRead = (status : Status) (after : List ℕ) → HoldsNoLf after → Says status (ended (indicator status ++ after)) (without_space after)
 
 -- a first line of this status, whatever its rest
 abbrev pub SaysAnything : Status → List ℕ → Type 0
@@ -38,7 +42,8 @@ unmarked_from number (message ∷ messages) [] = []
 unmarked_from number (message ∷ messages) (mark ∷ marks) =
     if mark then unmarked_from (number + 1) messages marks else (number, message) ∷ unmarked_from (number + 1) messages marks
 
--- the row of LIST, and that of UIDL, for a message and its number
+-- the row tells of this message under this number, in LIST and in UIDL; a client's `IsScanLine` and `IsUidLine` say of a
+-- line, dot-stuffed as it came, which row it stands for
 abbrev pub IsScanRow : ℕ × Message → List ℕ → Type 0
 IsScanRow numbered row = number_and_size row ≡ Ok (numbered.0, numbered.1.size)
 
@@ -98,7 +103,22 @@ pub record Asked (commands : List Command) (sent : List ℕ) : Type 0 where
   pub numbers : AllByRecursion HasNumbers commands
   pub part : List ℕ
   pub no_line : IsLine part
-  pub whole : sent ≡ flat_map (λ command. ended (line_of command)) commands ++ part
+  pub whole : sent ≡ octets_of commands ++ part
+
+-- what was sent tells which commands were sent whole
+abbrev pub OneListOfCommands : Type 0
+OneListOfCommands = (commands others : List Command) (sent : List ℕ) → Asked commands sent → Asked others sent → commands ≡ others
+
+-- the octets begin the line of the first of these commands, and are none where there is no command
+abbrev pub BeginsNext : List Command → List ℕ → Type 0
+BeginsNext [] part = part ≡ []
+BeginsNext (command ∷ commands) part = (unsent : List ℕ) × (ended (line_of command) ≡ part ++ unsent)
+
+-- octets that begin those of some commands are the first of these commands whole, and perhaps a part of the next
+abbrev pub FrontsAreAsked : Type 0
+FrontsAreAsked = (commands : List Command) (front rest : List ℕ) → AllByRecursion (λ command. can_be_sent command ≡ true) commands
+    → AllByRecursion HasNumbers commands → octets_of commands ≡ front ++ rest
+    → (whole later : List Command) × (commands ≡ whole ++ later) × (asked : Asked whole front) × BeginsNext later asked.part
 
 -- what was got begins a greeting and one reply to each command that was sent whole; these are marked then
 pub record Honest (messages : List Message) (sent got : List ℕ) (marks : List Bool) : Type 0 where

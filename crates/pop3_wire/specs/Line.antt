@@ -1,5 +1,6 @@
 -- Lines of the protocol: a line ends at the pair CR LF and nowhere else (RFC 1939, section 3).
-use Rattle.std.specs.Prelude.{◌≡◌, ℕ, List, [], ◌∷◌, ◌++◌}
+use Rattle.std.specs.Prelude.{◌≡◌, ◌==◌, ℕ, Bool, not, List, [], ◌∷◌, ◌++◌, IsTrue}
+use Rattle.std.specs.List.{list_all}
 
 -- CR LF
 abbrev pub crlf : List ℕ
@@ -12,3 +13,15 @@ IsLine line = (front rest : List ℕ) → line ≡ front ++ (crlf ++ rest) → �
 -- a line with the CR LF that ends it
 abbrev pub ended : List ℕ → List ℕ
 ended line = line ++ crlf
+
+-- bytes begin with one ended line at most
+abbrev pub OneLine : Type 0
+OneLine = (line other rest more : List ℕ) → IsLine line → IsLine other → ended line ++ rest ≡ ended other ++ more
+    → (line ≡ other) × (rest ≡ more)
+
+abbrev pub is_no_lf : ℕ → Bool
+is_no_lf byte = not (byte == 10)
+
+-- no LF stands in it, so that it is a line
+abbrev pub HoldsNoLf : List ℕ → Type 0
+HoldsNoLf bytes = IsTrue (list_all is_no_lf bytes)

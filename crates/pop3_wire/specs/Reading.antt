@@ -1,9 +1,12 @@
 -- Replies as a client reads them: a first line, and behind a positive one the body that its command asks for (RFC 1939, section 3).
-use Rattle.std.specs.Prelude.{◌≡◌, ◌⊎◌, ℕ, Bool, true, false, List, [], ◌++◌, Option, None, Some}
+use Rattle.std.specs.Prelude.{◌≡◌, ◌⊎◌, ℕ, Bool, true, false, List, [], ◌++◌, Option, None, Some, Ok}
 use Rattle.std.specs.List.{flat_map, AllByRecursion, AllZip}
 use Rattle.pop3_wire.specs.Line.{IsLine, ended}
-use Rattle.pop3_wire.specs.Body.{IsContent, body_of}
+use Rattle.pop3_wire.specs.Body.{IsContent, body_of, unstuffed}
+use Rattle.pop3_wire.specs.Fields.{number_and_size, number_and_id}
 use Rattle.pop3_wire.specs.Reply.{IsFirstLine}
+use Rattle.mail_terms.specs.declared.listing.UidRow.{UidRow}
+use Rattle.mail_terms.specs.declared.listing.ScanRow.{ScanRow}
 use Rattle.pop3_wire.specs.declared.reply.Status.TheVariants.{Positive, Negative}
 use Rattle.pop3_wire.specs.declared.command.Command.{Command}
 use Rattle.pop3_wire.specs.declared.command.Command.TheVariants.{UidlAll, ListAll, Retr, Top}
@@ -57,3 +60,14 @@ OneReading = (asked : List (Option Command)) (replies others : List WholeReply) 
 abbrev pub OneListOfLines : Type 0
 OneListOfLines = (lines others : List (List ℕ)) (rest more : List ℕ) → AllByRecursion IsContent lines → AllByRecursion IsContent others
     → body_of lines ++ rest ≡ body_of others ++ more → (lines ≡ others) × (rest ≡ more)
+
+-- the row that a line of UIDL's body stands for, and that of LIST's
+abbrev pub IsUidLine : List ℕ → UidRow → Type 0
+IsUidLine line row = number_and_id (unstuffed line) ≡ Ok (row.number, row.uid.items)
+
+abbrev pub IsScanLine : List ℕ → ScanRow → Type 0
+IsScanLine line row = number_and_size (unstuffed line) ≡ Ok (row.number, row.size)
+
+-- the lines of a reply's body stand for these rows
+abbrev pub HasListing : {R : Type 0} → (List ℕ → R → Type 0) → WholeReply → List R → Type 0
+HasListing IsThisRow reply rows = (lines : List (List ℕ)) × (reply.body ≡ Some lines) × AllZip IsThisRow lines rows

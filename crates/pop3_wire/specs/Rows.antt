@@ -1,10 +1,12 @@
 -- The forms of a row of LIST, of STAT's rest, and of a row of UIDL (RFC 1939, sections 5 and 7).
-use Rattle.std.specs.Prelude.{◌≡◌, ◌≢◌, ◌≤◌, ◌↔◌, false, ℕ, List, [], ◌∷◌, ◌++◌, IsTrue, Ok}
+use Rattle.std.specs.Prelude.{◌≡◌, ◌≢◌, ◌≤◌, ◌↔◌, false, ℕ, List, [], ◌∷◌, ◌++◌, codes, IsTrue, Ok}
+use Rattle.std.specs.Fmt.{decimal}
 use Rattle.std.specs.List.{list_all}
 use Rattle.std.specs.Char.{is_ascii_digit}
 use Rattle.std.specs.Str.Parse.{digits_value}
 use Rattle.mail_terms.specs.Numeral.{is_numeral, greatest_number, greatest_size}
 use Rattle.mail_terms.specs.UniqueId.{IsLegalId}
+use Rattle.pop3_wire.specs.Body.{IsContent, unstuffed}
 use Rattle.pop3_wire.specs.Fields.{is_space, number_and_size, number_and_id}
 
 -- nothing but spaces
@@ -49,3 +51,27 @@ ScanRowsHaveForm = (line : List ℕ) (number size : ℕ) → (number_and_size li
 
 abbrev pub UidRowsHaveForm : Type 0
 UidRowsHaveForm = (line : List ℕ) (number : ℕ) (uid : List ℕ) → (number_and_id line ≡ Ok (number, uid)) ↔ HasUidForm line number uid
+
+-- a number, as it is written, stands for that number
+abbrev pub NumbersAreRead : Type 0
+NumbersAreRead = (limit number : ℕ) → number ≤ limit → number ≤ greatest_size → StandsFor limit (decimal number) number
+
+-- the row of LIST, and STAT's rest, as it is written, and the row of UIDL
+abbrev pub scan_row : ℕ → ℕ → List ℕ
+scan_row number size = decimal number ++ codes " " ++ decimal size
+
+abbrev pub uid_row : ℕ → List ℕ → List ℕ
+uid_row number uid = decimal number ++ codes " " ++ uid
+
+-- a line of a body that stands there as it is: it has no full stop to be doubled or dropped
+abbrev pub IsSentAsIs : List ℕ → Type 0
+IsSentAsIs line = IsContent line × (unstuffed line ≡ line)
+
+-- a row that is written is such a line, and is read as it was meant
+abbrev pub ScanRowsAreRead : Type 0
+ScanRowsAreRead = (number size : ℕ) → number ≤ greatest_number → size ≤ greatest_size
+    → IsSentAsIs (scan_row number size) × (number_and_size (scan_row number size) ≡ Ok (number, size))
+
+abbrev pub UidRowsAreRead : Type 0
+UidRowsAreRead = (number : ℕ) (uid : List ℕ) → number ≤ greatest_number → IsLegalId uid
+    → IsSentAsIs (uid_row number uid) × (number_and_id (uid_row number uid) ≡ Ok (number, uid))

@@ -3,7 +3,8 @@
 ghost use Rattle.std.specs.Prelude.{◌≡◌, ◌⊎◌, [], ◌∷◌, Ok, Err, IfOk, IfErr, IsOk, MatchOption};
 ghost use Rattle.std.specs.List.{before_first, after_first, slice_split};
 ghost use Rattle.pop3_wire.specs.Fields.{is_space};
-ghost use Rattle.pop3_wire.specs.CommandLine.{trimmed, arguments, rest_of, text_argument, argument_number, no_argument, one_number, number_or_none, two_numbers, command_by, command_of, CarriesBytes, ReadAsWritten};
+ghost use Rattle.pop3_wire.specs.CommandLine.{trimmed, arguments, rest_of, text_argument, argument_number, no_argument, one_number, number_or_none, two_numbers, command_by, command_of, CarriesBytes, ReadAsWritten, CommandsAreLines};
+ghost use Rattle.pop3_wire.specs.Honest.{OneListOfCommands, FrontsAreAsked};
 
 use crate::command::Command;
 use crate::fault::WireFault;
@@ -201,4 +202,20 @@ pub fn read_command(alloc: Global, line: &[u8]) -> Result<Command, WireFault>
 /// The line that asks for a command is read as that command, whatever it is.
 pub fn read_as_written()
     ensures { ReadAsWritten }
+{}
+
+/// What asks for a command that can be sent is one line.
+pub fn commands_are_lines()
+    ensures { CommandsAreLines }
+{}
+
+/// What was sent tells which commands were sent whole.
+pub fn only_one_list_of_commands()
+    ensures { OneListOfCommands }
+{}
+
+/// Octets that begin those of some commands are the first of these whole, and perhaps a part of the
+/// next.
+pub fn fronts_are_asked()
+    ensures { FrontsAreAsked }
 {}

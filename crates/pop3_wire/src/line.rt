@@ -1,6 +1,6 @@
 //! Lines, which end at the pair CR LF and nowhere else (RFC 1939, section 3).
 ghost use Rattle.std.specs.Prelude.{◌≡◌, ◌++◌, IfSome, IfNone};
-ghost use Rattle.pop3_wire.specs.Line.{crlf, IsLine};
+ghost use Rattle.pop3_wire.specs.Line.{crlf, IsLine, OneLine};
 
 use memchr::memmem;
 
@@ -12,3 +12,8 @@ pub fn cut_line(bytes: &[u8]) -> Option<(&[u8], &[u8])>
     let length = memmem::find(bytes, b"\r\n")?;
     Some((&bytes[..length], &bytes[length + 2..]))
 }
+
+/// Bytes begin with one ended line at most.
+pub fn only_one_line()
+    ensures { OneLine }
+{}

@@ -1,7 +1,9 @@
 //! First lines of replies (RFC 1939, section 3).
 ghost use Rattle.std.specs.Prelude.{◌≡◌, ℕ, List, IfOk, IfErr};
+ghost use Rattle.pop3_wire.specs.Honest.{FirstLinesAreRead};
 ghost use Rattle.pop3_wire.specs.Reading.{OneReading, OneListOfLines};
 ghost use Rattle.pop3_wire.specs.Reply.{IsFirstLine, without_space};
+ghost use Rattle.pop3_wire.specs.Rows.{NumbersAreRead, ScanRowsAreRead, UidRowsAreRead};
 
 use crate::fault::WireFault;
 
@@ -49,4 +51,13 @@ pub fn only_one_reading()
 /// The octets of a body are cut into its lines in one way only.
 pub fn only_one_list_of_lines()
     ensures { OneListOfLines }
+{}
+
+/// What a server writes is read as it was meant: a status and what stands behind it; a number; a row
+/// of LIST, which is STAT's rest too; and a row of UIDL. The rows stand in a body as they are.
+pub fn replies_are_read_as_written()
+    ensures first { FirstLinesAreRead }
+    ensures numbers { NumbersAreRead }
+    ensures scan { ScanRowsAreRead }
+    ensures uid { UidRowsAreRead }
 {}

@@ -5,6 +5,7 @@ use Rattle.std.specs.List.{AllByRecursion, filter}
 use Rattle.std.proofs.lemmas.List.{length-map}
 use Rattle.pop3_wire.specs.World.{Message}
 use Rattle.mail_terms.specs.Listing.{Item}
+use Rattle.fetch_rules.specs.Wanted.{DistinctAreFiltered}
 use Rattle.rc_file.specs.declared.settings.Settings.{Settings}
 use Rattle.run_law.specs.Mails.{has_id, listing_of}
 use Rattle.run_law.specs.Accounts.{Account}
@@ -17,7 +18,7 @@ are_texts : (drop : List Message) (qs : List (ℕ × Message)) → AllByRecursio
 are_texts drop [] h = tt
 are_texts drop (q ∷ qs) h = ((q.1, h.0, refl), are_texts drop qs h.1)
 
-module _ (frame : Frame) (is : IsFrame frame) (before : Situation) (settings : Settings) (come now : ℕ) (same : settings.max_size ≡ frame.max_size) where
+module _ (filtered : DistinctAreFiltered) (frame : Frame) (is : IsFrame frame) (before : Situation) (settings : Settings) (come now : ℕ) (same : settings.max_size ≡ frame.max_size) where
   abbrev drop : List Message
   drop = filter (λ (m : Message). not (has_id before.gone m.uid)) (take come frame.all)
 
@@ -35,7 +36,7 @@ module _ (frame : Frame) (is : IsFrame frame) (before : Situation) (settings : S
   wanted' = wanted_at settings frame.account before.account effect
 
   is_wanted : wanted' ≡ map num_item qs
-  is_wanted = wanted_are settings (merged_rows frame.account before.account bare) drop
+  is_wanted = wanted_are filtered settings (merged_rows frame.account before.account bare) drop
       (distinct_filter (λ (m : Message). not (has_id before.gone m.uid)) (take come frame.all) (distinct_take come frame.all (distinct_is frame.all is.world.distinct)))
 
   abbrev after : Account
@@ -79,5 +80,5 @@ module _ (frame : Frame) (is : IsFrame frame) (before : Situation) (settings : S
     refl,
   )
 
-pub can_end : CanEnd
-can_end frame before settings come now is same = an_ending frame is before settings come now same
+pub can_end : DistinctAreFiltered → CanEnd
+can_end filtered frame before settings come now is same = an_ending filtered frame is before settings come now same

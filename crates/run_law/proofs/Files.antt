@@ -7,13 +7,12 @@ use Rattle.mail_terms.specs.UniqueId.{is_legal_id}
 use Rattle.pop3_wire.specs.World.{Message}
 use Rattle.mail_store.specs.Maildir.{Maildir, File, file}
 use Rattle.mail_terms.specs.MaildirName.{base, is_colon}
-use Rattle.mail_store.specs.FileName.{name_of, names_id, is_held, IsAccountText}
-use Rattle.mail_store.proofs.NameLemmas.{base-name_of, name_of-injective}
+use Rattle.mail_store.specs.FileName.{NamesAreBases, NamesDiffer, name_of, names_id, is_held, IsAccountText}
 use Rattle.run_law.specs.Mails.{has_id, ids_of, texts_of}
 use Rattle.std.proofs.lemmas.List.Elements.{filter-append}
 use Rattle.run_law.specs.Accounts.{Account, files, copies, TakesOut, Renames, Moves, count_files, IsOther, KeepsOthers}
 use Rattle.run_law.proofs.Lists.{any-append, any_filter, any_swap, is_some, swap}
-use Rattle.run_law.proofs.Ids.{bytes_same, bytes_self, legal_is, has_texts}
+use Rattle.run_law.proofs.Ids.{bytes_same, bytes_self, has_texts}
 
 -- ---- held
 
@@ -49,22 +48,22 @@ copies-append (f ∷ fs) gs name = by (bytes_eq name (base f.name)) (copies-appe
 abbrev pub message_file : List ℕ → Message → File
 message_file account m = file (name_of account m.uid) m.text
 
-pub same_name : (account a b : List ℕ) → IsAccountText account → is_legal_id a ≡ true → is_legal_id b ≡ true
+pub same_name : NamesDiffer → NamesAreBases → (account a b : List ℕ) → IsAccountText account → is_legal_id a ≡ true → is_legal_id b ≡ true
     → bytes_eq (name_of account a) (base (name_of account b)) ≡ bytes_eq a b
-same_name account a b text la lb =
-    ap (bytes_eq (name_of account a)) (base-name_of account b text)
+same_name differ bases account a b text la lb =
+    ap (bytes_eq (name_of account a)) (bases account b text)
     ∙ elim (cases_Bool (bytes_eq a b)) [
       | inl same ↦ ap (λ x. bytes_eq (name_of account a) (name_of account x)) (sym (bytes_same a b same)) ∙ bytes_self (name_of account a) ∙ sym same
       | inr other ↦ false_from_ne_true _ (λ t. both_ways (bytes_eq a b) other
-          (ap (bytes_eq a) (sym (name_of-injective legal_is account a b la lb (bytes_same _ _ t))) ∙ bytes_self a)) ∙ sym other
+          (ap (bytes_eq a) (sym (differ account a b la lb (bytes_same _ _ t))) ∙ bytes_self a)) ∙ sym other
     ]
 
-pub copies_messages : (account : List ℕ) (ms : List Message) (id : List ℕ) → IsAccountText account → is_legal_id id ≡ true
+pub copies_messages : NamesDiffer → NamesAreBases → (account : List ℕ) (ms : List Message) (id : List ℕ) → IsAccountText account → is_legal_id id ≡ true
     → AllByRecursion (λ (m : Message). is_legal_id m.uid ≡ true) ms → copies (map (message_file account) ms) (name_of account id) ≡ texts_of ms id
-copies_messages account [] id text l h = refl
-copies_messages account (m ∷ ms) id text l h =
-    ap (λ b. map (λ (g : File). g.content) (cond b (message_file account m ∷ rest) rest)) (same_name account id m.uid text l h.0)
-    ∙ by (bytes_eq id m.uid) (copies_messages account ms id text l h.1)
+copies_messages differ bases account [] id text l h = refl
+copies_messages differ bases account (m ∷ ms) id text l h =
+    ap (λ b. map (λ (g : File). g.content) (cond b (message_file account m ∷ rest) rest)) (same_name differ bases account id m.uid text l h.0)
+    ∙ by (bytes_eq id m.uid) (copies_messages differ bases account ms id text l h.1)
   where
     rest : List File
     rest = filter (λ (g : File). bytes_eq (name_of account id) (base g.name)) (map (message_file account) ms)
@@ -223,19 +222,19 @@ moves_keep account before after o name content other =
         let f : count_files (o.old ∷ []) name content ≡ count_files (o.new ∷ []) name content = count_same o.old o.new name content o.base_same o.content_same in
         omega arith
 
-none_counted : (account : List ℕ) (ms : List Message) (name content : List ℕ) → IsAccountText account → IsOther account name
+none_counted : NamesAreBases → (account : List ℕ) (ms : List Message) (name content : List ℕ) → IsAccountText account → IsOther account name
     → AllByRecursion (λ (m : Message). is_legal_id m.uid ≡ true) ms → count_files (map (message_file account) ms) name content ≡ 0
-none_counted account [] name content text other h = refl
-none_counted account (m ∷ ms) name content text other h =
+none_counted bases account [] name content text other h = refl
+none_counted bases account (m ∷ ms) name content text other h =
     ap (λ b. length (cond (b && bytes_eq content m.text) (message_file account m ∷ filter (is_counted name content) (map (message_file account) ms)) (filter (is_counted name content) (map (message_file account) ms))))
-    (ap (bytes_eq name) (base-name_of account m.uid text) ∙ other m.uid h.0)
-    ∙ none_counted account ms name content text other h.1
+    (ap (bytes_eq name) (bases account m.uid text) ∙ other m.uid h.0)
+    ∙ none_counted bases account ms name content text other h.1
 
-pub deliveries_keep : (account : List ℕ) (before after : Account) (ms : List Message) → IsAccountText account
+pub deliveries_keep : NamesAreBases → (account : List ℕ) (before after : Account) (ms : List Message) → IsAccountText account
     → AllByRecursion (λ (m : Message). is_legal_id m.uid ≡ true) ms → files after ≡ files before ++ map (message_file account) ms → KeepsOthers account before after
-deliveries_keep account before after ms text h is name content other =
+deliveries_keep bases account before after ms text h is name content other =
     let a : count_files (files before ++ map (message_file account) ms) name content ≡ count_files (files before) name content + count_files (map (message_file account) ms) name content =
     count-append (files before) (map (message_file account) ms) name content in
-    let b : count_files (map (message_file account) ms) name content ≡ 0 = none_counted account ms name content text other h in
+    let b : count_files (map (message_file account) ms) name content ≡ 0 = none_counted bases account ms name content text other h in
     let c : count_files (files after) name content ≡ count_files (files before ++ map (message_file account) ms) name content = ap (λ fs. count_files fs name content) is in
     omega arith

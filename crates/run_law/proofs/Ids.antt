@@ -1,15 +1,12 @@
 -- Ids of messages, and what a filter or a front keeps of them.
 use Rattle.std.proofs.Common.{◌≡◌, ◌≤◌, inl, inr, ℕ, zero, suc, List, [], ◌∷◌, ◌++◌, Bool, true, false, cond, ◌&&◌, ◌||◌, length, take, map, refl, sym, ◌∙◌, ap, subst, arith}
 use Rattle.std.specs.Prelude.{bytes_eq, Contains}
-use Rattle.std.specs.List.{filter, list_all, AllByRecursion}
-use Rattle.std.proofs.lemmas.Bool.{and_parts, both_ways, or_parts, or_cases, or_from, cases_Bool, false_from_ne_true, leb-true, ltb-true}
+use Rattle.std.specs.List.{filter, AllByRecursion}
+use Rattle.std.proofs.lemmas.Bool.{both_ways, or_parts, or_cases, or_from, cases_Bool, false_from_ne_true}
 use Rattle.std.proofs.lemmas.Slice.Eq.{bytes_eq-Decides}
 use Rattle.std.proofs.lemmas.List.Folds.{Any-from_list_any}
-use Rattle.std.proofs.lemmas.List.Sums.{AllPass-from_list_all}
-use Rattle.mail_terms.specs.UniqueId.{is_id_byte}
 use Rattle.mail_terms.specs.Distinct.{AreDistinct}
 use Rattle.pop3_wire.specs.World.{Message}
-use Rattle.mail_terms.specs.UniqueId.{IsLegalId, HasIdRanges}
 use Rattle.run_law.specs.Mails.{has_id, ids_of, texts_of}
 use Rattle.run_law.proofs.Lists.{filter-map, any-map, any_filter, is_some}
 
@@ -24,19 +21,6 @@ bytes_swap a b = elim (cases_Bool (bytes_eq a b)) [
   | inl t ↦ t ∙ sym ((bytes_eq-Decides b a).1 (sym (bytes_same a b t)))
   | inr f ↦ f ∙ sym (false_from_ne_true _ (λ t. both_ways (bytes_eq a b) f ((bytes_eq-Decides a b).1 (sym (bytes_same b a t)))))
 ]
-
--- the length of a legal id, and its characters
-pub legal_is : (id : List ℕ) → IsLegalId id → HasIdRanges id
-legal_is id h =
-    let outer = and_parts _ (list_all is_id_byte id) h in
-    let inner = and_parts _ _ outer.0 in
-    let some : 1 ≤ length id = let l = ltb-true 0 (length id) inner.0 in omega (arith, l) in
-    let short : length id ≤ 70 = leb-true (length id) 70 inner.1 in
-    record {
-      some = some;
-      short = short;
-      characters = λ k d lt. let parts = and_parts _ _ (AllPass-from_list_all is_id_byte id outer.1 k d lt) in (leb-true 33 _ parts.0, leb-true _ 126 parts.1);
-    }
 
 -- ---- is an id among these
 
@@ -104,21 +88,6 @@ all_ids_at P (x ∷ xs) id h e = elim (or_cases (bytes_eq id x) (has_id xs id) e
   | inl same ↦ subst P (sym (bytes_same id x same)) h.0
   | inr more ↦ all_ids_at P xs id h.1 more
 ]
-
--- each message's id is among them
-pub each_in : (ms : List Message) → AllByRecursion (λ (m : Message). has_id (ids_of ms) m.uid ≡ true) ms
-each_in ms = go ms (λ id e. e)
-  where
-    go : (l : List Message) → ((id : List ℕ) → has_id (ids_of l) id ≡ true → has_id (ids_of ms) id ≡ true) → AllByRecursion (λ (m : Message). has_id (ids_of ms) m.uid ≡ true) l
-    go [] f = tt
-    go (m ∷ l) f = (
-      f m.uid (ap (λ b. b || has_id (ids_of l) m.uid) (bytes_self m.uid)),
-      go l (λ id e. f id (ap (λ b. bytes_eq id m.uid || b) e ∙ by (bytes_eq id m.uid))),
-    )
-      where
-        by : (b : Bool) → (b || true) ≡ true
-        by true = refl
-        by false = refl
 
 -- ---- distinct ids
 

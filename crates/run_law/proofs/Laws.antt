@@ -11,6 +11,7 @@ use Rattle.run_law.specs.Mails.{has_id, ids_of, is_selected, selected, texts_of}
 use Rattle.run_law.specs.Accounts.{Account, files, copies, count_files}
 use Rattle.run_law.specs.Steps.{Leaves}
 use Rattle.run_law.specs.Runs.{Frame, IsFrame, Situation, Visit, Event, Visited, Moved, Visits, Run, Kept, after_event, Promises, KeptStaysKept, KeptHoldsExactly}
+use Rattle.run_law.proofs.Below.{Below}
 use Rattle.run_law.proofs.Ids.{Distinct, distinct_is, distinct_filter, lone}
 use Rattle.run_law.proofs.Files.{held_done, one_moves, OneMoves, copies_after, moves_keep}
 use Rattle.run_law.proofs.VisitKept.{visit_kept, deletes_held, keeps_others, leaves_out}
@@ -75,32 +76,32 @@ moved_kept frame before after is kept o = record {
 
 -- ---- one event
 
-visited : (frame : Frame) (before : Situation) (v : Visit) → IsFrame frame → Kept frame before → Visits frame before v
+visited : Below → (frame : Frame) (before : Situation) (v : Visit) → IsFrame frame → Kept frame before → Visits frame before v
     → Kept frame (after_event before (Visited v)) × Promises frame before (Visited v)
-visited frame before v is kept h = elim h.step [
+visited laws frame before v is kept h = elim h.step [
   | inl left ↦ (left_kept frame before v kept left h.vanished, left_promises frame before v left)
   | inr (stores, honest) ↦ (
-    visit_kept frame is before v kept h.same stores honest h.vanished,
+    visit_kept laws frame is before v kept h.same stores honest h.vanished,
     (
-      leaves_out frame is before v kept h.same stores honest,
-      deletes_held frame is before v kept h.same stores honest,
-      keeps_others frame is before v kept h.same stores honest,
+      leaves_out laws frame is before v kept h.same stores honest,
+      deletes_held laws frame is before v kept h.same stores honest,
+      keeps_others laws frame is before v kept h.same stores honest,
     ),
   )
 ]
 
-pub happened : (frame : Frame) (before : Situation) (event : Event) → IsFrame frame → Kept frame before → Run frame before (event ∷ [])
+happened : Below → (frame : Frame) (before : Situation) (event : Event) → IsFrame frame → Kept frame before → Run frame before (event ∷ [])
     → Kept frame (after_event before event) × Promises frame before event
-happened frame before (Visited v) is kept h = visited frame before v is kept h.0
-happened frame before (Moved after) is kept h =
+happened laws frame before (Visited v) is kept h = visited laws frame before v is kept h.0
+happened laws frame before (Moved after) is kept h =
     let o = one_moves before.account after h.0 in
     (moved_kept frame before after is kept o, moves_keep frame.account before.account after o)
 
-pub kept_states : KeptStaysKept
-kept_states frame start [] is kept run = (kept, tt)
-kept_states frame start (event ∷ events) is kept run =
-    let one = happened frame start event is kept (run.0, tt) in
-    let more = kept_states frame (after_event start event) events is one.0 run.1 in
+pub kept_states : Below → KeptStaysKept
+kept_states laws frame start [] is kept run = (kept, tt)
+kept_states laws frame start (event ∷ events) is kept run =
+    let one = happened laws frame start event is kept (run.0, tt) in
+    let more = kept_states laws frame (after_event start event) events is one.0 run.1 in
     (more.0, (one.1, one.0, more.1))
 
 -- ---- the headline's words

@@ -1,20 +1,18 @@
-pub mod Lists
-pub mod Ids
-pub mod Records
-pub mod Files
-pub mod Wants
-pub mod Bridge
-pub mod VisitKept
-pub mod Laws
-pub mod Sent
-pub mod Replied
-pub mod Listed
-pub mod Linked
-pub mod Ends
-pub mod DistinctLemmas
-pub mod Next
-pub mod Planned
-pub mod Chained
-pub mod Tells
-pub mod Fronts
-pub mod Safety
+mod Below
+mod Bridge
+mod Chained
+mod Ends
+mod Files
+mod Ids
+mod Laws
+mod Linked
+mod Listed
+mod Lists
+mod Next
+mod Planned
+mod Records
+mod Replied
+mod Safety
+mod Tells
+mod VisitKept
+mod Wants

@@ -5,19 +5,15 @@ use Rattle.std.proofs.lemmas.Bool.{both_ways}
 use Rattle.pop3_wire.specs.declared.command.Command.{Command}
 use Rattle.pop3_wire.specs.declared.command.Command.TheVariants.{User, Pass, Stat, UidlAll, UidlOne, ListAll, ListOne, Retr, Dele, Rset, Noop, Top, Quit}
 use Rattle.pop3_wire.specs.World.{Message, maildrop_of}
-use Rattle.pop3_wire.specs.Honest.{Grants, Replies, no_marks}
+use Rattle.pop3_wire.specs.Honest.{Grants, Replies, no_marks, OneListOfCommands}
 use Rattle.mail_terms.specs.Listing.{Item}
 use Rattle.rc_file.specs.declared.settings.Settings.{Settings}
 use Rattle.run_law.specs.Mails.{has_id, item_of, listing_of}
 use Rattle.run_law.specs.Accounts.{Account}
 use Rattle.run_law.specs.Steps.{Effect, IsHonest, AreTexts, wanted_at}
-use Rattle.run_law.specs.Readings.{AreGranted, IsNumbered, MarksAreAsked}
-use Rattle.run_law.specs.Runs.{Frame, Situation, Visit, Visited, Moved, Visits}
-use Rattle.run_law.specs.Sessions.{IsBegun, Reads, Session, IsMarked, Served, Link, Linked, Shifted, after_link, Links, LinksKeep}
-use Rattle.run_law.proofs.Sent.{same_commands}
-use Rattle.run_law.proofs.Replied.{honest_is_granted}
-use Rattle.run_law.proofs.Listed.{texts_are_messages, listing_is_maildrop}
-use Rattle.run_law.proofs.Laws.{happened}
+use Rattle.run_law.specs.Readings.{AreGranted, IsNumbered, HonestIsGranted, ListingIsMaildrop, MarksAreAsked, TextsAreMessages}
+use Rattle.run_law.specs.Runs.{Frame, IsFrame, Situation, Visit, Event, Visited, Moved, Run, Kept, after_event, Promises, KeptStaysKept}
+use Rattle.run_law.specs.Sessions.{IsBegun, Reads, Session, IsMarked, Served, Link, Linked, Shifted, after_link, LinksAreVisits, LinksKeep}
 
 -- ---- marks
 
@@ -95,11 +91,17 @@ item_at (x ∷ drop) (suc place) m e = item_at drop place m e
 same_item : (a b : Item) → Some a ≡ Some b → a ≡ b
 same_item a b e = cc
 
-module _ (settings : Settings) (account : List ℕ) (before : Account) (sent got : List ℕ) (effect : Effect) (after : Account) (drop : List Message) (vanished : List (List ℕ))
+-- what is said of octets
+pub record Readings : Type 0 where
+  pub commands : OneListOfCommands
+  pub granted : HonestIsGranted
+  pub texts : TextsAreMessages
+  pub listing : ListingIsMaildrop
+
+module _ (laws : Readings) (settings : Settings) (account : List ℕ) (before : Account) (sent got : List ℕ) (effect : Effect) (after : Account) (drop : List Message) (vanished : List (List ℕ))
     (session : Session settings account before sent got effect after) (served : Served drop sent got vanished) where
   same : served.honest.commands ≡ session.commands
-  same = same_commands served.honest.commands session.commands served.honest.asked.part session.asked.part served.honest.asked.numbers session.asked.numbers served.honest.asked.sendable session.asked.sendable
-      served.honest.asked.no_line session.asked.no_line (sym served.honest.asked.whole ∙ session.asked.whole)
+  same = laws.commands served.honest.commands session.commands sent served.honest.asked session.asked
 
   -- where the listing is the maildrop's, or nothing was begun
   went_begun : (listing_is : (effect.begun ≡ []) ⊎ (effect.listing ≡ listing_of drop)) (id : List ℕ) → IsMarked drop served.marks id → has_id effect.begun id ≡ true
@@ -124,13 +126,13 @@ module _ (settings : Settings) (account : List ℕ) (before : Account) (sent got
   session_honest r = record { listing = listing; texts = subst (AreTexts drop (wanted_at settings account before effect)) (sym r.texts) (texts r.found (wanted_at settings account before effect) r.numbers numbered) }
     where
       granted : AreGranted drop (no_marks drop) (User r.name ∷ Pass r.word ∷ Stat ∷ UidlAll ∷ ListAll ∷ r.more) (r.user ∷ r.pass ∷ r.stat ∷ r.uidl ∷ r.list ∷ r.replies)
-      granted = honest_is_granted drop sent got served.marks (User r.name ∷ Pass r.word ∷ Stat ∷ UidlAll ∷ ListAll ∷ r.more) (r.user ∷ r.pass ∷ r.stat ∷ r.uidl ∷ r.list ∷ r.replies) served.honest r.talked
+      granted = laws.granted drop sent got served.marks (User r.name ∷ Pass r.word ∷ Stat ∷ UidlAll ∷ ListAll ∷ r.more) (r.user ∷ r.pass ∷ r.stat ∷ r.uidl ∷ r.list ∷ r.replies) served.honest r.talked
 
       listing : effect.listing ≡ listing_of drop
-      listing = listing_is_maildrop drop r.name r.word r.more r.user r.pass r.stat r.uidl r.list r.replies effect.listing r.talked.good granted r.listed
+      listing = laws.listing drop r.name r.word r.more r.user r.pass r.stat r.uidl r.list r.replies effect.listing r.talked.good granted r.listed
 
       numbered : AllByRecursion (IsNumbered drop) r.found
-      numbered = texts_are_messages drop (no_marks drop) (User r.name ∷ Pass r.word ∷ Stat ∷ UidlAll ∷ ListAll ∷ r.more) (r.user ∷ r.pass ∷ r.stat ∷ r.uidl ∷ r.list ∷ r.replies) r.found r.talked.good granted r.retrieves
+      numbered = laws.texts drop (no_marks drop) (User r.name ∷ Pass r.word ∷ Stat ∷ UidlAll ∷ ListAll ∷ r.more) (r.user ∷ r.pass ∷ r.stat ∷ r.uidl ∷ r.list ∷ r.replies) r.found r.talked.good granted r.retrieves
 
       texts : (found : List (ℕ × List ℕ)) (wanted : List (ℕ × Item)) → map (λ (p : ℕ × List ℕ). p.0) found ≡ map (λ (p : ℕ × Item). p.0) (take (length found) wanted)
           → AllByRecursion (IsNumbered drop) found → AreTexts drop wanted (map (λ (p : ℕ × List ℕ). p.1) found)
@@ -143,27 +145,34 @@ module _ (settings : Settings) (account : List ℕ) (before : Account) (sent got
 abbrev pub visit_of : Link → Effect → Visit
 visit_of link effect = record { settings = link.settings; come = link.come; effect = effect; vanished = link.vanished; after = link.after }
 
-pub visits : (frame : Frame) (before : Situation) (link : Link) → (l : Links frame before link) → Visits frame before (visit_of link l.effect)
-visits frame before link l = elim l.session.step [
+pub visits : Readings → LinksAreVisits
+visits laws frame before link l = elim l.session.step [
   | inl left ↦ record {
     same = l.same;
     step = inl left;
-    vanished = vanished_begun link.settings frame.account before.account link.sent link.got l.effect link.after (maildrop_of frame.all link.come before.gone) link.vanished l.session l.served (inl left.begun);
+    vanished = vanished_begun laws link.settings frame.account before.account link.sent link.got l.effect link.after (maildrop_of frame.all link.come before.gone) link.vanished l.session l.served (inl left.begun);
   }
   | inr (stores, reads) ↦
-      let honest = session_honest link.settings frame.account before.account link.sent link.got l.effect link.after (maildrop_of frame.all link.come before.gone) link.vanished l.session l.served reads in
+      let honest = session_honest laws link.settings frame.account before.account link.sent link.got l.effect link.after (maildrop_of frame.all link.come before.gone) link.vanished l.session l.served reads in
       record {
         same = l.same;
         step = inr (stores, honest);
-        vanished = vanished_begun link.settings frame.account before.account link.sent link.got l.effect link.after (maildrop_of frame.all link.come before.gone) link.vanished l.session l.served (inr honest.listing);
+        vanished = vanished_begun laws link.settings frame.account before.account link.sent link.got l.effect link.after (maildrop_of frame.all link.come before.gone) link.vanished l.session l.served (inr honest.listing);
       }
 ]
 
-pub links_keep : LinksKeep
-links_keep frame start [] is kept run = kept
-links_keep frame start (Linked link ∷ events) is kept run =
-    let one = happened frame start (Visited (visit_of link run.0.effect)) is kept (visits frame start link run.0, tt) in
-    (kept, (run.0.effect, run.0.session, one.1), links_keep frame (after_link start (Linked link)) events is one.0 run.1)
-links_keep frame start (Shifted after ∷ events) is kept run =
-    let one = happened frame start (Moved after) is kept (run.0, tt) in
-    (kept, one.1, links_keep frame (after_link start (Shifted after)) events is one.0 run.1)
+-- one event, by the law over lists of them
+pub happened : KeptStaysKept → (frame : Frame) (before : Situation) (event : Event) → IsFrame frame → Kept frame before → Run frame before (event ∷ [])
+    → Kept frame (after_event before event) × Promises frame before event
+happened stays frame before event is kept run =
+    let one = stays frame before (event ∷ []) is kept run in
+    (one.0, one.1.0)
+
+pub links_keep : KeptStaysKept → LinksAreVisits → LinksKeep
+links_keep stays visited frame start [] is kept run = kept
+links_keep stays visited frame start (Linked link ∷ events) is kept run =
+    let one = happened stays frame start (Visited (visit_of link run.0.effect)) is kept (visited frame start link run.0, tt) in
+    (kept, (run.0.effect, run.0.session, one.1), links_keep stays visited frame (after_link start (Linked link)) events is one.0 run.1)
+links_keep stays visited frame start (Shifted after ∷ events) is kept run =
+    let one = happened stays frame start (Moved after) is kept (run.0, tt) in
+    (kept, one.1, links_keep stays visited frame (after_link start (Shifted after)) events is one.0 run.1)

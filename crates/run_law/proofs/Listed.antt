@@ -1,5 +1,5 @@
 -- What the replies to STAT, UIDL, LIST and RETR say of an honest server's maildrop.
-use Rattle.std.proofs.Common.{◌≡◌, ◌-◌, ◌+◌, ◌<◌, ℕ, zero, suc, List, [], ◌∷◌, ◌++◌, Bool, not, cond, length, map, get_or, refl, sym, ◌∙◌, ap, subst, arith, append_assoc, Some, Ok, Result, Contains}
+use Rattle.std.proofs.Common.{◌≡◌, ◌-◌, ◌+◌, ◌<◌, ℕ, zero, suc, List, [], ◌∷◌, ◌++◌, Bool, not, cond, length, map, get_or, refl, sym, ◌∙◌, ap, subst, arith, Some, Ok, Result, Contains, true, false}
 use Rattle.std.specs.List.{AllByRecursion, AllZip, enumerate_from, count_by}
 use Rattle.std.specs.List.Sorted.{IsPermutation}
 use Rattle.std.proofs.lemmas.List.{ext_get_or, length-map, get_or-map, get_or_default, append-nil, append_cancel_left}
@@ -10,57 +10,49 @@ use Rattle.pop3_wire.specs.declared.command.Command.{Command}
 use Rattle.pop3_wire.specs.declared.command.Command.TheVariants.{User, Pass, Stat, UidlAll, UidlOne, ListAll, ListOne, Retr, Dele, Rset, Noop, Top, Quit}
 use Rattle.pop3_wire.specs.declared.fault.WireFault.{WireFault}
 use Rattle.pop3_wire.specs.declared.reply.Status.TheVariants.{Positive}
-use Rattle.pop3_wire.specs.Line.{crlf, IsLine, ended}
+use Rattle.pop3_wire.specs.Line.{ended, OneLine}
 use Rattle.pop3_wire.specs.Body.{IsContent, unstuffed, Body}
 use Rattle.pop3_wire.specs.Reply.{IsFirstLine, without_space, indicator}
 use Rattle.pop3_wire.specs.Fields.{number_and_size}
 use Rattle.pop3_wire.specs.World.{Message}
 use Rattle.pop3_wire.specs.Honest.{SaysAnything, ListsAll, IsScanRow, IsUidRow, unmarked_from, Grants, no_marks}
-use Rattle.pop3_wire.proofs.LineLemmas.{first_line_same}
-use Rattle.pop3_wire.proofs.BodyLemmas.{one_body}
+use Rattle.pop3_wire.specs.Stuffed.{OneBody}
 use Rattle.mail_terms.specs.Listing.{Item}
 use Rattle.mail_terms.specs.declared.listing.UidRow.{UidRow}
 use Rattle.mail_terms.specs.declared.listing.ScanRow.{ScanRow}
 use Rattle.run_law.specs.Mails.{item_of, listing_of}
-use Rattle.pop3_wire.specs.Reading.{WholeReply, body_bytes, reply_bytes}
-use Rattle.run_law.specs.Readings.{IsBody, IsGood, IsNumbered, TextsAreMessages, IsUidLine, IsScanLine, TellsCount, ListingIsMaildrop}
-use Rattle.run_law.proofs.Replied.{same_lines}
+use Rattle.pop3_wire.specs.Reading.{WholeReply, body_bytes, reply_bytes, has_body, IsBodyIf, IsUidLine, IsScanLine, OneListOfLines}
+use Rattle.run_law.specs.Readings.{IsGood, IsNumbered, TextsAreMessages, TellsCount, ListingIsMaildrop}
 
 -- ---- texts
 
-behind_first : (a b x y : List ℕ) → IsLine a → IsLine b → ended a ++ x ≡ ended b ++ y → x ≡ y
-behind_first a b x y la lb e = (first_line_same a b x y la lb (sym (assoc a x) ∙ e ∙ assoc b y)).1
-  where
-    assoc : (l z : List ℕ) → ended l ++ z ≡ l ++ (crlf ++ z)
-    assoc l z = append_assoc l crlf z
-
 -- the text of a granted RETR is its message's
-pub text_is : (drop : List Message) (marks next : List Bool) (number : ℕ) (reply : WholeReply) (text : List ℕ) → IsGood (Retr number) reply
+text_is : OneLine → OneBody → (drop : List Message) (marks next : List Bool) (number : ℕ) (reply : WholeReply) (text : List ℕ) → IsGood (Retr number) reply
     → Grants drop marks (Retr number) (reply_bytes reply) next → Body (body_bytes reply.body) text → IsNumbered drop (number, text)
-text_is drop marks next number reply text good g body =
-    let behind : g.1 ≡ body_bytes reply.body = behind_first g.4.1.line reply.first g.1 (body_bytes reply.body) g.4.1.is_line good.line
-    (ap (λ f. f ++ g.1) (sym g.4.1.whole) ∙ sym g.3) in
-    let same = one_body (body_bytes reply.body) g.1 text g.2.text [] [] body g.6 (ap (λ b. b ++ []) (sym behind)) in
+text_is one bodies drop marks next number reply text good g body =
+    let behind : g.1 ≡ body_bytes reply.body = (one g.4.1.line reply.first g.1 (body_bytes reply.body) g.4.1.is_line good.line
+    (ap (λ f. f ++ g.1) (sym g.4.1.whole) ∙ sym g.3)).1 in
+    let same = bodies (body_bytes reply.body) g.1 text g.2.text [] [] body g.6 (ap (λ b. b ++ []) (sym behind)) in
     (g.2, g.5.there, same.1)
 
-pub texts_are_messages : TextsAreMessages
-texts_are_messages drop marks commands [] found good are found_is = subst (AllByRecursion (IsNumbered drop)) (sym found_is) tt
-texts_are_messages drop marks [] (reply ∷ replies) found good are found_is = absurd good
-texts_are_messages drop marks (Retr number ∷ commands) (reply ∷ replies) found good are found_is =
+pub texts_are_messages : OneLine → OneBody → TextsAreMessages
+texts_are_messages one bodies drop marks commands [] found good are found_is = subst (AllByRecursion (IsNumbered drop)) (sym found_is) tt
+texts_are_messages one bodies drop marks [] (reply ∷ replies) found good are found_is = absurd good
+texts_are_messages one bodies drop marks (Retr number ∷ commands) (reply ∷ replies) found good are found_is =
     subst (AllByRecursion (IsNumbered drop)) (sym found_is.3)
-    (text_is drop marks are.0 number reply found_is.0 good.0 are.1 found_is.2, texts_are_messages drop are.0 commands replies found_is.1 good.1 are.2 found_is.4)
-texts_are_messages drop marks (User name ∷ commands) (reply ∷ replies) found good are found_is = texts_are_messages drop are.0 commands replies found good.1 are.2 found_is
-texts_are_messages drop marks (Pass word ∷ commands) (reply ∷ replies) found good are found_is = texts_are_messages drop are.0 commands replies found good.1 are.2 found_is
-texts_are_messages drop marks (Stat ∷ commands) (reply ∷ replies) found good are found_is = texts_are_messages drop are.0 commands replies found good.1 are.2 found_is
-texts_are_messages drop marks (UidlAll ∷ commands) (reply ∷ replies) found good are found_is = texts_are_messages drop are.0 commands replies found good.1 are.2 found_is
-texts_are_messages drop marks (UidlOne n ∷ commands) (reply ∷ replies) found good are found_is = texts_are_messages drop are.0 commands replies found good.1 are.2 found_is
-texts_are_messages drop marks (ListAll ∷ commands) (reply ∷ replies) found good are found_is = texts_are_messages drop are.0 commands replies found good.1 are.2 found_is
-texts_are_messages drop marks (ListOne n ∷ commands) (reply ∷ replies) found good are found_is = texts_are_messages drop are.0 commands replies found good.1 are.2 found_is
-texts_are_messages drop marks (Dele n ∷ commands) (reply ∷ replies) found good are found_is = texts_are_messages drop are.0 commands replies found good.1 are.2 found_is
-texts_are_messages drop marks (Rset ∷ commands) (reply ∷ replies) found good are found_is = texts_are_messages drop are.0 commands replies found good.1 are.2 found_is
-texts_are_messages drop marks (Noop ∷ commands) (reply ∷ replies) found good are found_is = texts_are_messages drop are.0 commands replies found good.1 are.2 found_is
-texts_are_messages drop marks (Top n k ∷ commands) (reply ∷ replies) found good are found_is = texts_are_messages drop are.0 commands replies found good.1 are.2 found_is
-texts_are_messages drop marks (Quit ∷ commands) (reply ∷ replies) found good are found_is = texts_are_messages drop are.0 commands replies found good.1 are.2 found_is
+    (text_is one bodies drop marks are.0 number reply found_is.0 good.0 are.1 found_is.2, texts_are_messages one bodies drop are.0 commands replies found_is.1 good.1 are.2 found_is.4)
+texts_are_messages one bodies drop marks (User name ∷ commands) (reply ∷ replies) found good are found_is = texts_are_messages one bodies drop are.0 commands replies found good.1 are.2 found_is
+texts_are_messages one bodies drop marks (Pass word ∷ commands) (reply ∷ replies) found good are found_is = texts_are_messages one bodies drop are.0 commands replies found good.1 are.2 found_is
+texts_are_messages one bodies drop marks (Stat ∷ commands) (reply ∷ replies) found good are found_is = texts_are_messages one bodies drop are.0 commands replies found good.1 are.2 found_is
+texts_are_messages one bodies drop marks (UidlAll ∷ commands) (reply ∷ replies) found good are found_is = texts_are_messages one bodies drop are.0 commands replies found good.1 are.2 found_is
+texts_are_messages one bodies drop marks (UidlOne n ∷ commands) (reply ∷ replies) found good are found_is = texts_are_messages one bodies drop are.0 commands replies found good.1 are.2 found_is
+texts_are_messages one bodies drop marks (ListAll ∷ commands) (reply ∷ replies) found good are found_is = texts_are_messages one bodies drop are.0 commands replies found good.1 are.2 found_is
+texts_are_messages one bodies drop marks (ListOne n ∷ commands) (reply ∷ replies) found good are found_is = texts_are_messages one bodies drop are.0 commands replies found good.1 are.2 found_is
+texts_are_messages one bodies drop marks (Dele n ∷ commands) (reply ∷ replies) found good are found_is = texts_are_messages one bodies drop are.0 commands replies found good.1 are.2 found_is
+texts_are_messages one bodies drop marks (Rset ∷ commands) (reply ∷ replies) found good are found_is = texts_are_messages one bodies drop are.0 commands replies found good.1 are.2 found_is
+texts_are_messages one bodies drop marks (Noop ∷ commands) (reply ∷ replies) found good are found_is = texts_are_messages one bodies drop are.0 commands replies found good.1 are.2 found_is
+texts_are_messages one bodies drop marks (Top n k ∷ commands) (reply ∷ replies) found good are found_is = texts_are_messages one bodies drop are.0 commands replies found good.1 are.2 found_is
+texts_are_messages one bodies drop marks (Quit ∷ commands) (reply ∷ replies) found good are found_is = texts_are_messages one bodies drop are.0 commands replies found good.1 are.2 found_is
 
 -- ---- rows
 
@@ -165,30 +157,33 @@ row_of_place number value of drop numbered rows same zip k d inside =
 -- ---- the three replies
 
 -- the lines of a listing are those that the server wrote
-listed_lines : (IsRow : ℕ × Message → List ℕ → Type 0) (command : Command) (drop : List Message) (marks : List Bool) (reply : WholeReply) (first body : List ℕ) (lines : List (List ℕ))
+listed_lines : OneLine → OneListOfLines → (IsRow : ℕ × Message → List ℕ → Type 0) (command : Command) (drop : List Message) (marks : List Bool) (reply : WholeReply) (first body : List ℕ) (lines : List (List ℕ))
     → IsGood command reply → reply_bytes reply ≡ first ++ body → SaysAnything Positive first → (l : ListsAll IsRow drop marks body) → reply.body ≡ Some lines
     → AllZip IsRow l.numbered (map unstuffed lines)
-listed_lines IsRow command drop marks reply first body lines good whole says l is =
+listed_lines one lists IsRow command drop marks reply first body lines good whole says l is =
     subst (λ (ls : List (List ℕ)). AllZip IsRow l.numbered (map unstuffed ls)) same l.rows
   where
     behind : body ≡ body_bytes reply.body
-    behind = behind_first says.1.line reply.first body (body_bytes reply.body) says.1.is_line good.line (ap (λ f. f ++ body) (sym says.1.whole) ∙ sym whole)
+    behind = (one says.1.line reply.first body (body_bytes reply.body) says.1.is_line good.line (ap (λ f. f ++ body) (sym says.1.whole) ∙ sym whole)).1
+
+    body_content : (has : Bool) → IsBodyIf has (Some lines) → AllByRecursion IsContent lines
+    body_content true content = content
+    body_content false none = absurd none
 
     content : AllByRecursion IsContent lines
-    content = (subst (IsBody command) is good.body).1
+    content = body_content (has_body command) (subst (IsBodyIf (has_body command)) is good.body)
 
     same : l.lines ≡ lines
-    same = (same_lines l.lines lines [] [] l.content content (ap (λ b. b ++ []) (sym l.whole ∙ behind ∙ ap body_bytes is))).0
+    same = (lists l.lines lines [] [] l.content content (ap (λ b. b ++ []) (sym l.whole ∙ behind ∙ ap body_bytes is))).0
 
 -- STAT's count
 rest_same : (line rest other : List ℕ) → IsFirstLine line Positive rest → IsFirstLine line Positive other → rest ≡ other
 rest_same line rest other p q = p.2 ∙ ap without_space (append_cancel_left (indicator Positive) p.0 q.0 (sym p.1 ∙ q.1)) ∙ sym q.2
 
-count_same : (drop : List Message) (marks next : List Bool) (stat : WholeReply) (count : ℕ) → IsGood Stat stat → Grants drop marks Stat (reply_bytes stat) next → TellsCount stat count
+count_same : OneLine → (drop : List Message) (marks next : List Bool) (stat : WholeReply) (count : ℕ) → IsGood Stat stat → Grants drop marks Stat (reply_bytes stat) next → TellsCount stat count
     → count ≡ count_by not marks
-count_same drop marks next stat count good g tells =
-    let line : g.2.line ≡ stat.first = (first_line_same g.2.line stat.first [] (body_bytes stat.body) g.2.is_line good.line
-    (ap (λ l. g.2.line ++ l) (append-nil crlf) ∙ sym g.2.whole ∙ append_assoc stat.first crlf (body_bytes stat.body))).0 in
+count_same one drop marks next stat count good g tells =
+    let line : g.2.line ≡ stat.first = (one g.2.line stat.first [] (body_bytes stat.body) g.2.is_line good.line (append-nil (ended g.2.line) ∙ sym g.2.whole)).0 in
     let rest : tells.0 ≡ g.0 = rest_same stat.first tells.0 g.0 tells.2 (subst (λ l. IsFirstLine l Positive g.0) line g.2.first) in
     (same_scan count (count_by not marks) tells.1 g.1 (sym tells.3 ∙ ap number_and_size rest ∙ g.3)).0
 
@@ -198,8 +193,8 @@ nobody = record { uid = []; size = 0; text = [] }
 same_item : (i : Item) (m : Message) → i.uid ≡ m.uid → i.size ≡ m.size → i ≡ item_of m
 same_item i m p q = λ t. record { uid = p t; size = q t }
 
-pub listing_is_maildrop : ListingIsMaildrop
-listing_is_maildrop drop name word commands user pass stat uidl list replies items good are listed =
+pub listing_is_maildrop : OneLine → OneListOfLines → ListingIsMaildrop
+listing_is_maildrop one lists drop name word commands user pass stat uidl list replies items good are listed =
     ext_get_or (item_of nobody) items (listing_of drop) (total ∙ sym (length-map drop item_of))
     (λ k l. let inside : k < length drop = omega (arith, l, total) in
     same_item (get_or items k (item_of nobody)) (get_or drop k nobody) (uid_at k inside) (size_at k inside) ∙ sym (get_or-map item_of drop k nobody (item_of nobody) inside))
@@ -215,12 +210,12 @@ listing_is_maildrop drop name word commands user pass stat uidl list replies ite
     marks_four = are.2.2.2.1.5 ∙ marks_three
 
     total : length items ≡ length drop
-    total = listed.joined.count ∙ count_same drop are.2.0 are.2.2.0 stat listed.count good.1.1.0 are.2.2.1 listed.counts ∙ ap (count_by not) marks_two ∙ fresh_count drop
+    total = listed.joined.count ∙ count_same one drop are.2.0 are.2.2.0 stat listed.count good.1.1.0 are.2.2.1 listed.counts ∙ ap (count_by not) marks_two ∙ fresh_count drop
 
     uid_at : (k : ℕ) → k < length drop → (get_or items k (item_of nobody)).uid ≡ (get_or drop k nobody).uid
     uid_at k inside =
         let g = are.2.2.2.1 in
-        let zip = listed_lines IsUidRow UidlAll drop are.2.2.0 uidl g.0 g.1 listed.named.0 good.1.1.1.0 g.2 g.3 g.4 listed.named.1 in
+        let zip = listed_lines one lists IsUidRow UidlAll drop are.2.2.0 uidl g.0 g.1 listed.named.0 good.1.1.1.0 g.2 g.3 g.4 listed.named.1 in
         let pairs = both_read IsUidLine IsUidRow uid_number uid_value uid_in (λ q line row h r. same_uid _ _ _ _ (sym r ∙ h)) g.4.numbered listed.named.0 listed.uids zip listed.named.2 in
         let same : IsPermutation (enumerate_from 1 drop) g.4.numbered = subst (λ (l : List (ℕ × Message)). IsPermutation l g.4.numbered) (ap (unmarked_from 1 drop) marks_three ∙ fresh 1 drop) g.4.all in
         let r = row_of_place uid_number uid_value uid_in drop g.4.numbered listed.uids same pairs k nobody inside in
@@ -231,7 +226,7 @@ listing_is_maildrop drop name word commands user pass stat uidl list replies ite
     size_at : (k : ℕ) → k < length drop → (get_or items k (item_of nobody)).size ≡ (get_or drop k nobody).size
     size_at k inside =
         let g = are.2.2.2.2.1 in
-        let zip = listed_lines IsScanRow ListAll drop are.2.2.2.0 list g.0 g.1 listed.sized.0 good.1.1.1.1.0 g.2 g.3 g.4 listed.sized.1 in
+        let zip = listed_lines one lists IsScanRow ListAll drop are.2.2.2.0 list g.0 g.1 listed.sized.0 good.1.1.1.1.0 g.2 g.3 g.4 listed.sized.1 in
         let pairs = both_read IsScanLine IsScanRow scan_number scan_value size_in (λ q line row h r. same_scan _ _ _ _ (sym r ∙ h)) g.4.numbered listed.sized.0 listed.sizes zip listed.sized.2 in
         let same : IsPermutation (enumerate_from 1 drop) g.4.numbered = subst (λ (l : List (ℕ × Message)). IsPermutation l g.4.numbered) (ap (unmarked_from 1 drop) marks_four ∙ fresh 1 drop) g.4.all in
         let r = row_of_place scan_number scan_value size_in drop g.4.numbered listed.sizes same pairs k nobody inside in

@@ -8,7 +8,7 @@ use Rattle.mail_terms.specs.UniqueId.{is_legal_id}
 use Rattle.pop3_wire.specs.World.{Message, IsMessage, maildrop_of}
 use Rattle.mail_terms.specs.Listing.{Item}
 use Rattle.fetch_rules.specs.Record.{Row, is_delivered, merged}
-use Rattle.fetch_rules.specs.Wanted.{wanted, at_most}
+use Rattle.fetch_rules.specs.Wanted.{DistinctAreFiltered, wanted, at_most}
 use Rattle.mail_terms.specs.Listing.{has_item}
 use Rattle.rc_file.specs.declared.settings.Settings.{Settings}
 use Rattle.mail_store.specs.FileName.{is_held}
@@ -17,6 +17,7 @@ use Rattle.run_law.specs.Mails.{has_id, ids_of, item_of, listing_of, is_selected
 use Rattle.run_law.specs.Runs.{Frame, IsFrame, Situation, Kept, WantsNext}
 use Rattle.run_law.proofs.Lists.{filter-filter, any-map, map-map, all_map, all_both, all_take, head_same, tail_same}
 use Rattle.run_law.proofs.Ids.{Distinct, distinct_is, distinct_take, distinct_filter, all_ids_at, bytes_self}
+use Rattle.run_law.proofs.Below.{Records}
 use Rattle.run_law.proofs.Records.{delivered_merged}
 use Rattle.run_law.proofs.Files.{held_done}
 use Rattle.run_law.proofs.Wants.{num_item, snd, asked, offered, wants_by_number, wanted_are, wants_snd}
@@ -69,7 +70,7 @@ new_is false false true k true e p q = refl
 new_is f false true k false e p q = absurd (both_ways false refl (p refl))
 new_is f false false k d e p q = ap (λ b. f && not b) (q refl)
 
-module _ (frame : Frame) (before : Situation) (settings : Settings) (come now : ℕ) (kept : Kept frame before) (is : IsFrame frame)
+module _ (filtered : DistinctAreFiltered) (laws : Records) (frame : Frame) (before : Situation) (settings : Settings) (come now : ℕ) (kept : Kept frame before) (is : IsFrame frame)
     (same : settings.max_size ≡ frame.max_size) (only_new : settings.read_all ≡ false) where
   abbrev front : List Message
   front = take come frame.all
@@ -96,7 +97,7 @@ module _ (frame : Frame) (before : Situation) (settings : Settings) (come now : 
   listed_is id = any-map (λ (i : Item). bytes_eq id i.uid) item_of here ∙ sym (any-map (bytes_eq id) (λ (m : Message). m.uid) here)
 
   known_is_done : (id : List ℕ) → is_legal_id id ≡ true → has_id (ids_of here) id ≡ true → known id ≡ is_done id
-  known_is_done id l e = delivered_merged frame.account before.account.maildir before.account.rows (listing_of here) now id
+  known_is_done id l e = delivered_merged laws frame.account before.account.maildir before.account.rows (listing_of here) now id
       ∙ known_is (is_delivered before.account.rows id) (has_item (listing_of here) id) (is_held frame.account before.account.maildir id) (is_done id)
       (listed_is id ∙ e) (held_done frame.account before.account kept.done id (kept.holds id l)) (kept.recorded id)
 
@@ -123,10 +124,10 @@ module _ (frame : Frame) (before : Situation) (settings : Settings) (come now : 
       ∙ ap (λ k. drop (length kept.done) (selected k front)) same
 
   pub next_wanted : map (λ (p : ℕ × Item). p.1) (wanted settings rows (listing_of here)) ≡ listing_of (at_most settings.max_count (drop (length kept.done) (selected frame.max_size front)))
-  next_wanted = ap (map (λ (p : ℕ × Item). p.1)) (wanted_are settings rows here (distinct_filter (λ (m : Message). not (has_id before.gone m.uid)) front (distinct_take come frame.all distinct_all)))
+  next_wanted = ap (map (λ (p : ℕ × Item). p.1)) (wanted_are filtered settings rows here (distinct_filter (λ (m : Message). not (has_id before.gone m.uid)) front (distinct_take come frame.all distinct_all)))
       ∙ map-map (λ (p : ℕ × Item). p.1) num_item (wants_by_number settings rows here)
       ∙ sym (map-map item_of snd (wants_by_number settings rows here))
       ∙ ap listing_of (wants_snd settings rows here ∙ ap (at_most settings.max_count) offered_is)
 
-pub wants_next : WantsNext
-wants_next frame before settings come now kept is same only_new = next_wanted frame before settings come now kept is same only_new
+pub wants_next : DistinctAreFiltered → Records → WantsNext
+wants_next filtered laws frame before settings come now kept is same only_new = next_wanted filtered laws frame before settings come now kept is same only_new

@@ -1,5 +1,5 @@
 -- No server makes a session lose a text, or delete a message that isn't known.
-use Rattle.std.proofs.Common.{◌≡◌, ◌⊎◌, inl, inr, ◌≤◌, ◌+◌, ℕ, zero, suc, Bool, true, false, cond, not, ◌&&◌, ◌||◌, List, [], ◌∷◌, ◌++◌, map, take, zip, min, length, refl, sym, ap, subst, ◌∙◌, arith}
+use Rattle.std.proofs.Common.{◌≡◌, inl, inr, ◌≤◌, ℕ, zero, suc, Bool, true, false, cond, not, ◌&&◌, ◌||◌, List, [], ◌∷◌, ◌++◌, map, take, zip, min, length, refl, sym, ap, subst, ◌∙◌, arith}
 use Rattle.std.specs.Prelude.{bytes_eq}
 use Rattle.std.specs.List.{filter, AllByRecursion}
 use Rattle.std.proofs.lemmas.Bool.{or_cases, and_parts, true≢false}
@@ -19,6 +19,7 @@ use Rattle.pop3_wire.specs.declared.command.Command.TheVariants.{User, Pass, Sta
 use Rattle.run_law.specs.Safety.{IsAmong, IsKept, DeletesKept, IsSafe, SessionsAreSafe}
 use Rattle.run_law.proofs.Lists.{all_map}
 use Rattle.run_law.proofs.Ids.{bytes_same, all_ids_at}
+use Rattle.run_law.proofs.Below.{Records}
 use Rattle.run_law.proofs.Records.{delivered_marked, delivered_merged}
 
 -- the files are still there, and each id for which a DELE was begun is kept
@@ -71,7 +72,7 @@ found account maildir (q ∷ qs) (t ∷ ts) id less is free =
     next text there true = behind_one (file (name_of account id) text) (file_for account (q, t)) (map (file_for account) later) there
     next text there false = there
 
-module _ (settings : Settings) (account : List ℕ) (before : Account) (effect : Effect) (after : Account) (stores : Stores settings account before effect after) where
+module _ (laws : Records) (settings : Settings) (account : List ℕ) (before : Account) (effect : Effect) (after : Account) (stores : Stores settings account before effect after) where
   stored_ids : (id : List ℕ) (b : Bool) → is_held account before.maildir id ≡ b → has_id (ids_wanted (take stores.recorded (wanted_at settings account before effect))) id ≡ true
       → IsKept account before effect (brought account before.maildir (zip (take stores.stored (wanted_at settings account before effect)) effect.texts)) id
   stored_ids id true held is = inr (inl held)
@@ -84,7 +85,7 @@ module _ (settings : Settings) (account : List ℕ) (before : Account) (effect :
   merged_ids : (id : List ℕ) → is_delivered (merged_rows account before effect) id ≡ true
       → IsKept account before effect (brought account before.maildir (zip (take stores.stored (wanted_at settings account before effect)) effect.texts)) id
   merged_ids id is =
-      elim (or_cases (is_delivered before.rows id) (has_item effect.listing id && is_held account before.maildir id) (sym (delivered_merged account before.maildir before.rows effect.listing effect.now id) ∙ is)) [
+      elim (or_cases (is_delivered before.rows id) (has_item effect.listing id && is_held account before.maildir id) (sym (delivered_merged laws account before.maildir before.rows effect.listing effect.now id) ∙ is)) [
         | inl known ↦ inl known
         | inr held ↦ inr (inl (and_parts (has_item effect.listing id) (is_held account before.maildir id) held).1)
       ]
@@ -94,7 +95,7 @@ module _ (settings : Settings) (account : List ℕ) (before : Account) (effect :
       elim stores.rows [
         | inl same ↦ inl (ap (λ (rows : List Row). is_delivered rows id) (sym same) ∙ is)
         | inr marks ↦
-            elim (delivered_marked (merged_rows account before effect) (ids_wanted (take stores.recorded (wanted_at settings account before effect))) id (ap (λ (rows : List Row). is_delivered rows id) (sym marks) ∙ is)) [
+            elim (delivered_marked laws (merged_rows account before effect) (ids_wanted (take stores.recorded (wanted_at settings account before effect))) id (ap (λ (rows : List Row). is_delivered rows id) (sym marks) ∙ is)) [
               | inl known ↦ merged_ids id known
               | inr stored ↦ stored_ids id (is_held account before.maildir id) refl stored
             ]
@@ -144,9 +145,9 @@ safe account before sent effect after keeps commands asked begun = record {
   deletes = all_map (IsBegun effect.listing effect.begun) (DeletesKept account before effect keeps.gained) (deletes_kept account before effect after keeps) commands begun;
 }
 
-pub sessions_are_safe : SessionsAreSafe
-sessions_are_safe settings account before sent got effect after session =
+pub sessions_are_safe : Records → SessionsAreSafe
+sessions_are_safe laws settings account before sent got effect after session =
     elim session.step [
       | inl leaves ↦ safe account before sent effect after (kept_none account before effect after leaves) session.commands session.asked session.begun
-      | inr (stores, reads) ↦ safe account before sent effect after (kept_all settings account before effect after stores) session.commands session.asked session.begun
+      | inr (stores, reads) ↦ safe account before sent effect after (kept_all laws settings account before effect after stores) session.commands session.asked session.begun
     ]

@@ -18,6 +18,7 @@ use Rattle.run_law.specs.Steps.{Stores, IsHonest, AreTexts, wanted_at, merged_ro
 use Rattle.run_law.specs.Runs.{Frame, IsFrame, Situation, Visit, Visited, Kept, after_event, shown, LeavesOut, DeletesHeld, past_limit}
 use Rattle.run_law.proofs.Lists.{filter-filter, any-map, all_map, all_both, all_filter, all_take, all_append}
 use Rattle.run_law.proofs.Ids.{Distinct, distinct_is, distinct_take, distinct_filter, ids_filtered, ids_both, texts-append, all_at, all_ids_at, bytes_self}
+use Rattle.run_law.proofs.Below.{Below}
 use Rattle.run_law.proofs.Records.{delivered_merged, delivered_marked}
 use Rattle.run_law.proofs.Files.{held_done, copies-append, copies_messages, message_file, deliveries_keep}
 use Rattle.run_law.proofs.Wants.{num_item, asked, offered, wants, offered_by_number, wants_by_number, wanted_are, candidates_are, wants_snd, offered_snd, wants_placed, zipped, stored_files, ids_are, begins, both_parts, past-map, snd}
@@ -53,7 +54,7 @@ all_front : {X : Type 0} (P : X → Type 0) (xs ys : List X) → AllByRecursion 
 all_front P [] ys h = tt
 all_front P (x ∷ xs) ys h = (h.0, all_front P xs ys h.1)
 
-module _ (frame : Frame) (is : IsFrame frame) (before : Situation) (v : Visit) (kept : Kept frame before) (same : v.settings.max_size ≡ frame.max_size)
+module _ (laws : Below) (frame : Frame) (is : IsFrame frame) (before : Situation) (v : Visit) (kept : Kept frame before) (same : v.settings.max_size ≡ frame.max_size)
     (s : Stores v.settings frame.account before.account v.effect v.after) (honest : IsHonest v.settings frame.account before.account (shown frame before v) v.effect) where
   abbrev rows : List Row
   rows = merged_rows frame.account before.account v.effect
@@ -130,7 +131,7 @@ module _ (frame : Frame) (is : IsFrame frame) (before : Situation) (v : Visit) (
   listed_is id = ap (λ l. has_item l id) honest.listing ∙ any-map (λ (i : Item). bytes_eq id i.uid) item_of here ∙ sym (any-map (bytes_eq id) (λ (m : Message). m.uid) here)
 
   known_parts : (id : List ℕ) → known id ≡ (is_delivered before.account.rows id || (has_item v.effect.listing id && held id))
-  known_parts id = delivered_merged frame.account before.account.maildir before.account.rows v.effect.listing v.effect.now id
+  known_parts id = delivered_merged laws.records frame.account before.account.maildir before.account.rows v.effect.listing v.effect.now id
 
   known_is_done : (id : List ℕ) → is_legal_id id ≡ true → has_id (ids_of here) id ≡ true → known id ≡ is_done id
   known_is_done id l e = known_parts id ∙ known_is (is_delivered before.account.rows id) (has_item v.effect.listing id) (held id) (is_done id)
@@ -146,7 +147,7 @@ module _ (frame : Frame) (is : IsFrame frame) (before : Situation) (v : Visit) (
   -- ---- what came into the Maildir
 
   wanted_is : wanted_at v.settings frame.account before.account v.effect ≡ map num_item qs
-  wanted_is = ap (λ l. wanted v.settings rows l) honest.listing ∙ wanted_are v.settings rows here distinct_here
+  wanted_is = ap (λ l. wanted v.settings rows l) honest.listing ∙ wanted_are laws.filtered v.settings rows here distinct_here
 
   taken_is : (n : ℕ) → map snd (take n qs) ≡ take n ws
   taken_is n = sym (take-map snd n qs) ∙ ap (take n) (wants_snd v.settings rows here)
@@ -174,7 +175,7 @@ module _ (frame : Frame) (is : IsFrame frame) (before : Situation) (v : Visit) (
   holds_after id l = ap (λ f. copies f (name_of frame.account id)) files_are
       ∙ copies-append (files before.account) (map (message_file frame.account) stored) (name_of frame.account id)
       ∙ ap (λ t. t ++ copies (map (message_file frame.account) stored) (name_of frame.account id)) (kept.holds id l)
-      ∙ ap (λ t. texts_of kept.done id ++ t) (copies_messages frame.account stored id is.account l legal_stored)
+      ∙ ap (λ t. texts_of kept.done id ++ t) (copies_messages laws.differ laws.bases frame.account stored id is.account l legal_stored)
       ∙ sym (texts-append kept.done stored id)
 
   -- ---- what is left is the next
@@ -241,7 +242,7 @@ module _ (frame : Frame) (is : IsFrame frame) (before : Situation) (v : Visit) (
   recorded_after : (id : List ℕ) → is_delivered v.after.rows id ≡ true → is_done_after id ≡ true
   recorded_after id e = elim s.rows [
     | inl old ↦ done_more id (kept.recorded id (ap (λ r. is_delivered r id) (sym old) ∙ e))
-    | inr new ↦ elim (delivered_marked rows (ids_wanted (take s.recorded (wanted_at v.settings frame.account before.account v.effect))) id (sym (ap (λ r. is_delivered r id) new) ∙ e)) [
+    | inr new ↦ elim (delivered_marked laws.records rows (ids_wanted (take s.recorded (wanted_at v.settings frame.account before.account v.effect))) id (sym (ap (λ r. is_delivered r id) new) ∙ e)) [
       | inl was ↦ done_more id (known_done id was)
       | inr more ↦ fetched_done id (taken_more s.recorded s.stored ws id s.order (sym (ap (λ l. has_id l id) recorded_ids) ∙ more))
     ]
@@ -275,11 +276,11 @@ module _ (frame : Frame) (is : IsFrame frame) (before : Situation) (v : Visit) (
   deletes_held = all_map (λ id. is_done_after id ≡ true) (λ id. is_held frame.account v.after.maildir id ≡ true) held_after v.effect.begun begun_done
 
   pub keeps_others : KeepsOthers frame.account before.account v.after
-  keeps_others = deliveries_keep frame.account before.account v.after stored is.account legal_stored files_are
+  keeps_others = deliveries_keep laws.bases frame.account before.account v.after stored is.account legal_stored files_are
 
   past_ids : ids_wanted (past_limit v.settings.max_count (candidates v.settings rows v.effect.listing)) ≡ ids_of (past_limit v.settings.max_count os)
   past_ids = ap (λ l. ids_wanted (past_limit v.settings.max_count (candidates v.settings rows l))) honest.listing
-      ∙ ap (λ l. ids_wanted (past_limit v.settings.max_count l)) (candidates_are v.settings rows here distinct_here)
+      ∙ ap (λ l. ids_wanted (past_limit v.settings.max_count l)) (candidates_are laws.filtered v.settings rows here distinct_here)
       ∙ ap ids_wanted (past-map num_item v.settings.max_count (offered_by_number v.settings rows here))
       ∙ ids_are (past_limit v.settings.max_count (offered_by_number v.settings rows here))
       ∙ ap ids_of (sym (past-map snd v.settings.max_count (offered_by_number v.settings rows here)) ∙ ap (past_limit v.settings.max_count) (offered_snd v.settings rows here))

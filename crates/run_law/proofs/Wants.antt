@@ -9,9 +9,8 @@ use Rattle.std.proofs.lemmas.List.Kept.{AllPairs-cons}
 use Rattle.pop3_wire.specs.World.{Message}
 use Rattle.mail_terms.specs.Listing.{Item, HasDistinctIds}
 use Rattle.fetch_rules.specs.Record.{Row, is_delivered}
-use Rattle.fetch_rules.specs.Wanted.{is_within, is_asked_for, candidates, at_most, wanted}
+use Rattle.fetch_rules.specs.Wanted.{is_within, is_asked_for, candidates, at_most, wanted, DistinctAreFiltered}
 use Rattle.rc_file.specs.declared.settings.Settings.{Settings}
-use Rattle.run_law.proofs.DistinctLemmas.{candidates-distinct}
 use Rattle.mail_store.specs.Maildir.{Maildir}
 use Rattle.mail_store.specs.FileName.{is_held}
 use Rattle.run_law.specs.Mails.{has_id, ids_of, item_of, listing_of}
@@ -67,16 +66,16 @@ at_most-map f n xs = by (n == 0)
     by true = refl
     by false = take-map f n xs
 
-pub candidates_are : (settings : Settings) (rows : List Row) (ms : List Message) → Distinct (ids_of ms)
+pub candidates_are : DistinctAreFiltered → (settings : Settings) (rows : List Row) (ms : List Message) → Distinct (ids_of ms)
     → candidates settings rows (listing_of ms) ≡ map num_item (offered_by_number settings rows ms)
-candidates_are settings rows ms d =
-    candidates-distinct settings rows (listing_of ms) (listing_distinct ms d)
+candidates_are filtered settings rows ms d =
+    filtered settings rows (listing_of ms) (listing_distinct ms d)
     ∙ ap (filter (is_asked_for settings rows)) (enumerate_map 1 ms)
     ∙ filter-map (is_asked_for settings rows) num_item (enumerate_from 1 ms)
 
-pub wanted_are : (settings : Settings) (rows : List Row) (ms : List Message) → Distinct (ids_of ms)
+pub wanted_are : DistinctAreFiltered → (settings : Settings) (rows : List Row) (ms : List Message) → Distinct (ids_of ms)
     → wanted settings rows (listing_of ms) ≡ map num_item (wants_by_number settings rows ms)
-wanted_are settings rows ms d = ap (at_most settings.max_count) (candidates_are settings rows ms d) ∙ at_most-map num_item settings.max_count (offered_by_number settings rows ms)
+wanted_are filtered settings rows ms d = ap (at_most settings.max_count) (candidates_are filtered settings rows ms d) ∙ at_most-map num_item settings.max_count (offered_by_number settings rows ms)
 
 abbrev pub snd : ℕ × Message → Message
 snd q = q.1

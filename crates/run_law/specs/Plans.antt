@@ -1,12 +1,8 @@
 -- The commands of a session's plan, and which of them are sent.
-use Rattle.std.specs.Prelude.{◌≡◌, ◌⊎◌, ℕ, Bool, true, List, [], ◌∷◌, ◌++◌, map, take, length, if◌then◌else◌}
-use Rattle.std.specs.List.{flat_map, AllByRecursion}
+use Rattle.std.specs.Prelude.{◌≡◌, ◌⊎◌, ℕ, Bool, List, [], ◌∷◌, ◌++◌, map, take, length, if◌then◌else◌}
+use Rattle.std.specs.List.{flat_map}
 use Rattle.pop3_wire.specs.declared.command.Command.{Command}
 use Rattle.pop3_wire.specs.declared.command.Command.TheVariants.{User, Pass, Stat, UidlAll, ListAll, Retr, Dele, Rset, Quit}
-use Rattle.pop3_wire.specs.Line.{ended}
-use Rattle.pop3_wire.specs.Commands.{line_of, can_be_sent}
-use Rattle.pop3_wire.specs.CommandLine.{HasNumbers}
-use Rattle.pop3_wire.specs.Honest.{Asked}
 use Rattle.mail_terms.specs.Listing.{Item}
 use Rattle.fetch_rules.specs.Record.{Row}
 use Rattle.fetch_rules.specs.Wanted.{wanted}
@@ -38,15 +34,6 @@ pub record IsFrontOfPlan (name word : List ℕ) (steps : List Step) (commands : 
   pub plan : plan_commands name word steps ≡ front ++ behind
   pub is_tail : IsTail tail
   pub sent : commands ≡ front ++ tail
-
--- the octets of these commands, each on one line
-abbrev pub octets_of : List Command → List ℕ
-octets_of commands = flat_map (λ command. ended (line_of command)) commands
-
--- a law: octets that begin those of some commands are the first of these commands whole, and perhaps a part of one more
-abbrev pub FrontsAreAsked : Type 0
-FrontsAreAsked = (commands : List Command) (front rest : List ℕ) → AllByRecursion (λ command. can_be_sent command ≡ true) commands
-    → AllByRecursion HasNumbers commands → octets_of commands ≡ front ++ rest → (whole later : List Command) × (commands ≡ whole ++ later) × Asked whole front
 
 -- a law: the texts that such a session retrieves are, by their numbers, those of the first of the wanted messages
 abbrev pub PlanGivesNumbers : Type 0

@@ -1,14 +1,14 @@
 -- What a session reads in what it got, and what an honest server told it by that.
-use Rattle.std.specs.Prelude.{◌≡◌, ◌-◌, ℕ, Bool, true, false, List, [], ◌∷◌, ◌++◌, Option, None, Some, Ok, slice_get}
-use Rattle.std.specs.List.{flat_map, AllByRecursion, AllZip}
+use Rattle.std.specs.Prelude.{◌≡◌, ◌-◌, ℕ, Bool, true, List, [], ◌∷◌, ◌++◌, Some, Ok, slice_get}
+use Rattle.std.specs.List.{flat_map, AllByRecursion}
 use Rattle.pop3_wire.specs.declared.command.Command.{Command}
 use Rattle.pop3_wire.specs.declared.command.Command.TheVariants.{User, Pass, Stat, UidlAll, ListAll, Retr, Dele}
 use Rattle.pop3_wire.specs.declared.reply.Status.TheVariants.{Positive}
 use Rattle.pop3_wire.specs.Line.{IsLine, ended}
-use Rattle.pop3_wire.specs.Body.{IsContent, unstuffed, Body}
+use Rattle.pop3_wire.specs.Body.{Body}
 use Rattle.pop3_wire.specs.Reply.{IsFirstLine}
-use Rattle.pop3_wire.specs.Reading.{WholeReply, body_bytes, reply_bytes, has_body}
-use Rattle.pop3_wire.specs.Fields.{number_and_size, number_and_id}
+use Rattle.pop3_wire.specs.Reading.{WholeReply, body_bytes, reply_bytes, has_body, IsBodyIf, IsUidLine, IsScanLine, HasListing}
+use Rattle.pop3_wire.specs.Fields.{number_and_size}
 use Rattle.pop3_wire.specs.Honest.{Grants, Asked, Honest, no_marks}
 use Rattle.pop3_wire.specs.World.{Message}
 use Rattle.mail_terms.specs.Listing.{Item, Joins}
@@ -16,17 +16,12 @@ use Rattle.mail_terms.specs.declared.listing.UidRow.{UidRow}
 use Rattle.mail_terms.specs.declared.listing.ScanRow.{ScanRow}
 use Rattle.run_law.specs.Mails.{listing_of}
 
--- a body of content lines, where a positive reply to the command has one
-abbrev pub IsBody : Command → Option (List (List ℕ)) → Type 0
-IsBody command None = has_body command ≡ false
-IsBody command (Some lines) = (has_body command ≡ true) × AllByRecursion IsContent lines
-
 -- a whole and positive reply to the command
 pub record IsGood (command : Command) (reply : WholeReply) : Type 0 where
   pub rest : List ℕ
   pub line : IsLine reply.first
   pub positive : IsFirstLine reply.first Positive rest
-  pub body : IsBody command reply.body
+  pub body : IsBodyIf (has_body command) reply.body
 
 -- whole and positive replies to the first of these commands
 abbrev pub AreGood : List Command → List WholeReply → Type 0
@@ -72,16 +67,6 @@ abbrev pub TextsAreMessages : Type 0
 TextsAreMessages = (drop : List Message) (marks : List Bool) (commands : List Command) (replies : List WholeReply) (found : List (ℕ × List ℕ))
     → AreGood commands replies → AreGranted drop marks commands replies → Retrieves commands replies found → AllByRecursion (IsNumbered drop) found
 
--- rows as the session reads them
-abbrev pub IsUidLine : List ℕ → UidRow → Type 0
-IsUidLine line row = number_and_id (unstuffed line) ≡ Ok (row.number, row.uid.items)
-
-abbrev pub IsScanLine : List ℕ → ScanRow → Type 0
-IsScanLine line row = number_and_size (unstuffed line) ≡ Ok (row.number, row.size)
-
-abbrev pub HasRows : {R : Type 0} → (List ℕ → R → Type 0) → WholeReply → List R → Type 0
-HasRows IsRow reply rows = (lines : List (List ℕ)) × (reply.body ≡ Some lines) × AllZip IsRow lines rows
-
 -- the count of STAT's reply
 abbrev pub TellsCount : WholeReply → ℕ → Type 0
 TellsCount reply count = (rest : List ℕ) × (total : ℕ) × IsFirstLine reply.first Positive rest × (number_and_size rest ≡ Ok (count, total))
@@ -92,8 +77,8 @@ pub record IsListed (stat uidl list : WholeReply) (items : List Item) : Type 0 w
   pub uids : List UidRow
   pub sizes : List ScanRow
   pub counts : TellsCount stat count
-  pub named : HasRows IsUidLine uidl uids
-  pub sized : HasRows IsScanLine list sizes
+  pub named : HasListing IsUidLine uidl uids
+  pub sized : HasListing IsScanLine list sizes
   pub joined : Joins count uids sizes items
 
 -- a joined listing is the maildrop's

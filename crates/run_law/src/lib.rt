@@ -4,15 +4,29 @@
 ghost use Rattle.run_law.specs.Runs.{CanEnd, KeptHoldsExactly, KeptStaysKept, StartsKept, WantsNext};
 ghost use Rattle.run_law.specs.Readings.{HonestIsGranted, ListingIsMaildrop, MarksAreAsked, TextsAreMessages};
 ghost use Rattle.run_law.specs.Chains.{ChainsKeep};
-ghost use Rattle.run_law.specs.Plans.{FrontsAreAsked, PlanGivesNumbers};
+ghost use Rattle.run_law.specs.Plans.{PlanGivesNumbers};
 ghost use Rattle.run_law.specs.Safety.{SessionsAreSafe};
 ghost use Rattle.run_law.specs.Sessions.{LinksAreVisits, LinksKeep};
 ghost use Rattle.run_law.specs.Told.{ToldStores};
 
+use fetch_rules::{distinct_messages_are_filtered, held_is_delivered, marked_is_delivered};
+use mail_store::{flags_tell_what_is_held, names_are_bases, names_differ};
+use pop3_wire::{
+    only_one_body, only_one_line, only_one_list_of_commands, only_one_list_of_lines,
+    only_one_reading,
+};
+
 /// From a kept state every list of sessions and moves leads to a kept state, and each session keeps its promises.
 pub fn kept_states()
     ensures { KeptStaysKept }
-{}
+{
+    names_differ();
+    names_are_bases();
+    distinct_messages_are_filtered();
+    held_is_delivered();
+    flags_tell_what_is_held();
+    marked_is_delivered();
+}
 
 /// A kept state holds exactly the first of the selected messages, each once.
 pub fn holds_exactly()
@@ -27,17 +41,27 @@ pub fn starts_kept()
 /// Of an honest conversation each whole and positive reply is what the command asks of the maildrop.
 pub fn honest_is_granted()
     ensures { HonestIsGranted }
-{}
+{
+    only_one_line();
+    only_one_reading();
+    only_one_list_of_commands();
+}
 
 /// Of granted replies the text of each RETR is its message's.
 pub fn texts_are_messages()
     ensures { TextsAreMessages }
-{}
+{
+    only_one_line();
+    only_one_body();
+}
 
 /// Of granted replies a joined listing is the maildrop's.
 pub fn listing_is_maildrop()
     ensures { ListingIsMaildrop }
-{}
+{
+    only_one_line();
+    only_one_list_of_lines();
+}
 
 /// What is marked at the end of an honest conversation was asked for by DELE.
 pub fn marks_are_asked()
@@ -47,22 +71,37 @@ pub fn marks_are_asked()
 /// Over honest links, from a kept state, every list of sessions and moves leads through kept states.
 pub fn links_keep()
     ensures { LinksKeep }
-{}
+{
+    kept_states();
+    links_are_visits();
+}
 
 /// A session over an honest link is a visit of the law over runs.
 pub fn links_are_visits()
     ensures { LinksAreVisits }
-{}
+{
+    only_one_list_of_commands();
+    honest_is_granted();
+    texts_are_messages();
+    listing_is_maildrop();
+}
 
 /// In every situation a session can end.
 pub fn can_end()
     ensures { CanEnd }
-{}
+{
+    distinct_messages_are_filtered();
+}
 
 /// In a kept state what is wanted is the next of the selected messages that have come.
 pub fn wants_next()
     ensures { WantsNext }
-{}
+{
+    distinct_messages_are_filtered();
+    held_is_delivered();
+    flags_tell_what_is_held();
+    marked_is_delivered();
+}
 
 /// The texts that a session retrieves are those of the first of the wanted messages.
 pub fn plan_gives_numbers()
@@ -72,21 +111,22 @@ pub fn plan_gives_numbers()
 /// From a kept account, over honest links, a list of sessions leaves a kept account.
 pub fn chains_keep()
     ensures { ChainsKeep }
-{}
+{
+    kept_states();
+    links_are_visits();
+}
 
 /// A session told with its numbers is one that the law over runs takes.
 pub fn told_stores()
     ensures { ToldStores }
 {}
 
-/// Octets that begin those of some commands are the first of these whole, and perhaps a part of one
-/// more.
-pub fn fronts_are_asked()
-    ensures { FrontsAreAsked }
-{}
-
 /// Whatever its server says, a session loses and changes no file of `new` and `cur`, and sends a DELE
 /// only for a message that was recorded as delivered before, or was held, or whose text it stored.
 pub fn sessions_are_safe()
     ensures { SessionsAreSafe }
-{}
+{
+    held_is_delivered();
+    flags_tell_what_is_held();
+    marked_is_delivered();
+}

@@ -4,7 +4,7 @@ ghost use Rattle.std.specs.Prelude.{◌≡◌, false, ℕ, ◌≢◌, ◌≤◌,
 ghost use Rattle.hex.specs.Hex.{encode_lower};
 ghost use Rattle.mail_terms.specs.UniqueId.{IsLegalId};
 ghost use Rattle.mail_terms.specs.MaildirName.{base};
-ghost use Rattle.mail_store.specs.FileName.{IsAccountText, is_held, longest_name, name_of};
+ghost use Rattle.mail_store.specs.FileName.{IsAccountText, NamesAreBases, NamesDiffer, is_held, longest_name, name_of};
 ghost use Rattle.mail_store.specs.Maildir.{Maildir, IsInNew, file, with_file};
 
 use crate::account::AccountId;
@@ -30,14 +30,14 @@ pub fn file_name(alloc: Global, account: &AccountId, uid: &[u8]) -> Result<Strin
 
 /// Two ids of one account have different names.
 pub fn names_differ()
-    ensures { (account a b : List ℕ) → IsLegalId a → IsLegalId b → name_of account a ≡ name_of account b → a ≡ b }
+    ensures { NamesDiffer }
 {
     legal_ids_have_ranges();
 }
 
 /// The base of an id's name is the name: it holds no colon.
 pub fn names_are_bases()
-    ensures { (account uid : List ℕ) → IsAccountText account → base (name_of account uid) ≡ name_of account uid }
+    ensures { NamesAreBases }
 {}
 
 /// A mark behind a name, which begins with a colon, doesn't change its base.

@@ -3,7 +3,7 @@ use Rattle.fetch_runs.proofs.Bridge as bridge
 use Rattle.fetch_runs.proofs.laws.session_is_a_step.Goals as goal
 
 pub returns : goal.returns
-returns c = bridge.session_is_a_step laws c.told_stores.ensures c.conversations_are_paced.ensures c.fronts_are_asked.ensures
+returns c = bridge.session_is_a_step laws c.told_stores.ensures c.turns_join.ensures c.conversations_are_paced.ensures c.fronts_are_asked.ensures
   where
     laws : Laws
     laws = record {

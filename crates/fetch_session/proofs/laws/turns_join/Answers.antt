@@ -1,0 +1,5 @@
+use Rattle.fetch_session.proofs.TurnLemmas.{talked_none, talked_on}
+use Rattle.fetch_session.proofs.laws.turns_join.Goals as goal
+
+pub returns : goal.returns
+returns c = record { none = talked_none; on = talked_on }
