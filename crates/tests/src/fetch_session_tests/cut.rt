@@ -1,7 +1,8 @@
 //! Sessions whose link ends or fails, and the sessions after them.
 
+use crate::fetch_session_tests::list::expect_by_one_call;
 use crate::fetch_session_tests::visit::{
-    A_LISTED, LISTED, ONE, THREE, TWO, Visit, WHOLE, expect, nothing_kept, run,
+    A_LISTED, LISTED, ONE, THREE, TWO, Visit, expect, nothing_kept, run,
 };
 use crate::mail_store_tests::name::name_of;
 use mail_store::MemoryFile;
@@ -21,7 +22,8 @@ fn goes_on_after_a_cut(rt: HostRuntime) -> Result<(), Fail> {
              getmail-seen 1/a 0 0/b 0 0/c 0 0/+ 1/a 0 1/+ 1/b 0 1/+ 1/c 0 1/",
         ),
     ];
-    expect(&rt, &rows)
+    expect(&rt, &rows)?;
+    expect_by_one_call(&rt, "", &rows)
 }
 
 #[test]
@@ -54,32 +56,5 @@ fn tells_reading_from_writing(rt: HostRuntime) -> Result<(), Fail> {
         let (_kept, told) = run(rt.alloc(), nothing_kept(rt.alloc()), &refused, 1)?;
         assert_eq!(rt; told.as_str(), wanted);
     }
-    Ok(())
-}
-
-#[test]
-fn stores_each_message_once_wherever_replies_end(rt: HostRuntime) -> Result<(), Fail> {
-    let alloc = rt.alloc();
-    let mut has_ended = false;
-    let mut cut = Visit::new(alloc, "", 0, &[LISTED, ONE, TWO, THREE, "+OK|"])?;
-    let whole = Visit::new(
-        alloc,
-        "read_all = true",
-        0,
-        &[LISTED, ONE, TWO, THREE, "+OK|"],
-    )?;
-    for calls in 0..150 {
-        cut.calls = calls;
-        let (kept, told) = run(alloc, nothing_kept(alloc), &cut, 1)?;
-        if told.as_str().contains("Ended") {
-            has_ended = true;
-        }
-        let (_kept, told) = run(alloc, kept, &whole, 4096)?;
-        assert!(rt;
-            told.as_str().starts_with(WHOLE),
-            "after {calls} calls: {told}"
-        );
-    }
-    assert!(rt; has_ended);
     Ok(())
 }

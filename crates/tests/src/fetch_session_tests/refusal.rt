@@ -2,11 +2,10 @@
 ghost use Rattle.std.specs.Prelude.{◌<◌};
 
 use crate::fetch_session_tests::visit::{
-    Fuse, Kept, LISTED, ONE, SOUND, THREE, TWO, Visit, WHOLE, nothing_kept, run,
+    Fuse, Kept, LISTED, ONE, THREE, TWO, Visit, nothing_kept, run,
 };
 use mail_store::FlatFile;
 use std::alloc::Global;
-use std::process::Abort;
 use std::test::Fail;
 
 /// What is kept after the session that tells this, where the Maildir refuses a call; which one
@@ -128,88 +127,4 @@ fn leaves_alone_what_is_no_record(rt: HostRuntime) -> Result<(), Fail> {
         assert_eq!(rt; told.as_str(), wanted.as_str());
     }
     Ok(())
-}
-
-/// A device of a session.
-#[derive(Clone, Copy)]
-enum Device {
-    Maildir,
-    Record,
-}
-
-/// How many calls a session makes of a device. Each in turn is refused, and after each of these
-/// sessions one with sound devices tells that each message is there once.
-fn calls_refused_in_turn(
-    alloc: Global,
-    visit: &mut Visit,
-    whole: &str,
-    device: Device,
-    takes_effect: bool,
-    cut: usize,
-) -> Result<u64, Fail>
-    requires { 0 < cut }
-{
-    for passes in 0..64 {
-        let fuse = Fuse {
-            passes,
-            takes_effect,
-        };
-        match device {
-            Device::Maildir => visit.disk = fuse,
-            Device::Record => visit.record = fuse,
-        }
-        let (kept, first) = run(alloc, nothing_kept(alloc), visit, cut)?;
-        visit.disk = SOUND;
-        visit.record = SOUND;
-        let (_kept, told) = run(alloc, kept, visit, cut)?;
-        if !told.as_str().starts_with(whole) {
-            return Err(Fail::new("a message is missing, or there twice"));
-        }
-        if first.as_str().contains("Ended") {
-            return Ok(passes);
-        }
-    }
-    Err(Fail::new("a call is refused each time"))
-}
-
-/// Compares how many calls the session makes that meets these replies.
-fn expect_calls(
-    rt: &(impl Abort + AllocGlobal),
-    options: &str,
-    replies: &[&str],
-    whole: &str,
-) -> Result<(), Fail> {
-    let mut visit = Visit::new(rt.alloc(), options, 0, replies)?;
-    let rows = [
-        // two on what is held; for each text one to begin, one to settle, and one for each piece
-        (Device::Maildir, 4096usize, 11u64),
-        (Device::Maildir, 1, 22),
-        // a load, a replace and three appends
-        (Device::Record, 4096, 5),
-    ];
-    for (device, cut, wanted) in rows {
-        assert!(rt; cut > 0);
-        for takes_effect in [false, true] {
-            let calls = calls_refused_in_turn(
-                rt.alloc(),
-                &mut visit,
-                whole,
-                device,
-                takes_effect,
-                cut,
-            )?;
-            assert_eq!(rt; calls, wanted);
-        }
-    }
-    Ok(())
-}
-
-#[test]
-fn recovers_from_each_call_that_is_refused(rt: HostRuntime) -> Result<(), Fail> {
-    let kept = [LISTED, ONE, TWO, THREE, "+OK|+OK|"];
-    expect_calls(&rt, "read_all = true", &kept, WHOLE)?;
-    let deleted = [LISTED, ONE, "+OK|", TWO, "+OK|", THREE, "+OK|+OK|"];
-    let whole = "P|RETR 1|DELE 1|RETR 2|DELE 2|RETR 3|DELE 3|QUIT| Ended 3/3 14 s0 d3 - \
-        a=one/ b=two/ c=three/ - - ";
-    expect_calls(&rt, "read_all = true\ndelete = true", &deleted, whole)
 }

@@ -26,10 +26,6 @@ pub const TWO: &str = "+OK|two|.|";
 
 pub const THREE: &str = "+OK|three|.|";
 
-/// What a session tells first that reads all of a, b and c, each of which is kept once then.
-pub const WHOLE: &str =
-    "P|RETR 1|RETR 2|RETR 3|QUIT| Ended 3/3 14 s0 d0 - a=one/ b=two/ c=three/ - - ";
-
 /// After how many calls a device refuses, and whether the first call that it refuses takes effect
 /// nevertheless.
 #[derive(Clone, Copy)]
@@ -48,10 +44,10 @@ pub const SOUND: Fuse = Fuse {
 #[derive(Drop)]
 pub struct Visit {
     /// Lines of the section `[options]`; `read_all` is false unless they say otherwise.
-    options: String,
-    now: u64,
+    pub options: String,
+    pub now: u64,
     /// What the server says, from its greeting on.
-    replies: Vec<u8>,
+    pub replies: Vec<u8>,
     /// How many calls the link passes.
     pub calls: u64,
     pub disk: Fuse,
@@ -80,7 +76,18 @@ impl Visit {
             record: SOUND,
         })
     }
+
+    /// A new link of this session, which gives at most `cut` octets at once.
+    pub fn link(&self, alloc: Global, cut: usize) -> Result<FusedWire<ScriptWire>, AllocError>
+        requires { 0 < cut }
+    {
+        let script = ScriptWire::new(alloc, self.replies.clone()?, cut);
+        Ok(FusedWire::new(script, self.calls))
+    }
 }
+
+/// An account of the tests, whose devices can refuse any call.
+pub type Fred = Account<Fused<MemoryMaildir>, Fused<MemoryFile>, BuildHasherDefault<FoldHasher>>;
 
 /// What stands between sessions.
 #[derive(Drop)]
@@ -111,13 +118,36 @@ pub fn settings(alloc: Global, options: &str) -> Result<Settings, Fail>
     Ok(settings)
 }
 
-/// A link that gives these replies, in which `|` stands for CR LF.
-pub fn script(alloc: Global, replies: &[&str]) -> Result<ScriptWire, AllocError> {
-    let mut octets = Vec::new(alloc);
-    for reply in replies {
-        put_octets(&mut octets, reply)?;
+/// An account with these options over what is kept, whose Maildir and record refuse calls so.
+pub fn account(
+    alloc: Global,
+    options: &str,
+    kept: Kept,
+    disk: Fuse,
+    record: Fuse,
+) -> Result<Fred, Fail> {
+    let Kept {
+        mut maildir,
+        record: file,
+    } = kept;
+    maildir.abandon();
+    Ok(Account::new(
+        alloc,
+        settings(alloc, options)?,
+        Store::Maildir(Fused::new(maildir, disk.passes, disk.takes_effect)),
+        Fused::new(file, record.passes, record.takes_effect),
+        BuildHasherDefault::<FoldHasher>::new(),
+    ))
+}
+
+/// What the sessions of an account leave.
+pub fn kept_by(account: Fred) -> Kept {
+    let (_settings, store, record) = account.into_parts();
+    let Store::Maildir(disk) = store;
+    Kept {
+        maildir: disk.into_inner(),
+        record: record.into_inner(),
     }
-    Ok(ScriptWire::new(alloc, octets, 4096))
 }
 
 /// Puts the octets of a reply behind others.
@@ -148,7 +178,7 @@ fn shown(alloc: Global, bytes: &[u8]) -> Result<String, AllocError> {
 }
 
 /// What was sent; `P` stands for all that comes before the first RETR of a session that is let in.
-fn sent(alloc: Global, wire: FusedWire<ScriptWire>) -> Result<String, AllocError> {
+pub fn sent(alloc: Global, wire: FusedWire<ScriptWire>) -> Result<String, AllocError> {
     let script = wire.into_inner();
     let text = shown(alloc, script.sent())?;
     match text.strip_prefix("USER fred|PASS secret|STAT|UIDL|LIST|") {
@@ -201,28 +231,11 @@ pub fn held(alloc: Global, kept: &Kept) -> Result<String, AllocError> {
 pub fn run(alloc: Global, kept: Kept, visit: &Visit, cut: usize) -> Result<(Kept, String), Fail>
     requires { 0 < cut }
 {
-    let settings = settings(alloc, visit.options.as_str())?;
-    let script = ScriptWire::new(alloc, visit.replies.clone()?, cut);
-    let mut wire = FusedWire::new(script, visit.calls);
-    let Kept {
-        mut maildir,
-        record,
-    } = kept;
-    maildir.abandon();
-    let mut account = Account::new(
-        alloc,
-        settings,
-        Store::Maildir(Fused::new(maildir, visit.disk.passes, visit.disk.takes_effect)),
-        Fused::new(record, visit.record.passes, visit.record.takes_effect),
-        BuildHasherDefault::<FoldHasher>::new(),
-    );
+    let mut wire = visit.link(alloc, cut)?;
+    let options = visit.options.as_str();
+    let mut account = account(alloc, options, kept, visit.disk, visit.record)?;
     let report = session(&mut account, &mut wire, visit.now);
-    let (_settings, store, record) = account.into_parts();
-    let Store::Maildir(disk) = store;
-    let kept = Kept {
-        maildir: disk.into_inner(),
-        record: record.into_inner(),
-    };
+    let kept = kept_by(account);
     let sent = sent(alloc, wire)?;
     let counts = counts(alloc, &report)?;
     let held = held(alloc, &kept)?;
