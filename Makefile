@@ -81,14 +81,18 @@ install: all
 	install -d $(bindir)
 	install -m 755 bin/getmail bin/popd $(bindir)
 	$(foreach page,$(pages),install -D -m 644 $(page) $(call place_of,$(page)) &&) true
-	install -D -m 644 completions/getmail.bash $(completions)/bash-completion/completions/getmail
-	install -D -m 644 completions/_getmail $(completions)/zsh/site-functions/_getmail
-	install -D -m 644 completions/getmail.fish $(completions)/fish/vendor_completions.d/getmail.fish
+	for name in getmail popd; do \
+	    install -D -m 644 completions/$$name.bash $(completions)/bash-completion/completions/$$name; \
+	    install -D -m 644 completions/_$$name $(completions)/zsh/site-functions/_$$name; \
+	    install -D -m 644 completions/$$name.fish $(completions)/fish/vendor_completions.d/$$name.fish; \
+	done
 
 uninstall:
 	rm -f $(bindir)/getmail $(bindir)/popd $(foreach page,$(pages),$(call place_of,$(page)))
-	rm -f $(completions)/bash-completion/completions/getmail $(completions)/zsh/site-functions/_getmail
-	rm -f $(completions)/fish/vendor_completions.d/getmail.fish
+	for name in getmail popd; do \
+	    rm -f $(completions)/bash-completion/completions/$$name $(completions)/zsh/site-functions/_$$name; \
+	    rm -f $(completions)/fish/vendor_completions.d/$$name.fish; \
+	done
 
 clean:
 	rm -rf bin

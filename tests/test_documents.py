@@ -34,7 +34,7 @@ def words_of(paths):
     """Every word that stands in a source, a definition, a test, a man page or the files of the build."""
     words = set()
     for path in paths:
-        if Path(path).suffix in SOURCES or path in ("Makefile", "crates.txt", "HANDLES", "completions/_getmail"):
+        if Path(path).suffix in SOURCES or path in ("Makefile", "crates.txt", "HANDLES", "completions/_getmail", "completions/_popd"):
             words.update(NAME.findall((TOP / path).read_text(errors="replace")))
         words.update(NAME.findall(Path(path).stem))
     return words

@@ -13,8 +13,9 @@ from getmail.test_stalls import SilentServer
 from harness import kernel, programs
 
 PAGES = {"1": "man1", "5": "man5", "8": "man8"}
-COMPLETIONS = ("share/bash-completion/completions/getmail", "share/zsh/site-functions/_getmail",
-               "share/fish/vendor_completions.d/getmail.fish")
+COMPLETIONS = [path for name in ("getmail", "popd") for path in (
+    f"share/bash-completion/completions/{name}", f"share/zsh/site-functions/_{name}",
+    f"share/fish/vendor_completions.d/{name}.fish")]
 
 
 class Install(unittest.TestCase):

@@ -9,15 +9,16 @@ SPEED = 60
 
 
 class Hurry:
-    """The environment of runs that wait the 60th part of what they ask for, and what they asked for."""
+    """The environment of runs that wait a part of what they ask for, the 60th here, and what they asked for."""
 
-    def __init__(self, library):
+    def __init__(self, library, speed):
         self.library = library
+        self.speed = speed
         self.note = Path(library).parent / "waits"
 
     def environment(self):
         self.note.unlink(missing_ok=True)
-        return {"LD_PRELOAD": str(self.library), "HURRY": str(SPEED), "HURRY_NOTE": str(self.note)}
+        return {"LD_PRELOAD": str(self.library), "HURRY": str(self.speed), "HURRY_NOTE": str(self.note)}
 
     def asked(self):
         """The bounds that the last run asked for: `read`, `write` or `poll`, and milliseconds."""
@@ -25,9 +26,9 @@ class Hurry:
         return [(word, int(milliseconds)) for word, milliseconds in rows]
 
 
-def hurry_for(tests):
+def hurry_for(tests, speed=SPEED):
     """A `Hurry`, whose library is there until the class of tests is over."""
     library = preload.library("hurry")
-    hurry = Hurry(library.__enter__())
+    hurry = Hurry(library.__enter__(), speed)
     tests.addClassCleanup(library.__exit__, None, None, None)
     return hurry

@@ -6,7 +6,7 @@ import threading
 import time
 import unittest
 
-from harness import preload, programs
+from harness import programs, waits
 from harness.kernel import LOOPBACK
 from popd import expected, lines
 from popd.service import Maildir, Service
@@ -124,20 +124,24 @@ class Connections(OverLoopback):
 class Waits(OverLoopback):
     """A client that neither says nor takes anything; ten minutes are a fifth of a second here."""
 
+    @classmethod
+    def setUpClass(cls):
+        cls.hurry = waits.hurry_for(cls, speed=3000)
+
     def setUp(self):
         super().setUp()
         self.maildir.add("new", "a", b"x" * 79 + b"\n" * 100_000)
-        self.library = self.enterContext(preload.library("short_waits"))
 
     def service(self):
-        return Service(self.maildir, "--connections", "2", LD_PRELOAD=str(self.library))
+        return Service(self.maildir, "--connections", "2", **self.hurry.environment())
 
     def check_next_client(self, service, told):
-        """The message that was marked is still there for the next client, and this was told."""
+        """The message that was marked is still there for the next client, this was told, and these waits asked for."""
         with service.client() as client:
             self.assertEqual(client.log_in(), b"+OK 1 messages\r\n")
             self.assertEqual(client.ask(b"QUIT"), b"+OK bye\r\n")
         self.assertEqual(service.finish(), (0, told))
+        self.assertEqual(self.hurry.asked(), [("read", 600_000), ("write", 600_000)] * 2)
 
     def test_a_client_that_says_nothing(self):
         for given in (b"", b"USER u", b"USER u\r\nPASS p\r\nDELE 1\r\n", b"USER u\r\nPASS p\r\nDELE 1\r\nQUIT\r"):

@@ -32,7 +32,7 @@ class Words(unittest.TestCase):
             with self.subTest(words):
                 run = self.run_popd(*words)
                 self.assertEqual((run.status, run.err), (0, b""))
-                for word in (b"--listen", b"--connections", b"--rehearse", b"USER PASSFILE MAILDIR"):
+                for word in (b"--listen", b"--connections", b"--rehearse", b"--verbose", b"USER PASSFILE MAILDIR"):
                     lines = [line for line in run.out.splitlines() if line.strip(b" []<").startswith(word)]
                     self.assertEqual(len(lines), 1, run.out)
                     self.assertGreater(len(lines[0].split(b"  ")[-1].split()), 3, "it has no line of help")
@@ -121,6 +121,7 @@ class Words(unittest.TestCase):
 
     def test_words_without_effect(self):
         for words in (["--rehearse"], ["--rehearse", "--rehearse"], ["--rehearse", "--listen", "nonsense"],
+                      ["--rehearse", "--verbose"], ["--verbose", "--verbose", *self.served],
                       ["--rehearse", "--connections", "0"], ["--connections", "0", *self.served],
                       ["--connections", "4294967295", *self.served], ["--", *self.served],
                       ["u", "--connections", "0", *self.served[1:]], [*self.served, "--connections", "3"]):

@@ -1,6 +1,7 @@
 mod CloseLemmas
 mod DigestLemmas
 mod DistinctLemmas
+mod EventLemmas
 mod GoneLemmas
 mod HonestLemmas
 mod HonestLoopLemmas

@@ -31,6 +31,21 @@ pub record Progress {D : Type 0} (sound : D → Type 0) (mail : D → Mail) (old
   pub sent : link.sent ≡ before.sent ++ (greeting ++ answers)
   pub run : AnswersLines sound mail old lines answers server
 
+-- the greeting went out
+pub greeted : {D : Type 0} (sound : D → Type 0) (mail : D → Mail) (old server : Machine D) (before link : Link) (waiting : Waiting) (hello : List ℕ) → server ≡ old → hello ≡ greeting
+    → link ≡ record before { sent = before.sent ++ hello } → waiting ≡ record { octets = []; left = 16777216 } → Progress sound mail old before server link waiting
+greeted sound mail old server before link waiting hello same is sends starts = record {
+  gained = [];
+  lines = [];
+  answers = [];
+  each = tt;
+  got = ap (λ (l : Link). l.got) sends ∙ sym (append-nil before.got);
+  heard = sym (ap (λ (w : Waiting). w.octets) starts);
+  left = let all : waiting.left ≡ 16777216 = ap (λ (w : Waiting). w.left) starts in omega (arith, all);
+  sent = ap (λ (l : Link). l.sent) sends ∙ ap (λ (l : List ℕ). before.sent ++ l) (is ∙ sym (append-nil greeting));
+  run = (refl, same);
+}
+
 -- a run of one line
 pub run_one : {D : Type 0} (sound : D → Type 0) (mail : D → Mail) (a b : Machine D) (line answer : List ℕ) → AnswersLine sound mail a line answer b → AnswersLines sound mail a (line ∷ []) answer b
 run_one sound mail a b line answer turn = (answer, [], b, sym (append-nil answer), turn, (refl, refl))

@@ -1,4 +1,5 @@
 pub mod AnswersLines
+pub mod Events
 pub mod Got
 pub mod HonestLoop
 pub mod HonestServer

@@ -1,5 +1,5 @@
 //! What a server does for each command: the table of states and commands (RFC 1939, sections 4 to 7).
-ghost use Rattle.std.specs.Prelude.{◌≡◌, ℕ, Bool, map, slice_get, Some, None, IfOk, IfErr, MatchResult, bytes_eq, codes, ◌++◌};
+ghost use Rattle.std.specs.Prelude.{◌≡◌, ℕ, Bool, map, slice_get, Some, None, IfOk, IfErr, IfSome, MatchResult, bytes_eq, codes, ◌++◌};
 ghost use Rattle.pop3_wire.specs.declared.command.Command.TheVariants.{Retr, Top, Dele, Rset};
 ghost use Rattle.pop3_server.specs.declared.rows.MessageRow.{MessageRow};
 ghost use Rattle.pop3_server.specs.declared.state.State.{State};
@@ -52,7 +52,7 @@ fn retr<D: Maildrop>(
     ensures err { IfErr result (λ e. (e ≡ ServerFault.NoMemory) × Unanswered D.sound D.mail drop.old drop.new) }
 {
     let Some(i) = rows.place(number) else {
-        return Ok(say(alloc, b"-ERR no such message")?);
+        return say(alloc, b"-ERR no such message");
     };
     let unavailable = say(alloc, b"-ERR message unavailable")?;
     let mut reply = begin_text(alloc, rows.row(i))?;
@@ -77,7 +77,7 @@ fn top<D: Maildrop>(
     ensures err { IfErr result (λ e. (e ≡ ServerFault.NoMemory) × Unanswered D.sound D.mail drop.old drop.new) }
 {
     let Some(i) = rows.place(number) else {
-        return Ok(say(alloc, b"-ERR no such message")?);
+        return say(alloc, b"-ERR no such message");
     };
     let unavailable = say(alloc, b"-ERR message unavailable")?;
     match read_top(alloc, drop, i, count) {
@@ -255,6 +255,7 @@ pub fn transact<D: Maildrop>(
     ensures tied { MatchResult result
         (λ step. Tied (D.sound drop.new) (D.mail drop.new) (next_of (Transaction rows.new) step.1))
         (λ e. Tied (D.sound drop.new) (D.mail drop.new) (Transaction rows.new)) }
+    ensures keeps { IfOk result (λ step. IfSome step.1 (λ next. rows.new ≡ rows.old)) }
     ensures err { IfErr result (λ e. (e ≡ ServerFault.NoMemory) × (rows.new ≡ rows.old) × Unanswered D.sound D.mail drop.old drop.new) }
 {
     match command {

@@ -77,11 +77,7 @@ impl Kept {
             return 0;
         }
         let rest = &text[start..];
-        let n = if rest.len() < piece.len() {
-            rest.len()
-        } else {
-            piece.len()
-        };
+        let n = rest.len().min(piece.len());
         piece[..n].copy_from_slice(&rest[..n]);
         n
     }

@@ -1,11 +1,13 @@
 //! The server: a machine that is given lines and gives answers (RFC 1939).
-ghost use Rattle.std.specs.Prelude.{◌≡◌, not, true, None, Ok, IfOk, IfErr};
+ghost use Rattle.std.specs.Prelude.{◌≡◌, ◌-◌, ℕ, not, true, None, Ok, IfOk, IfErr};
 ghost use Rattle.pop3_wire.specs.CommandLine.{command_of};
 ghost use Rattle.pop3_server.specs.declared.state.State.TheVariants.{Authorization};
+ghost use Rattle.pop3_server.specs.Events.{event_of};
 ghost use Rattle.pop3_server.specs.ServerMachine.{Answers, Unanswered, deed, greeting, is_open, next_of};
 
 use crate::commands::{Step, authorize, transact};
 use crate::fault::ServerFault;
+use crate::journal::{Event, event_of};
 use crate::maildrop::Maildrop;
 use crate::reply::say;
 use crate::state::State;
@@ -20,6 +22,8 @@ pub struct Answer {
     pub bytes: Vec<u8>,
     /// Whether the session is over after it.
     pub closing: bool,
+    /// What happened by it that one may want to know of.
+    pub event: Option<Event>,
 }
 
 /// A server of one session, over a maildrop. Contracts see whom it lets in, where it stands, and
@@ -54,19 +58,25 @@ fn is_closed(state: &State) -> bool
     }
 }
 
-/// Goes to the state that a step leads to, and gives its answer.
-fn take(state: &mut State, step: Step) -> Answer
+/// Goes to the state that a step leads to, and gives its answer. The maildrop refused so many calls
+/// in this step.
+#[tactic(auto, using(crate::proofs::EventLemmas::event_of_same))]
+fn take(state: &mut State, step: Step, refused: u64) -> Answer
     ensures state { state.new ≡ next_of state.old step.1 }
     ensures bytes { result.bytes.items ≡ step.0.items }
     ensures closing { result.closing ≡ not (is_open state.new) }
+    ensures event { result.event ≡ event_of state.old state.new refused }
 {
     let (bytes, next) = step;
+    let mut event = None;
     if let Some(next) = next {
+        event = event_of(state, &next, refused);
         *state = next;
     }
     Answer {
         bytes,
         closing: is_closed(state),
+        event,
     }
 }
 
@@ -96,11 +106,16 @@ impl<D: Maildrop> Server<D> {
     pub fn greeting(&mut self) -> Result<Answer, ServerFault>
         ensures same { self.new ≡ self.old }
         ensures ok { IfOk result (λ answer. (answer.bytes.items ≡ greeting) × (answer.closing ≡ not (is_open self.old.state))) }
+        ensures event { IfOk result (λ answer. answer.event ≡ None) }
         ensures err { IfErr result (λ e. e ≡ ServerFault.NoMemory) }
     {
         let bytes = say(self.alloc, b"+OK popd ready")?;
         let closing = is_closed(&self.state);
-        Ok(Answer { bytes, closing })
+        Ok(Answer {
+            bytes,
+            closing,
+            event: None,
+        })
     }
 
     /// The answer to a line without its CR LF. `is_open` tests the condition. NoMemory where a
@@ -112,16 +127,18 @@ impl<D: Maildrop> Server<D> {
             (deed self.old.user self.old.pass self.old.state (command_of line.now))
             self.old.drop answer.bytes.items self.new.state self.new.drop) }
         ensures closing { IfOk result (λ answer. answer.closing ≡ not (is_open self.new.state)) }
+        ensures event { IfOk result (λ answer. answer.event ≡ event_of self.old.state self.new.state
+            ((D.mail self.new.drop).failures - (D.mail self.old.drop).failures)) }
         ensures err { IfErr result (λ e. (e ≡ ServerFault.NoMemory) × (self.new.state ≡ self.old.state)
             × Unanswered D.sound D.mail self.old.drop self.new.drop) }
     {
         match read_command(self.alloc, line) {
             Ok(command) => self.obey(command),
             Err(WireFault::NoMemory) => Err(ServerFault::NoMemory),
-            Err(_) => Ok(Answer {
-                bytes: say(self.alloc, b"-ERR bad command")?,
-                closing: false,
-            }),
+            Err(_) => {
+                let step = (say(self.alloc, b"-ERR bad command")?, None);
+                Ok(take(&mut self.state, step, 0))
+            }
         }
     }
 
@@ -133,9 +150,12 @@ impl<D: Maildrop> Server<D> {
             (deed self.old.user self.old.pass self.old.state (Ok command))
             self.old.drop answer.bytes.items self.new.state self.new.drop) }
         ensures closing { IfOk result (λ answer. answer.closing ≡ not (is_open self.new.state)) }
+        ensures event { IfOk result (λ answer. answer.event ≡ event_of self.old.state self.new.state
+            ((D.mail self.new.drop).failures - (D.mail self.old.drop).failures)) }
         ensures err { IfErr result (λ e. (e ≡ ServerFault.NoMemory) × (self.new.state ≡ self.old.state)
             × Unanswered D.sound D.mail self.old.drop self.new.drop) }
     {
+        let failures = self.drop.failures();
         let step = match &mut self.state {
             State::Authorization(kept) => authorize(
                 self.alloc,
@@ -148,7 +168,8 @@ impl<D: Maildrop> Server<D> {
             State::Transaction(rows) => transact(self.alloc, &mut self.drop, rows, &command)?,
             State::Closed => unreachable!(),
         };
-        Ok(take(&mut self.state, step))
+        let refused = self.drop.failures().saturating_sub(failures);
+        Ok(take(&mut self.state, step, refused))
     }
 
     /// The maildrop.

@@ -6,6 +6,7 @@ ghost use Rattle.pop3_server.specs.Serving.{Served, refusal_of};
 
 use crate::fault::ServerFault;
 use crate::intake::{Heard, Intake};
+use crate::journal::{Event, Journal, NoJournal};
 use crate::maildrop::Maildrop;
 use crate::server::Server;
 use pop3_wire::Wire;
@@ -23,6 +24,13 @@ fn send<W: Wire>(wire: &mut W, bytes: &[u8]) -> Result<(), ServerFault>
     }
 }
 
+/// Tells a journal what happened, if anything did.
+fn tell<J: Journal>(journal: &mut J, event: Option<Event>) {
+    if let Some(event) = event {
+        journal.note(event);
+    }
+}
+
 /// Serves a link: sends the greeting, then an answer to each line, until QUIT or the end of input.
 /// Each answer is sent whole before the link is asked for more.
 ///
@@ -32,6 +40,23 @@ fn send<W: Wire>(wire: &mut W, bytes: &[u8]) -> Result<(), ServerFault>
 /// NoMemory where a growth was refused: after a fault nothing more is sent, and nothing is removed
 /// that QUIT hadn't removed.
 pub fn serve<D: Maildrop, W: Wire>(server: &mut Server<D>, wire: &mut W) -> Result<(), ServerFault>
+    requires { is_open server.old.state ≡ true }
+    ensures counted { CountsFailure (W.seen wire.old) (refusal_of result) (W.seen wire.new) }
+    ensures removals { is_open server.new.state ≡ true
+        → (D.mail server.new.drop).removals ≡ (D.mail server.old.drop).removals }
+    ensures served { WhereSound W.sound W.leads_to wire.old wire.new
+        (Served D.sound D.mail server.old (W.seen wire.old) result server.new (W.seen wire.new)) }
+{
+    serve_and_note(server, wire, &mut NoJournal)
+}
+
+/// Does what `serve` does, and tells a journal what happens, before the answer to the line that made it
+/// happen is sent.
+pub fn serve_and_note<D: Maildrop, W: Wire, J: Journal>(
+    server: &mut Server<D>,
+    wire: &mut W,
+    journal: &mut J,
+) -> Result<(), ServerFault>
     requires { is_open server.old.state ≡ true }
     ensures counted { CountsFailure (W.seen wire.old) (refusal_of result) (W.seen wire.new) }
     ensures removals { is_open server.new.state ≡ true
@@ -64,6 +89,7 @@ pub fn serve<D: Maildrop, W: Wire>(server: &mut Server<D>, wire: &mut W) -> Resu
                     Ok(answer) => answer,
                     Err(fault) => return Err(fault),
                 };
+                tell(journal, answer.event);
                 intake.skip(length + 2);
                 if let Err(fault) = send(wire, answer.bytes.as_slice()) {
                     return Err(fault);

@@ -29,10 +29,7 @@ pub fn put_text<D: Maildrop>(drop: &mut D, i: usize, reply: &mut Vec<u8>) -> Res
     let mut stuffer = Stuffer::new();
     let mut start = 0usize;
     loop {
-        let n = match drop.part(i, start, &mut part) {
-            Ok(n) => n,
-            Err(fault) => return Err(fault),
-        };
+        let n = drop.part(i, start, &mut part)?;
         if n == 0 {
             stuffer.end(reply)?;
             return Ok(());
@@ -64,10 +61,7 @@ pub fn read_top<D: Maildrop>(
     // Where the beginning is looked through: each time it is twice as long as before.
     let mut mark = 0usize;
     loop {
-        let n = match drop.part(i, beginning.len(), &mut part) {
-            Ok(n) => n,
-            Err(fault) => return Err(fault),
-        };
+        let n = drop.part(i, beginning.len(), &mut part)?;
         if n == 0 {
             return Ok(beginning);
         }

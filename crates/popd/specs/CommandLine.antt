@@ -19,12 +19,16 @@ connections_rule = record (new_rule (codes "connections")) { long = Some (codes 
 abbrev pub rehearse_rule : Rule
 rehearse_rule = record (new_rule (codes "rehearse")) { long = Some (codes "rehearse"); action = Some Count }
 
+-- `--verbose`
+abbrev pub verbose_rule : Rule
+verbose_rule = record (new_rule (codes "verbose")) { long = Some (codes "verbose"); action = Some Count }
+
 -- the words that are no options, any number of them
 abbrev pub rest_rule : Rule
 rest_rule = record (new_rule (codes "rest")) { value_names = 1; range = Some (record { start_inclusive = 0; end_inclusive = 18446744073709551615 }); action = Some Append }
 
 abbrev pub popd : App
-popd = with_rule (with_rule (with_rule (with_rule (new_app (codes "popd")) listen_rule) connections_rule) rehearse_rule) rest_rule
+popd = with_rule (with_rule (with_rule (with_rule (with_rule (new_app (codes "popd")) listen_rule) connections_rule) rehearse_rule) verbose_rule) rest_rule
 
 -- so many connections: the number that stands behind the option, the greatest where none does
 abbrev pub Numbers : Option (List ℕ) → ℕ → Type 0
@@ -41,4 +45,5 @@ pub record AsksFor (rows : List Row) (words : Words) : Type 0 where
   pub listen : option_map string_bytes words.listen ≡ first_of (codes "listen") rows
   pub connections : Numbers (one_of (codes "connections") rows) words.connections
   pub rehearse : words.rehearse ≡ nat_lt 0 (count_of (codes "rehearse") rows)
+  pub verbose : words.verbose ≡ nat_lt 0 (count_of (codes "verbose") rows)
   pub rest : map string_bytes words.rest.items ≡ positionals rows

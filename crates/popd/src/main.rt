@@ -10,6 +10,7 @@ mod failure;
 mod password;
 mod rehearsal;
 mod serving;
+mod telling;
 mod warning;
 mod words;
 
@@ -46,14 +47,14 @@ fn run<'a>(rt: &HostRuntime, words: &'a Words) -> Result<(), Failure<'a>>
         if !words.rest.is_empty() {
             return Err(Failure::WrongCount);
         }
-        let server = rehearsal_server(rt.alloc())?;
-        return Ok(serve_streams(rt, server)?);
+        let mut server = rehearsal_server(rt.alloc())?;
+        return Ok(serve_streams(rt, &mut server, words.verbose)?);
     }
     let account = read_account(rt, words)?;
     warn_of(rt, &account, words.rest[1].as_str())?;
     match &words.listen {
-        Some(address) => listen(rt, address.as_str(), words.connections, &account),
-        None => Ok(serve_maildir(rt, account)?),
+        Some(address) => listen(rt, address.as_str(), words, &account),
+        None => Ok(serve_maildir(rt, account, words.verbose)?),
     }
 }
 

@@ -4,8 +4,10 @@ ghost use Rattle.pop3_server.specs.ServerMachine.{is_open};
 
 use crate::account::{Account, RealMaildir};
 use crate::failure::{Failure, failure_of, tell};
+use crate::telling::{Peer, Telling};
 use crate::warning::{Warning, warn};
-use pop3_server::{Maildrop, Server, ServerFault, serve};
+use crate::words::Words;
+use pop3_server::{Maildrop, Server, ServerFault, serve_and_note};
 use pop3_wire::StreamWire;
 use std::net::{TcpListener, TcpStream};
 use std::time::Duration;
@@ -23,12 +25,18 @@ const PAUSE_SECONDS: u64 = 1;
 /// Serves standard input and output with this server.
 pub fn serve_streams<D: Maildrop + Drop>(
     rt: &HostRuntime,
-    mut server: Server<D>,
+    server: &mut Server<D>,
+    verbose: bool,
 ) -> Result<(), ServerFault>
-    requires { is_open server.state ≡ true }
+    requires { is_open server.old.state ≡ true }
 {
     let mut wire = StreamWire::new(rt.stdin(), rt.stdout());
-    serve(&mut server, &mut wire)
+    let mut telling = Telling {
+        rt,
+        verbose,
+        peer: Peer::StandardInput,
+    };
+    serve_and_note(server, &mut wire, &mut telling)
 }
 
 /// Bounds how long a read or a write of a connection waits.
@@ -46,11 +54,10 @@ fn warn_of_unread(rt: &HostRuntime, maildir: &RealMaildir<'_>) {
 }
 
 /// Serves standard input and output with the account's Maildir.
-pub fn serve_maildir(rt: &HostRuntime, account: Account) -> Result<(), ServerFault> {
+pub fn serve_maildir(rt: &HostRuntime, account: Account, verbose: bool) -> Result<(), ServerFault> {
     let maildir = account.open_maildir(rt)?;
     let mut server = account.into_server(rt.alloc(), maildir);
-    let mut wire = StreamWire::new(rt.stdin(), rt.stdout());
-    let served = serve(&mut server, &mut wire);
+    let served = serve_streams(rt, &mut server, verbose);
     warn_of_unread(rt, &server.into_drop());
     served
 }
@@ -58,11 +65,12 @@ pub fn serve_maildir(rt: &HostRuntime, account: Account) -> Result<(), ServerFau
 /// Serves one connection with a server of its own, over the Maildir as it is then, and gives the
 /// Maildir back for the next one.
 fn serve_stream<'a>(
-    rt: &'a HostRuntime,
+    telling: &mut Telling<'a>,
     stream: &TcpStream,
     account: &Account,
     maildir: RealMaildir<'a>,
 ) -> (Result<(), ServerFault>, RealMaildir<'a>) {
+    let rt = telling.rt;
     let account = match account.copy(rt.alloc()) {
         Ok(account) => account,
         Err(error) => return (Err(error.into()), maildir),
@@ -74,7 +82,7 @@ fn serve_stream<'a>(
     let _ = stream.set_nodelay(true);
     let mut server = account.into_server(rt.alloc(), maildir);
     let mut wire = StreamWire::new(stream, stream);
-    let served = serve(&mut server, &mut wire);
+    let served = serve_and_note(&mut server, &mut wire, telling);
     let maildir = server.into_drop();
     warn_of_unread(rt, &maildir);
     (served, maildir.renewed())
@@ -85,7 +93,7 @@ fn serve_stream<'a>(
 pub fn listen<'a>(
     rt: &HostRuntime,
     address: &'a str,
-    connections: u32,
+    words: &Words,
     account: &Account,
 ) -> Result<(), Failure<'a>>
     ensures { IfErr result (λ f. (f ≡ Failure.CannotListen address.entry) ⊎ (f ≡ Failure.Fault ServerFault.NoMemory)) }
@@ -95,10 +103,15 @@ pub fn listen<'a>(
         Err(error) => return Err(failure_of(error, Failure::CannotListen(address))),
     };
     let mut maildir = account.open_maildir(rt)?;
-    for _ in 0..connections {
+    for _ in 0..words.connections {
         let served = match listener.accept() {
-            Ok((stream, _)) => {
-                let (served, left) = serve_stream(rt, &stream, account, maildir);
+            Ok((stream, address)) => {
+                let mut telling = Telling {
+                    rt,
+                    verbose: words.verbose,
+                    peer: Peer::Address(address),
+                };
+                let (served, left) = serve_stream(&mut telling, &stream, account, maildir);
                 maildir = left;
                 served
             }

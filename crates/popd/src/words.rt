@@ -2,7 +2,7 @@
 ghost use Rattle.std.specs.Prelude.{◌≡◌, IfOk, false, map, option_map};
 ghost use Rattle.std.specs.String.{string_bytes};
 ghost use Rattle.clap.specs.Words.{FailsBy, app_of, fault_of, found_of, matches_of, rows_of, rule_of};
-ghost use Rattle.popd.specs.CommandLine.{AsksFor, connections_rule, listen_rule, popd, positionals, rehearse_rule, rest_rule};
+ghost use Rattle.popd.specs.CommandLine.{AsksFor, connections_rule, listen_rule, popd, positionals, rehearse_rule, rest_rule, verbose_rule};
 
 use clap::error::ErrorKind;
 use clap::{Arg, ArgAction, ArgMatches, Command, Error, value_parser};
@@ -17,6 +17,8 @@ pub struct Words {
     pub connections: u32,
     /// Whether the maildrop of the rehearsal is served.
     pub rehearse: bool,
+    /// Whether logins and removals are told.
+    pub verbose: bool,
     /// The words that are no options, in order.
     pub rest: Vec<String>,
 }
@@ -59,6 +61,19 @@ fn rehearse_option<'a>(alloc: Global) -> Arg<'a>
         .action(ArgAction::Count)
 }
 
+/// `--verbose`.
+fn verbose_option<'a>(alloc: Global) -> Arg<'a>
+    ensures rule { rule_of result ≡ verbose_rule }
+    ensures local { result.global ≡ false }
+{
+    Arg::new(alloc, "verbose")
+        .long("verbose")
+        .help(
+            "Tell each login, each one refused, and how many messages were removed on standard error",
+        )
+        .action(ArgAction::Count)
+}
+
 /// The words that are no options.
 fn rest_option<'a>(alloc: Global) -> Arg<'a>
     ensures rule { rule_of result ≡ rest_rule }
@@ -79,6 +94,7 @@ fn command<'a>(alloc: Global) -> Result<Command<'a>, AllocError>
         .arg(listen_option(alloc))?
         .arg(connections_option(alloc))?
         .arg(rehearse_option(alloc))?
+        .arg(verbose_option(alloc))?
         .arg(rest_option(alloc))
 }
 
@@ -121,6 +137,7 @@ fn words_of(alloc: Global, matches: &ArgMatches<'_>) -> Result<Words, AllocError
         listen: copy(alloc, matches.get_str("listen"))?,
         connections: matches.get_one("connections").unwrap_or(u32::MAX),
         rehearse: matches.get_count("rehearse") > 0,
+        verbose: matches.get_count("verbose") > 0,
         rest: positionals(alloc, matches)?,
     })
 }

@@ -1,4 +1,4 @@
-use Rattle.std.proofs.Common.{rules, ◌≡◌, ◌==◌, ℕ, true, false, not, length}
+use Rattle.std.proofs.Common.{rules, ◌≡◌, ◌==◌, false, not, length}
 use Rattle.pop3_server.specs.TextPiece.{HoldsTop}
 use Rattle.pop3_server.proofs.TextPieceLemmas.{holds_more}
 use Rattle.pop3_server.proofs.text_line.after_head.Goals as goal

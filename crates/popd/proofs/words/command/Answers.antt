@@ -8,4 +8,5 @@ returns c =
     let first = c.in_ok-arg.ensures.shape c.listen_option.ensures.local ∙ ap₂ with_rule c.new.ensures.app c.listen_option.ensures.rule in
     let second = c.in_ok-arg-2.ensures.shape c.connections_option.ensures.local ∙ ap₂ with_rule first c.connections_option.ensures.rule in
     let third = c.in_ok-arg-3.ensures.shape c.rehearse_option.ensures.local ∙ ap₂ with_rule second c.rehearse_option.ensures.rule in
-    IfOk-weaker c.arg-4.result _ _ (λ command added. added.shape c.rest_option.ensures.local ∙ ap₂ with_rule third c.rest_option.ensures.rule) c.arg-4.ensures
+    let fourth = c.in_ok-arg-4.ensures.shape c.verbose_option.ensures.local ∙ ap₂ with_rule third c.verbose_option.ensures.rule in
+    IfOk-weaker c.arg-5.result _ _ (λ command added. added.shape c.rest_option.ensures.local ∙ ap₂ with_rule fourth c.rest_option.ensures.rule) c.arg-5.ensures

@@ -15,5 +15,6 @@ returns c =
           (one_of (codes "connections") (rows_of found)) c.get_one.result c.unwrap_or.result (λ u x read. read.0)
           (λ none. c.get_one.ensures.none (text_is ∙ none)) (λ text is. c.get_one.ensures.value text (text_is ∙ is)) c.unwrap_or.ensures;
       rehearse = ap (nat_lt 0) c.get_count.ensures.value;
+      verbose = ap (nat_lt 0) c.get_count-2.ensures.value;
       rest = c.in_ok-positionals.ensures;
     }

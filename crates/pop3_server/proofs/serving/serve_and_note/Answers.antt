@@ -1,8 +1,8 @@
-use Rattle.std.proofs.Common.{◌≡◌, ◌+◌, true, take, sym, ◌∙◌}
+use Rattle.std.proofs.Common.{◌≡◌, ◌+◌, true, take, refl, sym, ◌∙◌}
 use Rattle.std.proofs.lemmas.Bool.{not-true, not-false}
 use Rattle.pop3_server.specs.ServerMachine.{is_open}
-use Rattle.pop3_server.proofs.ServeLemmas.{served_unmade, served_ungreeted, served_unsent, served_unanswered, served_closed, progress_line, long_turn, line_octets, turn_of, open_removals}
-use Rattle.pop3_server.proofs.serving.serve.Goals as goal
+use Rattle.pop3_server.proofs.ServeLemmas.{greeted, served_unmade, served_ungreeted, served_unsent, served_unanswered, served_closed, progress_line, long_turn, line_octets, turn_of, open_removals}
+use Rattle.pop3_server.proofs.serving.serve_and_note.Goals as goal
 
 pub returns-in-Err-clause-served : goal.returns-in-Err-clause-served
 returns-in-Err-clause-served g c = λ s. (
@@ -19,6 +19,20 @@ returns-in-Err-send-clause-served g c = λ s.
       rw c.in-Err-send.ensures.err (served_ungreeted g.D.Maildrop.sound g.D.Maildrop.mail c.args.server.now c.greeting.new.self (g.W.Wire.seen c.args.wire.now) (g.W.Wire.seen c.send.new.wire)
           c.as_slice.result.now sent.2.0 sent.2.1 ((g.W.Wire.seen c.args.wire.now).failures + 1) c.greeting.ensures.same (c.as_slice.ensures.value ∙ c.in-Ok.ensures.ok.0) sent.2.2 sent.2.3),
     )
+
+pub loop-heard-init : goal.loop-heard-init
+loop-heard-init g c = (
+  c.in_default.ensures.counted,
+  rw c.greeting.ensures.same c.requires,
+  rw c.greeting.ensures.same refl,
+  λ s.
+      let sent = c.in_default.ensures.sends s in (
+        sent.0,
+        sent.1,
+        greeted g.D.Maildrop.sound g.D.Maildrop.mail c.args.server.now c.greeting.new.self (g.W.Wire.seen c.args.wire.now) (g.W.Wire.seen c.send.new.wire) c.new-intake.result
+            c.as_slice.result.now c.greeting.ensures.same (c.as_slice.ensures.value ∙ c.in-Ok.ensures.ok.0) sent.2 c.new-intake.ensures,
+      ),
+)
 
 pub returns-in-Err-send-2-clause-served : goal.returns-in-Err-send-2-clause-served
 returns-in-Err-send-2-clause-served g c = λ s.

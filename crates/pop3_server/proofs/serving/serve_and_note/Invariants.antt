@@ -1,7 +1,7 @@
 use Rattle.std.proofs.Common.{◌≡◌, ◌+◌, ◌*◌, true, length}
 use Rattle.pop3_server.specs.ServerMachine.{is_open}
 use Rattle.pop3_server.proofs.ServeLemmas.{Progress}
-use Rattle.pop3_server.proofs.serving.serve.Given as goal
+use Rattle.pop3_server.proofs.serving.serve_and_note.Given as goal
 
 abbrev pub invariant-loop-heard : goal.invariant-loop-heard
 invariant-loop-heard g l = ((g.W.Wire.seen l.wire).failures ≡ (g.W.Wire.seen l.fn.wire).failures)

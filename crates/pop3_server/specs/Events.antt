@@ -1,0 +1,15 @@
+-- What one may want to know of a session while it goes on.
+use Rattle.std.specs.Prelude.{ℕ, zero, suc, ◌-◌, length, Option, Some, None}
+use Rattle.pop3_server.specs.declared.journal.Event.{Event}
+use Rattle.pop3_server.specs.declared.journal.Event.TheVariants.{LoggedIn, Refused, Unavailable, Left}
+use Rattle.pop3_server.specs.declared.state.State.{State}
+use Rattle.pop3_server.specs.declared.state.State.TheVariants.{Authorization, Transaction, Closed}
+use Rattle.pop3_server.specs.ServerMachine.{left_count}
+
+-- what happened where one state came after another, and the maildrop refused so many calls meanwhile
+abbrev pub event_of : State → State → ℕ → Option Event
+event_of (Authorization kept) (Transaction rows) refused = Some (LoggedIn (length rows))
+event_of (Authorization (Some name)) (Authorization None) zero = Some Refused
+event_of (Authorization (Some name)) (Authorization None) (suc refused) = Some Unavailable
+event_of (Transaction rows) Closed refused = Some (Left (length rows - left_count rows - refused) refused)
+event_of before after refused = None

@@ -1,0 +1,58 @@
+//! What one may want to know of a session while it goes on.
+ghost use Rattle.std.specs.Prelude.{◌≡◌};
+ghost use Rattle.pop3_server.specs.Events.{event_of};
+
+use crate::rows::left;
+use crate::state::State;
+
+/// What happened in a session.
+#[derive(Clone, Copy)]
+pub enum Event {
+    /// A client was let in, and finds so many messages.
+    LoggedIn(usize),
+    /// A name with its password was refused.
+    Refused,
+    /// A name with its password was right, and the maildrop couldn't be listed.
+    Unavailable,
+    /// QUIT ended the session: so many messages were removed, and the removal of so many was refused.
+    Left(usize, u64),
+}
+
+/// Who is told what happens in a session, while it goes on.
+pub trait Journal {
+    /// Takes note of what happened.
+    fn note(&mut self, event: Event);
+}
+
+/// A journal that keeps nothing.
+#[derive(Clone, Copy)]
+pub struct NoJournal;
+
+impl Journal for NoJournal {
+    fn note(&mut self, _event: Event) {}
+}
+
+/// What happened where one state came after another, and the maildrop refused so many calls meanwhile.
+pub fn event_of(old: &State, new: &State, refused: u64) -> Option<Event>
+    ensures { result ≡ event_of old.now new.now refused }
+{
+    match old {
+        State::Authorization(kept) => match new {
+            State::Transaction(rows) => Some(Event::LoggedIn(rows.as_slice().len())),
+            State::Authorization(None) if kept.is_none() => None,
+            State::Authorization(None) if refused > 0 => Some(Event::Unavailable),
+            State::Authorization(None) => Some(Event::Refused),
+            State::Authorization(Some(_)) | State::Closed => None,
+        },
+        State::Transaction(rows) => match new {
+            State::Closed => {
+                let rows = rows.as_slice();
+                let (kept, _) = left(rows);
+                let marked = rows.len() - kept;
+                Some(Event::Left(marked.saturating_sub(refused as usize), refused))
+            }
+            State::Authorization(_) | State::Transaction(_) => None,
+        },
+        State::Closed => None,
+    }
+}

@@ -1,0 +1,125 @@
+"""`--verbose`: a line on standard error for each login, each refused one and each QUIT that removed messages."""
+
+import os
+import select
+import unittest
+
+from harness import programs
+from harness.kernel import LOOPBACK
+from popd.service import Maildir, Service
+
+
+class Verbose(unittest.TestCase):
+    """A Maildir of its own for each test, with two messages."""
+
+    def setUp(self):
+        self.maildir = Maildir(b"secret\n")
+        self.addCleanup(self.maildir.holder.cleanup)
+        self.paths = [self.maildir.add("new", name, b"one\n") for name in ("a", "b")]
+
+    def service(self, connections=1):
+        return Service(self.maildir, "--verbose", "--connections", str(connections))
+
+    def talk(self, service, *commands, name=b"u", password=b"secret"):
+        """Logs in and says these commands over a connection of its own; the address that it had, and the answers."""
+        with service.client() as client:
+            client.line()
+            answers = [client.ask(command) for command in (b"USER " + name, b"PASS " + password, *commands)]
+            return f"{LOOPBACK}:{client.socket.getsockname()[1]}", answers
+
+    def check_told(self, service, *told):
+        """The server has ended and told these lines, and no others."""
+        status, err = service.finish()
+        self.assertEqual((status, err.decode().splitlines()), (0, [f"popd: {line}" for line in told]))
+
+    def test_a_login_and_removals(self):
+        with self.service(3) as service:
+            first, _ = self.talk(service, b"DELE 1", b"QUIT")
+            second, _ = self.talk(service, b"DELE 1", b"RSET", b"QUIT")
+            third, _ = self.talk(service, b"DELE 1")
+            self.check_told(service, f"{first}: logged in, 2 messages", f"{first}: 1 messages removed",
+                            f"{second}: logged in, 1 messages", f"{third}: logged in, 1 messages")
+
+    def test_a_login_is_told_while_it_goes_on(self):
+        with self.service() as service, service.client() as client:
+            client.line()
+            client.ask(b"USER u")
+            client.ask(b"PASS secret")
+            self.assertTrue(select.select([service.process.stderr], [], [], programs.NEXT_OUTPUT_SECONDS)[0])
+            self.assertIn(b": logged in, 2 messages\n", service.process.stderr.readline())
+
+    def test_refused_logins_show_nothing_of_what_was_tried(self):
+        tried = ((b"u", b"secret "), (b"U", b"secret"), (b"secret", b"u"), (b"\x1b[2Jname", b"\x07word\x9b"),
+                 (b"n" * 500, b"p" * 500), (b"\xff", b"%s%n"))
+        with self.service(len(tried)) as service:
+            told = []
+            for name, password in tried:
+                peer, answers = self.talk(service, b"QUIT", name=name, password=password)
+                self.assertEqual(answers[1], b"-ERR refused\r\n")
+                told.append(f"{peer}: login refused")
+            self.check_told(service, *told)
+
+    def test_each_refused_login_of_one_connection(self):
+        again = (b"USER u", b"PASS wrong", b"PASS wrong", b"USER u", b"PASS secret", b"QUIT")
+        with self.service() as service:
+            peer, _ = self.talk(service, *again, password=b"wrong")
+            self.check_told(service, *[f"{peer}: login refused"] * 2, f"{peer}: logged in, 2 messages")
+
+    def test_what_is_no_login(self):
+        with self.service(2) as service:
+            with service.client() as client:
+                client.line()
+                for command in (b"PASS secret", b"STAT", b"\x1b", b"x" * 600, b"USER u", b"NOOP", b"USER v", b"QUIT"):
+                    client.ask(command)
+            with service.client() as client:
+                client.line()
+            self.check_told(service)
+
+    def test_a_removal_that_is_refused(self):
+        """A file that is gone at QUIT can't be removed."""
+        with self.service() as service, service.client() as client:
+            client.line()
+            for command in (b"USER u", b"PASS secret", b"DELE 1", b"DELE 2"):
+                client.ask(command)
+            os.remove(self.paths[0])
+            self.assertEqual(client.ask(b"QUIT"), b"-ERR some messages not removed\r\n")
+            peer = f"{LOOPBACK}:{client.socket.getsockname()[1]}"
+            self.check_told(service, f"{peer}: logged in, 2 messages", f"{peer}: 1 messages removed, 1 not removed")
+
+    def test_a_maildrop_that_cannot_be_listed(self):
+        with self.service() as service:
+            for path in self.paths:
+                os.remove(path)
+            (self.maildir.folder / "new").rmdir()
+            peer, answers = self.talk(service, b"QUIT")
+            self.assertEqual(answers[1], b"-ERR maildrop unavailable\r\n")
+            self.check_told(service, f"{peer}: maildrop unavailable")
+
+
+class OverStandardStreams(unittest.TestCase):
+    def run_popd(self, *words):
+        with Maildir() as maildir:
+            maildir.add("new", "a", b"one\n")
+            given = b"USER u\r\nPASS \x1bq\r\nUSER u\r\nPASS p\r\nDELE 1\r\nQUIT\r\n"
+            return programs.run("popd", *words, "u", maildir.passfile, maildir.folder, given=given)
+
+    def test_with_the_option(self):
+        told = [f"popd: standard input: {line}\n"
+                for line in ("login refused", "logged in, 1 messages", "1 messages removed")]
+        run = self.run_popd("--verbose")
+        self.assertEqual((run.status, run.err.decode()), (0, "".join(told)))
+
+    def test_without_it_nothing_is_told(self):
+        run = self.run_popd()
+        self.assertEqual((run.status, run.err), (0, b""))
+        self.assertEqual(run.out, self.run_popd("--verbose").out)
+
+    def test_what_standard_error_does_not_take(self):
+        """Nothing of a session changes where the lines can't be written."""
+        with Maildir() as maildir, open("/dev/full", "wb") as full:
+            maildir.add("new", "a", b"one\n")
+            run = programs.run("popd", "--verbose", "u", maildir.passfile, maildir.folder, err=full,
+                               given=b"USER u\r\nPASS p\r\nDELE 1\r\nQUIT\r\n")
+            self.assertEqual(run.status, 0)
+            self.assertTrue(run.out.endswith(b"+OK bye\r\n"), run.out)
+            self.assertEqual(maildir.names(), [])
