@@ -39,6 +39,7 @@ use Rattle.fetch_runs.proofs.StateDone.{text_found}
 use Rattle.fetch_runs.proofs.StateBuilt.{Laws, effect_of}
 use Rattle.fetch_runs.proofs.StateCases.{is_ended, RefusedIn, UnsavedIn}
 use Rattle.fetch_runs.proofs.StateLaw.{WayLeads, session_leads}
+use Rattle.fetch_runs.proofs.TalkCommands.{begins_of}
 use Rattle.fetch_runs.proofs.TalkLaw.{Gained, talks}
 
 -- ---- deletions
@@ -122,6 +123,7 @@ module _ (stores : ToldStores) (settings : Settings) (account : List ℕ) (now :
       commands = said.tells.0;
       asked = said.tells.1;
       begun = begun_all account before.maildir [] [] tt said.tells.0 said.tells.2;
+      next = begins_of (IsDeleted []) (IsBegun [] []) (begun_one account before.maildir [] [] tt) said.tells.1.part said.tells.3;
       step = inl unchanged;
     };
   }
@@ -152,6 +154,7 @@ module _ (stores : ToldStores) (settings : Settings) (account : List ℕ) (now :
       commands = User said.tells.name ∷ Pass said.tells.word ∷ Stat ∷ UidlAll ∷ ListAll ∷ said.tells.more;
       asked = said.tells.talked.asked;
       begun = begun_all account before.maildir c.items (begun_of c) left.right (User said.tells.name ∷ Pass said.tells.word ∷ Stat ∷ UidlAll ∷ ListAll ∷ said.tells.more) said.tells.deletes;
+      next = begins_of (IsDeleted (begun_of c)) (IsBegun c.items (deleted_by c.items (begun_of c))) (begun_one account before.maildir c.items (begun_of c) left.right) said.tells.talked.asked.part said.tells.next;
       step = inr (
         stores settings account (holds rows before.maildir) (effect_of now (is_ended result) c) (holds left.rows' after.maildir) left.told,
         record {

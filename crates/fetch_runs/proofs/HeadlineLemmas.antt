@@ -2,6 +2,7 @@
 use Rattle.std.proofs.Common.{◌≡◌, ◌⊎◌, inl, inr, ◌-◌, ℕ, zero, suc, true, false, List, [], ◌∷◌, Some, refl, sym, ap, subst, ◌∙◌}
 use Rattle.std.specs.Prelude.{bytes_eq, slice_get}
 use Rattle.std.specs.List.{AllByRecursion}
+use Rattle.std.specs.String.{string_bytes}
 use Rattle.std.proofs.lemmas.Bool.{or_cases, true≢false}
 use Rattle.std.proofs.lemmas.List.{append-nil}
 use Rattle.std.proofs.lemmas.Slice.Eq.{bytes_eq-Decides}
@@ -9,7 +10,7 @@ use Rattle.pop3_wire.specs.declared.command.Command.{Command}
 use Rattle.pop3_wire.specs.declared.command.Command.TheVariants.{User, Pass, Stat, UidlAll, UidlOne, ListAll, ListOne, Retr, Dele, Rset, Noop, Top, Quit}
 use Rattle.pop3_wire.specs.World.{Message}
 use Rattle.mail_terms.specs.Listing.{Item}
-use Rattle.mail_store.specs.FileName.{is_held}
+use Rattle.mail_store.specs.FileName.{account_text, is_held, IsAccountText}
 use Rattle.mail_store.specs.Held.{flags_of}
 use Rattle.mail_store.specs.Maildir.{Maildir}
 use Rattle.fetch_rules.specs.Record.{Row, merged}
@@ -20,7 +21,7 @@ use Rattle.run_law.specs.Mails.{has_id, item_of, listing_of, is_selected}
 use Rattle.run_law.specs.Accounts.{Moves, KeepsOthers}
 use Rattle.run_law.specs.Steps.{Leaves, Stores, IsHonest, ids_wanted, merged_rows}
 use Rattle.run_law.specs.Runs.{IsFrame, Situation, Visit, Visited, Moved as ShiftedIn, Visits, Kept, KeptStaysKept, KeptHoldsExactly, StartsKept, LeavesOut, DeletesHeld, past_limit}
-use Rattle.run_law.specs.Sessions.{IsBegun, Link as LinkIn, Links, LinksAreVisits}
+use Rattle.run_law.specs.Sessions.{IsBegun, BeginsOne, Link as LinkIn, Links, LinksAreVisits}
 use Rattle.fetch_runs.specs.Steps.{holds, IsStep, SessionIsAStep}
 use Rattle.fetch_runs.specs.Headline.{World, IsSound, State, Occasion, Event, Fetched, Moved, maildrop_at, IsSession, after_event, Follows, frame_of, HoldsAPrefix, IsPastCount, LeavesOutOnlyBeyondLimits, IsForHeld, FilesStay, Promised, IsKept, Headline, EmptyIsKept, HeadlineFromEmpty}
 
@@ -30,17 +31,21 @@ pub record Laws : Type 0 where
   pub visits : LinksAreVisits
   pub stays : KeptStaysKept
   pub holds_exactly : KeptHoldsExactly
+  pub digits : (server : List ℕ) (port : ℕ) (username : List ℕ) → IsAccountText (account_text server port username)
 
 abbrev situation : List Row → State → Situation
 situation rows state = record { account = holds rows state.kept.maildir; gone = state.gone }
 
-sound_frame : (world : World) → IsSound world → IsFrame (frame_of world)
-sound_frame world sound = record { account = sound.account; world = sound.mail }
+sound_frame : Laws → (world : World) → IsSound world → IsFrame (frame_of world)
+sound_frame laws world sound = record {
+  account = laws.digits (string_bytes world.settings.server) world.settings.port (string_bytes world.settings.username);
+  world = sound.mail;
+}
 
 -- a prefix is held, whatever the record says
 holds_prefix : Laws → (world : World) (state : State) → IsSound world → IsKept world state → HoldsAPrefix world state
 holds_prefix laws world state sound is =
-    let exact = laws.holds_exactly (frame_of world) (situation is.0 state) (sound_frame world sound) is.2 in
+    let exact = laws.holds_exactly (frame_of world) (situation is.0 state) (sound_frame laws world sound) is.2 in
     record { j = exact.j; below = exact.below; contents = exact.contents; ids = exact.ids; once = exact.once }
 
 -- ---- one session
@@ -91,7 +96,7 @@ module _ (laws : Laws) (world : World) (state : State) (occasion : Occasion) (so
 
     happened : promised
     happened =
-        let all = laws.stays (frame_of world) (situation rows state) (Visited (visit_of s) ∷ []) (sound_frame world sound) is_kept (visits, tt) in
+        let all = laws.stays (frame_of world) (situation rows state) (Visited (visit_of s) ∷ []) (sound_frame laws world sound) is_kept (visits, tt) in
         (all.0, all.1.0.0, all.1.0.1, all.1.0.2)
 
     -- the listing was the maildrop's, or nothing was begun and the session was cut
@@ -172,6 +177,11 @@ module _ (laws : Laws) (world : World) (state : State) (occasion : Occasion) (so
     all_for_held held [] all = tt
     all_for_held held (command ∷ commands) all = (for_held held command all.0, all_for_held held commands all.1)
 
+    begins_for_held : AllByRecursion (λ (id : List ℕ). is_held (digits_of world.settings) occasion.after.maildir id ≡ true) s.effect.begun → (part : List ℕ)
+        → BeginsOne (IsBegun s.effect.listing s.effect.begun) part → BeginsOne (IsForHeld world state occasion) part
+    begins_for_held held part (inl none) = inl none
+    begins_for_held held part (inr (command, unsent, is, begun)) = inr (command, unsent, is, for_held held command begun)
+
     files_stay : Leaves (holds rows state.kept.maildir) s.effect (holds s.rows' occasion.after.maildir)
         ⊎ (Stores world.settings (digits_of world.settings) (holds rows state.kept.maildir) s.effect (holds s.rows' occasion.after.maildir)
         × IsHonest world.settings (digits_of world.settings) (holds rows state.kept.maildir) (maildrop_at world state occasion) s.effect)
@@ -183,7 +193,14 @@ module _ (laws : Laws) (world : World) (state : State) (occasion : Occasion) (so
     session_promised all = (
       (
         leaves_out all.1,
-        record { sent = s.sent; sent_is = s.sent_is; commands = s.stepped.commands; asked = s.stepped.asked; each = all_for_held all.2 s.stepped.commands s.stepped.begun },
+        record {
+          sent = s.sent;
+          sent_is = s.sent_is;
+          commands = s.stepped.commands;
+          asked = s.stepped.asked;
+          each = all_for_held all.2 s.stepped.commands s.stepped.begun;
+          next = begins_for_held all.2 s.stepped.asked.part s.stepped.next;
+        },
         all.3,
         files_stay visits.step,
       ),
@@ -215,7 +232,7 @@ moved_promised : Laws → (world : World) (state : State) (maildir : Maildir) �
     → Promised world state (Moved maildir) × IsKept world (after_event state (Moved maildir))
 moved_promised laws world state maildir sound is moves =
     let rows = is.0 in
-    let all = laws.stays (frame_of world) (situation rows state) (ShiftedIn (holds rows maildir) ∷ []) (sound_frame world sound) is.2 (with_rows rows state.kept.maildir maildir moves, tt) in
+    let all = laws.stays (frame_of world) (situation rows state) (ShiftedIn (holds rows maildir) ∷ []) (sound_frame laws world sound) is.2 (with_rows rows state.kept.maildir maildir moves, tt) in
     (all.1.0, (rows, is.1, all.0))
 
 event_promised : Laws → (world : World) (state : State) (event : Event) → IsSound world → IsKept world state → Follows world state event

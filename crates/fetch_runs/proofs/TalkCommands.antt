@@ -7,9 +7,10 @@ use Rattle.pop3_wire.specs.declared.command.Command.{Command}
 use Rattle.pop3_wire.specs.Line.{ended}
 use Rattle.pop3_wire.specs.Commands.{line_of, can_be_sent, octets_of}
 use Rattle.pop3_wire.specs.CommandLine.{HasNumbers}
-use Rattle.pop3_wire.specs.Honest.{Asked, FrontsAreAsked}
+use Rattle.pop3_wire.specs.Honest.{Asked, BeginsNext, FrontsAreAsked}
 use Rattle.pop3_wire.specs.Reading.{WholeReply}
 use Rattle.pop3_client.specs.Turns.{Turn, asking}
+use Rattle.run_law.specs.Sessions.{BeginsOne}
 use Rattle.fetch_runs.specs.Conversations.{SentBehind, Conversation}
 
 -- the command of a turn, if it has one
@@ -53,7 +54,7 @@ numbers_in (None ∷ turns) all = numbers_in turns all.1
 numbers_in (Some command ∷ turns) all = (all.0.1, numbers_in turns all.1)
 
 -- commands behind others
-asked_behind : (first more : List Command) (octets : List ℕ) → AllByRecursion (λ command. can_be_sent command ≡ true) first → AllByRecursion HasNumbers first → Asked more octets
+abbrev asked_behind : (first more : List Command) (octets : List ℕ) → AllByRecursion (λ command. can_be_sent command ≡ true) first → AllByRecursion HasNumbers first → Asked more octets
     → Asked (first ++ more) (octets_of first ++ octets)
 asked_behind first more octets sendable numbers asked = record {
   sendable = all_append (λ (command : Command). can_be_sent command ≡ true) first more sendable asked.sendable;
@@ -63,6 +64,19 @@ asked_behind first more octets sendable numbers asked = record {
   whole = ap (λ (l : List ℕ). octets_of first ++ l) asked.whole ∙ sym (append_assoc (octets_of first) (octets_of more) asked.part)
       ∙ ap (λ (l : List ℕ). l ++ asked.part) (sym (flat_map-append (λ (command : Command). ended (line_of command)) first more));
 }
+
+-- octets behind which the next of these commands may have been begun
+abbrev Spoken : List Command → List Command → List ℕ → Type 0
+Spoken commands next sent = (asked : Asked commands sent) × BeginsNext next asked.part
+
+-- of these commands the first may be the one that was begun
+pub begins_one : (Is : Command → Type 0) (next : List Command) (part : List ℕ) → BeginsNext next part → AllByRecursion Is next → BeginsOne Is part
+begins_one Is [] part none all = inl none
+begins_one Is (command ∷ next) part (unsent, is) all = inr (command, unsent, is, all.0)
+
+pub begins_of : (Is Other : Command → Type 0) → ((command : Command) → Is command → Other command) → (part : List ℕ) → BeginsOne Is part → BeginsOne Other part
+begins_of Is Other on part (inl none) = inl none
+begins_of Is Other on part (inr (command, unsent, is, holds)) = inr (command, unsent, is, on command holds)
 
 -- the commands that were sent whole: those of the turns that were talked, of the one begun, and of the tail
 pub record Commanded (done begun tail : List Turn) (sent : List ℕ) : Type 0 where
@@ -74,11 +88,22 @@ pub record Commanded (done begun tail : List Turn) (sent : List ℕ) : Type 0 wh
   pub of_tail : commands_in tail ≡ ends ++ unended
   pub tail_last : (ends ≡ []) ⊎ (unsaid ≡ [])
   pub asked : Asked (commands_in done ++ (ahead ++ ends)) sent
+  pub next : List Command
+  pub next_is : (next ≡ unsaid) ⊎ (next ≡ unended)
+  pub begins : BeginsNext next asked.part
+
+spoken_behind : (first more next : List Command) (octets : List ℕ) → AllByRecursion (λ command. can_be_sent command ≡ true) first → AllByRecursion HasNumbers first → Spoken more next octets
+    → Spoken (first ++ more) next (octets_of first ++ octets)
+spoken_behind first more next octets sendable numbers (asked, begins) = (asked_behind first more octets sendable numbers asked, begins)
 
 commanded_by : FrontsAreAsked → (done begun tail : List Turn) (behind : List ℕ) → AllByRecursion CanBeSaid done → AllByRecursion CanBeSaid begun → AllByRecursion CanBeSaid tail
     → SentBehind begun tail behind → Commanded done begun tail (asking done ++ behind)
 commanded_by law done begun tail behind d b t (inl (later, front)) =
     let some = law (commands_in begun) behind later (sendable_in begun b) (numbers_in begun b) (sym (octets_same begun) ∙ front) in
+    let all : Spoken (commands_in done ++ (some.0 ++ [])) some.1 (asking done ++ behind) =
+    subst (λ (l : List ℕ). Spoken (commands_in done ++ (some.0 ++ [])) some.1 (l ++ behind)) (sym (octets_same done))
+    (spoken_behind (commands_in done) (some.0 ++ []) some.1 behind (sendable_in done d) (numbers_in done d)
+    (subst (λ (cs : List Command). Spoken cs some.1 behind) (sym (append-nil some.0)) (some.3, some.4))) in
     record {
       ahead = some.0;
       unsaid = some.1;
@@ -87,12 +112,18 @@ commanded_by law done begun tail behind d b t (inl (later, front)) =
       of_begun = some.2;
       of_tail = refl;
       tail_last = inl refl;
-      asked = subst (λ (l : List ℕ). Asked (commands_in done ++ (some.0 ++ [])) (l ++ behind)) (sym (octets_same done))
-          (asked_behind (commands_in done) (some.0 ++ []) behind (sendable_in done d) (numbers_in done d)
-          (subst (λ (cs : List Command). Asked cs behind) (sym (append-nil some.0)) some.3));
+      asked = all.0;
+      next = some.1;
+      next_is = inl refl;
+      begins = all.1;
     }
 commanded_by law done begun tail behind d b t (inr (part, later, front, whole)) =
     let some = law (commands_in tail) part later (sendable_in tail t) (numbers_in tail t) (sym (octets_same tail) ∙ front) in
+    let all : Spoken (commands_in done ++ (commands_in begun ++ some.0)) some.1 (asking done ++ behind) =
+    subst (λ (l : List ℕ). Spoken (commands_in done ++ (commands_in begun ++ some.0)) some.1 (l ++ behind)) (sym (octets_same done))
+    (spoken_behind (commands_in done) (commands_in begun ++ some.0) some.1 behind (sendable_in done d) (numbers_in done d)
+    (subst (λ (l : List ℕ). Spoken (commands_in begun ++ some.0) some.1 l) (sym (whole ∙ ap (λ (l : List ℕ). l ++ part) (octets_same begun)))
+    (spoken_behind (commands_in begun) some.0 some.1 part (sendable_in begun b) (numbers_in begun b) (some.3, some.4)))) in
     record {
       ahead = commands_in begun;
       unsaid = [];
@@ -101,10 +132,10 @@ commanded_by law done begun tail behind d b t (inr (part, later, front, whole)) 
       of_begun = sym (append-nil (commands_in begun));
       of_tail = some.2;
       tail_last = inr refl;
-      asked = subst (λ (l : List ℕ). Asked (commands_in done ++ (commands_in begun ++ some.0)) (l ++ behind)) (sym (octets_same done))
-          (asked_behind (commands_in done) (commands_in begun ++ some.0) behind (sendable_in done d) (numbers_in done d)
-          (subst (λ (l : List ℕ). Asked (commands_in begun ++ some.0) l) (sym (whole ∙ ap (λ (l : List ℕ). l ++ part) (octets_same begun)))
-          (asked_behind (commands_in begun) some.0 part (sendable_in begun b) (numbers_in begun b) some.3)));
+      asked = all.0;
+      next = some.1;
+      next_is = inr refl;
+      begins = all.1;
     }
 
 pub commanded : FrontsAreAsked → (done : List Turn) (replies : List WholeReply) (begun tail : List Turn) (sent got : List ℕ) → AllByRecursion CanBeSaid done

@@ -3,10 +3,13 @@ use Rattle.std.proofs.Common.{◌≡◌, ◌≤◌, ◌+◌, inl, inr, ◌⊎◌
 use Rattle.std.specs.String.{string_bytes}
 use Rattle.std.specs.List.{flat_map, count_by, AllByRecursion}
 use Rattle.std.proofs.lemmas.List.Concat.{flat_map-append}
+use Rattle.pop3_wire.specs.Bodies.{Rest}
+use Rattle.pop3_wire.specs.declared.unstuffer.Spot.TheVariants.{Done as AtEnd}
 use Rattle.pop3_wire.specs.Link.{Link}
 use Rattle.pop3_wire.specs.Place.{Place, at}
 use Rattle.pop3_wire.specs.Reading.{WholeReply}
 use Rattle.pop3_client.specs.declared.fault.Fault.{Fault as TalkFault}
+use Rattle.pop3_client.specs.Texts.{Fetched}
 use Rattle.pop3_client.specs.Turns.{Turn, retr, quit}
 use Rattle.pop3_client.specs.Conversation.{ConversationsArePaced, Talks}
 use Rattle.mail_terms.specs.Listing.{Item, Joins}
@@ -15,6 +18,7 @@ use Rattle.mail_terms.specs.declared.listing.ScanRow.{ScanRow}
 use Rattle.rc_file.specs.Settings.{IsValid}
 use Rattle.rc_file.specs.declared.settings.Settings.{Settings}
 use Rattle.fetch_rules.specs.Plan.{planned, step_of}
+use Rattle.mail_store.specs.FileName.{name_of}
 use Rattle.mail_store.specs.Maildir.{Maildir}
 use Rattle.mail_store.specs.FlatFile.{Stored}
 use Rattle.pop3_wire.specs.declared.command.Command.TheVariants.{Quit}
@@ -22,7 +26,8 @@ use Rattle.pop3_wire.specs.Honest.{FrontsAreAsked}
 use Rattle.run_law.specs.Plans.{step_commands}
 use Rattle.fetch_session.specs.declared.fault.Cut.{Cut}
 use Rattle.fetch_session.specs.declared.fault.Fault.{Fault}
-use Rattle.fetch_session.specs.declared.fault.Fault.TheVariants.{NoMemory}
+use Rattle.fetch_session.specs.declared.fault.Fault.TheVariants.{StoreRefused, NoMemory}
+use Rattle.fetch_session.specs.declared.fault.Why.TheVariants.{Refused}
 use Rattle.fetch_session.specs.declared.report.Outcome.{Outcome}
 use Rattle.fetch_session.specs.declared.report.Outcome.TheVariants.{Ended, Cut as WasCut}
 use Rattle.fetch_session.specs.declared.report.Report.{Report}
@@ -33,11 +38,12 @@ use Rattle.fetch_session.specs.Opening.{opening, Opened}
 use Rattle.fetch_session.specs.Report.{Reports, is_taken}
 use Rattle.fetch_session.specs.Task.{Task, Done, turns_in, tasks_of, turns_of, lines_in, lines_of, delivered}
 use Rattle.fetch_session.specs.Tail.{tail, Left, turns_in as tail_turns}
+use Rattle.fetch_session.specs.Store.{RefusesText}
 use Rattle.fetch_session.specs.Scene.{Scene, scene, Went, Stops, Does}
 use Rattle.fetch_session.specs.Plan.{tasks_ahead, Carried, Carries}
 use Rattle.fetch_session.specs.Session.{Kept, Noted, Dealt, Proceeds, LeavesLink, outcome_of}
 use Rattle.fetch_runs.specs.Conversations.{Conversation, Converses, plan_turns, tail_behind, retrieved_by, CountsTexts, Opens, SpeaksByPlan, SessionsAreConversations}
-use Rattle.fetch_runs.proofs.Courses.{Course, stored_done, course_stopped, course_does, course_carried, course_carries, course_dealt, begun_of}
+use Rattle.fetch_runs.proofs.Courses.{Course, stored_done, spare_in, course_stopped, course_does, course_carried, course_carries, course_dealt, begun_of}
 use Rattle.fetch_runs.proofs.TalkCommands.{commands_in, CanBeSaid, Commanded, commanded, all_append, all_front, all_back}
 use Rattle.fetch_runs.proofs.TalkReplies.{IsPlain}
 use Rattle.fetch_runs.proofs.TalkTasks.{plain_ahead, said_tasks}
@@ -78,6 +84,49 @@ module _ (settings : Settings) (account : List ℕ) (items : List Item) (now : �
   lines_carries (Err cut) place' maildir' file' lines' skipped (rows, inl (none, unprepared)) = unprepared.lines_are
   lines_carries (Err cut) place' maildir' file' lines' skipped (rows, inr is) = lines_carried (Err cut) (scene place' maildir' file' rows lines') skipped is
 
+-- ---- a text is to spare only where the store refused it
+
+abbrev no_replies : List WholeReply
+no_replies = []
+
+no_spare : (reply : WholeReply) → no_replies ≡ reply ∷ [] → ⊥
+no_spare reply e = cc
+
+spare_refused : (number : ℕ) (start there : Place) (rest : Rest) (text : List ℕ) (old now : Maildir) (file : List ℕ) (fault : Fault)
+    → (whole : rest.spot ≡ AtEnd → Fetched (retr number) start text there) → (refuses : RefusesText old file rest text fault now) → (reply : WholeReply)
+    → spare_in number start there rest text old now file fault whole refuses ≡ reply ∷ [] → fault ≡ StoreRefused Refused
+spare_refused number start there rest text old now file fault whole (inl missing) reply e = absurd (no_spare reply e)
+spare_refused number start there rest text old now file fault whole (inr (is, inl same)) reply e = is
+spare_refused number start there rest text old now file fault whole (inr (is, inr stored)) reply e = is
+
+spare_stopped : (account : List ℕ) (items : List Item) (dones : List Done) (next : Task) (mid new : Scene) (cut : Cut) → (stops : Stops account next mid cut new) → (reply : WholeReply)
+    → (course_stopped account items dones next mid new cut stops).spare ≡ reply ∷ [] → cut.fault ≡ StoreRefused Refused
+spare_stopped account items dones next mid new cut (inl broken) reply e = absurd (no_spare reply e)
+spare_stopped account items dones next mid new cut (inr (inl refused)) reply e =
+    spare_refused refused.number mid.place new.place refused.rest refused.text mid.maildir new.maildir (name_of account refused.uid) cut.fault refused.whole refused.refuses reply e
+spare_stopped account items dones next mid new cut (inr (inr unsaved)) reply e = absurd (no_spare reply e)
+
+-- the store refused a text
+abbrev RefusedIn : Result (Unit {0}) Cut → Type 0
+RefusedIn result = outcome_of result ≡ WasCut (StoreRefused Refused)
+
+spare_does : (account : List ℕ) (items : List Item) (tasks : List Task) (old new : Scene) (result : Result (Unit {0}) Cut) → (does : Does account tasks old result new) → (reply : WholeReply)
+    → (course_does account items tasks old new result does).spare ≡ reply ∷ [] → RefusedIn result
+spare_does account items tasks old new (Ok done) went reply e = absurd (no_spare reply e)
+spare_does account items tasks old new (Err cut) fell reply e = ap WasCut (spare_stopped account items fell.dones fell.next fell.mid new cut fell.stops reply e)
+
+module _ (settings : Settings) (account : List ℕ) (items : List Item) (now : ℕ) (place : Place) (maildir : Maildir) (file : Stored) where
+  spare_carried : (result : Result (Unit {0}) Cut) (new : Scene) (skipped : ℕ) → (is : Carried settings account items now place maildir file [] result new skipped) → (reply : WholeReply)
+      → (course_carried settings account items now place maildir file [] result new skipped is).spare ≡ reply ∷ [] → RefusedIn result
+  spare_carried result new skipped is = spare_does account items (tasks_ahead settings account items now maildir is.mid.rows) is.mid new result is.does
+
+  spare_carries : (result : Result (Unit {0}) Cut) (place' : Place) (maildir' : Maildir) (file' : Stored) (lines' : List ReportLine) (skipped : ℕ)
+      → (is : Carries settings account items now place maildir file [] result place' maildir' file' lines' skipped) → (reply : WholeReply)
+      → (course_carries settings account items now place maildir file [] result place' maildir' file' lines' skipped is).spare ≡ reply ∷ [] → RefusedIn result
+  spare_carries (Ok done) place' maildir' file' lines' skipped is = spare_carried (Ok done) (scene place' maildir' file' is.0 lines') skipped is.1
+  spare_carries (Err cut) place' maildir' file' lines' skipped (rows, inl unprepared) = λ reply e. absurd (no_spare reply e)
+  spare_carries (Err cut) place' maildir' file' lines' skipped (rows, inr is) = spare_carried (Err cut) (scene place' maildir' file' rows lines') skipped is
+
 -- ---- the turns
 
 retrieved_open : (name word : List ℕ) (turns : List Turn) → retrieved_by (opening name word ++ turns) ≡ retrieved_by turns
@@ -86,16 +135,21 @@ retrieved_open name word turns =
     let none : retrieved_by (opening name word) ≡ 0 = refl in
     omega (arith, both, none)
 
-counts : (name word : List ℕ) (taken : List Done) (done begun : List Turn) (count : ℕ) → retrieved_by (turns_of taken) ≡ count
-    → (done ≡ turns_of taken) ⊎ ((number : ℕ) × (done ≡ turns_of taken ++ retr number ∷ []) × (begun ≡ [])) → CountsTexts (opening name word ++ done) begun count
-counts name word taken done begun count is (inl same) = inl (retrieved_open name word done ∙ ap retrieved_by same ∙ is)
-counts name word taken done begun count is (inr (number, same, none)) =
+counts : (name word : List ℕ) (taken : List Done) (spare : List WholeReply) (done begun : List Turn) (count : ℕ) (outcome : Outcome) → retrieved_by (turns_of taken) ≡ count
+    → ((reply : WholeReply) → spare ≡ reply ∷ [] → outcome ≡ WasCut (StoreRefused Refused))
+    → (done ≡ turns_of taken) ⊎ ((number : ℕ) × (done ≡ turns_of taken ++ retr number ∷ []) × (begun ≡ []) × ((reply : WholeReply) × (spare ≡ reply ∷ [])))
+    → CountsTexts outcome (opening name word ++ done) begun count
+counts name word taken spare done begun count outcome is refused (inl same) = inl (retrieved_open name word done ∙ ap retrieved_by same ∙ is)
+counts name word taken spare done begun count outcome is refused (inr (number, same, none, (reply, more))) =
     inr (
-      opening name word ++ turns_of taken,
-      number,
-      ap (λ (ts : List Turn). opening name word ++ ts) same ∙ sym (append_assoc (opening name word) (turns_of taken) (retr number ∷ [])),
-      retrieved_open name word (turns_of taken) ∙ is,
-      none,
+      refused reply more,
+      (
+        opening name word ++ turns_of taken,
+        number,
+        ap (λ (ts : List Turn). opening name word ++ ts) same ∙ sym (append_assoc (opening name word) (turns_of taken) (retr number ∷ [])),
+        retrieved_open name word (turns_of taken) ∙ is,
+        none,
+      ),
     )
 
 tail_is : (result : Result (Unit {0}) Cut) → tail_for result ≡ tail_behind (outcome_of result)
@@ -123,8 +177,9 @@ module _ (joining : TurnsJoin) (paced : ConversationsArePaced) (law : FrontsAreA
   by_plan : (c : Course) (items : List Item) (count : ℕ) (uids : List UidRow) (sizes : List ScanRow) (mid : Place) (turns : List Turn) → (opened : Opened name word (at link []) mid count uids sizes)
       → Joins count uids sizes items → length items ≤ 100000 → (by : Dealing settings account items now before.maildir c mid turns link') → IsTail turns → turns ≡ tail_behind report.outcome
       → report.retrieved ≡ count_by is_taken notes.lines → notes.lines ≡ lines_of c.taken → (report.outcome ≡ Ended → (c.under ≡ []) × (by.ahead.0 ≡ []))
+      → ((reply : WholeReply) → c.spare ≡ reply ∷ [] → report.outcome ≡ WasCut (StoreRefused Refused))
       → (sent got : List ℕ) × (link'.sent ≡ link.sent ++ sent) × (link'.got ≡ link.got ++ got) × SpeaksByPlan settings now report sent got
-  by_plan c items count uids sizes mid turns opened joins few by kind behind retrieved noted ended = (
+  by_plan c items count uids sizes mid turns opened joins few by kind behind retrieved noted ended refused = (
     all.0,
     all.1,
     all.2,
@@ -153,7 +208,7 @@ module _ (joining : TurnsJoin) (paced : ConversationsArePaced) (law : FrontsAreA
       more = by.took.replies;
       replies = ap (λ (ws : List WholeReply). (ws ++ opened.counted ∷ opened.named ∷ opened.sized ∷ []) ++ by.took.replies) r.is;
       listed = listed name word (at link []) mid count uids sizes items opened joins;
-      counts = counts name word c.taken by.took.done by.took.begun report.retrieved number by.took.asks;
+      counts = counts name word c.taken c.spare by.took.done by.took.begun report.retrieved report.outcome number refused by.took.asks;
       ended = λ is. (by.took.whole (ended is).0, ap (λ (ts : List Task). flat_map turns_in ts) (ended is).1);
     },
   )
@@ -197,6 +252,7 @@ module _ (joining : TurnsJoin) (paced : ConversationsArePaced) (law : FrontsAreA
       silent (sym (ap tail_behind tells.outcome_is)) tells.retrieved_is
       (lines_carries settings account is.items now is.mid before.maildir before.file (Ok done) new after.maildir after.file notes.lines notes.skipped is.carries)
       (λ e. (refl, dealing_whole joining paced settings account is.items now is.mid before.maildir before.file [] few done new after.maildir after.file notes.lines notes.skipped link' is.carries leaves))
+      (λ reply e. tells.outcome_is ∙ spare_carries settings account is.items now is.mid before.maildir before.file (Ok done) new after.maildir after.file notes.lines notes.skipped is.carries reply e)
   dealt (Err cut) tells is leaves =
       let opened = is.enters.3 in
       let few = few_items opened.counted is.enters.0 is.enters.1 is.enters.2 is.items (replied name word opened.welcome opened.counted opened.named opened.sized opened.talked.good).good.1.1.1.0 opened.tells is.enters.4 in
@@ -205,6 +261,7 @@ module _ (joining : TurnsJoin) (paced : ConversationsArePaced) (law : FrontsAreA
       (is_tail cut.fault) (sym (ap tail_behind tells.outcome_is)) tells.retrieved_is
       (lines_carries settings account is.items now is.mid before.maildir before.file (Err cut) new after.maildir after.file notes.lines notes.skipped is.carries)
       (λ e. absurd (not_ended cut.fault (sym tells.outcome_is ∙ e)))
+      (λ reply e. tells.outcome_is ∙ spare_carries settings account is.items now is.mid before.maildir before.file (Err cut) new after.maildir after.file notes.lines notes.skipped is.carries reply e)
 
   -- it wasn't, or nothing was done with it
   abbrev Said : Type 0

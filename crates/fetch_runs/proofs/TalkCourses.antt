@@ -42,7 +42,7 @@ pub record Took (c : Course) (start : Place) (tail : List Turn) (link : Link) : 
   pub one : (begun ≡ []) ⊎ ((turn : Turn) × (begun ≡ turn ∷ []))
   pub read : (more : List Command) → Retrieves (commands_in done ++ more) replies (found_of c)
   pub each : AllByRecursion IsAnswered c.taken
-  pub asks : (done ≡ turns_of c.taken) ⊎ ((number : ℕ) × (done ≡ turns_of c.taken ++ retr number ∷ []) × (begun ≡ []))
+  pub asks : (done ≡ turns_of c.taken) ⊎ ((number : ℕ) × (done ≡ turns_of c.taken ++ retr number ∷ []) × (begun ≡ []) × ((reply : WholeReply) × (c.spare ≡ reply ∷ [])))
   pub whole : c.under ≡ [] → begun ≡ []
 
 cons_nil : (task : Task) (tasks : List Task) → task ∷ tasks ≡ [] → ⊥
@@ -109,7 +109,7 @@ module _ (joining : TurnsJoin) (paced : ConversationsArePaced) (items : List Ite
         (subst (λ (cs : List Command). Retrieves cs (replies_of dones ++ reply ∷ []) (found_by dones ++ (number, body_text reply.body) ∷ [])) (sym (commands_on (turns_of dones) (retr number ∷ []) more))
         (dones_read dones (reply ∷ []) (Retr number ∷ more) ((number, body_text reply.body) ∷ []) plain each (body_text reply.body, [], text_read number reply fetched.good.0, refl, refl)));
     each = each;
-    asks = inr (number, refl, refl);
+    asks = inr (number, refl, refl, (reply, refl));
     whole = λ none. refl;
   }
 

@@ -12,6 +12,7 @@ use Rattle.pop3_client.specs.Conversation.{ConversationsArePaced, Stopped, Talks
 use Rattle.mail_terms.specs.Credential.{is_credential}
 use Rattle.mail_terms.specs.declared.listing.UidRow.{UidRow}
 use Rattle.mail_terms.specs.declared.listing.ScanRow.{ScanRow}
+use Rattle.run_law.specs.Sessions.{BeginsOne}
 use Rattle.fetch_session.specs.Fault.{fault_of}
 use Rattle.fetch_session.specs.Opening.{opening, Opened, Enters}
 use Rattle.fetch_session.specs.Tail.{tail, turns_in as tail_turns}
@@ -21,7 +22,7 @@ use Rattle.fetch_runs.proofs.TalkParts.{fronted, goes_tail, goes_broke, conversa
 use Rattle.fetch_runs.proofs.TalkCommands.{commands_in, CanBeSaid, Commanded, commanded, all_front, all_back}
 use Rattle.fetch_runs.proofs.TalkTasks.{commands_split}
 use Rattle.fetch_runs.proofs.TalkOpenings.{said_opening}
-use Rattle.fetch_runs.proofs.TalkSpeech.{IsTail, said_tail, undeleted}
+use Rattle.fetch_runs.proofs.TalkSpeech.{IsTail, said_tail, undeleted, undeleted_next}
 
 -- what the link gained is a conversation of the opening
 pub record Opens (name word : List ℕ) (turns : List Turn) (old new : Link) : Type 0 where
@@ -67,9 +68,9 @@ module _ (paced : ConversationsArePaced) (name word : List ℕ) (start new last 
 
 -- its commands, of which none is a DELE
 pub idle_said : FrontsAreAsked → (name word : List ℕ) → is_credential name ≡ true → is_credential word ≡ true → (turns : List Turn) → IsTail turns → (sent got : List ℕ)
-    → Converses (opening name word) turns sent got → (commands : List Command) × Asked commands sent × AllByRecursion (IsDeleted []) commands
+    → Converses (opening name word) turns sent got → (commands : List Command) × (asked : Asked commands sent) × AllByRecursion (IsDeleted []) commands × BeginsOne (IsDeleted []) asked.part
 idle_said law name word named worded turns kind sent got said =
-    (commands_in said.done ++ (whole.ahead ++ whole.ends), whole.asked, undeleted [] said.done said.begun turns sent kind whole none)
+    (commands_in said.done ++ (whole.ahead ++ whole.ends), whole.asked, undeleted [] said.done said.begun turns sent kind whole none, undeleted_next [] said.done said.begun turns sent kind whole none)
   where
     can : AllByRecursion CanBeSaid (said.done ++ (said.begun ++ said.later))
     can = subst (AllByRecursion CanBeSaid) said.split (said_opening name word named worded)

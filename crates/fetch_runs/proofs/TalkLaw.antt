@@ -11,6 +11,7 @@ use Rattle.pop3_client.specs.Conversation.{ConversationsArePaced, Talks}
 use Rattle.mail_terms.specs.Listing.{Joins}
 use Rattle.rc_file.specs.Settings.{IsValid}
 use Rattle.rc_file.specs.declared.settings.Settings.{Settings}
+use Rattle.run_law.specs.Sessions.{BeginsOne}
 use Rattle.fetch_session.specs.declared.fault.Cut.{Cut}
 use Rattle.fetch_session.specs.declared.fault.Fault.{Fault}
 use Rattle.fetch_session.specs.declared.fault.Fault.TheVariants.{NoMemory}
@@ -30,7 +31,7 @@ use Rattle.fetch_runs.proofs.TalkSessions.{Dealing, tail_for, is_tail_for, deali
 
 -- what the law over runs takes of what was said and read
 abbrev pub Tells : Way → List ℕ → List ℕ → Type 0
-Tells Idle sent got = (commands : List Command) × Asked commands sent × AllByRecursion (IsDeleted []) commands
+Tells Idle sent got = (commands : List Command) × (asked : Asked commands sent) × AllByRecursion (IsDeleted []) commands × BeginsOne (IsDeleted []) asked.part
 Tells (Deals c) sent got = Speaks c sent got
 
 pub record Gained (way : Way) (old new : Link) : Type 0 where

@@ -1,5 +1,5 @@
 -- What a session with a joined listing said and read, as the law over runs takes it.
-use Rattle.std.proofs.Common.{◌≡◌, ℕ, List, [], ◌∷◌, ◌++◌, true, Option, refl, ap, subst, ◌∙◌, append_assoc}
+use Rattle.std.proofs.Common.{◌≡◌, inl, inr, ℕ, List, [], ◌∷◌, ◌++◌, true, Option, refl, sym, ap, subst, ◌∙◌, append_assoc}
 use Rattle.std.specs.List.{flat_map, AllByRecursion}
 use Rattle.std.proofs.lemmas.List.{append-nil}
 use Rattle.pop3_wire.specs.declared.command.Command.{Command}
@@ -15,6 +15,7 @@ use Rattle.mail_terms.specs.declared.listing.ScanRow.{ScanRow}
 use Rattle.pop3_client.specs.Turns.{Turn, quit, rset}
 use Rattle.pop3_wire.specs.Honest.{FrontsAreAsked}
 use Rattle.run_law.specs.Readings.{AreGood, Talked as IsTalked, IsListed, Retrieves}
+use Rattle.run_law.specs.Sessions.{BeginsOne}
 use Rattle.fetch_session.specs.Opening.{opening, Opened}
 use Rattle.fetch_session.specs.Task.{Task}
 use Rattle.pop3_client.specs.declared.fault.Asked.TheVariants.{Greeting as ByGreeting, User as ByUser, Pass as ByPass, Stat as ByStat, Uidl as ByUidl, List as ByList, Retr as ByRetr, Dele as ByDele, Quit as ByQuit}
@@ -25,7 +26,7 @@ use Rattle.fetch_session.specs.Laws.{TurnsJoin}
 use Rattle.fetch_runs.specs.Conversations.{Conversation}
 use Rattle.fetch_runs.proofs.Courses.{Course, found_of, begun_of, IsDeleted}
 use Rattle.fetch_runs.proofs.TalkParts.{conversation}
-use Rattle.fetch_runs.proofs.TalkCommands.{commands_in, CanBeSaid, Commanded, commanded, all_append, all_front, all_back}
+use Rattle.fetch_runs.proofs.TalkCommands.{commands_in, CanBeSaid, Commanded, commanded, begins_one, all_append, all_front, all_back}
 use Rattle.fetch_runs.proofs.TalkReplies.{IsCommand, IsPlain, reply_read, replies_read}
 use Rattle.fetch_runs.proofs.TalkTasks.{said_tasks, commands_tasks, commands_split, deleted_in}
 use Rattle.fetch_runs.proofs.TalkCourses.{Took}
@@ -45,6 +46,7 @@ pub record Speaks (c : Course) (sent got : List ℕ) : Type 0 where
   pub listed : IsListed stat uidl list c.items
   pub retrieves : Retrieves (User name ∷ Pass word ∷ Stat ∷ UidlAll ∷ ListAll ∷ more) (user ∷ pass ∷ stat ∷ uidl ∷ list ∷ replies) (found_of c)
   pub deletes : AllByRecursion (IsDeleted (begun_of c)) (User name ∷ Pass word ∷ Stat ∷ UidlAll ∷ ListAll ∷ more)
+  pub next : BeginsOne (IsDeleted (begun_of c)) talked.asked.part
 
 -- the turns behind a fault
 pub data IsTail : List Turn → Type 0 where
@@ -95,6 +97,21 @@ undeleted tasks done begun turns sent kind c all =
     (all_front (IsDeleted tasks) c.ahead c.unsaid (subst (AllByRecursion (IsDeleted tasks)) c.of_begun (all_back (IsDeleted tasks) (commands_in done) (commands_in begun) all)))
     (all_front (IsDeleted tasks) c.ends c.unended (subst (AllByRecursion (IsDeleted tasks)) c.of_tail (undeleted_tail tasks turns kind))))
 
+-- nor is what was begun behind them
+pub undeleted_next : (tasks : List Task) (done begun turns : List Turn) (sent : List ℕ) → IsTail turns → (c : Commanded done begun turns sent)
+    → AllByRecursion (IsDeleted tasks) (commands_in done ++ commands_in begun) → BeginsOne (IsDeleted tasks) c.asked.part
+undeleted_next tasks done begun turns sent kind c all = begins_one (IsDeleted tasks) c.next c.asked.part c.begins by_kind
+  where
+    by_kind : AllByRecursion (IsDeleted tasks) c.next
+    by_kind = elim c.next_is [
+      | inl is ↦
+          subst (AllByRecursion (IsDeleted tasks)) (sym is)
+          (all_back (IsDeleted tasks) c.ahead c.unsaid (subst (AllByRecursion (IsDeleted tasks)) c.of_begun (all_back (IsDeleted tasks) (commands_in done) (commands_in begun) all)))
+      | inr is ↦
+          subst (AllByRecursion (IsDeleted tasks)) (sym is)
+          (all_back (IsDeleted tasks) c.ends c.unended (subst (AllByRecursion (IsDeleted tasks)) c.of_tail (undeleted_tail tasks turns kind)))
+    ]
+
 module _ (joining : TurnsJoin) (law : FrontsAreAsked) (name word : List ℕ) (named' : is_credential name ≡ true) (worded : is_credential word ≡ true) where
   speaks : (c : Course) (count : ℕ) (uids : List UidRow) (sizes : List ScanRow) (start mid : Place) (turns : List Turn) (kind : IsTail turns) (link : Link) (opened : Opened name word start mid count uids sizes)
       → Joins count uids sizes c.items → AllByRecursion IsPlain (begun_of c) → (took : Took c mid turns link) → (r : Replied name word opened.welcome opened.counted opened.named opened.sized)
@@ -132,6 +149,7 @@ module _ (joining : TurnsJoin) (law : FrontsAreAsked) (name word : List ℕ) (na
     listed = listed name word start mid count uids sizes c.items opened joins;
     retrieves = took.read (whole.ahead ++ whole.ends);
     deletes = (tt, (tt, (tt, (tt, (tt, undeleted_here)))));
+    next = undeleted_next (begun_of c) (opening name word ++ took.done) took.begun turns sent kind whole (tt, (tt, (tt, (tt, (tt, deleted)))));
   }
     where
       behind : List WholeReply

@@ -16,6 +16,8 @@ use Rattle.rc_file.specs.Settings.{IsValid}
 use Rattle.rc_file.specs.declared.settings.Settings.{Settings}
 use Rattle.run_law.specs.Plans.{plan_commands, IsFrontOfPlan}
 use Rattle.run_law.specs.Readings.{IsListed}
+use Rattle.fetch_session.specs.declared.fault.Fault.TheVariants.{StoreRefused}
+use Rattle.fetch_session.specs.declared.fault.Why.TheVariants.{Refused}
 use Rattle.fetch_session.specs.declared.report.Outcome.{Outcome}
 use Rattle.fetch_session.specs.declared.report.Outcome.TheVariants.{Ended, Cut}
 use Rattle.fetch_session.specs.declared.report.Report.{Report}
@@ -67,10 +69,11 @@ is_retrieval (Some _) = false
 abbrev pub retrieved_by : List Turn → ℕ
 retrieved_by turns = count_by is_retrieval turns
 
--- the turns ask for as many texts as are counted; or for one more, by the last of them, behind which only the tail is begun
-abbrev pub CountsTexts : List Turn → List Turn → ℕ → Type 0
-CountsTexts done begun count = (retrieved_by done ≡ count)
-    ⊎ ((front : List Turn) × (number : ℕ) × (done ≡ front ++ retr number ∷ []) × (retrieved_by front ≡ count) × (begun ≡ []))
+-- the turns ask for as many texts as are counted; or for one more, by the last of them, where the store refused that text, and
+-- behind it only the tail is begun
+abbrev pub CountsTexts : Outcome → List Turn → List Turn → ℕ → Type 0
+CountsTexts outcome done begun count = (retrieved_by done ≡ count)
+    ⊎ ((outcome ≡ Cut (StoreRefused Refused)) × ((front : List Turn) × (number : ℕ) × (done ≡ front ++ retr number ∷ []) × (retrieved_by front ≡ count) × (begun ≡ [])))
 
 -- a session that came no further than its opening
 pub record Opens (settings : Settings) (report : Report) (sent got : List ℕ) : Type 0 where
@@ -96,7 +99,7 @@ pub record SpeaksByPlan (settings : Settings) (now : ℕ) (report : Report) (sen
   pub more : List WholeReply
   pub replies : said.replies ≡ hello ∷ user ∷ pass ∷ stat ∷ uidl ∷ list ∷ more
   pub listed : IsListed stat uidl list items
-  pub counts : CountsTexts said.done said.begun report.retrieved
+  pub counts : CountsTexts report.outcome said.done said.begun report.retrieved
   pub ended : report.outcome ≡ Ended → (said.begun ≡ []) × (said.later ≡ [])
 
 -- a law: what the link gained by a session is one conversation, of the opening where it came no further

@@ -14,7 +14,7 @@ use Rattle.rc_file.specs.Settings.{IsValid}
 use Rattle.rc_file.specs.declared.settings.Settings.{Settings}
 use Rattle.fetch_rules.specs.Record.{Row, merged}
 use Rattle.fetch_rules.specs.Wanted.{candidates}
-use Rattle.mail_store.specs.FileName.{name_of, is_held, IsAccountText}
+use Rattle.mail_store.specs.FileName.{name_of, is_held}
 use Rattle.mail_store.specs.Held.{flags_of}
 use Rattle.mail_store.specs.Maildir.{Maildir, File}
 use Rattle.fetch_session.specs.Account.{digits_of}
@@ -26,7 +26,7 @@ use Rattle.run_law.specs.Mails.{has_id, listing_of, is_selected}
 use Rattle.run_law.specs.Accounts.{Moves, KeepsOthers, copies, files}
 use Rattle.run_law.specs.Steps.{ids_wanted}
 use Rattle.run_law.specs.Runs.{Frame, Situation, Kept as IsKeptIn, HoldsExactly, past_limit}
-use Rattle.run_law.specs.Sessions.{Served}
+use Rattle.run_law.specs.Sessions.{BeginsOne, Served}
 use Rattle.fetch_runs.specs.Steps.{holds}
 
 -- ---- the world: unique-ids are distinct and persistent, and the mail unchanged
@@ -36,10 +36,9 @@ pub record World : Type 0 where
   pub settings : Settings
   pub all : List Message
 
--- no unique-id stands twice; `digits_of` is what names the account's files
+-- the settings are such as an rc file gives, and no unique-id stands twice
 pub record IsSound (world : World) : Type 0 where
   pub settings : IsValid world.settings
-  pub account : IsAccountText (digits_of world.settings)
   pub mail : IsWorld world.all
 
 -- the Maildir and the record's file, and which ids are gone from the server
@@ -119,13 +118,14 @@ IsForHeld world state occasion (Dele number) = (message : Message) × (slice_get
     × (is_held (digits_of world.settings) occasion.after.maildir message.uid ≡ true)
 IsForHeld world state occasion _ = Unit {0}
 
--- the commands that were sent
+-- the commands that were sent, the last perhaps in part
 pub record DeletesOnlyHeld (world : World) (state : State) (occasion : Occasion) : Type 0 where
   pub sent : List ℕ
   pub sent_is : occasion.link'.sent ≡ occasion.link.sent ++ sent
   pub commands : List Command
   pub asked : Asked commands sent
   pub each : AllByRecursion (IsForHeld world state occasion) commands
+  pub next : BeginsOne (IsForHeld world state occasion) asked.part
 
 -- files of other names stay
 abbrev pub OthersStay : World → State → State → Type 0

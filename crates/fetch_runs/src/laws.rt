@@ -10,7 +10,7 @@ use fetch_rules::{
     marked_keeps_rows, plans_fetch_wanted,
 };
 use fetch_session::{steady_files_keep, turns_join, unsaved_files_keep};
-use mail_store::flags_tell_what_is_held;
+use mail_store::{account_texts_are_digits, flags_tell_what_is_held};
 use pop3_client::conversations_are_paced;
 use pop3_wire::fronts_are_asked;
 use run_law::{
@@ -21,8 +21,8 @@ use run_law::{
 /// of the plan's first turns, each of which is begun only where the replies to all before it stand whole
 /// and good in what was got, and then a front of the next one's; or, after a fault, these turns whole and
 /// a front of what belongs behind the fault. Where no listing was joined the plan is the opening alone.
-/// Behind the last of the texts that the report counts at most one more was asked for, and then nothing
-/// of the plan. A session that ended said the whole plan.
+/// Behind the last of the texts that the report counts at most one more was asked for, only where the
+/// store refused that text, and then nothing of the plan. A session that ended said the whole plan.
 pub fn sessions_are_conversations()
     ensures { SessionsAreConversations }
 {
@@ -53,7 +53,7 @@ pub fn session_is_a_step()
 
 /// A law: whatever its server says, a session loses and changes no file of `new` and `cur`, and each
 /// DELE that it began is for a message that was recorded as delivered before, or was held, or whose
-/// text, as it got it, it stored; where the record's file stood for a record.
+/// text, as it got it for its unique-id, it stored; where the record's file stood for a record.
 pub fn any_server()
     ensures { AnyServer }
 {
@@ -72,6 +72,7 @@ pub fn headline()
     links_are_visits();
     kept_states();
     holds_exactly();
+    account_texts_are_digits();
 }
 
 /// A law: an account with an empty record and no file of its own is where the headline may begin.

@@ -2,9 +2,9 @@
 ghost use Rattle.std.specs.Prelude.{◌≡◌, ◌*◌, ℕ, List, length, IfErr, IfOk};
 ghost use Rattle.fetch_session.specs.Account.{digits_of};
 ghost use Rattle.fetch_session.specs.Session.{kept};
-ghost use Rattle.fetch_runs.specs.Headline.{IsKept, IsSound};
+ghost use Rattle.fetch_runs.specs.Headline.{IsKept};
 ghost use Rattle.fetch_runs.specs.Runs.{ArePromised, AreServed, AreSound, Runs, state_of, world_of};
-ghost use Rattle.pop3_wire.specs.World.{Message};
+ghost use Rattle.pop3_wire.specs.World.{IsWorld, Message};
 ghost use Rattle.run_law.specs.Chains.{Fact};
 
 use crate::laws::headline;
@@ -40,13 +40,14 @@ pub fn run_sessions<W: Wire, D: MaildirDisk, F: FlatFile, H: BuildHasher>(
         × Runs W.seen account.old.settings (digits_of account.old.settings) visits.old (kept (D.maildir account.old.disk) (F.stored account.old.file))
         reports.items visits.new (kept (D.maildir account.new.disk) (F.stored account.new.file))) }
     ensures promised { IfOk result (λ reports. AreSound W.sound visits.new → D.sound account.new.disk → F.sound account.new.file
-        → (all : List Message) (gone : List (List ℕ)) (facts : List Fact) → IsSound (world_of account.old.settings all)
+        → (all : List Message) (gone : List (List ℕ)) (facts : List Fact) → IsWorld all
         → IsKept (world_of account.old.settings all) (state_of (kept (D.maildir account.old.disk) (F.stored account.old.file)) gone)
         → AreServed W.seen all gone visits.old visits.new facts
         → ArePromised W.seen (world_of account.old.settings all) (state_of (kept (D.maildir account.old.disk) (F.stored account.old.file)) gone)
         visits.old reports.items visits.new facts (kept (D.maildir account.new.disk) (F.stored account.new.file))) }
 {
     headline();
+    let _ = account.settings();
     let mut reports = Vec::with_capacity(alloc, visits.len())?;
     for i in 0..visits.len() {
         let visit = &mut visits[i];

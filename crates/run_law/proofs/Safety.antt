@@ -12,7 +12,7 @@ use Rattle.mail_store.specs.FileName.{name_of, is_held}
 use Rattle.run_law.specs.Mails.{has_id}
 use Rattle.run_law.specs.Accounts.{Account}
 use Rattle.run_law.specs.Steps.{Effect, Leaves, Stores, file_for, is_unheld, ids_wanted, wanted_at, merged_rows}
-use Rattle.run_law.specs.Sessions.{IsBegun}
+use Rattle.run_law.specs.Sessions.{IsBegun, BeginsOne}
 use Rattle.pop3_wire.specs.Honest.{Asked}
 use Rattle.pop3_wire.specs.declared.command.Command.{Command}
 use Rattle.pop3_wire.specs.declared.command.Command.TheVariants.{User, Pass, Stat, UidlAll, UidlOne, ListAll, ListOne, Retr, Dele, Rset, Noop, Top, Quit}
@@ -23,11 +23,11 @@ use Rattle.run_law.proofs.Below.{Records}
 use Rattle.run_law.proofs.Records.{delivered_marked, delivered_merged}
 
 -- the files are still there, and each id for which a DELE was begun is kept
-pub record KeepsAll (account : List ℕ) (before : Account) (effect : Effect) (after : Account) : Type 0 where
+pub record KeepsAll (settings : Settings) (account : List ℕ) (before : Account) (effect : Effect) (after : Account) : Type 0 where
   pub gained : List File
   pub in_new : after.maildir.in_new ≡ before.maildir.in_new ++ gained
   pub in_cur : after.maildir.in_cur ≡ before.maildir.in_cur
-  pub begun : AllByRecursion (IsKept account before effect gained) effect.begun
+  pub begun : AllByRecursion (IsKept settings account before effect gained) effect.begun
 
 behind_one : {X : Type 0} (x y : X) (xs : List X) → IsAmong x xs → IsAmong x (y ∷ xs)
 behind_one x y xs (front, behind, is) = (y ∷ front, behind, ap (λ l. y ∷ l) is)
@@ -51,18 +51,28 @@ take_fewer (suc m) (suc n) (q ∷ qs) id less is =
 abbrev brought : List ℕ → Maildir → List ((ℕ × Item) × List ℕ) → List File
 brought account maildir pairs = map (file_for account) (filter (is_unheld account maildir) pairs)
 
-found : (account : List ℕ) (maildir : Maildir) (qs : List (ℕ × Item)) (texts : List (List ℕ)) (id : List ℕ) → length qs ≤ length texts → has_id (ids_wanted qs) id ≡ true → is_held account maildir id ≡ false
-    → (text : List ℕ) × IsAmong text texts × IsAmong (file (name_of account id) text) (brought account maildir (zip qs texts))
-found account maildir [] texts id less never free = absurd (true≢false (sym never))
-found account maildir (q ∷ qs) [] id less is free = let no : ⊥ = omega (arith, less) in absurd no
-found account maildir (q ∷ qs) (t ∷ ts) id less is free =
-    elim (or_cases (bytes_eq id q.1.uid) (has_id (ids_wanted qs) id) is) [
-      | inl same ↦ (t, ([], ts, refl), first (bytes_same id q.1.uid same) (is_unheld account maildir (q, t)) (ap not (ap (is_held account maildir) (sym (bytes_same id q.1.uid same)) ∙ free)))
-      | inr more ↦ let there = found account maildir qs ts id (omega (arith, less)) more free in (there.0, behind_one there.0 t ts there.1, next there.0 there.2 (is_unheld account maildir (q, t)))
+found : (account : List ℕ) (maildir : Maildir) (n : ℕ) (qs : List (ℕ × Item)) (texts : List (List ℕ)) (id : List ℕ) → length (take n qs) ≤ length texts → has_id (ids_wanted (take n qs)) id ≡ true
+    → is_held account maildir id ≡ false
+    → (message : ℕ × Item) × (text : List ℕ) × IsAmong (message, text) (zip qs texts) × (message.1.uid ≡ id) × IsAmong (file (name_of account id) text) (brought account maildir (zip (take n qs) texts))
+found account maildir zero qs texts id less never free = absurd (true≢false (sym never))
+found account maildir (suc n) [] texts id less never free = absurd (true≢false (sym never))
+found account maildir (suc n) (q ∷ qs) [] id less is free = let no : ⊥ = omega (arith, less) in absurd no
+found account maildir (suc n) (q ∷ qs) (t ∷ ts) id less is free =
+    elim (or_cases (bytes_eq id q.1.uid) (has_id (ids_wanted (take n qs)) id) is) [
+      | inl same ↦ (
+        q,
+        t,
+        ([], zip qs ts, refl),
+        sym (bytes_same id q.1.uid same),
+        first (bytes_same id q.1.uid same) (is_unheld account maildir (q, t)) (ap not (ap (is_held account maildir) (sym (bytes_same id q.1.uid same)) ∙ free)),
+      )
+      | inr more ↦
+          let there = found account maildir n qs ts id (omega (arith, less)) more free in
+          (there.0, there.1, behind_one (there.0, there.1) (q, t) (zip qs ts) there.2, there.3, next there.1 there.4 (is_unheld account maildir (q, t)))
     ]
   where
     later : List ((ℕ × Item) × List ℕ)
-    later = filter (is_unheld account maildir) (zip qs ts)
+    later = filter (is_unheld account maildir) (zip (take n qs) ts)
 
     first : id ≡ q.1.uid → (b : Bool) → b ≡ true → IsAmong (file (name_of account id) t) (map (file_for account) (cond b ((q, t) ∷ later) later))
     first same true e = ([], map (file_for account) later, ap (λ (i : List ℕ). file (name_of account i) t ∷ map (file_for account) later) (sym same))
@@ -74,23 +84,23 @@ found account maildir (q ∷ qs) (t ∷ ts) id less is free =
 
 module _ (laws : Records) (settings : Settings) (account : List ℕ) (before : Account) (effect : Effect) (after : Account) (stores : Stores settings account before effect after) where
   stored_ids : (id : List ℕ) (b : Bool) → is_held account before.maildir id ≡ b → has_id (ids_wanted (take stores.recorded (wanted_at settings account before effect))) id ≡ true
-      → IsKept account before effect (brought account before.maildir (zip (take stores.stored (wanted_at settings account before effect)) effect.texts)) id
+      → IsKept settings account before effect (brought account before.maildir (zip (take stores.stored (wanted_at settings account before effect)) effect.texts)) id
   stored_ids id true held is = inr (inl held)
   stored_ids id false free is =
       let size : length (take stores.stored (wanted_at settings account before effect)) ≡ min stores.stored (length (wanted_at settings account before effect)) = length-take stores.stored (wanted_at settings account before effect) in
       let fetched = stores.fetched in
-      inr (inr (found account before.maildir (take stores.stored (wanted_at settings account before effect)) effect.texts id (omega (arith, size, fetched))
+      inr (inr (found account before.maildir stores.stored (wanted_at settings account before effect) effect.texts id (omega (arith, size, fetched))
       (take_fewer stores.recorded stores.stored (wanted_at settings account before effect) id stores.order is) free))
 
   merged_ids : (id : List ℕ) → is_delivered (merged_rows account before effect) id ≡ true
-      → IsKept account before effect (brought account before.maildir (zip (take stores.stored (wanted_at settings account before effect)) effect.texts)) id
+      → IsKept settings account before effect (brought account before.maildir (zip (take stores.stored (wanted_at settings account before effect)) effect.texts)) id
   merged_ids id is =
       elim (or_cases (is_delivered before.rows id) (has_item effect.listing id && is_held account before.maildir id) (sym (delivered_merged laws account before.maildir before.rows effect.listing effect.now id) ∙ is)) [
         | inl known ↦ inl known
         | inr held ↦ inr (inl (and_parts (has_item effect.listing id) (is_held account before.maildir id) held).1)
       ]
 
-  kept_ids : (id : List ℕ) → is_delivered after.rows id ≡ true → IsKept account before effect (brought account before.maildir (zip (take stores.stored (wanted_at settings account before effect)) effect.texts)) id
+  kept_ids : (id : List ℕ) → is_delivered after.rows id ≡ true → IsKept settings account before effect (brought account before.maildir (zip (take stores.stored (wanted_at settings account before effect)) effect.texts)) id
   kept_ids id is =
       elim stores.rows [
         | inl same ↦ inl (ap (λ (rows : List Row). is_delivered rows id) (sym same) ∙ is)
@@ -101,53 +111,60 @@ module _ (laws : Records) (settings : Settings) (account : List ℕ) (before : A
             ]
       ]
 
-  kept_all : KeepsAll account before effect after
+  kept_all : KeepsAll settings account before effect after
   kept_all = record {
     gained = brought account before.maildir (zip (take stores.stored (wanted_at settings account before effect)) effect.texts);
     in_new = stores.in_new;
     in_cur = stores.in_cur;
-    begun = all_map (λ id. is_delivered after.rows id ≡ true) (IsKept account before effect (brought account before.maildir (zip (take stores.stored (wanted_at settings account before effect)) effect.texts)))
+    begun = all_map (λ id. is_delivered after.rows id ≡ true) (IsKept settings account before effect (brought account before.maildir (zip (take stores.stored (wanted_at settings account before effect)) effect.texts)))
         kept_ids effect.begun stores.begun;
   }
 
-kept_none : (account : List ℕ) (before : Account) (effect : Effect) (after : Account) → Leaves before effect after → KeepsAll account before effect after
-kept_none account before effect after leaves = record {
+kept_none : (settings : Settings) (account : List ℕ) (before : Account) (effect : Effect) (after : Account) → Leaves before effect after → KeepsAll settings account before effect after
+kept_none settings account before effect after leaves = record {
   gained = [];
   in_new = leaves.in_new ∙ sym (append-nil before.maildir.in_new);
   in_cur = leaves.in_cur;
-  begun = subst (λ (ids : List (List ℕ)). AllByRecursion (IsKept account before effect []) ids) (sym leaves.begun) tt;
+  begun = subst (λ (ids : List (List ℕ)). AllByRecursion (IsKept settings account before effect []) ids) (sym leaves.begun) tt;
 }
 
-deletes_kept : (account : List ℕ) (before : Account) (effect : Effect) (after : Account) (keeps : KeepsAll account before effect after) (command : Command)
-    → IsBegun effect.listing effect.begun command → DeletesKept account before effect keeps.gained command
-deletes_kept account before effect after keeps (Dele number) (item, at, is) = (item, at, all_ids_at (IsKept account before effect keeps.gained) effect.begun item.uid keeps.begun is)
-deletes_kept account before effect after keeps (User name) is = tt
-deletes_kept account before effect after keeps (Pass word) is = tt
-deletes_kept account before effect after keeps Stat is = tt
-deletes_kept account before effect after keeps UidlAll is = tt
-deletes_kept account before effect after keeps (UidlOne number) is = tt
-deletes_kept account before effect after keeps ListAll is = tt
-deletes_kept account before effect after keeps (ListOne number) is = tt
-deletes_kept account before effect after keeps (Retr number) is = tt
-deletes_kept account before effect after keeps Rset is = tt
-deletes_kept account before effect after keeps Noop is = tt
-deletes_kept account before effect after keeps (Top number lines) is = tt
-deletes_kept account before effect after keeps Quit is = tt
+deletes_kept : (settings : Settings) (account : List ℕ) (before : Account) (effect : Effect) (after : Account) (keeps : KeepsAll settings account before effect after) (command : Command)
+    → IsBegun effect.listing effect.begun command → DeletesKept settings account before effect keeps.gained command
+deletes_kept settings account before effect after keeps (Dele number) (item, at, is) = (item, at, all_ids_at (IsKept settings account before effect keeps.gained) effect.begun item.uid keeps.begun is)
+deletes_kept settings account before effect after keeps (User name) is = tt
+deletes_kept settings account before effect after keeps (Pass word) is = tt
+deletes_kept settings account before effect after keeps Stat is = tt
+deletes_kept settings account before effect after keeps UidlAll is = tt
+deletes_kept settings account before effect after keeps (UidlOne number) is = tt
+deletes_kept settings account before effect after keeps ListAll is = tt
+deletes_kept settings account before effect after keeps (ListOne number) is = tt
+deletes_kept settings account before effect after keeps (Retr number) is = tt
+deletes_kept settings account before effect after keeps Rset is = tt
+deletes_kept settings account before effect after keeps Noop is = tt
+deletes_kept settings account before effect after keeps (Top number lines) is = tt
+deletes_kept settings account before effect after keeps Quit is = tt
 
-safe : (account : List ℕ) (before : Account) (sent : List ℕ) (effect : Effect) (after : Account) → KeepsAll account before effect after → (commands : List Command) → Asked commands sent
-    → AllByRecursion (IsBegun effect.listing effect.begun) commands → IsSafe account before sent effect after
-safe account before sent effect after keeps commands asked begun = record {
+begins_kept : (settings : Settings) (account : List ℕ) (before : Account) (effect : Effect) (after : Account) (keeps : KeepsAll settings account before effect after) (part : List ℕ)
+    → BeginsOne (IsBegun effect.listing effect.begun) part → BeginsOne (DeletesKept settings account before effect keeps.gained) part
+begins_kept settings account before effect after keeps part (inl none) = inl none
+begins_kept settings account before effect after keeps part (inr (command, unsent, is, begun)) =
+    inr (command, unsent, is, deletes_kept settings account before effect after keeps command begun)
+
+safe : (settings : Settings) (account : List ℕ) (before : Account) (sent : List ℕ) (effect : Effect) (after : Account) → KeepsAll settings account before effect after → (commands : List Command) → (asked : Asked commands sent)
+    → AllByRecursion (IsBegun effect.listing effect.begun) commands → BeginsOne (IsBegun effect.listing effect.begun) asked.part → IsSafe settings account before sent effect after
+safe settings account before sent effect after keeps commands asked begun next = record {
   gained = keeps.gained;
   in_new = keeps.in_new;
   in_cur = keeps.in_cur;
   commands = commands;
   asked = asked;
-  deletes = all_map (IsBegun effect.listing effect.begun) (DeletesKept account before effect keeps.gained) (deletes_kept account before effect after keeps) commands begun;
+  deletes = all_map (IsBegun effect.listing effect.begun) (DeletesKept settings account before effect keeps.gained) (deletes_kept settings account before effect after keeps) commands begun;
+  next = begins_kept settings account before effect after keeps asked.part next;
 }
 
 pub sessions_are_safe : Records → SessionsAreSafe
 sessions_are_safe laws settings account before sent got effect after session =
     elim session.step [
-      | inl leaves ↦ safe account before sent effect after (kept_none account before effect after leaves) session.commands session.asked session.begun
-      | inr (stores, reads) ↦ safe account before sent effect after (kept_all laws settings account before effect after stores) session.commands session.asked session.begun
+      | inl leaves ↦ safe settings account before sent effect after (kept_none settings account before effect after leaves) session.commands session.asked session.begun session.next
+      | inr (stores, reads) ↦ safe settings account before sent effect after (kept_all laws settings account before effect after stores) session.commands session.asked session.begun session.next
     ]

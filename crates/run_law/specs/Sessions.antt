@@ -3,7 +3,9 @@ use Rattle.std.specs.Prelude.{◌≡◌, ◌⊎◌, ◌-◌, ℕ, Bool, true, Li
 use Rattle.std.specs.List.{AllByRecursion}
 use Rattle.pop3_wire.specs.declared.command.Command.{Command}
 use Rattle.pop3_wire.specs.declared.command.Command.TheVariants.{User, Pass, Stat, UidlAll, ListAll, Dele, Quit}
+use Rattle.pop3_wire.specs.Commands.{line_of}
 use Rattle.pop3_wire.specs.Honest.{Asked, Honest}
+use Rattle.pop3_wire.specs.Line.{ended}
 use Rattle.pop3_wire.specs.World.{Message, maildrop_of}
 use Rattle.mail_terms.specs.Listing.{Item}
 use Rattle.rc_file.specs.declared.settings.Settings.{Settings}
@@ -14,7 +16,7 @@ use Rattle.pop3_wire.specs.Reading.{WholeReply}
 use Rattle.run_law.specs.Readings.{Talked, Retrieves, IsListed}
 use Rattle.run_law.specs.Runs.{Frame, IsFrame, Situation, Visits, Visited, Moved, Kept, Promises}
 
--- a DELE that was sent whole is among those begun, by the id of its number
+-- a DELE is among those begun, by the id of its number
 abbrev pub IsBegun : List Item → List (List ℕ) → Command → Type 0
 IsBegun listing begun (Dele number) = (item : Item) × (slice_get listing (number - 1) ≡ Some item) × (has_id begun item.uid ≡ true)
 IsBegun listing begun _ = Unit {0}
@@ -38,11 +40,17 @@ pub record Reads (settings : Settings) (account : List ℕ) (before : Account) (
   pub texts : effect.texts ≡ map (λ (p : ℕ × List ℕ). p.1) found
   pub numbers : map (λ (p : ℕ × List ℕ). p.0) found ≡ map (λ (p : ℕ × Item). p.0) (take (length found) (wanted_at settings account before effect))
 
+-- nothing was sent, or a beginning of the line of one command of this kind
+abbrev pub BeginsOne : (Command → Type 0) → List ℕ → Type 0
+BeginsOne Is part = (part ≡ []) ⊎ ((command : Command) × (unsent : List ℕ) × (ended (line_of command) ≡ part ++ unsent) × Is command)
+
 -- a session by what its link gained: it changed nothing, or it read the replies and stored texts
 pub record Session (settings : Settings) (account : List ℕ) (before : Account) (sent got : List ℕ) (effect : Effect) (after : Account) : Type 0 where
   pub commands : List Command
   pub asked : Asked commands sent
   pub begun : AllByRecursion (IsBegun effect.listing effect.begun) commands
+  -- what was sent behind these commands begins one more
+  pub next : BeginsOne (IsBegun effect.listing effect.begun) asked.part
   pub step : Leaves before effect after ⊎ (Stores settings account before effect after × Reads settings account before commands sent got effect)
 
 -- the id is that of a message that is marked

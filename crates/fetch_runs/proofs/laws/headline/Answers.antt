@@ -10,4 +10,5 @@ returns c = lemmas.headline laws
       visits = c.links_are_visits.ensures;
       stays = c.kept_states.ensures;
       holds_exactly = c.holds_exactly.ensures;
+      digits = c.account_texts_are_digits.ensures;
     }

@@ -1,6 +1,7 @@
 use Rattle.std.proofs.Common.{◌≤◌, ◌≡◌, ◌<◌, ◌+◌, ◌++◌, ◌∷◌, [], ℕ, List, if◌then◌else◌, get_or, take, set, length, refl, sym, ap, subst, ◌∙◌, arith, length-append}
 use Rattle.std.specs.Result.{is_ok}
 use Rattle.std.proofs.lemmas.List.{length-set}
+use Rattle.rc_file.specs.Settings.{IsValid}
 use Rattle.rc_file.specs.declared.settings.Settings.{Settings}
 use Rattle.fetch_session.specs.Account.{digits_of}
 use Rattle.fetch_session.specs.declared.report.Report.{Report}
@@ -46,7 +47,7 @@ loop-i-preserved g c =
     )
 
 pub returns-clause-promised : goal.returns-clause-promised
-returns-clause-promised g c = λ sound disk file all gone facts is_sound is_kept served.
+returns-clause-promised g c = λ sound disk file all gone facts mail is_kept served.
     let inv = c.loop-i.invariant in
     let done : length c.args.visits.now ≤ c.loop-i.i = omega (arith, c.loop-i-test.false) in
     let same_length : length c.loop-i.visits ≡ length c.args.visits.now = inv.3 in
@@ -57,4 +58,4 @@ returns-clause-promised g c = λ sound disk file all gone facts is_sound is_kept
     (g.D.MaildirDisk.sound c.args.account.now.disk × g.F.FlatFile.sound c.args.account.now.file) c.loop-i.reports.items last
     (g.D.MaildirDisk.sound c.loop-i.account.disk × g.F.FlatFile.sound c.loop-i.account.file) inv.5 done behind in
     runs_promised c.headline.ensures g.W.Wire.seen (world_of c.args.account.now.settings all) c.args.visits.now (state_of start gone) c.loop-i.reports.items c.loop-i.visits facts last
-    is_sound is_kept served (ran.made sound (disk, file)).2
+    (record { settings = subst IsValid c.settings.ensures.value c.settings.ensures.valid; mail = mail }) is_kept served (ran.made sound (disk, file)).2
