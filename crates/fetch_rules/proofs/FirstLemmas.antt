@@ -11,7 +11,7 @@ use Rattle.fetch_rules.specs.Wanted.{is_asked_for, is_candidate}
 use Rattle.fetch_rules.specs.Plan.{planned, step_of}
 use Rattle.fetch_rules.specs.Laws.{FetchesFirsts}
 use Rattle.rc_file.specs.declared.settings.Settings.{Settings}
-use Rattle.fetch_rules.proofs.PlanLemmas.{is_among-at_most}
+use Rattle.fetch_rules.proofs.PlanLemmas.{has_number-at_most}
 
 both_true : (a b : Bool) → (a && b) ≡ true → (a ≡ true) × (b ≡ true)
 both_true true b e = (refl, e)
@@ -48,7 +48,7 @@ first_of settings rows front is i now fetched =
     candidate : is_candidate settings rows (front ++ i ∷ is) (length front + 1, i) ≡ true
     candidate = ap (is_candidate settings rows (front ++ i ∷ is)) (sym (at (0, i)))
         ∙ (both_true (is_candidate settings rows (front ++ i ∷ is) (get_or (numbered (front ++ i ∷ is)) (length front) (0, i))) _
-        (sym (is_among-at_most (is_candidate settings rows (front ++ i ∷ is)) settings.max_count (length front) (front ++ i ∷ is) (0, i) inside) ∙ fetched)).0
+        (sym (has_number-at_most (is_candidate settings rows (front ++ i ∷ is)) settings.max_count (length front) (front ++ i ∷ is) (0, i) inside) ∙ fetched)).0
 
 firsts_from : (settings : Settings) (rows : List Row) (listing front rest : List Item) (now k : ℕ) → listing ≡ front ++ rest → k ≡ length front + 1
     → FetchesFirsts front (map (step_of settings rows listing now) (enumerate_from k rest)) rest

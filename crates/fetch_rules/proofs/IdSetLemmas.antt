@@ -6,18 +6,18 @@ use Rattle.std.specs.Ordering.{is_eq, nat_cmp}
 use Rattle.std.specs.Cmp.Lexicographic.{slice_cmp}
 use Rattle.std.proofs.lemmas.Bool.{cases_Bool, true≢false}
 use Rattle.std.proofs.lemmas.Map.Text.{is_eq-slice_cmp}
-use Rattle.fetch_rules.specs.IdSet.{is_among}
+use Rattle.mail_terms.specs.UniqueId.{has_id}
 use Rattle.fetch_rules.proofs.IdLemmas.{same_from_test, test_from_same, test_from_other}
 
 -- whether a set's keys have this one
 abbrev pub has_key : List (Bor (List ℕ)) → List ℕ → Bool
 has_key keys uid = list_any (λ other. is_eq (slice_cmp nat_cmp uid other.now)) keys
 
-pub is_among-keys : (uid : List ℕ) (keys : List (Bor (List ℕ))) → has_key keys uid ≡ is_among (map (λ id. id.now) keys) uid
-is_among-keys uid [] = refl
-is_among-keys uid (key ∷ keys) =
+pub has_id-keys : (uid : List ℕ) (keys : List (Bor (List ℕ))) → has_key keys uid ≡ has_id (map (λ id. id.now) keys) uid
+has_id-keys uid [] = refl
+has_id-keys uid (key ∷ keys) =
     ap (λ (b : Bool). b || has_key keys uid) (is_eq-slice_cmp uid key.now)
-    ∙ ap (λ (b : Bool). bytes_eq uid key.now || b) (is_among-keys uid keys)
+    ∙ ap (λ (b : Bool). bytes_eq uid key.now || b) (has_id-keys uid keys)
 
 pub bytes_eq_symm : (a b : List ℕ) → bytes_eq a b ≡ bytes_eq b a
 bytes_eq_symm a b = elim (cases_Bool (bytes_eq a b)) [
@@ -30,11 +30,11 @@ or_cond true c = refl
 or_cond false c = refl
 
 -- one more key
-pub is_among-more : (id uid : List ℕ) (keys keys' : List (Bor (List ℕ))) (ids : List (List ℕ)) → map (λ key. key.now) keys ≡ ids
+pub has_id-more : (id uid : List ℕ) (keys keys' : List (Bor (List ℕ))) (ids : List (List ℕ)) → map (λ key. key.now) keys ≡ ids
     → has_key keys' id ≡ cond (is_eq (slice_cmp nat_cmp uid id)) true (has_key keys id)
-    → is_among (map (λ key. key.now) keys') id ≡ (bytes_eq id uid || is_among ids id)
-is_among-more id uid keys keys' ids ids_are updated =
-    sym (is_among-keys id keys') ∙ updated
+    → has_id (map (λ key. key.now) keys') id ≡ (bytes_eq id uid || has_id ids id)
+has_id-more id uid keys keys' ids ids_are updated =
+    sym (has_id-keys id keys') ∙ updated
     ∙ ap (λ (b : Bool). cond b true (has_key keys id)) (is_eq-slice_cmp uid id ∙ bytes_eq_symm uid id)
     ∙ or_cond (bytes_eq id uid) (has_key keys id)
-    ∙ ap (λ (b : Bool). bytes_eq id uid || b) (is_among-keys id keys ∙ ap (λ (xs : List (List ℕ)). is_among xs id) ids_are)
+    ∙ ap (λ (b : Bool). bytes_eq id uid || b) (has_id-keys id keys ∙ ap (λ (xs : List (List ℕ)). has_id xs id) ids_are)

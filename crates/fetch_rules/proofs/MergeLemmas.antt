@@ -11,7 +11,7 @@ use Rattle.std.proofs.Math.Bool.{or_assoc, or-false}
 use Rattle.std.proofs.lemmas.Bool.{true≢false}
 use Rattle.fetch_rules.proofs.RecordLemmas.{with_delivered-false}
 use Rattle.fetch_rules.proofs.IdSetLemmas.{bytes_eq_symm}
-use Rattle.fetch_rules.specs.IdSet.{is_among}
+use Rattle.mail_terms.specs.UniqueId.{has_id}
 use Rattle.mail_terms.specs.Listing.{Item}
 use Rattle.fetch_rules.specs.Record.{Row, IsRecord, is_of, with_delivered, marked, is_flagged, with_held, new_ids, undelivered, merged}
 
@@ -180,17 +180,17 @@ merged_from_steps rows listing held now added longer new added_is longer_is new_
 
 -- a loop over the flagged items that collects the ids of those that are held
 abbrev pub HasHeld : List Item → List Bool → ℕ → List (List ℕ) → Type 0
-HasHeld listing held i ids = (uid : List ℕ) → is_among ids uid ≡ list_any (stands_for uid) (take i (zip listing held))
+HasHeld listing held i ids = (uid : List ℕ) → has_id ids uid ≡ list_any (stands_for uid) (take i (zip listing held))
 
 next_flagged : (listing : List Item) (held : List Bool) (i : ℕ) (uid : List ℕ) → length held ≡ length listing → i < length listing
     → list_any (stands_for uid) (take (i + 1) (zip listing held)) ≡ list_any (stands_for uid) (take i (zip listing held)) || stands_for uid (get_or listing i nobody, get_or held i false)
 next_flagged listing held i uid same inside = ap (list_any (stands_for uid)) (flagged_more listing held i nobody false same inside) ∙ any_more uid (take i (zip listing held)) (get_or listing i nobody, get_or held i false)
 
 pub HasHeld-held : (listing : List Item) (held : List Bool) (i : ℕ) (ids new : List (List ℕ)) (uid : List ℕ) → HasHeld listing held i ids → length held ≡ length listing → i < length listing
-    → get_or held i false ≡ true → ((d : Item) → uid ≡ (get_or listing i d).uid) → ((id : List ℕ) → is_among new id ≡ (bytes_eq id uid || is_among ids id)) → HasHeld listing held (i + 1) new
+    → get_or held i false ≡ true → ((d : Item) → uid ≡ (get_or listing i d).uid) → ((id : List ℕ) → has_id new id ≡ (bytes_eq id uid || has_id ids id)) → HasHeld listing held (i + 1) new
 HasHeld-held listing held i ids new uid were same inside is at added = λ id.
     added id
-    ∙ or_swap (bytes_eq id uid) (is_among ids id)
+    ∙ or_swap (bytes_eq id uid) (has_id ids id)
     ∙ ap (λ (b : Bool). b || bytes_eq id uid) (were id)
     ∙ ap (λ (b : Bool). list_any (stands_for id) (take i (zip listing held)) || b) (bytes_eq_symm id uid ∙ ap (λ (u : List ℕ). bytes_eq u id) (at nobody))
     ∙ ap (λ (b : Bool). list_any (stands_for id) (take i (zip listing held)) || (b && bytes_eq (get_or listing i nobody).uid id)) (sym is)
@@ -210,5 +210,5 @@ HasHeld-free listing held i ids were same inside is = λ id.
     ∙ ap (λ (b : Bool). list_any (stands_for id) (take i (zip listing held)) || (b && bytes_eq (get_or listing i nobody).uid id)) (sym is)
     ∙ sym (next_flagged listing held i id same inside)
 
-pub HasHeld-all : (listing : List Item) (held : List Bool) (i : ℕ) (ids : List (List ℕ)) → HasHeld listing held i ids → length listing ≤ i → (uid : List ℕ) → is_among ids uid ≡ is_flagged listing held uid
+pub HasHeld-all : (listing : List Item) (held : List Bool) (i : ℕ) (ids : List (List ℕ)) → HasHeld listing held i ids → length listing ≤ i → (uid : List ℕ) → has_id ids uid ≡ is_flagged listing held uid
 HasHeld-all listing held i ids were past = λ uid. were uid ∙ ap (list_any (stands_for uid)) (take_all i (zip listing held) (omega (arith, past, length-zip listing held)))

@@ -9,30 +9,30 @@ use Rattle.std.proofs.lemmas.Bool.{true≢false}
 use Rattle.fetch_rules.proofs.FilterLemmas.{filter_keeps, filter_leaves}
 use Rattle.fetch_rules.proofs.IdLemmas.{same_from_test, test_from_same, test_from_other, cases_id}
 use Rattle.mail_terms.specs.Listing.{Item}
-use Rattle.fetch_rules.specs.IdSet.{is_among}
+use Rattle.mail_terms.specs.UniqueId.{has_id}
 use Rattle.fetch_rules.specs.Record.{Row, is_of, has_row, distinct_ids, new_ids, undelivered}
 
 -- a filter that an id passes doesn't take it away
-pub is_among-filter : (p : List ℕ → Bool) (uid : List ℕ) (ids : List (List ℕ)) → p uid ≡ true → is_among (filter p ids) uid ≡ is_among ids uid
-is_among-filter p uid [] passes = refl
-is_among-filter p uid (id ∷ ids) passes = elim (cases_Bool (p id)) [
-  | inl hit ↦ ap (λ (xs : List (List ℕ)). is_among xs uid) (filter_keeps p id ids hit) ∙ ap (λ (b : Bool). bytes_eq uid id || b) (is_among-filter p uid ids passes)
+pub has_id-filter : (p : List ℕ → Bool) (uid : List ℕ) (ids : List (List ℕ)) → p uid ≡ true → has_id (filter p ids) uid ≡ has_id ids uid
+has_id-filter p uid [] passes = refl
+has_id-filter p uid (id ∷ ids) passes = elim (cases_Bool (p id)) [
+  | inl hit ↦ ap (λ (xs : List (List ℕ)). has_id xs uid) (filter_keeps p id ids hit) ∙ ap (λ (b : Bool). bytes_eq uid id || b) (has_id-filter p uid ids passes)
   | inr miss ↦
-      ap (λ (xs : List (List ℕ)). is_among xs uid) (filter_leaves p id ids miss) ∙ is_among-filter p uid ids passes
-      ∙ ap (λ (b : Bool). b || is_among ids uid) (sym (test_from_other uid id (λ same. true≢false (sym passes ∙ ap p same ∙ miss))))
+      ap (λ (xs : List (List ℕ)). has_id xs uid) (filter_leaves p id ids miss) ∙ has_id-filter p uid ids passes
+      ∙ ap (λ (b : Bool). b || has_id ids uid) (sym (test_from_other uid id (λ same. true≢false (sym passes ∙ ap p same ∙ miss))))
 ]
 
-pub is_among-distinct_ids : (uid : List ℕ) (ids : List (List ℕ)) → is_among (distinct_ids ids) uid ≡ is_among ids uid
-is_among-distinct_ids uid [] = refl
-is_among-distinct_ids uid (id ∷ ids) = elim (cases_id uid id) [
+pub has_id-distinct_ids : (uid : List ℕ) (ids : List (List ℕ)) → has_id (distinct_ids ids) uid ≡ has_id ids uid
+has_id-distinct_ids uid [] = refl
+has_id-distinct_ids uid (id ∷ ids) = elim (cases_id uid id) [
   | inl same ↦ or_left _ _ (test_from_same uid id same) ∙ sym (or_left _ _ (test_from_same uid id same))
   | inr other ↦ ap (λ (b : Bool). bytes_eq uid id || b)
-      (is_among-filter (λ o. not (bytes_eq id o)) uid (distinct_ids ids) (not_from_false _ (test_from_other id uid (λ same. other (sym same))))
-      ∙ is_among-distinct_ids uid ids)
+      (has_id-filter (λ o. not (bytes_eq id o)) uid (distinct_ids ids) (not_from_false _ (test_from_other id uid (λ same. other (sym same))))
+      ∙ has_id-distinct_ids uid ids)
 ]
 
 -- one more id, which stood there before or didn't
-pub distinct_ids-push_new : (ids : List (List ℕ)) (uid : List ℕ) → is_among ids uid ≡ false → distinct_ids (ids ++ uid ∷ []) ≡ distinct_ids ids ++ uid ∷ []
+pub distinct_ids-push_new : (ids : List (List ℕ)) (uid : List ℕ) → has_id ids uid ≡ false → distinct_ids (ids ++ uid ∷ []) ≡ distinct_ids ids ++ uid ∷ []
 distinct_ids-push_new [] uid new = refl
 distinct_ids-push_new (id ∷ ids) uid new =
     ap (λ (xs : List (List ℕ)). id ∷ filter (λ o. not (bytes_eq id o)) xs) (distinct_ids-push_new ids uid (or_parts _ _ new).1)
@@ -44,9 +44,9 @@ distinct_ids-push_new (id ∷ ids) uid new =
     other : uid ≡ id → ⊥
     other same = let hit : bytes_eq uid id ≡ true = test_from_same uid id same in let miss : bytes_eq uid id ≡ false = (or_parts _ _ new).0 in cc
 
-pub distinct_ids-push_old : (ids : List (List ℕ)) (uid : List ℕ) → is_among ids uid ≡ true → distinct_ids (ids ++ uid ∷ []) ≡ distinct_ids ids
+pub distinct_ids-push_old : (ids : List (List ℕ)) (uid : List ℕ) → has_id ids uid ≡ true → distinct_ids (ids ++ uid ∷ []) ≡ distinct_ids ids
 distinct_ids-push_old [] uid old = cc
-distinct_ids-push_old (id ∷ ids) uid old = elim (cases_Bool (is_among ids uid)) [
+distinct_ids-push_old (id ∷ ids) uid old = elim (cases_Bool (has_id ids uid)) [
   | inl inside ↦ ap (λ (xs : List (List ℕ)). id ∷ filter (λ o. not (bytes_eq id o)) xs) (distinct_ids-push_old ids uid inside)
   | inr outside ↦
       ap (λ (xs : List (List ℕ)). id ∷ filter (λ o. not (bytes_eq id o)) xs) (distinct_ids-push_new ids uid outside)
@@ -57,23 +57,23 @@ distinct_ids-push_old (id ∷ ids) uid old = elim (cases_Bool (is_among ids uid)
       ∙ append-nil _)
 ]
   where
-    same : is_among ids uid ≡ false → uid ≡ id
-    same outside = elim (or_cases (bytes_eq uid id) (is_among ids uid) old) [ inl hit ↦ same_from_test uid id hit | inr inside ↦ absurd (true≢false (sym inside ∙ outside)) ]
+    same : has_id ids uid ≡ false → uid ≡ id
+    same outside = elim (or_cases (bytes_eq uid id) (has_id ids uid) old) [ inl hit ↦ same_from_test uid id hit | inr inside ↦ absurd (true≢false (sym inside ∙ outside)) ]
 
 -- the ids of these that have no row
 abbrev pub new_of : List Row → List (List ℕ) → List (List ℕ)
 new_of rows ids = filter (λ uid. not (has_row rows uid)) (distinct_ids ids)
 
-pub has_row-undelivered : (now : ℕ) (ids : List (List ℕ)) (uid : List ℕ) → has_row (map (undelivered now) ids) uid ≡ is_among ids uid
+pub has_row-undelivered : (now : ℕ) (ids : List (List ℕ)) (uid : List ℕ) → has_row (map (undelivered now) ids) uid ≡ has_id ids uid
 has_row-undelivered now [] uid = refl
 has_row-undelivered now (id ∷ ids) uid = ap (λ (b : Bool). bytes_eq uid id || b) (has_row-undelivered now ids uid)
 
-pub is_among-new_of : (rows : List Row) (ids : List (List ℕ)) (uid : List ℕ) → has_row rows uid ≡ false → is_among (new_of rows ids) uid ≡ is_among ids uid
-is_among-new_of rows ids uid none =
-    is_among-filter (λ id. not (has_row rows id)) uid (distinct_ids ids) (not_from_false _ none) ∙ is_among-distinct_ids uid ids
+pub has_id-new_of : (rows : List Row) (ids : List (List ℕ)) (uid : List ℕ) → has_row rows uid ≡ false → has_id (new_of rows ids) uid ≡ has_id ids uid
+has_id-new_of rows ids uid none =
+    has_id-filter (λ id. not (has_row rows id)) uid (distinct_ids ids) (not_from_false _ none) ∙ has_id-distinct_ids uid ids
 
 pub new_of-push_row : (rows : List Row) (ids : List (List ℕ)) (uid : List ℕ) → has_row rows uid ≡ true → new_of rows (ids ++ uid ∷ []) ≡ new_of rows ids
-new_of-push_row rows ids uid has = elim (cases_Bool (is_among ids uid)) [
+new_of-push_row rows ids uid has = elim (cases_Bool (has_id ids uid)) [
   | inl old ↦ ap (filter (λ id. not (has_row rows id))) (distinct_ids-push_old ids uid old)
   | inr new ↦ ap (filter (λ id. not (has_row rows id))) (distinct_ids-push_new ids uid new)
       ∙ filter-append (λ id. not (has_row rows id)) (distinct_ids ids) (uid ∷ [])
@@ -81,10 +81,10 @@ new_of-push_row rows ids uid has = elim (cases_Bool (is_among ids uid)) [
       ∙ append-nil _
 ]
 
-pub new_of-push_old : (rows : List Row) (ids : List (List ℕ)) (uid : List ℕ) → is_among ids uid ≡ true → new_of rows (ids ++ uid ∷ []) ≡ new_of rows ids
+pub new_of-push_old : (rows : List Row) (ids : List (List ℕ)) (uid : List ℕ) → has_id ids uid ≡ true → new_of rows (ids ++ uid ∷ []) ≡ new_of rows ids
 new_of-push_old rows ids uid old = ap (filter (λ id. not (has_row rows id))) (distinct_ids-push_old ids uid old)
 
-pub new_of-push_new : (rows : List Row) (ids : List (List ℕ)) (uid : List ℕ) → has_row rows uid ≡ false → is_among ids uid ≡ false → new_of rows (ids ++ uid ∷ []) ≡ new_of rows ids ++ uid ∷ []
+pub new_of-push_new : (rows : List Row) (ids : List (List ℕ)) (uid : List ℕ) → has_row rows uid ≡ false → has_id ids uid ≡ false → new_of rows (ids ++ uid ∷ []) ≡ new_of rows ids ++ uid ∷ []
 new_of-push_new rows ids uid none new =
     ap (filter (λ id. not (has_row rows id))) (distinct_ids-push_new ids uid new)
     ∙ filter-append (λ id. not (has_row rows id)) (distinct_ids ids) (uid ∷ [])
@@ -109,9 +109,9 @@ AreNew-row rows listing now i added uid are at inside has =
     are ∙ ap (map (undelivered now)) (sym (ap (new_of rows) (ids_more listing i uid at inside) ∙ new_of-push_row rows _ uid has))
 
 -- what was added has the id exactly where an earlier item does
-has_row-added : (rows : List Row) (listing : List Item) (now i : ℕ) (added : List Row) (uid : List ℕ) → AreNew rows listing now i added → has_row rows uid ≡ false → is_among (map (λ (item : Item). item.uid) (take i listing)) uid ≡ has_row added uid
+has_row-added : (rows : List Row) (listing : List Item) (now i : ℕ) (added : List Row) (uid : List ℕ) → AreNew rows listing now i added → has_row rows uid ≡ false → has_id (map (λ (item : Item). item.uid) (take i listing)) uid ≡ has_row added uid
 has_row-added rows listing now i added uid are none =
-    sym (is_among-new_of rows _ uid none) ∙ sym (has_row-undelivered now _ uid) ∙ ap (λ (xs : List Row). has_row xs uid) (sym are)
+    sym (has_id-new_of rows _ uid none) ∙ sym (has_row-undelivered now _ uid) ∙ ap (λ (xs : List Row). has_row xs uid) (sym are)
 
 pub AreNew-old : (rows : List Row) (listing : List Item) (now i : ℕ) (added : List Row) (uid : List ℕ) → AreNew rows listing now i added → ((d : Item) → uid ≡ (get_or listing i d).uid) → i < length listing → has_row rows uid ≡ false → has_row added uid ≡ true → AreNew rows listing now (i + 1) added
 AreNew-old rows listing now i added uid are at inside none has =
@@ -126,30 +126,30 @@ AreNew-new rows listing now i added uid are at inside none none_added =
 -- ids that are apart: no id stands among those behind it
 abbrev pub AreApart : List (List ℕ) → Type 0
 AreApart [] = Unit {0}
-AreApart (id ∷ ids) = (is_among ids id ≡ false) × AreApart ids
+AreApart (id ∷ ids) = (has_id ids id ≡ false) × AreApart ids
 
 -- what passed a filter passes its test
-pub passes_filter : (p : List ℕ → Bool) (ids : List (List ℕ)) (uid : List ℕ) → is_among (filter p ids) uid ≡ true → p uid ≡ true
+pub passes_filter : (p : List ℕ → Bool) (ids : List (List ℕ)) (uid : List ℕ) → has_id (filter p ids) uid ≡ true → p uid ≡ true
 passes_filter p [] uid there = cc
 passes_filter p (id ∷ ids) uid there = elim (cases_Bool (p id)) [
-  | inl hit ↦ elim (or_cases (bytes_eq uid id) (is_among (filter p ids) uid) (sym (ap (λ (xs : List (List ℕ)). is_among xs uid) (filter_keeps p id ids hit)) ∙ there)) [
+  | inl hit ↦ elim (or_cases (bytes_eq uid id) (has_id (filter p ids) uid) (sym (ap (λ (xs : List (List ℕ)). has_id xs uid) (filter_keeps p id ids hit)) ∙ there)) [
     | inl same ↦ ap p (same_from_test uid id same) ∙ hit
     | inr further ↦ passes_filter p ids uid further
   ]
-  | inr miss ↦ passes_filter p ids uid (sym (ap (λ (xs : List (List ℕ)). is_among xs uid) (filter_leaves p id ids miss)) ∙ there)
+  | inr miss ↦ passes_filter p ids uid (sym (ap (λ (xs : List (List ℕ)). has_id xs uid) (filter_leaves p id ids miss)) ∙ there)
 ]
 
-pub is_among-filter_false : (p : List ℕ → Bool) (ids : List (List ℕ)) (uid : List ℕ) → is_among ids uid ≡ false → is_among (filter p ids) uid ≡ false
-is_among-filter_false p [] uid none = refl
-is_among-filter_false p (id ∷ ids) uid none = elim (cases_Bool (p id)) [
-  | inl hit ↦ ap (λ (xs : List (List ℕ)). is_among xs uid) (filter_keeps p id ids hit) ∙ or_from _ _ (or_parts _ _ none).0 (is_among-filter_false p ids uid (or_parts _ _ none).1)
-  | inr miss ↦ ap (λ (xs : List (List ℕ)). is_among xs uid) (filter_leaves p id ids miss) ∙ is_among-filter_false p ids uid (or_parts _ _ none).1
+pub has_id-filter_false : (p : List ℕ → Bool) (ids : List (List ℕ)) (uid : List ℕ) → has_id ids uid ≡ false → has_id (filter p ids) uid ≡ false
+has_id-filter_false p [] uid none = refl
+has_id-filter_false p (id ∷ ids) uid none = elim (cases_Bool (p id)) [
+  | inl hit ↦ ap (λ (xs : List (List ℕ)). has_id xs uid) (filter_keeps p id ids hit) ∙ or_from _ _ (or_parts _ _ none).0 (has_id-filter_false p ids uid (or_parts _ _ none).1)
+  | inr miss ↦ ap (λ (xs : List (List ℕ)). has_id xs uid) (filter_leaves p id ids miss) ∙ has_id-filter_false p ids uid (or_parts _ _ none).1
 ]
 
 pub AreApart-filter : (p : List ℕ → Bool) (ids : List (List ℕ)) → AreApart ids → AreApart (filter p ids)
 AreApart-filter p [] are = tt
 AreApart-filter p (id ∷ ids) are = elim (cases_Bool (p id)) [
-  | inl hit ↦ subst AreApart (sym (filter_keeps p id ids hit)) (is_among-filter_false p ids id are.0, AreApart-filter p ids are.1)
+  | inl hit ↦ subst AreApart (sym (filter_keeps p id ids hit)) (has_id-filter_false p ids id are.0, AreApart-filter p ids are.1)
   | inr miss ↦ subst AreApart (sym (filter_leaves p id ids miss)) (AreApart-filter p ids are.1)
 ]
 

@@ -7,7 +7,7 @@ use Rattle.std.proofs.lemmas.List.Folds.{list_any-append}
 use Rattle.std.proofs.lemmas.List.FromFn.{length-enumerate_from, get_or-enumerate_from}
 use Rattle.std.proofs.Math.Bool.{or-false, or_comm}
 use Rattle.mail_terms.specs.Listing.{Item, numbered, has_item, is_first, is_last}
-use Rattle.fetch_rules.specs.IdSet.{is_among}
+use Rattle.mail_terms.specs.UniqueId.{has_id}
 
 abbrev pub nobody : Item
 nobody = record { uid = []; size = 0 }
@@ -17,12 +17,12 @@ message_at listing i inside = get_or-enumerate_from 1 listing i (0, nobody) insi
 
 -- the ids of the first i messages, and which of these are the first with theirs
 pub record HasFirsts (listing : List Item) (i : ℕ) (ids : List (List ℕ)) (flags : List Bool) : Type 0 where
-  pub same : (uid : List ℕ) → is_among ids uid ≡ has_item (take i listing) uid
+  pub same : (uid : List ℕ) → has_id ids uid ≡ has_item (take i listing) uid
   pub flags_are : flags ≡ map (is_first listing) (take i (numbered listing))
 
 pub HasFirsts-more : (listing : List Item) (i : ℕ) (ids ids' : List (List ℕ)) (flags : List Bool) (uid : List ℕ) (new : Bool)
-    → HasFirsts listing i ids flags → i < length listing → uid ≡ (get_or listing i nobody).uid → new ≡ not (is_among ids uid)
-    → ((id : List ℕ) → is_among ids' id ≡ (bytes_eq id uid || is_among ids id))
+    → HasFirsts listing i ids flags → i < length listing → uid ≡ (get_or listing i nobody).uid → new ≡ not (has_id ids uid)
+    → ((id : List ℕ) → has_id ids' id ≡ (bytes_eq id uid || has_id ids id))
     → HasFirsts listing (i + 1) ids' (flags ++ new ∷ [])
 HasFirsts-more listing i ids ids' flags uid new was inside uid_is new_is grown = record {
   same = λ id.
@@ -52,12 +52,12 @@ HasFirsts-all listing i ids flags was past =
 
 -- the ids of the messages from place i on, and which of these are the last with theirs
 pub record HasLasts (listing : List Item) (i : ℕ) (ids : List (List ℕ)) (flags : List Bool) : Type 0 where
-  pub same : (uid : List ℕ) → is_among ids uid ≡ has_item (drop i listing) uid
+  pub same : (uid : List ℕ) → has_id ids uid ≡ has_item (drop i listing) uid
   pub count : length flags ≡ length listing
   pub flags_are : drop i flags ≡ map (is_last listing) (drop i (numbered listing))
 
 pub HasLasts-none : (listing : List Item) (i : ℕ) (ids : List (List ℕ)) (flags : List Bool) → i ≡ length listing
-    → ((uid : List ℕ) → is_among ids uid ≡ has_item [] uid) → length flags ≡ length listing → HasLasts listing i ids flags
+    → ((uid : List ℕ) → has_id ids uid ≡ has_item [] uid) → length flags ≡ length listing → HasLasts listing i ids flags
 HasLasts-none listing i ids flags all none count = record {
   same = λ uid. none uid ∙ ap (λ (items : List Item). has_item items uid) (sym (drop_all i listing (omega (arith, all))));
   count = count;
@@ -67,8 +67,8 @@ HasLasts-none listing i ids flags all none count = record {
 }
 
 pub HasLasts-more : (listing : List Item) (i : ℕ) (ids ids' : List (List ℕ)) (flags : List Bool) (uid : List ℕ) (new : Bool)
-    → HasLasts listing (i + 1) ids flags → i < length listing → uid ≡ (get_or listing i nobody).uid → new ≡ not (is_among ids uid)
-    → ((id : List ℕ) → is_among ids' id ≡ (bytes_eq id uid || is_among ids id))
+    → HasLasts listing (i + 1) ids flags → i < length listing → uid ≡ (get_or listing i nobody).uid → new ≡ not (has_id ids uid)
+    → ((id : List ℕ) → has_id ids' id ≡ (bytes_eq id uid || has_id ids id))
     → length (set flags i new) ≡ length flags
     → HasLasts listing i ids' (set flags i new)
 HasLasts-more listing i ids ids' flags uid new was inside uid_is new_is grown kept = record {

@@ -12,7 +12,7 @@ use Rattle.fetch_rules.proofs.FilterLemmas.{filter_keeps, filter_leaves}
 use Rattle.mail_terms.specs.Listing.{Item, numbered}
 use Rattle.fetch_rules.specs.Record.{Row}
 use Rattle.fetch_rules.specs.Wanted.{is_candidate, at_most, wanted}
-use Rattle.fetch_rules.specs.Plan.{is_among, is_deleted, step_of, planned, retrieved}
+use Rattle.fetch_rules.specs.Plan.{has_number, is_deleted, step_of, planned, retrieved}
 use Rattle.rc_file.specs.declared.settings.Settings.{Settings}
 use Rattle.fetch_rules.specs.declared.steps.Step.{Step}
 
@@ -25,7 +25,7 @@ pub numbers_above : (n : ℕ) (items : List Item) → All (λ message. n ≤ mes
 numbers_above n items = λ k d inside. subst (λ (m : Message). n ≤ m.0) (sym (get_or-enumerate_from n items k d (omega (arith, length-enumerate_from n items)))) (omega arith)
 
 -- no number below is among them
-pub none_below : (p : Message → Bool) (n m k : ℕ) (items : List Item) → k < n → is_among (take m (filter p (enumerate_from n items))) k ≡ false
+pub none_below : (p : Message → Bool) (n m k : ℕ) (items : List Item) → k < n → has_number (take m (filter p (enumerate_from n items))) k ≡ false
 none_below p n m k items below = list_any_none (λ message. message.0 == k) _
     (All-weaker (λ message. n ≤ message.0) (λ message. (message.0 == k) ≡ false) (λ message above. ne_eqb message.0 k (λ same. absurd (omega (arith, above, same)))) _
     (All-take (λ message. n ≤ message.0) m _ (All-filter p (λ message. n ≤ message.0) _ (numbers_above n items))))
@@ -41,47 +41,47 @@ count_by-cons : (p : Message → Bool) (x : Message) (xs : List Message) (b : Bo
 count_by-cons p x xs b is = sum_by-cons (λ (m : Message). cond (p m) 1 0) x xs ∙ ap (λ (t : Bool). cond t 1 0 + count_by p xs) is
 
 -- of the first m that pass, the one at i is one exactly if it passes and fewer than m before it do
-pub is_among-take : (p : Message → Bool) (n m i k : ℕ) (items : List Item) (d : Message) → i < length items → k ≡ n + i
-    → is_among (take m (filter p (enumerate_from n items))) k ≡ p (get_or (enumerate_from n items) i d) && nat_lt (count_by p (take i (enumerate_from n items))) m
-is_among-take p n m i k [] d inside is = absurd (omega arith)
-is_among-take p n m zero k (item ∷ items) d inside is = elim (cases_Bool (p (n, item))) [
-  | inl hit ↦ ap (λ (ms : List Message). is_among (take m ms) k) (filter_keeps p (n, item) (enumerate_from (n + 1) items) hit) ∙ here m ∙ ap (λ (b : Bool). b && nat_lt 0 m) (sym hit)
-  | inr miss ↦ ap (λ (ms : List Message). is_among (take m ms) k) (filter_leaves p (n, item) (enumerate_from (n + 1) items) miss)
+pub has_number-take : (p : Message → Bool) (n m i k : ℕ) (items : List Item) (d : Message) → i < length items → k ≡ n + i
+    → has_number (take m (filter p (enumerate_from n items))) k ≡ p (get_or (enumerate_from n items) i d) && nat_lt (count_by p (take i (enumerate_from n items))) m
+has_number-take p n m i k [] d inside is = absurd (omega arith)
+has_number-take p n m zero k (item ∷ items) d inside is = elim (cases_Bool (p (n, item))) [
+  | inl hit ↦ ap (λ (ms : List Message). has_number (take m ms) k) (filter_keeps p (n, item) (enumerate_from (n + 1) items) hit) ∙ here m ∙ ap (λ (b : Bool). b && nat_lt 0 m) (sym hit)
+  | inr miss ↦ ap (λ (ms : List Message). has_number (take m ms) k) (filter_leaves p (n, item) (enumerate_from (n + 1) items) miss)
       ∙ none_below p (n + 1) m k items (omega (arith, is)) ∙ ap (λ (b : Bool). b && nat_lt 0 m) (sym miss)
 ]
   where
-    here : (l : ℕ) → is_among (take l ((n, item) ∷ filter p (enumerate_from (n + 1) items))) k ≡ true && nat_lt 0 l
+    here : (l : ℕ) → has_number (take l ((n, item) ∷ filter p (enumerate_from (n + 1) items))) k ≡ true && nat_lt 0 l
     here zero = refl
     here (suc l) = or_left _ _ (eq-eqb n k (omega (arith, is))) ∙ sym (lt-ltb 0 (suc l) (omega arith))
-is_among-take p n m (suc i) k (item ∷ items) d inside is = elim (cases_Bool (p (n, item))) [
-  | inl hit ↦ ap (λ (ms : List Message). is_among (take m ms) k) (filter_keeps p (n, item) (enumerate_from (n + 1) items) hit)
-      ∙ there m hit (λ l. is_among-take p (n + 1) l i k items d (omega arith) (omega (arith, is)))
-  | inr miss ↦ ap (λ (ms : List Message). is_among (take m ms) k) (filter_leaves p (n, item) (enumerate_from (n + 1) items) miss)
-      ∙ is_among-take p (n + 1) m i k items d (omega arith) (omega (arith, is))
+has_number-take p n m (suc i) k (item ∷ items) d inside is = elim (cases_Bool (p (n, item))) [
+  | inl hit ↦ ap (λ (ms : List Message). has_number (take m ms) k) (filter_keeps p (n, item) (enumerate_from (n + 1) items) hit)
+      ∙ there m hit (λ l. has_number-take p (n + 1) l i k items d (omega arith) (omega (arith, is)))
+  | inr miss ↦ ap (λ (ms : List Message). has_number (take m ms) k) (filter_leaves p (n, item) (enumerate_from (n + 1) items) miss)
+      ∙ has_number-take p (n + 1) m i k items d (omega arith) (omega (arith, is))
       ∙ ap (λ (c : ℕ). p (get_or (enumerate_from (n + 1) items) i d) && nat_lt c m) (omega (arith, count_by-cons p (n, item) (take i (enumerate_from (n + 1) items)) false miss))
 ]
   where
     there : (l : ℕ) → p (n, item) ≡ true
-        → ((l' : ℕ) → is_among (take l' (filter p (enumerate_from (n + 1) items))) k ≡ p (get_or (enumerate_from (n + 1) items) i d) && nat_lt (count_by p (take i (enumerate_from (n + 1) items))) l')
-        → is_among (take l ((n, item) ∷ filter p (enumerate_from (n + 1) items))) k
+        → ((l' : ℕ) → has_number (take l' (filter p (enumerate_from (n + 1) items))) k ≡ p (get_or (enumerate_from (n + 1) items) i d) && nat_lt (count_by p (take i (enumerate_from (n + 1) items))) l')
+        → has_number (take l ((n, item) ∷ filter p (enumerate_from (n + 1) items))) k
         ≡ p (get_or (enumerate_from (n + 1) items) i d) && nat_lt (count_by p ((n, item) ∷ take i (enumerate_from (n + 1) items))) l
     there zero hit further = sym (and_right _ _ (le-ltb (count_by p ((n, item) ∷ take i (enumerate_from (n + 1) items))) 0 (omega arith)))
     there (suc l) hit further =
-        ap (λ (b : Bool). b || is_among (take l (filter p (enumerate_from (n + 1) items))) k) (ne_eqb n k (λ same. absurd (omega (arith, is, same))))
+        ap (λ (b : Bool). b || has_number (take l (filter p (enumerate_from (n + 1) items))) k) (ne_eqb n k (λ same. absurd (omega (arith, is, same))))
         ∙ further l
         ∙ ap (λ (b : Bool). p (get_or (enumerate_from (n + 1) items) i d) && b) (sym (lt_step _ l _ (count_by-cons p (n, item) (take i (enumerate_from (n + 1) items)) true hit)))
 
 -- a number that isn't there makes no difference
 filter_skip : (messages : List Message) (n k : ℕ) (item : Item) (items : List Item) → n < k
-    → filter (λ message. is_among ((n, item) ∷ messages) message.0) (enumerate_from k items) ≡ filter (λ message. is_among messages message.0) (enumerate_from k items)
+    → filter (λ message. has_number ((n, item) ∷ messages) message.0) (enumerate_from k items) ≡ filter (λ message. has_number messages message.0) (enumerate_from k items)
 filter_skip messages n k item [] below = refl
-filter_skip messages n k item (first ∷ items) below = elim (cases_Bool (is_among messages k)) [
-  | inl hit ↦ filter_keeps (λ (message : Message). is_among ((n, item) ∷ messages) message.0) (k, first) _ (or_right _ _ hit)
+filter_skip messages n k item (first ∷ items) below = elim (cases_Bool (has_number messages k)) [
+  | inl hit ↦ filter_keeps (λ (message : Message). has_number ((n, item) ∷ messages) message.0) (k, first) _ (or_right _ _ hit)
       ∙ ap (λ (ms : List Message). (k, first) ∷ ms) (filter_skip messages n (k + 1) item items (omega (arith, below)))
-      ∙ sym (filter_keeps (λ (message : Message). is_among messages message.0) (k, first) _ hit)
-  | inr miss ↦ filter_leaves (λ (message : Message). is_among ((n, item) ∷ messages) message.0) (k, first) _ (or_from _ _ (ne_eqb n k (λ same. absurd (omega (arith, below, same)))) miss)
+      ∙ sym (filter_keeps (λ (message : Message). has_number messages message.0) (k, first) _ hit)
+  | inr miss ↦ filter_leaves (λ (message : Message). has_number ((n, item) ∷ messages) message.0) (k, first) _ (or_from _ _ (ne_eqb n k (λ same. absurd (omega (arith, below, same)))) miss)
       ∙ filter_skip messages n (k + 1) item items (omega (arith, below))
-      ∙ sym (filter_leaves (λ (message : Message). is_among messages message.0) (k, first) _ miss)
+      ∙ sym (filter_leaves (λ (message : Message). has_number messages message.0) (k, first) _ miss)
 ]
 
 filter_nothing : (messages : List Message) → filter (λ _. false) messages ≡ []
@@ -89,18 +89,18 @@ filter_nothing [] = refl
 filter_nothing (message ∷ messages) = filter_nothing messages
 
 -- the messages that are among the first m that pass are these
-pub filter_among : (p : Message → Bool) (n m : ℕ) (items : List Item) → filter (λ message. is_among (take m (filter p (enumerate_from n items))) message.0) (enumerate_from n items) ≡ take m (filter p (enumerate_from n items))
+pub filter_among : (p : Message → Bool) (n m : ℕ) (items : List Item) → filter (λ message. has_number (take m (filter p (enumerate_from n items))) message.0) (enumerate_from n items) ≡ take m (filter p (enumerate_from n items))
 filter_among p n zero items = filter_nothing (enumerate_from n items)
 filter_among p n (suc m) [] = refl
 filter_among p n (suc m) (item ∷ items) = elim (cases_Bool (p (n, item))) [
-  | inl hit ↦ subst (λ (ms : List Message). filter (λ message. is_among (take (suc m) ms) message.0) (enumerate_from n (item ∷ items)) ≡ take (suc m) ms)
+  | inl hit ↦ subst (λ (ms : List Message). filter (λ message. has_number (take (suc m) ms) message.0) (enumerate_from n (item ∷ items)) ≡ take (suc m) ms)
       (sym (filter_keeps p (n, item) (enumerate_from (n + 1) items) hit))
-      (filter_keeps (λ (message : Message). is_among ((n, item) ∷ take m (filter p (enumerate_from (n + 1) items))) message.0) (n, item) (enumerate_from (n + 1) items) (or_left _ _ (eq-eqb n n refl))
+      (filter_keeps (λ (message : Message). has_number ((n, item) ∷ take m (filter p (enumerate_from (n + 1) items))) message.0) (n, item) (enumerate_from (n + 1) items) (or_left _ _ (eq-eqb n n refl))
       ∙ ap (λ (ms : List Message). (n, item) ∷ ms)
       (filter_skip (take m (filter p (enumerate_from (n + 1) items))) n (n + 1) item items (omega arith) ∙ filter_among p (n + 1) m items))
-  | inr miss ↦ subst (λ (ms : List Message). filter (λ message. is_among (take (suc m) ms) message.0) (enumerate_from n (item ∷ items)) ≡ take (suc m) ms)
+  | inr miss ↦ subst (λ (ms : List Message). filter (λ message. has_number (take (suc m) ms) message.0) (enumerate_from n (item ∷ items)) ≡ take (suc m) ms)
       (sym (filter_leaves p (n, item) (enumerate_from (n + 1) items) miss))
-      (filter_leaves (λ (message : Message). is_among (take (suc m) (filter p (enumerate_from (n + 1) items))) message.0) (n, item) (enumerate_from (n + 1) items)
+      (filter_leaves (λ (message : Message). has_number (take (suc m) (filter p (enumerate_from (n + 1) items))) message.0) (n, item) (enumerate_from (n + 1) items)
       (none_below p (n + 1) (suc m) n items (omega arith))
       ∙ filter_among p (n + 1) (suc m) items)
 ]
@@ -115,16 +115,16 @@ at_most_is limit n messages few = elim (cases_Bool (limit == 0)) [
 few_pass : (p : Message → Bool) (items : List Item) → length (filter p (numbered items)) ≤ length items
 few_pass p items = omega (arith, length-filter p (numbered items), count_by-le-length p (numbered items), length-enumerate_from 1 items)
 
-pub filter_at_most : (p : Message → Bool) (limit : ℕ) (items : List Item) → filter (λ message. is_among (at_most limit (filter p (numbered items))) message.0) (numbered items) ≡ at_most limit (filter p (numbered items))
+pub filter_at_most : (p : Message → Bool) (limit : ℕ) (items : List Item) → filter (λ message. has_number (at_most limit (filter p (numbered items))) message.0) (numbered items) ≡ at_most limit (filter p (numbered items))
 filter_at_most p limit items =
-    subst (λ (ms : List Message). filter (λ message. is_among ms message.0) (numbered items) ≡ ms)
+    subst (λ (ms : List Message). filter (λ message. has_number ms message.0) (numbered items) ≡ ms)
     (sym (at_most_is limit (length items) (filter p (numbered items)) (few_pass p items))) (filter_among p 1 (cond (limit == 0) (length items) limit) items)
 
-pub is_among-at_most : (p : Message → Bool) (limit i : ℕ) (items : List Item) (d : Message) → i < length items
-    → is_among (at_most limit (filter p (numbered items))) (i + 1) ≡ p (get_or (numbered items) i d) && (limit == 0 || nat_lt (count_by p (take i (numbered items))) limit)
-is_among-at_most p limit i items d inside =
-    ap (λ (ms : List Message). is_among ms (i + 1)) (at_most_is limit (length items) (filter p (numbered items)) (few_pass p items))
-    ∙ is_among-take p 1 (cond (limit == 0) (length items) limit) i (i + 1) items d inside (omega arith)
+pub has_number-at_most : (p : Message → Bool) (limit i : ℕ) (items : List Item) (d : Message) → i < length items
+    → has_number (at_most limit (filter p (numbered items))) (i + 1) ≡ p (get_or (numbered items) i d) && (limit == 0 || nat_lt (count_by p (take i (numbered items))) limit)
+has_number-at_most p limit i items d inside =
+    ap (λ (ms : List Message). has_number ms (i + 1)) (at_most_is limit (length items) (filter p (numbered items)) (few_pass p items))
+    ∙ has_number-take p 1 (cond (limit == 0) (length items) limit) i (i + 1) items d inside (omega arith)
     ∙ ap (λ (b : Bool). p (get_or (numbered items) i d) && b) (elim (cases_Bool (limit == 0)) [
       | inl none ↦ ap (nat_lt (count_by p (take i (numbered items)))) (cond-true (limit == 0) (length items) limit none)
           ∙ lt-ltb (count_by p (take i (numbered items))) (length items) few ∙ sym (or_left _ _ none)
@@ -187,13 +187,13 @@ HasPlanned-more settings rows listing now i steps count candidate fetched delete
         get_or-map (step_of settings rows listing now) (numbered listing) i (0, nobody) (step_of settings rows listing now (0, nobody)) (omega (arith, length-enumerate_from 1 listing))
         ∙ ap (step_of settings rows listing now) (message_at listing i nobody inside)
 
-    fetched_among : fetched ≡ is_among (wanted settings rows listing) (i + 1)
+    fetched_among : fetched ≡ has_number (wanted settings rows listing) (i + 1)
     fetched_among =
         fetched_is
         ∙ ap (λ (b : Bool). b && (settings.max_count == 0 || nat_lt count settings.max_count))
         (candidate_is nobody ∙ ap (is_candidate settings rows listing) (sym (message_at listing i nobody inside)))
         ∙ ap (λ (c : ℕ). is_candidate settings rows listing (get_or (numbered listing) i (0, nobody)) && (settings.max_count == 0 || nat_lt c settings.max_count)) has.count_is
-        ∙ sym (is_among-at_most (is_candidate settings rows listing) settings.max_count i listing (0, nobody) inside)
+        ∙ sym (has_number-at_most (is_candidate settings rows listing) settings.max_count i listing (0, nobody) inside)
 
     step_is : record { number = i + 1; retrieve = fetched; delete = deleted } ≡ step_of settings rows listing now (i + 1, get_or listing i nobody)
     step_is =

@@ -1,5 +1,4 @@
 pub mod Due
-pub mod IdSet
 pub mod Laws
 pub mod Lines
 pub mod Plan

@@ -9,8 +9,8 @@ use Rattle.rc_file.specs.declared.settings.Settings.{Settings}
 use Rattle.fetch_rules.specs.declared.steps.Step.{Step}
 
 -- whether a message of this number is among these
-abbrev pub is_among : List (ℕ × Item) → ℕ → Bool
-is_among messages number = list_any (λ message. message.0 == number) messages
+abbrev pub has_number : List (ℕ × Item) → ℕ → Bool
+has_number messages number = list_any (λ message. message.0 == number) messages
 
 -- when the id was first seen: now, where it has no row
 abbrev pub seen_since : List Row → List ℕ → ℕ → ℕ
@@ -24,7 +24,7 @@ is_deleted settings rows listing now fetched message =
 
 abbrev pub step_of : Settings → List Row → List Item → ℕ → ℕ × Item → Step
 step_of settings rows listing now message =
-    let fetched = is_among (wanted settings rows listing) message.0 in
+    let fetched = has_number (wanted settings rows listing) message.0 in
     record { number = message.0; retrieve = fetched; delete = is_deleted settings rows listing now fetched message }
 
 -- the steps, one for each message, in order

@@ -55,6 +55,11 @@ with_delivered also row = record row { delivered = row.delivered || also }
 abbrev pub marked : List Row → List ℕ → List Row
 marked rows uid = map (λ row. with_delivered (is_of uid row) row) rows
 
+-- the rows, with delivered set for these ids, one after another
+abbrev pub marked_all : List Row → List (List ℕ) → List Row
+marked_all rows [] = rows
+marked_all rows (uid ∷ uids) = marked_all (marked rows uid) uids
+
 -- the ids, each once, in order of first appearance
 abbrev pub distinct_ids : List (List ℕ) → List (List ℕ)
 distinct_ids [] = []

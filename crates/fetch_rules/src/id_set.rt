@@ -1,7 +1,7 @@
 //! Sets of unique-ids. Ids are compared and never hashed: a server chooses them.
 
 ghost use Rattle.std.specs.Prelude.{◌≡◌, ◌||◌, not, ℕ, List, Bool, bytes_eq, false, OnOk, IfOk};
-ghost use Rattle.fetch_rules.specs.IdSet.{is_among};
+ghost use Rattle.mail_terms.specs.UniqueId.{has_id};
 
 use std::alloc::{AllocError, Global};
 use std::collections::BTreeSet;
@@ -23,7 +23,7 @@ impl<'a> Model for IdSet<'a> {
 
 impl<'a> IdSet<'a> {
     pub(crate) fn new(alloc: Global) -> IdSet<'a>
-        ensures { (id : List ℕ) → is_among result id ≡ false }
+        ensures { (id : List ℕ) → has_id result id ≡ false }
     {
         IdSet {
             ids: BTreeSet::new(alloc),
@@ -32,14 +32,14 @@ impl<'a> IdSet<'a> {
 
     /// Adds an id. Says whether it was new.
     pub(crate) fn insert(&mut self, uid: &'a [u8]) -> Result<bool, AllocError>
-        ensures added { IfOk result (λ added. added ≡ not (is_among self.old uid.now)) }
-        ensures ids { OnOk result ((id : List ℕ) → is_among self.new id ≡ (bytes_eq id uid.now || is_among self.old id)) }
+        ensures added { IfOk result (λ added. added ≡ not (has_id self.old uid.now)) }
+        ensures ids { OnOk result ((id : List ℕ) → has_id self.new id ≡ (bytes_eq id uid.now || has_id self.old id)) }
     {
         Ok(self.ids.insert(uid)?)
     }
 
     pub(crate) fn has(&self, uid: &[u8]) -> bool
-        ensures { result ≡ is_among self.now uid.now }
+        ensures { result ≡ has_id self.now uid.now }
     {
         self.ids.contains(uid)
     }

@@ -15,7 +15,7 @@ use Rattle.pop3_client.specs.Conversation.{ConversationsArePaced}
 use Rattle.fetch_rules.specs.Record.{Row}
 use Rattle.mail_store.specs.Maildir.{Maildir}
 use Rattle.rc_file.specs.declared.settings.Settings.{Settings}
-use Rattle.run_law.specs.Mails.{has_id}
+use Rattle.mail_terms.specs.UniqueId.{has_id}
 use Rattle.pop3_wire.specs.Honest.{FrontsAreAsked}
 use Rattle.run_law.specs.Sessions.{IsBegun}
 use Rattle.run_law.specs.Steps.{Leaves}

@@ -17,7 +17,8 @@ use Rattle.fetch_rules.specs.Record.{Row, merged}
 use Rattle.fetch_rules.specs.Wanted.{candidates}
 use Rattle.fetch_session.specs.Account.{digits_of}
 use Rattle.fetch_session.specs.Record.{Keeps}
-use Rattle.run_law.specs.Mails.{has_id, item_of, listing_of, is_selected}
+use Rattle.mail_terms.specs.UniqueId.{has_id}
+use Rattle.run_law.specs.Mails.{item_of, listing_of, is_selected}
 use Rattle.run_law.specs.Accounts.{Moves, KeepsOthers}
 use Rattle.run_law.specs.Steps.{Leaves, Stores, IsHonest, ids_wanted, merged_rows}
 use Rattle.run_law.specs.Runs.{IsFrame, Situation, Visit, Visited, Moved as ShiftedIn, Visits, Kept, KeptStaysKept, KeptHoldsExactly, StartsKept, LeavesOut, DeletesHeld, past_limit}

@@ -5,7 +5,7 @@ use Rattle.std.proofs.lemmas.Bool.{true≢false}
 use Rattle.std.proofs.lemmas.List.{append-nil, length-map}
 use Rattle.mail_terms.specs.Listing.{Item}
 use Rattle.rc_file.specs.declared.settings.Settings.{Settings}
-use Rattle.fetch_rules.specs.Record.{Row, is_delivered, merged}
+use Rattle.fetch_rules.specs.Record.{Row, is_delivered, marked_all, merged}
 use Rattle.fetch_rules.specs.RecordGrowth.{OneRecord}
 use Rattle.fetch_rules.specs.Wanted.{wanted}
 use Rattle.mail_store.specs.Maildir.{Maildir, File}
@@ -13,17 +13,17 @@ use Rattle.mail_store.specs.Held.{flags_of}
 use Rattle.pop3_wire.specs.Reading.{WholeReply}
 use Rattle.fetch_session.specs.Laws.{SteadyFilesKeep, UnsavedFilesKeep}
 use Rattle.fetch_session.specs.Task.{Task, Done, IsAnswered, tasks_of, ids_of, ids_ahead, files_of}
-use Rattle.fetch_session.specs.Record.{Keeps, marked_all as marked_by_session}
+use Rattle.fetch_session.specs.Record.{Keeps}
 use Rattle.fetch_session.specs.Plan.{tasks_ahead}
 use Rattle.fetch_session.specs.Report.{retrieved_in}
 use Rattle.fetch_session.specs.declared.report.ReportLine.{ReportLine}
 use Rattle.run_law.specs.Accounts.{Account}
-use Rattle.run_law.specs.Steps.{Effect, file_for, is_unheld, marked_all, ids_wanted, wanted_at}
+use Rattle.run_law.specs.Steps.{Effect, file_for, is_unheld, ids_wanted, wanted_at}
 use Rattle.run_law.specs.Told.{Told, Records}
 use Rattle.fetch_runs.proofs.Courses.{Course, course, found_of, found_by, begun_of}
 use Rattle.fetch_runs.proofs.StatePlan.{PlansFetchWanted, key, IsRight, Safe, deleted_by, all_front, fetched_ahead, right_ahead, safe_ahead}
 use Rattle.fetch_runs.proofs.StateDone.{number_found, text_found, number_of, texts_by, fetched_first, fetched_all, numbers_first, files_first}
-use Rattle.fetch_runs.proofs.StateMarks.{HeldIsDelivered, ListedHasRow, MarkedIsDelivered, MarkedKeepsRows, FlagsTell, same_marks, held_settled, marks_by, still_delivered, marked_delivered, ids_are, stored_has_row, held_delivered}
+use Rattle.fetch_runs.proofs.StateMarks.{HeldIsDelivered, ListedHasRow, MarkedIsDelivered, MarkedKeepsRows, FlagsTell, held_settled, marks_by, still_delivered, marked_delivered, ids_are, stored_has_row, held_delivered}
 
 -- the laws of the crates below that are used
 pub record Laws : Type 0 where
@@ -81,15 +81,12 @@ module _ (laws : Laws) (settings : Settings) (account : List ℕ) (items : List 
 
   -- what is recorded once these were done
   abbrev IsRecorded : List Done → List ℕ → Type 0
-  IsRecorded dones uid = is_delivered (marked_by_session all_rows (ids_of dones)) uid ≡ true
-
-  recorded_by : (dones : List Done) (uid : List ℕ) → is_delivered (marked_all all_rows (ids_of dones)) uid ≡ true → IsRecorded dones uid
-  recorded_by dones uid is = ap (λ (r : List Row). is_delivered r uid) (same_marks all_rows (ids_of dones)) ∙ is
+  IsRecorded dones uid = is_delivered (marked_all all_rows (ids_of dones)) uid ≡ true
 
   pub safe_tasks : (dones : List Done) → Safe (IsRecorded dones) items tasks
   safe_tasks dones =
-      safe_ahead (IsRecorded dones) settings account items now maildir all_rows (λ uid known. recorded_by dones uid (still_delivered laws.marks all_rows (ids_of dones) uid known))
-      (λ uid listed held. recorded_by dones uid (still_delivered laws.marks all_rows (ids_of dones) uid (held_delivered laws.held laws.flags account maildir items now rows uid listed held)))
+      safe_ahead (IsRecorded dones) settings account items now maildir all_rows (λ uid known. still_delivered laws.marks all_rows (ids_of dones) uid known)
+      (λ uid listed held. still_delivered laws.marks all_rows (ids_of dones) uid (held_delivered laws.held laws.flags account maildir items now rows uid listed held))
 
   right_part : (dones : List Done) → Part tasks dones → AllByRecursion (IsRight account maildir items) (tasks_of dones)
   right_part dones part =
@@ -98,20 +95,18 @@ module _ (laws : Laws) (settings : Settings) (account : List ℕ) (items : List 
 
   pub recorded_all : (dones : List Done) → Part tasks dones → AllByRecursion (IsRecorded dones) (ids_ahead (tasks_of dones))
   recorded_all dones part =
-      subst (λ (r : List Row). AllByRecursion (λ (uid : List ℕ). is_delivered r uid ≡ true) (ids_ahead (tasks_of dones))) (sym (same_marks all_rows (ids_of dones)))
-      (subst (λ (ids : List (List ℕ)). AllByRecursion (λ (uid : List ℕ). is_delivered (marked_all all_rows ids) uid ≡ true) (ids_ahead (tasks_of dones))) (sym (ids_are dones))
+      subst (λ (ids : List (List ℕ)). AllByRecursion (λ (uid : List ℕ). is_delivered (marked_all all_rows ids) uid ≡ true) (ids_ahead (tasks_of dones))) (sym (ids_are dones))
       (marked_delivered laws.marks laws.rows all_rows (ids_ahead (tasks_of dones))
-      (stored_has_row laws.listed account maildir items now rows (flags_of account maildir items) (tasks_of dones) (right_part dones part))))
+      (stored_has_row laws.listed account maildir items now rows (flags_of account maildir items) (tasks_of dones) (right_part dones part)))
 
   ids_of_keys : (qs : List (ℕ × Item)) → map (λ (p : ℕ × List ℕ). p.1) (map key qs) ≡ ids_wanted qs
   ids_of_keys [] = refl
   ids_of_keys (q ∷ qs) = ap (λ l. q.1.uid ∷ l) (ids_of_keys qs)
 
   -- the record is the merged one, with the first of the wanted messages marked
-  records_part : (dones : List Done) → Part tasks dones → marked_by_session all_rows (ids_of dones) ≡ marked_all all_rows (ids_wanted (take (length (found_by dones)) messages))
+  records_part : (dones : List Done) → Part tasks dones → marked_all all_rows (ids_of dones) ≡ marked_all all_rows (ids_wanted (take (length (found_by dones)) messages))
   records_part dones part =
-      same_marks all_rows (ids_of dones)
-      ∙ marks_by account maildir items dones all_rows (held_settled laws.flags account maildir items now rows) (right_part dones part)
+      marks_by account maildir items dones all_rows (held_settled laws.flags account maildir items now rows) (right_part dones part)
       ∙ ap (λ (l : List (ℕ × List ℕ)). marked_all all_rows (map (λ (p : ℕ × List ℕ). p.1) l))
       (fetched_first tasks part.rest dones messages (fetched_ahead laws.plans settings account items now maildir all_rows) part.split part.answered)
       ∙ ap (marked_all all_rows) (ids_of_keys (take (length (found_by dones)) messages))
@@ -138,12 +133,12 @@ module _ (laws : Laws) (settings : Settings) (account : List ℕ) (items : List 
   pub lead : (ended : Bool) (taken : List Done) (spare : List WholeReply) (under : List Task) (full noted : List Done) (maildir' : Maildir) (content' : Option (List ℕ)) (k : ℕ)
       → found_of (course items taken spare under) ≡ found_by full → Part tasks full → Part tasks noted
       → (k ≡ length (found_by full)) ⊎ (k + 1 ≡ length (found_by full)) → (length (found_by noted) ≡ k) ⊎ (length (found_by noted) + 1 ≡ k)
-      → maildir'.in_new ≡ maildir.in_new ++ files_of account full → maildir'.in_cur ≡ maildir.in_cur → Keeps content' (marked_by_session all_rows (ids_of noted))
+      → maildir'.in_new ≡ maildir.in_new ++ files_of account full → maildir'.in_cur ≡ maildir.in_cur → Keeps content' (marked_all all_rows (ids_of noted))
       → AllByRecursion (IsRecorded noted) (deleted_by items (tasks_of taken ++ under)) → (more : List Task) → tasks ≡ (tasks_of taken ++ under) ++ more → (ended ≡ true → k ≡ length messages)
       → (lines : List ReportLine) (refused unsaved : Type 0) → retrieved_in lines ≡ k → (k + 1 ≡ length (found_by full) → refused) → (length (found_by noted) + 1 ≡ k → unsaved)
       → Leads settings account now ended (course items taken spare under) rows maildir maildir' content' lines refused unsaved
   lead ended taken spare under full noted maildir' content' k found whole part number mark in_new in_cur keeps begun more front ends lines refused unsaved counts one_more one_less = record {
-    rows' = marked_by_session all_rows (ids_of noted);
+    rows' = marked_all all_rows (ids_of noted);
     keeps = keeps;
     told = record {
       k = k;

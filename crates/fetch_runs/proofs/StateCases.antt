@@ -6,7 +6,7 @@ use Rattle.std.proofs.lemmas.List.{append-nil, map-append}
 use Rattle.std.proofs.lemmas.List.Concat.{flat_map-append}
 use Rattle.mail_terms.specs.Listing.{Item}
 use Rattle.rc_file.specs.declared.settings.Settings.{Settings}
-use Rattle.fetch_rules.specs.Record.{Row, is_delivered, merged, marked}
+use Rattle.fetch_rules.specs.Record.{Row, is_delivered, merged, marked, marked_all}
 use Rattle.mail_store.specs.Maildir.{Maildir, File, file}
 use Rattle.mail_store.specs.FlatFile.{Stored}
 use Rattle.mail_store.specs.FileName.{name_of}
@@ -17,7 +17,7 @@ use Rattle.pop3_client.specs.Texts.{body_text}
 use Rattle.fetch_session.specs.declared.fault.Cut.{Cut}
 use Rattle.fetch_session.specs.Task.{Task, says, skips, rereads, deletes, Done, IsAnswered, stores, task_in, tasks_of, ids_in, ids_of, ids_ahead, files_in, files_of, file_from, lines_in, lines_of, delivered}
 use Rattle.fetch_session.specs.Store.{RefusesText, Gained}
-use Rattle.fetch_session.specs.Record.{Keeps, Steady, Saves, marked_all as marked_by_session}
+use Rattle.fetch_session.specs.Record.{Keeps, Steady, Saves}
 use Rattle.fetch_session.specs.Scene.{Scene, Went, AllWent, Fell, Broken, NotStored, Stops, Does}
 use Rattle.fetch_session.specs.Plan.{tasks_ahead}
 use Rattle.fetch_runs.proofs.Courses.{course, stored_done, spare_in, spare_of, course_stopped, course_does, found_in, found_by, found_of}
@@ -89,10 +89,10 @@ module _ (laws : Laws) (settings : Settings) (account : List ℕ) (items : List 
   cur_files : (dones : List Done) (mid : Scene) → Went account dones old mid → mid.maildir.in_cur ≡ maildir.in_cur
   cur_files dones mid went = went.stored.in_cur ∙ ap (λ (m : Maildir). m.in_cur) same_maildir
 
-  mid_rows : (dones : List Done) (mid : Scene) → Went account dones old mid → mid.rows ≡ marked_by_session all_rows (ids_of dones)
-  mid_rows dones mid went = went.rows ∙ ap (λ (r : List Row). marked_by_session r (ids_of dones)) same_rows
+  mid_rows : (dones : List Done) (mid : Scene) → Went account dones old mid → mid.rows ≡ marked_all all_rows (ids_of dones)
+  mid_rows dones mid went = went.rows ∙ ap (λ (r : List Row). marked_all r (ids_of dones)) same_rows
 
-  mid_keeps : (dones : List Done) (mid : Scene) → Went account dones old mid → Keeps mid.file.content (marked_by_session all_rows (ids_of dones))
+  mid_keeps : (dones : List Done) (mid : Scene) → Went account dones old mid → Keeps mid.file.content (marked_all all_rows (ids_of dones))
   mid_keeps dones mid went = subst (λ (r : List Row). Keeps mid.file.content r) (mid_rows dones mid went) (laws.steady mid.file.content mid.rows (went.saved steady))
 
   mid_count : (dones : List Done) (mid : Scene) → Went account dones old mid → retrieved_in mid.lines ≡ length (found_by dones)
@@ -104,9 +104,9 @@ module _ (laws : Laws) (settings : Settings) (account : List ℕ) (items : List 
   all_went new went =
       lead laws settings account items now maildir rows true went.dones [] [] went.dones went.dones new.maildir new.file.content (length (found_by went.dones)) (append-nil (found_by went.dones))
       part part (inl refl) (inl refl) (new_files went.dones new went.went) (cur_files went.dones new went.went) (mid_keeps went.dones new went.went)
-      (subst (λ (ts : List Task). AllByRecursion (λ (id : List ℕ). is_delivered (marked_by_session all_rows (ids_of went.dones)) id ≡ true) (deleted_by items ts)) (sym (append-nil (tasks_of went.dones)))
-      (safe_done (λ (id : List ℕ). is_delivered (marked_by_session all_rows (ids_of went.dones)) id ≡ true) items (tasks_of went.dones) []
-      (subst (λ (ts : List Task). Safe (λ (id : List ℕ). is_delivered (marked_by_session all_rows (ids_of went.dones)) id ≡ true) items ts) part.split
+      (subst (λ (ts : List Task). AllByRecursion (λ (id : List ℕ). is_delivered (marked_all all_rows (ids_of went.dones)) id ≡ true) (deleted_by items ts)) (sym (append-nil (tasks_of went.dones)))
+      (safe_done (λ (id : List ℕ). is_delivered (marked_all all_rows (ids_of went.dones)) id ≡ true) items (tasks_of went.dones) []
+      (subst (λ (ts : List Task). Safe (λ (id : List ℕ). is_delivered (marked_all all_rows (ids_of went.dones)) id ≡ true) items ts) part.split
       (safe_tasks laws settings account items now maildir rows went.dones))
       (recorded_all laws settings account items now maildir rows went.dones part)))
       [] (sym same_tasks ∙ went.all ∙ sym (append-nil (tasks_of went.dones)) ∙ sym (append-nil (tasks_of went.dones ++ [])))
@@ -123,14 +123,14 @@ module _ (laws : Laws) (settings : Settings) (account : List ℕ) (items : List 
     dones_part = record { rest = fell.next ∷ fell.later; split = sym same_tasks ∙ fell.split; answered = fell.went.each }
 
     -- what was deleted, or was to be next, is recorded
-    begun_next : (noted : List Done) → AllByRecursion (λ (id : List ℕ). is_delivered (marked_by_session all_rows (ids_of noted)) id ≡ true) (ids_ahead (tasks_of fell.dones))
-        → AllByRecursion (λ (id : List ℕ). is_delivered (marked_by_session all_rows (ids_of noted)) id ≡ true) (deleted_by items (tasks_of fell.dones ++ fell.next ∷ []))
+    begun_next : (noted : List Done) → AllByRecursion (λ (id : List ℕ). is_delivered (marked_all all_rows (ids_of noted)) id ≡ true) (ids_ahead (tasks_of fell.dones))
+        → AllByRecursion (λ (id : List ℕ). is_delivered (marked_all all_rows (ids_of noted)) id ≡ true) (deleted_by items (tasks_of fell.dones ++ fell.next ∷ []))
     begun_next noted recorded =
-        safe_next (λ (id : List ℕ). is_delivered (marked_by_session all_rows (ids_of noted)) id ≡ true) items (tasks_of fell.dones) fell.later fell.next
-        (subst (λ (ts : List Task). Safe (λ (id : List ℕ). is_delivered (marked_by_session all_rows (ids_of noted)) id ≡ true) items ts) (sym same_tasks ∙ fell.split)
+        safe_next (λ (id : List ℕ). is_delivered (marked_all all_rows (ids_of noted)) id ≡ true) items (tasks_of fell.dones) fell.later fell.next
+        (subst (λ (ts : List Task). Safe (λ (id : List ℕ). is_delivered (marked_all all_rows (ids_of noted)) id ≡ true) items ts) (sym same_tasks ∙ fell.split)
         (safe_tasks laws settings account items now maildir rows noted)) recorded
 
-    dones_recorded : AllByRecursion (λ (id : List ℕ). is_delivered (marked_by_session all_rows (ids_of fell.dones)) id ≡ true) (ids_ahead (tasks_of fell.dones))
+    dones_recorded : AllByRecursion (λ (id : List ℕ). is_delivered (marked_all all_rows (ids_of fell.dones)) id ≡ true) (ids_ahead (tasks_of fell.dones))
     dones_recorded = recorded_all laws settings account items now maildir rows fell.dones dones_part
 
     next_front : tasks_ahead settings account items now maildir (merged rows items (flags_of account maildir items) now) ≡ (tasks_of fell.dones ++ fell.next ∷ []) ++ fell.later
@@ -146,7 +146,7 @@ module _ (laws : Laws) (settings : Settings) (account : List ℕ) (items : List 
         lead laws settings account items now maildir rows false fell.dones [] (fell.next ∷ []) fell.dones fell.dones new.maildir new.file.content (length (found_by fell.dones))
         (found_under items fell.dones fell.next) dones_part dones_part (inl refl) (inl refl)
         (in_new ∙ new_files fell.dones fell.mid fell.went) (in_cur ∙ cur_files fell.dones fell.mid fell.went)
-        (subst (λ (s : Stored). Keeps s.content (marked_by_session all_rows (ids_of fell.dones))) (sym file) (mid_keeps fell.dones fell.mid fell.went))
+        (subst (λ (s : Stored). Keeps s.content (marked_all all_rows (ids_of fell.dones))) (sym file) (mid_keeps fell.dones fell.mid fell.went))
         (begun_next fell.dones dones_recorded) fell.later next_front not_ended
         new.lines (RefusedIn (Err cut)) (UnsavedIn (Err cut)) (ap retrieved_in told ∙ mid_count fell.dones fell.mid fell.went) (λ is. absurd (omega (arith, is))) (λ is. absurd (omega (arith, is)))
 
@@ -194,7 +194,7 @@ module _ (laws : Laws) (settings : Settings) (account : List ℕ) (items : List 
           (length (found_by fell.dones))
           (ap (λ (t : Task). found_by fell.dones ++ (found_in t (reply ∷ []) ++ [])) is ∙ sym full_found) full_part dones_part (inr one_more) (inl refl)
           (full_files in_new) (in_cur ∙ cur_files fell.dones fell.mid fell.went)
-          (subst (λ (s : Stored). Keeps s.content (marked_by_session all_rows (ids_of fell.dones))) (sym file) (mid_keeps fell.dones fell.mid fell.went))
+          (subst (λ (s : Stored). Keeps s.content (marked_all all_rows (ids_of fell.dones))) (sym file) (mid_keeps fell.dones fell.mid fell.went))
           (begun_next fell.dones dones_recorded) fell.later next_front not_ended
           new.lines (RefusedIn (Err cut)) (UnsavedIn (Err cut)) (ap retrieved_in told ∙ mid_count fell.dones fell.mid fell.went) (λ is. refuses) (λ is. absurd (omega (arith, is)))
 
@@ -202,14 +202,14 @@ module _ (laws : Laws) (settings : Settings) (account : List ℕ) (items : List 
       unsaved_leads : (noted : List Done) → Part (tasks_ahead settings account items now maildir (merged rows items (flags_of account maildir items) now)) noted
           → (length (found_by noted) ≡ length (found_by (fell.dones ++ stored_done number uid reply ∷ []))) ⊎ (length (found_by noted) + 1 ≡ length (found_by (fell.dones ++ stored_done number uid reply ∷ [])))
           → new.maildir.in_new ≡ fell.mid.maildir.in_new ++ file_from account uid reply ∷ [] → new.maildir.in_cur ≡ fell.mid.maildir.in_cur
-          → Keeps new.file.content (marked_by_session all_rows (ids_of noted)) → AllByRecursion (λ (id : List ℕ). is_delivered (marked_by_session all_rows (ids_of noted)) id ≡ true) (ids_ahead (tasks_of fell.dones))
+          → Keeps new.file.content (marked_all all_rows (ids_of noted)) → AllByRecursion (λ (id : List ℕ). is_delivered (marked_all all_rows (ids_of noted)) id ≡ true) (ids_ahead (tasks_of fell.dones))
           → new.lines ≡ fell.mid.lines ++ delivered number reply ∷ [] → (length (found_by noted) + 1 ≡ length (found_by (fell.dones ++ stored_done number uid reply ∷ [])) → UnsavedIn (Err cut))
           → Leads settings account now false (course items (fell.dones ++ stored_done number uid reply ∷ []) [] []) rows maildir new.maildir new.file.content new.lines (RefusedIn (Err cut)) (UnsavedIn (Err cut))
       unsaved_leads noted part marks in_new in_cur keeps recorded told less =
           lead laws settings account items now maildir rows false (fell.dones ++ stored_done number uid reply ∷ []) [] [] (fell.dones ++ stored_done number uid reply ∷ []) noted new.maildir new.file.content
           (length (found_by (fell.dones ++ stored_done number uid reply ∷ []))) (append-nil (found_by (fell.dones ++ stored_done number uid reply ∷ []))) full_part part (inl refl) marks
           (full_files in_new) (in_cur ∙ cur_files fell.dones fell.mid fell.went) keeps
-          (subst (λ (ts : List Task). AllByRecursion (λ (id : List ℕ). is_delivered (marked_by_session all_rows (ids_of noted)) id ≡ true) (deleted_by items ts))
+          (subst (λ (ts : List Task). AllByRecursion (λ (id : List ℕ). is_delivered (marked_all all_rows (ids_of noted)) id ≡ true) (deleted_by items ts))
           (sym full_tasks ∙ sym (append-nil (tasks_of (fell.dones ++ stored_done number uid reply ∷ [])))) (begun_next noted recorded)) fell.later
           ((sym same_tasks ∙ fell.split) ∙ sym (append_assoc (tasks_of fell.dones) (fell.next ∷ []) fell.later) ∙ ap (λ (l : List Task). l ++ fell.later) (sym full_tasks ∙ sym (append-nil (tasks_of (fell.dones ++ stored_done number uid reply ∷ [])))))
           not_ended new.lines (RefusedIn (Err cut)) (UnsavedIn (Err cut)) full_count (λ is. absurd (omega (arith, is))) less
@@ -220,7 +220,7 @@ module _ (laws : Laws) (settings : Settings) (account : List ℕ) (items : List 
               ∙ sym (flat_map-append (λ (d : Done). lines_in d.task d.replies) fell.dones (stored_done number uid reply ∷ [])))
               ∙ counted_by (fell.dones ++ stored_done number uid reply ∷ []) (all_on IsAnswered fell.dones (stored_done number uid reply ∷ []) fell.went.each (answered, tt))
 
-      last_mark : (r : List Row) (ids : List (List ℕ)) → marked (marked_by_session r ids) uid ≡ marked_by_session r (ids ++ uid ∷ [])
+      last_mark : (r : List Row) (ids : List (List ℕ)) → marked (marked_all r ids) uid ≡ marked_all r (ids ++ uid ∷ [])
       last_mark r [] = refl
       last_mark r (id ∷ ids) = last_mark (marked r id) ids
 
@@ -233,9 +233,9 @@ module _ (laws : Laws) (settings : Settings) (account : List ℕ) (items : List 
                 (λ is. unsaved_why fell.mid.file fell.mid.rows (marked fell.mid.rows uid) cut.fault new.file saves)
             | inr more ↦ unsaved_leads (fell.dones ++ stored_done number uid reply ∷ []) full_part (inl refl) stored.in_new stored.in_cur
                 (subst (λ (r : List Row). Keeps new.file.content r)
-                (ap (λ (r : List Row). marked r uid) (mid_rows fell.dones fell.mid fell.went) ∙ last_mark all_rows (ids_of fell.dones) ∙ ap (λ (ids : List (List ℕ)). marked_by_session all_rows ids) (sym full_ids)) more)
-                (all_front (λ (id : List ℕ). is_delivered (marked_by_session all_rows (ids_of (fell.dones ++ stored_done number uid reply ∷ []))) id ≡ true) (ids_ahead (tasks_of fell.dones)) (ids_ahead (fell.next ∷ []))
-                (subst (λ (ids : List (List ℕ)). AllByRecursion (λ (id : List ℕ). is_delivered (marked_by_session all_rows (ids_of (fell.dones ++ stored_done number uid reply ∷ []))) id ≡ true) ids)
+                (ap (λ (r : List Row). marked r uid) (mid_rows fell.dones fell.mid fell.went) ∙ last_mark all_rows (ids_of fell.dones) ∙ ap (λ (ids : List (List ℕ)). marked_all all_rows ids) (sym full_ids)) more)
+                (all_front (λ (id : List ℕ). is_delivered (marked_all all_rows (ids_of (fell.dones ++ stored_done number uid reply ∷ []))) id ≡ true) (ids_ahead (tasks_of fell.dones)) (ids_ahead (fell.next ∷ []))
+                (subst (λ (ids : List (List ℕ)). AllByRecursion (λ (id : List ℕ). is_delivered (marked_all all_rows (ids_of (fell.dones ++ stored_done number uid reply ∷ []))) id ≡ true) ids)
                 (ap ids_ahead full_tasks ∙ flat_map-append ids_in (tasks_of fell.dones) (fell.next ∷ []))
                 (recorded_all laws settings account items now maildir rows (fell.dones ++ stored_done number uid reply ∷ []) full_part)))
                 told (λ is. absurd (omega (arith, is)))

@@ -16,7 +16,7 @@ use Rattle.fetch_session.specs.declared.fault.Fault.TheVariants.{ConnectionEnded
 use Rattle.fetch_session.specs.declared.fault.Why.TheVariants as why
 use Rattle.fetch_session.specs.declared.report.Report.{Report}
 use Rattle.fetch_session.specs.declared.report.ReportLine.{ReportLine}
-use Rattle.fetch_session.specs.Record.{Keeps, UnreadyCause, IsMergedAtMost, merged_now}
+use Rattle.fetch_session.specs.Record.{Keeps, UnreadyCause, IsMergedAtMost}
 use Rattle.fetch_session.specs.Report.{retrieved_in}
 use Rattle.fetch_session.specs.Scene.{Scene, scene}
 use Rattle.fetch_session.specs.Plan.{tasks_ahead, Unprepared, Carried, Carries}
@@ -79,14 +79,14 @@ module _ (laws : Laws) (settings : Settings) (account : List ℕ) (items : List 
       by (inr (was, stood, inr merges)) =
           lead laws settings account items now maildir rows false [] [] [] [] [] new.maildir new.file.content 0 refl nothing nothing (inl refl) (inl refl)
           (same.0 ∙ sym (append-nil maildir.in_new)) same.1
-          (subst (λ (r : List Row). Keeps new.file.content (merged_now account maildir items now r)) (laws.one file.content was rows stood keeps) merges) tt (tasks_ahead settings account items now maildir (merged rows items (flags_of account maildir items) now)) refl
+          (subst (λ (r : List Row). Keeps new.file.content (merged r items (flags_of account maildir items) now)) (laws.one file.content was rows stood keeps) merges) tt (tasks_ahead settings account items now maildir (merged rows items (flags_of account maildir items) now)) refl
           (λ never. absurd (true≢false (sym never))) new.lines (RefusedIn (Err cut)) (UnsavedIn (Err cut)) told (λ never. absurd (omega (arith, never))) (λ never. absurd (omega (arith, never)))
 
   carried_leads : (result : Result (Unit {0}) Cut) (new : Scene) (skipped : ℕ) (is : Carried settings account items now place maildir file lines result new skipped)
       → Leads settings account now (is_ended result) (course_carried settings account items now place maildir file lines result new skipped is) rows maildir new.maildir new.file.content new.lines (RefusedIn result) (UnsavedIn result)
   carried_leads result new skipped is =
       does_leads laws settings account items now maildir rows is.mid is.prepared.maildir_is
-      (is.prepared.rows ∙ ap (merged_now account maildir items now) (laws.one file.content is.prepared.was rows is.prepared.stood keeps)) (is.prepared.lines_are ∙ no_lines) is.prepared.saved result new is.does
+      (is.prepared.rows ∙ ap (λ (r : List Row). merged r items (flags_of account maildir items) now) (laws.one file.content is.prepared.was rows is.prepared.stood keeps)) (is.prepared.lines_are ∙ no_lines) is.prepared.saved result new is.does
 
   cut_leads : (cut : Cut) (new : Scene) (skipped : ℕ)
       (is : ((skipped ≡ 0) × Unprepared account items now place maildir file lines cut new) ⊎ Carried settings account items now place maildir file lines (Err cut) new skipped)

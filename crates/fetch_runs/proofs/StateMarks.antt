@@ -4,13 +4,11 @@ use Rattle.std.specs.Prelude.{◌&&◌, ◌||◌, bytes_eq}
 use Rattle.std.specs.List.{AllByRecursion}
 use Rattle.std.proofs.lemmas.Slice.Eq.{bytes_eq-Decides}
 use Rattle.mail_terms.specs.Listing.{Item, has_item}
-use Rattle.fetch_rules.specs.Record.{Row, is_of, has_row, is_delivered, is_flagged, with_delivered, marked, new_ids, with_held, merged}
+use Rattle.fetch_rules.specs.Record.{Row, is_of, has_row, is_delivered, is_flagged, with_delivered, marked, marked_all, new_ids, with_held, merged}
 use Rattle.mail_store.specs.Maildir.{Maildir}
 use Rattle.mail_store.specs.FileName.{is_held}
 use Rattle.mail_store.specs.Held.{flags_of, has_flagged}
 use Rattle.fetch_session.specs.Task.{Task, says, skips, stores, rereads, deletes, Done, tasks_of, ids_in, ids_of, ids_ahead}
-use Rattle.fetch_session.specs.Record.{marked_all as marked_by_session}
-use Rattle.run_law.specs.Steps.{marked_all}
 use Rattle.fetch_runs.proofs.StatePlan.{fetched, fetched_in, IsRight, deleted_in, deleted_by, Safe, all_on}
 
 -- ---- the laws of the crates below that are used
@@ -34,10 +32,6 @@ FlagsTell = (account : List ℕ) (maildir : Maildir) (items : List Item) (uid : 
     → has_flagged items (flags_of account maildir items) uid ≡ (has_item items uid && is_held account maildir uid)
 
 -- ---- marks that change nothing
-
-pub same_marks : (rows : List Row) (ids : List (List ℕ)) → marked_by_session rows ids ≡ marked_all rows ids
-same_marks rows [] = refl
-same_marks rows (id ∷ ids) = same_marks (marked rows id) ids
 
 or_swap : (d a b : Bool) → ((d || a) || b) ≡ ((d || b) || a)
 or_swap true a b = refl

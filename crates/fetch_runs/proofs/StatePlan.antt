@@ -10,7 +10,7 @@ use Rattle.rc_file.specs.declared.settings.Settings.{Settings}
 use Rattle.fetch_rules.specs.Record.{Row, is_delivered}
 use Rattle.fetch_rules.specs.Wanted.{wanted}
 use Rattle.fetch_rules.specs.Due.{is_due}
-use Rattle.fetch_rules.specs.Plan.{is_among, seen_since, step_of, planned, retrieved}
+use Rattle.fetch_rules.specs.Plan.{has_number, seen_since, step_of, planned, retrieved}
 use Rattle.fetch_rules.specs.declared.steps.Step.{Step}
 use Rattle.mail_store.specs.Maildir.{Maildir}
 use Rattle.mail_store.specs.FileName.{is_held}
@@ -234,7 +234,7 @@ due_known : (settings : Settings) (rows : List Row) (items : List Item) (now : â
 due_known settings rows items now q is =
     let due = is_due settings now (seen_since rows q.1.uid now) in
     let known = is_delivered rows q.1.uid in
-    let fetched = is_among (wanted settings rows items) q.0 in
+    let fetched = has_number (wanted settings rows items) q.0 in
     let front = and_parts (due && (known || fetched)) (is_first items q && is_last items q) is in
     let which = and_parts due (known || fetched) front.0 in
     elim (or_cases known fetched which.1) [

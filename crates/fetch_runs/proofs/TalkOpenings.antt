@@ -7,13 +7,12 @@ use Rattle.pop3_wire.specs.declared.reply.Status.TheVariants.{Positive}
 use Rattle.pop3_wire.specs.Fields.{number_and_size}
 use Rattle.pop3_wire.specs.Reply.{IsFirstLine, indicator, without_space}
 use Rattle.pop3_wire.specs.Place.{Place}
-use Rattle.pop3_wire.specs.Reading.{WholeReply}
+use Rattle.pop3_wire.specs.Reading.{WholeReply, TellsCount}
 use Rattle.mail_terms.specs.Credential.{is_credential}
 use Rattle.mail_terms.specs.Listing.{Item, Joins}
 use Rattle.mail_terms.specs.declared.listing.UidRow.{UidRow}
 use Rattle.mail_terms.specs.declared.listing.ScanRow.{ScanRow}
 use Rattle.pop3_client.specs.Turns.{greeting, stat, IsBody, IsGood}
-use Rattle.pop3_client.specs.Conversation.{TellsCount}
 use Rattle.run_law.specs.Readings.{IsListed}
 use Rattle.fetch_session.specs.Opening.{opening, Opened}
 use Rattle.fetch_runs.proofs.TalkCommands.{CanBeSaid}

@@ -9,7 +9,7 @@ use Rattle.pop3_wire.specs.declared.command.Command.TheVariants.{Dele}
 use Rattle.pop3_wire.specs.Honest.{Asked}
 use Rattle.pop3_wire.specs.Link.{Link}
 use Rattle.pop3_wire.specs.World.{Message, IsWorld, maildrop_of}
-use Rattle.mail_terms.specs.UniqueId.{is_legal_id}
+use Rattle.mail_terms.specs.UniqueId.{is_legal_id, has_id}
 use Rattle.rc_file.specs.Settings.{IsValid}
 use Rattle.rc_file.specs.declared.settings.Settings.{Settings}
 use Rattle.fetch_rules.specs.Record.{Row, merged}
@@ -22,7 +22,7 @@ use Rattle.fetch_session.specs.Record.{Keeps}
 use Rattle.fetch_session.specs.Session.{Kept, kept, Session}
 use Rattle.fetch_session.specs.declared.report.Outcome.TheVariants.{Ended}
 use Rattle.fetch_session.specs.declared.report.Report.{Report}
-use Rattle.run_law.specs.Mails.{has_id, listing_of, is_selected}
+use Rattle.run_law.specs.Mails.{listing_of, is_selected}
 use Rattle.run_law.specs.Accounts.{Moves, KeepsOthers, copies, files}
 use Rattle.run_law.specs.Steps.{ids_wanted}
 use Rattle.run_law.specs.Runs.{Frame, Situation, Kept as IsKeptIn, HoldsExactly, past_limit}

@@ -1,13 +1,13 @@
 -- How logging in, the count and the listings make the beginning.
 use Rattle.std.proofs.Common.{inl, inr, ℕ, List, [], ◌∷◌, ◌++◌, Result, Ok, Err}
 use Rattle.pop3_wire.specs.Place.{Place}
-use Rattle.pop3_wire.specs.Reading.{WholeReply}
+use Rattle.pop3_wire.specs.Reading.{WholeReply, TellsCount}
 use Rattle.mail_terms.specs.Listing.{Item}
 use Rattle.mail_terms.specs.declared.listing.UidRow.{UidRow}
 use Rattle.mail_terms.specs.declared.listing.ScanRow.{ScanRow}
 use Rattle.pop3_client.specs.declared.fault.Fault.{Fault}
 use Rattle.pop3_client.specs.Turns.{stat, uidl, list}
-use Rattle.pop3_client.specs.Conversation.{Talked, Stopped, Broke, TellsCount, login}
+use Rattle.pop3_client.specs.Conversation.{Talked, Stopped, Broke, login}
 use Rattle.pop3_client.specs.Listing.{Listed, GetsListing}
 use Rattle.fetch_session.specs.Opening.{Opened, Enters}
 use Rattle.fetch_session.proofs.TurnLemmas.{talked_on, stopped_first, stopped_before, stopped_behind}

@@ -10,7 +10,7 @@ use Rattle.mail_store.specs.Held.{flags_of}
 use Rattle.fetch_session.specs.declared.fault.Fault.{Fault}
 use Rattle.fetch_session.specs.declared.fault.Fault.TheVariants.{ConnectionEnded, ReadFailed, WriteFailed, ReplyTooLong, BadReply, Refused, BadListing, ListingsDisagree, TooMany, TextTooLong, StoreRefused, SeenRefused, NoMemory, BadSeen}
 use Rattle.fetch_session.specs.declared.readiness.Ready.{Ready}
-use Rattle.fetch_session.specs.Record.{Keeps, Steady, ReadAs, Merges, IsReady, Unready, merged_now}
+use Rattle.fetch_session.specs.Record.{Keeps, Steady, ReadAs, Merges, IsReady, Unready}
 use Rattle.fetch_session.proofs.RecordLemmas.{read_keeps, steady_keeps}
 
 module _ (settings : Settings) (account : List ℕ) (items : List Item) (now : ℕ) (maildir maildir' : Maildir) (file read new : Stored) (loaded : Loaded) (held : List Bool)
@@ -18,7 +18,7 @@ module _ (settings : Settings) (account : List ℕ) (items : List Item) (now : �
   kept : Keeps file.content loaded.rows
   kept = read_keeps file.content loaded.rows loaded.torn stood
 
-  as_now : merged loaded.rows items held now ≡ merged_now account maildir items now loaded.rows
+  as_now : merged loaded.rows items held now ≡ merged loaded.rows items (flags_of account maildir items) now
   as_now = ap (λ (flags : List Bool). merged loaded.rows items flags now) held_are
 
   failures_same : read.failures ≡ file.failures

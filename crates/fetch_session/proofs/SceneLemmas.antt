@@ -3,7 +3,7 @@ use Rattle.std.proofs.Common.{◌≡◌, ◌≤◌, ℕ, List, [], ◌∷◌, �
 use Rattle.std.proofs.lemmas.List.{append-nil, map-append}
 use Rattle.std.proofs.lemmas.Grind.{flat_map-append}
 use Rattle.std.specs.List.{AllByRecursion}
-use Rattle.fetch_rules.specs.Record.{Row, marked}
+use Rattle.fetch_rules.specs.Record.{Row, marked, marked_all}
 use Rattle.mail_store.specs.Maildir.{Maildir, File}
 use Rattle.pop3_client.specs.Turns.{Turn}
 use Rattle.pop3_wire.specs.Reading.{WholeReply}
@@ -13,7 +13,6 @@ use Rattle.fetch_session.specs.declared.fault.Cut.{Cut}
 use Rattle.fetch_session.specs.declared.report.ReportLine.{ReportLine}
 use Rattle.fetch_session.specs.Task.{Task, Done, IsAnswered, task_in, turns_in, ids_in, files_in, lines_in, tasks_of, turns_of, replies_of, ids_of, files_of, lines_of}
 use Rattle.fetch_session.specs.Store.{Gained}
-use Rattle.fetch_session.specs.Record.{marked_all}
 use Rattle.fetch_session.specs.Scene.{Scene, Went, AllWent, Fell, Stops, TakesTask, Does}
 
 pub gained_none : (m : Maildir) → Gained m m []

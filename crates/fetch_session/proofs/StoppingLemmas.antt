@@ -4,7 +4,7 @@ use Rattle.std.proofs.lemmas.List.{append-nil, map-append}
 use Rattle.std.proofs.lemmas.Grind.{flat_map-append}
 use Rattle.std.specs.List.{flat_map}
 use Rattle.pop3_wire.specs.Place.{Place}
-use Rattle.fetch_rules.specs.Record.{Row, marked}
+use Rattle.fetch_rules.specs.Record.{Row, marked, marked_all}
 use Rattle.mail_store.specs.Maildir.{Maildir, File, file, dropped, counted}
 use Rattle.mail_store.specs.FlatFile.{Stored}
 use Rattle.pop3_client.specs.declared.fault.Fault.{Fault as TalkFault}
@@ -22,7 +22,7 @@ use Rattle.pop3_wire.specs.Bodies.{Rest}
 use Rattle.pop3_wire.specs.declared.unstuffer.Spot.TheVariants.{Done as AtEnd}
 use Rattle.pop3_client.specs.Texts.{Fetching}
 use Rattle.mail_store.specs.FileName.{name_of}
-use Rattle.fetch_session.specs.Record.{Keeps, Steady, Saves, marked_all}
+use Rattle.fetch_session.specs.Record.{Keeps, Steady, Saves}
 use Rattle.fetch_session.specs.Scene.{Scene, Fell, Broken, NotStored, NotSaved}
 use Rattle.fetch_session.specs.Laws.{Stands, ExtraIs, MarksAre, CutShort}
 use Rattle.fetch_session.proofs.SceneLemmas.{marked_on}

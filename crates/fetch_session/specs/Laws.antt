@@ -1,7 +1,7 @@
 -- What a list of tasks that stopped leaves, told by the tasks that were brought to their end.
 use Rattle.std.specs.Prelude.{◌≡◌, ◌⊎◌, ℕ, List, [], ◌∷◌, ◌++◌, Option, Err}
 use Rattle.std.specs.List.{flat_map, AllZip}
-use Rattle.fetch_rules.specs.Record.{Row}
+use Rattle.fetch_rules.specs.Record.{Row, marked_all}
 use Rattle.mail_store.specs.FlatFile.{Stored}
 use Rattle.mail_store.specs.Maildir.{File}
 use Rattle.pop3_wire.specs.Reading.{WholeReply, reply_bytes}
@@ -13,7 +13,7 @@ use Rattle.fetch_session.specs.declared.fault.Cut.{Cut}
 use Rattle.fetch_session.specs.declared.fault.Fault.TheVariants.{StoreRefused, SeenRefused, NoMemory}
 use Rattle.fetch_session.specs.declared.fault.Why.TheVariants.{Refused}
 use Rattle.fetch_session.specs.Task.{Task, Done, stores, tasks_of, turns_of, replies_of, ids_of, files_of, file_from, lines_of}
-use Rattle.fetch_session.specs.Record.{Keeps, Steady, Saves, marked_all}
+use Rattle.fetch_session.specs.Record.{Keeps, Steady, Saves}
 use Rattle.fetch_session.specs.Scene.{Scene, Fell}
 
 -- these replies stand whole at the front of what was got

@@ -1,14 +1,14 @@
 -- The beginning of a session: logging in, and what is there.
 use Rattle.std.specs.Prelude.{◌≡◌, ◌⊎◌, ℕ, List, [], ◌∷◌, ◌++◌, Result, Ok, Err}
 use Rattle.pop3_wire.specs.Place.{Place}
-use Rattle.pop3_wire.specs.Reading.{WholeReply, HasListing, IsUidLine, IsScanLine}
+use Rattle.pop3_wire.specs.Reading.{WholeReply, HasListing, IsUidLine, IsScanLine, TellsCount}
 use Rattle.mail_terms.specs.Listing.{Item, Agree, Joins}
 use Rattle.mail_terms.specs.declared.listing.UidRow.{UidRow}
 use Rattle.mail_terms.specs.declared.listing.ScanRow.{ScanRow}
 use Rattle.pop3_client.specs.declared.fault.Fault.{Fault}
 use Rattle.pop3_client.specs.declared.fault.Fault.TheVariants.{ListingsDisagree, NoMemory}
 use Rattle.pop3_client.specs.Turns.{Turn, stat, uidl, list}
-use Rattle.pop3_client.specs.Conversation.{Talked, Stopped, TellsCount, login}
+use Rattle.pop3_client.specs.Conversation.{Talked, Stopped, login}
 
 -- the turns of the beginning
 abbrev pub opening : List ℕ → List ℕ → List Turn

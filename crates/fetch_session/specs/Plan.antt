@@ -2,7 +2,7 @@
 use Rattle.std.specs.Prelude.{◌≡◌, ◌⊎◌, ℕ, List, [], ◌∷◌, ◌++◌, None, Result, Ok, Err}
 use Rattle.pop3_wire.specs.Place.{Place}
 use Rattle.mail_terms.specs.Listing.{Item}
-use Rattle.fetch_rules.specs.Record.{Row}
+use Rattle.fetch_rules.specs.Record.{Row, merged}
 use Rattle.fetch_rules.specs.Plan.{planned}
 use Rattle.rc_file.specs.declared.settings.Settings.{Settings}
 use Rattle.mail_store.specs.Maildir.{Maildir}
@@ -12,7 +12,7 @@ use Rattle.pop3_client.specs.Turns.{quit}
 use Rattle.fetch_session.specs.declared.report.ReportLine.{ReportLine}
 use Rattle.fetch_session.specs.declared.fault.Cut.{Cut}
 use Rattle.fetch_session.specs.Task.{Task, says, tasks_planned}
-use Rattle.fetch_session.specs.Record.{Keeps, Steady, Unready, merged_now}
+use Rattle.fetch_session.specs.Record.{Keeps, Steady, Unready}
 use Rattle.fetch_session.specs.Report.{skipped_in}
 use Rattle.fetch_session.specs.Scene.{Scene, scene, Does}
 
@@ -24,7 +24,7 @@ tasks_ahead settings account items now maildir rows = tasks_planned (planned set
 pub record Prepared (account : List ℕ) (items : List Item) (now : ℕ) (place : Place) (maildir : Maildir) (file : Stored) (lines : List ReportLine) (mid : Scene) : Type 0 where
   pub was : List Row
   pub stood : Keeps file.content was
-  pub rows : mid.rows ≡ merged_now account maildir items now was
+  pub rows : mid.rows ≡ merged was items (flags_of account maildir items) now
   pub saved : Steady mid.file.content mid.rows
   pub file_count : mid.file.failures ≡ file.failures
   pub place_is : mid.place ≡ place

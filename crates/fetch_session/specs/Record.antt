@@ -1,7 +1,7 @@
 -- What is done to the record and its file.
-use Rattle.std.specs.Prelude.{◌≡◌, ◌≢◌, ◌⊎◌, ◌<◌, ◌+◌, ℕ, Bool, false, List, [], ◌∷◌, Option, None, Some, Result, Ok, Err, Vec}
+use Rattle.std.specs.Prelude.{◌≡◌, ◌≢◌, ◌⊎◌, ◌<◌, ◌+◌, ℕ, Bool, false, List, [], Option, None, Some, Result, Ok, Err, Vec}
 use Rattle.mail_terms.specs.Listing.{Item}
-use Rattle.fetch_rules.specs.Record.{Row, Loaded, marked, merged}
+use Rattle.fetch_rules.specs.Record.{Row, Loaded, merged}
 use Rattle.fetch_rules.specs.RecordFile.{file_of}
 use Rattle.fetch_rules.specs.RecordMeaning.{Means, Rows, Fault as Faulty, FileStandsFor}
 use Rattle.fetch_rules.specs.Plan.{planned}
@@ -55,11 +55,6 @@ Merges old was rows (Err SeenRefused) new = (new.failures ≡ old.failures + 1) 
 Merges old was rows (Err NoMemory) new = new ≡ old
 Merges old was rows (Err _) new = ⊥
 
--- these ids were marked, one after the other
-abbrev pub marked_all : List Row → List (List ℕ) → List Row
-marked_all rows [] = rows
-marked_all rows (uid ∷ uids) = marked_all (marked rows uid) uids
-
 -- the line of a record's fault
 abbrev pub LineOf : SeenFault → ℕ → Type 0
 LineOf BadHeader line = line ≡ 1
@@ -100,16 +95,12 @@ FindsHeld account old items (Err (StoreRefused Refused)) new = new ≡ Rattle.ma
 FindsHeld account old items (Err NoMemory) new = new ≡ old
 FindsHeld account old items (Err _) new = ⊥
 
--- what a session goes by: the listing's messages, the time, and which are held
-abbrev pub merged_now : List ℕ → Maildir → List Item → ℕ → List Row → List Row
-merged_now account maildir items now rows = merged rows items (flags_of account maildir items) now
-
 -- the record was read, merged and saved, and the plan made
 pub record IsReady (settings : Settings) (account : List ℕ) (items : List Item) (now : ℕ) (maildir : Maildir) (file : Stored) (ready : Ready) (after : List Row) (maildir' : Maildir) (file' : Stored) : Type 0 where
   pub was : List Row
   pub stood : Keeps file.content was
   pub held : ready.held.items ≡ flags_of account maildir items
-  pub rows : after ≡ merged_now account maildir items now was
+  pub rows : after ≡ merged was items (flags_of account maildir items) now
   pub steps : ready.steps.items ≡ planned settings after items now
   pub saved : Steady file'.content after
   pub file_count : file'.failures ≡ file.failures
@@ -127,7 +118,7 @@ UnreadyCause _ maildir file maildir' file' = ⊥
 -- the file is as it was, or stands for the merged record
 abbrev pub IsMergedAtMost : List ℕ → List Item → ℕ → Maildir → Stored → Stored → Type 0
 IsMergedAtMost account items now maildir file file' = (file'.content ≡ file.content)
-    ⊎ ((was : List Row) × Keeps file.content was × (Keeps file'.content was ⊎ Keeps file'.content (merged_now account maildir items now was)))
+    ⊎ ((was : List Row) × Keeps file.content was × (Keeps file'.content was ⊎ Keeps file'.content (merged was items (flags_of account maildir items) now)))
 
 pub record Unready (account : List ℕ) (items : List Item) (now : ℕ) (maildir : Maildir) (file : Stored) (fault : Fault) (maildir' : Maildir) (file' : Stored) : Type 0 where
   pub cause : UnreadyCause fault maildir file maildir' file'

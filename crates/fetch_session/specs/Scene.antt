@@ -2,7 +2,7 @@
 use Rattle.std.specs.Prelude.{◌≡◌, ◌⊎◌, ◌≤◌, ℕ, List, [], ◌∷◌, ◌++◌, None, Some, Result, Ok, Err}
 use Rattle.pop3_wire.specs.Place.{Place}
 use Rattle.std.specs.List.{AllByRecursion}
-use Rattle.fetch_rules.specs.Record.{Row, marked}
+use Rattle.fetch_rules.specs.Record.{Row, marked, marked_all}
 use Rattle.mail_store.specs.Maildir.{Maildir}
 use Rattle.mail_store.specs.FlatFile.{Stored}
 use Rattle.pop3_client.specs.declared.fault.Fault.{Fault as TalkFault}
@@ -18,7 +18,7 @@ use Rattle.pop3_client.specs.Texts.{Fetching, Fetched}
 use Rattle.mail_store.specs.FileName.{name_of}
 use Rattle.fetch_session.specs.Task.{Task, stores, Done, IsAnswered, turns_in, tasks_of, turns_of, replies_of, ids_of, files_of, file_from, delivered, lines_of}
 use Rattle.fetch_session.specs.Store.{RefusesText, Gained}
-use Rattle.fetch_session.specs.Record.{Steady, Saves, marked_all}
+use Rattle.fetch_session.specs.Record.{Steady, Saves}
 
 -- the link and what waits, the Maildir, the record's file, the record, and what was told so far
 pub record Scene : Type 0 where
@@ -110,3 +110,8 @@ TakesTask account task old (Err cut) new = Stops account task old cut new
 abbrev pub Does : List ℕ → List Task → Scene → Result (Unit {0}) Cut → Scene → Type 0
 Does account tasks old (Ok done) new = AllWent account tasks old new
 Does account tasks old (Err cut) new = Fell account tasks old cut new
+
+-- what is known of a call where the link, the Maildir and the record's file are sound after it: they were sound before, the link leads on from what it was, and the call did this
+abbrev pub WhereAllSound : {W D F : Type 0} → (W → Type 0) → (W → W → Type 0) → (D → Type 0) → (F → Type 0) → W → W → D → D → F → F → Type 0 → Type 0
+WhereAllSound wire_is leads_to disk_is file_is wire wire' disk disk' file file' did =
+    wire_is wire' → disk_is disk' → file_is file' → wire_is wire × disk_is disk × file_is file × leads_to wire wire' × did

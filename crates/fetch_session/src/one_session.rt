@@ -4,6 +4,7 @@ ghost use Rattle.std.specs.Vec.{vec_len};
 ghost use Rattle.pop3_wire.specs.Place.{at};
 ghost use Rattle.rc_file.specs.Settings.{IsValid};
 ghost use Rattle.mail_store.specs.FileName.{IsAccountText};
+ghost use Rattle.fetch_session.specs.Scene.{WhereAllSound};
 ghost use Rattle.fetch_session.specs.Account.{digits_of};
 ghost use Rattle.fetch_session.specs.Intake.{GotAtMost, session_limit, TakesWithTail, opening_limit, message_limit, tail_limit};
 ghost use Rattle.fetch_session.specs.Report.{Reports};
@@ -63,10 +64,9 @@ fn proceed<W: Wire, D: MaildirDisk, F: FlatFile, H: BuildHasher>(
     requires nothing { (notes.old.total ≡ 0) × (notes.old.skipped ≡ 0) × (notes.old.lines.items ≡ []) × (vec_len notes.old.lines ≡ 0) }
     ensures few { vec_len notes.new.lines ≤ 200000 }
     ensures calm { D.sound disk.new → D.sound disk.old × ((D.maildir disk.new).begun ≡ None) }
-    ensures proceeds { W.sound wire.new → D.sound disk.new → F.sound file.new
-        → W.sound wire.old × D.sound disk.old × F.sound file.old × W.leads_to wire.old wire.new
-        × Proceeds settings.now account.now now (at (W.seen wire.old) reader.old) (kept (D.maildir disk.old) (F.stored file.old)) result
-        (at (W.seen wire.new) reader.new) (kept (D.maildir disk.new) (F.stored file.new)) (noted notes.new.total notes.new.skipped notes.new.lines.items) }
+    ensures proceeds { WhereAllSound W.sound W.leads_to D.sound F.sound wire.old wire.new disk.old disk.new file.old file.new
+        (Proceeds settings.now account.now now (at (W.seen wire.old) reader.old) (kept (D.maildir disk.old) (F.stored file.old)) result
+        (at (W.seen wire.new) reader.new) (kept (D.maildir disk.new) (F.stored file.new)) (noted notes.new.total notes.new.skipped notes.new.lines.items)) }
     ensures took { W.sound wire.new → W.sound wire.old
         × TakesWithTail (opening_limit + (notes.new.total * message_limit + tail_limit)) (at (W.seen wire.old) reader.old) result (at (W.seen wire.new) reader.new) }
 {
@@ -108,10 +108,9 @@ pub fn session<W: Wire, D: MaildirDisk, F: FlatFile, H: BuildHasher>(
     now: u64,
 ) -> Report
     ensures settings { account.new.settings ≡ account.old.settings }
-    ensures session { W.sound wire.new → D.sound account.new.disk → F.sound account.new.file
-        → W.sound wire.old × D.sound account.old.disk × F.sound account.old.file × W.leads_to wire.old wire.new
-        × Session account.old.settings (digits_of account.old.settings) now (W.seen wire.old) (kept (D.maildir account.old.disk) (F.stored account.old.file))
-        result (W.seen wire.new) (kept (D.maildir account.new.disk) (F.stored account.new.file)) }
+    ensures session { WhereAllSound W.sound W.leads_to D.sound F.sound wire.old wire.new account.old.disk account.new.disk account.old.file account.new.file
+        (Session account.old.settings (digits_of account.old.settings) now (W.seen wire.old) (kept (D.maildir account.old.disk) (F.stored account.old.file))
+        result (W.seen wire.new) (kept (D.maildir account.new.disk) (F.stored account.new.file))) }
     ensures bounded { W.sound wire.new
         → GotAtMost (session_limit result.total) (W.seen wire.old) (W.seen wire.new) }
 {

@@ -1,6 +1,7 @@
 //! The beginning of a session: logging in, and what is there.
 ghost use Rattle.std.specs.Prelude.{◌≡◌, All, IfOk};
 ghost use Rattle.std.specs.String.{string_bytes};
+ghost use Rattle.pop3_wire.specs.Link.{WhereSound};
 ghost use Rattle.pop3_wire.specs.Place.{at};
 ghost use Rattle.mail_terms.specs.UniqueId.{IsLegalId};
 ghost use Rattle.rc_file.specs.Settings.{IsValid};
@@ -21,9 +22,9 @@ pub(crate) fn enter<W: Wire>(
 ) -> Result<Listing, TalkFault>
     requires { IsValid settings.now }
     ensures legal { IfOk result (λ listing. All (λ item. IsLegalId item.uid) listing) }
-    ensures enters { W.sound wire.new → W.sound wire.old × W.leads_to wire.old wire.new
-        × Enters (string_bytes settings.now.username) (string_bytes settings.now.password)
-        (at (W.seen wire.old) reader.old) result (at (W.seen wire.new) reader.new) }
+    ensures enters { WhereSound W.sound W.leads_to wire.old wire.new
+        (Enters (string_bytes settings.now.username) (string_bytes settings.now.password)
+        (at (W.seen wire.old) reader.old) result (at (W.seen wire.new) reader.new)) }
 {
     let name = settings.username.as_bytes();
     let password = settings.password.as_bytes();

@@ -4,6 +4,7 @@ ghost use Rattle.std.specs.List.{AllByRecursion};
 ghost use Rattle.pop3_wire.specs.Place.{at};
 ghost use Rattle.mail_terms.specs.UniqueId.{IsLegalId};
 ghost use Rattle.mail_store.specs.FileName.{IsAccountText};
+ghost use Rattle.fetch_session.specs.Scene.{WhereAllSound};
 ghost use Rattle.fetch_session.specs.Intake.{TakesWithTail, message_limit, tail_limit};
 ghost use Rattle.fetch_session.specs.Plan.{Carries};
 ghost use Rattle.fetch_session.specs.Report.{HasRoom, Adds};
@@ -43,11 +44,10 @@ pub fn carry_out<W: Wire, D: MaildirDisk, F: FlatFile, H: BuildHasher>(
     requires few { length listing.now ≤ 100000 }
     ensures few { Adds lines.old (2 * length listing.now) lines.new }
     ensures calm { D.sound disk.new → D.sound disk.old × ((D.maildir disk.new).begun ≡ None) }
-    ensures carries { W.sound wire.new → D.sound disk.new → F.sound file.new
-        → W.sound wire.old × D.sound disk.old × F.sound file.old × W.leads_to wire.old wire.new
-        × Carries settings.now account.now listing.now now
+    ensures carries { WhereAllSound W.sound W.leads_to D.sound F.sound wire.old wire.new disk.old disk.new file.old file.new
+        (Carries settings.now account.now listing.now now
         (at (W.seen wire.old) reader.old) (D.maildir disk.old) (F.stored file.old) lines.old.items result
-        (at (W.seen wire.new) reader.new) (D.maildir disk.new) (F.stored file.new) lines.new.items skipped.new }
+        (at (W.seen wire.new) reader.new) (D.maildir disk.new) (F.stored file.new) lines.new.items skipped.new) }
     ensures took { W.sound wire.new → W.sound wire.old
         × TakesWithTail (length listing.now * message_limit + tail_limit) (at (W.seen wire.old) reader.old) result (at (W.seen wire.new) reader.new) }
 {

@@ -1,5 +1,6 @@
 //! What is done with each message.
 ghost use Rattle.std.specs.Prelude.{◌≡◌, ◌*◌, ℕ, List, None, false, length, OnOk};
+ghost use Rattle.pop3_wire.specs.Link.{WhereSound};
 ghost use Rattle.pop3_wire.specs.Place.{at};
 ghost use Rattle.pop3_client.specs.Turns.{most, retr, dele};
 ghost use Rattle.mail_terms.specs.UniqueId.{IsLegalId};
@@ -11,7 +12,7 @@ ghost use Rattle.fetch_session.specs.Store.{Grows, GrowsBy};
 ghost use Rattle.fetch_session.specs.Task.{stores, rereads, fetching, deleting, tasks_in, tasks_planned, ids_ahead, AreFresh};
 ghost use Rattle.fetch_session.specs.Record.{Steady};
 ghost use Rattle.fetch_session.specs.Report.{HasRoom, Adds};
-ghost use Rattle.fetch_session.specs.Scene.{scene, TakesTask, Does};
+ghost use Rattle.fetch_session.specs.Scene.{scene, TakesTask, Does, WhereAllSound};
 ghost use Rattle.fetch_session.specs.Intake.{Takes, message_limit};
 
 use crate::fault::{Cut, Fault, plain, told};
@@ -51,11 +52,10 @@ pub fn take<W: Wire, D: MaildirDisk, F: FlatFile, H: BuildHasher>(
     ensures steady { F.sound file.new → F.sound file.old × OnOk result (Steady (F.stored file.new).content seen.new.rows) }
     ensures grows { D.sound disk.new → D.sound disk.old
         × Grows (name_of account.now uid.now) (D.maildir disk.old) (D.maildir disk.new) }
-    ensures takes { W.sound wire.new → D.sound disk.new → F.sound file.new
-        → W.sound wire.old × D.sound disk.old × F.sound file.old × W.leads_to wire.old wire.new
-        × TakesTask account.now (stores number uid.now)
+    ensures takes { WhereAllSound W.sound W.leads_to D.sound F.sound wire.old wire.new disk.old disk.new file.old file.new
+        (TakesTask account.now (stores number uid.now)
         (scene (at (W.seen wire.old) reader.old) (D.maildir disk.old) (F.stored file.old) seen.old.rows lines.old.items) result
-        (scene (at (W.seen wire.new) reader.new) (D.maildir disk.new) (F.stored file.new) seen.new.rows lines.new.items) }
+        (scene (at (W.seen wire.new) reader.new) (D.maildir disk.new) (F.stored file.new) seen.new.rows lines.new.items)) }
     ensures took { W.sound wire.new → W.sound wire.old
         × Takes (most (retr number)) (at (W.seen wire.old) reader.old) result (at (W.seen wire.new) reader.new) }
 {
@@ -91,10 +91,10 @@ fn reread<W: Wire>(
     requires room { HasRoom lines.old 1 }
     ensures few { Adds lines.old 1 lines.new }
     ensures rereads { (account uid : List ℕ) (maildir : Maildir) (file : Stored) (rows : List Row)
-        → W.sound wire.new → W.sound wire.old × W.leads_to wire.old wire.new
-        × TakesTask account (rereads number uid)
+        → WhereSound W.sound W.leads_to wire.old wire.new
+        (TakesTask account (rereads number uid)
         (scene (at (W.seen wire.old) reader.old) maildir file rows lines.old.items) result
-        (scene (at (W.seen wire.new) reader.new) maildir file rows lines.new.items) }
+        (scene (at (W.seen wire.new) reader.new) maildir file rows lines.new.items)) }
     ensures took { W.sound wire.new → W.sound wire.old
         × Takes (most (retr number)) (at (W.seen wire.old) reader.old) result (at (W.seen wire.new) reader.new) }
 {
@@ -124,10 +124,10 @@ fn delete_if<W: Wire>(
     requires room { HasRoom lines.old 1 }
     ensures few { Adds lines.old 1 lines.new }
     ensures deletes { (account : List ℕ) (maildir : Maildir) (file : Stored) (rows : List Row)
-        → W.sound wire.new → W.sound wire.old × W.leads_to wire.old wire.new
-        × Does account (deleting wanted number)
+        → WhereSound W.sound W.leads_to wire.old wire.new
+        (Does account (deleting wanted number)
         (scene (at (W.seen wire.old) reader.old) maildir file rows lines.old.items) result
-        (scene (at (W.seen wire.new) reader.new) maildir file rows lines.new.items) }
+        (scene (at (W.seen wire.new) reader.new) maildir file rows lines.new.items)) }
     ensures took { W.sound wire.new → W.sound wire.old
         × Takes (most (dele number)) (at (W.seen wire.old) reader.old) result (at (W.seen wire.new) reader.new) }
 {
@@ -169,11 +169,10 @@ fn fetch_if<W: Wire, D: MaildirDisk, F: FlatFile, H: BuildHasher>(
     ensures steady { F.sound file.new → F.sound file.old × OnOk result (Steady (F.stored file.new).content seen.new.rows) }
     ensures grows { D.sound disk.new → D.sound disk.old
         × GrowsBy account.now (ids_ahead (fetching step.retrieve held step.number uid.now size)) (D.maildir disk.old) (D.maildir disk.new) }
-    ensures does { W.sound wire.new → D.sound disk.new → F.sound file.new
-        → W.sound wire.old × D.sound disk.old × F.sound file.old × W.leads_to wire.old wire.new
-        × Does account.now (fetching step.retrieve held step.number uid.now size)
+    ensures does { WhereAllSound W.sound W.leads_to D.sound F.sound wire.old wire.new disk.old disk.new file.old file.new
+        (Does account.now (fetching step.retrieve held step.number uid.now size)
         (scene (at (W.seen wire.old) reader.old) (D.maildir disk.old) (F.stored file.old) seen.old.rows lines.old.items) result
-        (scene (at (W.seen wire.new) reader.new) (D.maildir disk.new) (F.stored file.new) seen.new.rows lines.new.items) }
+        (scene (at (W.seen wire.new) reader.new) (D.maildir disk.new) (F.stored file.new) seen.new.rows lines.new.items)) }
     ensures took { W.sound wire.new → W.sound wire.old
         × Takes (most (retr step.number)) (at (W.seen wire.old) reader.old) result (at (W.seen wire.new) reader.new) }
 {
@@ -215,11 +214,10 @@ fn do_step<W: Wire, D: MaildirDisk, F: FlatFile, H: BuildHasher>(
     ensures steady { F.sound file.new → F.sound file.old × OnOk result (Steady (F.stored file.new).content seen.new.rows) }
     ensures grows { D.sound disk.new → D.sound disk.old
         × GrowsBy account.now (ids_ahead (fetching step.retrieve held step.number uid.now size)) (D.maildir disk.old) (D.maildir disk.new) }
-    ensures does { W.sound wire.new → D.sound disk.new → F.sound file.new
-        → W.sound wire.old × D.sound disk.old × F.sound file.old × W.leads_to wire.old wire.new
-        × Does account.now (tasks_in step (record { uid = uid.now; size = size }) held)
+    ensures does { WhereAllSound W.sound W.leads_to D.sound F.sound wire.old wire.new disk.old disk.new file.old file.new
+        (Does account.now (tasks_in step (record { uid = uid.now; size = size }) held)
         (scene (at (W.seen wire.old) reader.old) (D.maildir disk.old) (F.stored file.old) seen.old.rows lines.old.items) result
-        (scene (at (W.seen wire.new) reader.new) (D.maildir disk.new) (F.stored file.new) seen.new.rows lines.new.items) }
+        (scene (at (W.seen wire.new) reader.new) (D.maildir disk.new) (F.stored file.new) seen.new.rows lines.new.items)) }
     ensures took { W.sound wire.new → W.sound wire.old
         × Takes message_limit (at (W.seen wire.old) reader.old) result (at (W.seen wire.new) reader.new) }
 {
@@ -254,11 +252,10 @@ pub fn do_steps<W: Wire, D: MaildirDisk, F: FlatFile, H: BuildHasher>(
     requires free { D.sound disk.old → AreFresh account.now (D.maildir disk.old) (ids_ahead (tasks_planned steps.now listing.now held.now)) }
     ensures few { Adds lines.old (2 * length listing.now) lines.new }
     ensures calm { D.sound disk.new → D.sound disk.old × ((D.maildir disk.new).begun ≡ None) }
-    ensures does { W.sound wire.new → D.sound disk.new → F.sound file.new
-        → W.sound wire.old × D.sound disk.old × F.sound file.old × W.leads_to wire.old wire.new
-        × Does account.now (tasks_planned steps.now listing.now held.now)
+    ensures does { WhereAllSound W.sound W.leads_to D.sound F.sound wire.old wire.new disk.old disk.new file.old file.new
+        (Does account.now (tasks_planned steps.now listing.now held.now)
         (scene (at (W.seen wire.old) reader.old) (D.maildir disk.old) (F.stored file.old) seen.old.rows lines.old.items) result
-        (scene (at (W.seen wire.new) reader.new) (D.maildir disk.new) (F.stored file.new) seen.new.rows lines.new.items) }
+        (scene (at (W.seen wire.new) reader.new) (D.maildir disk.new) (F.stored file.new) seen.new.rows lines.new.items)) }
     ensures took { W.sound wire.new → W.sound wire.old
         × Takes (length listing.now * message_limit) (at (W.seen wire.old) reader.old) result (at (W.seen wire.new) reader.new) }
 {

@@ -1,5 +1,6 @@
 //! How a text is taken: stored, or passed over where it is held already.
 ghost use Rattle.std.specs.Prelude.{◌≡◌, ◌≢◌, ◌≤◌, ℕ, List, [], None, IsSome, Some};
+ghost use Rattle.pop3_wire.specs.Link.{WhereSound};
 ghost use Rattle.pop3_wire.specs.Place.{Place, at};
 ghost use Rattle.pop3_wire.specs.declared.unstuffer.Spot.TheVariants.{Done};
 ghost use Rattle.pop3_client.specs.Turns.{retr};
@@ -72,9 +73,9 @@ pub(crate) fn store_text<W: Wire, D: MaildirDisk>(
     requires not_there { D.sound disk.old → IsInNew (D.maildir disk.old) name.now → ⊥ }
     ensures stores { D.sound disk.new → D.sound disk.old
         × ((text : List ℕ) × StoresText name.now (D.maildir disk.old) text result (D.maildir disk.new)
-        × (W.sound wire.new → W.sound wire.old × W.leads_to wire.old wire.new
-        × ((number : ℕ) (start : Place) → Fetching (retr number) start (at (W.seen wire.old) reader.old) body []
-        → ReadsText number start text result (at (W.seen wire.new) reader.new)))) }
+        × WhereSound W.sound W.leads_to wire.old wire.new
+        ((number : ℕ) (start : Place) → Fetching (retr number) start (at (W.seen wire.old) reader.old) body []
+        → ReadsText number start text result (at (W.seen wire.new) reader.new))) }
     ensures reads { W.sound wire.new → W.sound wire.old
         × ((number : ℕ) (start : Place) → Fetching (retr number) start (at (W.seen wire.old) reader.old) body []
         → (text : List ℕ) × ReadsText number start text result (at (W.seen wire.new) reader.new)) }
@@ -123,8 +124,8 @@ pub(crate) fn pass_text<W: Wire>(
 ) -> Result<u64, TalkFault>
     requires open { body.spot ≢ Done }
     requires within { body.left ≤ 268435456 }
-    ensures passes { W.sound wire.new → W.sound wire.old × W.leads_to wire.old wire.new
-        × ((number : ℕ) (start : Place) → Fetching (retr number) start (at (W.seen wire.old) reader.old) body []
+    ensures passes { WhereSound W.sound W.leads_to wire.old wire.new
+        ((number : ℕ) (start : Place) → Fetching (retr number) start (at (W.seen wire.old) reader.old) body []
         → PassesText number start result (at (W.seen wire.new) reader.new)) }
 {
     let mut rest = body;

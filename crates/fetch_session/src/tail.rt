@@ -1,5 +1,6 @@
 //! What is said after a fault.
 ghost use Rattle.std.specs.Prelude.{◌≡◌};
+ghost use Rattle.pop3_wire.specs.Link.{WhereSound};
 ghost use Rattle.pop3_wire.specs.Place.{at};
 ghost use Rattle.pop3_client.specs.Conversation.{Talks};
 ghost use Rattle.fetch_session.specs.Tail.{turns_in, tail, Drops, Left};
@@ -30,8 +31,8 @@ fn tail_of(fault: Fault) -> Tail
 }
 
 fn say_tail<W: Wire>(wire: &mut W, reader: &mut LineReader, kind: Tail) -> Result<(), TalkFault>
-    ensures talks { W.sound wire.new → W.sound wire.old × W.leads_to wire.old wire.new
-        × Talks (turns_in kind) (at (W.seen wire.old) reader.old) result (at (W.seen wire.new) reader.new) }
+    ensures talks { WhereSound W.sound W.leads_to wire.old wire.new
+        (Talks (turns_in kind) (at (W.seen wire.old) reader.old) result (at (W.seen wire.new) reader.new)) }
 {
     match kind {
         Tail::Nothing => Ok(()),
@@ -46,8 +47,8 @@ fn drop_under_way<W: Wire>(
     reader: &mut LineReader,
     rest: Option<BodyReader>,
 ) -> Result<(), TalkFault>
-    ensures drops { W.sound wire.new → W.sound wire.old × W.leads_to wire.old wire.new
-        × Drops rest (at (W.seen wire.old) reader.old) result (at (W.seen wire.new) reader.new) }
+    ensures drops { WhereSound W.sound W.leads_to wire.old wire.new
+        (Drops rest (at (W.seen wire.old) reader.old) result (at (W.seen wire.new) reader.new)) }
 {
     match rest {
         None => Ok(()),
@@ -58,8 +59,8 @@ fn drop_under_way<W: Wire>(
 /// Ends a session after a cut: the reply under way is dropped, and then what belongs behind the
 /// fault is said.
 pub fn leave<W: Wire>(wire: &mut W, reader: &mut LineReader, cut: Cut)
-    ensures leaves { W.sound wire.new → W.sound wire.old × W.leads_to wire.old wire.new
-        × Left cut (at (W.seen wire.old) reader.old) (at (W.seen wire.new) reader.new) }
+    ensures leaves { WhereSound W.sound W.leads_to wire.old wire.new
+        (Left cut (at (W.seen wire.old) reader.old) (at (W.seen wire.new) reader.new)) }
 {
     let Cut { fault, rest } = cut;
     if let Err(_) = drop_under_way(wire, reader, rest) {

@@ -5,7 +5,8 @@ use Rattle.std.proofs.lemmas.Bool.{true≢false}
 use Rattle.std.proofs.lemmas.Grind.{flat_map-append}
 use Rattle.std.proofs.lemmas.List.{append-nil, append_cancel_right, nil_from_length}
 use Rattle.std.proofs.Math.Seq.{take-append_seam}
-use Rattle.mail_store.specs.Mboxrd.{lines_of, IsLine, IsWhole, begins_entry, unquoted, separator, entry_of, Group, IsGroup, group_bytes, group_text, MboxFile, FrontsOfEntries}
+use Rattle.mail_terms.specs.Text.{IsWhole}
+use Rattle.mail_store.specs.Mboxrd.{lines_of, IsLine, begins_entry, unquoted, separator, entry_of, Group, IsGroup, group_bytes, group_text, MboxFile, FrontsOfEntries}
 use Rattle.mail_store.specs.MboxScan.{IsApart, OpensEntry}
 use Rattle.mail_store.proofs.MboxLines.{lines_joined, lines_kept}
 use Rattle.mail_store.proofs.MboxGroups.{joined, group_lines, inner_lines, ended_all, group_first, groups_lines, inner_apart, opens_groups, same_span, one_reading, entry_group, entry_is_group, entry_bytes, entry_text, entry_adds_text}

@@ -1,7 +1,8 @@
 -- A file that is read group by group.
 use Rattle.std.specs.Prelude.{◌≡◌, ℕ, true, false, List, [], ◌∷◌, ◌++◌}
 use Rattle.std.specs.List.{AllByRecursion}
-use Rattle.mail_store.specs.Mboxrd.{lines_of, begins_entry, IsWhole, IsHead}
+use Rattle.mail_terms.specs.Text.{IsWhole}
+use Rattle.mail_store.specs.Mboxrd.{lines_of, begins_entry, IsHead}
 
 abbrev pub IsApart : List ℕ → Type 0
 IsApart line = begins_entry line ≡ false

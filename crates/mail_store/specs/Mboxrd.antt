@@ -1,6 +1,7 @@
 -- Texts in an mboxrd file: how a line is quoted, what an entry is, and which texts a file stands for.
 use Rattle.std.specs.Prelude.{◌≡◌, ◌≢◌, ◌⊎◌, ◌==◌, ◌&&◌, ℕ, Bool, false, List, [], ◌∷◌, ◌++◌, true, map, length, take, if◌then◌else◌, codes, nat_eq}
 use Rattle.std.specs.List.{flat_map, onto_first, starts_with, AllByRecursion}
+use Rattle.mail_terms.specs.Text.{IsWhole}
 
 -- ---- lines
 
@@ -18,10 +19,6 @@ pub record IsLine (line : List ℕ) : Type 0 where
   pub words : List ℕ
   pub plain : HasNoLf words
   pub ended : line ≡ words ++ 10 ∷ []
-
--- a text that is empty or ends in LF
-abbrev pub IsWhole : List ℕ → Type 0
-IsWhole text = (text ≡ []) ⊎ ((front : List ℕ) × (text ≡ front ++ 10 ∷ []))
 
 -- ---- quoting
 

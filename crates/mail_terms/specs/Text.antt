@@ -1,5 +1,5 @@
 -- Texts, whose lines end at LF.
-use Rattle.std.specs.Prelude.{◌==◌, ℕ, Bool, List, [], ◌∷◌, if◌then◌else◌}
+use Rattle.std.specs.Prelude.{◌≡◌, ◌⊎◌, ◌==◌, ℕ, Bool, List, [], ◌∷◌, ◌++◌, if◌then◌else◌}
 use Rattle.std.specs.List.{onto_first}
 
 abbrev pub is_line_feed : ℕ → Bool
@@ -10,7 +10,11 @@ abbrev pub lines_of_text : List ℕ → List (List ℕ)
 lines_of_text [] = []
 lines_of_text (byte ∷ rest) = if byte == 10 then [] ∷ lines_of_text rest else onto_first byte (lines_of_text rest)
 
--- a text whose last line is ended: it gets one LF more where it has bytes and doesn't end in LF
+-- a text that is empty or ends in LF
+abbrev pub IsWhole : List ℕ → Type 0
+IsWhole text = (text ≡ []) ⊎ ((front : List ℕ) × (text ≡ front ++ 10 ∷ []))
+
+-- the text made whole: it gets one LF more where it has bytes and doesn't end in LF
 abbrev pub whole_text : List ℕ → List ℕ
 whole_text [] = []
 whole_text (byte ∷ []) = if byte == 10 then byte ∷ [] else byte ∷ 10 ∷ []

@@ -1,6 +1,6 @@
 -- Unique-ids (RFC 1939, section 7, UIDL).
-use Rattle.std.specs.Prelude.{ℕ, ◌≤◌, ◌&&◌, nat_lt, nat_le, Bool, List, length, All, IsTrue}
-use Rattle.std.specs.List.{list_all}
+use Rattle.std.specs.Prelude.{ℕ, ◌≤◌, ◌&&◌, nat_lt, nat_le, Bool, List, length, All, IsTrue, bytes_eq}
+use Rattle.std.specs.List.{list_all, list_any}
 
 -- a character that a unique-id may hold: 0x21 to 0x7E
 abbrev pub is_id_byte : ℕ → Bool
@@ -12,6 +12,10 @@ is_legal_id id = nat_lt 0 (length id) && nat_le (length id) 70 && list_all is_id
 
 abbrev pub IsLegalId : List ℕ → Type 0
 IsLegalId id = IsTrue (is_legal_id id)
+
+-- whether an id is one of these
+abbrev pub has_id : List (List ℕ) → List ℕ → Bool
+has_id ids id = list_any (bytes_eq id) ids
 
 -- the same by ranges: how long the id is, and which characters it holds
 pub record HasIdRanges (id : List ℕ) : Type 0 where

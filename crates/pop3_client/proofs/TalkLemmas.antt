@@ -5,7 +5,7 @@ use Rattle.std.proofs.lemmas.List.{append-nil, take_all, length-take}
 use Rattle.std.specs.List.{flat_map, AllZip}
 use Rattle.pop3_wire.specs.Line.{crlf, IsLine, ended}
 use Rattle.pop3_wire.specs.Reply.{IsFirstLine, without_space}
-use Rattle.pop3_wire.specs.Reading.{WholeReply, reply_bytes}
+use Rattle.pop3_wire.specs.Reading.{WholeReply, reply_bytes, gives_body}
 use Rattle.pop3_wire.specs.Body.{body_of}
 use Rattle.pop3_wire.specs.Bodies.{Drew}
 use Rattle.pop3_wire.specs.declared.reply.Status.{Status}
@@ -17,7 +17,7 @@ use Rattle.pop3_wire.specs.Place.{Place, at, GoesOn, Gains, HasLine, HasNoLine}
 use Rattle.pop3_client.specs.declared.fault.Asked.{Asked}
 use Rattle.pop3_client.specs.declared.fault.Fault.{Fault}
 use Rattle.pop3_client.specs.declared.fault.Fault.TheVariants.{ConnectionEnded, ReadFailed, WriteFailed, ReplyTooLong, BadReply, Refused, BadListing, ListingsDisagree, TooMany, TextTooLong, NoMemory}
-use Rattle.pop3_client.specs.Turns.{Turn, turn_bytes, asking, Names, stat, uidl, list, rset, quit, tells_count, gives_body, Fits, IsBody, IsGood, line_limit, IsShort, most}
+use Rattle.pop3_client.specs.Turns.{Turn, turn_bytes, asking, Names, stat, uidl, list, rset, quit, tells_count, Fits, IsBody, IsGood, line_limit, IsShort, most}
 use Rattle.pop3_client.specs.Causes.{Cause, BeginsPositive, FirstLine}
 use Rattle.pop3_client.specs.Conversation.{Opened, Talked, NoLineCause, TakesRefusal, Heard, Broke, Stopped, Sent, TellsFew, AsksTurn, Tells, Talks}
 use Rattle.pop3_client.proofs.MostLemmas.{most_least}

@@ -3,7 +3,7 @@ use Rattle.std.specs.Prelude.{◌≡◌, ◌⊎◌, ◌+◌, ◌<◌, ◌≤◌,
 use Rattle.std.specs.List.{flat_map, AllZip}
 use Rattle.pop3_wire.specs.Line.{IsLine, ended}
 use Rattle.pop3_wire.specs.Reply.{IsFirstLine}
-use Rattle.pop3_wire.specs.Reading.{WholeReply, reply_bytes}
+use Rattle.pop3_wire.specs.Reading.{WholeReply, TellsCount, reply_bytes}
 use Rattle.pop3_wire.specs.declared.reply.Status.TheVariants.{Positive, Negative}
 use Rattle.pop3_wire.specs.declared.command.Command.TheVariants.{Retr, Dele}
 use Rattle.pop3_wire.specs.Fields.{number_and_size}
@@ -11,7 +11,7 @@ use Rattle.pop3_wire.specs.Link.{Link}
 use Rattle.pop3_wire.specs.Place.{Place, GoesOn, Gains, HasLine}
 use Rattle.pop3_client.specs.declared.fault.Fault.{Fault}
 use Rattle.pop3_client.specs.declared.fault.Asked.TheVariants.{Quit as ByQuit}
-use Rattle.pop3_client.specs.declared.fault.Fault.TheVariants.{ConnectionEnded, ReadFailed, WriteFailed, ReplyTooLong, BadReply, Refused, BadListing, ListingsDisagree, TooMany, TextTooLong, NoMemory}
+use Rattle.pop3_client.specs.declared.fault.Fault.TheVariants.{ConnectionEnded, ReadFailed, WriteFailed, ReplyTooLong, BadReply, Refused, TooMany, NoMemory}
 use Rattle.pop3_client.specs.Turns.{Turn, turn_bytes, asking, greeting, user, pass, stat, rset, quit, line_limit, row_limit, IsShort, most, Fits, IsGood}
 use Rattle.pop3_client.specs.Causes.{IsPartOfLine, IsOverlong, Cause}
 
@@ -102,10 +102,6 @@ AsksTurn turn old (Err fault) new = Broke turn old new fault
 abbrev pub Tells : Turn → Place → Result (Unit {0}) Fault → Place → Type 0
 Tells turn old (Ok done) new = (reply : WholeReply) × Talked (turn ∷ []) (reply ∷ []) old new
 Tells turn old (Err fault) new = Broke turn old new fault
-
--- a reply to STAT tells this count
-abbrev pub TellsCount : WholeReply → ℕ → Type 0
-TellsCount reply count = (rest : List ℕ) × (size : ℕ) × IsFirstLine reply.first Positive rest × (number_and_size rest ≡ Ok (count, size))
 
 -- STAT was talked, and its reply tells this count; or it broke
 abbrev pub CountsMessages : Place → Result ℕ Fault → Place → Type 0
@@ -203,19 +199,7 @@ TellsFew line (Err TooMany) = (rest : List ℕ) × (count size : ℕ) × IsFirst
 TellsFew line (Err _) = ⊥
 
 -- whether a fault is a refused call of the link
-abbrev pub refusal : Fault → Result (Unit {0}) Fault
-refusal ReadFailed = Err ReadFailed
-refusal WriteFailed = Err WriteFailed
-refusal ConnectionEnded = Ok tt
-refusal ReplyTooLong = Ok tt
-refusal BadReply = Ok tt
-refusal (Refused to) = Ok tt
-refusal BadListing = Ok tt
-refusal ListingsDisagree = Ok tt
-refusal TooMany = Ok tt
-refusal TextTooLong = Ok tt
-refusal NoMemory = Ok tt
-
-abbrev pub refusal_of : {A : Type 0} → Result A Fault → Result (Unit {0}) Fault
-refusal_of (Ok done) = Ok tt
-refusal_of (Err fault) = refusal fault
+abbrev pub is_refusal : Fault → Bool
+is_refusal ReadFailed = true
+is_refusal WriteFailed = true
+is_refusal _ = false

@@ -1,5 +1,5 @@
 -- The rows of listings, and how two listings are joined with STAT's count (RFC 1939, sections 5 and 7).
-use Rattle.std.specs.Prelude.{◌≡◌, ◌≢◌, ◌⊎◌, ◌<◌, ◌≤◌, ℕ, true, List, [], ◌∷◌, ◌++◌, length, take, Option, None, Some, Result, Ok, Err, Vec}
+use Rattle.std.specs.Prelude.{◌≡◌, ◌≢◌, ◌⊎◌, ◌<◌, ◌≤◌, ℕ, true, List, [], ◌∷◌, ◌++◌, length, take, Option, None, Some, Result, Ok, Err}
 use Rattle.std.specs.List.{AllByRecursion, AllZip}
 use Rattle.pop3_wire.specs.Line.{ended}
 use Rattle.pop3_wire.specs.Body.{IsContent, body_of, dot}
@@ -94,8 +94,3 @@ TakesRows turn IsThisRow old (Err fault) new = NotTaken turn old new fault
 abbrev pub ListsRows : {R : Type 0} → Turn → (List ℕ → R → Type 0) → Place → Result (List R) Fault → Place → Type 0
 ListsRows turn IsThisRow old (Ok rows) new = (reply : WholeReply) × Talked (turn ∷ []) (reply ∷ []) old new × HasListing IsThisRow reply rows
 ListsRows turn IsThisRow old (Err fault) new = Broke turn old new fault
-
--- the items of a vector that a call gave
-abbrev pub items_of : {A Z E : Type 0} → Result (Vec A Z) E → Result (List A) E
-items_of (Ok v) = Ok v.items
-items_of (Err e) = Err e

@@ -4,7 +4,7 @@ use Rattle.std.specs.List.{flat_map, AllByRecursion}
 use Rattle.pop3_wire.specs.Line.{IsLine, ended}
 use Rattle.pop3_wire.specs.Body.{IsContent, unstuffed, body_of}
 use Rattle.pop3_wire.specs.Reply.{IsFirstLine}
-use Rattle.pop3_wire.specs.Reading.{WholeReply, has_body}
+use Rattle.pop3_wire.specs.Reading.{WholeReply, gives_body}
 use Rattle.pop3_wire.specs.declared.reply.Status.TheVariants.{Positive}
 use Rattle.pop3_wire.specs.Fields.{number_and_size, number_and_id}
 use Rattle.pop3_wire.specs.Commands.{line_of}
@@ -103,11 +103,6 @@ tells_count _ = false
 -- what that rest has to be: it tells a count of at most 100,000 messages
 abbrev pub Fits : Turn → List ℕ → Type 0
 Fits turn rest = tells_count turn ≡ true → (count size : ℕ) × (number_and_size rest ≡ Ok (count, size)) × (count ≤ row_limit)
-
--- whether a positive reply has a body
-abbrev pub gives_body : Turn → Bool
-gives_body None = false
-gives_body (Some command) = has_body command
 
 -- a listing is asked for
 abbrev pub IsListing : Turn → Type 0

@@ -2,7 +2,7 @@
 #![tactic(auto)]
 
 mod fault;
-mod law;
+mod laws;
 mod listing;
 mod login;
 mod tail;
@@ -10,7 +10,7 @@ mod talk;
 mod text;
 
 pub use fault::{Asked, Fault, fault_number};
-pub use law::conversations_are_paced;
+pub use laws::conversations_are_paced;
 pub use listing::list;
 pub use login::log_in;
 pub use tail::{leave, reset_and_quit};

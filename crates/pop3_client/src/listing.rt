@@ -2,12 +2,13 @@
 ghost use Rattle.std.specs.Prelude.{◌≡◌, ◌≤◌, ◌<◌, ◌⊎◌, ℕ, List, All, IfOk, IfErr, IfSome};
 ghost use Rattle.mail_terms.specs.Listing.{Agree, Joins};
 ghost use Rattle.mail_terms.specs.UniqueId.{IsLegalId};
-ghost use Rattle.pop3_wire.specs.Link.{CountsFailure};
+ghost use Rattle.pop3_wire.specs.Bodies.{items_of};
+ghost use Rattle.pop3_wire.specs.Link.{CountsRefusal, WhereSound};
 ghost use Rattle.pop3_wire.specs.Place.{at, HasLine};
 ghost use Rattle.pop3_client.specs.Turns.{uidl as uidl_turn, list as list_turn, row_limit, IsRow};
-ghost use Rattle.pop3_client.specs.Conversation.{refusal_of};
+ghost use Rattle.pop3_client.specs.Conversation.{is_refusal};
 ghost use Rattle.pop3_wire.specs.Reading.{IsUidLine, IsScanLine};
-ghost use Rattle.pop3_client.specs.Listing.{NextRow, TakesRows, ListsRows, GetsListing, items_of};
+ghost use Rattle.pop3_client.specs.Listing.{NextRow, TakesRows, ListsRows, GetsListing};
 
 use crate::fault::{Asked, Fault};
 use crate::talk::{ask, next_line};
@@ -23,11 +24,11 @@ fn next_row<W: Wire>(
     reader: &mut LineReader,
     rows: usize,
 ) -> Result<Option<usize>, Fault>
-    ensures counted { CountsFailure (W.seen wire.old) (refusal_of result) (W.seen wire.new) }
+    ensures counted { CountsRefusal is_refusal (W.seen wire.old) result (W.seen wire.new) }
     ensures line { IfOk result (λ found. IfSome found (HasLine 2048 reader.new)) }
     ensures few { IfOk result (λ found. IfSome found (λ n. rows < 100000)) }
-    ensures next { W.sound wire.new → W.sound wire.old × W.leads_to wire.old wire.new
-        × NextRow rows (at (W.seen wire.old) reader.old) result (at (W.seen wire.new) reader.new) }
+    ensures next { WhereSound W.sound W.leads_to wire.old wire.new
+        (NextRow rows (at (W.seen wire.old) reader.old) result (at (W.seen wire.new) reader.new)) }
 {
     let length = match next_line(wire, reader) {
         Ok(length) => length,
@@ -76,10 +77,10 @@ fn uid_rows<W: Wire>(
     wire: &mut W,
     reader: &mut LineReader,
 ) -> Result<Vec<UidRow>, Fault>
-    ensures counted { CountsFailure (W.seen wire.old) (refusal_of result) (W.seen wire.new) }
+    ensures counted { CountsRefusal is_refusal (W.seen wire.old) result (W.seen wire.new) }
     ensures legal { IfOk result (λ rows. All (λ row. IsLegalId row.uid.items) rows.items) }
-    ensures takes { W.sound wire.new → W.sound wire.old × W.leads_to wire.old wire.new
-        × TakesRows uidl_turn IsUidLine (at (W.seen wire.old) reader.old) (items_of result) (at (W.seen wire.new) reader.new) }
+    ensures takes { WhereSound W.sound W.leads_to wire.old wire.new
+        (TakesRows uidl_turn IsUidLine (at (W.seen wire.old) reader.old) (items_of result) (at (W.seen wire.new) reader.new)) }
 {
     let mut rows = Vec::new(alloc);
     'rows: loop {
@@ -105,9 +106,9 @@ fn scan_rows<W: Wire>(
     wire: &mut W,
     reader: &mut LineReader,
 ) -> Result<Vec<ScanRow>, Fault>
-    ensures counted { CountsFailure (W.seen wire.old) (refusal_of result) (W.seen wire.new) }
-    ensures takes { W.sound wire.new → W.sound wire.old × W.leads_to wire.old wire.new
-        × TakesRows list_turn IsScanLine (at (W.seen wire.old) reader.old) (items_of result) (at (W.seen wire.new) reader.new) }
+    ensures counted { CountsRefusal is_refusal (W.seen wire.old) result (W.seen wire.new) }
+    ensures takes { WhereSound W.sound W.leads_to wire.old wire.new
+        (TakesRows list_turn IsScanLine (at (W.seen wire.old) reader.old) (items_of result) (at (W.seen wire.new) reader.new)) }
 {
     let mut rows = Vec::new(alloc);
     'rows: loop {
@@ -129,10 +130,10 @@ fn scan_rows<W: Wire>(
 
 /// Asks for the unique-ids (UIDL).
 fn uidl<W: Wire>(alloc: Global, wire: &mut W, reader: &mut LineReader) -> Result<Vec<UidRow>, Fault>
-    ensures counted { CountsFailure (W.seen wire.old) (refusal_of result) (W.seen wire.new) }
+    ensures counted { CountsRefusal is_refusal (W.seen wire.old) result (W.seen wire.new) }
     ensures legal { IfOk result (λ rows. All (λ row. IsLegalId row.uid.items) rows.items) }
-    ensures lists { W.sound wire.new → W.sound wire.old × W.leads_to wire.old wire.new
-        × ListsRows uidl_turn IsUidLine (at (W.seen wire.old) reader.old) (items_of result) (at (W.seen wire.new) reader.new) }
+    ensures lists { WhereSound W.sound W.leads_to wire.old wire.new
+        (ListsRows uidl_turn IsUidLine (at (W.seen wire.old) reader.old) (items_of result) (at (W.seen wire.new) reader.new)) }
 {
     if let Err(fault) = ask(wire, reader, Asked::Uidl, b"UIDL\r\n") {
         return Err(fault);
@@ -146,9 +147,9 @@ fn sizes<W: Wire>(
     wire: &mut W,
     reader: &mut LineReader,
 ) -> Result<Vec<ScanRow>, Fault>
-    ensures counted { CountsFailure (W.seen wire.old) (refusal_of result) (W.seen wire.new) }
-    ensures lists { W.sound wire.new → W.sound wire.old × W.leads_to wire.old wire.new
-        × ListsRows list_turn IsScanLine (at (W.seen wire.old) reader.old) (items_of result) (at (W.seen wire.new) reader.new) }
+    ensures counted { CountsRefusal is_refusal (W.seen wire.old) result (W.seen wire.new) }
+    ensures lists { WhereSound W.sound W.leads_to wire.old wire.new
+        (ListsRows list_turn IsScanLine (at (W.seen wire.old) reader.old) (items_of result) (at (W.seen wire.new) reader.new)) }
 {
     if let Err(fault) = ask(wire, reader, Asked::List, b"LIST\r\n") {
         return Err(fault);
@@ -181,10 +182,10 @@ pub fn list<W: Wire>(
     count: u32,
 ) -> Result<Listing, Fault>
     requires { count ≤ row_limit }
-    ensures counted { CountsFailure (W.seen wire.old) (refusal_of result) (W.seen wire.new) }
+    ensures counted { CountsRefusal is_refusal (W.seen wire.old) result (W.seen wire.new) }
     ensures legal { IfOk result (λ listing. All (λ item. IsLegalId item.uid) listing) }
-    ensures lists { W.sound wire.new → W.sound wire.old × W.leads_to wire.old wire.new
-        × GetsListing count (at (W.seen wire.old) reader.old) result (at (W.seen wire.new) reader.new) }
+    ensures lists { WhereSound W.sound W.leads_to wire.old wire.new
+        (GetsListing count (at (W.seen wire.old) reader.old) result (at (W.seen wire.new) reader.new)) }
 {
     let uids = match uidl(alloc, wire, reader) {
         Ok(uids) => uids,

@@ -1,10 +1,10 @@
 //! The beginning of a session: the greeting, the user and the password.
 ghost use Rattle.std.specs.Prelude.{◌≡◌, true, List, ℕ, IfOk, IfErr};
 ghost use Rattle.mail_terms.specs.Credential.{is_credential};
-ghost use Rattle.pop3_wire.specs.Link.{CountsFailure};
+ghost use Rattle.pop3_wire.specs.Link.{CountsRefusal, WhereSound};
 ghost use Rattle.pop3_wire.specs.Place.{at};
 ghost use Rattle.pop3_client.specs.Turns.{turn_bytes, user, pass};
-ghost use Rattle.pop3_client.specs.Conversation.{refusal_of, login, Talks};
+ghost use Rattle.pop3_client.specs.Conversation.{is_refusal, login, Talks};
 
 use crate::fault::{Asked, Fault};
 use crate::talk::{ask, greet};
@@ -49,9 +49,9 @@ fn log_in_by<W: Wire>(
     name_line: &[u8],
     password_line: &[u8],
 ) -> Result<(), Fault>
-    ensures counted { CountsFailure (W.seen wire.old) (refusal_of result) (W.seen wire.new) }
-    ensures talks { W.sound wire.new → W.sound wire.old × W.leads_to wire.old wire.new
-        × ((name password : List ℕ) → name_line.now ≡ turn_bytes (user name) → password_line.now ≡ turn_bytes (pass password)
+    ensures counted { CountsRefusal is_refusal (W.seen wire.old) result (W.seen wire.new) }
+    ensures talks { WhereSound W.sound W.leads_to wire.old wire.new
+        ((name password : List ℕ) → name_line.now ≡ turn_bytes (user name) → password_line.now ≡ turn_bytes (pass password)
         → Talks (login name password) (at (W.seen wire.old) reader.old) result (at (W.seen wire.new) reader.new)) }
 {
     if let Err(fault) = greet(wire, reader) {
@@ -76,9 +76,9 @@ pub fn log_in<W: Wire>(
 ) -> Result<(), Fault>
     requires name { is_credential name.now ≡ true }
     requires password { is_credential password.now ≡ true }
-    ensures counted { CountsFailure (W.seen wire.old) (refusal_of result) (W.seen wire.new) }
-    ensures talks { W.sound wire.new → W.sound wire.old × W.leads_to wire.old wire.new
-        × Talks (login name.now password.now) (at (W.seen wire.old) reader.old) result (at (W.seen wire.new) reader.new) }
+    ensures counted { CountsRefusal is_refusal (W.seen wire.old) result (W.seen wire.new) }
+    ensures talks { WhereSound W.sound W.leads_to wire.old wire.new
+        (Talks (login name.now password.now) (at (W.seen wire.old) reader.old) result (at (W.seen wire.new) reader.new)) }
 {
     let Ok(user) = user_line(alloc, name) else {
         return Err(Fault::NoMemory);

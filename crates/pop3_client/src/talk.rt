@@ -1,11 +1,11 @@
 //! One turn of a conversation: a command is sent, and the first line of its reply is read
 //! (RFC 1939, section 3).
 ghost use Rattle.std.specs.Prelude.{◌≡◌, ◌≤◌, ◌++◌, false, ℕ, List, [], length, take, IfOk};
-ghost use Rattle.pop3_wire.specs.Link.{CountsFailure};
+ghost use Rattle.pop3_wire.specs.Link.{CountsRefusal, WhereSound};
 ghost use Rattle.pop3_wire.specs.Place.{at, Gains, HasLine};
 ghost use Rattle.pop3_wire.specs.Reply.{IsFirstLine};
 ghost use Rattle.pop3_client.specs.Turns.{Turn, Names, turn_bytes, tells_count, greeting, dele, quit, row_limit};
-ghost use Rattle.pop3_client.specs.Conversation.{Waits, Heard, Sent, AsksTurn, CountsMessages, Tells, refusal_of, TellsFew};
+ghost use Rattle.pop3_client.specs.Conversation.{Waits, Heard, Sent, AsksTurn, CountsMessages, Tells, is_refusal, TellsFew};
 
 use crate::fault::{Asked, Fault};
 use mail_terms::MESSAGE_LIMIT;
@@ -16,11 +16,11 @@ use std::alloc::Global;
 
 /// Takes from the link until a line of a reply waits, and says how long it is. It still waits then.
 pub fn next_line<W: Wire>(wire: &mut W, reader: &mut LineReader) -> Result<usize, Fault>
-    ensures counted { CountsFailure (W.seen wire.old) (refusal_of result) (W.seen wire.new) }
+    ensures counted { CountsRefusal is_refusal (W.seen wire.old) result (W.seen wire.new) }
     ensures line { IfOk result (HasLine 2048 reader.new) }
-    ensures waits { W.sound wire.new → W.sound wire.old × W.leads_to wire.old wire.new
-        × ((gained : List ℕ) × Gains (at (W.seen wire.old) reader.old) (at (W.seen wire.new) reader.new) gained)
-        × Waits (at (W.seen wire.old) reader.old) result (at (W.seen wire.new) reader.new) }
+    ensures waits { WhereSound W.sound W.leads_to wire.old wire.new
+        (((gained : List ℕ) × Gains (at (W.seen wire.old) reader.old) (at (W.seen wire.new) reader.new) gained)
+        × Waits (at (W.seen wire.old) reader.old) result (at (W.seen wire.new) reader.new)) }
 {
     match reader.line(wire, 2048) {
         Ok(length) => Ok(length),
@@ -32,9 +32,9 @@ pub fn next_line<W: Wire>(wire: &mut W, reader: &mut LineReader) -> Result<usize
 
 /// Sends bytes.
 fn say<W: Wire>(wire: &mut W, bytes: &[u8]) -> Result<(), Fault>
-    ensures counted { CountsFailure (W.seen wire.old) (refusal_of result) (W.seen wire.new) }
-    ensures sent { W.sound wire.new → W.sound wire.old × W.leads_to wire.old wire.new
-        × Sent bytes.now (W.seen wire.old) result (W.seen wire.new) }
+    ensures counted { CountsRefusal is_refusal (W.seen wire.old) result (W.seen wire.new) }
+    ensures sent { WhereSound W.sound W.leads_to wire.old wire.new
+        (Sent bytes.now (W.seen wire.old) result (W.seen wire.new)) }
 {
     match wire.send(bytes) {
         Ok(()) => Ok(()),
@@ -45,11 +45,11 @@ fn say<W: Wire>(wire: &mut W, bytes: &[u8]) -> Result<(), Fault>
 /// Waits for a positive first line, and says how long it is. It still waits then. A negative one is
 /// a whole reply, and is taken.
 fn hear<W: Wire>(wire: &mut W, reader: &mut LineReader, asked: Asked) -> Result<usize, Fault>
-    ensures counted { CountsFailure (W.seen wire.old) (refusal_of result) (W.seen wire.new) }
+    ensures counted { CountsRefusal is_refusal (W.seen wire.old) result (W.seen wire.new) }
     ensures line { IfOk result (HasLine 2048 reader.new) }
     ensures positive { IfOk result (λ n. (rest : List ℕ) × IsFirstLine (take n reader.new) Status.Positive rest) }
-    ensures heard { W.sound wire.new → W.sound wire.old × W.leads_to wire.old wire.new
-        × ((turn : Turn) → Names asked turn → Heard turn (at (W.seen wire.old) reader.old) result (at (W.seen wire.new) reader.new)) }
+    ensures heard { WhereSound W.sound W.leads_to wire.old wire.new
+        ((turn : Turn) → Names asked turn → Heard turn (at (W.seen wire.old) reader.old) result (at (W.seen wire.new) reader.new)) }
 {
     let length = match next_line(wire, reader) {
         Ok(length) => length,
@@ -67,9 +67,9 @@ fn hear<W: Wire>(wire: &mut W, reader: &mut LineReader, asked: Asked) -> Result<
 
 /// Takes the greeting.
 pub fn greet<W: Wire>(wire: &mut W, reader: &mut LineReader) -> Result<(), Fault>
-    ensures counted { CountsFailure (W.seen wire.old) (refusal_of result) (W.seen wire.new) }
-    ensures asks { W.sound wire.new → W.sound wire.old × W.leads_to wire.old wire.new
-        × AsksTurn greeting (at (W.seen wire.old) reader.old) result (at (W.seen wire.new) reader.new) }
+    ensures counted { CountsRefusal is_refusal (W.seen wire.old) result (W.seen wire.new) }
+    ensures asks { WhereSound W.sound W.leads_to wire.old wire.new
+        (AsksTurn greeting (at (W.seen wire.old) reader.old) result (at (W.seen wire.new) reader.new)) }
 {
     let length = match hear(wire, reader, Asked::Greeting) {
         Ok(length) => length,
@@ -87,9 +87,9 @@ pub fn ask<W: Wire>(
     asked: Asked,
     bytes: &[u8],
 ) -> Result<(), Fault>
-    ensures counted { CountsFailure (W.seen wire.old) (refusal_of result) (W.seen wire.new) }
-    ensures asks { W.sound wire.new → W.sound wire.old × W.leads_to wire.old wire.new
-        × ((turn : Turn) → Names asked turn → tells_count turn ≡ false → bytes.now ≡ turn_bytes turn
+    ensures counted { CountsRefusal is_refusal (W.seen wire.old) result (W.seen wire.new) }
+    ensures asks { WhereSound W.sound W.leads_to wire.old wire.new
+        ((turn : Turn) → Names asked turn → tells_count turn ≡ false → bytes.now ≡ turn_bytes turn
         → AsksTurn turn (at (W.seen wire.old) reader.old) result (at (W.seen wire.new) reader.new)) }
 {
     if let Err(fault) = say(wire, bytes) {
@@ -125,10 +125,10 @@ fn count_of(line: &[u8]) -> Result<u32, Fault>
 
 /// Asks how many messages there are (STAT): at most 100,000.
 pub fn count<W: Wire>(wire: &mut W, reader: &mut LineReader) -> Result<u32, Fault>
-    ensures counted { CountsFailure (W.seen wire.old) (refusal_of result) (W.seen wire.new) }
+    ensures counted { CountsRefusal is_refusal (W.seen wire.old) result (W.seen wire.new) }
     ensures few { IfOk result (λ n. n ≤ row_limit) }
-    ensures counts { W.sound wire.new → W.sound wire.old × W.leads_to wire.old wire.new
-        × CountsMessages (at (W.seen wire.old) reader.old) result (at (W.seen wire.new) reader.new) }
+    ensures counts { WhereSound W.sound W.leads_to wire.old wire.new
+        (CountsMessages (at (W.seen wire.old) reader.old) result (at (W.seen wire.new) reader.new)) }
 {
     if let Err(fault) = say(wire, b"STAT\r\n") {
         return Err(fault);
@@ -154,9 +154,9 @@ pub fn delete<W: Wire>(
     reader: &mut LineReader,
     number: u32,
 ) -> Result<(), Fault>
-    ensures counted { CountsFailure (W.seen wire.old) (refusal_of result) (W.seen wire.new) }
-    ensures tells { W.sound wire.new → W.sound wire.old × W.leads_to wire.old wire.new
-        × Tells (dele number) (at (W.seen wire.old) reader.old) result (at (W.seen wire.new) reader.new) }
+    ensures counted { CountsRefusal is_refusal (W.seen wire.old) result (W.seen wire.new) }
+    ensures tells { WhereSound W.sound W.leads_to wire.old wire.new
+        (Tells (dele number) (at (W.seen wire.old) reader.old) result (at (W.seen wire.new) reader.new)) }
 {
     let Ok(line) = command_bytes(alloc, &Command::Dele(number)) else {
         return Err(Fault::NoMemory);
@@ -166,9 +166,9 @@ pub fn delete<W: Wire>(
 
 /// Ends the session (QUIT). It takes no memory.
 pub fn quit<W: Wire>(wire: &mut W, reader: &mut LineReader) -> Result<(), Fault>
-    ensures counted { CountsFailure (W.seen wire.old) (refusal_of result) (W.seen wire.new) }
-    ensures tells { W.sound wire.new → W.sound wire.old × W.leads_to wire.old wire.new
-        × Tells quit (at (W.seen wire.old) reader.old) result (at (W.seen wire.new) reader.new) }
+    ensures counted { CountsRefusal is_refusal (W.seen wire.old) result (W.seen wire.new) }
+    ensures tells { WhereSound W.sound W.leads_to wire.old wire.new
+        (Tells quit (at (W.seen wire.old) reader.old) result (at (W.seen wire.new) reader.new)) }
 {
     ask(wire, reader, Asked::Quit, b"QUIT\r\n")
 }

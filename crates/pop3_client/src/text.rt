@@ -1,10 +1,10 @@
 //! The text of a message.
 ghost use Rattle.std.specs.Prelude.{◌≡◌, ◌≢◌, ◌≤◌, ◌<◌, ◌↔◌, ℕ, List, length, IsTrue, Ok, IfOk, OnOk, IfErr};
 ghost use Rattle.pop3_wire.specs.declared.unstuffer.Spot.TheVariants.{Done};
-ghost use Rattle.pop3_wire.specs.Link.{CountsFailure};
+ghost use Rattle.pop3_wire.specs.Link.{CountsRefusal, WhereSound};
 ghost use Rattle.pop3_wire.specs.Place.{Place, at};
 ghost use Rattle.pop3_client.specs.Turns.{turn_bytes, retr};
-ghost use Rattle.pop3_client.specs.Conversation.{refusal_of, Tells};
+ghost use Rattle.pop3_client.specs.Conversation.{is_refusal, Tells};
 ghost use Rattle.pop3_client.specs.Texts.{Fetching, Opens, FetchesPiece};
 
 use crate::fault::{Asked, Fault};
@@ -22,11 +22,11 @@ fn open_by<W: Wire>(
     number: u32,
     line: &[u8],
 ) -> Result<BodyReader, Fault>
-    ensures counted { CountsFailure (W.seen wire.old) (refusal_of result) (W.seen wire.new) }
+    ensures counted { CountsRefusal is_refusal (W.seen wire.old) result (W.seen wire.new) }
     ensures open { IfOk result (λ body. body.spot ≢ Done) }
     ensures within { IfOk result (λ body. body.left ≤ 268435456) }
-    ensures opens { W.sound wire.new → W.sound wire.old × W.leads_to wire.old wire.new
-        × (line.now ≡ turn_bytes (retr number) → Opens (retr number) (at (W.seen wire.old) reader.old) result (at (W.seen wire.new) reader.new)) }
+    ensures opens { WhereSound W.sound W.leads_to wire.old wire.new
+        (line.now ≡ turn_bytes (retr number) → Opens (retr number) (at (W.seen wire.old) reader.old) result (at (W.seen wire.new) reader.new)) }
 {
     if let Err(fault) = ask(wire, reader, Asked::Retr(number), line) {
         return Err(fault);
@@ -42,11 +42,11 @@ pub fn open<W: Wire>(
     reader: &mut LineReader,
     number: u32,
 ) -> Result<BodyReader, Fault>
-    ensures counted { CountsFailure (W.seen wire.old) (refusal_of result) (W.seen wire.new) }
+    ensures counted { CountsRefusal is_refusal (W.seen wire.old) result (W.seen wire.new) }
     ensures open { IfOk result (λ body. body.spot ≢ Done) }
     ensures within { IfOk result (λ body. body.left ≤ 268435456) }
-    ensures opens { W.sound wire.new → W.sound wire.old × W.leads_to wire.old wire.new
-        × Opens (retr number) (at (W.seen wire.old) reader.old) result (at (W.seen wire.new) reader.new) }
+    ensures opens { WhereSound W.sound W.leads_to wire.old wire.new
+        (Opens (retr number) (at (W.seen wire.old) reader.old) result (at (W.seen wire.new) reader.new)) }
 {
     let Ok(line) = command_bytes(alloc, &Command::Retr(number)) else {
         return Err(Fault::NoMemory);
@@ -62,13 +62,13 @@ pub fn next_piece<W: Wire>(
     out: &mut [u8; 4097],
 ) -> Result<Piece, Fault>
     requires { body.old.spot ≢ Done }
-    ensures counted { CountsFailure (W.seen wire.old) (refusal_of result) (W.seen wire.new) }
+    ensures counted { CountsRefusal is_refusal (W.seen wire.old) result (W.seen wire.new) }
     ensures fits { IfOk result (λ piece. piece.put ≤ length out.new) }
     ensures ended { IfOk result (λ piece. IsTrue piece.ended ↔ (body.new.spot ≡ Done)) }
     ensures less { OnOk result (body.new.spot ≢ Done → body.new.left < body.old.left) }
     ensures frugal { IfErr result (λ fault. fault ≢ Fault.NoMemory) }
-    ensures takes { W.sound wire.new → W.sound wire.old × W.leads_to wire.old wire.new
-        × ((number : ℕ) (start : Place) (text : List ℕ) → Fetching (retr number) start (at (W.seen wire.old) reader.old) body.old text
+    ensures takes { WhereSound W.sound W.leads_to wire.old wire.new
+        ((number : ℕ) (start : Place) (text : List ℕ) → Fetching (retr number) start (at (W.seen wire.old) reader.old) body.old text
         → FetchesPiece (retr number) start text result out.new (at (W.seen wire.new) reader.new) body.new) }
 {
     match body.next(wire, reader, out) {
@@ -87,12 +87,12 @@ pub fn drop_rest<W: Wire>(
     reader: &mut LineReader,
     body: &mut BodyReader,
 ) -> Result<(), Fault>
-    ensures counted { CountsFailure (W.seen wire.old) (refusal_of result) (W.seen wire.new) }
+    ensures counted { CountsRefusal is_refusal (W.seen wire.old) result (W.seen wire.new) }
     ensures ended { OnOk result (body.new.spot ≡ Done) }
     ensures frugal { IfErr result (λ fault. fault ≢ Fault.NoMemory) }
     ensures whole { body.old.spot ≡ Done → (result ≡ Ok tt) × (at (W.seen wire.new) reader.new ≡ at (W.seen wire.old) reader.old) }
-    ensures tells { W.sound wire.new → W.sound wire.old × W.leads_to wire.old wire.new
-        × ((number : ℕ) (start : Place) (text : List ℕ) → Fetching (retr number) start (at (W.seen wire.old) reader.old) body.old text
+    ensures tells { WhereSound W.sound W.leads_to wire.old wire.new
+        ((number : ℕ) (start : Place) (text : List ℕ) → Fetching (retr number) start (at (W.seen wire.old) reader.old) body.old text
         → Tells (retr number) start result (at (W.seen wire.new) reader.new)) }
 {
     if body.has_ended() {

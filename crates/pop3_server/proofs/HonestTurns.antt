@@ -13,7 +13,7 @@ use Rattle.pop3_wire.specs.Line.{ended, IsLine, HoldsNoLf}
 use Rattle.pop3_wire.specs.Body.{Body}
 use Rattle.pop3_wire.specs.Commands.{line_of, can_be_sent, octets_of}
 use Rattle.pop3_wire.specs.CommandLine.{HasNumbers, ReadAsWritten}
-use Rattle.mail_terms.specs.Text.{lines_of_text}
+use Rattle.mail_terms.specs.Text.{lines_of_text, IsWhole, whole_text}
 use Rattle.pop3_wire.specs.Stuffed.{stuffed_lines, StuffedIsBody}
 use Rattle.pop3_wire.specs.World.{Message, IsMessage}
 use Rattle.pop3_wire.specs.Honest.{Says, SaysAnything, IsUnmarked, IsScanRow, IsUidRow, Grants, Reply, Replies, no_marks}
@@ -39,6 +39,16 @@ abbrev pub Stands : List Message → State → Mail → List Bool → Type 0
 Stands ms (Authorization kept) mail marks = (there mail.slots ≡ ms) × (marks ≡ no_marks ms)
 Stands ms (Transaction rows) mail marks = (mail.slots ≡ map Some ms) × (length marks ≡ length ms) × (rows ≡ rows_with ms marks) × AreServed ms
 Stands ms Closed mail marks = AreLeft ms marks (there mail.slots)
+
+-- a text that ends in LF gets no other
+ended_stays : (front : List ℕ) → whole_text (front ++ 10 ∷ []) ≡ front ++ 10 ∷ []
+ended_stays [] = refl
+ended_stays (byte ∷ []) = refl
+ended_stays (byte ∷ next ∷ more) = ap (λ (l : List ℕ). byte ∷ l) (ended_stays (next ∷ more))
+
+whole_stays : (text : List ℕ) → IsWhole text → whole_text text ≡ text
+whole_stays text (inl none) = subst (λ (t : List ℕ). whole_text t ≡ t) (sym none) refl
+whole_stays text (inr (front, is)) = subst (λ (t : List ℕ). whole_text t ≡ t) (sym is) (ended_stays front)
 
 -- an honest reply, after which the server stands there
 abbrev pub Replied : List Message → List Bool → Command → List ℕ → State → Mail → Type 0
@@ -158,7 +168,7 @@ module _ (laws : Laws) where
       let size : m.size < 2 ^ 64 = (let w : m.size ≤ 134217728 = message.within in omega arith) in
       let none : HoldsNoLf ((32 ∷ decimal m.size) ++ codes " octets") = no_lf_append (32 ∷ decimal m.size) (codes " octets") (no_lf_append (32 ∷ []) (decimal m.size) refl (no_lf_decimal laws.written m.size size)) refl in
       let body : Body (stuffed_lines (lines_of_text text)) m.text = subst (λ (b : List ℕ). Body b m.text) (sym words)
-      (subst (Body (stuffed_lines (lines_of_text m.text))) message.is_message.ended (laws.stuffed m.text)) in (
+      (subst (Body (stuffed_lines (lines_of_text m.text))) (whole_stays m.text message.is_message.whole) (laws.stuffed m.text)) in (
         marks,
         inr (
           said (octets_line (row_with m false)),

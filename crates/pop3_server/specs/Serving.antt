@@ -94,8 +94,7 @@ pub record Served {D : Type 0} (sound : D → Type 0) (mail : D → Mail) (old :
   pub ends : result ≡ Ok tt → (is_open new.state ≡ false) ⊎ ((after.ended ≡ true) ⊎ (length gained ≡ max_octets))
 
 -- a fault of the link is a refused call of it, and there is no other
-abbrev pub refusal_of : Result (Unit {0}) ServerFault → Result (Unit {0}) ServerFault
-refusal_of (Ok done) = Ok done
-refusal_of (Err ReadFailed) = Err ReadFailed
-refusal_of (Err WriteFailed) = Err WriteFailed
-refusal_of (Err NoMemory) = Ok tt
+abbrev pub is_refusal : ServerFault → Bool
+is_refusal ReadFailed = true
+is_refusal WriteFailed = true
+is_refusal NoMemory = false

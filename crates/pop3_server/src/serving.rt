@@ -1,8 +1,8 @@
 //! Serving a link: the greeting, and an answer to each line.
 ghost use Rattle.std.specs.Prelude.{◌≡◌, ◌≤◌, ◌<◌, ◌+◌, ◌*◌, ℕ, List, length, true, false, Ok, Err, IfOk, IfErr, IsOk};
-ghost use Rattle.pop3_wire.specs.Link.{CountsFailure, Sends, WhereSound};
+ghost use Rattle.pop3_wire.specs.Link.{CountsFailure, CountsRefusal, Sends, WhereSound};
 ghost use Rattle.pop3_server.specs.ServerMachine.{is_open};
-ghost use Rattle.pop3_server.specs.Serving.{Served, refusal_of};
+ghost use Rattle.pop3_server.specs.Serving.{Served, is_refusal};
 
 use crate::fault::ServerFault;
 use crate::intake::{Heard, Intake};
@@ -41,7 +41,7 @@ fn tell<J: Journal>(journal: &mut J, event: Option<Event>) {
 /// that QUIT hadn't removed.
 pub fn serve<D: Maildrop, W: Wire>(server: &mut Server<D>, wire: &mut W) -> Result<(), ServerFault>
     requires { is_open server.old.state ≡ true }
-    ensures counted { CountsFailure (W.seen wire.old) (refusal_of result) (W.seen wire.new) }
+    ensures counted { CountsRefusal is_refusal (W.seen wire.old) result (W.seen wire.new) }
     ensures removals { is_open server.new.state ≡ true
         → (D.mail server.new.drop).removals ≡ (D.mail server.old.drop).removals }
     ensures served { WhereSound W.sound W.leads_to wire.old wire.new
@@ -58,7 +58,7 @@ pub fn serve_and_note<D: Maildrop, W: Wire, J: Journal>(
     journal: &mut J,
 ) -> Result<(), ServerFault>
     requires { is_open server.old.state ≡ true }
-    ensures counted { CountsFailure (W.seen wire.old) (refusal_of result) (W.seen wire.new) }
+    ensures counted { CountsRefusal is_refusal (W.seen wire.old) result (W.seen wire.new) }
     ensures removals { is_open server.new.state ≡ true
         → (D.mail server.new.drop).removals ≡ (D.mail server.old.drop).removals }
     ensures served { WhereSound W.sound W.leads_to wire.old wire.new

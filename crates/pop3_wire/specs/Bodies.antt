@@ -1,5 +1,5 @@
 -- Taking one body from a link.
-use Rattle.std.specs.Prelude.{◌≡◌, ◌+◌, ◌<◌, ◌≤◌, ℕ, true, List, [], ◌++◌, length, take, Result, Ok, Err, Vec}
+use Rattle.std.specs.Prelude.{◌≡◌, ◌+◌, ◌<◌, ◌≤◌, ℕ, Bool, true, false, List, [], ◌++◌, length, take, Result, Ok, Err, Vec}
 use Rattle.pop3_wire.specs.Body.{Body, HasNoBody}
 use Rattle.pop3_wire.specs.Link.{Link}
 use Rattle.pop3_wire.specs.Place.{Place, GoesOn}
@@ -76,10 +76,9 @@ abbrev pub items_of : {A Z E : Type 0} → Result (Vec A Z) E → Result (List A
 items_of (Ok v) = Ok v.items
 items_of (Err e) = Err e
 
--- whether taking a body ended in a refused call
-abbrev pub refusal_of : {A : Type 0} → Result A BodyFault → Result (Unit {0}) BodyFault
-refusal_of (Ok text) = Ok tt
-refusal_of (Err Ended) = Ok tt
-refusal_of (Err Failed) = Err Failed
-refusal_of (Err TooLong) = Ok tt
-refusal_of (Err NoMemory) = Ok tt
+-- whether a fault is a refused call
+abbrev pub is_refusal : BodyFault → Bool
+is_refusal Ended = false
+is_refusal Failed = true
+is_refusal TooLong = false
+is_refusal NoMemory = false

@@ -1,6 +1,6 @@
 -- What is known of a link, and what its calls do to it.
 use Rattle.std.specs.Prelude.{◌≡◌, ◌+◌, ◌==◌, ◌||◌, ℕ, Bool, false, List, [], ◌++◌, take, Result, Ok, Err}
-use Rattle.mail_terms.specs.FailureCount.{Tallies, is_refused}
+use Rattle.mail_terms.specs.FailureCount.{Tallies, is_refused, refuses}
 
 -- what is known of a link: the octets sent, the octets got, whether a `recv` has answered 0, and how many calls were refused
 pub record Link : Type 0 where
@@ -23,6 +23,10 @@ Receives old (Err down) buf new = new ≡ record old { failures = old.failures +
 -- the failure count rises exactly where the call was refused, as far as it goes
 abbrev pub CountsFailure : {T E : Type 0} → Link → Result T E → Link → Type 0
 CountsFailure old result new = Tallies (is_refused result) old.failures new.failures
+
+-- the same of a call that can fail otherwise too, where a test says which of its faults are refused calls of the link
+abbrev pub CountsRefusal : {T E : Type 0} → (E → Bool) → Link → Result T E → Link → Type 0
+CountsRefusal is_refusal old result new = Tallies (refuses is_refusal result) old.failures new.failures
 
 -- what is known of a call where the link is sound after it: it was sound before, this one leads on from that one, and the
 -- call did this

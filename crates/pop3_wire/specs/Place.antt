@@ -1,5 +1,5 @@
 -- A link and what of its octets wait to be used, and what reading on gains.
-use Rattle.std.specs.Prelude.{◌≡◌, ◌+◌, ◌<◌, ◌≤◌, ◌==◌, ◌||◌, ℕ, true, List, ◌++◌, length, take, drop, Result, Ok, Err}
+use Rattle.std.specs.Prelude.{◌≡◌, ◌+◌, ◌<◌, ◌≤◌, ◌==◌, ◌||◌, ℕ, Bool, true, false, List, ◌++◌, length, take, drop, Result, Ok, Err}
 use Rattle.pop3_wire.specs.Line.{crlf, IsLine}
 use Rattle.pop3_wire.specs.Link.{Link}
 use Rattle.pop3_wire.specs.declared.line_reader.LineFault.{LineFault}
@@ -46,12 +46,11 @@ pub record HasLine (limit : ℕ) (bytes : List ℕ) (n : ℕ) : Type 0 where
 pub record HasNoLine (limit : ℕ) (bytes : List ℕ) : Type 0 where
   pub none : IsLine (take limit bytes)
 
--- whether reading a line ended in a refused call
-abbrev pub refusal_of : Result ℕ LineFault → Result (Unit {0}) LineFault
-refusal_of (Ok n) = Ok tt
-refusal_of (Err Ended) = Ok tt
-refusal_of (Err Failed) = Err Failed
-refusal_of (Err TooLong) = Ok tt
+-- whether a fault is a refused call
+abbrev pub is_refusal : LineFault → Bool
+is_refusal Ended = false
+is_refusal Failed = true
+is_refusal TooLong = false
 
 -- a line waits, or why none does: nothing comes any more, a call was refused, or the limit is reached
 abbrev pub ReadsLine : ℕ → Place → Result ℕ LineFault → Place → Type 0

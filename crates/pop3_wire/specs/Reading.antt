@@ -71,3 +71,7 @@ IsScanLine line row = number_and_size (unstuffed line) ≡ Ok (row.number, row.s
 -- the lines of a reply's body stand for these rows
 abbrev pub HasListing : {R : Type 0} → (List ℕ → R → Type 0) → WholeReply → List R → Type 0
 HasListing IsThisRow reply rows = (lines : List (List ℕ)) × (reply.body ≡ Some lines) × AllZip IsThisRow lines rows
+
+-- a reply to STAT tells this count
+abbrev pub TellsCount : WholeReply → ℕ → Type 0
+TellsCount reply count = (rest : List ℕ) × (size : ℕ) × IsFirstLine reply.first Positive rest × (number_and_size rest ≡ Ok (count, size))

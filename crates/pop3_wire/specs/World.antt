@@ -1,9 +1,9 @@
 -- What a server's maildrop holds over time (RFC 1939, sections 4 and 7).
-use Rattle.std.specs.Prelude.{◌≡◌, ℕ, not, List, take, map, bytes_eq}
+use Rattle.std.specs.Prelude.{ℕ, not, List, take, map, bytes_eq}
 use Rattle.std.specs.List.{filter, list_any, AllByRecursion}
 use Rattle.mail_terms.specs.Distinct.{AreDistinct}
 use Rattle.mail_terms.specs.UniqueId.{IsLegalId}
-use Rattle.mail_terms.specs.Text.{whole_text}
+use Rattle.mail_terms.specs.Text.{IsWhole}
 
 -- a message: its unique id, its size in octets as a listing gives it, and its text, whose lines end at LF
 pub record Message : Type 0 where
@@ -11,10 +11,10 @@ pub record Message : Type 0 where
   pub size : ℕ
   pub text : List ℕ
 
--- the id is legal, and the text is empty or ended by LF
+-- the id is legal, and the text is whole
 pub record IsMessage (message : Message) : Type 0 where
   pub legal : IsLegalId message.uid
-  pub ended : whole_text message.text ≡ message.text
+  pub whole : IsWhole message.text
 
 -- all messages that ever come, in order of arrival
 pub record IsWorld (all : List Message) : Type 0 where

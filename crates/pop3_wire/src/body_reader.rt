@@ -1,7 +1,7 @@
 //! Taking one body from a link, into its text (RFC 1939, section 3).
 ghost use Rattle.std.specs.Prelude.{◌≡◌, ◌≢◌, ◌≤◌, ◌<◌, ◌+◌, ◌-◌, ◌++◌, ◌↔◌, ℕ, List, [], length, take, drop, min, IsTrue, IfOk, IfErr, OnOk, OnErr};
-ghost use Rattle.pop3_wire.specs.Bodies.{Drew, DrawsNothing, LeavesRest, ReadsBody, UnderWay, TakesPiece, rest_of, items_of, refusal_of};
-ghost use Rattle.pop3_wire.specs.Link.{CountsFailure, WhereSound};
+ghost use Rattle.pop3_wire.specs.Bodies.{Drew, DrawsNothing, LeavesRest, ReadsBody, UnderWay, TakesPiece, rest_of, items_of, is_refusal};
+ghost use Rattle.pop3_wire.specs.Link.{CountsRefusal, WhereSound};
 ghost use Rattle.pop3_wire.specs.Place.{Place, at, GoesOn};
 ghost use Rattle.pop3_wire.specs.Unstuffing.{Reaches};
 ghost use Rattle.pop3_wire.specs.declared.unstuffer.Spot.TheVariants.{Start, Done};
@@ -43,11 +43,11 @@ impl From<AllocError> for BodyFault {
 
 /// Takes from the link where nothing waits, so that something does.
 fn draw<W: Wire>(wire: &mut W, reader: &mut LineReader) -> Result<(), BodyFault>
-    ensures counted { CountsFailure (W.seen wire.old) (refusal_of result) (W.seen wire.new) }
+    ensures counted { CountsRefusal is_refusal (W.seen wire.old) result (W.seen wire.new) }
     ensures frugal { IfErr result (λ fault. fault ≢ BodyFault.NoMemory) }
     ensures ok { OnOk result ((gained : List ℕ) × (reader.new ≡ reader.old ++ gained) × (0 < length reader.new)
-        × (W.sound wire.new → W.sound wire.old × W.leads_to wire.old wire.new
-        × Drew (W.seen wire.old) (W.seen wire.new) gained × GoesOn (W.seen wire.old) (W.seen wire.new))) }
+        × WhereSound W.sound W.leads_to wire.old wire.new
+        (Drew (W.seen wire.old) (W.seen wire.new) gained × GoesOn (W.seen wire.old) (W.seen wire.new))) }
     ensures err { IfErr result (λ fault. (reader.old ≡ []) × (reader.new ≡ [])
         × WhereSound W.sound W.leads_to wire.old wire.new (DrawsNothing fault (W.seen wire.old) (W.seen wire.new))) }
 {
@@ -134,7 +134,7 @@ impl BodyReader {
         out: &mut [u8; 4097],
     ) -> Result<Piece, BodyFault>
         requires { self.old.spot ≢ Done }
-        ensures counted { CountsFailure (W.seen wire.old) (refusal_of result) (W.seen wire.new) }
+        ensures counted { CountsRefusal is_refusal (W.seen wire.old) result (W.seen wire.new) }
         ensures fits { IfOk result (λ piece. piece.put ≤ length out.new) }
         ensures ended { IfOk result (λ piece. IsTrue piece.ended ↔ (self.new.spot ≡ Done)) }
         ensures less { OnOk result (self.new.spot ≢ Done → self.new.left < self.old.left) }
@@ -169,7 +169,7 @@ pub fn read_body<W: Wire>(
     limit: usize,
 ) -> Result<Vec<u8>, BodyFault>
     requires { 0 < limit }
-    ensures counted { CountsFailure (W.seen wire.old) (refusal_of result) (W.seen wire.new) }
+    ensures counted { CountsRefusal is_refusal (W.seen wire.old) result (W.seen wire.new) }
     ensures read { WhereSound W.sound W.leads_to wire.old wire.new
         (ReadsBody limit (at (W.seen wire.old) reader.old) (items_of result) (at (W.seen wire.new) reader.new)) }
     ensures rest { W.sound wire.new → LeavesRest limit (at (W.seen wire.old) reader.old) (at (W.seen wire.new) reader.new) }

@@ -1,8 +1,8 @@
 //! A reader of lines over any link: the replies that a client gets, and the commands that a server
 //! gets.
 ghost use Rattle.std.specs.Prelude.{◌≡◌, ◌≤◌, ◌<◌, ◌+◌, ◌-◌, ℕ, List, [], ◌++◌, length, take, drop, IfOk, IfErr, OnErr, IfSome, IfNone};
-ghost use Rattle.pop3_wire.specs.Link.{CountsFailure, WhereSound};
-ghost use Rattle.pop3_wire.specs.Place.{most_waiting, at, GotPiece, WasRefused, Gains, HasLine, HasNoLine, ReadsLine, refusal_of};
+ghost use Rattle.pop3_wire.specs.Link.{CountsFailure, CountsRefusal, WhereSound};
+ghost use Rattle.pop3_wire.specs.Place.{most_waiting, at, GotPiece, WasRefused, Gains, HasLine, HasNoLine, ReadsLine, is_refusal};
 
 use crate::line::cut_line;
 use crate::wire::{Wire, WireDown};
@@ -143,13 +143,13 @@ impl LineReader {
     /// and says how long it is without its CR LF. The line still waits then.
     pub fn line<W: Wire>(&mut self, wire: &mut W, limit: usize) -> Result<usize, LineFault>
         requires { limit ≤ most_waiting }
-        ensures counted { CountsFailure (W.seen wire.old) (refusal_of result) (W.seen wire.new) }
+        ensures counted { CountsRefusal is_refusal (W.seen wire.old) result (W.seen wire.new) }
         ensures short { length self.new ≤ most_waiting }
         ensures found { IfOk result (HasLine limit self.new) }
         ensures gained { (gained : List ℕ) × (self.new ≡ self.old ++ gained) }
-        ensures read { W.sound wire.new → W.sound wire.old × W.leads_to wire.old wire.new
-            × ((gained : List ℕ) × Gains (at (W.seen wire.old) self.old) (at (W.seen wire.new) self.new) gained)
-            × ReadsLine limit (at (W.seen wire.old) self.old) result (at (W.seen wire.new) self.new) }
+        ensures read { WhereSound W.sound W.leads_to wire.old wire.new
+            (((gained : List ℕ) × Gains (at (W.seen wire.old) self.old) (at (W.seen wire.new) self.new) gained)
+            × ReadsLine limit (at (W.seen wire.old) self.old) result (at (W.seen wire.new) self.new)) }
     {
         loop {
             if let Some(length) = self.line_end(limit) {

@@ -7,9 +7,11 @@ use Rattle.pop3_wire.specs.World.{Message}
 use Rattle.mail_terms.specs.Listing.{Item}
 use Rattle.fetch_rules.specs.Wanted.{DistinctAreFiltered}
 use Rattle.rc_file.specs.declared.settings.Settings.{Settings}
-use Rattle.run_law.specs.Mails.{has_id, listing_of}
+use Rattle.mail_terms.specs.UniqueId.{has_id}
+use Rattle.run_law.specs.Mails.{listing_of}
 use Rattle.run_law.specs.Accounts.{Account}
-use Rattle.run_law.specs.Steps.{Effect, Stores, IsHonest, AreTexts, wanted_at, merged_rows, ids_wanted, marked_all, file_for, is_unheld}
+use Rattle.fetch_rules.specs.Record.{marked_all}
+use Rattle.run_law.specs.Steps.{Effect, Stores, IsHonest, AreTexts, wanted_at, merged_rows, ids_wanted, file_for, is_unheld}
 use Rattle.run_law.specs.Runs.{Frame, IsFrame, Situation, Visit, Visits, CanEnd}
 use Rattle.run_law.proofs.Ids.{distinct_is, distinct_filter, distinct_take}
 use Rattle.run_law.proofs.Wants.{num_item, wants_by_number, wanted_are, wants_placed, Placed}

@@ -3,12 +3,12 @@ use Rattle.std.proofs.Common.{◌≡◌, ◌≤◌, ◌+◌, inl, inr, ℕ, suc,
 use Rattle.std.specs.Prelude.{bytes_eq}
 use Rattle.std.specs.List.{filter, list_any, AllByRecursion, prefix_len}
 use Rattle.std.proofs.lemmas.Bool.{both_ways, cases_Bool, false_from_ne_true}
-use Rattle.mail_terms.specs.UniqueId.{is_legal_id}
+use Rattle.mail_terms.specs.UniqueId.{is_legal_id, has_id}
 use Rattle.pop3_wire.specs.World.{Message}
 use Rattle.mail_store.specs.Maildir.{Maildir, File, file}
 use Rattle.mail_terms.specs.MaildirName.{base, is_colon}
 use Rattle.mail_store.specs.FileName.{NamesAreBases, NamesDiffer, name_of, names_id, is_held, IsAccountText}
-use Rattle.run_law.specs.Mails.{has_id, ids_of, texts_of}
+use Rattle.run_law.specs.Mails.{ids_of, texts_of}
 use Rattle.std.proofs.lemmas.List.Elements.{filter-append}
 use Rattle.run_law.specs.Accounts.{Account, files, copies, TakesOut, Renames, Moves, count_files, IsOther, KeepsOthers}
 use Rattle.run_law.proofs.Lists.{any-append, any_filter, any_swap, is_some, swap}

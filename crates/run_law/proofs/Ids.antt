@@ -7,7 +7,8 @@ use Rattle.std.proofs.lemmas.Slice.Eq.{bytes_eq-Decides}
 use Rattle.std.proofs.lemmas.List.Folds.{Any-from_list_any}
 use Rattle.mail_terms.specs.Distinct.{AreDistinct}
 use Rattle.pop3_wire.specs.World.{Message}
-use Rattle.run_law.specs.Mails.{has_id, ids_of, texts_of}
+use Rattle.mail_terms.specs.UniqueId.{has_id}
+use Rattle.run_law.specs.Mails.{ids_of, texts_of}
 use Rattle.run_law.proofs.Lists.{filter-map, any-map, any_filter, is_some}
 
 pub bytes_same : (a b : List ℕ) → bytes_eq a b ≡ true → a ≡ b

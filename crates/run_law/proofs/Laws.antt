@@ -3,11 +3,11 @@ use Rattle.std.proofs.Common.{◌≡◌, ◌≤◌, inl, inr, ℕ, List, [], ◌
 use Rattle.std.specs.List.{AllByRecursion}
 use Rattle.std.proofs.lemmas.Bool.{both_ways, or_parts, or_from}
 use Rattle.std.proofs.lemmas.List.{append-nil, take_at}
-use Rattle.mail_terms.specs.UniqueId.{is_legal_id}
+use Rattle.mail_terms.specs.UniqueId.{is_legal_id, has_id}
 use Rattle.pop3_wire.specs.World.{Message}
 use Rattle.fetch_rules.specs.Record.{is_delivered}
 use Rattle.mail_store.specs.FileName.{is_held, name_of}
-use Rattle.run_law.specs.Mails.{has_id, ids_of, is_selected, selected, texts_of}
+use Rattle.run_law.specs.Mails.{ids_of, is_selected, selected, texts_of}
 use Rattle.run_law.specs.Accounts.{Account, files, copies, count_files}
 use Rattle.run_law.specs.Steps.{Leaves}
 use Rattle.run_law.specs.Runs.{Frame, IsFrame, Situation, Visit, Event, Visited, Moved, Visits, Run, Kept, after_event, Promises, KeptStaysKept, KeptHoldsExactly}

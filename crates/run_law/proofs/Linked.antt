@@ -8,7 +8,8 @@ use Rattle.pop3_wire.specs.World.{Message, maildrop_of}
 use Rattle.pop3_wire.specs.Honest.{Grants, Replies, no_marks, OneListOfCommands}
 use Rattle.mail_terms.specs.Listing.{Item}
 use Rattle.rc_file.specs.declared.settings.Settings.{Settings}
-use Rattle.run_law.specs.Mails.{has_id, item_of, listing_of}
+use Rattle.mail_terms.specs.UniqueId.{has_id}
+use Rattle.run_law.specs.Mails.{item_of, listing_of}
 use Rattle.run_law.specs.Accounts.{Account}
 use Rattle.run_law.specs.Steps.{Effect, IsHonest, AreTexts, wanted_at}
 use Rattle.run_law.specs.Readings.{AreGranted, IsNumbered, HonestIsGranted, ListingIsMaildrop, MarksAreAsked, TextsAreMessages}

@@ -21,8 +21,8 @@ use Rattle.mail_terms.specs.Listing.{Item}
 use Rattle.mail_terms.specs.declared.listing.UidRow.{UidRow}
 use Rattle.mail_terms.specs.declared.listing.ScanRow.{ScanRow}
 use Rattle.run_law.specs.Mails.{item_of, listing_of}
-use Rattle.pop3_wire.specs.Reading.{WholeReply, body_bytes, reply_bytes, has_body, IsBodyIf, IsUidLine, IsScanLine, OneListOfLines}
-use Rattle.run_law.specs.Readings.{IsGood, IsNumbered, TextsAreMessages, TellsCount, ListingIsMaildrop}
+use Rattle.pop3_wire.specs.Reading.{WholeReply, body_bytes, reply_bytes, has_body, IsBodyIf, IsUidLine, IsScanLine, OneListOfLines, TellsCount}
+use Rattle.run_law.specs.Readings.{IsGood, IsNumbered, TextsAreMessages, ListingIsMaildrop}
 
 -- ---- texts
 

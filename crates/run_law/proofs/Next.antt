@@ -4,7 +4,7 @@ use Rattle.std.specs.List.{filter, AllByRecursion}
 use Rattle.std.specs.Prelude.{bytes_eq}
 use Rattle.std.proofs.lemmas.Bool.{both_ways}
 use Rattle.std.proofs.lemmas.List.Elements.{filter-append}
-use Rattle.mail_terms.specs.UniqueId.{is_legal_id}
+use Rattle.mail_terms.specs.UniqueId.{is_legal_id, has_id}
 use Rattle.pop3_wire.specs.World.{Message, IsMessage, maildrop_of}
 use Rattle.mail_terms.specs.Listing.{Item}
 use Rattle.fetch_rules.specs.Record.{Row, is_delivered, merged}
@@ -13,7 +13,7 @@ use Rattle.mail_terms.specs.Listing.{has_item}
 use Rattle.rc_file.specs.declared.settings.Settings.{Settings}
 use Rattle.mail_store.specs.FileName.{is_held}
 use Rattle.mail_store.specs.Held.{flags_of}
-use Rattle.run_law.specs.Mails.{has_id, ids_of, item_of, listing_of, is_selected, selected}
+use Rattle.run_law.specs.Mails.{ids_of, item_of, listing_of, is_selected, selected}
 use Rattle.run_law.specs.Runs.{Frame, IsFrame, Situation, Kept, WantsNext}
 use Rattle.run_law.proofs.Lists.{filter-filter, any-map, map-map, all_map, all_both, all_take, head_same, tail_same}
 use Rattle.run_law.proofs.Ids.{Distinct, distinct_is, distinct_take, distinct_filter, all_ids_at, bytes_self}

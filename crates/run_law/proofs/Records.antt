@@ -3,12 +3,11 @@ use Rattle.std.proofs.Common.{◌≡◌, ◌⊎◌, inl, inr, ℕ, List, [], ◌
 use Rattle.std.specs.Prelude.{bytes_eq}
 use Rattle.std.proofs.lemmas.Bool.{or_cases, and_parts}
 use Rattle.mail_terms.specs.Listing.{Item, has_item}
-use Rattle.fetch_rules.specs.Record.{Row, has_row, is_delivered, marked, merged}
+use Rattle.fetch_rules.specs.Record.{Row, has_row, is_delivered, marked, merged, marked_all}
 use Rattle.mail_store.specs.Maildir.{Maildir}
 use Rattle.mail_store.specs.FileName.{is_held}
 use Rattle.mail_store.specs.Held.{flags_of}
-use Rattle.run_law.specs.Mails.{has_id}
-use Rattle.run_law.specs.Steps.{marked_all}
+use Rattle.mail_terms.specs.UniqueId.{has_id}
 use Rattle.run_law.proofs.Below.{Records}
 use Rattle.run_law.proofs.Ids.{bytes_swap}
 

@@ -9,7 +9,7 @@ use Rattle.rc_file.specs.declared.settings.Settings.{Settings}
 use Rattle.fetch_rules.specs.Record.{Row, is_delivered}
 use Rattle.mail_store.specs.Maildir.{Maildir, File, file}
 use Rattle.mail_store.specs.FileName.{name_of, is_held}
-use Rattle.run_law.specs.Mails.{has_id}
+use Rattle.mail_terms.specs.UniqueId.{has_id}
 use Rattle.run_law.specs.Accounts.{Account}
 use Rattle.run_law.specs.Steps.{Effect, Leaves, Stores, file_for, is_unheld, ids_wanted, wanted_at, merged_rows}
 use Rattle.run_law.specs.Sessions.{IsBegun, BeginsOne}

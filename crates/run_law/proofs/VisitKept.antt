@@ -5,14 +5,14 @@ use Rattle.std.specs.List.{filter, AllByRecursion}
 use Rattle.std.proofs.lemmas.Bool.{both_ways, or_cases, and_parts, cases_Bool}
 use Rattle.std.proofs.lemmas.List.{take-map, take_all, length-map}
 use Rattle.std.proofs.lemmas.List.Elements.{filter-append}
-use Rattle.mail_terms.specs.UniqueId.{is_legal_id}
+use Rattle.mail_terms.specs.UniqueId.{is_legal_id, has_id}
 use Rattle.pop3_wire.specs.World.{Message, IsMessage}
 use Rattle.mail_terms.specs.Listing.{Item}
 use Rattle.fetch_rules.specs.Record.{Row, is_delivered}
 use Rattle.fetch_rules.specs.Wanted.{wanted, candidates}
 use Rattle.mail_terms.specs.Listing.{has_item}
 use Rattle.mail_store.specs.FileName.{is_held, name_of}
-use Rattle.run_law.specs.Mails.{has_id, ids_of, item_of, is_selected, selected, texts_of}
+use Rattle.run_law.specs.Mails.{ids_of, item_of, is_selected, selected, texts_of}
 use Rattle.run_law.specs.Accounts.{files, copies, KeepsOthers}
 use Rattle.run_law.specs.Steps.{Stores, IsHonest, AreTexts, wanted_at, merged_rows, ids_wanted, file_for, is_unheld}
 use Rattle.run_law.specs.Runs.{Frame, IsFrame, Situation, Visit, Visited, Kept, after_event, shown, LeavesOut, DeletesHeld, past_limit}

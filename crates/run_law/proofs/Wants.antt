@@ -13,7 +13,8 @@ use Rattle.fetch_rules.specs.Wanted.{is_within, is_asked_for, candidates, at_mos
 use Rattle.rc_file.specs.declared.settings.Settings.{Settings}
 use Rattle.mail_store.specs.Maildir.{Maildir}
 use Rattle.mail_store.specs.FileName.{is_held}
-use Rattle.run_law.specs.Mails.{has_id, ids_of, item_of, listing_of}
+use Rattle.mail_terms.specs.UniqueId.{has_id}
+use Rattle.run_law.specs.Mails.{ids_of, item_of, listing_of}
 use Rattle.run_law.specs.Steps.{AreTexts, file_for, is_unheld, ids_wanted}
 use Rattle.run_law.specs.Runs.{past_limit}
 use Rattle.run_law.proofs.Lists.{filter-map, map-map, all_take, all_filter}

@@ -1,13 +1,9 @@
 -- The messages of a maildrop: their ids, their listing, and which of them are selected.
 use Rattle.std.specs.Prelude.{ℕ, Bool, List, map, bytes_eq}
-use Rattle.std.specs.List.{filter, list_any}
+use Rattle.std.specs.List.{filter}
 use Rattle.mail_terms.specs.Listing.{Item}
 use Rattle.fetch_rules.specs.Wanted.{is_within}
 use Rattle.pop3_wire.specs.World.{Message}
-
--- whether an id is one of these
-abbrev pub has_id : List (List ℕ) → List ℕ → Bool
-has_id ids id = list_any (bytes_eq id) ids
 
 abbrev pub ids_of : List Message → List (List ℕ)
 ids_of ms = map (λ (m : Message). m.uid) ms

@@ -1,5 +1,5 @@
 -- What a session reads in what it got, and what an honest server told it by that.
-use Rattle.std.specs.Prelude.{◌≡◌, ◌-◌, ℕ, Bool, true, List, [], ◌∷◌, ◌++◌, Some, Ok, slice_get}
+use Rattle.std.specs.Prelude.{◌≡◌, ◌-◌, ℕ, Bool, true, List, [], ◌∷◌, ◌++◌, Some, slice_get}
 use Rattle.std.specs.List.{flat_map, AllByRecursion}
 use Rattle.pop3_wire.specs.declared.command.Command.{Command}
 use Rattle.pop3_wire.specs.declared.command.Command.TheVariants.{User, Pass, Stat, UidlAll, ListAll, Retr, Dele}
@@ -7,8 +7,7 @@ use Rattle.pop3_wire.specs.declared.reply.Status.TheVariants.{Positive}
 use Rattle.pop3_wire.specs.Line.{IsLine, ended}
 use Rattle.pop3_wire.specs.Body.{Body}
 use Rattle.pop3_wire.specs.Reply.{IsFirstLine}
-use Rattle.pop3_wire.specs.Reading.{WholeReply, body_bytes, reply_bytes, has_body, IsBodyIf, IsUidLine, IsScanLine, HasListing}
-use Rattle.pop3_wire.specs.Fields.{number_and_size}
+use Rattle.pop3_wire.specs.Reading.{WholeReply, body_bytes, reply_bytes, has_body, IsBodyIf, IsUidLine, IsScanLine, HasListing, TellsCount}
 use Rattle.pop3_wire.specs.Honest.{Grants, Asked, Honest, no_marks}
 use Rattle.pop3_wire.specs.World.{Message}
 use Rattle.mail_terms.specs.Listing.{Item, Joins}
@@ -66,10 +65,6 @@ IsNumbered drop found = (message : Message) × (slice_get drop (found.0 - 1) ≡
 abbrev pub TextsAreMessages : Type 0
 TextsAreMessages = (drop : List Message) (marks : List Bool) (commands : List Command) (replies : List WholeReply) (found : List (ℕ × List ℕ))
     → AreGood commands replies → AreGranted drop marks commands replies → Retrieves commands replies found → AllByRecursion (IsNumbered drop) found
-
--- the count of STAT's reply
-abbrev pub TellsCount : WholeReply → ℕ → Type 0
-TellsCount reply count = (rest : List ℕ) × (total : ℕ) × IsFirstLine reply.first Positive rest × (number_and_size rest ≡ Ok (count, total))
 
 -- the listing that the replies to STAT, UIDL and LIST join to
 pub record IsListed (stat uidl list : WholeReply) (items : List Item) : Type 0 where

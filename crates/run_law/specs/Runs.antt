@@ -7,9 +7,9 @@ use Rattle.fetch_rules.specs.Wanted.{at_most, candidates, wanted}
 use Rattle.rc_file.specs.declared.settings.Settings.{Settings}
 use Rattle.mail_store.specs.FileName.{name_of, is_held, IsAccountText}
 use Rattle.mail_store.specs.Held.{flags_of}
-use Rattle.mail_terms.specs.UniqueId.{is_legal_id}
+use Rattle.mail_terms.specs.UniqueId.{is_legal_id, has_id}
 use Rattle.pop3_wire.specs.World.{Message, IsWorld, maildrop_of}
-use Rattle.run_law.specs.Mails.{has_id, ids_of, listing_of, is_selected, selected, texts_of}
+use Rattle.run_law.specs.Mails.{ids_of, listing_of, is_selected, selected, texts_of}
 use Rattle.run_law.specs.Accounts.{Account, files, copies, Moves, KeepsOthers}
 use Rattle.run_law.specs.Steps.{Effect, Leaves, Stores, IsHonest, merged_rows, ids_wanted}
 

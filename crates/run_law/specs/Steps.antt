@@ -2,7 +2,7 @@
 use Rattle.std.specs.Prelude.{◌≡◌, ◌⊎◌, ◌≤◌, ◌-◌, ℕ, Bool, true, false, not, List, [], ◌∷◌, ◌++◌, map, take, zip, length, Some, slice_get}
 use Rattle.std.specs.List.{filter, AllByRecursion}
 use Rattle.mail_terms.specs.Listing.{Item}
-use Rattle.fetch_rules.specs.Record.{Row, is_delivered, marked, merged}
+use Rattle.fetch_rules.specs.Record.{Row, is_delivered, marked_all, merged}
 use Rattle.fetch_rules.specs.Wanted.{wanted}
 use Rattle.rc_file.specs.declared.settings.Settings.{Settings}
 use Rattle.mail_store.specs.Maildir.{Maildir, File, file}
@@ -35,11 +35,6 @@ wanted_at settings account before effect = wanted settings (merged_rows account 
 -- the ids of numbered messages
 abbrev pub ids_wanted : List (ℕ × Item) → List (List ℕ)
 ids_wanted messages = map (λ (p : ℕ × Item). p.1.uid) messages
-
--- the rows, with delivered set for these ids, one after another
-abbrev pub marked_all : List Row → List (List ℕ) → List Row
-marked_all rows [] = rows
-marked_all rows (uid ∷ uids) = marked_all (marked rows uid) uids
 
 -- the file of a message and its text
 abbrev pub file_for : List ℕ → (ℕ × Item) × List ℕ → File

@@ -1,10 +1,10 @@
 -- A session told with its numbers: how many texts count as retrieved, and how many are recorded.
 use Rattle.std.specs.Prelude.{◌≡◌, ◌⊎◌, ◌+◌, ℕ, true, List, ◌++◌, map, take, zip, length}
 use Rattle.std.specs.List.{filter, AllByRecursion}
-use Rattle.fetch_rules.specs.Record.{is_delivered}
+use Rattle.fetch_rules.specs.Record.{is_delivered, marked_all}
 use Rattle.rc_file.specs.declared.settings.Settings.{Settings}
 use Rattle.run_law.specs.Accounts.{Account}
-use Rattle.run_law.specs.Steps.{Effect, Stores, file_for, is_unheld, wanted_at, merged_rows, ids_wanted, marked_all}
+use Rattle.run_law.specs.Steps.{Effect, Stores, file_for, is_unheld, wanted_at, merged_rows, ids_wanted}
 
 -- `new` gained the files of the first n of the wanted messages that weren't held
 abbrev pub Adds : Settings → List ℕ → Account → Effect → ℕ → Account → Type 0

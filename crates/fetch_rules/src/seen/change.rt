@@ -5,7 +5,7 @@ ghost use Rattle.std.specs.Bool.{OnTrue, OnFalse};
 ghost use Rattle.mail_terms.specs.Listing.{message_limit};
 ghost use Rattle.fetch_rules.specs.Record.{IsRecord, marked, with_held, new_ids, undelivered, is_flagged};
 ghost use Rattle.fetch_rules.specs.RecordFile.{changed, written};
-ghost use Rattle.fetch_rules.specs.IdSet.{is_among};
+ghost use Rattle.mail_terms.specs.UniqueId.{has_id};
 
 use crate::id_set::IdSet;
 use crate::seen::line::{group, write_line};
@@ -17,7 +17,7 @@ use std::hash::BuildHasher;
 /// The ids of the items that are held.
 fn held_ids<'a>(alloc: Global, listing: &'a Listing, held: &[bool]) -> Result<IdSet<'a>, AllocError>
     requires { length held.now ≡ length listing.now }
-    ensures { IfOk result (λ ids. (uid : List ℕ) → is_among ids uid ≡ is_flagged listing.now held.now uid) }
+    ensures { IfOk result (λ ids. (uid : List ℕ) → has_id ids uid ≡ is_flagged listing.now held.now uid) }
 {
     let mut ids = IdSet::new(alloc);
     for i in 0..listing.len() {

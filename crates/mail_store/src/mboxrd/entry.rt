@@ -4,7 +4,8 @@ ghost use Rattle.std.specs.Prelude.{◌≡◌, ◌≢◌, ◌↔◌, List, ℕ, 
 ghost use Rattle.mail_terms.specs.FailureCount.{Tallies, refuses};
 ghost use Rattle.mail_store.specs.Fault.{is_refusal};
 ghost use Rattle.mail_store.specs.FlatFile.{edges_of};
-ghost use Rattle.mail_store.specs.Mboxrd.{IsWhole, MayGoOn, entry_of, EntryAddsText, FrontsOfEntries, OneReading, TextsMayGoOn};
+ghost use Rattle.mail_terms.specs.Text.{IsWhole};
+ghost use Rattle.mail_store.specs.Mboxrd.{MayGoOn, entry_of, EntryAddsText, FrontsOfEntries, OneReading, TextsMayGoOn};
 ghost use Rattle.mail_store.specs.MboxCalls.{Looks, Checks, AppendsEntry, TalliesEntry};
 
 use crate::fault::StoreFault;

@@ -2,7 +2,7 @@ use Rattle.std.proofs.Common.{inr, refl}
 use Rattle.pop3_wire.specs.Place.{at}
 use Rattle.pop3_client.specs.Turns.{list}
 use Rattle.pop3_wire.specs.Reading.{IsScanLine}
-use Rattle.pop3_client.specs.Listing.{items_of}
+use Rattle.pop3_wire.specs.Bodies.{items_of}
 use Rattle.pop3_client.proofs.TalkLemmas.{list_bytes}
 use Rattle.pop3_client.proofs.ListingLemmas.{lists_of}
 use Rattle.pop3_client.proofs.listing.sizes.Goals as goal

@@ -2,7 +2,7 @@ use Rattle.std.proofs.Common.{inl, refl}
 use Rattle.pop3_wire.specs.Place.{at}
 use Rattle.pop3_client.specs.Turns.{uidl}
 use Rattle.pop3_wire.specs.Reading.{IsUidLine}
-use Rattle.pop3_client.specs.Listing.{items_of}
+use Rattle.pop3_wire.specs.Bodies.{items_of}
 use Rattle.pop3_client.proofs.TalkLemmas.{uidl_bytes}
 use Rattle.pop3_client.proofs.ListingLemmas.{lists_of}
 use Rattle.pop3_client.proofs.listing.uidl.Goals as goal

@@ -3,7 +3,7 @@ use Rattle.std.proofs.lemmas.Bool.{true≢false}
 use Rattle.std.proofs.lemmas.Bool.Decides.{Decides-eqb}
 use Rattle.std.proofs.lemmas.List.{append_cancel_right}
 use Rattle.std.proofs.lemmas.Slice.Eq.{strip_suffix_is}
-use Rattle.mail_store.specs.Mboxrd.{IsWhole}
+use Rattle.mail_terms.specs.Text.{IsWhole}
 use Rattle.mail_store.proofs.MboxQuoting.{cut_off}
 use Rattle.mail_store.proofs.MboxReading.{held_parts, holds}
 use Rattle.mail_store.proofs.mboxrd.reading.quoted_part.Goals as goal

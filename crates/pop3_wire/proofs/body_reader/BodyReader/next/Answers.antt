@@ -34,5 +34,5 @@ returns-clause-takes g c = λ s.
       λ limit start text under. under_way_on limit start (g.W.Wire.seen c.args.wire.now) c.args.reader.now mine text
           (subst (λ (b : Rest). UnderWay limit start (at (g.W.Wire.seen c.args.wire.now) c.args.reader.now) b text) (sym c.self.view_is) under)
           (g.W.Wire.seen c.draw.new.wire) drawn.0 c.draw.new.reader c.use_waiting-fed.new.reader c.use_waiting-fed.result.used c.use_waiting-fed.new.unstuffer _
-          drawn.1 after.2 after.3 used.0 used.1 used.2 c.use_waiting-fed.ensures.reached,
+          drawn.1 after.2.0 after.2.1 used.0 used.1 used.2 c.use_waiting-fed.ensures.reached,
     )
