@@ -6,6 +6,7 @@ mod PlanLemmas
 mod ReadLemmas
 mod ReadyLemmas
 mod RecordLemmas
+mod RefusalLemmas
 mod ReportLemmas
 mod SceneLemmas
 mod SessionLemmas

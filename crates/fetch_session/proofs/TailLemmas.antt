@@ -19,12 +19,12 @@ left_dropped fault (Some rest) old mid new r drops talks = (
   λ number start text now. let told = drops.1 number start text now in (r, talks_on (retr number) (turns_in (tail fault)) told.0 start mid new r told.1 talks),
 )
 
+pub failed : (why : TalkFault) → result_of (Err why) ≡ result_of (Ok tt) → ⊥
+failed why e = cc
+
 pub left_broken : (fault : Fault) (rest : Option Rest) (old new : Place) (why : TalkFault) → Drops rest old (Err why) new → LeftBy fault rest old new
 left_broken fault None old new why none = absurd none
 left_broken fault (Some rest) old new why drops = (
   λ done. absurd (failed why (drops.0 done).0),
   λ number start text now. (Err why, stopped_first (retr number) (turns_in (tail fault)) start new why (drops.1 number start text now)),
 )
-  where
-    failed : (f : TalkFault) → result_of (Err f) ≡ result_of (Ok tt) → ⊥
-    failed f e = cc

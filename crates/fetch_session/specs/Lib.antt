@@ -12,3 +12,4 @@ pub mod Session
 pub mod Account
 pub mod Text
 pub mod Intake
+pub mod Refusal

@@ -7,6 +7,7 @@ ghost use Rattle.mail_store.specs.FileName.{IsAccountText};
 ghost use Rattle.fetch_session.specs.Scene.{WhereAllSound};
 ghost use Rattle.fetch_session.specs.Account.{digits_of};
 ghost use Rattle.fetch_session.specs.Intake.{GotAtMost, session_limit, TakesWithTail, opening_limit, message_limit, tail_limit};
+ghost use Rattle.fetch_session.specs.Refusal.{RefusesTillCut, RefusesByOutcome};
 ghost use Rattle.fetch_session.specs.Report.{Reports};
 ghost use Rattle.fetch_session.specs.Session.{Proceeds, Session, noted, kept};
 
@@ -62,6 +63,7 @@ fn proceed<W: Wire, D: MaildirDisk, F: FlatFile, H: BuildHasher>(
     requires digits { IsAccountText account.now }
     requires calm { D.sound disk.old → (D.maildir disk.old).begun ≡ None }
     requires nothing { (notes.old.total ≡ 0) × (notes.old.skipped ≡ 0) × (notes.old.lines.items ≡ []) × (vec_len notes.old.lines ≡ 0) }
+    ensures counted { RefusesTillCut (W.seen wire.old) result (W.seen wire.new) }
     ensures few { vec_len notes.new.lines ≤ 200000 }
     ensures calm { D.sound disk.new → D.sound disk.old × ((D.maildir disk.new).begun ≡ None) }
     ensures proceeds { WhereAllSound W.sound W.leads_to D.sound F.sound wire.old wire.new disk.old disk.new file.old file.new
@@ -107,6 +109,7 @@ pub fn session<W: Wire, D: MaildirDisk, F: FlatFile, H: BuildHasher>(
     wire: &mut W,
     now: u64,
 ) -> Report
+    ensures counted { RefusesByOutcome (W.seen wire.old) result.outcome (W.seen wire.new) }
     ensures settings { account.new.settings ≡ account.old.settings }
     ensures session { WhereAllSound W.sound W.leads_to D.sound F.sound wire.old wire.new account.old.disk account.new.disk account.old.file account.new.file
         (Session account.old.settings (digits_of account.old.settings) now (W.seen wire.old) (kept (D.maildir account.old.disk) (F.stored account.old.file))

@@ -1,10 +1,11 @@
 //! The beginning of a session: logging in, and what is there.
 ghost use Rattle.std.specs.Prelude.{◌≡◌, All, IfOk};
 ghost use Rattle.std.specs.String.{string_bytes};
-ghost use Rattle.pop3_wire.specs.Link.{WhereSound};
+ghost use Rattle.pop3_wire.specs.Link.{CountsRefusal, WhereSound};
 ghost use Rattle.pop3_wire.specs.Place.{at};
 ghost use Rattle.mail_terms.specs.UniqueId.{IsLegalId};
 ghost use Rattle.rc_file.specs.Settings.{IsValid};
+ghost use Rattle.pop3_client.specs.Conversation.{is_refusal};
 ghost use Rattle.fetch_session.specs.Opening.{Enters};
 
 use fetch_rules::Settings;
@@ -21,6 +22,7 @@ pub(crate) fn enter<W: Wire>(
     reader: &mut LineReader,
 ) -> Result<Listing, TalkFault>
     requires { IsValid settings.now }
+    ensures counted { CountsRefusal is_refusal (W.seen wire.old) result (W.seen wire.new) }
     ensures legal { IfOk result (λ listing. All (λ item. IsLegalId item.uid) listing) }
     ensures enters { WhereSound W.sound W.leads_to wire.old wire.new
         (Enters (string_bytes settings.now.username) (string_bytes settings.now.password)

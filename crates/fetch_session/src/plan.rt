@@ -7,6 +7,7 @@ ghost use Rattle.mail_store.specs.FileName.{IsAccountText};
 ghost use Rattle.fetch_session.specs.Scene.{WhereAllSound};
 ghost use Rattle.fetch_session.specs.Intake.{TakesWithTail, message_limit, tail_limit};
 ghost use Rattle.fetch_session.specs.Plan.{Carries};
+ghost use Rattle.fetch_session.specs.Refusal.{RefusesTillCut};
 ghost use Rattle.fetch_session.specs.Report.{HasRoom, Adds};
 
 use crate::fault::{Cut, plain, told};
@@ -42,6 +43,7 @@ pub fn carry_out<W: Wire, D: MaildirDisk, F: FlatFile, H: BuildHasher>(
     requires legal { AllByRecursion (λ item. IsLegalId item.uid) listing.now }
     requires none_skipped { skipped.old ≡ 0 }
     requires few { length listing.now ≤ 100000 }
+    ensures counted { RefusesTillCut (W.seen wire.old) result (W.seen wire.new) }
     ensures few { Adds lines.old (2 * length listing.now) lines.new }
     ensures calm { D.sound disk.new → D.sound disk.old × ((D.maildir disk.new).begun ≡ None) }
     ensures carries { WhereAllSound W.sound W.leads_to D.sound F.sound wire.old wire.new disk.old disk.new file.old file.new

@@ -11,6 +11,7 @@ ghost use Rattle.mail_store.specs.FlatFile.{Stored};
 ghost use Rattle.fetch_session.specs.Store.{Grows, GrowsBy};
 ghost use Rattle.fetch_session.specs.Task.{stores, rereads, fetching, deleting, tasks_in, tasks_planned, ids_ahead, AreFresh};
 ghost use Rattle.fetch_session.specs.Record.{Steady};
+ghost use Rattle.fetch_session.specs.Refusal.{RefusesTillCut};
 ghost use Rattle.fetch_session.specs.Report.{HasRoom, Adds};
 ghost use Rattle.fetch_session.specs.Scene.{scene, TakesTask, Does, WhereAllSound};
 ghost use Rattle.fetch_session.specs.Intake.{Takes, message_limit};
@@ -48,6 +49,7 @@ pub fn take<W: Wire, D: MaildirDisk, F: FlatFile, H: BuildHasher>(
     requires steady { F.sound file.old → Steady (F.stored file.old).content seen.old.rows }
     requires calm { D.sound disk.old → (D.maildir disk.old).begun ≡ None }
     requires free { D.sound disk.old → is_held account.now (D.maildir disk.old) uid.now ≡ false }
+    ensures counted { RefusesTillCut (W.seen wire.old) result (W.seen wire.new) }
     ensures few { Adds lines.old 1 lines.new }
     ensures steady { F.sound file.new → F.sound file.old × OnOk result (Steady (F.stored file.new).content seen.new.rows) }
     ensures grows { D.sound disk.new → D.sound disk.old
@@ -89,6 +91,7 @@ fn reread<W: Wire>(
     number: u32,
 ) -> Result<(), Cut>
     requires room { HasRoom lines.old 1 }
+    ensures counted { RefusesTillCut (W.seen wire.old) result (W.seen wire.new) }
     ensures few { Adds lines.old 1 lines.new }
     ensures rereads { (account uid : List ℕ) (maildir : Maildir) (file : Stored) (rows : List Row)
         → WhereSound W.sound W.leads_to wire.old wire.new
@@ -122,6 +125,7 @@ fn delete_if<W: Wire>(
     number: u32,
 ) -> Result<(), Cut>
     requires room { HasRoom lines.old 1 }
+    ensures counted { RefusesTillCut (W.seen wire.old) result (W.seen wire.new) }
     ensures few { Adds lines.old 1 lines.new }
     ensures deletes { (account : List ℕ) (maildir : Maildir) (file : Stored) (rows : List Row)
         → WhereSound W.sound W.leads_to wire.old wire.new
@@ -165,6 +169,7 @@ fn fetch_if<W: Wire, D: MaildirDisk, F: FlatFile, H: BuildHasher>(
     requires steady { F.sound file.old → Steady (F.stored file.old).content seen.old.rows }
     requires calm { D.sound disk.old → (D.maildir disk.old).begun ≡ None }
     requires free { D.sound disk.old → AreFresh account.now (D.maildir disk.old) (ids_ahead (fetching step.retrieve held step.number uid.now size)) }
+    ensures counted { RefusesTillCut (W.seen wire.old) result (W.seen wire.new) }
     ensures few { Adds lines.old 1 lines.new }
     ensures steady { F.sound file.new → F.sound file.old × OnOk result (Steady (F.stored file.new).content seen.new.rows) }
     ensures grows { D.sound disk.new → D.sound disk.old
@@ -210,6 +215,7 @@ fn do_step<W: Wire, D: MaildirDisk, F: FlatFile, H: BuildHasher>(
     requires steady { F.sound file.old → Steady (F.stored file.old).content seen.old.rows }
     requires calm { D.sound disk.old → (D.maildir disk.old).begun ≡ None }
     requires free { D.sound disk.old → AreFresh account.now (D.maildir disk.old) (ids_ahead (fetching step.retrieve held step.number uid.now size)) }
+    ensures counted { RefusesTillCut (W.seen wire.old) result (W.seen wire.new) }
     ensures few { Adds lines.old 2 lines.new }
     ensures steady { F.sound file.new → F.sound file.old × OnOk result (Steady (F.stored file.new).content seen.new.rows) }
     ensures grows { D.sound disk.new → D.sound disk.old
@@ -250,6 +256,7 @@ pub fn do_steps<W: Wire, D: MaildirDisk, F: FlatFile, H: BuildHasher>(
     requires steady { F.sound file.old → Steady (F.stored file.old).content seen.old.rows }
     requires calm { D.sound disk.old → (D.maildir disk.old).begun ≡ None }
     requires free { D.sound disk.old → AreFresh account.now (D.maildir disk.old) (ids_ahead (tasks_planned steps.now listing.now held.now)) }
+    ensures counted { RefusesTillCut (W.seen wire.old) result (W.seen wire.new) }
     ensures few { Adds lines.old (2 * length listing.now) lines.new }
     ensures calm { D.sound disk.new → D.sound disk.old × ((D.maildir disk.new).begun ≡ None) }
     ensures does { WhereAllSound W.sound W.leads_to D.sound F.sound wire.old wire.new disk.old disk.new file.old file.new

@@ -1,11 +1,13 @@
 //! How a text is taken: stored, or passed over where it is held already.
 ghost use Rattle.std.specs.Prelude.{◌≡◌, ◌≢◌, ◌≤◌, ℕ, List, [], None, IsSome, Some};
-ghost use Rattle.pop3_wire.specs.Link.{WhereSound};
+ghost use Rattle.pop3_wire.specs.Link.{CountsRefusal, WhereSound};
 ghost use Rattle.pop3_wire.specs.Place.{Place, at};
 ghost use Rattle.pop3_wire.specs.declared.unstuffer.Spot.TheVariants.{Done};
 ghost use Rattle.pop3_client.specs.Turns.{retr};
 ghost use Rattle.pop3_client.specs.Texts.{Fetching};
 ghost use Rattle.mail_store.specs.Maildir.{File, IsInNew, file};
+ghost use Rattle.pop3_client.specs.Conversation.{is_refusal};
+ghost use Rattle.fetch_session.specs.Refusal.{RefusesTillCut};
 ghost use Rattle.fetch_session.specs.Store.{Starts, Puts, Ends, StoresText, ReadsText, PassesText};
 
 use crate::fault::{Cut, Fault, Why, plain, told};
@@ -71,6 +73,7 @@ pub(crate) fn store_text<W: Wire, D: MaildirDisk>(
     requires within { body.left ≤ 268435456 }
     requires calm { D.sound disk.old → (D.maildir disk.old).begun ≡ None }
     requires not_there { D.sound disk.old → IsInNew (D.maildir disk.old) name.now → ⊥ }
+    ensures counted { RefusesTillCut (W.seen wire.old) result (W.seen wire.new) }
     ensures stores { D.sound disk.new → D.sound disk.old
         × ((text : List ℕ) × StoresText name.now (D.maildir disk.old) text result (D.maildir disk.new)
         × WhereSound W.sound W.leads_to wire.old wire.new
@@ -124,6 +127,7 @@ pub(crate) fn pass_text<W: Wire>(
 ) -> Result<u64, TalkFault>
     requires open { body.spot ≢ Done }
     requires within { body.left ≤ 268435456 }
+    ensures counted { CountsRefusal is_refusal (W.seen wire.old) result (W.seen wire.new) }
     ensures passes { WhereSound W.sound W.leads_to wire.old wire.new
         ((number : ℕ) (start : Place) → Fetching (retr number) start (at (W.seen wire.old) reader.old) body []
         → PassesText number start result (at (W.seen wire.new) reader.new)) }

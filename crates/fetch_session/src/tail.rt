@@ -1,8 +1,9 @@
 //! What is said after a fault.
-ghost use Rattle.std.specs.Prelude.{◌≡◌};
-ghost use Rattle.pop3_wire.specs.Link.{WhereSound};
+ghost use Rattle.std.specs.Prelude.{◌≡◌, None, Ok};
+ghost use Rattle.pop3_wire.specs.Link.{CountsRefusal, WhereSound};
 ghost use Rattle.pop3_wire.specs.Place.{at};
-ghost use Rattle.pop3_client.specs.Conversation.{Talks};
+ghost use Rattle.pop3_client.specs.Conversation.{Talks, is_refusal};
+ghost use Rattle.fetch_session.specs.Refusal.{RefusesNone, RefusesAtMostOne};
 ghost use Rattle.fetch_session.specs.Tail.{turns_in, tail, Drops, Left};
 
 use crate::fault::{Cut, Fault};
@@ -31,6 +32,8 @@ fn tail_of(fault: Fault) -> Tail
 }
 
 fn say_tail<W: Wire>(wire: &mut W, reader: &mut LineReader, kind: Tail) -> Result<(), TalkFault>
+    ensures counted { CountsRefusal is_refusal (W.seen wire.old) result (W.seen wire.new) }
+    ensures nothing { kind ≡ Tail.Nothing → result ≡ Ok tt }
     ensures talks { WhereSound W.sound W.leads_to wire.old wire.new
         (Talks (turns_in kind) (at (W.seen wire.old) reader.old) result (at (W.seen wire.new) reader.new)) }
 {
@@ -47,6 +50,8 @@ fn drop_under_way<W: Wire>(
     reader: &mut LineReader,
     rest: Option<BodyReader>,
 ) -> Result<(), TalkFault>
+    ensures counted { CountsRefusal is_refusal (W.seen wire.old) result (W.seen wire.new) }
+    ensures nothing { rest ≡ None → result ≡ Ok tt }
     ensures drops { WhereSound W.sound W.leads_to wire.old wire.new
         (Drops rest (at (W.seen wire.old) reader.old) result (at (W.seen wire.new) reader.new)) }
 {
@@ -59,6 +64,8 @@ fn drop_under_way<W: Wire>(
 /// Ends a session after a cut: the reply under way is dropped, and then what belongs behind the
 /// fault is said.
 pub fn leave<W: Wire>(wire: &mut W, reader: &mut LineReader, cut: Cut)
+    ensures counted { RefusesAtMostOne (W.seen wire.old) (W.seen wire.new) }
+    ensures silent { cut.rest ≡ None → tail cut.fault ≡ Tail.Nothing → RefusesNone (W.seen wire.old) (W.seen wire.new) }
     ensures leaves { WhereSound W.sound W.leads_to wire.old wire.new
         (Left cut (at (W.seen wire.old) reader.old) (at (W.seen wire.new) reader.new)) }
 {

@@ -1,10 +1,12 @@
 -- A session's commands are such as a server answers honestly.
-use Rattle.std.proofs.Common.{◌≡◌, inl, inr, ◌⊎◌, ℕ, suc, Option, Some, List, [], ◌∷◌, ◌++◌, Bool, true, false, refl, sym, ap, subst, ◌∙◌}
+use Rattle.std.proofs.Common.{◌≡◌, inl, inr, ◌⊎◌, ℕ, suc, Option, Some, List, [], ◌∷◌, ◌++◌, Bool, true, false, refl, sym, ap, subst, ◌∙◌, ◌<◌, arith}
 use Rattle.std.specs.String.{string_bytes}
 use Rattle.std.specs.List.{flat_map, AllByRecursion}
 use Rattle.pop3_wire.specs.declared.command.Command.{Command}
 use Rattle.pop3_wire.specs.declared.command.Command.TheVariants.{Retr, Dele, Quit}
 use Rattle.pop3_wire.specs.Line.{ended}
+use Rattle.mail_terms.specs.FailureCount.{counted_up, greatest_count}
+use Rattle.pop3_wire.specs.Link.{Link}
 use Rattle.pop3_wire.specs.Commands.{line_of, can_be_sent}
 use Rattle.pop3_wire.specs.CommandLine.{HasNumbers}
 use Rattle.pop3_wire.specs.Honest.{Asked}
@@ -14,6 +16,9 @@ use Rattle.rc_file.specs.Settings.{IsValid}
 use Rattle.rc_file.specs.declared.settings.Settings.{Settings}
 use Rattle.fetch_rules.specs.Plan.{planned}
 use Rattle.fetch_rules.specs.declared.steps.Step.{Step}
+use Rattle.fetch_session.specs.declared.report.Outcome.{Outcome}
+use Rattle.fetch_session.specs.declared.report.Outcome.TheVariants.{Ended, Cut as WasCut}
+use Rattle.fetch_session.specs.Refusal.{RefusesByOutcome}
 use Rattle.fetch_session.specs.declared.report.Report.{Report}
 use Rattle.fetch_session.specs.Session.{Kept, Session}
 use Rattle.fetch_runs.specs.Conversations.{Opens, SpeaksByPlan, SessionsAreConversations}
@@ -70,6 +75,14 @@ are_asked name word steps commands sent front asked = each_asked commands (of_se
 pub lines_same : (commands : List Command) → flat_map ended (lines_of commands) ≡ flat_map (λ (command : Command). ended (line_of command)) commands
 lines_same [] = refl
 lines_same (c ∷ commands) = ap (λ (l : List ℕ). ended (line_of c) ++ l) (lines_same commands)
+
+-- ---- refused calls
+
+-- at most one of a new link's calls is refused in a session
+pub few_refused : (old new : Link) (outcome : Outcome) → old.failures ≡ 0 → RefusesByOutcome old outcome new → new.failures < greatest_count
+few_refused old new Ended none same = omega (arith, same, none)
+few_refused old new (WasCut fault) none (inl same) = omega (arith, same, none)
+few_refused old new (WasCut fault) none (inr up) = let one : new.failures ≡ 1 = up ∙ ap counted_up none in omega arith
 
 -- ---- what vanished
 

@@ -1,7 +1,6 @@
 //! One session of an account over a server in memory.
-ghost use Rattle.std.specs.Prelude.{◌≡◌, ◌<◌};
+ghost use Rattle.std.specs.Prelude.{◌≡◌};
 ghost use Rattle.std.specs.List.{AllByRecursion};
-ghost use Rattle.mail_terms.specs.FailureCount.{greatest_count};
 ghost use Rattle.pop3_wire.specs.World.{IsMessage};
 ghost use Rattle.pop3_server.specs.Maildrop.{there};
 ghost use Rattle.pop3_server.specs.HonestLoop.{IsNew};
@@ -29,7 +28,7 @@ pub fn fetch_local<D: MaildirDisk, F: FlatFile, H: BuildHasher, M: Maildrop>(
 ) -> (Report, LoopWire<M>)
     requires new { IsNew (loop_to server) }
     ensures settings { account.new.settings ≡ account.old.settings }
-    ensures fetches { result.1.link.failures < greatest_count → D.sound account.new.disk → F.sound account.new.file → M.sound result.1.machine.drop
+    ensures fetches { D.sound account.new.disk → F.sound account.new.file → M.sound result.1.machine.drop
         → AllByRecursion IsMessage (there (M.mail server.drop).slots)
         → D.sound account.old.disk × F.sound account.old.file
         × FetchesFrom M.mail account.old.settings (digits_of account.old.settings) now server result.1.machine result.1.link

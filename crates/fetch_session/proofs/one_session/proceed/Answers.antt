@@ -1,9 +1,10 @@
-use Rattle.std.proofs.Common.{◌+◌, ◌*◌, length, Ok, Err, arith, ◌∙◌}
+use Rattle.std.proofs.Common.{◌+◌, ◌*◌, length, Ok, Err, arith, ◌∙◌, inl}
 use Rattle.pop3_wire.specs.Place.{at}
 use Rattle.fetch_session.specs.declared.fault.Fault.TheVariants.{NoMemory}
 use Rattle.fetch_session.specs.Session.{noted, kept}
 use Rattle.fetch_session.proofs.SessionLemmas.{dealt}
 use Rattle.fetch_session.proofs.IntakeLemmas.{takes_plain, took_entering, with_any_tail, with_tail_on, with_tail_less}
+use Rattle.fetch_session.proofs.RefusalLemmas.{cut_by, till_cut}
 use Rattle.fetch_session.proofs.one_session.proceed.Goals as goal
 
 pub returns-clause-proceeds : goal.returns-clause-proceeds
@@ -55,3 +56,12 @@ returns-clause-took g c = λ w.
       with_tail_less (409616384 + (n * 268439552 + 4096)) (409616384 + (c.len-notes.result * 268439552 + 4096)) old new c.carry_out.result (omega (arith, c.len-notes.ensures.count))
           (with_tail_on 409616384 (n * 268439552 + 4096) old mid new c.carry_out.result (took_entering c.conversations_are_paced.ensures _ _ old mid (Ok c.in-Ok.listing) entered.2) does.1),
     )
+
+pub returns-in-Err-clause-counted : goal.returns-in-Err-clause-counted
+returns-in-Err-clause-counted g c = cut_by c.in-Err.fault c.told.result c.plain.result (g.W.Wire.seen c.args.wire.now) (g.W.Wire.seen c.enter.new.wire) c.plain.ensures c.told.ensures c.in-Err.ensures.counted
+
+pub returns-in-Err-reserve-clause-counted : goal.returns-in-Err-reserve-clause-counted
+returns-in-Err-reserve-clause-counted g c = inl c.in-Ok.ensures.counted
+
+pub returns-clause-counted : goal.returns-clause-counted
+returns-clause-counted g c = till_cut (g.W.Wire.seen c.args.wire.now) (g.W.Wire.seen c.enter.new.wire) (g.W.Wire.seen c.carry_out.new.wire) c.carry_out.result c.in-Ok.ensures.counted c.carry_out.ensures.counted

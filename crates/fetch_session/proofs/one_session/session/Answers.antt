@@ -1,10 +1,13 @@
 use Rattle.std.proofs.Common.{◌≤◌, ◌+◌, ◌*◌, ℕ, List, length, Err, sym, subst}
 use Rattle.pop3_wire.specs.Place.{at}
 use Rattle.fetch_session.specs.Account.{digits_of}
+use Rattle.fetch_session.specs.declared.report.Outcome.{Outcome}
+use Rattle.fetch_session.specs.Refusal.{RefusesByOutcome}
 use Rattle.fetch_session.specs.Intake.{GotAtMost, session_limit, Took, TakesWithTail, opening_limit, message_limit, tail_limit}
 use Rattle.fetch_session.specs.Session.{noted, kept, Session}
 use Rattle.fetch_session.proofs.IntakeLemmas.{cut_within, ended_within}
 use Rattle.fetch_session.proofs.SessionLemmas.{cut_session, ended_session}
+use Rattle.fetch_session.proofs.RefusalLemmas.{left_alone}
 use Rattle.fetch_session.proofs.one_session.session.Goals as goal
 
 pub returns-in-Err-clause-session : goal.returns-in-Err-clause-session
@@ -69,3 +72,10 @@ returns-clause-bounded g c = λ w.
     subst (λ (n : ℕ). GotAtMost (session_limit n) link mid.link) (sym c.tell-2.ensures.total_is)
     (ended_within n link mid (subst (λ (r : List ℕ). Took (opening_limit + (n * message_limit + tail_limit)) (at link r) mid) c.new-reader.ensures took.1)
     (subst (λ (r : List ℕ). length r ≤ 4096) c.waiting-2.ensures.value c.waiting-2.ensures.short))
+
+pub returns-in-Err-clause-counted : goal.returns-in-Err-clause-counted
+returns-in-Err-clause-counted g c =
+    left_alone c.in-Err.cut (g.W.Wire.seen c.args.wire.now) (g.W.Wire.seen c.proceed.new.wire) (g.W.Wire.seen c.leave.new.wire) c.tell.result.outcome c.tell.ensures.outcome_is c.in-Err.ensures.counted c.leave.ensures.counted c.leave.ensures.silent
+
+pub returns-clause-counted : goal.returns-clause-counted
+returns-clause-counted g c = subst (λ (o : Outcome). RefusesByOutcome (g.W.Wire.seen c.args.wire.now) o (g.W.Wire.seen c.proceed.new.wire)) (sym c.tell-2.ensures.outcome_is) c.in_default.ensures.counted

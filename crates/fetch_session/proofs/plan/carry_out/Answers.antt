@@ -1,4 +1,4 @@
-use Rattle.std.proofs.Common.{◌+◌, ◌*◌, List, [], Bool, inl, inr, arith, length, Err, sym, ap, subst, ◌∙◌}
+use Rattle.std.proofs.Common.{◌+◌, ◌*◌, List, [], Bool, inl, inr, arith, length, Err, sym, ap, subst, ◌∙◌, refl}
 use Rattle.pop3_wire.specs.Place.{at}
 use Rattle.fetch_rules.specs.Plan.{planned}
 use Rattle.fetch_rules.specs.declared.steps.Step.{Step}
@@ -9,6 +9,7 @@ use Rattle.fetch_session.specs.Scene.{scene}
 use Rattle.fetch_session.proofs.PlanLemmas.{fresh_firsts}
 use Rattle.fetch_session.proofs.CarryLemmas.{unprepared, carry_fell, carry_quit, carry_broke}
 use Rattle.fetch_session.proofs.IntakeLemmas.{takes_plain, took_nothing, took_less, took_on, with_any_tail, with_tail_on, with_tail_less, quit_told, quit_broke}
+use Rattle.fetch_session.proofs.RefusalLemmas.{before_cut, cut_by}
 use Rattle.fetch_session.proofs.plan.carry_out.Goals as goal
 
 pub returns-in-Err-clause-carries : goal.returns-in-Err-clause-carries
@@ -118,3 +119,16 @@ returns-clause-took g c = λ w.
       with_tail_less (most + 2048) (most + 4096) old new (Err cut) (omega arith) (with_tail_on most 2048 old mid new (Err cut) done.1
           (quit_broke c.conversations_are_paced.ensures mid new c.in-Err-quit.fault c.told.result cut tells.2 c.told.ensures c.plain-in-Err-quit.ensures)),
     )
+
+-- ---- refused calls of the link
+
+pub returns-in-Err-clause-counted : goal.returns-in-Err-clause-counted
+returns-in-Err-clause-counted g c = inl refl
+
+pub returns-in-Ok-quit-clause-counted : goal.returns-in-Ok-quit-clause-counted
+returns-in-Ok-quit-clause-counted g c = c.in-Ok-quit.ensures.counted ∙ c.in_default.ensures.counted
+
+pub returns-clause-counted : goal.returns-clause-counted
+returns-clause-counted g c =
+    before_cut (g.W.Wire.seen c.args.wire.now) (g.W.Wire.seen c.do_steps.new.wire) (g.W.Wire.seen c.quit.new.wire) c.plain-in-Err-quit.result c.in_default.ensures.counted
+    (cut_by c.in-Err-quit.fault c.told.result c.plain-in-Err-quit.result (g.W.Wire.seen c.do_steps.new.wire) (g.W.Wire.seen c.quit.new.wire) c.plain-in-Err-quit.ensures c.told.ensures c.in-Err-quit.ensures.counted)

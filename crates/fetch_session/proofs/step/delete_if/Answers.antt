@@ -6,6 +6,7 @@ use Rattle.fetch_session.specs.Scene.{scene, AllWent, Fell}
 use Rattle.fetch_session.proofs.SceneLemmas.{all_none, fell_first}
 use Rattle.fetch_session.proofs.TakeLemmas.{deleted, no_deletes, one_delete, text_broken}
 use Rattle.fetch_session.proofs.IntakeLemmas.{takes_plain, took_nothing, took_less, took_deleting}
+use Rattle.fetch_session.proofs.RefusalLemmas.{cut_by}
 use Rattle.fetch_session.proofs.step.delete_if.Goals as goal
 
 pub returns-then-not-wanted-clause-deletes : goal.returns-then-not-wanted-clause-deletes
@@ -55,3 +56,6 @@ returns-in-Err-clause-took g c = λ w.
     let old = at (g.W.Wire.seen c.args.wire.now) c.args.reader.now in
     let new = at (g.W.Wire.seen c.delete.new.wire) c.delete.new.reader in
     (tells.0, takes_plain 2048 old new c.told.result c.plain.result c.plain.ensures (took_deleting c.conversations_are_paced.ensures c.args.number old new (Err c.in-Err.fault) tells.2))
+
+pub returns-in-Err-clause-counted : goal.returns-in-Err-clause-counted
+returns-in-Err-clause-counted g c = cut_by c.in-Err.fault c.told.result c.plain.result (g.W.Wire.seen c.args.wire.now) (g.W.Wire.seen c.delete.new.wire) c.plain.ensures c.told.ensures c.in-Err.ensures.counted

@@ -4,6 +4,7 @@ use Rattle.fetch_session.specs.Task.{fetching, deleting}
 use Rattle.fetch_session.specs.Scene.{scene}
 use Rattle.fetch_session.proofs.SceneLemmas.{does_more}
 use Rattle.fetch_session.proofs.IntakeLemmas.{takes_on, takes_less}
+use Rattle.fetch_session.proofs.RefusalLemmas.{till_cut}
 use Rattle.fetch_session.proofs.step.do_step.Goals as goal
 
 pub returns-clause-does : goal.returns-clause-does
@@ -32,3 +33,6 @@ returns-clause-took g c = λ w.
     let deletes = c.delete_if.ensures.took w in
     let fetches = c.in_default.ensures.took deletes.0 in
     (fetches.0, takes_on 268437504 2048 (at (g.W.Wire.seen c.args.wire.now) c.args.reader.now) (at (g.W.Wire.seen c.fetch_if.new.wire) c.fetch_if.new.reader) (at (g.W.Wire.seen c.delete_if.new.wire) c.delete_if.new.reader) c.delete_if.result fetches.1 deletes.1)
+
+pub returns-clause-counted : goal.returns-clause-counted
+returns-clause-counted g c = till_cut (g.W.Wire.seen c.args.wire.now) (g.W.Wire.seen c.fetch_if.new.wire) (g.W.Wire.seen c.delete_if.new.wire) c.delete_if.result c.in_default.ensures.counted c.delete_if.ensures.counted

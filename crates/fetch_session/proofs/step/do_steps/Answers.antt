@@ -1,4 +1,4 @@
-use Rattle.std.proofs.Common.{◌<◌, ◌+◌, ◌*◌, List, Bool, false, length, drop, get_or, Err, ap, subst, arith}
+use Rattle.std.proofs.Common.{◌<◌, ◌+◌, ◌*◌, List, Bool, false, length, drop, get_or, Err, ap, subst, arith, refl, ◌∙◌}
 use Rattle.std.proofs.lemmas.List.{drop_all}
 use Rattle.pop3_wire.specs.Place.{at}
 use Rattle.mail_terms.specs.Listing.{Item}
@@ -8,6 +8,7 @@ use Rattle.fetch_session.proofs.SceneLemmas.{leads_start, leads_on, leads_fell, 
 use Rattle.fetch_session.proofs.FreshLemmas.{fresh_step, fresh_later, grows_calm, tasks_left, no_item}
 use Rattle.fetch_session.proofs.ReportLemmas.{adds_on}
 use Rattle.fetch_session.proofs.IntakeLemmas.{took_on, took_less, took_nothing, takes_on, takes_less}
+use Rattle.fetch_session.proofs.RefusalLemmas.{before_cut}
 use Rattle.fetch_session.proofs.step.do_steps.Goals as goal
 
 pub do_step-requires-clause-free : goal.do_step-requires-clause-free
@@ -60,6 +61,7 @@ loop-i-init g c = (
   λ d. (d, c.requires.calm d, c.requires.free d),
   λ w d f. (w, d, f, g.met.W.Wire.leads_same c.args.wire.now, leads_start _ _ _),
   λ w. (w, took_nothing _),
+  refl,
 )
 
 pub loop-i-preserved : goal.loop-i-preserved
@@ -104,6 +106,7 @@ loop-i-preserved g c =
           let old = at (g.W.Wire.seen c.args.wire.now) c.args.reader.now in
           let new = at (g.W.Wire.seen c.do_step.new.wire) c.do_step.new.reader in
           (inv.0, took_less (i * 268439552 + 268439552) ((i + 1) * 268439552) old new (omega arith) (took_on (i * 268439552) 268439552 old (at (g.W.Wire.seen c.loop-i.wire) c.loop-i.reader) new inv.1 done.1)),
+      c.in_default.ensures.counted ∙ c.loop-i.invariant.5,
     )
 
 pub returns-clause-does : goal.returns-clause-does
@@ -132,3 +135,6 @@ returns-clause-took g c = λ w.
     let i = c.loop-i.i in
     let inv = c.loop-i.invariant.4 w in
     (inv.0, took_less (i * 268439552) (length c.args.listing.now * 268439552) (at (g.W.Wire.seen c.args.wire.now) c.args.reader.now) (at (g.W.Wire.seen c.loop-i.wire) c.loop-i.reader) (omega arith) inv.1)
+
+pub returns-in-Err-clause-counted : goal.returns-in-Err-clause-counted
+returns-in-Err-clause-counted g c = before_cut (g.W.Wire.seen c.args.wire.now) (g.W.Wire.seen c.loop-i.wire) (g.W.Wire.seen c.do_step.new.wire) c.in-Err.cut c.loop-i.invariant.5 c.in-Err.ensures.counted

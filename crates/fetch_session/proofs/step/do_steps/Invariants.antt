@@ -22,3 +22,4 @@ invariant-loop-i g l =
     (tasks_planned (drop l.i l.fn.steps) (drop l.i l.fn.listing) (drop l.i l.fn.held))
     (scene (at (g.W.Wire.seen l.wire) l.reader) (g.D.MaildirDisk.maildir l.disk) (g.F.FlatFile.stored l.file) l.seen.rows l.lines.items))
     × (g.W.Wire.sound l.wire → g.W.Wire.sound l.fn.wire × Took (l.i * 268439552) (at (g.W.Wire.seen l.fn.wire) l.fn.reader) (at (g.W.Wire.seen l.wire) l.reader))
+    × ((g.W.Wire.seen l.wire).failures ≡ (g.W.Wire.seen l.fn.wire).failures)

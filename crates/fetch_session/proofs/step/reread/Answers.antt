@@ -1,9 +1,10 @@
-use Rattle.std.proofs.Common.{Ok, Err, refl}
+use Rattle.std.proofs.Common.{Ok, Err, refl, ◌∙◌}
 use Rattle.pop3_wire.specs.Place.{at}
 use Rattle.pop3_client.specs.Turns.{retr}
 use Rattle.fetch_session.specs.Task.{rereads}
 use Rattle.fetch_session.proofs.TakeLemmas.{reread_taken, text_broken}
 use Rattle.fetch_session.proofs.IntakeLemmas.{takes_plain, took_retr, took_passing}
+use Rattle.fetch_session.proofs.RefusalLemmas.{before_cut, cut_by}
 use Rattle.fetch_session.proofs.step.reread.Goals as goal
 
 pub returns-in-Ok-pass_text-clause-rereads : goal.returns-in-Ok-pass_text-clause-rereads
@@ -49,3 +50,14 @@ returns-in-Err-pass_text-clause-took g c = λ w.
     let old = at (g.W.Wire.seen c.args.wire.now) c.args.reader.now in
     let new = at (g.W.Wire.seen c.pass_text.new.wire) c.pass_text.new.reader in
     (opened.0, takes_plain 268437504 old new c.told-in-Err-pass_text.result c.plain-in-Err-pass_text.result c.plain-in-Err-pass_text.ensures (took_passing c.conversations_are_paced.ensures c.args.number old (Err c.in-Err-pass_text.fault) new (passed.2 c.args.number old opened.2)))
+
+pub returns-in-Err-clause-counted : goal.returns-in-Err-clause-counted
+returns-in-Err-clause-counted g c = cut_by c.in-Err.fault c.told.result c.plain.result (g.W.Wire.seen c.args.wire.now) (g.W.Wire.seen c.open.new.wire) c.plain.ensures c.told.ensures c.in-Err.ensures.counted
+
+pub returns-in-Ok-pass_text-clause-counted : goal.returns-in-Ok-pass_text-clause-counted
+returns-in-Ok-pass_text-clause-counted g c = c.in-Ok-pass_text.ensures.counted ∙ c.in-Ok.ensures.counted
+
+pub returns-in-Err-pass_text-clause-counted : goal.returns-in-Err-pass_text-clause-counted
+returns-in-Err-pass_text-clause-counted g c =
+    before_cut (g.W.Wire.seen c.args.wire.now) (g.W.Wire.seen c.open.new.wire) (g.W.Wire.seen c.pass_text.new.wire) c.plain-in-Err-pass_text.result c.in-Ok.ensures.counted
+    (cut_by c.in-Err-pass_text.fault c.told-in-Err-pass_text.result c.plain-in-Err-pass_text.result (g.W.Wire.seen c.open.new.wire) (g.W.Wire.seen c.pass_text.new.wire) c.plain-in-Err-pass_text.ensures c.told-in-Err-pass_text.ensures c.in-Err-pass_text.ensures.counted)

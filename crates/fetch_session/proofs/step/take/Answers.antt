@@ -1,4 +1,4 @@
-use Rattle.std.proofs.Common.{List, ℕ, Ok, Err, arith, subst, ◌∙◌}
+use Rattle.std.proofs.Common.{List, ℕ, Ok, Err, arith, subst, ◌∙◌, inl, refl}
 use Rattle.pop3_wire.specs.Place.{at}
 use Rattle.mail_store.specs.Maildir.{IsInNew}
 use Rattle.fetch_session.specs.declared.fault.Fault.TheVariants.{NoMemory}
@@ -6,6 +6,7 @@ use Rattle.fetch_session.specs.Store.{Grows}
 use Rattle.fetch_session.proofs.StoreLemmas.{stores_grows}
 use Rattle.fetch_session.proofs.TakeLemmas.{text_wanting, text_stops, text_stored, text_not_saved}
 use Rattle.fetch_session.proofs.IntakeLemmas.{takes_plain, took_retr, took_nothing, took_less, takes_text, takes_stopped}
+use Rattle.fetch_session.proofs.RefusalLemmas.{before_cut, cut_by}
 use Rattle.fetch_session.proofs.step.take.Goals as goal
 
 pub returns-in-Err-clause-takes : goal.returns-in-Err-clause-takes
@@ -140,3 +141,21 @@ returns-clause-took g c = λ w.
     let new = at (g.W.Wire.seen c.store_text.new.wire) c.store_text.new.reader in
     let reads = link.1 c.args.number old opened.2 in
     (opened.0, takes_plain 268437504 old new c.in-Err-remember.fault c.plain-in-Err-remember.result c.plain-in-Err-remember.ensures (takes_text c.conversations_are_paced.ensures c.args.number old reads.0 c.in-Ok-store_text.length new reads.1))
+
+-- ---- refused calls of the link
+
+pub returns-in-Err-clause-counted : goal.returns-in-Err-clause-counted
+returns-in-Err-clause-counted g c = inl refl
+
+pub returns-in-Err-open-clause-counted : goal.returns-in-Err-open-clause-counted
+returns-in-Err-open-clause-counted g c =
+    cut_by c.in-Err-open.fault c.told.result c.plain-in-Err-open.result (g.W.Wire.seen c.args.wire.now) (g.W.Wire.seen c.open.new.wire) c.plain-in-Err-open.ensures c.told.ensures c.in-Err-open.ensures.counted
+
+pub returns-in-Err-store_text-clause-counted : goal.returns-in-Err-store_text-clause-counted
+returns-in-Err-store_text-clause-counted g c = before_cut (g.W.Wire.seen c.args.wire.now) (g.W.Wire.seen c.open.new.wire) (g.W.Wire.seen c.store_text.new.wire) c.in-Err-store_text.cut c.in-Ok-open.ensures.counted c.in-Err-store_text.ensures.counted
+
+pub returns-in-Ok-remember-clause-counted : goal.returns-in-Ok-remember-clause-counted
+returns-in-Ok-remember-clause-counted g c = c.in-Ok-store_text.ensures.counted ∙ c.in-Ok-open.ensures.counted
+
+pub returns-clause-counted : goal.returns-clause-counted
+returns-clause-counted g c = inl (c.in-Ok-store_text.ensures.counted ∙ c.in-Ok-open.ensures.counted)

@@ -1,32 +1,30 @@
-use Rattle.std.proofs.Common.{◌≡◌, ◌<◌, ◌++◌, length, take, arith, sym, ◌∙◌, ap}
+use Rattle.std.proofs.Common.{◌≡◌, ◌<◌, ◌++◌, ℕ, length, take, arith, sym, ◌∙◌, ap, subst}
+use Rattle.mail_terms.specs.FailureCount.{Tallies}
+use Rattle.pop3_client.specs.Conversation.{is_refusal}
 use Rattle.std.proofs.lemmas.Bool.{false≢true}
 use Rattle.fetch_session.proofs.StoreLemmas.{longer}
 use Rattle.fetch_session.proofs.storing.pass_text.Goals as goal
 
-pub returns-in-Err : goal.returns-in-Err
-returns-in-Err g c = record {
-  passes = λ w.
-      let took = c.in-Err.ensures.takes w in
-      let before = c.pieces.invariant.2 took.0 in (
-        before.0,
-        g.met.W.Wire.leads_on _ _ _ before.1 took.1,
-        λ number start now. let so_far = before.2 number start now in took.2 number start so_far.0 so_far.1,
-      );
-}
+pub returns-in-Err-clause-passes : goal.returns-in-Err-clause-passes
+returns-in-Err-clause-passes g c = λ w.
+    let took = c.in-Err.ensures.takes w in
+    let before = c.pieces.invariant.2 took.0 in (
+      before.0,
+      g.met.W.Wire.leads_on _ _ _ before.1 took.1,
+      λ number start now. let so_far = before.2 number start now in took.2 number start so_far.0 so_far.1,
+    )
 
-pub returns-then-piece : goal.returns-then-piece
-returns-then-piece g c = record {
-  passes = λ w.
-      let took = c.in-Ok.ensures.takes w in
-      let before = c.pieces.invariant.2 took.0 in (
-        before.0,
-        g.met.W.Wire.leads_on _ _ _ before.1 took.1,
-        λ number start now.
-            let so_far = before.2 number start now in
-            let whole = (took.2 number start so_far.0 so_far.1).1 c.if-piece.true in
-            (whole.0, whole.1, longer c.pieces.length c.in-Ok.piece.put so_far.0 c.next_piece.new.out so_far.2 c.in-Ok.ensures.fits ∙ ap length whole.2),
-      );
-}
+pub returns-then-piece-clause-passes : goal.returns-then-piece-clause-passes
+returns-then-piece-clause-passes g c = λ w.
+    let took = c.in-Ok.ensures.takes w in
+    let before = c.pieces.invariant.2 took.0 in (
+      before.0,
+      g.met.W.Wire.leads_on _ _ _ before.1 took.1,
+      λ number start now.
+          let so_far = before.2 number start now in
+          let whole = (took.2 number start so_far.0 so_far.1).1 c.if-piece.true in
+          (whole.0, whole.1, longer c.pieces.length c.in-Ok.piece.put so_far.0 c.next_piece.new.out so_far.2 c.in-Ok.ensures.fits ∙ ap length whole.2),
+    )
 
 pub pieces-preserved : goal.pieces-preserved
 pieces-preserved g c = (
@@ -43,4 +41,12 @@ pieces-preserved g c = (
             let so_far = before.2 number start now in
             (so_far.0 ++ take c.in-Ok.piece.put c.next_piece.new.out, (took.2 number start so_far.0 so_far.1).0, longer c.pieces.length c.in-Ok.piece.put so_far.0 c.next_piece.new.out so_far.2 c.in-Ok.ensures.fits),
       ),
+  c.in-Ok.ensures.counted ∙ c.pieces.invariant.3,
 )
+
+pub returns-in-Err-clause-counted : goal.returns-in-Err-clause-counted
+returns-in-Err-clause-counted g c =
+    subst (λ (n : ℕ). Tallies (is_refusal c.in-Err.fault) n (g.W.Wire.seen c.next_piece.new.wire).failures) c.pieces.invariant.3 c.in-Err.ensures.counted
+
+pub returns-then-piece-clause-counted : goal.returns-then-piece-clause-counted
+returns-then-piece-clause-counted g c = c.in-Ok.ensures.counted ∙ c.pieces.invariant.3

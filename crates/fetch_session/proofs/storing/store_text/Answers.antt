@@ -1,8 +1,9 @@
-use Rattle.std.proofs.Common.{◌≡◌, ◌<◌, [], ◌++◌, length, take, arith, sym, ap, subst, ◌∙◌}
+use Rattle.std.proofs.Common.{◌≡◌, ◌<◌, [], ◌++◌, length, take, arith, sym, ap, subst, ◌∙◌, inl, refl}
 use Rattle.std.proofs.lemmas.Bool.{false≢true}
 use Rattle.pop3_wire.specs.Place.{at}
 use Rattle.mail_store.specs.Maildir.{Maildir, file, IsInNew}
 use Rattle.fetch_session.proofs.StoreLemmas.{refused_start, stopped_store, stopped_read, refused_piece, put_on, settled, refused_end, longer}
+use Rattle.fetch_session.proofs.RefusalLemmas.{before_cut, cut_by}
 use Rattle.fetch_session.proofs.storing.store_text.Goals as goal
 
 pub returns-in-Err-clause-stores : goal.returns-in-Err-clause-stores
@@ -143,6 +144,7 @@ pieces-preserved g c = (
         before.0,
         λ number start now. let so_far = before.1 number start now in (_, (took.2 number start so_far.0 so_far.1).0),
       ),
+  c.in-Ok.ensures.counted ∙ c.pieces.invariant.4,
 )
 
 pub returns-in-Err-clause-reads : goal.returns-in-Err-clause-reads
@@ -181,3 +183,20 @@ returns-in-Err-settle_file-clause-reads g c = λ w.
       before.0,
       λ number start now. let so_far = before.1 number start now in let more = took.2 number start so_far.0 so_far.1 in (_, (more.0, λ done. more.1 c.if-piece.true)),
     )
+
+pub returns-in-Err-clause-counted : goal.returns-in-Err-clause-counted
+returns-in-Err-clause-counted g c = inl refl
+
+pub returns-in-Err-next_piece-clause-counted : goal.returns-in-Err-next_piece-clause-counted
+returns-in-Err-next_piece-clause-counted g c =
+    before_cut (g.W.Wire.seen c.args.wire.now) (g.W.Wire.seen c.pieces.wire) (g.W.Wire.seen c.next_piece.new.wire) c.plain.result c.pieces.invariant.4
+    (cut_by c.in-Err-next_piece.fault c.told.result c.plain.result (g.W.Wire.seen c.pieces.wire) (g.W.Wire.seen c.next_piece.new.wire) c.plain.ensures c.told.ensures c.in-Err-next_piece.ensures.counted)
+
+pub returns-in-Err-put_piece-clause-counted : goal.returns-in-Err-put_piece-clause-counted
+returns-in-Err-put_piece-clause-counted g c = inl (c.in-Ok.ensures.counted ∙ c.pieces.invariant.4)
+
+pub returns-in-Ok-settle_file-clause-counted : goal.returns-in-Ok-settle_file-clause-counted
+returns-in-Ok-settle_file-clause-counted g c = c.in-Ok.ensures.counted ∙ c.pieces.invariant.4
+
+pub returns-in-Err-settle_file-clause-counted : goal.returns-in-Err-settle_file-clause-counted
+returns-in-Err-settle_file-clause-counted g c = inl (c.in-Ok.ensures.counted ∙ c.pieces.invariant.4)

@@ -19,6 +19,7 @@ invariant-pieces g l =
     × (g.W.Wire.sound l.wire → g.W.Wire.sound l.fn.wire
     × ((number : ℕ) (start : Place) → Fetching (retr number) start (at (g.W.Wire.seen l.fn.wire) l.fn.reader) l.fn.body []
     → (text : List ℕ) × Fetching (retr number) start (at (g.W.Wire.seen l.wire) l.reader) l.rest text))
+    × ((g.W.Wire.seen l.wire).failures ≡ (g.W.Wire.seen l.fn.wire).failures)
 
 abbrev pub decreases-pieces : goal.decreases-pieces
 decreases-pieces g l = l.rest.left

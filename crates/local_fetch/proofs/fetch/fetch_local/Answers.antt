@@ -1,12 +1,14 @@
-use Rattle.std.proofs.Common.{refl, subst}
+use Rattle.std.proofs.Common.{refl, ap, subst}
 use Rattle.rc_file.specs.Settings.{IsValid}
+use Rattle.pop3_server.specs.LoopLink.{Loop}
 use Rattle.fetch_session.specs.Account.{digits_of}
 use Rattle.fetch_session.specs.Session.{kept}
-use Rattle.local_fetch.proofs.LocalLemmas.{fetches}
+use Rattle.local_fetch.proofs.LocalLemmas.{fetches, few_refused}
 use Rattle.local_fetch.proofs.fetch.fetch_local.Goals as goal
 
 pub returns-clause-fetches : goal.returns-clause-fetches
-returns-clause-fetches g c = λ small d f m messages.
+returns-clause-fetches g c = λ d f m messages.
+    let small = few_refused c.new-wire.result.link c.session-report.new.wire.link c.session-report.result.outcome (ap (λ (l : Loop _). l.link.failures) c.new-wire.ensures) c.session-report.ensures.counted in
     let went = c.session-report.ensures.session small d f in
     let account = c.args.account.now in (
       went.1,

@@ -1,0 +1,59 @@
+-- How many calls of its link are refused in a session.
+use Rattle.std.proofs.Common.{◌≡◌, inl, inr, Bool, true, false, None, Result, Ok, Err, refl, sym, ap, subst, ◌∙◌}
+use Rattle.mail_terms.specs.FailureCount.{Tallies, counted_up}
+use Rattle.pop3_wire.specs.Link.{Link}
+use Rattle.pop3_client.specs.declared.fault.Fault.{Fault as TalkFault}
+use Rattle.pop3_client.specs.declared.fault.Fault.TheVariants as Talk
+use Rattle.pop3_client.specs.Conversation.{is_refusal}
+use Rattle.fetch_session.specs.declared.fault.Fault.{Fault}
+use Rattle.fetch_session.specs.declared.fault.Cut.{Cut}
+use Rattle.fetch_session.specs.declared.report.Outcome.{Outcome}
+use Rattle.fetch_session.specs.declared.report.Outcome.TheVariants.{Cut as WasCut}
+use Rattle.fetch_session.specs.declared.tail.Tail.TheVariants.{Nothing}
+use Rattle.fetch_session.specs.Fault.{fault_of, cut_of}
+use Rattle.fetch_session.specs.Tail.{tail}
+use Rattle.fetch_session.specs.Refusal.{RefusesNone, RefusesAtMostOne, RefusesBefore, RefusesTillCut, RefusesByOutcome}
+
+pub at_most_one : (refused : Bool) (old new : Link) → Tallies refused old.failures new.failures → RefusesAtMostOne old new
+at_most_one true old new up = inr up
+at_most_one false old new same = inl same
+
+-- behind what went well
+pub then_at_most_one : (a b c : Link) → RefusesNone a b → RefusesAtMostOne b c → RefusesAtMostOne a c
+then_at_most_one a b c first (inl same) = inl (same ∙ first)
+then_at_most_one a b c first (inr up) = inr (up ∙ ap counted_up first)
+
+pub before_cut : (a b c : Link) (cut : Cut) → RefusesNone a b → RefusesBefore b cut c → RefusesBefore a cut c
+before_cut a b c cut first (inl same) = inl (same ∙ first)
+before_cut a b c cut first (inr (up, none, nothing)) = inr (up ∙ ap counted_up first, none, nothing)
+
+pub till_cut : (a b c : Link) (result : Result (Unit {0}) Cut) → RefusesNone a b → RefusesTillCut b result c → RefusesTillCut a result c
+till_cut a b c (Ok done) first same = same ∙ first
+till_cut a b c (Err cut) first then = before_cut a b c cut first then
+
+-- a fault of the conversation: behind a refused call nothing is said
+by_fault : (why : TalkFault) (old new : Link) → Tallies (is_refusal why) old.failures new.failures → RefusesBefore old (cut_of (fault_of why) None) new
+by_fault Talk.ConnectionEnded old new same = inl same
+by_fault Talk.ReadFailed old new up = inr (up, refl, refl)
+by_fault Talk.WriteFailed old new up = inr (up, refl, refl)
+by_fault Talk.ReplyTooLong old new same = inl same
+by_fault Talk.BadReply old new same = inl same
+by_fault (Talk.Refused to) old new same = inl same
+by_fault Talk.BadListing old new same = inl same
+by_fault Talk.ListingsDisagree old new same = inl same
+by_fault Talk.TooMany old new same = inl same
+by_fault Talk.TextTooLong old new same = inl same
+by_fault Talk.NoMemory old new same = inl same
+
+pub cut_by : (why : TalkFault) (fault : Fault) (cut : Cut) (old new : Link) → cut ≡ cut_of fault None → fault ≡ fault_of why → Tallies (is_refusal why) old.failures new.failures → RefusesBefore old cut new
+cut_by why fault cut old new plain is counts =
+    subst (λ (c : Cut). RefusesBefore old c new) (sym (plain ∙ ap (λ (f : Fault). cut_of f None) is)) (by_fault why old new counts)
+
+-- a session that was cut and left
+pub left_alone : (cut : Cut) (a b c : Link) (outcome : Outcome) → outcome ≡ WasCut cut.fault → RefusesBefore a cut b → RefusesAtMostOne b c → (cut.rest ≡ None → tail cut.fault ≡ Nothing → RefusesNone b c) → RefusesByOutcome a outcome c
+left_alone cut a b c outcome is before left silent =
+    subst (λ (o : Outcome). RefusesByOutcome a o c) (sym is)
+    (elim before [
+      | inl same ↦ then_at_most_one a b c same left
+      | inr (up, none, nothing) ↦ inr (silent none nothing ∙ up)
+    ])
