@@ -1,5 +1,5 @@
 -- What a merge makes of the rows.
-use Rattle.std.proofs.Common.{◌≡◌, ◌≢◌, ◌⊎◌, ℕ, ◌<◌, ◌≤◌, ◌+◌, List, [], ◌∷◌, ◌++◌, Bool, true, false, cond, ◌&&◌, ◌||◌, length, get_or, take, map, refl, sym, ◌∙◌, ap, subst, inl, inr, arith}
+use Rattle.std.proofs.Common.{◌≡◌, ◌≢◌, ◌⊎◌, ℕ, ◌<◌, ◌≤◌, ◌+◌, List, [], ◌∷◌, ◌++◌, Bool, true, false, cond, ◌&&◌, ◌||◌, not, length, get_or, take, map, refl, sym, ◌∙◌, ap, subst, inl, inr, arith}
 use Rattle.std.specs.Prelude.{bytes_eq, zip, count_by}
 use Rattle.std.specs.List.{list_any}
 use Rattle.std.specs.Bool.{OnTrue, OnFalse}
@@ -10,10 +10,11 @@ use Rattle.std.proofs.lemmas.Slice.Zip.{length-zip, get_or-zip}
 use Rattle.std.proofs.Math.Bool.{or_assoc, or-false}
 use Rattle.std.proofs.lemmas.Bool.{true≢false}
 use Rattle.fetch_rules.proofs.RecordLemmas.{with_delivered-false}
+use Rattle.fetch_rules.proofs.IdLemmas.{same_from_test}
 use Rattle.fetch_rules.proofs.IdSetLemmas.{bytes_eq_symm}
 use Rattle.mail_terms.specs.UniqueId.{has_id}
 use Rattle.mail_terms.specs.Listing.{Item}
-use Rattle.fetch_rules.specs.Record.{Row, IsRecord, is_of, with_delivered, marked, is_flagged, with_held, new_ids, undelivered, merged}
+use Rattle.fetch_rules.specs.Record.{Row, IsRecord, is_of, with_delivered, marked, is_delivered, is_flagged, with_held, new_ids, undelivered, merged}
 
 abbrev nobody : Item
 nobody = record { uid = []; size = 0 }
@@ -178,37 +179,85 @@ merged_from_steps rows listing held now added longer new added_is longer_is new_
     ∙ map-append (λ (row : Row). with_delivered (is_flagged listing held row.uid) row) rows (map (undelivered now) (new_ids rows listing))
     ∙ ap (λ (xs : List Row). with_held listing held rows ++ xs) (with_held-undelivered listing held now (new_ids rows listing))
 
--- a loop over the flagged items that collects the ids of those that are held
-abbrev pub HasHeld : List Item → List Bool → ℕ → List (List ℕ) → Type 0
-HasHeld listing held i ids = (uid : List ℕ) → has_id ids uid ≡ list_any (stands_for uid) (take i (zip listing held))
+-- a loop over the flagged items that collects the ids of those that are held and not delivered before
+abbrev pub HasHeldAnew : List Row → List Item → List Bool → ℕ → List (List ℕ) → Type 0
+HasHeldAnew rows listing held i ids = (uid : List ℕ) → has_id ids uid ≡ (list_any (stands_for uid) (take i (zip listing held)) && not (is_delivered rows uid))
 
 next_flagged : (listing : List Item) (held : List Bool) (i : ℕ) (uid : List ℕ) → length held ≡ length listing → i < length listing
     → list_any (stands_for uid) (take (i + 1) (zip listing held)) ≡ list_any (stands_for uid) (take i (zip listing held)) || stands_for uid (get_or listing i nobody, get_or held i false)
 next_flagged listing held i uid same inside = ap (list_any (stands_for uid)) (flagged_more listing held i nobody false same inside) ∙ any_more uid (take i (zip listing held)) (get_or listing i nobody, get_or held i false)
 
-pub HasHeld-held : (listing : List Item) (held : List Bool) (i : ℕ) (ids new : List (List ℕ)) (uid : List ℕ) → HasHeld listing held i ids → length held ≡ length listing → i < length listing
-    → get_or held i false ≡ true → ((d : Item) → uid ≡ (get_or listing i d).uid) → ((id : List ℕ) → has_id new id ≡ (bytes_eq id uid || has_id ids id)) → HasHeld listing held (i + 1) new
-HasHeld-held listing held i ids new uid were same inside is at added = λ id.
+pub HasHeldAnew-none : (rows : List Row) (listing : List Item) (held : List Bool) (ids : List (List ℕ)) → ((uid : List ℕ) → has_id ids uid ≡ false) → HasHeldAnew rows listing held 0 ids
+HasHeldAnew-none rows listing held ids none = none
+
+-- an item that is held and wasn't delivered before
+pub HasHeldAnew-held : (rows : List Row) (listing : List Item) (held : List Bool) (i : ℕ) (ids new : List (List ℕ)) (uid : List ℕ) → HasHeldAnew rows listing held i ids
+    → length held ≡ length listing → i < length listing → get_or held i false ≡ true → is_delivered rows uid ≡ false → ((d : Item) → uid ≡ (get_or listing i d).uid)
+    → ((id : List ℕ) → has_id new id ≡ (bytes_eq id uid || has_id ids id)) → HasHeldAnew rows listing held (i + 1) new
+HasHeldAnew-held rows listing held i ids new uid were same inside is fresh at added = λ id.
     added id
-    ∙ or_swap (bytes_eq id uid) (has_id ids id)
-    ∙ ap (λ (b : Bool). b || bytes_eq id uid) (were id)
-    ∙ ap (λ (b : Bool). list_any (stands_for id) (take i (zip listing held)) || b) (bytes_eq_symm id uid ∙ ap (λ (u : List ℕ). bytes_eq u id) (at nobody))
-    ∙ ap (λ (b : Bool). list_any (stands_for id) (take i (zip listing held)) || (b && bytes_eq (get_or listing i nobody).uid id)) (sym is)
-    ∙ sym (next_flagged listing held i id same inside)
+    ∙ ap (λ (b : Bool). bytes_eq id uid || b) (were id)
+    ∙ by id (bytes_eq id uid) refl
+    ∙ ap (λ (b : Bool). (list_any (stands_for id) (take i (zip listing held)) || b) && not (is_delivered rows id)) (here id)
+    ∙ ap (λ (b : Bool). b && not (is_delivered rows id)) (sym (next_flagged listing held i id same inside))
   where
-    or_swap : (a b : Bool) → (a || b) ≡ (b || a)
-    or_swap true true = refl
-    or_swap true false = refl
-    or_swap false true = refl
-    or_swap false false = refl
+    here : (id : List ℕ) → bytes_eq id uid ≡ stands_for id (get_or listing i nobody, get_or held i false)
+    here id =
+        bytes_eq_symm id uid ∙ ap (λ (u : List ℕ). bytes_eq u id) (at nobody)
+        ∙ ap (λ (b : Bool). b && bytes_eq (get_or listing i nobody).uid id) (sym is)
 
-pub HasHeld-free : (listing : List Item) (held : List Bool) (i : ℕ) (ids : List (List ℕ)) → HasHeld listing held i ids → length held ≡ length listing → i < length listing
-    → get_or held i false ≡ false → HasHeld listing held (i + 1) ids
-HasHeld-free listing held i ids were same inside is = λ id.
+    or_both : (old fresh : Bool) → fresh ≡ true → true ≡ ((old || true) && fresh)
+    or_both true fresh e = sym e
+    or_both false fresh e = sym e
+
+    by : (id : List ℕ) (found : Bool) → bytes_eq id uid ≡ found
+        → (found || (list_any (stands_for id) (take i (zip listing held)) && not (is_delivered rows id)))
+        ≡ ((list_any (stands_for id) (take i (zip listing held)) || found) && not (is_delivered rows id))
+    by id true found = or_both _ _ (ap (λ (u : List ℕ). not (is_delivered rows u)) (same_from_test id uid found) ∙ ap not fresh)
+    by id false found = ap (λ (b : Bool). b && not (is_delivered rows id)) (sym (or-false (list_any (stands_for id) (take i (zip listing held)))))
+
+-- an item that was delivered before
+pub HasHeldAnew-known : (rows : List Row) (listing : List Item) (held : List Bool) (i : ℕ) (ids : List (List ℕ)) (uid : List ℕ) → HasHeldAnew rows listing held i ids
+    → length held ≡ length listing → i < length listing → is_delivered rows uid ≡ true → ((d : Item) → uid ≡ (get_or listing i d).uid) → HasHeldAnew rows listing held (i + 1) ids
+HasHeldAnew-known rows listing held i ids uid were same inside known at = λ id.
     were id
-    ∙ sym (or-false (list_any (stands_for id) (take i (zip listing held))))
-    ∙ ap (λ (b : Bool). list_any (stands_for id) (take i (zip listing held)) || (b && bytes_eq (get_or listing i nobody).uid id)) (sym is)
-    ∙ sym (next_flagged listing held i id same inside)
+    ∙ by id (bytes_eq (get_or listing i nobody).uid id) refl (get_or held i false)
+    ∙ ap (λ (b : Bool). b && not (is_delivered rows id)) (sym (next_flagged listing held i id same inside))
+  where
+    by : (id : List ℕ) (found : Bool) → bytes_eq (get_or listing i nobody).uid id ≡ found → (flag : Bool)
+        → (list_any (stands_for id) (take i (zip listing held)) && not (is_delivered rows id))
+        ≡ ((list_any (stands_for id) (take i (zip listing held)) || (flag && bytes_eq (get_or listing i nobody).uid id)) && not (is_delivered rows id))
+    by id true found flag =
+        let known_too : not (is_delivered rows id) ≡ false =
+        ap (λ (u : List ℕ). not (is_delivered rows u)) (sym (at nobody ∙ same_from_test (get_or listing i nobody).uid id found)) ∙ ap not known in
+        ap (λ (b : Bool). list_any (stands_for id) (take i (zip listing held)) && b) known_too
+        ∙ neither (list_any (stands_for id) (take i (zip listing held))) (flag && bytes_eq (get_or listing i nobody).uid id)
+        ∙ ap (λ (b : Bool). (list_any (stands_for id) (take i (zip listing held)) || (flag && bytes_eq (get_or listing i nobody).uid id)) && b) (sym known_too)
+      where
+        neither : (a b : Bool) → (a && false) ≡ ((a || b) && false)
+        neither true b = refl
+        neither false true = refl
+        neither false false = refl
+    by id false found flag =
+        ap (λ (b : Bool). b && not (is_delivered rows id))
+        (sym (or-false (list_any (stands_for id) (take i (zip listing held))))
+        ∙ ap (λ (b : Bool). list_any (stands_for id) (take i (zip listing held)) || b) (sym (unflagged flag) ∙ ap (λ (b : Bool). flag && b) (sym found)))
+      where
+        unflagged : (flag : Bool) → (flag && false) ≡ false
+        unflagged true = refl
+        unflagged false = refl
 
-pub HasHeld-all : (listing : List Item) (held : List Bool) (i : ℕ) (ids : List (List ℕ)) → HasHeld listing held i ids → length listing ≤ i → (uid : List ℕ) → has_id ids uid ≡ is_flagged listing held uid
-HasHeld-all listing held i ids were past = λ uid. were uid ∙ ap (list_any (stands_for uid)) (take_all i (zip listing held) (omega (arith, past, length-zip listing held)))
+-- an item that isn't held
+pub HasHeldAnew-free : (rows : List Row) (listing : List Item) (held : List Bool) (i : ℕ) (ids : List (List ℕ)) → HasHeldAnew rows listing held i ids → length held ≡ length listing
+    → i < length listing → get_or held i false ≡ false → HasHeldAnew rows listing held (i + 1) ids
+HasHeldAnew-free rows listing held i ids were same inside is = λ id.
+    were id
+    ∙ ap (λ (b : Bool). b && not (is_delivered rows id))
+    (sym (or-false (list_any (stands_for id) (take i (zip listing held))))
+    ∙ ap (λ (b : Bool). list_any (stands_for id) (take i (zip listing held)) || (b && bytes_eq (get_or listing i nobody).uid id)) (sym is)
+    ∙ sym (next_flagged listing held i id same inside))
+
+pub HasHeldAnew-all : (rows : List Row) (listing : List Item) (held : List Bool) (i : ℕ) (ids : List (List ℕ)) → HasHeldAnew rows listing held i ids → length listing ≤ i
+    → (uid : List ℕ) → has_id ids uid ≡ (is_flagged listing held uid && not (is_delivered rows uid))
+HasHeldAnew-all rows listing held i ids were past = λ uid.
+    were uid ∙ ap (λ (b : Bool). b && not (is_delivered rows uid)) (ap (list_any (stands_for uid)) (take_all i (zip listing held) (omega (arith, past, length-zip listing held))))

@@ -1,8 +1,8 @@
 -- The plan item by item, with a count, is the plan by the wanted messages.
 use Rattle.std.proofs.Common.{◌≡◌, ℕ, zero, suc, ◌<◌, ◌≤◌, ◌+◌, List, [], ◌∷◌, ◌++◌, Bool, true, false, cond, ◌&&◌, ◌||◌, length, get_or, take, map, refl, sym, ◌∙◌, ap, subst, inl, inr, arith}
-use Rattle.std.specs.Prelude.{filter, zip, count_by, All, nat_lt, ◌==◌}
+use Rattle.std.specs.Prelude.{filter, zip, count_by, All, nat_lt, nat_le, not, ◌-◌, ◌*◌, ◌==◌}
 use Rattle.std.specs.List.{enumerate_from}
-use Rattle.std.proofs.lemmas.Bool.{cases_Bool, cases_lt, cond-true, cond-false, lt-ltb, le-ltb, eq-eqb, ne_eqb, or_left, or_right, or_from, and_right}
+use Rattle.std.proofs.lemmas.Bool.{true≢false, cases_Bool, cases_lt, cond-true, cond-false, lt-ltb, le-ltb, eq-eqb, ne_eqb, or_left, or_right, or_from, and_right}
 use Rattle.std.proofs.lemmas.List.{take_more, take_all, length-take, get_or-map, length-map}
 use Rattle.std.proofs.lemmas.List.Elements.{All-filter, All-take, All-weaker}
 use Rattle.std.proofs.lemmas.List.Folds.{list_any_none}
@@ -12,6 +12,7 @@ use Rattle.fetch_rules.proofs.FilterLemmas.{filter_keeps, filter_leaves}
 use Rattle.mail_terms.specs.Listing.{Item, numbered}
 use Rattle.fetch_rules.specs.Record.{Row}
 use Rattle.fetch_rules.specs.Wanted.{is_candidate, at_most, wanted}
+use Rattle.fetch_rules.specs.Due.{is_due, may_delete}
 use Rattle.fetch_rules.specs.Plan.{has_number, is_deleted, step_of, planned, retrieved}
 use Rattle.rc_file.specs.declared.settings.Settings.{Settings}
 use Rattle.fetch_rules.specs.declared.steps.Step.{Step}
@@ -216,3 +217,12 @@ fetched-limit candidate fetched below limit is some below_is =
 
 pub fetched-other : (candidate fetched below : Bool) (limit : ℕ) → candidate ≡ false → fetched ≡ false → fetched ≡ candidate && (limit == 0 || below)
 fetched-other candidate fetched below limit is none = none ∙ sym (ap (λ (b : Bool). b && (limit == 0 || below)) is)
+
+-- nothing is due where the settings let nothing be deleted
+pub never_due : (settings : Settings) (now since : ℕ) → may_delete settings ≡ false → is_due settings now since ≡ false
+never_due settings now since never = by settings.delete (settings.delete_after == 0) never
+  where
+    by : (delete none : Bool) → (delete || not none) ≡ false → (delete || (not none && nat_le (86400 * settings.delete_after) (now - since))) ≡ false
+    by true none e = absurd (true≢false e)
+    by false true e = refl
+    by false false e = absurd (true≢false e)

@@ -1,25 +1,27 @@
 -- The record's rows as the entries of a map.
-use Rattle.std.proofs.Common.{◌≡◌, ◌≢◌, ℕ, zero, suc, List, [], ◌∷◌, ◌++◌, take, Option, Some, None, Bool, true, false, ◌&&◌, ◌||◌, not, cond, get_or, refl, sym, ◌∙◌, ap, arith}
-use Rattle.std.specs.Prelude.{find, option_map, bytes_eq, is_some}
+use Rattle.std.proofs.Common.{◌≡◌, ◌≢◌, ◌<◌, ℕ, zero, suc, List, length, [], ◌∷◌, ◌++◌, take, Option, Some, None, Bool, true, false, ◌&&◌, ◌||◌, not, cond, get_or, refl, sym, ◌∙◌, ap, subst, arith}
+use Rattle.std.specs.Prelude.{find, option_map, bytes_eq, is_some, String, string_bytes}
 use Rattle.std.specs.List.{AllByRecursion, list_any}
 use Rattle.std.specs.Bool.{OnTrue, OnFalse}
-use Rattle.std.specs.Global.{Vec}
+use Rattle.std.specs.Global.{Global}
 use Rattle.std.specs.Map.{lookup, set_value}
+use Rattle.std.proofs.Math.Bool.{or-false}
 use Rattle.std.proofs.lemmas.Bool.{true≢false}
 use Rattle.std.proofs.lemmas.List.Elements.{All-from_get_or, recursion_from_All}
-use Rattle.fetch_rules.specs.Record.{Row, IsRecord, is_of, has_row, marked, with_delivered, is_delivered}
+use Rattle.mail_terms.specs.UniqueId.{IsLegalId}
+use Rattle.fetch_rules.specs.Record.{Row, IsRow, IsRecord, is_of, has_row, marked, with_delivered, is_delivered}
 use Rattle.fetch_rules.specs.RecordFile.{changed}
 use Rattle.fetch_rules.specs.Rows.{row_from, row_of, rows_of, state_of, state_in}
 use Rattle.fetch_rules.specs.declared.seen.row_map.State.{State}
-use Rattle.fetch_rules.proofs.IdLemmas.{same_from_test, test_from_other}
+use Rattle.fetch_rules.proofs.IdLemmas.{same_from_test, test_from_same, test_from_other}
 use Rattle.fetch_rules.proofs.RecordLemmas.{with_delivered-false, with_delivered-true, rows_differ, rest_of}
 
-pub lookup_state : (uid : List ℕ) (es : List (Vec ℕ × State)) → lookup (λ key. bytes_eq uid key.items) es ≡ state_in (rows_of es) uid
+pub lookup_state : (uid : List ℕ) (es : List (String Global × State)) → lookup (λ key. bytes_eq uid (string_bytes key)) es ≡ state_in (rows_of es) uid
 lookup_state uid [] = refl
-lookup_state uid (e ∷ es) = by (bytes_eq uid e.0.items) (lookup_state uid es)
+lookup_state uid (e ∷ es) = by (bytes_eq uid (string_bytes e.0)) (lookup_state uid es)
   where
-    by : (here : Bool) → lookup (λ key. bytes_eq uid key.items) es ≡ state_in (rows_of es) uid
-        → cond here (Some e.1) (lookup (λ key. bytes_eq uid key.items) es) ≡ option_map state_of (cond here (Some (row_of e)) (find (is_of uid) (rows_of es)))
+    by : (here : Bool) → lookup (λ key. bytes_eq uid (string_bytes key)) es ≡ state_in (rows_of es) uid
+        → cond here (Some e.1) (lookup (λ key. bytes_eq uid (string_bytes key)) es) ≡ option_map state_of (cond here (Some (row_of e)) (find (is_of uid) (rows_of es)))
     by true rest = refl
     by false rest = rest
 
@@ -35,14 +37,14 @@ unmarked uid (row ∷ rows) none =
     ∙ ap (λ (r : Row). r ∷ marked rows uid) (with_delivered-false row)
     ∙ ap (λ (rs : List Row). row ∷ rs) (unmarked uid rows none.1)
 
-set_here : (uid : List ℕ) (es : List (Vec ℕ × State)) (state new : State) → IsRecord (rows_of es) → lookup (λ key. bytes_eq uid key.items) es ≡ Some state → new ≡ record state { delivered = true }
-    → rows_of (set_value (λ key. bytes_eq uid key.items) es new) ≡ marked (rows_of es) uid
+set_here : (uid : List ℕ) (es : List (String Global × State)) (state new : State) → IsRecord (rows_of es) → lookup (λ key. bytes_eq uid (string_bytes key)) es ≡ Some state → new ≡ record state { delivered = true }
+    → rows_of (set_value (λ key. bytes_eq uid (string_bytes key)) es new) ≡ marked (rows_of es) uid
 set_here uid [] state new is found new_is = refl
-set_here uid (e ∷ es) state new is found new_is = by (bytes_eq uid e.0.items) refl found (λ at. set_here uid es state new (rest_of (row_of e) (rows_of es) is) at new_is)
+set_here uid (e ∷ es) state new is found new_is = by (bytes_eq uid (string_bytes e.0)) refl found (λ at. set_here uid es state new (rest_of (row_of e) (rows_of es) is) at new_is)
   where
-    by : (here : Bool) → bytes_eq uid e.0.items ≡ here → cond here (Some e.1) (lookup (λ key. bytes_eq uid key.items) es) ≡ Some state
-        → (lookup (λ key. bytes_eq uid key.items) es ≡ Some state → rows_of (set_value (λ key. bytes_eq uid key.items) es new) ≡ marked (rows_of es) uid)
-        → rows_of (cond here ((e.0, new) ∷ es) (e ∷ set_value (λ key. bytes_eq uid key.items) es new)) ≡ marked (row_of e ∷ rows_of es) uid
+    by : (here : Bool) → bytes_eq uid (string_bytes e.0) ≡ here → cond here (Some e.1) (lookup (λ key. bytes_eq uid (string_bytes key)) es) ≡ Some state
+        → (lookup (λ key. bytes_eq uid (string_bytes key)) es ≡ Some state → rows_of (set_value (λ key. bytes_eq uid (string_bytes key)) es new) ≡ marked (rows_of es) uid)
+        → rows_of (cond here ((e.0, new) ∷ es) (e ∷ set_value (λ key. bytes_eq uid (string_bytes key)) es new)) ≡ marked (row_of e ∷ rows_of es) uid
     by true test at rest =
         ap (λ (s : State). row_of (e.0, s) ∷ rows_of es) (new_is ∙ ap (λ (s : State). record s { delivered = true }) (sym (some_same e.1 state at)))
         ∙ ap (λ (r : Row). r ∷ rows_of es) (sym (with_delivered-true (row_of e)))
@@ -56,8 +58,8 @@ set_here uid (e ∷ es) state new is found new_is = by (bytes_eq uid e.0.items) 
         ∙ ap (λ (r : Row). r ∷ marked (rows_of es) uid) (sym (with_delivered-false (row_of e)))
         ∙ ap (λ (b : Bool). with_delivered b (row_of e) ∷ marked (rows_of es) uid) (sym test)
 
-pub marked_from_set : (uid : List ℕ) (es fs : List (Vec ℕ × State)) (state new : State) → IsRecord (rows_of es) → Some state ≡ lookup (λ key. bytes_eq uid key.items) es → new ≡ record state { delivered = true }
-    → fs ≡ set_value (λ key. bytes_eq uid key.items) es new → rows_of fs ≡ marked (rows_of es) uid
+pub marked_from_set : (uid : List ℕ) (es fs : List (String Global × State)) (state new : State) → IsRecord (rows_of es) → Some state ≡ lookup (λ key. bytes_eq uid (string_bytes key)) es → new ≡ record state { delivered = true }
+    → fs ≡ set_value (λ key. bytes_eq uid (string_bytes key)) es new → rows_of fs ≡ marked (rows_of es) uid
 marked_from_set uid es fs state new is found new_is fs_is = ap rows_of fs_is ∙ set_here uid es state new is (sym found) new_is
 
 none_here : (uid : List ℕ) (rows : List Row) → state_in rows uid ≡ None → AllByRecursion (λ other. is_of uid other ≡ false) rows
@@ -194,6 +196,18 @@ is_delivered-some uid (row ∷ rows) state is found = by (is_of uid row) refl fo
         ap (λ (b : Bool). (b && row.delivered) || is_delivered rows uid) test
         ∙ rest at
 
+-- a row says of its id whether it was delivered
+pub is_delivered-at : (rows : List Row) (i : ℕ) (d : Row) → IsRecord rows → i < length rows → is_delivered rows (get_or rows i d).uid ≡ (get_or rows i d).delivered
+is_delivered-at [] i d is inside = absurd (omega (arith, inside))
+is_delivered-at (row ∷ rows) zero d is inside =
+    ap (λ (b : Bool). (b && row.delivered) || is_delivered rows row.uid) (test_from_same row.uid row.uid refl)
+    ∙ ap (λ (b : Bool). row.delivered || b) (not_delivered row.uid rows (apart row.uid row rows is (test_from_same row.uid row.uid refl)))
+    ∙ or-false row.delivered
+is_delivered-at (row ∷ rows) (suc i) d is inside =
+    ap (λ (b : Bool). (b && row.delivered) || is_delivered rows (get_or rows i d).uid)
+    (test_from_other (get_or rows i d).uid row.uid (λ same. rows_differ (row ∷ rows) is 0 (suc i) d (omega arith) (omega (arith, inside)) (sym same)))
+    ∙ is_delivered-at rows i d (rest_of row rows is) (omega (arith, inside))
+
 pub state_in-none : (uid : List ℕ) (rows : List Row) → list_any (is_of uid) rows ≡ false → state_in rows uid ≡ None
 state_in-none uid [] none = refl
 state_in-none uid (row ∷ rows) none = by (is_of uid row) none (λ at. state_in-none uid rows at)
@@ -202,31 +216,48 @@ state_in-none uid (row ∷ rows) none = by (is_of uid row) none (λ at. state_in
     by true at rest = absurd (true≢false at)
     by false at rest = rest at
 
-pub rows_of-append : (es fs : List (Vec ℕ × State)) → rows_of (es ++ fs) ≡ rows_of es ++ rows_of fs
+pub rows_of-append : (es fs : List (String Global × State)) → rows_of (es ++ fs) ≡ rows_of es ++ rows_of fs
 rows_of-append [] fs = refl
 rows_of-append (e ∷ es) fs = ap (λ (rs : List Row). row_of e ∷ rs) (rows_of-append es fs)
 
-pub rows_of-take : (n : ℕ) (es : List (Vec ℕ × State)) → rows_of (take n es) ≡ take n (rows_of es)
+pub rows_of-take : (n : ℕ) (es : List (String Global × State)) → rows_of (take n es) ≡ take n (rows_of es)
 rows_of-take zero es = refl
 rows_of-take (suc n) [] = refl
 rows_of-take (suc n) (e ∷ es) = ap (λ (rs : List Row). row_of e ∷ rs) (rows_of-take n es)
 
-pub pushed : (uid : List ℕ) (state : State) (es fs : List (Vec ℕ × State)) (rows : List Row) (key : Vec ℕ) → rows_of es ≡ rows → key.items ≡ uid → fs ≡ es ++ (key, state) ∷ []
+pub pushed : (uid : List ℕ) (state : State) (es fs : List (String Global × State)) (rows : List Row) (key : String Global) → rows_of es ≡ rows → string_bytes key ≡ uid → fs ≡ es ++ (key, state) ∷ []
     → rows_of fs ≡ rows ++ row_from uid state ∷ []
 pushed uid state es fs rows key rows_are key_is fs_is =
     ap rows_of fs_is ∙ rows_of-append es _
-    ∙ ap (λ (rs : List Row). rs ++ row_from key.items state ∷ []) rows_are
+    ∙ ap (λ (rs : List Row). rs ++ row_from (string_bytes key) state ∷ []) rows_are
     ∙ ap (λ (u : List ℕ). rows ++ row_from u state ∷ []) key_is
 
-pub lookup_has : (uid : List ℕ) (es : List (Vec ℕ × State)) → is_some (lookup (λ key. bytes_eq uid key.items) es) ≡ has_row (rows_of es) uid
-lookup_has uid [] = refl
-lookup_has uid (e ∷ es) = by (bytes_eq uid e.0.items) (lookup_has uid es)
+pub is_some-state_in : (uid : List ℕ) (rows : List Row) → is_some (state_in rows uid) ≡ has_row rows uid
+is_some-state_in uid [] = refl
+is_some-state_in uid (row ∷ rows) = by (is_of uid row) (is_some-state_in uid rows)
   where
-    by : (here : Bool) → is_some (lookup (λ key. bytes_eq uid key.items) es) ≡ has_row (rows_of es) uid
-        → is_some (cond here (Some e.1) (lookup (λ key. bytes_eq uid key.items) es)) ≡ here || has_row (rows_of es) uid
+    by : (here : Bool) → is_some (state_in rows uid) ≡ has_row rows uid → is_some (option_map state_of (cond here (Some row) (find (is_of uid) rows))) ≡ here || has_row rows uid
     by true rest = refl
     by false rest = rest
 
-pub absent : (uid : List ℕ) (es : List (Vec ℕ × State)) (rows : List Row) (key : List ℕ) → rows_of es ≡ rows → key ≡ uid → list_any (is_of uid) rows ≡ false → lookup (λ other. bytes_eq key other.items) es ≡ None
+-- no row is of an id that isn't legal
+illegal : (uid : List ℕ) (rows : List Row) → AllByRecursion IsRow rows → (IsLegalId uid → ⊥) → AllByRecursion (λ other. is_of uid other ≡ false) rows
+illegal uid [] each bad = tt
+illegal uid (row ∷ rows) each bad = (
+  test_from_other uid row.uid (λ same. bad (subst IsLegalId (sym same) each.0.legal)),
+  illegal uid rows each.1 bad,
+)
+
+pub no_state : (uid : List ℕ) (rows : List Row) → IsRecord rows → (IsLegalId uid → ⊥) → None ≡ state_in rows uid
+no_state uid rows is bad = sym (nowhere uid rows (illegal uid rows (recursion_from_All IsRow rows is.each) bad))
+  where
+    nowhere : (uid : List ℕ) (rows : List Row) → AllByRecursion (λ other. is_of uid other ≡ false) rows → state_in rows uid ≡ None
+    nowhere uid [] none = refl
+    nowhere uid (row ∷ rows) none = ap (λ (here : Bool). option_map state_of (cond here (Some row) (find (is_of uid) rows))) none.0 ∙ nowhere uid rows none.1
+
+pub no_mark : (uid : List ℕ) (rows : List Row) → IsRecord rows → (IsLegalId uid → ⊥) → rows ≡ marked rows uid
+no_mark uid rows is bad = sym (unmarked uid rows (illegal uid rows (recursion_from_All IsRow rows is.each) bad))
+
+pub absent : (uid : List ℕ) (es : List (String Global × State)) (rows : List Row) (key : List ℕ) → rows_of es ≡ rows → key ≡ uid → list_any (is_of uid) rows ≡ false → lookup (λ other. bytes_eq key (string_bytes other)) es ≡ None
 absent uid es rows key rows_are key_is none =
     lookup_state key es ∙ ap (λ (rs : List Row). state_in rs key) rows_are ∙ ap (λ (u : List ℕ). state_in rows u) key_is ∙ state_in-none uid rows none

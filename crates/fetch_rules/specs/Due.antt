@@ -6,3 +6,7 @@ use Rattle.rc_file.specs.declared.settings.Settings.{Settings}
 -- went back makes no message older
 abbrev pub is_due : Settings → ℕ → ℕ → Bool
 is_due settings now since = settings.delete || (not (settings.delete_after == 0) && nat_le (86400 * settings.delete_after) (now - since))
+
+-- whether the settings let any message be deleted
+abbrev pub may_delete : Settings → Bool
+may_delete settings = settings.delete || not (settings.delete_after == 0)

@@ -1,6 +1,6 @@
 -- The record's rows as the reader and the map have them.
-use Rattle.std.specs.Prelude.{ℕ, List, Option, map, find, option_map}
-use Rattle.std.specs.Global.{Vec}
+use Rattle.std.specs.Prelude.{ℕ, List, Option, String, string_bytes, map, find, option_map}
+use Rattle.std.specs.Global.{Global}
 use Rattle.fetch_rules.specs.Record.{Row, is_of}
 use Rattle.fetch_rules.specs.declared.seen.row_map.State.{State}
 
@@ -8,11 +8,11 @@ use Rattle.fetch_rules.specs.declared.seen.row_map.State.{State}
 abbrev pub row_from : List ℕ → State → Row
 row_from uid state = record { uid = uid; first_seen = state.first_seen; delivered = state.delivered }
 
-abbrev pub row_of : Vec ℕ × State → Row
-row_of entry = row_from entry.0.items entry.1
+abbrev pub row_of : String Global × State → Row
+row_of entry = row_from (string_bytes entry.0) entry.1
 
 -- the entries of the map, as rows
-abbrev pub rows_of : List (Vec ℕ × State) → List Row
+abbrev pub rows_of : List (String Global × State) → List Row
 rows_of entries = map row_of entries
 
 -- what is known of a row's message

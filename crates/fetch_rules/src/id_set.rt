@@ -1,8 +1,9 @@
 //! Sets of unique-ids. Ids are compared and never hashed: a server chooses them.
 
 ghost use Rattle.std.specs.Prelude.{◌≡◌, ◌||◌, not, ℕ, List, Bool, bytes_eq, false, OnOk, IfOk};
-ghost use Rattle.mail_terms.specs.UniqueId.{has_id};
+ghost use Rattle.mail_terms.specs.UniqueId.{IsLegalId, has_id};
 
+use crate::id_text::text_of;
 use std::alloc::{AllocError, Global};
 use std::collections::BTreeSet;
 use std::marker::Model;
@@ -10,7 +11,7 @@ use std::marker::Model;
 /// Ids that stand in a listing.
 #[derive(Drop)]
 pub(crate) struct IdSet<'a> {
-    ids: BTreeSet<&'a [u8]>,
+    ids: BTreeSet<&'a str>,
 }
 
 impl<'a> Model for IdSet<'a> {
@@ -32,15 +33,23 @@ impl<'a> IdSet<'a> {
 
     /// Adds an id. Says whether it was new.
     pub(crate) fn insert(&mut self, uid: &'a [u8]) -> Result<bool, AllocError>
+        requires { IsLegalId uid.now }
         ensures added { IfOk result (λ added. added ≡ not (has_id self.old uid.now)) }
         ensures ids { OnOk result ((id : List ℕ) → has_id self.new id ≡ (bytes_eq id uid.now || has_id self.old id)) }
     {
-        Ok(self.ids.insert(uid)?)
+        let Some(text) = text_of(uid) else {
+            unreachable!()
+        };
+        Ok(self.ids.insert(text)?)
     }
 
     pub(crate) fn has(&self, uid: &[u8]) -> bool
+        requires { IsLegalId uid.now }
         ensures { result ≡ has_id self.now uid.now }
     {
-        self.ids.contains(uid)
+        let Some(text) = text_of(uid) else {
+            unreachable!()
+        };
+        self.ids.contains(text)
     }
 }

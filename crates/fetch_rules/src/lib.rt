@@ -5,6 +5,7 @@
 #![tactic(auto)]
 
 mod id_set;
+mod id_text;
 mod laws;
 mod occurrence;
 mod seen;

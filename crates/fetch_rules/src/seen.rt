@@ -142,10 +142,7 @@ impl<H: BuildHasher> Seen<H> {
     pub fn is_delivered(&self, uid: &[u8]) -> bool
         ensures { result ≡ is_delivered self.now.rows uid.now }
     {
-        match self.rows.state(uid) {
-            Some(state) => state.delivered,
-            None => false,
-        }
+        self.rows.is_delivered(uid)
     }
 
     /// When the id was first seen, in seconds since 1970, if it was.

@@ -1,9 +1,10 @@
 //! Which messages of a listing are fetched, and which are deleted.
 
-ghost use Rattle.std.specs.Prelude.{◌≡◌, ◌+◌, ◌<◌, ◌&&◌, ◌||◌, length, HoldsAt, IfOk};
+ghost use Rattle.std.specs.Prelude.{◌≡◌, ◌+◌, ◌<◌, ◌&&◌, ◌||◌, true, length, map, HoldsAt, IfOk};
+ghost use Rattle.mail_terms.specs.Listing.{numbered, is_last};
 ghost use Rattle.fetch_rules.specs.Record.{is_delivered};
 ghost use Rattle.fetch_rules.specs.Wanted.{is_asked_for, wanted, DistinctAreFiltered};
-ghost use Rattle.fetch_rules.specs.Due.{is_due};
+ghost use Rattle.fetch_rules.specs.Due.{is_due, may_delete};
 ghost use Rattle.fetch_rules.specs.Plan.{seen_since, planned, retrieved};
 
 use crate::occurrence::{are_first, are_last};
@@ -33,6 +34,30 @@ fn is_due(settings: &Settings, now: u64, since: u64) -> bool
 {
     let days = now.saturating_sub(since) / SECONDS_PER_DAY;
     settings.delete || (settings.delete_after != 0 && settings.delete_after <= days)
+}
+
+/// Whether the settings let any message be deleted.
+fn may_delete(settings: &Settings) -> bool
+    ensures { result ≡ may_delete settings.now }
+{
+    settings.delete || settings.delete_after != 0
+}
+
+/// For each message, whether no later one has its id. Nobody asks where nothing is deleted: the flags
+/// mean nothing then.
+fn lasts_where_asked(
+    alloc: Global,
+    settings: &Settings,
+    listing: &Listing,
+) -> Result<Vec<bool>, AllocError>
+    ensures count { IfOk result (λ flags. length flags.items ≡ length listing.now) }
+    ensures flags { may_delete settings.now ≡ true → IfOk result (λ flags. flags.items ≡ map (is_last listing.now) (numbered listing.now)) }
+{
+    if may_delete(settings) {
+        return are_last(alloc, listing);
+    }
+    let flags = vec![in alloc; false; listing.len() as usize]?;
+    Ok(flags)
 }
 
 /// Whether the message of number `i + 1` is to be fetched, unless an earlier one has its id.
@@ -88,7 +113,7 @@ pub fn plan<H: BuildHasher>(
     ensures fetched { IfOk result (λ steps. retrieved steps.items listing.now ≡ wanted settings.now seen.now.rows listing.now) }
 {
     let firsts = are_first(alloc, listing)?;
-    let lasts = are_last(alloc, listing)?;
+    let lasts = lasts_where_asked(alloc, settings, listing)?;
     let mut steps = Vec::with_capacity(alloc, listing.len() as usize)?;
     let mut candidates: u64 = 0;
     for i in 0..listing.len() {

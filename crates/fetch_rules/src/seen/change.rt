@@ -1,9 +1,9 @@
 //! How a listing changes the rows of a record.
 
-ghost use Rattle.std.specs.Prelude.{◌≡◌, ◌≢◌, ◌≤◌, ◌++◌, ℕ, List, length, map, take, OnOk, OnErr, IfOk};
+ghost use Rattle.std.specs.Prelude.{◌≡◌, ◌≢◌, ◌≤◌, ◌++◌, ◌&&◌, not, ℕ, List, length, map, take, OnOk, OnErr, IfOk};
 ghost use Rattle.std.specs.Bool.{OnTrue, OnFalse};
 ghost use Rattle.mail_terms.specs.Listing.{message_limit};
-ghost use Rattle.fetch_rules.specs.Record.{IsRecord, marked, with_held, new_ids, undelivered, is_flagged};
+ghost use Rattle.fetch_rules.specs.Record.{IsRecord, marked, with_held, new_ids, undelivered, is_delivered, is_flagged};
 ghost use Rattle.fetch_rules.specs.RecordFile.{changed, written};
 ghost use Rattle.mail_terms.specs.UniqueId.{has_id};
 
@@ -13,20 +13,6 @@ use crate::seen::row_map::{RowMap, State};
 use mail_terms::Listing;
 use std::alloc::{AllocError, Global};
 use std::hash::BuildHasher;
-
-/// The ids of the items that are held.
-fn held_ids<'a>(alloc: Global, listing: &'a Listing, held: &[bool]) -> Result<IdSet<'a>, AllocError>
-    requires { length held.now ≡ length listing.now }
-    ensures { IfOk result (λ ids. (uid : List ℕ) → has_id ids uid ≡ is_flagged listing.now held.now uid) }
-{
-    let mut ids = IdSet::new(alloc);
-    for i in 0..listing.len() {
-        if held[i as usize] {
-            ids.insert(listing.uid(i))?;
-        }
-    }
-    Ok(ids)
-}
 
 impl<H: BuildHasher> RowMap<H> {
     /// Sets delivered for the id, if it has a row. Says whether this changed the row.
@@ -39,8 +25,11 @@ impl<H: BuildHasher> RowMap<H> {
         let Some(state) = self.state(uid) else {
             return false;
         };
+        if state.delivered {
+            return false;
+        }
         self.set_delivered(uid);
-        !state.delivered
+        true
     }
 
     /// Adds a row for each id of the listing that has none, until memory is wanting.
@@ -100,6 +89,26 @@ impl<H: BuildHasher> RowMap<H> {
         changed
     }
 
+    /// The ids of the items that are held and not recorded as delivered.
+    fn held_anew<'a>(
+        &self,
+        alloc: Global,
+        listing: &'a Listing,
+        held: &[bool],
+    ) -> Result<IdSet<'a>, AllocError>
+        requires { length held.now ≡ length listing.now }
+        ensures { IfOk result (λ ids. (uid : List ℕ) → has_id ids uid ≡ (is_flagged listing.now held.now uid && not (is_delivered self.now uid))) }
+    {
+        let mut ids = IdSet::new(alloc);
+        for i in 0..listing.len() {
+            let uid = listing.uid(i);
+            if held[i as usize] && !self.is_delivered(uid) {
+                ids.insert(uid)?;
+            }
+        }
+        Ok(ids)
+    }
+
     /// The group of the rows that change where the held items' ids are marked, and of all rows from
     /// place `count` on, which were added before.
     pub(crate) fn group_of_changes(
@@ -113,7 +122,7 @@ impl<H: BuildHasher> RowMap<H> {
         requires within { count ≤ length self.now }
         ensures { IfOk result (λ bytes. bytes.items ≡ written (changed (take count self.now) (with_held listing.now held.now self.now))) }
     {
-        let ids = held_ids(alloc, listing, held)?;
+        let ids = self.held_anew(alloc, listing, held)?;
         let mut lines = Vec::new(alloc);
         let mut changes: usize = 0;
         for place in 0..self.len() {

@@ -3,9 +3,10 @@
 
 ghost use Rattle.std.specs.Prelude.{◌≡◌, ◌<◌, ◌++◌, [], ◌∷◌, false, length, take, OnOk, OnErr, HoldsAt};
 ghost use Rattle.mail_terms.specs.UniqueId.{IsLegalId};
-ghost use Rattle.fetch_rules.specs.Record.{IsRecord, has_row, marked};
+ghost use Rattle.fetch_rules.specs.Record.{IsRecord, has_row, is_delivered, marked};
 ghost use Rattle.fetch_rules.specs.Rows.{row_from, state_in};
 
+use crate::id_text::text_of;
 use indexmap::IndexMap;
 use std::alloc::{AllocError, Global};
 use std::hash::BuildHasher;
@@ -19,11 +20,12 @@ pub struct State {
     pub delivered: bool,
 }
 
-/// The rows, each id once.
+/// The rows, each id once. An id is kept as a text, since a text is hashed as a whole and bytes one by
+/// one.
 #[derive(Drop)]
 pub(crate) struct RowMap<H: BuildHasher> {
     alloc: Global,
-    states: IndexMap<Vec<u8>, State, H>,
+    states: IndexMap<String, State, H>,
 }
 
 impl<H: BuildHasher> Model for RowMap<H> {
@@ -61,14 +63,14 @@ impl<H: BuildHasher> RowMap<H> {
         ensures { HoldsAt (λ row. row ≡ row_from result.0.now result.1) self.now place }
     {
         let (uid, state) = self.states.get_index(place).unwrap();
-        (uid, *state)
+        (uid.as_bytes(), *state)
     }
 
     /// Whether an id has a row.
     pub(crate) fn has(&self, uid: &[u8]) -> bool
         ensures { result ≡ has_row self.now uid.now }
     {
-        self.states.contains_key(uid)
+        self.state(uid).is_some()
     }
 
     /// What is known of an id's message, if it has a row.
@@ -76,7 +78,17 @@ impl<H: BuildHasher> RowMap<H> {
         ensures value { result ≡ state_in self.now uid.now }
         ensures is_record { IsRecord self.now }
     {
-        self.states.get(uid).copied()
+        self.states.get(text_of(uid)?).copied()
+    }
+
+    /// Whether an id is recorded as delivered.
+    pub(crate) fn is_delivered(&self, uid: &[u8]) -> bool
+        ensures { result ≡ is_delivered self.now uid.now }
+    {
+        match self.state(uid) {
+            Some(state) => state.delivered,
+            None => false,
+        }
     }
 
     /// Sets delivered for the id, if it has a row.
@@ -84,7 +96,12 @@ impl<H: BuildHasher> RowMap<H> {
         ensures rows { self.new ≡ marked self.old uid.now }
         ensures is_record { IsRecord self.new }
     {
-        match self.states.get_mut(uid) {
+        // What is always true of the rows says that none is of an id that isn't legal.
+        let _ = self.len();
+        let Some(text) = text_of(uid) else {
+            return;
+        };
+        match self.states.get_mut(text) {
             Some(state) => state.delivered = true,
             None => {}
         }
@@ -98,7 +115,10 @@ impl<H: BuildHasher> RowMap<H> {
         ensures err { OnErr result (self.new ≡ self.old) }
         ensures is_record { IsRecord self.new }
     {
-        let id = Vec::from_slice(self.alloc, uid)?;
+        let Some(text) = text_of(uid) else {
+            unreachable!()
+        };
+        let id = String::from_str(self.alloc, text)?;
         self.states.insert(id, state)?;
         Ok(())
     }

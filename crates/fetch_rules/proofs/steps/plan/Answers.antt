@@ -1,15 +1,15 @@
-use Rattle.std.proofs.Common.{◌≡◌, ℕ, ◌+◌, Bool, true, false, ◌&&◌, ◌||◌, ◌∙◌, ap, arith, refl, cond, get_or}
+use Rattle.std.proofs.Common.{◌≡◌, ℕ, ◌+◌, Bool, true, false, ◌&&◌, ◌||◌, ◌∙◌, ap, sym, inl, inr, arith, refl, cond, get_or}
 use mir.Val.{bool_byte}
 use Rattle.std.specs.Prelude.{◌==◌, nat_lt}
-use Rattle.std.proofs.lemmas.Bool.{eq-eqb}
+use Rattle.std.proofs.lemmas.Bool.{eq-eqb, cases_Bool}
 use Rattle.std.proofs.Math.Bool.{and_comm}
 use Rattle.mail_terms.specs.Listing.{Item, is_first, is_last}
 use Rattle.fetch_rules.specs.Record.{is_delivered}
 use Rattle.fetch_rules.specs.Wanted.{is_asked_for, is_candidate}
-use Rattle.fetch_rules.specs.Due.{is_due}
+use Rattle.fetch_rules.specs.Due.{is_due, may_delete}
 use Rattle.fetch_rules.specs.Plan.{seen_since, is_deleted}
 use Rattle.fetch_rules.proofs.OccurrenceLemmas.{flags_count, flag_at, both-true, both-false}
-use Rattle.fetch_rules.proofs.PlanLemmas.{HasPlanned-more, HasPlanned-all, retrieved-planned, fetched-no_limit, fetched-limit, fetched-other}
+use Rattle.fetch_rules.proofs.PlanLemmas.{never_due, HasPlanned-more, HasPlanned-all, retrieved-planned, fetched-no_limit, fetched-limit, fetched-other}
 use Rattle.fetch_rules.proofs.steps.plan.Goals as goal
 use Rattle.fetch_rules.proofs.steps.plan.Goals.{then-first, else-first, then-first-2, else-first-2, then-alone, else-alone, then-candidate+then-settings-eq0, then-candidate+else-settings-eq0, else-candidate}
 
@@ -21,16 +21,16 @@ pub index-first-requires : goal.index-first-requires
 index-first-requires g c = omega (arith, flags_count (is_first c.args.listing.now) c.args.listing.now c.in_ok-firsts.firsts.items c.in_ok-firsts.ensures)
 
 pub index-requires : goal.index-requires
-index-requires g c = omega (arith, flags_count (is_last c.args.listing.now) c.args.listing.now c.in_ok-lasts.lasts.items c.in_ok-lasts.ensures)
+index-requires g c = omega (arith, c.in_ok-lasts.ensures.count)
 
 first : (g : _) (c : goal.After-from-candidates g) (item : Item) → c.index-first.result.now ≡ is_first c.args.listing.now (c.loop-i.i + 1, get_or c.args.listing.now c.loop-i.i item)
 first g c = flag_at (is_first c.args.listing.now) c.args.listing.now c.in_ok-firsts.firsts.items c.loop-i.i c.index-first.result.now c.in_ok-firsts.ensures (omega arith) c.index-first.ensures
 
-alone : (g : _) (c : goal.After-from-candidates g) (item : Item)
+alone : (g : _) (c : goal.After-from-candidates g) (item : Item) → may_delete c.args.settings.now ≡ true
     → c.if-first.alone ≡ (is_first c.args.listing.now (c.loop-i.i + 1, get_or c.args.listing.now c.loop-i.i item) && is_last c.args.listing.now (c.loop-i.i + 1, get_or c.args.listing.now c.loop-i.i item))
-alone g c item = elim c.if-first.branch [
+alone g c item asked = elim c.if-first.branch [
   | then-first w ↦ both-true _ _ _ w.if-first.true
-      (w.alone-is ∙ flag_at (is_last c.args.listing.now) c.args.listing.now c.in_ok-lasts.lasts.items c.loop-i.i w.index.result.now c.in_ok-lasts.ensures (omega arith) w.index.ensures item) ∙ also
+      (w.alone-is ∙ flag_at (is_last c.args.listing.now) c.args.listing.now c.in_ok-lasts.lasts.items c.loop-i.i w.index.result.now (c.in_ok-lasts.ensures.flags asked) (omega arith) w.index.ensures item) ∙ also
   | else-first w ↦ both-false _ _ _ w.if-first.false w.alone-is ∙ also
 ]
   where
@@ -60,17 +60,33 @@ fetched g c = elim c.if-candidate.branch [
 
 deleted : (g : _) (c : goal.After-from-candidates g) (item : Item)
     → c.if-alone.delete ≡ is_deleted c.args.settings.now c.args.seen.now.rows c.args.listing.now c.args.now c.if-candidate.retrieve (c.loop-i.i + 1, get_or c.args.listing.now c.loop-i.i item)
-deleted g c item = elim c.if-alone.branch [
-  | then-alone w ↦ both-true _ _ _ w.if-alone.true (w.delete-is ∙ w.is_done_with-delete.ensures item) ∙ also
-  | else-alone w ↦ both-false _ _ _ w.if-alone.false w.delete-is ∙ also
+deleted g c item = done_is ∙ elim (cases_Bool (may_delete c.args.settings.now)) [
+  | inl asked ↦ and_comm c.if-first.alone done ∙ ap (λ (b : Bool). done && b) (alone g c item asked)
+  | inr never ↦ ap (λ (b : Bool). c.if-first.alone && (b && known)) (never_due c.args.settings.now c.args.now since never) ∙ no_more c.if-first.alone
+      ∙ sym (ap (λ (b : Bool). (b && known) && single) (never_due c.args.settings.now c.args.now since never))
 ]
   where
-    done : Bool
-    done = is_due c.args.settings.now c.args.now (seen_since c.args.seen.now.rows (get_or c.args.listing.now c.loop-i.i item).uid c.args.now)
-        && (is_delivered c.args.seen.now.rows (get_or c.args.listing.now c.loop-i.i item).uid || c.if-candidate.retrieve)
+    since : ℕ
+    since = seen_since c.args.seen.now.rows (get_or c.args.listing.now c.loop-i.i item).uid c.args.now
 
-    also : (c.if-first.alone && done) ≡ is_deleted c.args.settings.now c.args.seen.now.rows c.args.listing.now c.args.now c.if-candidate.retrieve (c.loop-i.i + 1, get_or c.args.listing.now c.loop-i.i item)
-    also = and_comm c.if-first.alone done ∙ ap (λ (b : Bool). done && b) (alone g c item)
+    known : Bool
+    known = is_delivered c.args.seen.now.rows (get_or c.args.listing.now c.loop-i.i item).uid || c.if-candidate.retrieve
+
+    done : Bool
+    done = is_due c.args.settings.now c.args.now since && known
+
+    single : Bool
+    single = is_first c.args.listing.now (c.loop-i.i + 1, get_or c.args.listing.now c.loop-i.i item) && is_last c.args.listing.now (c.loop-i.i + 1, get_or c.args.listing.now c.loop-i.i item)
+
+    no_more : (b : Bool) → (b && false) ≡ false
+    no_more true = refl
+    no_more false = refl
+
+    done_is : c.if-alone.delete ≡ (c.if-first.alone && done)
+    done_is = elim c.if-alone.branch [
+      | then-alone w ↦ both-true _ _ _ w.if-alone.true (w.delete-is ∙ w.is_done_with-delete.ensures item)
+      | else-alone w ↦ both-false _ _ _ w.if-alone.false w.delete-is
+    ]
 
 pub loop-i-preserved : goal.loop-i-preserved
 loop-i-preserved g c =

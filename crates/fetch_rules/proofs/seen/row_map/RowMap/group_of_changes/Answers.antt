@@ -1,9 +1,11 @@
-use Rattle.std.proofs.Common.{◌≡◌, ◌≢◌, ◌⊎◌, ◌≤◌, ◌+◌, ◌++◌, ◌∙◌, ◌||◌, Bool, true, false, refl, sym, ap, inl, inr, arith}
+use Rattle.std.proofs.Common.{◌≡◌, ◌≢◌, ◌⊎◌, ◌≤◌, ◌+◌, ◌++◌, ◌∙◌, ◌||◌, ◌&&◌, not, Bool, true, false, refl, sym, ap, subst, inl, inr, arith}
 use Rattle.std.proofs.Math.Bool.{beq}
 use Rattle.std.proofs.lemmas.Bool.{true≢false}
-use Rattle.fetch_rules.specs.Record.{Row, is_flagged}
+use Rattle.mail_terms.specs.UniqueId.{IsLegalId}
+use Rattle.fetch_rules.specs.Record.{Row, is_flagged, is_delivered}
 use Rattle.fetch_rules.specs.Rows.{row_from}
 use Rattle.fetch_rules.specs.RecordFile.{line_of}
+use Rattle.fetch_rules.proofs.RowLemmas.{is_delivered-at}
 use Rattle.fetch_rules.proofs.GrowthLemmas.{HasWritten-skips, HasWritten-adds, HasWritten-all}
 use Rattle.fetch_rules.proofs.seen.row_map.RowMap.group_of_changes.Goals as goal
 use Rattle.fetch_rules.proofs.seen.row_map.RowMap.group_of_changes.Goals.{then-state, else-state, else-place-count-via-then-place-count+else-delivered-state, else-place-count-via-else-place-count}
@@ -24,16 +26,25 @@ delivered_already : (old also delivered : Bool) → old ≡ true → delivered �
 delivered_already true also delivered is told = told
 delivered_already false also delivered is told = cc
 
-not_yet : (old also delivered : Bool) → old ≡ false → delivered ≡ also → delivered ≡ (old || also)
-not_yet true also delivered is told = cc
-not_yet false also delivered is told = told
+not_yet : (old also known delivered : Bool) → old ≡ false → known ≡ old → delivered ≡ (also && not known) → delivered ≡ (old || also)
+not_yet true also known delivered is same told = cc
+not_yet false also true delivered is same told = cc
+not_yet false true false delivered is same told = told
+not_yet false false false delivered is same told = told
+
+pub has-delivered-requires : goal.has-delivered-requires
+has-delivered-requires g c = subst (λ (row : Row). IsLegalId row.uid) (c.at.ensures _) (c.len-place-end.ensures.is_record.each c.loop-place.place (row_from c.at.result.0.now c.at.result.1) (omega arith)).legal
 
 pub loop-place-preserved-then-delivered-state : goal.loop-place-preserved-then-delivered-state
 loop-place-preserved-then-delivered-state g c =
+    let known : is_delivered c.args.self.now c.at.result.0.now ≡ c.at.result.1.delivered =
+    ap (λ (row : Row). is_delivered c.args.self.now row.uid) (sym (c.at.ensures _))
+    ∙ is_delivered-at c.args.self.now c.loop-place.place (row_from c.at.result.0.now c.at.result.1) c.len-place-end.ensures.is_record (omega arith)
+    ∙ ap (λ (row : Row). row.delivered) (c.at.ensures _) in
     let told : c.if-state.delivered ≡ (c.at.result.1.delivered || is_flagged c.args.listing.now c.args.held.now c.at.result.0.now) =
     elim c.if-state.branch [
       | then-state w ↦ delivered_already c.at.result.1.delivered _ c.if-state.delivered w.if-state.true w.delivered-is
-      | else-state w ↦ not_yet c.at.result.1.delivered _ c.if-state.delivered w.if-state.false (w.delivered-is ∙ w.has-delivered.ensures ∙ c.in_ok-ids.ensures c.at.result.0.now)
+      | else-state w ↦ not_yet c.at.result.1.delivered _ _ c.if-state.delivered w.if-state.false known (w.delivered-is ∙ w.has-delivered.ensures ∙ c.in_ok-ids.ensures c.at.result.0.now)
     ] in (
       HasWritten-skips c.args.count (λ (row : Row). is_flagged c.args.listing.now c.args.held.now row.uid) c.args.self.now c.loop-place.place c.loop-place.changes c.loop-place.lines.items
           (row_from c.at.result.0.now c.at.result.1) c.loop-place.invariant.0 (omega arith) (c.at.ensures _) c.if-place-count.true
@@ -43,10 +54,14 @@ loop-place-preserved-then-delivered-state g c =
 
 pub loop-place-preserved : goal.loop-place-preserved
 loop-place-preserved g c =
+    let known : is_delivered c.args.self.now c.at.result.0.now ≡ c.at.result.1.delivered =
+    ap (λ (row : Row). is_delivered c.args.self.now row.uid) (sym (c.at.ensures _))
+    ∙ is_delivered-at c.args.self.now c.loop-place.place (row_from c.at.result.0.now c.at.result.1) c.len-place-end.ensures.is_record (omega arith)
+    ∙ ap (λ (row : Row). row.delivered) (c.at.ensures _) in
     let told : c.if-state.delivered ≡ (c.at.result.1.delivered || is_flagged c.args.listing.now c.args.held.now c.at.result.0.now) =
     elim c.if-state.branch [
       | then-state w ↦ delivered_already c.at.result.1.delivered _ c.if-state.delivered w.if-state.true w.delivered-is
-      | else-state w ↦ not_yet c.at.result.1.delivered _ c.if-state.delivered w.if-state.false (w.delivered-is ∙ w.has-delivered.ensures ∙ c.in_ok-ids.ensures c.at.result.0.now)
+      | else-state w ↦ not_yet c.at.result.1.delivered _ _ c.if-state.delivered w.if-state.false known (w.delivered-is ∙ w.has-delivered.ensures ∙ c.in_ok-ids.ensures c.at.result.0.now)
     ] in
     let either : (c.args.count ≤ c.loop-place.place) ⊎ ((c.at.result.1.delivered || is_flagged c.args.listing.now c.args.held.now c.at.result.0.now) ≢ c.at.result.1.delivered) =
     elim c.else-place-count.branch [

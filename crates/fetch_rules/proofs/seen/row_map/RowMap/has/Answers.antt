@@ -1,7 +1,7 @@
-use Rattle.std.proofs.Common.{◌∙◌, List, ap}
-use Rattle.fetch_rules.specs.Record.{Row, has_row}
-use Rattle.fetch_rules.proofs.RowLemmas.{lookup_has}
+use Rattle.std.proofs.Common.{◌∙◌, ap}
+use Rattle.std.specs.Prelude.{is_some}
+use Rattle.fetch_rules.proofs.RowLemmas.{is_some-state_in}
 use Rattle.fetch_rules.proofs.seen.row_map.RowMap.has.Goals as goal
 
 pub returns : goal.returns
-returns g c = c.contains_key.ensures ∙ lookup_has c.args.uid.now _ ∙ ap (λ (rows : List Row). has_row rows c.args.uid.now) c.self.view_is
+returns g c = c.is_some.ensures ∙ ap is_some c.state.ensures.value ∙ is_some-state_in c.args.uid.now c.args.self.now

@@ -1,14 +1,17 @@
-use Rattle.std.proofs.Common.{◌∙◌, sym}
-use Rattle.fetch_rules.proofs.RowLemmas.{unmarked_none, mark_changes, mark_leaves}
+use Rattle.std.proofs.Common.{◌∙◌, not, sym, subst}
+use Rattle.std.specs.Bool.{OnTrue}
+use Rattle.std.specs.Prelude.{◌≢◌}
+use Rattle.fetch_rules.proofs.RowLemmas.{unmarked_none, mark_changes, marked-delivered}
 use Rattle.fetch_rules.proofs.seen.row_map.RowMap.mark.Goals as goal
 
 pub returns-in_default-clause-rows : goal.returns-in_default-clause-rows
 returns-in_default-clause-rows g c = sym (unmarked_none c.args.uid.now c.args.self.now (sym c.state.ensures.value ∙ c.in_default.is))
 
+pub returns-then-state-clause-rows : goal.returns-then-state-clause-rows
+returns-then-state-clause-rows g c =
+    sym (marked-delivered c.args.uid.now c.args.self.now c.in-Some.state c.state.ensures.is_record (sym c.in-Some.ensures.value) c.if-state.true)
+
 pub returns-clause-changed : goal.returns-clause-changed
 returns-clause-changed g c =
-    mark_changes c.args.uid.now c.args.self.now _ c.in-Some.state c.state.ensures.is_record (sym c.in-Some.ensures.value) c.set_delivered.ensures.rows
-
-pub returns-clause-unchanged : goal.returns-clause-unchanged
-returns-clause-unchanged g c =
-    mark_leaves c.args.uid.now c.args.self.now _ c.in-Some.state c.state.ensures.is_record (sym c.in-Some.ensures.value) c.set_delivered.ensures.rows
+    subst (λ b. OnTrue (not b) (c.set_delivered.new.self ≢ c.args.self.now)) c.if-state.false
+    (mark_changes c.args.uid.now c.args.self.now _ c.in-Some.state c.state.ensures.is_record (sym c.in-Some.ensures.value) c.set_delivered.ensures.rows)
