@@ -1,6 +1,10 @@
 -- What `held` answers of a Maildir.
 use Rattle.std.specs.Prelude.{◌≡◌, ℕ, List, map, Bool, true, false, ◌&&◌, bytes_eq, zip, Result, Ok, Err, Vec, ◌⊎◌}
 use Rattle.std.specs.List.{list_any}
+use Rattle.std.specs.Borrow.{Bor}
+use Rattle.std.specs.BTreeSet.{BTreeSet, contains_by}
+use Rattle.std.specs.Ordering.{nat_cmp}
+use Rattle.std.specs.Cmp.Lexicographic.{slice_cmp}
 use Rattle.mail_terms.specs.Listing.{Item}
 use Rattle.mail_store.specs.declared.fault.StoreFault.{StoreFault}
 use Rattle.mail_store.specs.declared.fault.StoreFault.TheVariants.{Missing, Refused, NotMbox, NoMemory}
@@ -19,6 +23,10 @@ Finds account old items (Err Missing) new = ((old.there.new ≡ false) ⊎ (old.
 Finds account old items (Err Refused) new = new ≡ counted old
 Finds account old items (Err NotMbox) new = ⊥
 Finds account old items (Err NoMemory) new = new ≡ old
+
+-- whether a set of texts has this one
+abbrev pub has_text : BTreeSet (Bor (List ℕ)) → List ℕ → Bool
+has_text texts q = contains_by (λ text. slice_cmp nat_cmp q text.now) texts
 
 -- whether some item of this id is flagged
 abbrev pub has_flagged : List Item → List Bool → List ℕ → Bool

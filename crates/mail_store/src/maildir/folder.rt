@@ -8,8 +8,9 @@ use crate::maildir::disk::{Folder, MaildirDisk};
 use crate::refusal::{admit, refuse};
 use crate::system::{flush_folder, make_file};
 use mail_terms::FailureCount;
-use std::fs::OpenFile;
+use std::fs::{Metadata, OpenFile};
 use std::io::{ErrorKind, Write};
+use std::os::unix::fs::MetadataExt;
 use std::rt::Files;
 use std::{fs, io};
 
@@ -70,10 +71,13 @@ impl<'a, R: Files + AllocGlobal + Clone + Drop> FolderMaildir<'a, R> {
 
     // The names of a folder's files. A name that begins with a full stop or isn't UTF-8 is passed
     // over, and so is a folder. What vanishes while the folder is read counts as a file: a reader
-    // may have renamed it.
+    // may have renamed it. The system is asked what each name stands for only where a folder may be
+    // among them, since that takes longer than all else.
     fn read_names(&self, folder: &str) -> io::Result<Vec<String>> {
+        let path = self.folder_path(folder)?;
+        let may_hold_folders = may_hold_folders(&fs::metadata(self.rt, path.as_str())?);
         let mut names = Vec::new(self.rt.alloc());
-        for entry in fs::read_dir(self.rt, self.folder_path(folder)?)? {
+        for entry in fs::read_dir(self.rt, path)? {
             let entry = match entry {
                 Ok(entry) => entry,
                 Err(fault) if fault.kind() == ErrorKind::InvalidFilename => continue,
@@ -83,14 +87,10 @@ impl<'a, R: Files + AllocGlobal + Clone + Drop> FolderMaildir<'a, R> {
             if name.starts_with('.') {
                 continue;
             }
-            let is_folder = match entry.metadata() {
-                Ok(metadata) => metadata.is_dir(),
-                Err(fault) if fault.kind() == ErrorKind::NotFound => false,
-                Err(fault) => return Err(fault),
-            };
-            if !is_folder {
-                names.push(String::from_str(self.rt.alloc(), name)?)?;
+            if may_hold_folders && is_folder(entry.metadata())? {
+                continue;
             }
+            names.push(String::from_str(self.rt.alloc(), name)?)?;
         }
         Ok(names)
     }
@@ -136,6 +136,21 @@ impl<'a, R: Files + AllocGlobal + Clone + Drop> FolderMaildir<'a, R> {
         if let Ok(path) = self.file_path("tmp", begun.name.as_str()) {
             let _ = fs::remove_file(self.rt, path);
         }
+    }
+}
+
+/// Whether a folder may hold others. Each of them links to it by its `..`, beside the folder's name
+/// and its own `.`; file systems that don't count so answer another number than 2.
+fn may_hold_folders(folder: &Metadata) -> bool {
+    folder.nlink() != 2
+}
+
+/// Whether a name stands for a folder; what has vanished was none.
+fn is_folder(answer: io::Result<Metadata>) -> io::Result<bool> {
+    match answer {
+        Ok(metadata) => Ok(metadata.is_dir()),
+        Err(fault) if fault.kind() == ErrorKind::NotFound => Ok(false),
+        Err(fault) => Err(fault),
     }
 }
 

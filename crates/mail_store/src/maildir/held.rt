@@ -2,14 +2,13 @@
 
 ghost use Rattle.std.specs.Prelude.{◌≡◌, List, ℕ, ◌++◌, ◌||◌, ◌&&◌, map, length, vec_len, string_bytes, bytes_eq, IfOk, OnOk, ◌≢◌};
 ghost use Rattle.std.specs.List.{list_any};
-ghost use Rattle.std.specs.BTreeSet.{contains_text};
 ghost use Rattle.mail_terms.specs.FailureCount.{Tallies, refuses};
 ghost use Rattle.mail_terms.specs.MaildirName.{base};
 ghost use Rattle.mail_store.specs.Fault.{is_refusal};
 ghost use Rattle.mail_store.specs.FileName.{name_of, is_held};
 ghost use Rattle.mail_terms.specs.Listing.{Item, has_item};
 ghost use Rattle.mail_store.specs.Maildir.{Maildir};
-ghost use Rattle.mail_store.specs.Held.{Finds, flags_of, has_flagged};
+ghost use Rattle.mail_store.specs.Held.{Finds, flags_of, has_flagged, has_text};
 
 use crate::account::AccountId;
 use crate::fault::StoreFault;
@@ -20,17 +19,12 @@ use std::alloc::{AllocError, Global};
 use std::collections::BTreeSet;
 
 /// Adds the bases of some names.
-fn add_bases(
-    alloc: Global,
-    bases: &mut BTreeSet<String>,
-    names: &[String],
-) -> Result<(), AllocError>
-    ensures { OnOk result ((q : List ℕ) → contains_text bases.new q
-        ≡ (contains_text bases.old q || list_any (λ name. bytes_eq q (base (string_bytes name))) names.now)) }
+fn add_bases<'a>(bases: &mut BTreeSet<&'a str>, names: &'a [String]) -> Result<(), AllocError>
+    ensures { OnOk result ((q : List ℕ) → has_text bases.new q
+        ≡ (has_text bases.old q || list_any (λ name. bytes_eq q (base (string_bytes name))) names.now)) }
 {
     for name in names {
-        let base = String::from_str(alloc, mail_terms::base(name.as_str()))?;
-        bases.insert(base)?;
+        bases.insert(mail_terms::base(name.as_str()))?;
     }
     Ok(())
 }
@@ -38,11 +32,11 @@ fn add_bases(
 /// Whether the name of each item's file is among the bases, in order.
 fn flags_of(
     alloc: Global,
-    bases: &BTreeSet<String>,
+    bases: &BTreeSet<&str>,
     account: &AccountId,
     listing: &Listing,
 ) -> Result<Vec<bool>, AllocError>
-    ensures { IfOk result (λ flags. flags.items ≡ map (λ item. contains_text bases.now (name_of account.now item.uid)) listing.now) }
+    ensures { IfOk result (λ flags. flags.items ≡ map (λ item. has_text bases.now (name_of account.now item.uid)) listing.now) }
 {
     let mut flags = Vec::new(alloc);
     for i in 0..listing.len() {
@@ -79,7 +73,7 @@ pub fn held<D: MaildirDisk>(
     let new = disk.names(Folder::New)?;
     let cur = disk.names(Folder::Cur)?;
     let mut bases = BTreeSet::new(alloc);
-    add_bases(alloc, &mut bases, &new)?;
-    add_bases(alloc, &mut bases, &cur)?;
+    add_bases(&mut bases, &new)?;
+    add_bases(&mut bases, &cur)?;
     Ok(flags_of(alloc, &bases, account, listing)?)
 }

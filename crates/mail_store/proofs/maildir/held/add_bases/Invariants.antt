@@ -1,11 +1,11 @@
 use Rattle.std.proofs.Common.{◌≡◌, ℕ, List, take, string_bytes}
 use Rattle.std.specs.Prelude.{◌||◌, bytes_eq}
 use Rattle.std.specs.List.{list_any}
-use Rattle.std.specs.BTreeSet.{contains_text}
 use Rattle.mail_terms.specs.MaildirName.{base}
+use Rattle.mail_store.specs.Held.{has_text}
 use Rattle.mail_store.proofs.maildir.held.add_bases.Given as goal
 
 -- the set has what it had, and the bases of the names in front
 abbrev pub invariant-loop-name : goal.invariant-loop-name
-invariant-loop-name l = (q : List ℕ) → contains_text l.bases q
-    ≡ (contains_text l.initial.bases q || list_any (λ name. bytes_eq q (base (string_bytes name))) (take l.name-index l.names))
+invariant-loop-name l = (q : List ℕ) → has_text l.bases q
+    ≡ (has_text l.initial.bases q || list_any (λ name. bytes_eq q (base (string_bytes name))) (take l.name-index l.names))
