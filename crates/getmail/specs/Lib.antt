@@ -1,6 +1,5 @@
 pub mod CommandLine
 pub mod Failures
-pub mod Hashing
 pub mod Places
 pub mod Progress
 pub mod Rehearsal

@@ -6,7 +6,6 @@ ghost use Rattle.rc_file.specs.Settings.{IsValid};
 mod connection;
 mod failure;
 mod fetching;
-mod hashing;
 mod place;
 mod progress;
 mod rehearsal;
@@ -18,7 +17,6 @@ mod words;
 use crate::connection::connect;
 use crate::failure::{Failure, failure_of, tell};
 use crate::fetching::fetch_into;
-use crate::hashing::HashKeys;
 use crate::rehearsal::rehearse;
 use crate::setup::{Setup, set_up};
 use crate::shown_wire::ShownWire;
@@ -28,6 +26,7 @@ use fetch_session::{Account, Store};
 use mail_store::{FolderMaildir, HostFile};
 use pop3_wire::StreamWire;
 use std::env;
+use std::hash::RandomState;
 use std::io::{self, ErrorKind, IsTerminal};
 use std::process::ExitCode;
 use std::time::{SystemTime, UNIX_EPOCH};
@@ -52,7 +51,8 @@ fn fetch(rt: &HostRuntime, setup: Setup) -> u8
         maildir,
         record,
     } = setup;
-    let hasher = match HashKeys::new(rt) {
+    // Keys of random: a server chooses the unique-ids, and can't choose ids that collide.
+    let hasher = match RandomState::new(rt) {
         Ok(hasher) => hasher,
         Err(error) => return tell(rt, failure_of(error, Failure::CannotRead)),
     };

@@ -87,56 +87,40 @@ fn long_flag<'a>(alloc: Global, name: &'a str, help: &'a str) -> Arg<'a>
         .action(ArgAction::Count)
 }
 
+// The lines of help.
+const RCFILE: &str =
+    "Read the settings from FILE, in DIR unless it begins with / or ~/ [getmailrc]";
+
+const GETMAILDIR: &str = "Keep the rc file and the record in DIR [~/.getmail]";
+
+const VERBOSE: &str = "Report more, each time by one, up to 2";
+
+const QUIET: &str = "Write no report";
+
+const ALL: &str = "Fetch all messages, those too that were delivered before";
+
+const NEW: &str = "Fetch only messages that were not delivered before";
+
+const DELETE: &str = "Delete from the server what is held";
+
+const DONT_DELETE: &str = "Delete nothing now, unless delete_after says so";
+
+const REHEARSE: &str = "Hold a session with standard input, and store nothing";
+
 /// The options and flags of the program.
 pub fn command<'a>(alloc: Global) -> Result<Command<'a>, AllocError>
     ensures { IfOk result (λ command. app_of command ≡ getmail) }
 {
     Command::new(alloc, "getmail")
-        .arg(value_option(
-            alloc,
-            "rcfile",
-            'r',
-            "FILE",
-            "Read the settings from FILE, in DIR unless it begins with / or ~/ [getmailrc]",
-        ))?
-        .arg(value_option(
-            alloc,
-            "getmaildir",
-            'g',
-            "DIR",
-            "Keep the rc file and the record in DIR [~/.getmail]",
-        ))?
-        .arg(flag(
-            alloc,
-            "verbose",
-            'v',
-            "Report more, each time by one, up to 2",
-        ))?
-        .arg(flag(alloc, "quiet", 'q', "Write no report"))?
-        .arg(flag(
-            alloc,
-            "all",
-            'a',
-            "Fetch all messages, those too that were delivered before",
-        ))?
-        .arg(flag(
-            alloc,
-            "new",
-            'n',
-            "Fetch only messages that were not delivered before",
-        ))?
-        .arg(flag(alloc, "delete", 'd', "Delete from the server what is held"))?
-        .arg(flag(
-            alloc,
-            "dont-delete",
-            'l',
-            "Delete nothing now, unless delete_after says so",
-        ))?
-        .arg(long_flag(
-            alloc,
-            "rehearse",
-            "Hold a session with standard input, and store nothing",
-        ))
+        .arg(value_option(alloc, "rcfile", 'r', "FILE", RCFILE))?
+        .arg(value_option(alloc, "getmaildir", 'g', "DIR", GETMAILDIR))?
+        .arg(flag(alloc, "verbose", 'v', VERBOSE))?
+        .arg(flag(alloc, "quiet", 'q', QUIET))?
+        .arg(flag(alloc, "all", 'a', ALL))?
+        .arg(flag(alloc, "new", 'n', NEW))?
+        .arg(flag(alloc, "delete", 'd', DELETE))?
+        .arg(flag(alloc, "dont-delete", 'l', DONT_DELETE))?
+        .arg(long_flag(alloc, "rehearse", REHEARSE))
 }
 
 /// A text of its own.
