@@ -4,6 +4,8 @@
 What stands in backticks or on a line of code is looked at. A name with a slash or with a file's ending is a file, at the top
 or in any crate; `make WORD` is a target of the Makefile; any other name is one that a source, a definition, a test or a
 man page uses. Names in capitals stand for something else (`FILE`), and so do those in OTHERS, which are no names of ours.
+
+And the man page lists each line that a fault of getmail is told by.
 """
 
 import re
@@ -19,6 +21,9 @@ FILE = re.compile(r"[A-Za-z0-9_.~*{},-]*(?:/[A-Za-z0-9_.*{},-]*)+|[A-Za-z0-9_-]+
 NAME = re.compile(r"[A-Za-z_][A-Za-z0-9_]*")
 # Names of other programs and of what users have: nothing here is called so.
 OTHERS = {"stunnel", "socat", "dovecot", "mutt", "fetchmail", "mpop", "Display", "BrokenUIDLPOP3Retriever"}
+# The sources of the lines that faults are told by, and the one that no session of getmail is told.
+TELLING = ("crates/getmail/src/failure.rt", "crates/fetch_session/src/text.rt", "crates/rc_file/src/text.rt")
+NEVER_TOLD = "destination is no mbox"
 # Folders that a user or a build makes.
 MADE = ("~", "/", "bin/", "out/", "examples/demo/Maildir")
 
@@ -75,6 +80,16 @@ def faults_in(document, paths, words, targets):
                     yield f"{document}:{number}: nothing is called '{name}'"
 
 
+def told_without_help():
+    """Each line of a fault that the man page doesn't list, one for each."""
+    listed = re.findall(r"^\.It (.*)", (TOP / "man/getmail.1").read_text(), re.MULTILINE)
+    for source in TELLING:
+        for line in re.findall(r'(?:=> String::from_str\(alloc, |eprintln\()"(?:getmail: )?([^"{]+)"', (TOP / source).read_text()):
+            told = re.sub(r"(server refused) \w+", r"\1 X", line)
+            if told not in listed and told != NEVER_TOLD:
+                yield f"man/getmail.1 doesn't list '{line}' of {source}"
+
+
 def main():
     paths = tracked_files()
     words = words_of(paths)
@@ -82,6 +97,7 @@ def main():
     targets |= {name for name in ("getmail", "popd") if (TOP / "crates" / name).is_dir()}
     targets |= set(re.findall(r"\.PHONY: (.*)", (TOP / "Makefile").read_text())[0].split())
     faults = [fault for document in DOCUMENTS for fault in faults_in(document, paths, words, targets)]
+    faults += told_without_help()
     for fault in faults:
         print(fault)
     if not faults:

@@ -1,5 +1,6 @@
 """Sessions over loopback with a server that breaks off wherever it likes, into a Maildir in a real folder."""
 
+import hashlib
 import os
 import signal
 import socket
@@ -12,7 +13,7 @@ import unittest
 
 from getmail.account import Account
 from getmail.server import Server
-from harness import programs
+from harness import preload, programs
 from harness.kernel import LOOPBACK
 
 THREE = [(b"a", b"one\n"), (b"b", b".two\n\n"), (b"c", b"three\nFrom x\r\n")]
@@ -209,6 +210,30 @@ class Killed(Fetching):
                 self.check_good(self.session("-q"))
                 self.assertEqual(account.held(), sorted(wanted))
                 self.assertEqual(list((account.maildir / "tmp").iterdir()), [])
+
+
+class Addresses(Fetching):
+    """A server whose name has two addresses, 127.0.0.2 before 127.0.0.1."""
+
+    name = "mail.example"
+
+    def run_by_name(self, port):
+        """A run whose rc file has the server's name, and its line where it can't connect."""
+        self.account.rcfile.write_text(self.account.rcfile.read_text().replace(LOOPBACK, self.name))
+        self.account.digest = hashlib.sha256(f"{self.name}\0{port}\0u".encode()).hexdigest()
+        with preload.library("two_addresses") as library:
+            return self.account.run("-q", LD_PRELOAD=str(library))
+
+    def test_they_are_tried_in_turn(self):
+        thread = self.server.begin_session()
+        self.check_good(self.run_by_name(self.server.port))
+        thread.join(programs.SECONDS)
+        self.check_held(THREE)
+
+    def test_none_takes_a_connection(self):
+        self.server.socket.close()
+        line = f"getmail: cannot connect to {self.name}:{self.server.port}\n".encode()
+        self.assertEqual(self.run_by_name(self.server.port), programs.Run(1, b"", line))
 
 
 class Floods(unittest.TestCase):
