@@ -6,9 +6,14 @@ write replies made before. For both: messages and octets a second and their rati
 after the other; for `popd` the peak of memory too. To be reached: faster than that server on small messages, and
 memory of no more than the largest message and its reply together, above what the server needs for as many messages of
 one line.
+
+Beside dovecot, where that is installed: logins, listings, TOP and RETR over the same files. With valgrind, where that is
+installed: how many instructions refused passwords take that differ from the right one in other places.
 """
 
 import os
+import re
+import shutil
 import socket
 import subprocess
 import sys
@@ -262,6 +267,29 @@ def measure_greatest(folder):
     print(f"  one of 100 MB: peak of memory {multiple:.2f} of the message ({measure.verdict(multiple <= 1.25)})", flush=True)
 
 
+def instructions(maildir, password):
+    """How many instructions `popd` takes for a thousand logins with this password, which are refused."""
+    words = ["valgrind", "--tool=callgrind", "--callgrind-out-file=/dev/null", measure.program("popd"), "u",
+             str(maildir.parent / "password"), str(maildir)]
+    done = subprocess.run(words, input=b"USER u\r\nPASS %s\r\n" % password * 1_000, capture_output=True, check=True,
+                          timeout=SECONDS)
+    return int(re.search(rb"Collected : (\d+)", done.stderr)[1])
+
+
+def measure_passwords(folder):
+    """Passwords of 500 octets, of which one is wrong: the first, one in the middle, the last."""
+    if shutil.which("valgrind") is None:
+        print("  valgrind is not installed: no instructions are counted")
+        return
+    maildir = make_maildir(folder, 0, 0)
+    right = b"p" * 500
+    (maildir.parent / "password").write_bytes(right)
+    counts = [instructions(maildir, right[:place] + b"q" + right[place + 1:]) for place in (0, 250, 499)]
+    spread = (max(counts) - min(counts)) / min(counts)
+    print(f"  refused passwords that differ in the first, a middle or the last octet: {min(counts) // 1_000} instructions each, "
+          f"{spread:.4%} apart ({measure.verdict(spread < 0.001)})", flush=True)
+
+
 def main():
     print(f"popd --listen, one command at a time, best of {TURNS}; to be reached: ratio above 1 on small messages, "
           "memory of the largest message and its reply")
@@ -277,6 +305,8 @@ def main():
             measure_beside_dovecot(folder, name, count, octets)
     with tempfile.TemporaryDirectory() as folder:
         measure_greatest(folder)
+    with tempfile.TemporaryDirectory() as folder:
+        measure_passwords(folder)
 
 
 if __name__ == "__main__":

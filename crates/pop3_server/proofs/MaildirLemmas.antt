@@ -1,13 +1,10 @@
 -- One more file of a Maildir is listed.
-use Rattle.std.proofs.Common.{◌≡◌, ◌++◌, ◌∷◌, [], Ordering, BTreeSet, ℕ, Bool, true, false, cond, List, Vec, map, refl, ap, sym, subst, ◌∙◌, inl, inr}
+use Rattle.std.proofs.Common.{◌≡◌, ◌++◌, ◌∷◌, [], ℕ, Bool, true, false, cond, List, Vec, map, refl, ap, sym, subst, ◌∙◌, inl, inr}
 use Rattle.std.specs.List.{Contains}
-use Rattle.std.specs.Ordering.{nat_cmp, is_eq}
-use Rattle.std.specs.Cmp.Lexicographic.{slice_cmp}
-use Rattle.std.specs.BTreeSet.{contains, Updates}
-use Rattle.std.specs.BTreeMap.{is_at}
+use Rattle.std.specs.HashSet.{HashSet, contains, Updates}
+use Rattle.std.specs.Str.{bytes_eq}
 use Rattle.std.proofs.lemmas.Bool.{false≢true}
 use Rattle.std.proofs.lemmas.List.Elements.{Contains-push_cases}
-use Rattle.std.proofs.lemmas.Map.Text.{is_eq-slice_cmp}
 use Rattle.std.proofs.lemmas.Slice.Eq.{bytes_eq-Decides}
 use Rattle.mail_terms.specs.Distinct.{AreDistinct}
 use Rattle.std.proofs.lemmas.List.{map_push}
@@ -22,39 +19,39 @@ ids_push entries files entry file before same =
     ∙ sym (ap (map id_of_name) (map_push name_of files file) ∙ map_push id_of_name (names_of files) (name_of file))
 
 -- a key by its bytes
-abbrev key_order : {Z : Type 0} → Vec ℕ Z → Vec ℕ Z → Ordering
-key_order a b = slice_cmp nat_cmp a.items b.items
+abbrev same_key : {Z : Type 0} → Vec ℕ Z → Vec ℕ Z → Bool
+same_key a b = bytes_eq a.items b.items
 
 -- each of these ids is in the set
-abbrev pub AreSeen : {Z : Type 0} → BTreeSet (Vec ℕ Z) → List (List ℕ) → Type 0
-AreSeen {Z} seen ids = (key : Vec ℕ Z) → Contains ids key.items → contains key_order seen key ≡ true
+abbrev pub AreSeen : {Z S : Type 0} → HashSet (Vec ℕ Z) S → List (List ℕ) → Type 0
+AreSeen {Z} {S} seen ids = (key : Vec ℕ Z) → Contains ids key.items → contains same_key seen key ≡ true
 
-same_order : {Z : Type 0} (a b : Vec ℕ Z) → a.items ≡ b.items → is_at (key_order a) b ≡ true
-same_order a b same = subst (λ (l : List ℕ). is_eq (slice_cmp nat_cmp a.items l) ≡ true) same (is_eq-slice_cmp a.items a.items ∙ (bytes_eq-Decides a.items a.items).1 refl)
+same_bytes : {Z : Type 0} (a b : Vec ℕ Z) → a.items ≡ b.items → same_key a b ≡ true
+same_bytes a b same = (bytes_eq-Decides a.items b.items).1 same
 
 either_way : (b kept : Bool) → kept ≡ true → cond b true kept ≡ true
 either_way true kept is = refl
 either_way false kept is = is
 
 -- the set with one more key has one more id
-pub seen_push : {Z : Type 0} (old new : BTreeSet (Vec ℕ Z)) (key : Vec ℕ Z) → Updates key_order old new key true → (ids : List (List ℕ)) (id : List ℕ) → key.items ≡ id → AreSeen old ids → AreSeen new (ids ++ id ∷ [])
+pub seen_push : {Z S : Type 0} (old new : HashSet (Vec ℕ Z) S) (key : Vec ℕ Z) → Updates same_key old new key true → (ids : List (List ℕ)) (id : List ℕ) → key.items ≡ id → AreSeen old ids → AreSeen new (ids ++ id ∷ [])
 seen_push old new key updates ids id is seen = λ q h. updates.0 q ∙ elim (Contains-push_cases ids id q.items h) [
-  | inl before ↦ either_way (is_at (key_order key) q) (contains key_order old q) (seen q before)
-  | inr now ↦ ap (λ (b : Bool). cond b true (contains key_order old q)) (same_order key q (is ∙ now))
+  | inl before ↦ either_way (same_key key q) (contains same_key old q) (seen q before)
+  | inr now ↦ ap (λ (b : Bool). cond b true (contains same_key old q)) (same_bytes key q (is ∙ now))
 ]
 
 -- an id that isn't in the set is none of these
-pub unseen : {Z : Type 0} (seen : BTreeSet (Vec ℕ Z)) (key : Vec ℕ Z) (ids : List (List ℕ)) → AreSeen seen ids → contains key_order seen key ≡ false → Contains ids key.items → ⊥
+pub unseen : {Z S : Type 0} (seen : HashSet (Vec ℕ Z) S) (key : Vec ℕ Z) (ids : List (List ℕ)) → AreSeen seen ids → contains same_key seen key ≡ false → Contains ids key.items → ⊥
 unseen seen key ids all none h = false≢true (sym none ∙ all key h)
 
 -- one more message, whose id isn't in the set, is listed
-pub distinct_more : {Z : Type 0} (seen : BTreeSet (Vec ℕ Z)) (key : Vec ℕ Z) (entries : List Listed) (entry : Listed) → key.items ≡ entry.uid → AreDistinct (map uid_of entries)
-    → AreSeen seen (map uid_of entries) → contains key_order seen key ≡ false → AreDistinct (map uid_of (entries ++ entry ∷ []))
+pub distinct_more : {Z S : Type 0} (seen : HashSet (Vec ℕ Z) S) (key : Vec ℕ Z) (entries : List Listed) (entry : Listed) → key.items ≡ entry.uid → AreDistinct (map uid_of entries)
+    → AreSeen seen (map uid_of entries) → contains same_key seen key ≡ false → AreDistinct (map uid_of (entries ++ entry ∷ []))
 distinct_more seen key entries entry is distinct all none =
     subst (λ (l : List (List ℕ)). AreDistinct l) (sym (map_push uid_of entries entry))
     (distinct_push (map uid_of entries) entry.uid distinct (λ h. unseen seen key (map uid_of entries) all none (subst (λ (l : List ℕ). Contains (map uid_of entries) l) (sym is) h)))
 
-pub seen_more : {Z : Type 0} (old new : BTreeSet (Vec ℕ Z)) (key : Vec ℕ Z) (entries : List Listed) (entry : Listed) → key.items ≡ entry.uid → Updates key_order old new key true
+pub seen_more : {Z S : Type 0} (old new : HashSet (Vec ℕ Z) S) (key : Vec ℕ Z) (entries : List Listed) (entry : Listed) → key.items ≡ entry.uid → Updates same_key old new key true
     → AreSeen old (map uid_of entries) → AreSeen new (map uid_of (entries ++ entry ∷ []))
 seen_more old new key entries entry is updates all =
     subst (λ (l : List (List ℕ)). AreSeen new l) (sym (map_push uid_of entries entry)) (seen_push old new key updates (map uid_of entries) entry.uid is all)

@@ -13,11 +13,13 @@ use crate::maildir_names::{Folder, MailFile, unique_id};
 use crate::maildrop::{DropFault, Entry, MAX_COUNT, MAX_SIZE, Maildrop};
 use mail_terms::{FailureCount, base};
 use std::alloc::{AllocError, AllocFailed};
-use std::collections::BTreeSet;
+use std::collections::HashSet;
 use std::fs;
 use std::fs::OpenFile;
+use std::hash::RandomState;
 use std::io::{self, ErrorKind, Read, Seek, SeekFrom};
 use std::marker::Model;
+use std::random::RandomSource;
 use std::rt::Files;
 
 /// A Maildir in a real folder. Nothing is known of what it holds: contracts see its path, the names of
@@ -95,7 +97,7 @@ struct ListedFiles {
     files: Vec<ListedFile>,
 }
 
-impl<'a, R: Files + AllocGlobal + Clone + Drop> MaildirDrop<'a, R> {
+impl<'a, R: Files + RandomSource + AllocGlobal + Clone + Drop> MaildirDrop<'a, R> {
     /// The maildrop of the Maildir at this path, which must have the folders `new` and `cur`.
     pub fn at(rt: &'a R, path: String) -> MaildirDrop<'a, R>
         ensures { result ≡ record { path = string_bytes path; names = []; failures = 0; removals = 0 } }
@@ -183,7 +185,7 @@ impl<'a, R: Files + AllocGlobal + Clone + Drop> MaildirDrop<'a, R> {
     /// All files, in the order in which their messages are listed. A file that moves from `new` to `cur`
     /// meanwhile is found all the same, as `new` is looked through first.
     fn find(&self) -> io::Result<Vec<MailFile>> {
-        let mut found = Vec::new(self.rt.alloc());
+        let mut found = Vec::with_capacity(self.rt.alloc(), self.counted.len())?;
         self.find_in(Folder::New, &mut found)?;
         self.find_in(Folder::Cur, &mut found)?;
         found.sort()?;
@@ -210,9 +212,15 @@ impl<'a, R: Files + AllocGlobal + Clone + Drop> MaildirDrop<'a, R> {
         ensures names { IfOk result (λ listing. HaveIds listing.entries.items (names_of listing.files.items)) }
     {
         let alloc = self.rt.alloc();
-        let mut seen: BTreeSet<Vec<u8>> = BTreeSet::new(alloc);
-        let mut entries = Vec::new(alloc);
-        let mut files = Vec::new(alloc);
+        // By keys of random: the names of files may come from ids that a server chose.
+        let keys = RandomState::new(self.rt)?;
+        let mut seen: HashSet<Vec<u8>, RandomState> = HashSet::with_capacity_and_hasher(
+            alloc,
+            found.len(),
+            keys,
+        )?;
+        let mut entries = Vec::with_capacity(alloc, found.len())?;
+        let mut files = Vec::with_capacity(alloc, found.len())?;
         let mut counted = Counted::new(self.counted.as_slice());
         let mut piece = Vec::from_elem(alloc, 0u8, PIECE)?;
         for file in found {
@@ -360,7 +368,7 @@ impl<'a, R: Files + AllocGlobal + Clone + Drop> MaildirDrop<'a, R> {
     }
 }
 
-impl<'a, R: Files + AllocGlobal + Clone + Drop> Maildrop for MaildirDrop<'a, R> {
+impl<'a, R: Files + RandomSource + AllocGlobal + Clone + Drop> Maildrop for MaildirDrop<'a, R> {
     ghost mail = { λ d. mail_of d };
 
     ghost sound = { λ _. ⊥ };
