@@ -1,22 +1,84 @@
 -- A tail is a conversation.
-use Rattle.std.proofs.Common.{◌≡◌, Option, None, Some, Result, Ok, Err, subst}
+use Rattle.std.proofs.Common.{◌≡◌, inl, inr, ℕ, List, [], ◌++◌, Option, None, Some, Result, Ok, Err, refl, sym, ap, subst, ◌∙◌, append_assoc}
+use Rattle.std.proofs.lemmas.List.{append-nil}
+use Rattle.pop3_wire.specs.Line.{ended}
 use Rattle.pop3_wire.specs.Bodies.{Rest}
-use Rattle.pop3_wire.specs.Place.{Place}
+use Rattle.pop3_wire.specs.Place.{Place, at}
 use Rattle.pop3_client.specs.declared.fault.Fault.{Fault as TalkFault}
-use Rattle.pop3_client.specs.Turns.{retr}
-use Rattle.pop3_client.specs.Conversation.{Talks}
+use Rattle.pop3_client.specs.Turns.{Turn, retr}
+use Rattle.pop3_client.specs.Texts.{Fetching}
+use Rattle.pop3_client.specs.Conversation.{Broke, Tells, Talks}
 use Rattle.fetch_session.specs.declared.fault.Fault.{Fault}
-use Rattle.fetch_session.specs.Tail.{turns_in, tail, Drops, LeftBy}
+use Rattle.fetch_session.specs.Tail.{turns_in, tail, Drops, GotOn, LeftBy}
 use Rattle.fetch_session.proofs.TurnLemmas.{talks_on, stopped_first}
 
 abbrev result_of : Result (Unit {0}) TalkFault → Result (Unit {0}) TalkFault
 result_of r = r
 
+-- ---- what was got goes on from a reply under way
+
+got_after : (a b c : Place) → GotOn a b → GotOn b c → GotOn a c
+got_after a b c (xs, first) (ys, then) = (xs ++ ys, then ∙ ap (λ (s : List ℕ). s ++ ys) first ∙ append_assoc a.link.got xs ys)
+
+got_broke : (turn : Turn) (a b : Place) (why : TalkFault) → Broke turn a b why → GotOn a b
+got_broke turn a b why (inl part) = ([], part.1.got ∙ sym (append-nil a.link.got))
+got_broke turn a b why (inr (inl bad)) = (bad.gained, bad.got)
+got_broke turn a b why (inr (inr none)) = ([], ap (λ (p : Place). p.link.got) none.2 ∙ sym (append-nil a.link.got))
+
+got_tells : (turn : Turn) (a b : Place) (r : Result (Unit {0}) TalkFault) → Tells turn a r b → GotOn a b
+got_tells turn a b (Ok done) tells = (tells.1.gained, tells.1.got)
+got_tells turn a b (Err why) broke = got_broke turn a b why broke
+
+got_talks : (turns : List Turn) (a b : Place) (r : Result (Unit {0}) TalkFault) → Talks turns a r b → GotOn a b
+got_talks turns a b (Ok done) talks = (talks.1.gained, talks.1.got)
+got_talks turns a b (Err why) stopped = got_after a stopped.mid b (stopped.talked.gained, stopped.talked.got) (got_broke stopped.next stopped.mid b why stopped.broke)
+
+-- a place from which the same text would be under way, where all that came had come before it was asked for
+abbrev again : (number : ℕ) (start old : Place) (rest : Rest) (text : List ℕ) → Fetching (retr number) start old rest text → Place
+again number start old rest text now = at (record old.link { sent = start.link.sent }) (ended now.line ++ (now.under.used ++ old.waiting))
+
+fetching_again : (number : ℕ) (start old : Place) (rest : Rest) (text : List ℕ) → (now : Fetching (retr number) start old rest text) → Fetching (retr number) (again number start old rest text now) old rest text
+fetching_again number start old rest text now = record {
+  line = now.line;
+  mid = at old.link (now.under.used ++ old.waiting);
+  opened = record {
+    gained = [];
+    rest = now.opened.rest;
+    sent = now.under.drew.sent ∙ now.opened.sent;
+    got = sym (append-nil old.link.got);
+    heard = append-nil (ended now.line ++ (now.under.used ++ old.waiting));
+    is = now.opened.is;
+    short = now.opened.short;
+    positive = now.opened.positive;
+    fits = now.opened.fits;
+    steady = record { ended = refl; failures = refl };
+  };
+  under = record {
+    used = now.under.used;
+    gained = [];
+    reached = now.under.reached;
+    sizes = now.under.sizes;
+    heard = append-nil (now.under.used ++ old.waiting);
+    drew = record { got = sym (append-nil old.link.got); sent = refl };
+    steady = record { ended = refl; failures = refl };
+  };
+}
+
+got_under : (number : ℕ) (start old new : Place) (rest : Rest) (text : List ℕ) (r : Result (Unit {0}) TalkFault) → Drops (Some rest) old r new → Fetching (retr number) start old rest text → GotOn old new
+got_under number start old new rest text r drops now =
+    got_tells (retr number) (again number start old rest text now) new r (drops.1 number (again number start old rest text now) text (fetching_again number start old rest text now))
+
+-- ---- a tail behind a reply under way
+
 pub left_dropped : (fault : Fault) (rest : Option Rest) (old mid new : Place) (r : Result (Unit {0}) TalkFault) → Drops rest old (Ok tt) mid → Talks (turns_in (tail fault)) mid r new → LeftBy fault rest old new
 left_dropped fault None old mid new r same talks = (r, subst (λ (p : Place). Talks (turns_in (tail fault)) p r new) same talks)
 left_dropped fault (Some rest) old mid new r drops talks = (
   λ done. (r, subst (λ (p : Place). Talks (turns_in (tail fault)) p r new) (drops.0 done).1 talks),
-  λ number start text now. let told = drops.1 number start text now in (r, talks_on (retr number) (turns_in (tail fault)) told.0 start mid new r told.1 talks),
+  λ number start text now. let told = drops.1 number start text now in (
+    r,
+    talks_on (retr number) (turns_in (tail fault)) told.0 start mid new r told.1 talks,
+    got_after old mid new (got_under number start old mid rest text (Ok tt) drops now) (got_talks (turns_in (tail fault)) mid new r talks),
+  ),
 )
 
 pub failed : (why : TalkFault) → result_of (Err why) ≡ result_of (Ok tt) → ⊥
@@ -26,5 +88,5 @@ pub left_broken : (fault : Fault) (rest : Option Rest) (old new : Place) (why : 
 left_broken fault None old new why none = absurd none
 left_broken fault (Some rest) old new why drops = (
   λ done. absurd (failed why (drops.0 done).0),
-  λ number start text now. (Err why, stopped_first (retr number) (turns_in (tail fault)) start new why (drops.1 number start text now)),
+  λ number start text now. (Err why, stopped_first (retr number) (turns_in (tail fault)) start new why (drops.1 number start text now), got_under number start old new rest text (Err why) drops now),
 )

@@ -1,5 +1,5 @@
 -- What is said after a fault.
-use Rattle.std.specs.Prelude.{◌≡◌, ℕ, List, [], ◌∷◌, Option, None, Some, Result, Ok, Err}
+use Rattle.std.specs.Prelude.{◌≡◌, ℕ, List, [], ◌∷◌, ◌++◌, Option, None, Some, Result, Ok, Err}
 use Rattle.pop3_wire.specs.Bodies.{Rest}
 use Rattle.pop3_wire.specs.declared.unstuffer.Spot.TheVariants.{Done}
 use Rattle.pop3_client.specs.Texts.{Fetching}
@@ -35,12 +35,16 @@ Drops None old (Err fault) new = ⊥
 Drops (Some rest) old result new = (rest.spot ≡ Done → (result ≡ Ok tt) × (new ≡ old))
     × ((number : ℕ) (start : Place) (text : List ℕ) → Fetching (retr number) start old rest text → Tells (retr number) start result new)
 
--- with no reply under way the tail was talked, or it stopped; else the turn of that reply and then the tail, from where that turn began, and behind a whole reply the tail alone
+-- what had come until then stands in front of all that came
+abbrev pub GotOn : Place → Place → Type 0
+GotOn old new = (gained : List ℕ) × (new.link.got ≡ old.link.got ++ gained)
+
+-- with no reply under way the tail was talked, or it stopped; else the turn of that reply and then the tail, from where that turn began, where what comes goes on from what had come; and behind a whole reply the tail alone
 abbrev pub LeftBy : Fault → Option Rest → Place → Place → Type 0
 LeftBy fault None old new = (result : Result (Unit {0}) TalkFault) × Talks (turns_in (tail fault)) old result new
 LeftBy fault (Some rest) old new = (rest.spot ≡ Done → (result : Result (Unit {0}) TalkFault) × Talks (turns_in (tail fault)) old result new)
     × ((number : ℕ) (start : Place) (text : List ℕ) → Fetching (retr number) start old rest text
-    → (result : Result (Unit {0}) TalkFault) × Talks (retr number ∷ turns_in (tail fault)) start result new)
+    → (result : Result (Unit {0}) TalkFault) × Talks (retr number ∷ turns_in (tail fault)) start result new × GotOn old new)
 
 abbrev pub Left : Cut → Place → Place → Type 0
 Left cut old new = LeftBy cut.fault cut.rest old new
