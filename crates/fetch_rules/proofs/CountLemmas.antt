@@ -4,9 +4,9 @@ use Rattle.std.specs.Prelude.{bytes_eq, filter}
 use Rattle.std.specs.List.{AllByRecursion}
 use Rattle.std.proofs.lemmas.Bool.{cases_Bool, true≢false, or_left, or_right, or_parts, or_from, or_cases, not_from_false, not_from_true, and_parts}
 use Rattle.std.proofs.lemmas.List.{length-map}
-use Rattle.mail_terms.specs.Listing.{Item}
+use Rattle.mail_terms.specs.Listing.{Item, is_flagged}
 use Rattle.mail_terms.specs.UniqueId.{has_id}
-use Rattle.fetch_rules.specs.Record.{Row, IsRecord, is_of, has_row, is_flagged, with_held, new_ids, distinct_ids, merged}
+use Rattle.fetch_rules.specs.Record.{Row, IsRecord, is_of, has_row, with_held, new_ids, distinct_ids, merged}
 use Rattle.fetch_rules.specs.RecordFile.{changed}
 use Rattle.fetch_rules.proofs.FilterLemmas.{filter_keeps, filter_leaves}
 use Rattle.fetch_rules.proofs.IdLemmas.{same_from_test, test_from_same, test_from_other}

@@ -7,8 +7,8 @@ use Rattle.std.proofs.lemmas.List.{append-nil, map-append, take_more, take_all, 
 use Rattle.std.proofs.lemmas.List.Folds.{list_any-append}
 use Rattle.std.proofs.lemmas.List.Concat.{flat_map-append}
 use Rattle.std.proofs.lemmas.List.Elements.{All-from_recursion, recursion_from_All}
-use Rattle.mail_terms.specs.Listing.{Item}
-use Rattle.fetch_rules.specs.Record.{Row, IsRow, IsRecord, is_of, has_row, is_flagged, marked, merged, with_delivered}
+use Rattle.mail_terms.specs.Listing.{Item, is_flagged}
+use Rattle.fetch_rules.specs.Record.{Row, IsRow, IsRecord, is_of, has_row, marked, merged, with_delivered}
 use Rattle.fetch_rules.specs.RecordFile.{changed, written, line_of}
 use Rattle.fetch_rules.specs.RecordMeaning.{delivers, may_take, taken}
 use Rattle.fetch_rules.specs.RecordGrowth.{taken_all, MayFollow, Updates}

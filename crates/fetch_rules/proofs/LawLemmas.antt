@@ -4,8 +4,8 @@ use Rattle.std.specs.Prelude.{bytes_eq}
 use Rattle.std.specs.List.{list_any, filter}
 use Rattle.std.proofs.lemmas.Bool.{both_ways, cases_Bool}
 use Rattle.std.proofs.lemmas.List.Folds.{list_any-append}
-use Rattle.mail_terms.specs.Listing.{Item, has_item}
-use Rattle.fetch_rules.specs.Record.{Row, is_of, has_row, is_delivered, with_delivered, marked, distinct_ids, new_ids, is_flagged, with_held, merged}
+use Rattle.mail_terms.specs.Listing.{Item, has_item, is_flagged}
+use Rattle.fetch_rules.specs.Record.{Row, is_of, has_row, is_delivered, with_delivered, marked, distinct_ids, new_ids, with_held, merged}
 use Rattle.fetch_rules.proofs.IdLemmas.{same_from_test, test_from_other, test_from_same}
 
 bytes_swap : (a b : List ℕ) → bytes_eq a b ≡ bytes_eq b a

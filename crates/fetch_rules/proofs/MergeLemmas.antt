@@ -13,8 +13,8 @@ use Rattle.fetch_rules.proofs.RecordLemmas.{with_delivered-false}
 use Rattle.fetch_rules.proofs.IdLemmas.{same_from_test}
 use Rattle.fetch_rules.proofs.IdSetLemmas.{bytes_eq_symm}
 use Rattle.mail_terms.specs.UniqueId.{has_id}
-use Rattle.mail_terms.specs.Listing.{Item}
-use Rattle.fetch_rules.specs.Record.{Row, IsRecord, is_of, with_delivered, marked, is_delivered, is_flagged, with_held, new_ids, undelivered, merged}
+use Rattle.mail_terms.specs.Listing.{Item, is_flagged}
+use Rattle.fetch_rules.specs.Record.{Row, IsRecord, is_of, with_delivered, marked, is_delivered, with_held, new_ids, undelivered, merged}
 
 abbrev nobody : Item
 nobody = record { uid = []; size = 0 }

@@ -4,7 +4,7 @@ use Rattle.std.specs.Prelude.{ℕ, ◌<◌, ◌^◌, Bool, false, ◌&&◌, ◌|
 use Rattle.std.specs.List.{list_any}
 use Rattle.mail_terms.specs.UniqueId.{IsLegalId}
 use Rattle.mail_terms.specs.Distinct.{AreDistinct}
-use Rattle.mail_terms.specs.Listing.{Item}
+use Rattle.mail_terms.specs.Listing.{Item, is_flagged}
 
 -- one message: its id, the second since 1970 at which it was first listed, and whether it was
 -- delivered
@@ -72,10 +72,6 @@ new_ids rows listing = filter (λ uid. not (has_row rows uid)) (distinct_ids (ma
 -- the row of an id that was seen for the first time
 abbrev pub undelivered : ℕ → List ℕ → Row
 undelivered now uid = record { uid = uid; first_seen = now; delivered = false }
-
--- whether an item with this id is flagged as held
-abbrev pub is_flagged : List Item → List Bool → List ℕ → Bool
-is_flagged listing held uid = list_any (λ flagged. flagged.1 && bytes_eq flagged.0.uid uid) (zip listing held)
 
 -- the rows, with delivered set for the ids that are flagged
 abbrev pub with_held : List Item → List Bool → List Row → List Row

@@ -2,10 +2,10 @@
 //! contract is the law.
 
 ghost use Rattle.std.specs.Prelude.{◌≡◌, ℕ, ◌&&◌, ◌||◌, Bool, List, [], bytes_eq};
-ghost use Rattle.mail_terms.specs.Listing.{Item, Joins, has_item};
+ghost use Rattle.mail_terms.specs.Listing.{Item, Joins, has_item, is_flagged};
 ghost use Rattle.fetch_rules.specs.Laws.{FetchesFirsts};
 ghost use Rattle.fetch_rules.specs.Plan.{planned, retrieved};
-ghost use Rattle.fetch_rules.specs.Record.{Row, has_row, is_delivered, is_flagged, marked, merged};
+ghost use Rattle.fetch_rules.specs.Record.{Row, has_row, is_delivered, marked, merged};
 ghost use Rattle.fetch_rules.specs.Wanted.{wanted};
 
 use mail_terms::{ScanRow, UidRow};

@@ -3,11 +3,11 @@ use Rattle.std.proofs.Common.{◌≡◌, ℕ, Bool, true, false, List, [], ◌�
 use Rattle.std.specs.Prelude.{◌&&◌, ◌||◌, bytes_eq}
 use Rattle.std.specs.List.{AllByRecursion}
 use Rattle.std.proofs.lemmas.Slice.Eq.{bytes_eq-Decides}
-use Rattle.mail_terms.specs.Listing.{Item, has_item}
-use Rattle.fetch_rules.specs.Record.{Row, is_of, has_row, is_delivered, is_flagged, with_delivered, marked, marked_all, new_ids, with_held, merged}
+use Rattle.mail_terms.specs.Listing.{Item, has_item, is_flagged}
+use Rattle.fetch_rules.specs.Record.{Row, is_of, has_row, is_delivered, with_delivered, marked, marked_all, new_ids, with_held, merged}
 use Rattle.mail_store.specs.Maildir.{Maildir}
 use Rattle.mail_store.specs.FileName.{is_held}
-use Rattle.mail_store.specs.Held.{flags_of, has_flagged}
+use Rattle.mail_store.specs.Held.{flags_of}
 use Rattle.fetch_session.specs.Task.{Task, says, skips, stores, rereads, deletes, Done, tasks_of, ids_in, ids_of, ids_ahead}
 use Rattle.fetch_runs.proofs.StatePlan.{fetched, fetched_in, IsRight, deleted_in, deleted_by, Safe, all_on}
 
@@ -29,7 +29,7 @@ MarkedKeepsRows = (rows : List Row) (uid other : List ℕ) → has_row (marked r
 
 abbrev pub FlagsTell : Type 0
 FlagsTell = (account : List ℕ) (maildir : Maildir) (items : List Item) (uid : List ℕ)
-    → has_flagged items (flags_of account maildir items) uid ≡ (has_item items uid && is_held account maildir uid)
+    → is_flagged items (flags_of account maildir items) uid ≡ (has_item items uid && is_held account maildir uid)
 
 -- ---- marks that change nothing
 

@@ -7,13 +7,13 @@ use Rattle.std.proofs.lemmas.List.{take_more, map-append, length-map, get_or-map
 use Rattle.std.proofs.lemmas.List.Folds.{list_any-append, list_any_at}
 use Rattle.std.proofs.lemmas.List.Sorted.{list_any-IsPermutation}
 use Rattle.std.proofs.lemmas.Slice.Eq.{bytes_eq-Decides}
-use Rattle.mail_terms.specs.Listing.{Item, has_item}
+use Rattle.mail_terms.specs.Listing.{Item, has_item, is_flagged}
 use Rattle.mail_terms.specs.UniqueId.{IsLegalId}
 use Rattle.mail_store.specs.Maildir.{Maildir, File, file, name_in, names_of, IsInNew, with_file}
 use Rattle.mail_terms.specs.MaildirName.{base}
 use Rattle.mail_store.specs.FileName.{name_of, names_id, is_held, IsAccountText}
 use Rattle.mail_store.proofs.NameLemmas.{HaveRanges, base-name_of, name_of-injective}
-use Rattle.mail_store.specs.Held.{flags_of, has_flagged}
+use Rattle.mail_store.specs.Held.{flags_of}
 
 -- ---- one more name
 
@@ -169,7 +169,7 @@ and_more false false true held agree = refl
 and_more false false false held agree = refl
 
 pub flagged_where_held : (account : List ℕ) (maildir : Maildir) (items : List Item) (uid : List ℕ)
-    → has_flagged items (flags_of account maildir items) uid ≡ (has_item items uid && is_held account maildir uid)
+    → is_flagged items (flags_of account maildir items) uid ≡ (has_item items uid && is_held account maildir uid)
 flagged_where_held account maildir [] uid = refl
 flagged_where_held account maildir (item ∷ items) uid =
     ap (λ b. (is_held account maildir item.uid && bytes_eq item.uid uid) || b) (flagged_where_held account maildir items uid)

@@ -5,8 +5,8 @@ use Rattle.std.specs.List.{flat_map, AllByRecursion}
 use Rattle.std.proofs.lemmas.Bool.{true≢false}
 use Rattle.std.proofs.lemmas.Bool.Decides.{eqb_tells}
 use Rattle.std.proofs.lemmas.List.{append-nil, append_cancel_right, flat_map_more, map-append}
-use Rattle.mail_terms.specs.Text.{IsWhole}
-use Rattle.mail_store.specs.Mboxrd.{lines_of, HasNoLf, IsLine, from_words, begins_entry, quoted, unquoted, separator, entry_of, Group, IsHead, IsInner, IsGroup, group_bytes, group_text, MboxFile, MayGoOn, EntryAddsText, OneReading, TextsMayGoOn}
+use Rattle.mail_terms.specs.Text.{IsWhole, HasNoLf}
+use Rattle.mail_store.specs.Mboxrd.{lines_of, IsLine, from_words, begins_entry, quoted, unquoted, separator, entry_of, Group, IsHead, IsInner, IsGroup, group_bytes, group_text, MboxFile, MayGoOn, EntryAddsText, OneReading, TextsMayGoOn}
 use Rattle.mail_store.specs.MboxScan.{IsApart, OpensEntry}
 use Rattle.mail_store.proofs.MboxLines.{empty_line, lines_kept, lines_joined, whole_lines}
 use Rattle.mail_store.proofs.MboxQuoting.{begins_with, begins_entry_by, quoted_line, quoted_apart, lines_read}

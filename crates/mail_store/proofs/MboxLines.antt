@@ -5,8 +5,8 @@ use Rattle.std.specs.List.{flat_map, onto_first, AllByRecursion}
 use Rattle.std.proofs.lemmas.Bool.Decides.{eqb_tells}
 use Rattle.std.proofs.lemmas.Grind.{common_steps}
 use Rattle.std.proofs.lemmas.List.{take-append-drop}
-use Rattle.mail_terms.specs.Text.{IsWhole}
-use Rattle.mail_store.specs.Mboxrd.{lines_of, HasNoLf, IsLine}
+use Rattle.mail_terms.specs.Text.{IsWhole, HasNoLf}
+use Rattle.mail_store.specs.Mboxrd.{lines_of, IsLine}
 
 -- ---- the first line
 

@@ -5,7 +5,8 @@ use Rattle.std.proofs.lemmas.Bool.{cases_Bool, true≢false}
 use Rattle.std.proofs.lemmas.Bool.Decides.{eqb_tells, Decides-eqb}
 use Rattle.std.proofs.lemmas.List.{take_at, length-append, take-append-drop}
 use Rattle.std.proofs.lemmas.Slice.Eq.{starts_is}
-use Rattle.mail_store.specs.Mboxrd.{lines_of, HasNoLf, IsLine, from_words, begins_entry, is_greater, is_marked, quoted, unquoted, quoted_text, UnquotesQuoted}
+use Rattle.mail_terms.specs.Text.{HasNoLf}
+use Rattle.mail_store.specs.Mboxrd.{lines_of, IsLine, from_words, begins_entry, is_greater, is_marked, quoted, unquoted, quoted_text, UnquotesQuoted}
 use Rattle.mail_store.proofs.MboxLines.{line_first, first_cut, whole_lines, lines_joined}
 
 -- ---- marked lines

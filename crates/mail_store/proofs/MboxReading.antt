@@ -3,8 +3,8 @@ use Rattle.std.proofs.Common.{◌≡◌, ◌⊎◌, inl, inr, ℕ, ◌<◌, ◌+
 use Rattle.std.specs.List.{flat_map, AllByRecursion}
 use Rattle.std.proofs.lemmas.Grind.{common_steps}
 use Rattle.std.proofs.lemmas.List.{append-nil, append_cancel_left, append_cancel_right, map-append, take-append-drop}
-use Rattle.mail_terms.specs.Text.{IsWhole}
-use Rattle.mail_store.specs.Mboxrd.{lines_of, HasNoLf, IsLine, begins_entry, unquoted_text, Group, IsHead, IsInner, IsGroup, group_bytes, group_text, MboxFile, HasNoTexts}
+use Rattle.mail_terms.specs.Text.{IsWhole, HasNoLf}
+use Rattle.mail_store.specs.Mboxrd.{lines_of, IsLine, begins_entry, unquoted_text, Group, IsHead, IsInner, IsGroup, group_bytes, group_text, MboxFile, HasNoTexts}
 use Rattle.mail_store.specs.MboxScan.{IsApart, OpensEntry, CutsGroup, HoldsText}
 use Rattle.mail_store.proofs.MboxLines.{line_first, lines_joined, whole_lines}
 use Rattle.mail_store.proofs.MboxQuoting.{front_taken}

@@ -27,7 +27,3 @@ Finds account old items (Err NoMemory) new = new ≡ old
 -- whether a set of texts has this one
 abbrev pub has_text : BTreeSet (Bor (List ℕ)) → List ℕ → Bool
 has_text texts q = contains_by (λ text. slice_cmp nat_cmp q text.now) texts
-
--- whether some item of this id is flagged
-abbrev pub has_flagged : List Item → List Bool → List ℕ → Bool
-has_flagged items flags uid = list_any (λ flagged. flagged.1 && bytes_eq flagged.0.uid uid) (zip items flags)

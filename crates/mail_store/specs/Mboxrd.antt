@@ -1,7 +1,7 @@
 -- Texts in an mboxrd file: how a line is quoted, what an entry is, and which texts a file stands for.
 use Rattle.std.specs.Prelude.{◌≡◌, ◌≢◌, ◌⊎◌, ◌==◌, ◌&&◌, ℕ, Bool, false, List, [], ◌∷◌, ◌++◌, true, map, length, take, if◌then◌else◌, codes, nat_eq}
 use Rattle.std.specs.List.{flat_map, onto_first, starts_with, AllByRecursion}
-use Rattle.mail_terms.specs.Text.{IsWhole}
+use Rattle.mail_terms.specs.Text.{IsWhole, HasNoLf}
 
 -- ---- lines
 
@@ -9,10 +9,6 @@ use Rattle.mail_terms.specs.Text.{IsWhole}
 abbrev pub lines_of : List ℕ → List (List ℕ)
 lines_of [] = []
 lines_of (byte ∷ rest) = if byte == 10 then (10 ∷ []) ∷ lines_of rest else onto_first byte (lines_of rest)
-
--- no LF stands among the bytes
-abbrev pub HasNoLf : List ℕ → Type 0
-HasNoLf bytes = AllByRecursion (λ byte. byte ≢ 10) bytes
 
 -- a line with the LF that ends it
 pub record IsLine (line : List ℕ) : Type 0 where

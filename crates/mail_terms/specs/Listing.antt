@@ -1,6 +1,6 @@
 -- The listing of a maildrop: the rows of UIDL and of LIST, joined by their numbers (RFC 1939,
 -- sections 5 and 7).
-use Rattle.std.specs.Prelude.{◌≡◌, ℕ, ◌<◌, ◌-◌, Bool, not, List, take, drop, length, map, bytes_eq, All, HoldsAt, slice_index, slice_index_or}
+use Rattle.std.specs.Prelude.{◌≡◌, ℕ, ◌<◌, ◌-◌, Bool, not, List, take, drop, length, map, bytes_eq, All, HoldsAt, slice_index, slice_index_or, ◌&&◌, zip}
 use Rattle.std.specs.List.{list_any, enumerate_from}
 use Rattle.mail_terms.specs.Distinct.{AreDistinct}
 use Rattle.mail_terms.specs.Numbering.{IsNumbering}
@@ -39,6 +39,10 @@ is_first listing message = not (has_item (take (message.0 - 1) listing) message.
 -- whether no later message has the id
 abbrev pub is_last : List Item → ℕ × Item → Bool
 is_last listing message = not (has_item (drop message.0 listing) message.1.uid)
+
+-- whether a message of the id is flagged
+abbrev pub is_flagged : List Item → List Bool → List ℕ → Bool
+is_flagged listing flags uid = list_any (λ flagged. flagged.1 && bytes_eq flagged.0.uid uid) (zip listing flags)
 
 -- the rows of UIDL and of LIST can be joined: both number the messages from 1 to n
 abbrev pub Agree : ℕ → List UidRow → List ScanRow → Type 0

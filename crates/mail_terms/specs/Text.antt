@@ -1,9 +1,13 @@
 -- Texts, whose lines end at LF.
-use Rattle.std.specs.Prelude.{◌≡◌, ◌⊎◌, ◌==◌, ℕ, Bool, List, [], ◌∷◌, ◌++◌, if◌then◌else◌}
-use Rattle.std.specs.List.{onto_first}
+use Rattle.std.specs.Prelude.{◌≡◌, ◌⊎◌, ◌==◌, ℕ, Bool, List, [], ◌∷◌, ◌++◌, if◌then◌else◌, ◌≢◌}
+use Rattle.std.specs.List.{onto_first, AllByRecursion}
 
 abbrev pub is_line_feed : ℕ → Bool
 is_line_feed byte = byte == 10
+
+-- no LF stands in it
+abbrev pub HasNoLf : List ℕ → Type 0
+HasNoLf bytes = AllByRecursion (λ byte. byte ≢ 10) bytes
 
 -- the lines of a text, without their LF; a last piece without LF is a line
 abbrev pub lines_of_text : List ℕ → List (List ℕ)

@@ -3,10 +3,10 @@ use Rattle.std.proofs.Common.{◌≡◌, ◌==◌, ℕ, ◌+◌, Bool, true, fal
 use Rattle.std.specs.List.{flat_map, sum_by, onto_first}
 use Rattle.std.proofs.lemmas.List.Sums.{sum_by-cons, sum_by-append}
 use Rattle.pop3_wire.specs.Line.{ended}
-use Rattle.mail_terms.specs.Text.{lines_of_text}
+use Rattle.mail_terms.specs.Text.{lines_of_text, HasNoLf}
 use Rattle.pop3_server.specs.declared.size.SizeCount.{SizeCount}
 use Rattle.std.proofs.lemmas.Bool.Decides.{eqb_tells}
-use Rattle.pop3_server.specs.TextPiece.{HasNoEnd, is_open_after}
+use Rattle.pop3_server.specs.TextPiece.{is_open_after}
 use Rattle.pop3_server.proofs.TextPieceLemmas.{open_append}
 use Rattle.pop3_server.specs.Size.{size_of, weight, ends_open, capped, CountsText}
 
@@ -46,7 +46,7 @@ size_of-weights (byte ∷ other ∷ rest) =
     more ∙ ap (λ n. weight byte + n) (size_of-weights (other ∷ rest)) ∙ omega (arith, sum_by-cons weight byte (other ∷ rest))
 
 -- a piece without LF adds its length
-weights : (piece : List ℕ) → HasNoEnd piece → sum_by weight piece ≡ length piece
+weights : (piece : List ℕ) → HasNoLf piece → sum_by weight piece ≡ length piece
 weights [] none = refl
 weights (byte ∷ rest) none = elim (eqb_tells byte 10) [
   | inl p ↦ absurd (none.0 p.1)
@@ -54,12 +54,12 @@ weights (byte ∷ rest) none = elim (eqb_tells byte 10) [
 ]
 
 -- a line and its end add its length and two
-pub line_weights : (piece line after : List ℕ) → HasNoEnd line → piece ≡ line ++ 10 ∷ after → sum_by weight piece ≡ length line + 2 + sum_by weight after
+pub line_weights : (piece line after : List ℕ) → HasNoLf line → piece ≡ line ++ 10 ∷ after → sum_by weight piece ≡ length line + 2 + sum_by weight after
 line_weights piece line after none is =
     ap (sum_by weight) is ∙ omega (arith, sum_by-append weight line (10 ∷ after), sum_by-cons weight 10 after, weights line none)
 
 -- a piece was counted: what was counted before it, its lines, and the rest of it
-pub CountsText-more : (count next : SizeCount) (text piece rest : List ℕ) (octets : ℕ) (in_line : Bool) → HasNoEnd rest → CountsText count text
+pub CountsText-more : (count next : SizeCount) (text piece rest : List ℕ) (octets : ℕ) (in_line : Bool) → HasNoLf rest → CountsText count text
     → capped (octets + sum_by weight rest) ≡ capped (count.octets + sum_by weight piece) → is_open_after in_line rest ≡ is_open_after count.in_line piece
     → next.octets ≡ capped (octets + length rest) → next.in_line ≡ is_open_after in_line rest → CountsText next (text ++ piece)
 CountsText-more count next text piece rest octets in_line none h counted open_now more last = record {

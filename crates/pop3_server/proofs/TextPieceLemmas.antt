@@ -2,12 +2,12 @@
 use Rattle.std.proofs.Common.{◌≡◌, ◌≢◌, ◌==◌, ℕ, suc, Bool, true, false, not, List, [], ◌∷◌, ◌++◌, length, refl, sym, ap, ◌∙◌, append_assoc, arith, inl, inr, if◌then◌else◌}
 use Rattle.std.specs.List.{flat_map, onto_first}
 use Rattle.std.proofs.lemmas.Bool.Decides.{eqb_tells}
-use Rattle.mail_terms.specs.Text.{lines_of_text}
+use Rattle.mail_terms.specs.Text.{lines_of_text, HasNoLf}
 use Rattle.pop3_wire.specs.Line.{crlf, ended}
 use Rattle.pop3_wire.specs.Body.{dot}
 use Rattle.pop3_wire.specs.Stuffed.{sent_line, stuffed_lines}
 use Rattle.pop3_server.specs.ServerMachine.{top_from}
-use Rattle.pop3_server.specs.TextPiece.{HasNoEnd, HoldsTop, is_open_after, sent_end, sent_piece, stuffing}
+use Rattle.pop3_server.specs.TextPiece.{HoldsTop, is_open_after, sent_end, sent_piece, stuffing}
 use Rattle.pop3_server.proofs.ReplyLemmas.{top_from-none}
 
 -- two pieces, one behind the other
@@ -16,11 +16,11 @@ open_append in_line [] two = refl
 open_append in_line (byte ∷ one) two = open_append (not (byte == 10)) one two
 
 -- no line is open behind the end of one
-pub open_line : (in_line : Bool) (line after : List ℕ) → HasNoEnd line → is_open_after in_line (line ++ 10 ∷ after) ≡ is_open_after false after
+pub open_line : (in_line : Bool) (line after : List ℕ) → HasNoLf line → is_open_after in_line (line ++ 10 ∷ after) ≡ is_open_after false after
 open_line in_line [] after none = refl
 open_line in_line (byte ∷ line) after none = open_line (not (byte == 10)) line after none.1
 
-open_on : (rest : List ℕ) → HasNoEnd rest → is_open_after true rest ≡ true
+open_on : (rest : List ℕ) → HasNoLf rest → is_open_after true rest ≡ true
 open_on [] none = refl
 open_on (byte ∷ rest) none = elim (eqb_tells byte 10) [
   | inl p ↦ absurd (none.0 p.1)
@@ -28,11 +28,11 @@ open_on (byte ∷ rest) none = elim (eqb_tells byte 10) [
 ]
 
 -- a line is open behind some octets without LF
-pub open_rest : (in_line : Bool) (byte : ℕ) (rest : List ℕ) → HasNoEnd (byte ∷ rest) → is_open_after in_line (byte ∷ rest) ≡ true
+pub open_rest : (in_line : Bool) (byte : ℕ) (rest : List ℕ) → HasNoLf (byte ∷ rest) → is_open_after in_line (byte ∷ rest) ≡ true
 open_rest in_line byte rest none = open_on (byte ∷ rest) none
 
 -- behind some octets without LF a line is open; behind none it is as before
-pub open_some : (in_line : Bool) (rest : List ℕ) → HasNoEnd rest → rest ≢ [] → is_open_after in_line rest ≡ true
+pub open_some : (in_line : Bool) (rest : List ℕ) → HasNoLf rest → rest ≢ [] → is_open_after in_line rest ≡ true
 open_some in_line [] none some = absurd (some refl)
 open_some in_line (byte ∷ rest) none some = open_rest in_line byte rest none
 
@@ -42,14 +42,14 @@ none_of (byte ∷ rest) zero = absurd (omega (arith, zero))
 
 -- ---- what pieces add to a body
 
-sent_on : (line after : List ℕ) → HasNoEnd line → sent_piece true (line ++ 10 ∷ after) ≡ line ++ (crlf ++ sent_piece false after)
+sent_on : (line after : List ℕ) → HasNoLf line → sent_piece true (line ++ 10 ∷ after) ≡ line ++ (crlf ++ sent_piece false after)
 sent_on [] after none = refl
 sent_on (byte ∷ line) after none = elim (eqb_tells byte 10) [
   | inl p ↦ absurd (none.0 p.1)
   | inr p ↦ rw p.0 (ap (λ (l : List ℕ). byte ∷ l) (sent_on line after none.1))
 ]
 
-sent_on_rest : (rest : List ℕ) → HasNoEnd rest → sent_piece true rest ≡ rest
+sent_on_rest : (rest : List ℕ) → HasNoLf rest → sent_piece true rest ≡ rest
 sent_on_rest [] none = refl
 sent_on_rest (byte ∷ rest) none = elim (eqb_tells byte 10) [
   | inl p ↦ absurd (none.0 p.1)
@@ -57,7 +57,7 @@ sent_on_rest (byte ∷ rest) none = elim (eqb_tells byte 10) [
 ]
 
 -- a line and its end
-pub sent_line_more : (in_line : Bool) (line after : List ℕ) → HasNoEnd line
+pub sent_line_more : (in_line : Bool) (line after : List ℕ) → HasNoLf line
     → sent_piece in_line (line ++ 10 ∷ after) ≡ ((stuffing in_line line ++ line) ++ crlf) ++ sent_piece false after
 sent_line_more in_line [] after none = refl
 sent_line_more in_line (byte ∷ line) after none = elim (eqb_tells byte 10) [
@@ -71,7 +71,7 @@ sent_line_more in_line (byte ∷ line) after none = elim (eqb_tells byte 10) [
 ]
 
 -- octets without LF
-pub sent_rest : (in_line : Bool) (rest : List ℕ) → HasNoEnd rest → sent_piece in_line rest ≡ stuffing in_line rest ++ rest
+pub sent_rest : (in_line : Bool) (rest : List ℕ) → HasNoLf rest → sent_piece in_line rest ≡ stuffing in_line rest ++ rest
 sent_rest in_line [] none = refl
 sent_rest in_line (byte ∷ rest) none = elim (eqb_tells byte 10) [
   | inl p ↦ absurd (none.0 p.1)
@@ -140,7 +140,7 @@ sent_whole text =
 
 -- ---- the top of a text by its beginning
 
-pub first_line : (line after : List ℕ) → HasNoEnd line → lines_of_text (line ++ 10 ∷ after) ≡ line ∷ lines_of_text after
+pub first_line : (line after : List ℕ) → HasNoLf line → lines_of_text (line ++ 10 ∷ after) ≡ line ∷ lines_of_text after
 first_line [] after none = refl
 first_line (byte ∷ line) after none = elim (eqb_tells byte 10) [
   | inl p ↦ absurd (none.0 p.1)
@@ -148,7 +148,7 @@ first_line (byte ∷ line) after none = elim (eqb_tells byte 10) [
 ]
 
 -- with one line in front
-pub holds_more : (n : ℕ) (text line after : List ℕ) → HasNoEnd line → text ≡ line ++ 10 ∷ after → HoldsTop (not (length line == 0)) n after → HoldsTop true n text
+pub holds_more : (n : ℕ) (text line after : List ℕ) → HasNoLf line → text ≡ line ++ 10 ∷ after → HoldsTop (not (length line == 0)) n after → HoldsTop true n text
 holds_more n text line after none is holds more =
     ap (λ (t : List ℕ). top_from true n (lines_of_text (t ++ more))) is
     ∙ ap (λ (t : List ℕ). top_from true n (lines_of_text t)) (append_assoc line (10 ∷ after) more)
@@ -156,7 +156,7 @@ holds_more n text line after none is holds more =
     ∙ ap (λ (l : List (List ℕ)). line ∷ l) (holds more)
     ∙ sym (ap (λ (t : List ℕ). top_from true n (lines_of_text t)) is ∙ ap (top_from true n) (first_line line after none))
 
-pub counts_more : (n : ℕ) (text line after : List ℕ) → HasNoEnd line → text ≡ line ++ 10 ∷ after → HoldsTop false n after → HoldsTop false (suc n) text
+pub counts_more : (n : ℕ) (text line after : List ℕ) → HasNoLf line → text ≡ line ++ 10 ∷ after → HoldsTop false n after → HoldsTop false (suc n) text
 counts_more n text line after none is holds more =
     ap (λ (t : List ℕ). top_from false (suc n) (lines_of_text (t ++ more))) is
     ∙ ap (λ (t : List ℕ). top_from false (suc n) (lines_of_text t)) (append_assoc line (10 ∷ after) more)

@@ -6,10 +6,6 @@ use Rattle.pop3_wire.specs.Line.{crlf, ended}
 use Rattle.pop3_wire.specs.Body.{dot}
 use Rattle.pop3_server.specs.ServerMachine.{top_from}
 
--- no line ends in it
-abbrev pub HasNoEnd : List ℕ → Type 0
-HasNoEnd piece = AllByRecursion (λ byte. byte ≢ 10) piece
-
 -- a line is open behind a piece, by whether one was before it
 abbrev pub is_open_after : Bool → List ℕ → Bool
 is_open_after in_line [] = in_line

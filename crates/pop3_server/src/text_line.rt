@@ -1,14 +1,15 @@
 //! The lines of a text that comes piece by piece.
 ghost use Rattle.std.specs.Prelude.{◌≡◌, ◌<◌, ◌++◌, ◌∷◌, length, IfSome, MatchOption};
 ghost use Rattle.std.specs.Prelude.{ℕ, IsTrue, true, false};
-ghost use Rattle.pop3_server.specs.TextPiece.{HasNoEnd, HoldsTop};
+ghost use Rattle.mail_terms.specs.Text.{HasNoLf};
+ghost use Rattle.pop3_server.specs.TextPiece.{HoldsTop};
 
 use memchr::memchr;
 
 /// What stands before the first LF of a piece, and what follows that LF. None where there is no LF.
 pub fn cut_line(piece: &[u8]) -> Option<(&[u8], &[u8])>
-    ensures cut { MatchOption result (HasNoEnd piece.now)
-        (λ parts. HasNoEnd parts.0.now × (piece.now ≡ parts.0.now ++ 10 ∷ parts.1.now)) }
+    ensures cut { MatchOption result (HasNoLf piece.now)
+        (λ parts. HasNoLf parts.0.now × (piece.now ≡ parts.0.now ++ 10 ∷ parts.1.now)) }
     ensures shorter { IfSome result (λ parts. length parts.1.now < length piece.now) }
 {
     let length = memchr(b'\n', piece)?;

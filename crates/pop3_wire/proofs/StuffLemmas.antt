@@ -4,30 +4,24 @@ use Rattle.std.specs.List.{flat_map, onto_first, AllByRecursion}
 use Rattle.std.proofs.lemmas.Bool.Decides.{eqb_tells}
 use Rattle.pop3_wire.specs.Line.{crlf, IsLine, ended}
 use Rattle.pop3_wire.specs.Body.{dot, IsContent, unstuffed, text_of}
-use Rattle.mail_terms.specs.Text.{lines_of_text, whole_text}
+use Rattle.mail_terms.specs.Text.{lines_of_text, whole_text, HasNoLf}
 use Rattle.pop3_wire.specs.Stuffed.{stuffed, sent_line, stuffed_lines, StuffedIsBody, StuffedIsRead, OneBody}
 use Rattle.pop3_wire.proofs.BodyLemmas.{one_body}
 
 -- ---- no LF stands in a line of a text
 
-NoLf : List ℕ → Type 0
-NoLf line = AllByRecursion (λ byte. byte ≢ 10) line
-
-all_onto_first : (byte : ℕ) (lines : List (List ℕ)) → byte ≢ 10 → AllByRecursion NoLf lines → AllByRecursion NoLf (onto_first byte lines)
-unfolding NoLf
+all_onto_first : (byte : ℕ) (lines : List (List ℕ)) → byte ≢ 10 → AllByRecursion HasNoLf lines → AllByRecursion HasNoLf (onto_first byte lines)
 all_onto_first byte [] other all = ((other, tt), tt)
 all_onto_first byte (line ∷ lines) other all = ((other, all.0), all.1)
 
-text_lines : (text : List ℕ) → AllByRecursion NoLf (lines_of_text text)
-unfolding NoLf
+text_lines : (text : List ℕ) → AllByRecursion HasNoLf (lines_of_text text)
 text_lines [] = tt
 text_lines (byte ∷ rest) = elim (eqb_tells byte 10) [
   | inl p ↦ rw p.0 (tt, text_lines rest)
   | inr p ↦ rw p.0 (all_onto_first byte (lines_of_text rest) p.1 (text_lines rest))
 ]
 
-no_pair : (line : List ℕ) → NoLf line → IsLine line
-unfolding NoLf
+no_pair : (line : List ℕ) → HasNoLf line → IsLine line
 no_pair [] all [] rest e = cc
 no_pair [] all (b ∷ front) rest e = cc
 no_pair (byte ∷ []) all [] rest e = cc
@@ -35,8 +29,7 @@ no_pair (byte ∷ next ∷ line) all [] rest e = all.1.0 (let same : next ≡ 10
 no_pair (byte ∷ line) all (b ∷ front) rest e = no_pair line all.1 front rest (let same : line ≡ front ++ (crlf ++ rest) = cc in same)
 
 -- a stuffed line is a line of a body
-stuffed_content : (line : List ℕ) → NoLf line → IsContent (stuffed line)
-unfolding NoLf
+stuffed_content : (line : List ℕ) → HasNoLf line → IsContent (stuffed line)
 stuffed_content [] all = (no_pair [] tt, λ e. cc)
 stuffed_content (byte ∷ rest) all = elim (eqb_tells byte 46) [
   | inl p ↦ rw p.0 (no_pair (46 ∷ byte ∷ rest) ((λ e. absurd (omega arith)), all), λ e. cc)
@@ -56,7 +49,7 @@ sent_as_body : (lines : List (List ℕ)) → flat_map sent_line lines ≡ flat_m
 sent_as_body [] = refl
 sent_as_body (line ∷ lines) = ap (λ (b : List ℕ). sent_line line ++ b) (sent_as_body lines)
 
-all_content : (lines : List (List ℕ)) → AllByRecursion NoLf lines → AllByRecursion IsContent (map stuffed lines)
+all_content : (lines : List (List ℕ)) → AllByRecursion HasNoLf lines → AllByRecursion IsContent (map stuffed lines)
 all_content [] all = tt
 all_content (line ∷ lines) all = (stuffed_content line all.0, all_content lines all.1)
 

@@ -22,6 +22,7 @@ OneLine = (line other rest more : List ℕ) → IsLine line → IsLine other →
 abbrev pub is_no_lf : ℕ → Bool
 is_no_lf byte = not (byte == 10)
 
--- no LF stands in it, so that it is a line
+-- no LF stands in it, so that it is a line; a test, which words that are known pass by computing, where `HasNoLf` speaks of
+-- each byte
 abbrev pub HoldsNoLf : List ℕ → Type 0
 HoldsNoLf bytes = IsTrue (list_all is_no_lf bytes)

@@ -1,19 +1,19 @@
 -- What the laws of the crates below say, of names, plans and records.
 use Rattle.std.proofs.Common.{◌≡◌, ℕ, List, Bool, ◌&&◌, ◌||◌}
 use Rattle.std.specs.Prelude.{bytes_eq}
-use Rattle.mail_terms.specs.Listing.{Item, has_item}
-use Rattle.fetch_rules.specs.Record.{Row, has_row, is_delivered, is_flagged, marked, merged}
+use Rattle.mail_terms.specs.Listing.{Item, has_item, is_flagged}
+use Rattle.fetch_rules.specs.Record.{Row, has_row, is_delivered, marked, merged}
 use Rattle.fetch_rules.specs.Wanted.{DistinctAreFiltered}
 use Rattle.mail_store.specs.Maildir.{Maildir}
 use Rattle.mail_store.specs.FileName.{NamesAreBases, NamesDiffer, is_held}
-use Rattle.mail_store.specs.Held.{flags_of, has_flagged}
+use Rattle.mail_store.specs.Held.{flags_of}
 
 -- of records and what is held
 pub record Records : Type 0 where
   pub held : (rows : List Row) (listing : List Item) (held : List Bool) (now : ℕ) (uid : List ℕ)
       → is_delivered (merged rows listing held now) uid ≡ (is_delivered rows uid || is_flagged listing held uid)
   pub flags : (account : List ℕ) (maildir : Maildir) (items : List Item) (uid : List ℕ)
-      → has_flagged items (flags_of account maildir items) uid ≡ (has_item items uid && is_held account maildir uid)
+      → is_flagged items (flags_of account maildir items) uid ≡ (has_item items uid && is_held account maildir uid)
   pub marks : (rows : List Row) (uid other : List ℕ)
       → is_delivered (marked rows uid) other ≡ (is_delivered rows other || (has_row rows other && bytes_eq uid other))
 

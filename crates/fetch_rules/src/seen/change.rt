@@ -2,8 +2,8 @@
 
 ghost use Rattle.std.specs.Prelude.{◌≡◌, ◌≢◌, ◌≤◌, ◌++◌, ◌&&◌, not, ℕ, List, length, map, take, OnOk, OnErr, IfOk};
 ghost use Rattle.std.specs.Bool.{OnTrue, OnFalse};
-ghost use Rattle.mail_terms.specs.Listing.{message_limit};
-ghost use Rattle.fetch_rules.specs.Record.{IsRecord, marked, with_held, new_ids, undelivered, is_delivered, is_flagged};
+ghost use Rattle.mail_terms.specs.Listing.{message_limit, is_flagged};
+ghost use Rattle.fetch_rules.specs.Record.{IsRecord, marked, with_held, new_ids, undelivered, is_delivered};
 ghost use Rattle.fetch_rules.specs.RecordFile.{changed, written};
 ghost use Rattle.mail_terms.specs.UniqueId.{has_id};
 

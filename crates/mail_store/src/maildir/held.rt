@@ -6,9 +6,9 @@ ghost use Rattle.mail_terms.specs.FailureCount.{Tallies, refuses};
 ghost use Rattle.mail_terms.specs.MaildirName.{base};
 ghost use Rattle.mail_store.specs.Fault.{is_refusal};
 ghost use Rattle.mail_store.specs.FileName.{name_of, is_held};
-ghost use Rattle.mail_terms.specs.Listing.{Item, has_item};
+ghost use Rattle.mail_terms.specs.Listing.{Item, has_item, is_flagged};
 ghost use Rattle.mail_store.specs.Maildir.{Maildir};
-ghost use Rattle.mail_store.specs.Held.{Finds, flags_of, has_flagged, has_text};
+ghost use Rattle.mail_store.specs.Held.{Finds, flags_of, has_text};
 
 use crate::account::AccountId;
 use crate::fault::StoreFault;
@@ -49,7 +49,7 @@ fn flags_of(
 /// Of the flags that `held` answers, one of an id is set exactly where the id is listed and held.
 pub fn flags_tell_what_is_held()
     ensures { (account : List ℕ) (maildir : Maildir) (items : List Item) (uid : List ℕ)
-        → has_flagged items (flags_of account maildir items) uid ≡ (has_item items uid && is_held account maildir uid) }
+        → is_flagged items (flags_of account maildir items) uid ≡ (has_item items uid && is_held account maildir uid) }
 {}
 
 /// Whether the id of each item of the listing is held: its file name is the base of a name in `new`

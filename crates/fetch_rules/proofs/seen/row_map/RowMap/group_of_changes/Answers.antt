@@ -2,7 +2,8 @@ use Rattle.std.proofs.Common.{◌≡◌, ◌≢◌, ◌⊎◌, ◌≤◌, ◌+�
 use Rattle.std.proofs.Math.Bool.{beq}
 use Rattle.std.proofs.lemmas.Bool.{true≢false}
 use Rattle.mail_terms.specs.UniqueId.{IsLegalId}
-use Rattle.fetch_rules.specs.Record.{Row, is_flagged, is_delivered}
+use Rattle.mail_terms.specs.Listing.{is_flagged}
+use Rattle.fetch_rules.specs.Record.{Row, is_delivered}
 use Rattle.fetch_rules.specs.Rows.{row_from}
 use Rattle.fetch_rules.specs.RecordFile.{line_of}
 use Rattle.fetch_rules.proofs.RowLemmas.{is_delivered-at}

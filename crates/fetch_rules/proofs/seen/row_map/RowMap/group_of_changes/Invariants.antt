@@ -1,5 +1,6 @@
 use Rattle.std.proofs.Common.{◌≤◌}
-use Rattle.fetch_rules.specs.Record.{is_flagged, Row}
+use Rattle.mail_terms.specs.Listing.{is_flagged}
+use Rattle.fetch_rules.specs.Record.{Row}
 use Rattle.fetch_rules.proofs.GrowthLemmas.{HasWritten}
 use Rattle.fetch_rules.proofs.seen.row_map.RowMap.group_of_changes.Given as goal
 
