@@ -23,7 +23,7 @@ use Rattle.fetch_session.specs.Fault.{fault_of, cut_of}
 use Rattle.fetch_session.specs.Store.{ReadsText, StopsReading, PassesText}
 use Rattle.fetch_session.specs.Tail.{turns_in as tail_turns, tail, Left, LeftBy}
 use Rattle.fetch_session.specs.Opening.{opening, Enters}
-use Rattle.fetch_session.specs.Intake.{session_limit, message_limit, opening_limit, tail_limit, GotAtMost, Took, TookBefore, Takes, TakesWithTail}
+use Rattle.fetch_session.specs.Intake.{session_limit, message_limit, opening_limit, tail_limit, GotAtMost, Took, TookBefore, TookTillCut, TookWithTail}
 use Rattle.fetch_session.proofs.TurnLemmas.{stopped_first}
 
 pub took_on : (m n : ℕ) (a b c : Place) → Took m a b → Took n b c → Took (m + n) a c
@@ -66,16 +66,16 @@ before_less m n a b (Some rest) less took =
     record { before = took.before; number = took.number; start = took.start; text = took.text; took = took.took; fetching = took.fetching; within = omega arith }
 
 -- behind what went well
-pub takes_on : (m n : ℕ) (a b c : Place) (result : Result (Unit {0}) Cut) → Took m a b → Takes n b result c → Takes (m + n) a result c
+pub takes_on : (m n : ℕ) (a b c : Place) (result : Result (Unit {0}) Cut) → Took m a b → TookTillCut n b result c → TookTillCut (m + n) a result c
 takes_on m n a b c (Ok done) first then = took_on m n a b c first then
 takes_on m n a b c (Err cut) first then = before_on m n a b c cut.rest first then
 
-pub takes_less : (m n : ℕ) (a b : Place) (result : Result (Unit {0}) Cut) → m ≤ n → Takes m a result b → Takes n a result b
+pub takes_less : (m n : ℕ) (a b : Place) (result : Result (Unit {0}) Cut) → m ≤ n → TookTillCut m a result b → TookTillCut n a result b
 takes_less m n a b (Ok done) less took = took_less m n a b less took
 takes_less m n a b (Err cut) less took = before_less m n a b cut.rest less took
 
 -- with no reply under way
-pub takes_plain : (limit : ℕ) (a b : Place) (fault : Fault) (cut : Cut) → cut ≡ cut_of fault None → Took limit a b → Takes limit a (Err cut) b
+pub takes_plain : (limit : ℕ) (a b : Place) (fault : Fault) (cut : Cut) → cut ≡ cut_of fault None → Took limit a b → TookTillCut limit a (Err cut) b
 takes_plain limit a b fault cut plain took = subst (λ (rest : Option Rest). TookBefore limit a rest b) (sym (ap (λ (c : Cut). c.rest) plain)) took
 
 -- ---- the most of tails
@@ -127,16 +127,16 @@ quit_tail Talk.NoMemory a b broke = refl
 -- ---- with what is said after a fault
 
 -- whatever it is
-pub with_any_tail : (limit : ℕ) (a b : Place) (cut : Cut) → Takes limit a (Err cut) b → TakesWithTail (limit + 4096) a (Err cut) b
+pub with_any_tail : (limit : ℕ) (a b : Place) (cut : Cut) → TookTillCut limit a (Err cut) b → TookWithTail (limit + 4096) a (Err cut) b
 with_any_tail limit a b cut took =
     let small : most_of (tail_turns (tail cut.fault)) ≤ 4096 = most_tail (tail cut.fault) in
     (limit, took, omega (arith, small))
 
-pub with_tail_on : (m n : ℕ) (a b c : Place) (result : Result (Unit {0}) Cut) → Took m a b → TakesWithTail n b result c → TakesWithTail (m + n) a result c
+pub with_tail_on : (m n : ℕ) (a b c : Place) (result : Result (Unit {0}) Cut) → Took m a b → TookWithTail n b result c → TookWithTail (m + n) a result c
 with_tail_on m n a b c (Ok done) first then = took_on m n a b c first then
 with_tail_on m n a b c (Err cut) first (before, then, small) = (m + before, before_on m before a b c cut.rest first then, omega (arith, small))
 
-pub with_tail_less : (m n : ℕ) (a b : Place) (result : Result (Unit {0}) Cut) → m ≤ n → TakesWithTail m a result b → TakesWithTail n a result b
+pub with_tail_less : (m n : ℕ) (a b : Place) (result : Result (Unit {0}) Cut) → m ≤ n → TookWithTail m a result b → TookWithTail n a result b
 with_tail_less m n a b (Ok done) less took = took_less m n a b less took
 with_tail_less m n a b (Err cut) less (before, took, small) = (before, took, omega (arith, less, small))
 
@@ -173,7 +173,7 @@ module _ (paced : ConversationsArePaced) where
   pub quit_told : (old new : Place) → Tells quit old (Ok tt) new → Took 2048 old new
   quit_told old new tells = took_talked (quit ∷ []) _ old new tells.1
 
-  pub quit_broke : (old new : Place) (why : TalkFault) (fault : Fault) (cut : Cut) → Broke quit old new why → fault ≡ fault_of why → cut ≡ cut_of fault None → TakesWithTail 2048 old (Err cut) new
+  pub quit_broke : (old new : Place) (why : TalkFault) (fault : Fault) (cut : Cut) → Broke quit old new why → fault ≡ fault_of why → cut ≡ cut_of fault None → TookWithTail 2048 old (Err cut) new
   quit_broke old new why fault cut broke is plain =
       let none : most_of (tail_turns (tail cut.fault)) ≡ 0 = ap (λ (k : Tail). most_of (tail_turns k)) (ap (λ (c : Cut). tail c.fault) plain ∙ ap tail is ∙ quit_tail why old new broke) in
       (2048, subst (λ (rest : Option Rest). TookBefore 2048 old rest new) (sym (ap (λ (c : Cut). c.rest) plain)) (took_broke quit old new why broke), omega (arith, none))
@@ -182,7 +182,7 @@ module _ (paced : ConversationsArePaced) where
   pub takes_text : (number : ℕ) (start : Place) (text : List ℕ) (octets : ℕ) (new : Place) → ReadsText number start text (Ok octets) new → Took 268437504 start new
   takes_text number start text octets new reads = took_talked (retr number ∷ []) _ start new reads.1
 
-  pub takes_stopped : (number : ℕ) (start : Place) (text : List ℕ) (cut : Cut) (new : Place) → ReadsText number start text (Err cut) new → Takes 268437504 start (Err cut) new
+  pub takes_stopped : (number : ℕ) (start : Place) (text : List ℕ) (cut : Cut) (new : Place) → ReadsText number start text (Err cut) new → TookTillCut 268437504 start (Err cut) new
   takes_stopped number start text cut new reads = by_rest cut.fault cut.rest reads
     where
       by_rest : (fault : Fault) (rest : Option Rest) → StopsReading number start text fault rest new → TookBefore 268437504 start rest new
@@ -212,7 +212,7 @@ module _ (paced : ConversationsArePaced) where
       (took_on so_far.before (most_of (retr so_far.number ∷ tail_turns (tail fault))) old so_far.start last so_far.took all)
 
   -- a session that was cut and left
-  pub cut_within : (messages : ℕ) (link : Link) (cut : Cut) (mid last : Place) → TakesWithTail (opening_limit + (messages * message_limit + tail_limit)) (at link []) (Err cut) mid → Left cut mid last
+  pub cut_within : (messages : ℕ) (link : Link) (cut : Cut) (mid last : Place) → TookWithTail (opening_limit + (messages * message_limit + tail_limit)) (at link []) (Err cut) mid → Left cut mid last
       → length last.waiting ≤ 4096 → GotAtMost (session_limit messages) link last.link
   cut_within messages link cut mid last (before, took, small) left short =
       ended_within messages link last

@@ -52,11 +52,11 @@ TookBefore limit old None new = Took limit old new
 TookBefore limit old (Some rest) new = TookSoFar limit old new rest
 
 -- a part of a session, well or cut: at most so many, and what is left of a reply under way stays within them
-abbrev pub Takes : ℕ → Place → Result (Unit {0}) Cut → Place → Type 0
-Takes limit old (Ok done) new = Took limit old new
-Takes limit old (Err cut) new = TookBefore limit old cut.rest new
+abbrev pub TookTillCut : ℕ → Place → Result (Unit {0}) Cut → Place → Type 0
+TookTillCut limit old (Ok done) new = Took limit old new
+TookTillCut limit old (Err cut) new = TookBefore limit old cut.rest new
 
 -- the same, where what is said after the fault stays within them too
-abbrev pub TakesWithTail : ℕ → Place → Result (Unit {0}) Cut → Place → Type 0
-TakesWithTail limit old (Ok done) new = Took limit old new
-TakesWithTail limit old (Err cut) new = (before : ℕ) × TookBefore before old cut.rest new × (before + most_of (turns_in (tail cut.fault)) ≤ limit)
+abbrev pub TookWithTail : ℕ → Place → Result (Unit {0}) Cut → Place → Type 0
+TookWithTail limit old (Ok done) new = Took limit old new
+TookWithTail limit old (Err cut) new = (before : ℕ) × TookBefore before old cut.rest new × (before + most_of (turns_in (tail cut.fault)) ≤ limit)
