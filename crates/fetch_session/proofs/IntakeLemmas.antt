@@ -23,7 +23,7 @@ use Rattle.fetch_session.specs.Fault.{fault_of, cut_of}
 use Rattle.fetch_session.specs.Store.{ReadsText, StopsReading, PassesText}
 use Rattle.fetch_session.specs.Tail.{turns_in as tail_turns, tail, Left, LeftBy}
 use Rattle.fetch_session.specs.Opening.{opening, Enters}
-use Rattle.fetch_session.specs.Intake.{session_limit, message_limit, opening_limit, tail_limit, GotAtMost, Took, TookBefore, TookTillCut, TookWithTail}
+use Rattle.fetch_session.specs.Intake.{session_limit, step_limit, opening_limit, tail_limit, GotAtMost, Took, TookBefore, TookTillCut, TookWithTail}
 use Rattle.fetch_session.proofs.TurnLemmas.{stopped_first}
 
 pub took_on : (m n : ℕ) (a b c : Place) → Took m a b → Took n b c → Took (m + n) a c
@@ -141,7 +141,7 @@ with_tail_less m n a b (Ok done) less took = took_less m n a b less took
 with_tail_less m n a b (Err cut) less (before, took, small) = (before, took, omega (arith, less, small))
 
 -- a session that was brought to its end
-pub ended_within : (messages : ℕ) (link : Link) (last : Place) → Took (opening_limit + (messages * message_limit + tail_limit)) (at link []) last → length last.waiting ≤ 4096
+pub ended_within : (messages : ℕ) (link : Link) (last : Place) → Took (opening_limit + (messages * step_limit + tail_limit)) (at link []) last → length last.waiting ≤ 4096
     → GotAtMost (session_limit messages) link last.link
 ended_within messages link last took short = let one = took.within in (took.gained, took.got, omega (arith, one, short))
 
@@ -212,9 +212,9 @@ module _ (paced : ConversationsArePaced) where
       (took_on so_far.before (most_of (retr so_far.number ∷ tail_turns (tail fault))) old so_far.start last so_far.took all)
 
   -- a session that was cut and left
-  pub cut_within : (messages : ℕ) (link : Link) (cut : Cut) (mid last : Place) → TookWithTail (opening_limit + (messages * message_limit + tail_limit)) (at link []) (Err cut) mid → Left cut mid last
+  pub cut_within : (messages : ℕ) (link : Link) (cut : Cut) (mid last : Place) → TookWithTail (opening_limit + (messages * step_limit + tail_limit)) (at link []) (Err cut) mid → Left cut mid last
       → length last.waiting ≤ 4096 → GotAtMost (session_limit messages) link last.link
   cut_within messages link cut mid last (before, took, small) left short =
       ended_within messages link last
-      (took_less (before + most_of (tail_turns (tail cut.fault))) (opening_limit + (messages * message_limit + tail_limit)) (at link []) last small
+      (took_less (before + most_of (tail_turns (tail cut.fault))) (opening_limit + (messages * step_limit + tail_limit)) (at link []) last small
       (took_leaving before cut.fault cut.rest (at link []) mid last took left)) short

@@ -20,8 +20,8 @@ GotAtMost most old new = (gained : List ℕ) × (new.got ≡ old.got ++ gained) 
 -- ---- the parts of a session
 
 -- for what is done with a message: RETR's first line, the text, and DELE's first line
-abbrev pub message_limit : ℕ
-message_limit = 2 * line_limit + text_limit
+abbrev pub step_limit : ℕ
+step_limit = 2 * line_limit + text_limit
 
 -- for logging in, STAT and the two listings
 abbrev pub opening_limit : ℕ

@@ -6,7 +6,7 @@ ghost use Rattle.rc_file.specs.Settings.{IsValid};
 ghost use Rattle.mail_store.specs.FileName.{IsAccountText};
 ghost use Rattle.fetch_session.specs.Scene.{WhereAllSound};
 ghost use Rattle.fetch_session.specs.Account.{digits_of};
-ghost use Rattle.fetch_session.specs.Intake.{GotAtMost, session_limit, TookWithTail, opening_limit, message_limit, tail_limit};
+ghost use Rattle.fetch_session.specs.Intake.{GotAtMost, session_limit, TookWithTail, opening_limit, step_limit, tail_limit};
 ghost use Rattle.fetch_session.specs.Refusal.{RefusesTillCut, RefusesByOutcome};
 ghost use Rattle.fetch_session.specs.Report.{Reports};
 ghost use Rattle.fetch_session.specs.Session.{Proceeds, Session, noted, kept};
@@ -70,7 +70,7 @@ fn proceed<W: Wire, D: MaildirDisk, F: FlatFile, H: BuildHasher>(
         (Proceeds settings.now account.now now (at (W.seen wire.old) reader.old) (kept (D.maildir disk.old) (F.stored file.old)) result
         (at (W.seen wire.new) reader.new) (kept (D.maildir disk.new) (F.stored file.new)) (noted notes.new.total notes.new.skipped notes.new.lines.items)) }
     ensures took { W.sound wire.new → W.sound wire.old
-        × TookWithTail (opening_limit + (notes.new.total * message_limit + tail_limit)) (at (W.seen wire.old) reader.old) result (at (W.seen wire.new) reader.new) }
+        × TookWithTail (opening_limit + (notes.new.total * step_limit + tail_limit)) (at (W.seen wire.old) reader.old) result (at (W.seen wire.new) reader.new) }
 {
     conversations_are_paced();
     let listing = match enter(alloc, settings, wire, reader) {

@@ -5,7 +5,7 @@ ghost use Rattle.pop3_wire.specs.Place.{at};
 ghost use Rattle.mail_terms.specs.UniqueId.{IsLegalId};
 ghost use Rattle.mail_store.specs.FileName.{IsAccountText};
 ghost use Rattle.fetch_session.specs.Scene.{WhereAllSound};
-ghost use Rattle.fetch_session.specs.Intake.{TookWithTail, message_limit, tail_limit};
+ghost use Rattle.fetch_session.specs.Intake.{TookWithTail, step_limit, tail_limit};
 ghost use Rattle.fetch_session.specs.Plan.{Carries};
 ghost use Rattle.fetch_session.specs.Refusal.{RefusesTillCut};
 ghost use Rattle.fetch_session.specs.Report.{HasRoom, Adds};
@@ -51,7 +51,7 @@ pub fn carry_out<W: Wire, D: MaildirDisk, F: FlatFile, H: BuildHasher>(
         (at (W.seen wire.old) reader.old) (D.maildir disk.old) (F.stored file.old) lines.old.items result
         (at (W.seen wire.new) reader.new) (D.maildir disk.new) (F.stored file.new) lines.new.items skipped.new) }
     ensures took { W.sound wire.new → W.sound wire.old
-        × TookWithTail (length listing.now * message_limit + tail_limit) (at (W.seen wire.old) reader.old) result (at (W.seen wire.new) reader.new) }
+        × TookWithTail (length listing.now * step_limit + tail_limit) (at (W.seen wire.old) reader.old) result (at (W.seen wire.new) reader.new) }
 {
     conversations_are_paced();
     firsts_are_fetched();

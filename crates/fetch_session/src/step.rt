@@ -14,7 +14,7 @@ ghost use Rattle.fetch_session.specs.Record.{Steady};
 ghost use Rattle.fetch_session.specs.Refusal.{RefusesTillCut};
 ghost use Rattle.fetch_session.specs.Report.{HasRoom, Adds};
 ghost use Rattle.fetch_session.specs.Scene.{scene, TakesTask, Does, WhereAllSound};
-ghost use Rattle.fetch_session.specs.Intake.{TookTillCut, message_limit};
+ghost use Rattle.fetch_session.specs.Intake.{TookTillCut, step_limit};
 
 use crate::fault::{Cut, Fault, plain, told};
 use crate::record::remember;
@@ -225,7 +225,7 @@ fn do_step<W: Wire, D: MaildirDisk, F: FlatFile, H: BuildHasher>(
         (scene (at (W.seen wire.old) reader.old) (D.maildir disk.old) (F.stored file.old) seen.old.rows lines.old.items) result
         (scene (at (W.seen wire.new) reader.new) (D.maildir disk.new) (F.stored file.new) seen.new.rows lines.new.items)) }
     ensures took { W.sound wire.new → W.sound wire.old
-        × TookTillCut message_limit (at (W.seen wire.old) reader.old) result (at (W.seen wire.new) reader.new) }
+        × TookTillCut step_limit (at (W.seen wire.old) reader.old) result (at (W.seen wire.new) reader.new) }
 {
     if let Err(cut) = fetch_if(
         alloc, wire, reader, disk, file, account, seen, lines, step, uid, size, held,
@@ -264,7 +264,7 @@ pub fn do_steps<W: Wire, D: MaildirDisk, F: FlatFile, H: BuildHasher>(
         (scene (at (W.seen wire.old) reader.old) (D.maildir disk.old) (F.stored file.old) seen.old.rows lines.old.items) result
         (scene (at (W.seen wire.new) reader.new) (D.maildir disk.new) (F.stored file.new) seen.new.rows lines.new.items)) }
     ensures took { W.sound wire.new → W.sound wire.old
-        × TookTillCut (length listing.now * message_limit) (at (W.seen wire.old) reader.old) result (at (W.seen wire.new) reader.new) }
+        × TookTillCut (length listing.now * step_limit) (at (W.seen wire.old) reader.old) result (at (W.seen wire.new) reader.new) }
 {
     one_more_is_held();
     for i in 0..listing.len() {

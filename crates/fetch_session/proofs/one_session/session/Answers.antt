@@ -3,7 +3,7 @@ use Rattle.pop3_wire.specs.Place.{at}
 use Rattle.fetch_session.specs.Account.{digits_of}
 use Rattle.fetch_session.specs.declared.report.Outcome.{Outcome}
 use Rattle.fetch_session.specs.Refusal.{RefusesByOutcome}
-use Rattle.fetch_session.specs.Intake.{GotAtMost, session_limit, Took, TookWithTail, opening_limit, message_limit, tail_limit}
+use Rattle.fetch_session.specs.Intake.{GotAtMost, session_limit, Took, TookWithTail, opening_limit, step_limit, tail_limit}
 use Rattle.fetch_session.specs.Session.{noted, kept, Session}
 use Rattle.fetch_session.proofs.IntakeLemmas.{cut_within, ended_within}
 use Rattle.fetch_session.proofs.SessionLemmas.{cut_session, ended_session}
@@ -59,7 +59,7 @@ returns-in-Err-clause-bounded g c = λ w.
     let n = done.notes.total in
     subst (λ (n : ℕ). GotAtMost (session_limit n) link last.link) (sym c.tell.ensures.total_is)
     (cut_within c.conversations_are_paced.ensures n link c.in-Err.cut mid last
-    (subst (λ (r : List ℕ). TookWithTail (opening_limit + (n * message_limit + tail_limit)) (at link r) (Err c.in-Err.cut) mid) c.new-reader.ensures took.1) says.2
+    (subst (λ (r : List ℕ). TookWithTail (opening_limit + (n * step_limit + tail_limit)) (at link r) (Err c.in-Err.cut) mid) c.new-reader.ensures took.1) says.2
     (subst (λ (r : List ℕ). length r ≤ 4096) c.waiting.ensures.value c.waiting.ensures.short))
 
 pub returns-clause-bounded : goal.returns-clause-bounded
@@ -70,7 +70,7 @@ returns-clause-bounded g c = λ w.
     let mid = at (g.W.Wire.seen done.wire) done.reader in
     let n = done.notes.total in
     subst (λ (n : ℕ). GotAtMost (session_limit n) link mid.link) (sym c.tell-2.ensures.total_is)
-    (ended_within n link mid (subst (λ (r : List ℕ). Took (opening_limit + (n * message_limit + tail_limit)) (at link r) mid) c.new-reader.ensures took.1)
+    (ended_within n link mid (subst (λ (r : List ℕ). Took (opening_limit + (n * step_limit + tail_limit)) (at link r) mid) c.new-reader.ensures took.1)
     (subst (λ (r : List ℕ). length r ≤ 4096) c.waiting-2.ensures.value c.waiting-2.ensures.short))
 
 pub returns-in-Err-clause-counted : goal.returns-in-Err-clause-counted
