@@ -5,11 +5,13 @@
 
    Its monotonic clock goes 60 times as fast, here; a poll, and a read or a write of a socket whose waits it has bounded,
    last the 60th part. Each bound adds a line to the file `note`: `poll`, `read` or `write` and the milliseconds that
-   were asked for. */
+   were asked for. `nodelay 1` says that what is written to a socket is to go out at once. */
 
 #define _GNU_SOURCE
 #include <dlfcn.h>
 #include <fcntl.h>
+#include <netinet/in.h>
+#include <netinet/tcp.h>
 #include <poll.h>
 #include <stdio.h>
 #include <stdlib.h>
@@ -38,10 +40,10 @@ __attribute__((constructor)) static void begin(void)
         note = open(path, O_WRONLY | O_CREAT | O_APPEND | O_CLOEXEC, 0600);
 }
 
-static void write_down(const char *word, long milliseconds)
+static void write_down(const char *word, long asked)
 {
     char line[64];
-    int length = snprintf(line, sizeof line, "%s %ld\n", word, milliseconds);
+    int length = snprintf(line, sizeof line, "%s %ld\n", word, asked);
 
     if (note >= 0 && write(note, line, length) != length)
         abort();
@@ -69,6 +71,8 @@ int setsockopt(int socket, int level, int name, const void *value, socklen_t siz
 {
     struct timeval wait;
 
+    if (level == IPPROTO_TCP && name == TCP_NODELAY && size == sizeof(int))
+        write_down("nodelay", *(const int *)value);
     if (level != SOL_SOCKET || (name != SO_RCVTIMEO && name != SO_SNDTIMEO) || size != sizeof wait)
         return next_setsockopt(socket, level, name, value, size);
     memcpy(&wait, value, sizeof wait);

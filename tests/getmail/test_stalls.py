@@ -74,7 +74,7 @@ class Stalls(unittest.TestCase):
 
     def test_no_greeting(self):
         asked = self.check_stall(b"", [])
-        self.assertEqual([row for row in asked if row[0] != "poll"], [("read", WAIT), ("write", WAIT)])
+        self.assertEqual([row for row in asked if row[0] != "poll"], [("read", WAIT), ("write", WAIT), ("nodelay", 1)])
 
     def test_half_a_line(self):
         self.check_stall(b"+OK\r\n+OK\r\n+O", [])

@@ -21,9 +21,9 @@ class Hurry:
         return {"LD_PRELOAD": str(self.library), "HURRY": str(self.speed), "HURRY_NOTE": str(self.note)}
 
     def asked(self):
-        """The bounds that the last run asked for: `read`, `write` or `poll`, and milliseconds."""
+        """What the last run asked for: `read`, `write` or `poll` and milliseconds, or `nodelay` and 1."""
         rows = (line.split() for line in self.note.read_text().splitlines())
-        return [(word, int(milliseconds)) for word, milliseconds in rows]
+        return [(word, int(asked)) for word, asked in rows]
 
 
 def hurry_for(tests, speed=SPEED):

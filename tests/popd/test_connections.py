@@ -141,7 +141,7 @@ class Waits(OverLoopback):
             self.assertEqual(client.log_in(), b"+OK 1 messages\r\n")
             self.assertEqual(client.ask(b"QUIT"), b"+OK bye\r\n")
         self.assertEqual(service.finish(), (0, told))
-        self.assertEqual(self.hurry.asked(), [("read", 600_000), ("write", 600_000)] * 2)
+        self.assertEqual(self.hurry.asked(), [("read", 600_000), ("write", 600_000), ("nodelay", 1)] * 2)
 
     def test_a_client_that_says_nothing(self):
         for given in (b"", b"USER u", b"USER u\r\nPASS p\r\nDELE 1\r\n", b"USER u\r\nPASS p\r\nDELE 1\r\nQUIT\r"):
