@@ -82,7 +82,9 @@ class FirstFetch(unittest.TestCase):
         self.addCleanup(holder.cleanup)
         self.top = Path(holder.name)
         self.demo = self.top / "examples" / "demo"
-        shutil.copytree(programs.ROOT / "examples" / "demo", self.demo)
+        # Without what somebody's own first fetch left there.
+        left = shutil.ignore_patterns("seen-*", f"{'?' * 64}.*")
+        shutil.copytree(programs.ROOT / "examples" / "demo", self.demo, ignore=left)
         # As it comes with the repository others may read it, of which popd warns.
         (self.demo / "password").chmod(0o600)
         (self.top / "bin").mkdir()
