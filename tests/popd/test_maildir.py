@@ -4,6 +4,7 @@ import os
 import poplib
 import unittest
 from contextlib import closing
+from pathlib import Path
 
 from harness import preload, programs
 from harness.kernel import LOOPBACK
@@ -269,16 +270,32 @@ class Listings(unittest.TestCase):
             client.log_in()
             return client.ask_lines(b"LIST").split(b"\r\n")[1:-2]
 
+    def clocked(self):
+        """A service whose time of day `set_clock` sets."""
+        library = self.enterContext(preload.library("clock"))
+        self.clock = Path(self.maildir.holder.name) / "clock"
+        self.set_clock(0)
+        return Service(self.maildir, LD_PRELOAD=str(library), CLOCK=str(self.clock))
+
+    def set_clock(self, seconds):
+        """Sets it to so many seconds after the one in which a folder was changed last."""
+        changed = max(os.stat(self.maildir.folder / part).st_ctime_ns for part in ("new", "cur"))
+        self.clock.write_text(f"{changed // 1_000_000_000 + seconds}\n")
+
+    def grow(self):
+        """One more line for the first message, in place: its size grows by three octets."""
+        with open(self.path, "ab") as file:
+            file.write(b"x\n")
+
     def test_a_size_is_counted_anew_once_the_file_was_changed(self):
-        with Service(self.maildir) as service:
+        with self.clocked() as service:
             self.assertEqual(self.sizes(service), [b"1 5", b"2 12"])
             stands = os.stat(self.path)
             with open(self.path, "wb") as file:
                 file.write(b"\n\n\n\n")
             os.utime(self.path, ns=(stands.st_atime_ns, stands.st_mtime_ns + 1))
             self.assertEqual(self.sizes(service), [b"1 8", b"2 12"])
-            with open(self.path, "ab") as file:
-                file.write(b"x\n")
+            self.grow()
             os.utime(self.path, ns=(stands.st_atime_ns, stands.st_mtime_ns + 1))
             self.assertEqual(self.sizes(service), [b"1 11", b"2 12"])
             os.rename(self.path, self.maildir.folder / "cur" / "a:2,S")
@@ -287,13 +304,67 @@ class Listings(unittest.TestCase):
 
     def test_a_second_login_reads_no_file(self):
         """A file that was counted is served as it was counted, though it has other lines now: it wasn't read."""
-        with Service(self.maildir) as service:
+        with self.clocked() as service:
             self.assertEqual(self.sizes(service), [b"1 5", b"2 12"])
             stands = os.stat(self.path)
             with open(self.path, "wb") as file:
                 file.write(b"\n\n\n\n")
             os.utime(self.path, ns=(stands.st_atime_ns, stands.st_mtime_ns))
             self.assertEqual(self.sizes(service), [b"1 5", b"2 12"])
+
+    def test_folders_that_were_not_changed_are_not_looked_through_again(self):
+        """A file that was changed in place has its size as before: it wasn't looked at, until its folder is changed."""
+        for part in ("new", "cur"):
+            with self.subTest(part), self.clocked() as service:
+                self.set_clock(3)
+                before = self.sizes(service)
+                self.grow()
+                self.assertEqual(self.sizes(service), before)
+                self.set_clock(10)
+                self.assertEqual(self.sizes(service), before)
+                self.maildir.add(part, "c" + part, b"")
+                first, size = before[0].split()
+                self.assertEqual(self.sizes(service)[0], b"%s %d" % (first, int(size) + 3))
+                self.assertEqual(len(self.sizes(service)), len(before) + 1)
+
+    def test_folders_that_were_just_changed_are_looked_through_again(self):
+        """What comes within the same tick of the clock leaves a folder's time of change as it is."""
+        with self.clocked() as service:
+            for seconds, size in ((0, 5), (1, 8), (2, 11), (3, 14)):
+                self.set_clock(seconds)
+                self.assertEqual(self.sizes(service), [b"1 %d" % size, b"2 12"])
+                self.grow()
+            self.assertEqual(self.sizes(service), [b"1 14", b"2 12"])
+
+    def test_a_listing_stands_for_an_hour(self):
+        with self.clocked() as service:
+            for seconds, size in ((100, 5), (3_699, 5), (3_700, 11), (7_299, 11), (7_300, 17)):
+                self.set_clock(seconds)
+                self.assertEqual(self.sizes(service), [b"1 %d" % size, b"2 12"])
+                self.grow()
+
+    def test_a_listing_does_not_stand_before_it_was_made(self):
+        """As where the clock was put back: nobody knows how old the listing is."""
+        with self.clocked() as service:
+            for seconds, size in ((100, 5), (99, 8), (99, 8), (100, 8)):
+                self.set_clock(seconds)
+                self.assertEqual(self.sizes(service), [b"1 %d" % size, b"2 12"])
+                if size == 5:
+                    self.grow()
+
+    def test_an_empty_maildir_gets_its_first_message(self):
+        """Nothing is left of a listing that stood before everything was removed."""
+        with self.clocked() as service:
+            self.set_clock(3)
+            with service.client() as client:
+                client.log_in()
+                client.ask(b"DELE 1")
+                client.ask(b"DELE 2")
+                client.ask(b"QUIT")
+            self.set_clock(3)
+            self.assertEqual(self.sizes(service), [])
+            self.maildir.add("new", "a", b"one\n")
+            self.assertEqual(self.sizes(service), [b"1 5"])
 
     def meddled(self, **meddling):
         """A service that somebody meddles with."""

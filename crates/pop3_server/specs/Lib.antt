@@ -1,5 +1,6 @@
 pub mod AnswersLines
 pub mod Events
+pub mod FoldersLook
 pub mod Got
 pub mod HonestLoop
 pub mod HonestServer

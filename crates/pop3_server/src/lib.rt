@@ -3,6 +3,7 @@
 
 mod commands;
 mod fault;
+mod folders_look;
 mod honesty;
 mod intake;
 mod journal;

@@ -1,9 +1,12 @@
 //! The files of a Maildir whose messages are listed, and their sizes as messages.
-ghost use Rattle.std.specs.Prelude.{◌≡◌, IfSome};
+ghost use Rattle.std.specs.Prelude.{◌≡◌, [], IfSome};
+ghost use Rattle.std.specs.String.{string_bytes};
 
+use crate::folders_look::FoldersLook;
 use crate::maildir_names::{Folder, MailFile, Stamp};
 use crate::size::SizeCount;
 use mail_terms::base;
+use std::alloc::{AllocError, Global};
 use std::fs::{self, Metadata};
 use std::io::{self, Read};
 use std::rt::Files;
@@ -23,6 +26,24 @@ pub struct ListedFile {
 }
 
 impl ListedFile {
+    /// A file that was found, and its size.
+    pub fn of(found: MailFile, size: u64) -> ListedFile
+        ensures { string_bytes result.name ≡ string_bytes found.name }
+    {
+        let MailFile {
+            folder,
+            name,
+            stamp,
+            ..
+        } = found;
+        ListedFile {
+            folder,
+            name,
+            stamp,
+            size,
+        }
+    }
+
     /// The size that was counted, where the file wasn't changed since then.
     fn size_at(&self, stamp: Stamp) -> Option<u64>
         ensures { IfSome result (λ size. (size ≡ self.now.size) × (stamp ≡ self.now.stamp)) }
@@ -63,6 +84,35 @@ pub fn stamp_of(metadata: &Metadata) -> Stamp {
         }
     }
     stamp
+}
+
+/// The files that were listed, in the order of their messages, and the look at the folders behind which
+/// they were found.
+#[derive(Drop)]
+pub struct Listing {
+    pub look: FoldersLook,
+    pub files: Vec<ListedFile>,
+}
+
+impl Listing {
+    /// No listing, which never stands.
+    pub fn none(alloc: Global) -> Listing
+        ensures { result.files.items ≡ [] }
+    {
+        Listing {
+            look: FoldersLook::none(),
+            files: Vec::new(alloc),
+        }
+    }
+
+    /// The files as they were found.
+    pub fn found(&self, alloc: Global) -> Result<Vec<MailFile>, AllocError> {
+        let mut found = Vec::with_capacity(alloc, self.files.len())?;
+        for file in self.files.as_slice() {
+            found.push(MailFile::of(alloc, file.folder, file.name.as_str(), file.stamp)?)?;
+        }
+        Ok(found)
+    }
 }
 
 /// Sizes that were counted for an earlier listing, in the order in which files are listed. They are asked

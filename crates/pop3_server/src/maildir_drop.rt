@@ -8,7 +8,8 @@ ghost use Rattle.mail_terms.specs.FailureCount.{Tallies, counted_up, refuses};
 ghost use Rattle.pop3_server.specs.Maildrop.{is_refusal};
 ghost use Rattle.pop3_server.specs.RealMaildir.{mail_of, names_of, uid_of, HaveIds, ListsNames};
 
-use crate::listed_file::{Counted, ListedFile, PIECE, count_size, stamp_of};
+use crate::folders_look::{ChangeTime, FoldersLook};
+use crate::listed_file::{Counted, ListedFile, Listing, PIECE, count_size, stamp_of};
 use crate::maildir_names::{Folder, MailFile, unique_id};
 use crate::maildrop::{DropFault, Entry, MAX_COUNT, MAX_SIZE, Maildrop};
 use mail_terms::{FailureCount, base};
@@ -21,6 +22,7 @@ use std::io::{self, ErrorKind, Read, Seek, SeekFrom};
 use std::marker::Model;
 use std::random::RandomSource;
 use std::rt::Files;
+use std::time::Clock;
 
 /// A Maildir in a real folder. Nothing is known of what it holds: contracts see its path, the names of
 /// the files that were listed, and the counts.
@@ -28,9 +30,9 @@ use std::rt::Files;
 pub struct MaildirDrop<'a, R: Files + AllocGlobal + Clone + Drop> {
     rt: &'a R,
     path: String,
-    files: Vec<ListedFile>,
-    /// The files of an earlier server's listing, whose sizes needn't be counted again.
-    counted: Vec<ListedFile>,
+    listing: Listing,
+    /// An earlier server's listing, until this one has its own.
+    earlier: Listing,
     /// The path of the file that couldn't be read, where that refused the last listing.
     unread: Option<String>,
     /// The file of which a part was given last.
@@ -55,7 +57,7 @@ impl<'a, R: Files + AllocGlobal + Clone + Drop> Model for MaildirDrop<'a, R> {
 
     ghost view = { λ d. record {
       path = string_bytes d.path;
-      names = names_of d.files.items;
+      names = names_of d.listing.files.items;
       failures = d.failures;
       removals = d.removals;
     } };
@@ -90,14 +92,22 @@ impl<T: Drop> From<AllocFailed<T>> for Unlisted {
     }
 }
 
-/// The messages found in a Maildir, and where their files lie.
+/// The files found in a Maildir, in the order in which their messages are listed, and the look at the
+/// folders behind which they were found.
 #[derive(Drop)]
-struct ListedFiles {
-    entries: Vec<Entry>,
-    files: Vec<ListedFile>,
+struct FoundFiles {
+    look: FoldersLook,
+    files: Vec<MailFile>,
 }
 
-impl<'a, R: Files + RandomSource + AllocGlobal + Clone + Drop> MaildirDrop<'a, R> {
+/// The messages found in a Maildir, and where their files lie.
+#[derive(Drop)]
+struct ListedMessages {
+    entries: Vec<Entry>,
+    listing: Listing,
+}
+
+impl<'a, R: Files + Clock + RandomSource + AllocGlobal + Clone + Drop> MaildirDrop<'a, R> {
     /// The maildrop of the Maildir at this path, which must have the folders `new` and `cur`.
     pub fn at(rt: &'a R, path: String) -> MaildirDrop<'a, R>
         ensures { result ≡ record { path = string_bytes path; names = []; failures = 0; removals = 0 } }
@@ -105,8 +115,8 @@ impl<'a, R: Files + RandomSource + AllocGlobal + Clone + Drop> MaildirDrop<'a, R
         MaildirDrop {
             rt,
             path,
-            files: Vec::new(rt.alloc()),
-            counted: Vec::new(rt.alloc()),
+            listing: Listing::none(rt.alloc()),
+            earlier: Listing::none(rt.alloc()),
             unread: None,
             open: None,
             failures: FailureCount::new(),
@@ -114,21 +124,26 @@ impl<'a, R: Files + RandomSource + AllocGlobal + Clone + Drop> MaildirDrop<'a, R
         }
     }
 
-    /// The same Maildir for another server, as at the start, but that the sizes of the files that were
-    /// listed aren't counted again while these aren't changed.
+    /// The same Maildir for another server, as at the start, but that the folders aren't looked through
+    /// again while the last listing stands, and sizes of files aren't counted again while these aren't
+    /// changed.
     pub fn renewed(self) -> MaildirDrop<'a, R>
         ensures { result ≡ record { path = self.entry.path; names = []; failures = 0; removals = 0 } }
     {
         let MaildirDrop {
             rt,
             path,
-            files,
-            counted,
+            listing,
+            earlier,
             ..
         } = self;
-        let counted = if files.is_empty() { counted } else { files };
+        let earlier = if listing.files.is_empty() {
+            earlier
+        } else {
+            listing
+        };
         MaildirDrop {
-            counted,
+            earlier,
             ..MaildirDrop::at(rt, path)
         }
     }
@@ -141,6 +156,13 @@ impl<'a, R: Files + RandomSource + AllocGlobal + Clone + Drop> MaildirDrop<'a, R
         }
     }
 
+    /// The path of a folder.
+    fn folder_path(&self, folder: Folder) -> io::Result<String> {
+        let path = self.path.as_str();
+        let name = folder.name();
+        Ok(format!(in self.rt.alloc(); "{path}/{name}")?)
+    }
+
     /// The path of a file in a folder.
     fn path_of(&self, folder: Folder, name: &str) -> io::Result<String> {
         let path = self.path.as_str();
@@ -151,10 +173,8 @@ impl<'a, R: Files + RandomSource + AllocGlobal + Clone + Drop> MaildirDrop<'a, R
     /// Adds the regular files of a folder. A name that isn't UTF-8 is passed over.
     fn find_in(&self, folder: Folder, found: &mut Vec<MailFile>) -> io::Result<()> {
         let alloc = self.rt.alloc();
-        let path = self.path.as_str();
-        let name = folder.name();
-        let folder_path = format!(in alloc; "{path}/{name}")?;
-        for entry in fs::read_dir(self.rt, folder_path.as_str())? {
+        let path = self.folder_path(folder)?;
+        for entry in fs::read_dir(self.rt, path.as_str())? {
             let entry = match entry {
                 Ok(entry) => entry,
                 Err(error) => {
@@ -172,24 +192,47 @@ impl<'a, R: Files + RandomSource + AllocGlobal + Clone + Drop> MaildirDrop<'a, R
             if !metadata.is_file() {
                 continue;
             }
-            found.push(MailFile {
-                base: Vec::from_slice(alloc, base(name).as_bytes())?,
-                folder,
-                name: String::from_str(alloc, name)?,
-                stamp: stamp_of(&metadata),
-            })?;
+            found.push(MailFile::of(alloc, folder, name, stamp_of(&metadata))?)?;
         }
         Ok(())
     }
 
-    /// All files, in the order in which their messages are listed. A file that moves from `new` to `cur`
-    /// meanwhile is found all the same, as `new` is looked through first.
-    fn find(&self) -> io::Result<Vec<MailFile>> {
-        let mut found = Vec::with_capacity(self.rt.alloc(), self.counted.len())?;
-        self.find_in(Folder::New, &mut found)?;
-        self.find_in(Folder::Cur, &mut found)?;
-        found.sort()?;
-        Ok(found)
+    /// A look at a folder.
+    fn change_of(&self, folder: Folder) -> io::Result<ChangeTime> {
+        let path = self.folder_path(folder)?;
+        Ok(ChangeTime::of(&fs::metadata(self.rt, path.as_str())?))
+    }
+
+    /// A look at both folders. The clock is read first, so that nothing which happens from then on is
+    /// older than the look.
+    fn look_at_folders(&self) -> io::Result<FoldersLook> {
+        let at = match self.rt.since_1970() {
+            Ok(passed) => passed.as_secs(),
+            Err(_) => 0,
+        };
+        Ok(FoldersLook {
+            at,
+            new: self.change_of(Folder::New)?,
+            cur: self.change_of(Folder::Cur)?,
+        })
+    }
+
+    /// All files: those of the earlier listing where it stands. A file that moves from `new` to `cur`
+    /// while they are looked through is found all the same, as `new` is looked through first.
+    fn find(&self) -> io::Result<FoundFiles> {
+        let alloc = self.rt.alloc();
+        let look = self.look_at_folders()?;
+        if self.earlier.look.stands_at(&look) {
+            return Ok(FoundFiles {
+                look: self.earlier.look,
+                files: self.earlier.found(alloc)?,
+            });
+        }
+        let mut files = Vec::with_capacity(alloc, self.earlier.files.len())?;
+        self.find_in(Folder::New, &mut files)?;
+        self.find_in(Folder::Cur, &mut files)?;
+        files.sort()?;
+        Ok(FoundFiles { look, files })
     }
 
     /// The size of a file, which is read for it.
@@ -204,14 +247,28 @@ impl<'a, R: Files + RandomSource + AllocGlobal + Clone + Drop> MaildirDrop<'a, R
         }
     }
 
+    /// The size of a file: the one that is known, or else it is read.
+    fn size_of(
+        &self,
+        file: &MailFile,
+        known: Option<u64>,
+        piece: &mut [u8],
+    ) -> Result<u64, Unlisted> {
+        match known {
+            Some(size) => Ok(size),
+            None => self.count(file.folder, file.name.as_str(), piece),
+        }
+    }
+
     /// The messages of these files: of several with one id the first, none past the limits.
     #[tactic(auto, using(crate::proofs::MaildirLemmas::ids_push))]
-    fn list(&self, found: Vec<MailFile>) -> Result<ListedFiles, Unlisted>
-        ensures within { IfOk result (λ listing. vec_len listing.entries ≤ MAX_COUNT) }
-        ensures distinct { IfOk result (λ listing. AreDistinct (map uid_of listing.entries.items)) }
-        ensures names { IfOk result (λ listing. HaveIds listing.entries.items (names_of listing.files.items)) }
+    fn list(&self, found: FoundFiles) -> Result<ListedMessages, Unlisted>
+        ensures within { IfOk result (λ listed. vec_len listed.entries ≤ MAX_COUNT) }
+        ensures distinct { IfOk result (λ listed. AreDistinct (map uid_of listed.entries.items)) }
+        ensures names { IfOk result (λ listed. HaveIds listed.entries.items (names_of listed.listing.files.items)) }
     {
         let alloc = self.rt.alloc();
+        let FoundFiles { look, files: found } = found;
         // By keys of random: the names of files may come from ids that a server chose.
         let keys = RandomState::new(self.rt)?;
         let mut seen: HashSet<Vec<u8>, RandomState> = HashSet::with_capacity_and_hasher(
@@ -221,62 +278,51 @@ impl<'a, R: Files + RandomSource + AllocGlobal + Clone + Drop> MaildirDrop<'a, R
         )?;
         let mut entries = Vec::with_capacity(alloc, found.len())?;
         let mut files = Vec::with_capacity(alloc, found.len())?;
-        let mut counted = Counted::new(self.counted.as_slice());
+        let mut counted = Counted::new(self.earlier.files.as_slice());
         let mut piece = Vec::from_elem(alloc, 0u8, PIECE)?;
         for file in found {
             if entries.len() >= MAX_COUNT {
                 break;
             }
             let known = counted.size_of(&file);
-            let MailFile {
-                folder,
-                name,
-                stamp,
-                ..
-            } = file;
-            let uid = unique_id(alloc, base(name.as_str()).as_bytes())?;
+            let uid = unique_id(alloc, base(file.name.as_str()).as_bytes())?;
             let key = Vec::from_slice(alloc, uid.as_slice())?;
             // The size is the length at least.
-            if seen.contains(&key) || stamp.length > MAX_SIZE {
+            if seen.contains(&key) || file.stamp.length > MAX_SIZE {
                 continue;
             }
-            let size = match known {
-                Some(size) => size,
-                None => self.count(folder, name.as_str(), piece.as_mut_slice())?,
-            };
+            let size = self.size_of(&file, known, piece.as_mut_slice())?;
             if size > MAX_SIZE {
                 continue;
             }
             seen.insert(key)?;
             entries.push(Entry::new(uid, size))?;
-            files.push(ListedFile {
-                folder,
-                name,
-                stamp,
-                size,
-            })?;
+            files.push(ListedFile::of(file, size))?;
         }
-        Ok(ListedFiles { entries, files })
+        Ok(ListedMessages {
+            entries,
+            listing: Listing { look, files },
+        })
     }
 
     /// The messages of the Maildir as it is now.
-    fn look(&self) -> Result<ListedFiles, Unlisted>
-        ensures within { IfOk result (λ listing. vec_len listing.entries ≤ MAX_COUNT) }
-        ensures distinct { IfOk result (λ listing. AreDistinct (map uid_of listing.entries.items)) }
-        ensures names { IfOk result (λ listing. HaveIds listing.entries.items (names_of listing.files.items)) }
+    fn look(&self) -> Result<ListedMessages, Unlisted>
+        ensures within { IfOk result (λ listed. vec_len listed.entries ≤ MAX_COUNT) }
+        ensures distinct { IfOk result (λ listed. AreDistinct (map uid_of listed.entries.items)) }
+        ensures names { IfOk result (λ listed. HaveIds listed.entries.items (names_of listed.listing.files.items)) }
     {
         self.list(self.find()?)
     }
 
     /// The messages of the Maildir. Where a file vanished meanwhile or got another name, the folders are
     /// looked through once more.
-    fn look_twice(&self) -> Result<ListedFiles, Unlisted>
-        ensures within { IfOk result (λ listing. vec_len listing.entries ≤ MAX_COUNT) }
-        ensures distinct { IfOk result (λ listing. AreDistinct (map uid_of listing.entries.items)) }
-        ensures names { IfOk result (λ listing. HaveIds listing.entries.items (names_of listing.files.items)) }
+    fn look_twice(&self) -> Result<ListedMessages, Unlisted>
+        ensures within { IfOk result (λ listed. vec_len listed.entries ≤ MAX_COUNT) }
+        ensures distinct { IfOk result (λ listed. AreDistinct (map uid_of listed.entries.items)) }
+        ensures names { IfOk result (λ listed. HaveIds listed.entries.items (names_of listed.listing.files.items)) }
     {
         match self.look() {
-            Ok(listing) => Ok(listing),
+            Ok(listed) => Ok(listed),
             Err(unlisted) => {
                 if unlisted.error.kind() == ErrorKind::NotFound {
                     self.look()
@@ -291,7 +337,7 @@ impl<'a, R: Files + RandomSource + AllocGlobal + Clone + Drop> MaildirDrop<'a, R
     /// listing counted, so that the read that finds the end has room too: it grows only where the
     /// file has grown.
     fn read_file(&self, i: usize) -> io::Result<Vec<u8>> {
-        let Some(listed) = self.files.get(i) else {
+        let Some(listed) = self.listing.files.get(i) else {
             return Err(ErrorKind::NotFound.into());
         };
         let path = self.path_of(listed.folder, listed.name.as_str())?;
@@ -304,7 +350,7 @@ impl<'a, R: Files + RandomSource + AllocGlobal + Clone + Drop> MaildirDrop<'a, R
 
     /// Opens the file at a place of the last listing, to be read from the octet `start` on.
     fn open_text(&self, i: usize, start: usize) -> io::Result<OpenText<R::File>> {
-        let Some(listed) = self.files.get(i) else {
+        let Some(listed) = self.listing.files.get(i) else {
             return Err(ErrorKind::NotFound.into());
         };
         let path = self.path_of(listed.folder, listed.name.as_str())?;
@@ -345,7 +391,7 @@ impl<'a, R: Files + RandomSource + AllocGlobal + Clone + Drop> MaildirDrop<'a, R
 
     /// Removes the file at a place of the last listing.
     fn remove_file(&self, i: usize) -> io::Result<()> {
-        match self.files.get(i) {
+        match self.listing.files.get(i) {
             Some(listed) => {
                 let path = self.path_of(listed.folder, listed.name.as_str())?;
                 fs::remove_file(self.rt, path.as_str())
@@ -368,7 +414,8 @@ impl<'a, R: Files + RandomSource + AllocGlobal + Clone + Drop> MaildirDrop<'a, R
     }
 }
 
-impl<'a, R: Files + RandomSource + AllocGlobal + Clone + Drop> Maildrop for MaildirDrop<'a, R> {
+impl<'a, R: Files + Clock + RandomSource + AllocGlobal + Clone + Drop> Maildrop
+    for MaildirDrop<'a, R> {
     ghost mail = { λ d. mail_of d };
 
     ghost sound = { λ _. ⊥ };
@@ -385,8 +432,9 @@ impl<'a, R: Files + RandomSource + AllocGlobal + Clone + Drop> Maildrop for Mail
             return Err(DropFault::Refused);
         }
         match self.look_twice() {
-            Ok(ListedFiles { entries, files }) => {
-                self.files = files;
+            Ok(ListedMessages { entries, listing }) => {
+                self.listing = listing;
+                self.earlier = Listing::none(self.rt.alloc());
                 self.unread = None;
                 Ok(entries)
             }

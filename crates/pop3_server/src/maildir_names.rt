@@ -6,6 +6,7 @@ ghost use Rattle.pop3_server.specs.MaildirNames.{folder_name, id_of};
 ghost use Rattle.hex.specs.Hex.{encode_lower};
 ghost use Rattle.sha2.specs.Sha256.{sha256};
 
+use mail_terms::base;
 use pop3_wire::{Bytes, is_legal_id};
 use sha2::{Digest, Sha256};
 use std::alloc::{AllocError, Global};
@@ -46,6 +47,23 @@ pub struct MailFile {
     pub name: String,
     /// What the folder says of it.
     pub stamp: Stamp,
+}
+
+impl MailFile {
+    /// A file of this name.
+    pub fn of(
+        alloc: Global,
+        folder: Folder,
+        name: &str,
+        stamp: Stamp,
+    ) -> Result<MailFile, AllocError> {
+        Ok(MailFile {
+            base: Vec::from_slice(alloc, base(name).as_bytes())?,
+            folder,
+            name: String::from_str(alloc, name)?,
+            stamp,
+        })
+    }
 }
 
 /// The 32 bytes of a digest in lower-case hexadecimal, which are characters of an id.

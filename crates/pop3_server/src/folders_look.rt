@@ -1,0 +1,69 @@
+//! When the folders of a Maildir were changed last, and for how long an earlier listing of them stands.
+ghost use Rattle.std.specs.Prelude.{◌≡◌, ◌↔◌, IsTrue};
+ghost use Rattle.pop3_server.specs.FoldersLook.{Stands};
+
+use std::fs::Metadata;
+use std::os::unix::fs::MetadataExt;
+
+/// How long ago a folder must have been changed, so that each later change gives it another time: no
+/// file system's clock ticks in longer steps.
+const SETTLED_SECONDS: u64 = 2;
+
+/// For how long a listing stands while the folders do: so long may a file's length and time of change
+/// stay unseen, where software changes it in place.
+const STANDING_SECONDS: u64 = 3_600;
+
+/// A folder's time of change, in seconds and nanoseconds since 1970. It moves when a file comes, goes
+/// or gets another name, and nobody can set it.
+#[derive(Clone, Copy, PartialEq, Eq)]
+pub struct ChangeTime {
+    pub seconds: u64,
+    pub nanoseconds: i64,
+}
+
+impl ChangeTime {
+    /// The time of change of a folder. One before 1970 becomes a time that is never past.
+    pub fn of(folder: &Metadata) -> ChangeTime {
+        ChangeTime {
+            seconds: u64::try_from(folder.ctime()).unwrap_or(u64::MAX),
+            nanoseconds: folder.ctime_nsec(),
+        }
+    }
+}
+
+/// A look at both folders: their times of change, and when it was, in seconds since 1970.
+#[derive(Clone, Copy)]
+pub struct FoldersLook {
+    pub new: ChangeTime,
+    pub cur: ChangeTime,
+    pub at: u64,
+}
+
+impl FoldersLook {
+    /// No look, behind which nothing stands.
+    pub fn none() -> FoldersLook {
+        let never = ChangeTime {
+            seconds: 0,
+            nanoseconds: 0,
+        };
+        FoldersLook {
+            new: never,
+            cur: never,
+            at: 0,
+        }
+    }
+
+    /// Whether a listing that was made behind this look is that of the folders at a later look too:
+    /// they were settled and weren't changed since, and it isn't too old.
+    pub fn stands_at(&self, later: &FoldersLook) -> bool
+        ensures { IsTrue result ↔ Stands self.now later.now }
+    {
+        let settled = self.at.saturating_sub(SETTLED_SECONDS);
+        self.new.seconds < settled
+            && self.cur.seconds < settled
+            && later.new == self.new
+            && later.cur == self.cur
+            && self.at <= later.at
+            && later.at - self.at < STANDING_SECONDS
+    }
+}
