@@ -11,20 +11,15 @@
 SHELL := /bin/bash
 .SHELLFLAGS := -eu -o pipefail -c
 
-# The programs among the crates that crates.txt lists.
-crates := $(shell sed -e 's/\#.*//' -e 's/:.*//' crates.txt)
-programs := $(filter getmail popd,$(crates))
-watched := $(filter store_bench,$(crates))
-benches := $(addprefix bench-,$(filter getmail popd store_bench record_bench client_bench,$(crates)))
-
-.PHONY: all rehearse check test bench install uninstall clean $(programs) $(watched) $(benches)
+.PHONY: all rehearse check test bench install uninstall clean getmail popd store_bench
+.PHONY: bench-getmail bench-popd bench-client_bench bench-record_bench bench-store_bench
 .NOTPARALLEL:
 
-all: $(programs)
+all: getmail popd
 
 # `rt run` builds a program once it is proved, and runs it: here on its recorded conversation,
 # with which it ends well, so that whatever fails is the proof, the build or the program.
-$(programs):
+getmail popd:
 	cd crates/$@ && rt run -- --rehearse < $(CURDIR)/examples/$@-rehearsal.txt > /dev/null
 	mkdir -p bin
 	install -m 755 crates/$@/out/$@ bin/$@
@@ -38,15 +33,15 @@ check:
 	@tests/gate.sh
 
 # The tests from outside also run the small program of the stores' benchmark.
-$(watched):
+store_bench:
 	cd crates/$@ && rt run > /dev/null
 
-test: all $(watched)
+test: all store_bench
 	python3 tests/test_sample.py
 	python3 tests/test_documents.py
 	python3 tests/run.py
 
-bench: $(benches)
+bench: bench-getmail bench-popd bench-store_bench bench-record_bench bench-client_bench
 
 bench-getmail: getmail popd
 	@python3 bench/rehearsal.py

@@ -1,8 +1,7 @@
 #!/usr/bin/env python3
-"""Runs the tests from outside: those of each program that crates.txt lists, over the program as it was built last.
+"""Runs the tests from outside: those of each program, over the program as it was built last.
 
-A listed program that was not built is a failure; for one that is not listed yet a line says that its tests were left
-out. The status is 0 only where every test that was to run has passed.
+A program that was not built is a failure. The status is 0 only where every test that was to run has passed.
 """
 
 import argparse
@@ -20,7 +19,7 @@ from harness import programs  # noqa: E402 (the path has to be there first)
 def read_words():
     parser = argparse.ArgumentParser(description=__doc__.splitlines()[0])
     parser.add_argument("--program", metavar="NAME=FILE", action="append", default=[],
-                        help="take the program NAME from FILE, listed or not")
+                        help="take the program NAME from FILE")
     parser.add_argument("-k", metavar="PATTERN", action="append", dest="patterns",
                         help="only tests whose names fit the pattern or hold the word")
     parser.add_argument("-v", "--verbose", action="store_true", help="print each test's name")
@@ -31,7 +30,7 @@ def run_tests_of(name, words):
     """Runs one program's tests, prints their summary, and answers whether all of them passed."""
     path = programs.path_of(name)
     if not path.is_file():
-        print(f"tests of {name}: it is listed in crates.txt, but {path} is not there; `make` builds it")
+        print(f"tests of {name}: {path} is not there; `make test` builds it")
         return False
     loader = unittest.TestLoader()
     if words.patterns:
@@ -49,13 +48,7 @@ def main():
     words = read_words()
     for pair in words.program:
         programs.place(*pair.split("=", 1))
-    listed = programs.listed()
-    verdicts = []
-    for name in programs.NAMES:
-        if name in listed:
-            verdicts.append(run_tests_of(name, words))
-        else:
-            print(f"tests of {name}: left out, since crates.txt does not list it yet", flush=True)
+    verdicts = [run_tests_of(name, words) for name in programs.NAMES]
     return 0 if all(verdicts) else 1
 
 

@@ -2,8 +2,9 @@
 """Looks for what the documents name: each file, each command of `make`, each function, definition and word of the code.
 
 What stands in backticks or on a line of code is looked at. A name with a slash or with a file's ending is a file, at the top
-or in any crate; `make WORD` is a target of the Makefile; any other name is one that a source, a definition, a test or a
-man page uses. Names in capitals stand for something else (`FILE`), and so do those in OTHERS, which are no names of ours.
+or in any crate; `make WORD` is a target that the Makefile names behind .PHONY; any other name is one that a source, a definition,
+a test or a man page uses. Names in capitals stand for something else (`FILE`), and so do those in OTHERS, which are no names of
+ours.
 
 And the man page lists each line that a fault of getmail is told by.
 """
@@ -93,9 +94,7 @@ def told_without_help():
 def main():
     paths = tracked_files()
     words = words_of(paths)
-    targets = set(re.findall(r"^([a-z][a-z-]*):", (TOP / "Makefile").read_text(), re.MULTILINE))
-    targets |= {name for name in ("getmail", "popd") if (TOP / "crates" / name).is_dir()}
-    targets |= set(re.findall(r"\.PHONY: (.*)", (TOP / "Makefile").read_text())[0].split())
+    targets = set(" ".join(re.findall(r"^\.PHONY: (.*)", (TOP / "Makefile").read_text(), re.MULTILINE)).split())
     faults = [fault for document in DOCUMENTS for fault in faults_in(document, paths, words, targets)]
     faults += told_without_help()
     for fault in faults:

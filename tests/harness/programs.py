@@ -4,7 +4,6 @@ A program is looked for where `rt` leaves it, `crates/NAME/out/NAME`, unless `pl
 """
 
 import os
-import re
 import subprocess
 from dataclasses import dataclass
 from pathlib import Path
@@ -37,13 +36,6 @@ def place(name, path):
 def path_of(name):
     """The file of the built program `name`."""
     return _placed.get(name, ROOT / "crates" / name / "out" / name)
-
-
-def listed():
-    """The programs that crates.txt lists, so that are to be there, in the order of NAMES."""
-    text = re.sub(r"#.*", "", (ROOT / "crates.txt").read_text())
-    crates = {line.split(":")[0].split()[0] for line in text.splitlines() if line.strip()}
-    return [name for name in NAMES if name in crates or name in _placed]
 
 
 def environment(**changes):
