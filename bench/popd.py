@@ -30,6 +30,7 @@ from harness.kernel import LOOPBACK
 TURNS = 9
 VISITS = 4
 SECONDS = 60
+SETTLED_SECONDS = 4
 LETTER_HEAD = b"From: Ada <ada@example.org>\nSubject: a letter\n\n"
 LETTER_LINE = b"A line of a common length, as a letter to somebody has them.\n"
 PREPARED_SERVER = Path(__file__).with_name("prepared_server.py")
@@ -242,9 +243,12 @@ def print_visits(name, server, first, later, processor, count):
 def measure_beside_dovecot(folder, name, count, octets):
     """The same visits to `popd` and to dovecot, over the same files; their ratios."""
     maildir = make_maildir(folder, count, octets)
+    # Both servers look through a folder again that was changed just now.
+    time.sleep(SETTLED_SECONDS)
     with Popd(maildir) as ours:
         our_visits = [visit(ours.port, count) for _ in range(VISITS)]
     best = print_visits(name, "popd", our_visits[0], our_visits[1:], ours.processor, count)
+    print(f"  {name}, popd: peak of memory {ours.memory / 1e6:.1f} MB", flush=True)
     if not dovecot.is_there():
         return
     with dovecot.Dovecot(folder, maildir) as theirs:

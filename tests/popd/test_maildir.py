@@ -6,7 +6,7 @@ import unittest
 from contextlib import closing
 from pathlib import Path
 
-from harness import preload, programs
+from harness import kernel, preload, programs
 from harness.kernel import LOOPBACK
 from popd import expected
 from popd.service import Maildir, Service, long_lines_allowed
@@ -232,15 +232,19 @@ class Changes(unittest.TestCase):
                 self.assertEqual(client.ask_lines(b"UIDL"), b"+OK\r\n1 A\r\n2 a\r\n3 b\r\n4 c\r\n.\r\n")
 
     def test_a_folder_that_is_not_there(self):
+        """The maildrop is refused until the folder is there again; the folder is told all the same."""
         for part in ("new", "cur"):
-            with self.subTest(part), Maildir() as maildir, Service(maildir) as service, service.client() as client:
-                (maildir.folder / part).rmdir()
-                self.assertEqual(client.log_in(), b"-ERR maildrop unavailable\r\n")
-                self.assertEqual(client.ask(b"PASS p"), b"-ERR USER first\r\n")
-                self.assertEqual(client.ask(b"STAT"), b"-ERR not now\r\n")
-                (maildir.folder / part).mkdir()
-                client.ask(b"USER u")
-                self.assertEqual(client.ask(b"PASS p"), b"+OK 0 messages\r\n")
+            with self.subTest(part), Maildir() as maildir, Service(maildir, "--connections", "1") as service:
+                folder = maildir.folder / part
+                folder.rmdir()
+                with service.client() as client:
+                    self.assertEqual(client.log_in(), b"-ERR maildrop unavailable\r\n")
+                    self.assertEqual(client.ask(b"PASS p"), b"-ERR USER first\r\n")
+                    self.assertEqual(client.ask(b"STAT"), b"-ERR not now\r\n")
+                    folder.mkdir()
+                    client.ask(b"USER u")
+                    self.assertEqual(client.ask(b"PASS p"), b"+OK 0 messages\r\n")
+                self.assertEqual(service.finish(), (0, f'popd: warning: cannot read "{folder}"\n'.encode()))
 
     def test_no_maildir_at_all(self):
         with Maildir() as maildir:
@@ -301,6 +305,16 @@ class Listings(unittest.TestCase):
             os.rename(self.path, self.maildir.folder / "cur" / "a:2,S")
             self.maildir.add("new", "0", b"")
             self.assertEqual(self.sizes(service), [b"1 0", b"2 11", b"3 12"])
+
+    def test_a_size_goes_with_its_name(self):
+        """Another file of the same length and the same time of change is counted for itself."""
+        with self.clocked() as service:
+            self.assertEqual(self.sizes(service), [b"1 5", b"2 12"])
+            stands = os.stat(self.path)
+            os.remove(self.path)
+            other = self.maildir.add("new", "aa", b"\n\n\n\n")
+            os.utime(other, ns=(stands.st_atime_ns, stands.st_mtime_ns))
+            self.assertEqual(self.sizes(service), [b"1 8", b"2 12"])
 
     def test_a_second_login_reads_no_file(self):
         """A file that was counted is served as it was counted, though it has other lines now: it wasn't read."""
@@ -414,6 +428,18 @@ class GreatMaildirs(unittest.TestCase):
                 self.assertEqual(client.ask(b"RETR 1"), b"+OK %d octets\r\n" % expected.SIZE_LIMIT)
                 body = client.file.read(expected.SIZE_LIMIT + 3)
                 self.assertEqual((body[-5:], body.count(0)), (b"\r\n.\r\n", expected.SIZE_LIMIT - 2))
+
+    def test_the_memory_for_a_great_message(self):
+        """It takes little more than the message, which is one line of a hole here."""
+        octets = 1 << 26
+        with Maildir() as maildir:
+            os.truncate(maildir.add("new", "great", b""), octets)
+            for command in (b"RETR 1",):
+                with self.subTest(command), Service(maildir) as service, service.client() as client:
+                    client.log_in()
+                    self.assertTrue(client.ask(command).startswith(b"+OK"))
+                    self.assertEqual(len(client.file.read(octets + 5)), octets + 5)
+                    self.assertLess(kernel.peak_of_memory(service.process.pid), octets * 5 // 4)
 
     def test_more_messages_than_are_listed(self):
         with Maildir() as maildir:

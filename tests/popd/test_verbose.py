@@ -90,10 +90,11 @@ class Verbose(unittest.TestCase):
         with self.service() as service:
             for path in self.paths:
                 os.remove(path)
-            (self.maildir.folder / "new").rmdir()
+            folder = self.maildir.folder / "new"
+            folder.rmdir()
             peer, answers = self.talk(service, b"QUIT")
             self.assertEqual(answers[1], b"-ERR maildrop unavailable\r\n")
-            self.check_told(service, f"{peer}: maildrop unavailable")
+            self.check_told(service, f"{peer}: maildrop unavailable", f'warning: cannot read "{folder}"')
 
 
 class OverStandardStreams(unittest.TestCase):

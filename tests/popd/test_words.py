@@ -95,11 +95,11 @@ class Words(unittest.TestCase):
         self.maildir.passfile.write_bytes(b"p" * 500)
         self.check_warning([])
 
-    def test_a_password_file_that_others_may_read(self):
-        for mode, told in ((0o600, []), (0o640, 1), (0o604, 1), (0o644, 1), (0o622, [])):
+    def test_a_password_file_that_others_may_read_or_write(self):
+        for mode, told in ((0o600, []), (0o640, 1), (0o604, 1), (0o644, 1), (0o620, 1), (0o602, 1), (0o711, [])):
             with self.subTest(oct(mode)):
                 self.maildir.passfile.chmod(mode)
-                self.check_warning(told and [f"others than its owner may read {self.served[1]}"])
+                self.check_warning(told and [f"others than its owner may read or write {self.served[1]}"])
 
     def test_a_password_file_that_cannot_be_read(self):
         for name in ("missing", "missing/missing", str(self.maildir.folder), "", "a b\tc"):

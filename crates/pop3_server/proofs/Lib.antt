@@ -7,6 +7,7 @@ mod HonestLemmas
 mod HonestLoopLemmas
 mod HonestTurns
 mod LeaveLemmas
+mod ListingLemmas
 mod LoopLemmas
 mod MaildirLemmas
 mod OpenLemmas

@@ -4,6 +4,7 @@ pub mod FoldersLook
 pub mod Got
 pub mod HonestLoop
 pub mod HonestServer
+pub mod ListedFiles
 pub mod LoopLaws
 pub mod LoopLink
 pub mod MaildirNames

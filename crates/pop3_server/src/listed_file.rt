@@ -1,6 +1,7 @@
 //! The files of a Maildir whose messages are listed, and their sizes as messages.
-ghost use Rattle.std.specs.Prelude.{◌≡◌, [], IfSome};
+ghost use Rattle.std.specs.Prelude.{◌≡◌, [], IsTrue, IfSome};
 ghost use Rattle.std.specs.String.{string_bytes};
+ghost use Rattle.pop3_server.specs.ListedFiles.{WasCounted};
 
 use crate::folders_look::FoldersLook;
 use crate::maildir_names::{Folder, MailFile, Stamp};
@@ -15,8 +16,8 @@ use std::time::UNIX_EPOCH;
 /// How many octets of a file are read at once.
 pub const PIECE: usize = 65_536;
 
-/// Where the file of a listed message lies, how long it was when its size was counted, and that size,
-/// where each line's end counts as two octets.
+/// Where the file of a listed message lies, how long it was and when it was changed last when its size
+/// was counted, and that size, where each line's end counts as two octets.
 #[derive(Drop)]
 pub struct ListedFile {
     pub folder: Folder,
@@ -54,11 +55,11 @@ impl ListedFile {
             None
         }
     }
-}
 
-impl ListedFile {
     /// Whether it lies where that file was found.
-    fn is_same(&self, found: &MailFile) -> bool {
+    fn is_same(&self, found: &MailFile) -> bool
+        ensures { IsTrue result → (self.now.folder ≡ found.now.folder) × (string_bytes self.now.name ≡ string_bytes found.now.name) }
+    {
         self.folder == found.folder && self.name.as_str() == found.name.as_str()
     }
 
@@ -86,8 +87,16 @@ pub fn stamp_of(metadata: &Metadata) -> Stamp {
     stamp
 }
 
-/// The files that were listed, in the order of their messages, and the look at the folders behind which
-/// they were found.
+/// The files found in a Maildir, in the order in which their messages are listed, and the look at the
+/// folders behind which they were found.
+#[derive(Drop)]
+pub struct FoundFiles {
+    pub look: FoldersLook,
+    pub files: Vec<MailFile>,
+}
+
+/// The files of the listed messages, in their order, and the look at the folders behind which they were
+/// found.
 #[derive(Drop)]
 pub struct Listing {
     pub look: FoldersLook,
@@ -105,13 +114,16 @@ impl Listing {
         }
     }
 
-    /// The files as they were found.
-    pub fn found(&self, alloc: Global) -> Result<Vec<MailFile>, AllocError> {
-        let mut found = Vec::with_capacity(alloc, self.files.len())?;
+    /// The listed files as they were found.
+    pub fn found(&self, alloc: Global) -> Result<FoundFiles, AllocError> {
+        let mut files = Vec::with_capacity(alloc, self.files.len())?;
         for file in self.files.as_slice() {
-            found.push(MailFile::of(alloc, file.folder, file.name.as_str(), file.stamp)?)?;
+            files.push(MailFile::of(alloc, file.folder, file.name.as_str(), file.stamp)?)?;
         }
-        Ok(found)
+        Ok(FoundFiles {
+            look: self.look,
+            files,
+        })
     }
 }
 
@@ -130,7 +142,9 @@ impl<'a> Counted<'a> {
 
     /// The size of a file that was found, where it was counted and the file is as it was then. The files
     /// that are ordered before it are passed over.
-    pub fn size_of(&mut self, found: &MailFile) -> Option<u64> {
+    pub fn size_of(&mut self, found: &MailFile) -> Option<u64>
+        ensures { IfSome result (λ size. WasCounted self.old.files.now found.now size) }
+    {
         while let [file, rest @ ..] = self.files {
             if file.is_same(found) {
                 return file.size_at(found.stamp);

@@ -9,7 +9,7 @@ ghost use Rattle.pop3_server.specs.Maildrop.{is_refusal};
 ghost use Rattle.pop3_server.specs.RealMaildir.{mail_of, names_of, uid_of, HaveIds, ListsNames};
 
 use crate::folders_look::{ChangeTime, FoldersLook};
-use crate::listed_file::{Counted, ListedFile, Listing, PIECE, count_size, stamp_of};
+use crate::listed_file::{Counted, FoundFiles, ListedFile, Listing, PIECE, count_size, stamp_of};
 use crate::maildir_names::{Folder, MailFile, unique_id};
 use crate::maildrop::{DropFault, Entry, MAX_COUNT, MAX_SIZE, Maildrop};
 use mail_terms::{FailureCount, base};
@@ -33,7 +33,7 @@ pub struct MaildirDrop<'a, R: Files + AllocGlobal + Clone + Drop> {
     listing: Listing,
     /// An earlier server's listing, until this one has its own.
     earlier: Listing,
-    /// The path of the file that couldn't be read, where that refused the last listing.
+    /// The path of the file or folder that couldn't be read, where that refused a listing.
     unread: Option<String>,
     /// The file of which a part was given last.
     open: Option<OpenText<R::File>>,
@@ -63,12 +63,24 @@ impl<'a, R: Files + AllocGlobal + Clone + Drop> Model for MaildirDrop<'a, R> {
     } };
 }
 
-/// Why a Maildir couldn't be listed: the error of the system, and the path of the file that couldn't be
-/// read, where it was one.
+/// Why a Maildir couldn't be listed: the error of the system, and the path of the file or folder that
+/// couldn't be read, where it was one.
 #[derive(Drop)]
 struct Unlisted {
     error: io::Error,
     path: Option<String>,
+}
+
+impl Unlisted {
+    /// What kept a file or folder from being read. Want of memory has nothing to do with its path.
+    fn at(error: io::Error, path: String) -> Unlisted {
+        let path = if error.kind() == ErrorKind::OutOfMemory {
+            None
+        } else {
+            Some(path)
+        };
+        Unlisted { error, path }
+    }
 }
 
 impl From<io::Error> for Unlisted {
@@ -90,14 +102,6 @@ impl<T: Drop> From<AllocFailed<T>> for Unlisted {
     fn from(error: AllocFailed<T>) -> Unlisted {
         AllocError::from(error).into()
     }
-}
-
-/// The files found in a Maildir, in the order in which their messages are listed, and the look at the
-/// folders behind which they were found.
-#[derive(Drop)]
-struct FoundFiles {
-    look: FoldersLook,
-    files: Vec<MailFile>,
 }
 
 /// The messages found in a Maildir, and where their files lie.
@@ -148,7 +152,7 @@ impl<'a, R: Files + Clock + RandomSource + AllocGlobal + Clone + Drop> MaildirDr
         }
     }
 
-    /// The path of the file that couldn't be read, where that refused the last listing.
+    /// The path of the file or folder that couldn't be read, where that refused a listing.
     pub fn unread(&self) -> Option<&str> {
         match &self.unread {
             Some(path) => Some(path.as_str()),
@@ -170,11 +174,10 @@ impl<'a, R: Files + Clock + RandomSource + AllocGlobal + Clone + Drop> MaildirDr
         Ok(format!(in self.rt.alloc(); "{path}/{folder}/{name}")?)
     }
 
-    /// Adds the regular files of a folder. A name that isn't UTF-8 is passed over.
-    fn find_in(&self, folder: Folder, found: &mut Vec<MailFile>) -> io::Result<()> {
+    /// Adds the regular files of a folder, which has this path. A name that isn't UTF-8 is passed over.
+    fn add_files(&self, folder: Folder, path: &str, found: &mut Vec<MailFile>) -> io::Result<()> {
         let alloc = self.rt.alloc();
-        let path = self.folder_path(folder)?;
-        for entry in fs::read_dir(self.rt, path.as_str())? {
+        for entry in fs::read_dir(self.rt, path)? {
             let entry = match entry {
                 Ok(entry) => entry,
                 Err(error) => {
@@ -197,15 +200,27 @@ impl<'a, R: Files + Clock + RandomSource + AllocGlobal + Clone + Drop> MaildirDr
         Ok(())
     }
 
-    /// A look at a folder.
-    fn change_of(&self, folder: Folder) -> io::Result<ChangeTime> {
+    /// Adds the regular files of a folder.
+    fn find_in(&self, folder: Folder, found: &mut Vec<MailFile>) -> Result<(), Unlisted> {
         let path = self.folder_path(folder)?;
-        Ok(ChangeTime::of(&fs::metadata(self.rt, path.as_str())?))
+        match self.add_files(folder, path.as_str(), found) {
+            Ok(()) => Ok(()),
+            Err(error) => Err(Unlisted::at(error, path)),
+        }
     }
 
-    /// A look at both folders. The clock is read first, so that nothing which happens from then on is
-    /// older than the look.
-    fn look_at_folders(&self) -> io::Result<FoldersLook> {
+    /// When a folder was changed last.
+    fn change_of(&self, folder: Folder) -> Result<ChangeTime, Unlisted> {
+        let path = self.folder_path(folder)?;
+        match fs::metadata(self.rt, path.as_str()) {
+            Ok(metadata) => Ok(ChangeTime::of(&metadata)),
+            Err(error) => Err(Unlisted::at(error, path)),
+        }
+    }
+
+    /// A look at both folders. The clock is read first: what a folder's change that the look misses
+    /// leaves behind is no older than the look.
+    fn look_at_folders(&self) -> Result<FoldersLook, Unlisted> {
         let at = match self.rt.since_1970() {
             Ok(passed) => passed.as_secs(),
             Err(_) => 0,
@@ -219,16 +234,12 @@ impl<'a, R: Files + Clock + RandomSource + AllocGlobal + Clone + Drop> MaildirDr
 
     /// All files: those of the earlier listing where it stands. A file that moves from `new` to `cur`
     /// while they are looked through is found all the same, as `new` is looked through first.
-    fn find(&self) -> io::Result<FoundFiles> {
-        let alloc = self.rt.alloc();
+    fn find(&self) -> Result<FoundFiles, Unlisted> {
         let look = self.look_at_folders()?;
         if self.earlier.look.stands_at(&look) {
-            return Ok(FoundFiles {
-                look: self.earlier.look,
-                files: self.earlier.found(alloc)?,
-            });
+            return Ok(self.earlier.found(self.rt.alloc())?);
         }
-        let mut files = Vec::with_capacity(alloc, self.earlier.files.len())?;
+        let mut files = Vec::with_capacity(self.rt.alloc(), self.earlier.files.len())?;
         self.find_in(Folder::New, &mut files)?;
         self.find_in(Folder::Cur, &mut files)?;
         files.sort()?;
@@ -240,10 +251,7 @@ impl<'a, R: Files + Clock + RandomSource + AllocGlobal + Clone + Drop> MaildirDr
         let path = self.path_of(folder, name)?;
         match count_size(self.rt, path.as_str(), piece) {
             Ok(size) => Ok(size),
-            Err(error) => Err(Unlisted {
-                error,
-                path: Some(path),
-            }),
+            Err(error) => Err(Unlisted::at(error, path)),
         }
     }
 
@@ -435,7 +443,6 @@ impl<'a, R: Files + Clock + RandomSource + AllocGlobal + Clone + Drop> Maildrop
             Ok(ListedMessages { entries, listing }) => {
                 self.listing = listing;
                 self.earlier = Listing::none(self.rt.alloc());
-                self.unread = None;
                 Ok(entries)
             }
             Err(Unlisted { error, path }) => {

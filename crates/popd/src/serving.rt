@@ -46,7 +46,7 @@ fn bound_waits(stream: &TcpStream) -> io::Result<()> {
     stream.set_write_timeout(wait)
 }
 
-/// Tells which file couldn't be read, where that refused the maildrop.
+/// Tells which file or folder couldn't be read, where that refused the maildrop.
 fn warn_of_unread(rt: &HostRuntime, maildir: &RealMaildir<'_>) {
     if let Some(path) = maildir.unread() {
         warn(rt, Warning::Unread(path));
@@ -105,11 +105,11 @@ pub fn listen<'a>(
     let mut maildir = account.open_maildir(rt)?;
     for _ in 0..words.connections {
         let served = match listener.accept() {
-            Ok((stream, address)) => {
+            Ok((stream, client)) => {
                 let mut telling = Telling {
                     rt,
                     verbose: words.verbose,
-                    peer: Peer::Address(address),
+                    peer: Peer::Address(client),
                 };
                 let (served, left) = serve_stream(&mut telling, &stream, account, maildir);
                 maildir = left;

@@ -14,9 +14,9 @@ pub enum Warning<'a> {
     NoUser,
     /// No client can give the password.
     NoPassword,
-    /// Others than its owner may read the password file of this name.
+    /// Others than its owner may read or write the password file of this name.
     OpenPassfile(&'a str),
-    /// A message's file can't be read.
+    /// A message's file, or a folder of the Maildir, can't be read.
     Unread(&'a str),
 }
 
@@ -36,7 +36,7 @@ pub fn warn(rt: &HostRuntime, warning: Warning<'_>) {
             "popd: warning: no client can give this password: {NOT_GIVEN}"
         )),
         Warning::OpenPassfile(path) => rt.eprintln(format_args!(
-            "popd: warning: others than its owner may read {path}"
+            "popd: warning: others than its owner may read or write {path}"
         )),
         Warning::Unread(path) => {
             rt.eprintln(format_args!("popd: warning: cannot read {path:?}"))
@@ -52,10 +52,10 @@ fn is_folder(rt: &HostRuntime, path: &str) -> bool {
     }
 }
 
-/// Whether others than its owner may read a file.
-fn is_open(rt: &HostRuntime, path: &str) -> bool {
+/// Whether others than its owner may read or write a file.
+fn is_others_too(rt: &HostRuntime, path: &str) -> bool {
     match fs::metadata(rt, path) {
-        Ok(metadata) => metadata.permissions().mode() & 0o044 != 0,
+        Ok(metadata) => metadata.permissions().mode() & 0o066 != 0,
         Err(_) => false,
     }
 }
@@ -68,7 +68,7 @@ pub fn warn_of(rt: &HostRuntime, account: &Account, passfile: &str) -> Result<()
     if !is_credential(account.password.as_slice()) {
         warn(rt, Warning::NoPassword);
     }
-    if is_open(rt, passfile) {
+    if is_others_too(rt, passfile) {
         warn(rt, Warning::OpenPassfile(passfile));
     }
     let maildir = account.maildir.as_str();

@@ -1,0 +1,14 @@
+-- The sizes that were counted for an earlier listing.
+use Rattle.std.specs.Prelude.{◌≡◌, ℕ, List, string_bytes}
+use Rattle.std.specs.List.{Contains}
+use Rattle.pop3_server.specs.declared.listed_file.ListedFile.{ListedFile}
+use Rattle.pop3_server.specs.declared.maildir_names.MailFile.{MailFile}
+
+-- one of these files has the folder, the name, the length and the time of change of the one that was found, and this size
+pub record WasCounted (files : List ListedFile) (found : MailFile) (counted : ℕ) : Type 0 where
+  pub file : ListedFile
+  pub listed : Contains files file
+  pub folder : file.folder ≡ found.folder
+  pub name : string_bytes file.name ≡ string_bytes found.name
+  pub stamp : file.stamp ≡ found.stamp
+  pub size : file.size ≡ counted
