@@ -32,7 +32,7 @@ class Server:
     """The messages, as pairs of a unique-id and a text whose lines end in LF, and one session after the other.
 
     With `pause` each octet comes alone, so many seconds after the one before. With `deaf_after` it reads so many commands,
-    and nothing more while the connection stands.
+    and nothing more while the connection stands; `deaf` is set once the last of them is answered.
     """
 
     def __init__(self, messages, refuses=()):
@@ -42,6 +42,7 @@ class Server:
         self.room = None
         self.pause = None
         self.deaf_after = None
+        self.deaf = threading.Event()
         self.hung_up = threading.Event()
         self.socket = socket.create_server((LOOPBACK, 0))
         self.socket.settimeout(programs.SECONDS)
@@ -57,6 +58,8 @@ class Server:
         """Serves one connection in a thread of its own; with `octets` it breaks off after so many octets of replies."""
         self.commands = []
         self.room = octets
+        self.deaf.clear()
+        self.hung_up.clear()
         thread = threading.Thread(target=self._serve, daemon=True)
         thread.start()
         return thread
@@ -89,6 +92,7 @@ class Server:
                     if command == b"QUIT":
                         return
                 if self.deaf_after is not None:
+                    self.deaf.set()
                     self.hung_up.wait(programs.SECONDS)
             except (Cut, ConnectionError):
                 # What the client still sends is read, so that the end comes in order and isn't a reset.

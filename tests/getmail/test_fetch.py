@@ -1,6 +1,7 @@
 """Sessions over loopback with a server that breaks off wherever it likes, into a Maildir in a real folder."""
 
 import hashlib
+import itertools
 import os
 import signal
 import socket
@@ -189,27 +190,55 @@ class BrokenOff(Fetching):
 
 
 class Killed(Fetching):
-    def test_a_killed_run_loses_and_doubles_nothing(self):
-        self.server.messages = [(b"%d" % n, b"line %d\n" % n * 200) for n in range(100, 160)]
-        wanted = list(self.server.messages)
-        for kill_after in [n * 0.002 for n in range(40)]:
-            with self.subTest(kill_after=kill_after), Account(self.server.port) as account:
+    """Runs that are killed within their session, behind each reply in turn; the server takes no further command then."""
+
+    letters = [(b"%d" % number, b"line %d\n" % number * 2000) for number in range(4)]
+    # A delivery takes some milliseconds, so that the kills fall into it and behind it.
+    pauses = (0, 0.0005, 0.002, 0.01)
+
+    def kill_behind(self, commands, pause, *words):
+        """Kills a run so many seconds behind the reply to the last of so many commands; with none, behind the greeting."""
+        self.server.deaf_after = commands
+        thread = self.server.begin_session()
+        process = self.account.start(*words)
+        self.assertTrue(self.server.deaf.wait(programs.SECONDS))
+        time.sleep(pause)
+        process.kill()
+        process.communicate(timeout=programs.SECONDS)
+        self.assertEqual(process.returncode, -signal.SIGKILL)
+        self.server.hung_up.set()
+        thread.join(programs.SECONDS)
+        self.server.deaf_after = None
+
+    def retrieved(self):
+        return [command for command in self.server.commands if command.startswith("RETR")]
+
+    def check_kill(self, commands, pause, *words):
+        """What was delivered before the kill stands there whole, and one more run fetches the others alone."""
+        self.server.messages = list(self.letters)
+        self.kill_behind(commands, pause, *words)
+        held = self.account.held()
+        self.assertEqual(held, self.letters[:len(held)])
+        self.assertIn(len(self.retrieved()) - len(held), (0, 1))
+        self.check_good(self.session(*words))
+        self.assertEqual(self.retrieved(), [f"RETR {number}" for number in range(len(held) + 1, len(self.letters) + 1)])
+        self.check_held(self.letters)
+        self.assertEqual(list((self.account.maildir / "tmp").iterdir()), [])
+
+    def check_every_kill(self, *words):
+        self.server.messages = list(self.letters)
+        self.session(*words)
+        for commands, pause in itertools.product(range(len(self.server.commands)), self.pauses):
+            with self.subTest(commands=commands, pause=pause), Account(self.server.port) as account:
                 self.account = account
-                thread = self.server.begin_session()
-                process = account.start("-q")
-                time.sleep(kill_after)
-                process.send_signal(signal.SIGKILL)
-                process.communicate(timeout=programs.SECONDS)
-                thread.join(0.2)
-                if thread.is_alive():
-                    # It was killed before it connected; the server still waits for a client.
-                    socket.create_connection((LOOPBACK, self.server.port), timeout=programs.SECONDS).close()
-                    thread.join(programs.SECONDS)
-                held = account.held()
-                self.assertEqual(held, sorted(wanted)[:len(held)])
-                self.check_good(self.session("-q"))
-                self.assertEqual(account.held(), sorted(wanted))
-                self.assertEqual(list((account.maildir / "tmp").iterdir()), [])
+                self.check_kill(commands, pause, *words)
+
+    def test_a_killed_run_loses_and_doubles_nothing(self):
+        self.check_every_kill("-q")
+
+    def test_a_killed_run_that_deletes_loses_and_doubles_nothing(self):
+        self.check_every_kill("-q", "-d")
+        self.assertEqual(self.server.messages, [])
 
 
 class Addresses(Fetching):
