@@ -1,9 +1,20 @@
 -- Texts cut into lines.
-use Rattle.std.proofs.Common.{◌≡◌, inl, inr, ℕ, zero, suc, ◌+◌, ◌<◌, List, [], ◌∷◌, ◌-◌, length, take, drop, refl, arith}
+use Rattle.std.proofs.Common.{◌≡◌, inl, inr, ℕ, zero, suc, ◌+◌, ◌<◌, List, [], ◌∷◌, ◌-◌, Option, Some, None, length, take, drop, refl, arith, sym}
 use Rattle.std.proofs.lemmas.Grind.{common_steps}
 use Rattle.std.specs.List.{position_or_len}
+use Rattle.std.specs.Option.{unwrap_or}
+use Rattle.std.proofs.lemmas.Bool.{false_from_ne_true}
 use Rattle.std.proofs.lemmas.Bool.Decides.{eqb_tells}
+use Rattle.std.proofs.lemmas.List.Sums.{position_or_len_is}
+use Rattle.memchr.specs.Find.{IsFirstByte, is_byte}
 use Rattle.mail_terms.specs.Text.{is_line_feed, lines_of_text}
+
+-- where a search found the first LF, or the end
+pub end_found : (text : List ℕ) (found : Option ℕ) → IsFirstByte (is_byte 10) text found → unwrap_or found (length text) ≡ position_or_len is_line_feed text
+end_found text None none =
+    sym (position_or_len_is is_line_feed text (length text) 0 (omega arith) (λ k low. false_from_ne_true _ (none k (omega arith) low)) (λ low. absurd (omega (arith, low))))
+end_found text (Some n) first =
+    sym (position_or_len_is is_line_feed text n 0 (omega (arith, first.0.high)) (λ k low. false_from_ne_true _ (first.0.before k (omega arith) low)) (λ low. first.1))
 
 -- a text without LF is one line
 pub one_text_line : (text : List ℕ) → 0 < length text → position_or_len is_line_feed text ≡ length text → lines_of_text text ≡ text ∷ []

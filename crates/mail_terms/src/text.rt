@@ -1,20 +1,25 @@
 //! Texts, whose lines end at LF.
 
 ghost use Rattle.std.specs.Prelude.{◌≡◌, ◌<◌, ◌≤◌, ◌∷◌, length};
-ghost use Rattle.std.specs.List.{position_or_len};
+ghost use Rattle.std.specs.List.{after_first, before_first, position_or_len};
 ghost use Rattle.mail_terms.specs.Text.{is_line_feed, lines_of_text};
 
-/// How many bytes stand before the first LF, or all where there is none.
+use memchr::memchr;
+
+/// How many octets stand before the first LF, or all where there is none.
 fn line_end(text: &[u8]) -> usize
     ensures value { result ≡ position_or_len is_line_feed text.now }
     ensures fits { result ≤ length text.now }
 {
-    text.iter().take_while(|byte| **byte != b'\n').count()
+    memchr(b'\n', text).unwrap_or(text.len())
 }
 
-/// The first line of a text that isn't empty, without its LF, and what follows it.
+/// The first line of a text that isn't empty, which is what stands before its first LF, or all where
+/// there is none, and what follows that LF.
 pub fn cut_text(text: &[u8]) -> (&[u8], &[u8])
     requires { 0 < length text.now }
+    ensures line { result.0.now ≡ before_first is_line_feed text.now }
+    ensures rest { result.1.now ≡ after_first is_line_feed text.now }
     ensures cut { lines_of_text text.now ≡ result.0.now ∷ lines_of_text result.1.now }
     ensures shorter { length result.1.now < length text.now }
 {
