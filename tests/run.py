@@ -1,7 +1,8 @@
 #!/usr/bin/env python3
 """Runs the tests from outside: those of each program, over the program as it was built last.
 
-A program that was not built is a failure. The status is 0 only where every test that was to run has passed.
+A program that was not built is a failure. A test beside other software that isn't installed is skipped, with a line
+that names it. The status is 0 only where every other test has passed.
 """
 
 import argparse
@@ -38,8 +39,11 @@ def run_tests_of(name, words):
     suite = loader.discover(str(TESTS / name), top_level_dir=str(TESTS))
     begun = time.monotonic()
     result = unittest.TextTestRunner(sys.stdout, verbosity=2 if words.verbose else 0).run(suite)
-    passed = result.wasSuccessful() and not result.skipped and (result.testsRun > 0 or bool(words.patterns))
-    print(f"tests of {name}: {result.testsRun} run in {time.monotonic() - begun:.0f} s, "
+    for test, reason in result.skipped:
+        print(f"tests of {name}: {test.id()} is skipped: {reason}")
+    run = result.testsRun - len(result.skipped)
+    passed = result.wasSuccessful() and (run > 0 or bool(words.patterns))
+    print(f"tests of {name}: {run} run in {time.monotonic() - begun:.0f} s, {len(result.skipped)} skipped, "
           f"{'all passed' if passed else 'NOT all passed'}", flush=True)
     return passed
 

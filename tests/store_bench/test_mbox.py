@@ -103,10 +103,9 @@ class Mbox(unittest.TestCase):
         self.assertEqual(read, [quoted(text) for text in TEXTS])
         self.assertEqual(tuple(map(unquoted, read)), TEXTS)
 
+    @unittest.skipIf(shutil.which("formail") is None, "formail is not installed")
     def test_read_by_formail(self):
-        """formail, where it is installed, finds as many messages; it knows one by two fields behind its first line."""
-        if shutil.which("formail") is None:
-            return
+        """formail finds as many messages; it knows one by two fields behind its first line."""
         self.fill(b"Subject: one\nTo: another\n\n")
         counted = subprocess.run(["formail", "-s", "echo", "message"], input=self.file.read_bytes(), check=True,
                                  capture_output=True)
