@@ -1,6 +1,7 @@
 """Servers that fall silent or take nothing: each wait has an end, and what was fetched before it stays."""
 
 import contextlib
+import signal
 import socket
 import threading
 import time
@@ -116,6 +117,25 @@ class Stalls(unittest.TestCase):
             run = account.run("-q", **self.hurry.environment())
             thread.join(programs.SECONDS)
             self.assertEqual(run, programs.Run(0, b"", b""))
+            self.assertEqual(account.held(), messages)
+
+
+class Stopped(unittest.TestCase):
+    def test_a_run_that_is_stopped_and_goes_on(self):
+        """As by Ctrl-Z and `fg`, again and again: the system interrupts a read whose wait is bounded."""
+        messages = [(b"a", b"one\n"), (b"b", b"two\n")]
+        with Server(messages) as server, Account(server.port) as account:
+            server.pause = 0.01
+            thread = server.begin_session()
+            process = account.start("-q")
+            deadline = time.monotonic() + programs.SECONDS
+            while process.poll() is None and time.monotonic() < deadline:
+                for sent in (signal.SIGSTOP, signal.SIGCONT):
+                    process.send_signal(sent)
+                    time.sleep(0.01)
+            out, err = process.communicate(timeout=programs.SECONDS)
+            thread.join(programs.SECONDS)
+            self.assertEqual((process.returncode, out, err), (0, b"", b""))
             self.assertEqual(account.held(), messages)
 
 

@@ -1,5 +1,6 @@
 """Connections over loopback: one after the other, ended in any way, and clients that mean no good."""
 
+import signal
 import socket
 import subprocess
 import threading
@@ -48,6 +49,18 @@ class Connections(OverLoopback):
         with Service(self.maildir, "--connections", "3") as service:
             for _ in range(3):
                 self.check_good_client(service)
+            self.assertEqual(service.finish(), (0, b""))
+
+    def test_a_server_that_is_stopped_and_goes_on(self):
+        """The system interrupts its read, whose wait is bounded; the client sees nothing of it."""
+        with Service(self.maildir, "--connections", "1") as service:
+            with service.client() as client:
+                client.log_in()
+                for sent in (signal.SIGSTOP, signal.SIGCONT) * 3:
+                    time.sleep(0.05)
+                    service.process.send_signal(sent)
+                self.assertEqual(client.ask(b"NOOP"), b"+OK\r\n")
+                self.assertEqual(client.ask(b"QUIT"), b"+OK bye\r\n")
             self.assertEqual(service.finish(), (0, b""))
 
     def test_as_many_connections_as_come(self):
@@ -122,11 +135,11 @@ class Connections(OverLoopback):
 
 
 class Waits(OverLoopback):
-    """A client that neither says nor takes anything; ten minutes are a fifth of a second here."""
+    """A client that neither says nor takes anything; ten minutes are a second here."""
 
     @classmethod
     def setUpClass(cls):
-        cls.hurry = waits.hurry_for(cls, speed=3000)
+        cls.hurry = waits.hurry_for(cls, speed=600)
 
     def setUp(self):
         super().setUp()
@@ -135,10 +148,10 @@ class Waits(OverLoopback):
     def service(self):
         return Service(self.maildir, "--connections", "2", **self.hurry.environment())
 
-    def check_next_client(self, service, told):
+    def check_next_client(self, service, told, count=1):
         """The message that was marked is still there for the next client, this was told, and these waits asked for."""
         with service.client() as client:
-            self.assertEqual(client.log_in(), b"+OK 1 messages\r\n")
+            self.assertEqual(client.log_in(), b"+OK %d messages\r\n" % count)
             self.assertEqual(client.ask(b"QUIT"), b"+OK bye\r\n")
         self.assertEqual(service.finish(), (0, told))
         self.assertEqual(self.hurry.asked(), [("read", 600_000), ("write", 600_000), ("nodelay", 1)] * 2)
@@ -152,12 +165,12 @@ class Waits(OverLoopback):
                 self.check_next_client(service, b"popd: read failed\n")
 
     def test_a_client_that_takes_nothing(self):
+        self.maildir.add("new", "b", b"two\n")
         with self.service() as service, service.client() as deaf:
             deaf.log_in()
-            deaf.ask(b"DELE 1")
-            deaf.ask(b"RSET")
+            self.assertEqual(deaf.ask(b"DELE 2"), b"+OK marked\r\n")
             deaf.give(b"RETR 1\r\n" * 500)
-            self.check_next_client(service, b"popd: write failed\n")
+            self.check_next_client(service, b"popd: write failed\n", count=2)
 
 
 class Memory(OverLoopback):

@@ -5,8 +5,7 @@ ghost use Rattle.pop3_wire.specs.Link.{uncharted, CountsFailure};
 
 use crate::wire::{Wire, WireDown};
 use mail_terms::FailureCount;
-use std::io;
-use std::io::{Read, Write};
+use std::io::{self, ErrorKind, Read, Write};
 
 /// A link over a reader and a writer. Nothing is known of the octets that these take and give, so
 /// its premise never holds: what crosses it is shown by tests.
@@ -50,6 +49,25 @@ fn write_whole<W: Write>(writer: &mut W, bytes: &[u8]) -> io::Result<()>
     writer.flush()
 }
 
+/// Reads once, however often that is interrupted: where a process was stopped and goes on, the system
+/// interrupts a read whose wait is bounded.
+fn read_once<R: Read>(reader: &mut R, buf: &mut [u8]) -> io::Result<usize>
+    ensures within { IfOk result (λ n. n ≤ length buf.new) }
+    ensures took { ReadConsumes (R.remaining reader.old) (R.remaining reader.new) result buf.new }
+{
+    for _ in 0..u64::MAX {
+        match reader.read(buf) {
+            Ok(count) => return Ok(count),
+            Err(error) => {
+                if error.kind() != ErrorKind::Interrupted {
+                    return Err(error);
+                }
+            }
+        }
+    }
+    Err(io::Error::from(ErrorKind::Interrupted))
+}
+
 impl<R: Read, W: Write> Wire for StreamWire<R, W> {
     ghost seen = { λ w. uncharted w.failures };
 
@@ -87,7 +105,7 @@ impl<R: Read, W: Write> Wire for StreamWire<R, W> {
         if self.failures.is_full() {
             return Err(WireDown);
         }
-        match self.reader.read(buf) {
+        match read_once(&mut self.reader, buf) {
             Ok(n) => Ok(n),
             Err(_) => {
                 self.failures.count_up();
