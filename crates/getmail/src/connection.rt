@@ -8,7 +8,7 @@ use std::time::Duration;
 const CONNECT_SECONDS: u64 = 60;
 
 /// How long a read or a write may wait. What takes longer is refused, and the session is cut, so that
-/// no run hangs for ever.
+/// no wait lasts for ever.
 const WAIT_SECONDS: u64 = 180;
 
 /// The connection to one address, with its waits bounded. Each command goes out at once.
