@@ -65,7 +65,7 @@ begun_one : (account : List ℕ) (maildir : Maildir) (items : List Item) (tasks 
     → IsDeleted tasks command → IsBegun items (deleted_by items tasks) command
 begun_one account maildir items tasks right (Dele number) is =
     let at = right_at account maildir items is.0 is.1 (deletes number) (subst (AllByRecursion (IsRight account maildir items)) is.2 right) in
-    (at.0, at.1, ap (λ (ts : List Task). has_id (deleted_by items ts) at.0.uid) is.2 ∙ id_there items is.0 is.1 number at.0 at.1)
+    (at.0, at.1, ap (λ (ts : List Task). has_id (deleted_by items ts) at.0.uid) is.2 ∙ id_there items is.0 is.1 number at.0 at.1, at.2, at.3)
 begun_one account maildir items tasks right (User name) is = tt
 begun_one account maildir items tasks right (Pass word) is = tt
 begun_one account maildir items tasks right Stat is = tt

@@ -153,6 +153,7 @@ module _ (laws : Laws) (world : World) (state : State) (occasion : Occasion) (so
     for_held held (Dele number) begun = elim listing_or_nothing [
       | inl listed ↦
           let at = message_at (maildrop_at world state occasion) (number - 1) begun.0 (ap (λ (l : List Item). slice_get l (number - 1)) (sym listed) ∙ begun.1) in (
+            begun.3,
             at.0,
             at.1,
             ap (λ (i : Item). is_held (digits_of world.settings) occasion.after.maildir i.uid) at.2

@@ -1,6 +1,6 @@
 -- The tasks of a plan: what they fetch, whether it is held, and what stands before a deletion.
 use Rattle.std.proofs.Common.{◌≡◌, ◌⊎◌, inl, inr, ◌+◌, ◌-◌, ℕ, Bool, true, false, cond, List, [], ◌∷◌, ◌++◌, map, zip, Option, None, Some, refl, sym, ap, subst, ◌∙◌, append_assoc, length, length-append, arith}
-use Rattle.std.specs.Prelude.{◌&&◌, ◌||◌, bytes_eq, slice_get}
+use Rattle.std.specs.Prelude.{◌&&◌, ◌||◌, ◌<◌, bytes_eq, slice_get}
 use Rattle.std.specs.List.{flat_map, filter, AllByRecursion, enumerate_from}
 use Rattle.std.proofs.lemmas.Bool.{and_parts, or_cases, true≢false}
 use Rattle.std.proofs.lemmas.List.Concat.{flat_map-append}
@@ -47,11 +47,15 @@ deleted_in items _ = []
 abbrev pub deleted_by : List Item → List Task → List (List ℕ)
 deleted_by items tasks = flat_map (deleted_in items) tasks
 
--- what a task fetches is listed, and stored only where it isn't held; what it deletes stands at its number
+-- no other message of the listing has the id
+abbrev pub IsAlone : List Item → ℕ × Item → Type 0
+IsAlone items message = (is_first items message && is_last items message) ≡ true
+
+-- what a task fetches is listed, and stored only where it isn't held; what it deletes stands at its number, alone with its id
 abbrev pub IsRight : List ℕ → Maildir → List Item → Task → Type 0
 IsRight account maildir items (stores number uid) = (is_held account maildir uid ≡ false) × (has_item items uid ≡ true)
 IsRight account maildir items (rereads number uid) = (is_held account maildir uid ≡ true) × (has_item items uid ≡ true)
-IsRight account maildir items (deletes number) = (item : Item) × (slice_get items (number - 1) ≡ Some item)
+IsRight account maildir items (deletes number) = (item : Item) × (slice_get items (number - 1) ≡ Some item) × (0 < number) × IsAlone items (number, item)
 IsRight account maildir items _ = Unit {0}
 
 -- whatever is so of each stored id, is so of an id when its message is deleted
@@ -146,19 +150,19 @@ all_weaker P Q [] weaker all = tt
 all_weaker P Q (x ∷ xs) weaker all = (weaker x all.0, all_weaker P Q xs weaker all.1)
 
 right_by : (account : List ℕ) (maildir : Maildir) (items : List Item) (r h d : Bool) (n : ℕ) (uid : List ℕ) (size : ℕ) → is_held account maildir uid ≡ h → has_item items uid ≡ true
-    → (at : (item : Item) × (slice_get items (n - 1) ≡ Some item)) → AllByRecursion (IsRight account maildir items) (fetching r h n uid size ++ deleting d n)
-right_by account maildir items true true true n uid size held listed at = ((held, listed), (at, tt))
+    → (d ≡ true → IsRight account maildir items (deletes n)) → AllByRecursion (IsRight account maildir items) (fetching r h n uid size ++ deleting d n)
+right_by account maildir items true true true n uid size held listed at = ((held, listed), (at refl, tt))
 right_by account maildir items true true false n uid size held listed at = ((held, listed), tt)
-right_by account maildir items true false true n uid size held listed at = ((held, listed), (at, tt))
+right_by account maildir items true false true n uid size held listed at = ((held, listed), (at refl, tt))
 right_by account maildir items true false false n uid size held listed at = ((held, listed), tt)
-right_by account maildir items false true true n uid size held listed at = (tt, (at, tt))
-right_by account maildir items false false true n uid size held listed at = (tt, (at, tt))
+right_by account maildir items false true true n uid size held listed at = (tt, (at refl, tt))
+right_by account maildir items false false true n uid size held listed at = (tt, (at refl, tt))
 right_by account maildir items false true false n uid size held listed at = (tt, tt)
 right_by account maildir items false false false n uid size held listed at = (tt, tt)
 
--- a message stands at its number, and is listed
+-- a message stands at its number, which counts from 1, and is listed
 abbrev IsAt : List Item → ℕ × Item → Type 0
-IsAt items message = (slice_get items (message.0 - 1) ≡ Some message.1) × (has_item items message.1.uid ≡ true)
+IsAt items message = (slice_get items (message.0 - 1) ≡ Some message.1) × (has_item items message.1.uid ≡ true) × (0 < message.0)
 
 or_right : (b : Bool) → (b || true) ≡ true
 or_right true = refl
@@ -175,7 +179,7 @@ at_number : (front behind : List Item) (item : Item) (n : ℕ) → n ≡ length 
 at_number front behind item n is =
     let place : n - 1 ≡ length front = omega (arith, is) in
     let there = stands front behind item in
-    (ap (λ (k : ℕ). slice_get (front ++ item ∷ behind) k) place ∙ there.0, there.1)
+    (ap (λ (k : ℕ). slice_get (front ++ item ∷ behind) k) place ∙ there.0, there.1, omega (arith, is))
 
 all_stand : (items front behind : List Item) (n : ℕ) → items ≡ front ++ behind → n ≡ length front + 1 → AllByRecursion (IsAt items) (enumerate_from n behind)
 all_stand items front [] n split is = tt
@@ -185,21 +189,27 @@ all_stand items front (item ∷ behind) n split is = (
       (ap (λ (k : ℕ). k + 1) is ∙ ap (λ (k : ℕ). k + 1) (sym (length-append front (item ∷ [])))),
 )
 
-right_all : (account : List ℕ) (maildir : Maildir) (items : List Item) (f : ℕ × Item → Step) → ((q : ℕ × Item) → (f q).number ≡ q.0) → (qs : List (ℕ × Item)) → AllByRecursion (IsAt items) qs
-    → AllByRecursion (IsRight account maildir items) (flat_map (tasks_at f (is_held account maildir)) qs)
-right_all account maildir items f same [] at = tt
-right_all account maildir items f same (q ∷ qs) at =
+right_all : (account : List ℕ) (maildir : Maildir) (items : List Item) (f : ℕ × Item → Step) → ((q : ℕ × Item) → (f q).number ≡ q.0) → ((q : ℕ × Item) → (f q).delete ≡ true → IsAlone items q)
+    → (qs : List (ℕ × Item)) → AllByRecursion (IsAt items) qs → AllByRecursion (IsRight account maildir items) (flat_map (tasks_at f (is_held account maildir)) qs)
+right_all account maildir items f same alone [] at = tt
+right_all account maildir items f same alone (q ∷ qs) at =
     all_on (IsRight account maildir items) (tasks_at f (is_held account maildir) q) (flat_map (tasks_at f (is_held account maildir)) qs)
     (right_by account maildir items (f q).retrieve (is_held account maildir q.1.uid) (f q).delete (f q).number q.1.uid q.1.size refl at.0.1
-    (q.1, ap (λ (n : ℕ). slice_get items (n - 1)) (same q) ∙ at.0.0))
-    (right_all account maildir items f same qs at.1)
+    (λ is. subst (λ (n : ℕ). IsRight account maildir items (deletes n)) (sym (same q)) (q.1, at.0.0, at.0.2, alone q is)))
+    (right_all account maildir items f same alone qs at.1)
+
+-- a message is deleted only where no other has its id
+deleted_alone : (settings : Settings) (rows : List Row) (items : List Item) (now : ℕ) (q : ℕ × Item) → (step_of settings rows items now q).delete ≡ true → IsAlone items q
+deleted_alone settings rows items now q is =
+    let fetched = has_number (wanted settings rows items) q.0 in
+    (and_parts (is_due settings now (seen_since rows q.1.uid now) && (is_delivered rows q.1.uid || fetched)) (is_first items q && is_last items q) is).1
 
 pub right_ahead : (settings : Settings) (account : List ℕ) (items : List Item) (now : ℕ) (maildir : Maildir) (rows : List Row)
     → AllByRecursion (IsRight account maildir items) (tasks_ahead settings account items now maildir rows)
 right_ahead settings account items now maildir rows =
     subst (AllByRecursion (IsRight account maildir items)) (sym (tasks_are settings account items now maildir rows))
     (all_on (IsRight account maildir items) (flat_map (tasks_at (step_of settings rows items now) (is_held account maildir)) (numbered items)) (says quit ∷ [])
-    (right_all account maildir items (step_of settings rows items now) (λ q. refl) (numbered items) (all_stand items [] items 1 refl refl)) (tt, tt))
+    (right_all account maildir items (step_of settings rows items now) (λ q. refl) (deleted_alone settings rows items now) (numbered items) (all_stand items [] items 1 refl refl)) (tt, tt))
 
 -- ---- what is deleted
 

@@ -2,7 +2,7 @@
 -- any reply or refused write, the Maildir holds exactly a prefix of the selected messages in maildrop order, each once,
 -- byte for byte with lines ended by LF; an uncut session leaves out only what its limits exclude; and DELE was sent only
 -- for messages held.
-use Rattle.std.specs.Prelude.{◌≡◌, ◌⊎◌, ◌-◌, ℕ, true, false, List, [], ◌∷◌, ◌++◌, Some, slice_get}
+use Rattle.std.specs.Prelude.{◌≡◌, ◌⊎◌, ◌<◌, ◌-◌, ℕ, true, false, List, [], ◌∷◌, ◌++◌, Some, slice_get}
 use Rattle.std.specs.List.{AllByRecursion}
 use Rattle.pop3_wire.specs.declared.command.Command.{Command}
 use Rattle.pop3_wire.specs.declared.command.Command.TheVariants.{Dele}
@@ -112,9 +112,9 @@ LeavesOutOnlyBeyondLimits world state occasion = occasion.report.outcome ≡ End
     ⊎ IsPastCount world state occasion message)
     (maildrop_at world state occasion)
 
--- a DELE is for a message of the maildrop that is held when the session returns
+-- a DELE is for a message of the maildrop, counted from 1, that is held when the session returns
 abbrev pub IsForHeld : World → State → Occasion → Command → Type 0
-IsForHeld world state occasion (Dele number) = (message : Message) × (slice_get (maildrop_at world state occasion) (number - 1) ≡ Some message)
+IsForHeld world state occasion (Dele number) = (0 < number) × (message : Message) × (slice_get (maildrop_at world state occasion) (number - 1) ≡ Some message)
     × (is_held (digits_of world.settings) occasion.after.maildir message.uid ≡ true)
 IsForHeld world state occasion _ = Unit {0}
 

@@ -81,7 +81,7 @@ marks_are_asked drop sent got marks honest place e = elim (marks_from drop (no_m
 
 begun_at : (listing : List Item) (begun : List (List ℕ)) (front behind : List Command) (number : ℕ) → AllByRecursion (IsBegun listing begun) (front ++ Dele number ∷ behind)
     → (item : Item) × (slice_get listing (number - 1) ≡ Some item) × (has_id begun item.uid ≡ true)
-begun_at listing begun [] behind number h = h.0
+begun_at listing begun [] behind number h = (h.0.0, h.0.1, h.0.2)
 begun_at listing begun (command ∷ front) behind number h = begun_at listing begun front behind number h.1
 
 item_at : (drop : List Message) (place : ℕ) (m : Message) → slice_get drop place ≡ Some m → slice_get (listing_of drop) place ≡ Some (item_of m)

@@ -1,5 +1,5 @@
 -- What no server can make a session do: lose or change a stored text, or delete a message that isn't known.
-use Rattle.std.specs.Prelude.{◌≡◌, ◌⊎◌, ◌-◌, ℕ, true, List, ◌∷◌, ◌++◌, zip, Some, slice_get}
+use Rattle.std.specs.Prelude.{◌≡◌, ◌⊎◌, ◌<◌, ◌-◌, ℕ, true, List, ◌∷◌, ◌++◌, zip, Some, slice_get}
 use Rattle.std.specs.List.{AllByRecursion}
 use Rattle.rc_file.specs.declared.settings.Settings.{Settings}
 use Rattle.fetch_rules.specs.Record.{is_delivered}
@@ -16,20 +16,20 @@ use Rattle.mail_terms.specs.Listing.{Item}
 abbrev pub IsAmong : {X : Type 0} → X → List X → Type 0
 IsAmong x xs = (front behind : List _) × (xs ≡ front ++ x ∷ behind)
 
--- a wanted message has the id, and the text that the session got by its number stands among the files that it brought, under the
--- name of the id
-abbrev pub WasStored : Settings → List ℕ → Account → Effect → List File → List ℕ → Type 0
-WasStored settings account before effect gained id = (message : ℕ × Item) × (text : List ℕ) × IsAmong (message, text) (zip (wanted_at settings account before effect) effect.texts)
-    × (message.1.uid ≡ id) × IsAmong (file (name_of account id) text) gained
+-- the wanted message of this number has the id, and the text that the session got by that number stands among the files that it
+-- brought, under the name of the id
+abbrev pub WasStored : Settings → List ℕ → Account → Effect → List File → ℕ → List ℕ → Type 0
+WasStored settings account before effect gained number id = (message : ℕ × Item) × (text : List ℕ) × IsAmong (message, text) (zip (wanted_at settings account before effect) effect.texts)
+    × (message.0 ≡ number) × (message.1.uid ≡ id) × IsAmong (file (name_of account id) text) gained
 
--- the id was recorded as delivered before the session, or was held, or the session stored its text
-abbrev pub IsKept : Settings → List ℕ → Account → Effect → List File → List ℕ → Type 0
-IsKept settings account before effect gained id = (is_delivered before.rows id ≡ true) ⊎ (is_held account before.maildir id ≡ true) ⊎ WasStored settings account before effect gained id
+-- the id was recorded as delivered before the session, or was held, or the session stored the text that it got by this number
+abbrev pub IsKept : Settings → List ℕ → Account → Effect → List File → ℕ → List ℕ → Type 0
+IsKept settings account before effect gained number id = (is_delivered before.rows id ≡ true) ⊎ (is_held account before.maildir id ≡ true) ⊎ WasStored settings account before effect gained number id
 
--- a DELE asks for a message that is kept so; no other command deletes
+-- a DELE asks by its number, which counts from 1, for a message that is kept so; no other command deletes
 abbrev pub DeletesKept : Settings → List ℕ → Account → Effect → List File → Command → Type 0
 DeletesKept settings account before effect gained (Dele number) =
-    (item : Item) × (slice_get effect.listing (number - 1) ≡ Some item) × IsKept settings account before effect gained item.uid
+    (0 < number) × (item : Item) × (slice_get effect.listing (number - 1) ≡ Some item) × IsKept settings account before effect gained number item.uid
 DeletesKept settings account before effect gained _ = Unit {0}
 
 -- every file of `new` and `cur` is still there, with what it held, and each DELE that was sent, the last perhaps in part, asks for

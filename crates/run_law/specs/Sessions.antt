@@ -1,5 +1,5 @@
 -- Sessions told by what their links gained, and runs of them over one world.
-use Rattle.std.specs.Prelude.{◌≡◌, ◌⊎◌, ◌-◌, ℕ, Bool, true, List, [], ◌∷◌, ◌++◌, map, take, length, Some, slice_get}
+use Rattle.std.specs.Prelude.{◌≡◌, ◌⊎◌, ◌&&◌, ◌<◌, ◌-◌, ℕ, Bool, true, List, [], ◌∷◌, ◌++◌, map, take, length, Some, slice_get}
 use Rattle.std.specs.List.{AllByRecursion}
 use Rattle.pop3_wire.specs.declared.command.Command.{Command}
 use Rattle.pop3_wire.specs.declared.command.Command.TheVariants.{User, Pass, Stat, UidlAll, ListAll, Dele, Quit}
@@ -7,7 +7,7 @@ use Rattle.pop3_wire.specs.Commands.{line_of}
 use Rattle.pop3_wire.specs.Honest.{Asked, Honest}
 use Rattle.pop3_wire.specs.Line.{ended}
 use Rattle.pop3_wire.specs.World.{Message, maildrop_of}
-use Rattle.mail_terms.specs.Listing.{Item}
+use Rattle.mail_terms.specs.Listing.{Item, is_first, is_last}
 use Rattle.rc_file.specs.declared.settings.Settings.{Settings}
 use Rattle.mail_terms.specs.UniqueId.{has_id}
 use Rattle.run_law.specs.Accounts.{Account, Moves}
@@ -16,9 +16,10 @@ use Rattle.pop3_wire.specs.Reading.{WholeReply}
 use Rattle.run_law.specs.Readings.{Talked, Retrieves, IsListed}
 use Rattle.run_law.specs.Runs.{Frame, IsFrame, Situation, Visits, Visited, Moved, Kept, Promises}
 
--- a DELE is among those begun, by the id of its number
+-- a DELE is among those begun, by the id of its number, which counts from 1, and no other message of the listing has that id
 abbrev pub IsBegun : List Item → List (List ℕ) → Command → Type 0
 IsBegun listing begun (Dele number) = (item : Item) × (slice_get listing (number - 1) ≡ Some item) × (has_id begun item.uid ≡ true)
+    × (0 < number) × ((is_first listing (number, item) && is_last listing (number, item)) ≡ true)
 IsBegun listing begun _ = Unit {0}
 
 -- what was read in the replies: the listing, and the texts of the first of the wanted messages
