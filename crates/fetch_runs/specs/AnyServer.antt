@@ -11,7 +11,7 @@ use Rattle.run_law.specs.Safety.{IsSafe}
 use Rattle.fetch_runs.specs.Steps.{holds, IsStep}
 
 -- a law: where the record's file stood for these rows, a session is a step that loses and changes no file of `new` and
--- `cur`, and each DELE that it began is for a message that was recorded as delivered, or was held, or whose text it stored
+-- `cur`, and each DELE that it sent is for a message that was recorded as delivered, or was held, or whose text it stored
 abbrev pub AnyServer : Type 0
 AnyServer = (settings : Settings) (account : List ℕ) (now : ℕ) (link : Link) (before : Kept) (rows : List Row) (report : Report) (link' : Link) (after : Kept)
     → IsValid settings → Keeps before.file.content rows → Session settings account now link before report link' after

@@ -21,8 +21,9 @@ use run_law::{
 /// of the plan's first turns, each of which is begun only where the replies to all before it stand whole
 /// and good in what was got, and then a front of the next one's; or, after a fault, these turns whole and
 /// a front of what belongs behind the fault. Where no listing was joined the plan is the opening alone.
-/// Behind the last of the texts that the report counts at most one more was asked for, only where the
-/// store refused that text, and then nothing of the plan. A session that ended said the whole plan.
+/// Behind the last of the texts that the report counts at most one more came whole, only where the store
+/// refused that text, and then nothing more of the plan was sent. A session that ended said the whole
+/// plan.
 pub fn sessions_are_conversations()
     ensures { SessionsAreConversations }
 {
@@ -52,8 +53,9 @@ pub fn session_is_a_step()
 }
 
 /// A law: whatever its server says, a session loses and changes no file of `new` and `cur`, and each
-/// DELE that it began is for a message that was recorded as delivered before, or was held, or whose
-/// text, as it got it for its unique-id, it stored; where the record's file stood for a record.
+/// DELE that it sent is for a message whose unique-id was recorded as delivered before, or was held, or
+/// whose text it stored as it got it by the same number; where the record's file stood for a record.
+/// What it sent of one more command begins the line of such a DELE or of another command.
 pub fn any_server()
     ensures { AnyServer }
 {
