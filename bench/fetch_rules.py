@@ -12,11 +12,10 @@ for that of many rows anew, page by page, and the pages' cost is measured in pla
 
 import os
 import subprocess
-import sys
 
 import measure
 
-PROGRAM = measure.ROOT / "crates" / "record_bench" / "out" / "record_bench"
+PROGRAM = measure.small_program("record_bench")
 RUNS = 15
 FEW, SOME, MANY = 2_000, 20_000, 100_000
 MOST_GROWTH = 13
@@ -34,14 +33,12 @@ def least(what, count):
 
 def measured(what, count):
     """The microseconds of each call in one run."""
-    done = subprocess.run([str(PROGRAM), what, str(count)], env=os.environ | KEEPING, capture_output=True, text=True,
+    done = subprocess.run([PROGRAM, what, str(count)], env=os.environ | KEEPING, capture_output=True, text=True,
                           check=True)
     return {call: int(used) for call, used in (line.split() for line in done.stdout.splitlines())}
 
 
 def main():
-    if not PROGRAM.is_file():
-        sys.exit(f"{PROGRAM} is not there: run `make bench`")
     print(f"fetch_rules, microseconds of the processor, least of {RUNS}; to be reached: growth at most {MOST_GROWTH}, "
           f"{MOST_SECONDS} s together")
     few, some, many = (least("session", count) for count in (FEW, SOME, MANY))

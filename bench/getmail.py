@@ -10,7 +10,6 @@ Then a poll, where 20,000 messages are known and nothing is new: those that the 
 stand in the Maildir too. To be reached: 30 ms of processor time, and no faster growth than n log n from 5,000 on.
 """
 
-import contextlib
 import hashlib
 import math
 import os
@@ -21,13 +20,13 @@ import sys
 import tempfile
 import threading
 import time
-from dataclasses import dataclass
 from pathlib import Path
 
 import measure
 from getmail.account import RC
 from harness import kernel
 from harness.kernel import LOOPBACK
+from harness.maildir import make_maildir
 
 TURNS = 5
 SECONDS = 120
@@ -39,47 +38,15 @@ MOST_POLL = 0.030
 SHAPES = (("2,000 of 2 KB", 2000, 2_000), ("20 of 5 MB", 20, 5_000_000), ("one of 100 MB", 1, 100_000_000))
 
 
-@dataclass(frozen=True)
-class Cost:
-    """The wall time of one run and its processor time in seconds, and its peak of memory in octets."""
-
-    seconds: float
-    processor: float
-    memory: int
-
-
-def cost_of(words):
-    """What one run of a program costs.
-
-    Its peak is asked for while it runs, every few milliseconds: that which the kernel tells at the end isn't below this
-    process's own size, which a child has at first.
-    """
-    begun = time.perf_counter()
-    process = subprocess.Popen(words)
-    memory, ended = 0, 0
-    while not ended:
-        with contextlib.suppress(OSError, IndexError):
-            memory = kernel.peak_of_memory(process.pid)
-        time.sleep(0.002)
-        ended, status, usage = os.wait4(process.pid, os.WNOHANG)
-    seconds = time.perf_counter() - begun
-    process.returncode = os.waitstatus_to_exitcode(status)
-    if process.returncode != 0:
-        sys.exit(f"{' '.join(map(str, words))} ended with {process.returncode}")
-    return Cost(seconds, usage.ru_utime + usage.ru_stime, memory)
-
-
-def make_maildir(path):
+def fresh_maildir(path):
     """An empty Maildir in place of what stands there."""
     shutil.rmtree(path, ignore_errors=True)
-    for part in ("tmp", "new", "cur"):
-        (path / part).mkdir(parents=True)
-    return path
+    return make_maildir(path)
 
 
 def make_served(folder, count, octets):
     """A Maildir of `count` messages of about so many octets each, and a password beside it."""
-    maildir = make_maildir(folder / "served")
+    maildir = fresh_maildir(folder / "served")
     (folder / "password").write_bytes(b"p\n")
     for number in range(count):
         (maildir / "new" / f"{number:06}").write_bytes(LETTER_LINE * (octets // len(LETTER_LINE)))
@@ -119,9 +86,9 @@ def account_at(folder, port):
 
 def fetch_with_plain(folder, port, plain):
     """What it costs the plain program to fetch all messages."""
-    maildir = make_maildir(folder / "plain")
+    maildir = fresh_maildir(folder / "plain")
     (folder / "record").unlink(missing_ok=True)
-    return cost_of([plain, str(port), maildir, folder / "record"])
+    return measure.cost_of([plain, str(port), maildir, folder / "record"], wait=measure.watch)
 
 
 def fetched(maildir):
@@ -136,7 +103,7 @@ def measure_shape(folder, plain, name, count, octets):
     ours, theirs = [], []
     with Service(folder) as service:
         for _ in range(TURNS):
-            ours.append(cost_of(account_at(folder, service.port)))
+            ours.append(measure.cost_of(account_at(folder, service.port), wait=measure.watch))
             theirs.append(fetch_with_plain(folder, service.port, plain))
     total = fetched(folder / "account" / "Maildir")
     if total != fetched(folder / "plain") or total[0] != count:
@@ -188,7 +155,7 @@ def poll(folder, count, is_held):
     (folder / "account" / f"seen-{digest}").write_bytes(b"getmail-seen 1\n" + rows)
     for number in range(1, count + 1) if is_held else ():
         (folder / "account" / "Maildir" / "cur" / f"{digest}.{uid_of(number).hex()}:2,S").touch()
-    costs = [cost_of(words) for _ in range(TURNS)]
+    costs = [measure.cost_of(words, wait=measure.watch) for _ in range(TURNS)]
     return min(cost.processor for cost in costs), max(cost.memory for cost in costs)
 
 

@@ -5,42 +5,31 @@
 faster than n log n. `deliver` puts 2,000 texts of 2 KB beside a plain loop in C (deliver.c).
 Each figure is the least of several runs.
 
-Build first: `rt run` in crates/store_bench, or `rt ci`. Usage: bench/mail_store.py [FOLDER]; the
-Maildirs are made in FOLDER, which decides the file system (the working folder if none is given).
+Usage: bench/mail_store.py [FOLDER]; the Maildirs are made in FOLDER, which decides the file system
+(the working folder if none is given).
 """
 
-import hashlib
 import math
-import os
 import shutil
 import subprocess
 import sys
 import tempfile
+from pathlib import Path
 
-HERE = os.path.dirname(os.path.abspath(__file__))
-PROGRAM = os.path.join(HERE, "..", "crates", "store_bench", "out", "store_bench")
-ACCOUNT = hashlib.sha256(b"bench\x00110\x00bench").hexdigest()
+import measure
+from harness.maildir import make_maildir
+from store_bench.watched import name_of
+
+PROGRAM = measure.small_program("store_bench")
 RUNS = 5
-
-
-def name_of(number):
-    return ACCOUNT + "." + ("id-%05d" % number).encode().hex()
-
-
-def make_maildir(path):
-    for folder in ("tmp", "new", "cur"):
-        os.makedirs(os.path.join(path, folder))
 
 
 def fill(path, count):
     """Puts a file for each odd number into `new` or `cur`, and as many of another account."""
     for number in range(1, count + 1):
         name = name_of(number) if number % 2 else "1700000000.%d.host" % number
-        if number % 4 < 2:
-            place = os.path.join(path, "new", name)
-        else:
-            place = os.path.join(path, "cur", name + ":2,S")
-        open(place, "w").close()
+        place = path / "new" / name if number % 4 < 2 else path / "cur" / (name + ":2,S")
+        place.touch()
 
 
 def run(*words):
@@ -58,8 +47,7 @@ def measure_held(folder):
     print("held, files and items: found, wall us, processor us")
     times = {}
     for count in (2000, 20000):
-        path = os.path.join(folder, "held-%d" % count)
-        make_maildir(path)
+        path = make_maildir(folder / f"held-{count}")
         fill(path, count)
         found, wall, processor = least(lambda: run(PROGRAM, "held", path, str(count)))
         assert found == (count + 1) // 2, found
@@ -76,8 +64,7 @@ def measure_deliver(folder, plain):
 
     def times(kind, *words):
         def once():
-            path = os.path.join(folder, "deliver")
-            make_maildir(path)
+            path = make_maildir(folder / "deliver")
             try:
                 return run(*[path if word is None else word for word in words])
             finally:
@@ -98,9 +85,10 @@ def measure_deliver(folder, plain):
 
 def main():
     where = sys.argv[1] if len(sys.argv) > 1 else "."
-    with tempfile.TemporaryDirectory(prefix="mail_store-", dir=where) as folder:
-        plain = os.path.join(folder, "plain")
-        subprocess.run(["cc", "-O2", "-o", plain, os.path.join(HERE, "deliver.c")], check=True)
+    with tempfile.TemporaryDirectory(prefix="mail_store-", dir=where) as name:
+        folder = Path(name)
+        plain = folder / "plain"
+        subprocess.run(["cc", "-O2", "-o", plain, Path(__file__).with_name("deliver.c")], check=True)
         grows_well = measure_held(folder)
         measure_deliver(folder, plain)
     if not grows_well:

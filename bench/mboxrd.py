@@ -4,7 +4,7 @@
 `sed` puts a `>` in front of the lines that quoting marks, and takes it away and drops the lines `From ` where entries are
 read. It writes what comes of it; the program keeps it in memory. Prints ratios of the time of the processor and of memory.
 
-Build first: `rt run` in crates/store_bench, or `rt ci`. Usage: bench/mboxrd.py [FOLDER]; the files are made in FOLDER.
+Usage: bench/mboxrd.py [FOLDER]; the files are made in FOLDER.
 """
 
 import os
@@ -12,9 +12,9 @@ import sys
 import tempfile
 from pathlib import Path
 
-from measure import MEBIBYTE, ROOT, cost_of
+from measure import MEBIBYTE, cost_of, small_program
 
-PROGRAM = str(ROOT / "crates" / "store_bench" / "out" / "store_bench")
+PROGRAM = small_program("store_bench")
 SEPARATOR = b"From MAILER-DAEMON Thu Jan  1 00:00:00 1970\n"
 SIZE = 64 * MEBIBYTE
 RUNS = 5
@@ -60,8 +60,6 @@ def measure_reading(path, texts):
 
 def main():
     where = sys.argv[1] if len(sys.argv) > 1 else "."
-    if not Path(PROGRAM).is_file():
-        sys.exit(f"{PROGRAM} is not there: run `rt run` in crates/store_bench")
     os.environ["LC_ALL"] = "C"
     with tempfile.TemporaryDirectory(prefix="mboxrd-", dir=where) as folder:
         path = Path(folder) / "text"

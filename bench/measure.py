@@ -1,8 +1,9 @@
 """What the benchmarks share: where the programs are, and the time and the memory of one run.
 
-The modules of `tests/harness` can be imported once this one is.
+The packages of `tests` can be imported once this one is.
 """
 
+import contextlib
 import os
 import sys
 import time
@@ -14,6 +15,8 @@ MEBIBYTE = 1 << 20
 
 sys.path.insert(0, str(ROOT / "tests"))
 
+from harness import kernel, programs  # noqa: E402 (the path has to be there first)
+
 
 @dataclass(frozen=True)
 class Cost:
@@ -24,29 +27,55 @@ class Cost:
     memory: int
 
 
-def program(name):
-    """The built program `name`, as `make` leaves it; the benchmark ends where it isn't there."""
-    path = ROOT / "bin" / name
+def built(path, target):
+    """The file of a program; the benchmark ends where it isn't there."""
     if not path.is_file():
-        sys.exit(f"{path} is not there: run `make`")
+        sys.exit(f"{path} is not there: run `{target}`")
     return str(path)
 
 
-def cost_of(words, given):
-    """Runs `words` over the file `given`, its output dropped, and answers what the run cost.
+def program(name):
+    """The program `name`, as `make` leaves it."""
+    return built(ROOT / "bin" / name, "make")
+
+
+def small_program(name):
+    """The program of a crate that only measures a library, as `make bench` leaves it."""
+    return built(programs.path_of(name), "make bench")
+
+
+def wait_for(child):
+    """Waits for the end of a child: its status, what it used, and the peak of its memory in octets.
 
     The peak is the kernel's for the child alone. It is never below this process's own size, which the child has until
     the program stands in its place; so what is measured has to be larger than that.
     """
+    _, status, usage = os.wait4(child, 0)
+    return status, usage, usage.ru_maxrss * 1024
+
+
+def watch(child):
+    """The same for a program that may be smaller than this process: its peak is asked for every few milliseconds."""
+    memory, ended = 0, 0
+    while not ended:
+        with contextlib.suppress(OSError, IndexError):
+            memory = kernel.peak_of_memory(child)
+        time.sleep(0.002)
+        ended, status, usage = os.wait4(child, os.WNOHANG)
+    return status, usage, memory
+
+
+def cost_of(words, given=os.devnull, wait=wait_for):
+    """Runs `words` over the file `given`, its output dropped, and answers what the run cost."""
     with open(given, "rb") as source, open(os.devnull, "wb") as nowhere:
         begun = time.perf_counter()
         child = os.posix_spawnp(words[0], words, os.environ, file_actions=[
             (os.POSIX_SPAWN_DUP2, source.fileno(), 0), (os.POSIX_SPAWN_DUP2, nowhere.fileno(), 1)])
-        _, status, usage = os.wait4(child, 0)
+        status, usage, memory = wait(child)
         seconds = time.perf_counter() - begun
     if os.waitstatus_to_exitcode(status) != 0:
-        sys.exit(f"{' '.join(words)} over {given} ended with {os.waitstatus_to_exitcode(status)}")
-    return Cost(seconds, usage.ru_utime + usage.ru_stime, usage.ru_maxrss * 1024)
+        sys.exit(f"{' '.join(map(str, words))} over {given} ended with {os.waitstatus_to_exitcode(status)}")
+    return Cost(seconds, usage.ru_utime + usage.ru_stime, memory)
 
 
 def verdict(reached):

@@ -13,7 +13,7 @@ from pathlib import Path
 import measure
 import rehearsal
 
-PROGRAM = measure.ROOT / "crates" / "client_bench" / "out" / "client_bench"
+PROGRAM = measure.small_program("client_bench")
 TURNS = 5
 LEAST_RATIO = 0.5
 MOST_MEMORY = 32 * measure.MEBIBYTE
@@ -32,7 +32,7 @@ def measure_text(name, piece, folder):
     """Measures one text and prints its line."""
     conversation = Path(folder) / "conversation"
     length = rehearsal.write_conversation(conversation, piece)
-    ours, theirs = best_of([str(PROGRAM)], conversation), best_of(["tr", "-d", "\\r"], conversation)
+    ours, theirs = best_of([PROGRAM], conversation), best_of(["tr", "-d", "\\r"], conversation)
     ratio = theirs.seconds / ours.seconds
     print(f"  {name:<17} {length / ours.seconds / 1e6:6.0f} MB/s, tr {length / theirs.seconds / 1e6:6.0f} MB/s, "
           f"ratio {ratio:.2f} ({measure.verdict(ratio >= LEAST_RATIO)}), of processor time "
@@ -52,7 +52,7 @@ def measure_listing(rows, folder):
         server.write(b".\r\n")
         server.writelines(b"+OK\r\n.\r\n" for _ in numbers)
         server.write(b"+OK bye\r\n")
-    cost = best_of([str(PROGRAM)], conversation)
+    cost = best_of([PROGRAM], conversation)
     print(f"  {rows} rows: {cost.seconds * 1000:.0f} ms, of processor time {cost.processor * 1000:.0f} ms", flush=True)
     return cost.processor
 

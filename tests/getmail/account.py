@@ -8,6 +8,7 @@ from pathlib import Path
 
 from harness import programs
 from harness.kernel import LOOPBACK
+from harness.maildir import make_maildir
 
 RC = """\
 [retriever]
@@ -32,9 +33,7 @@ class Account:
     def __init__(self, port, options=""):
         self.holder = tempfile.TemporaryDirectory()
         self.home = Path(self.holder.name)
-        self.maildir = self.home / "Maildir"
-        for part in ("tmp", "new", "cur"):
-            (self.maildir / part).mkdir(parents=True)
+        self.maildir = make_maildir(self.home / "Maildir")
         self.folder = self.home / ".getmail"
         self.folder.mkdir()
         self.rcfile = self.folder / "getmailrc"

@@ -8,7 +8,8 @@ import stat
 import unittest
 
 from harness import programs
-from store_bench.watched import SIZE, TEXT, folder_for, make_maildir, name_of, watcher_for, written
+from harness.maildir import make_maildir
+from store_bench.watched import SIZE, TEXT, folder_for, name_of, watcher_for, written
 
 
 class Deliveries(unittest.TestCase):
@@ -18,8 +19,7 @@ class Deliveries(unittest.TestCase):
 
     def setUp(self):
         self.work = folder_for(self)
-        self.maildir = self.work / "maildir"
-        make_maildir(self.maildir)
+        self.maildir = make_maildir(self.work / "maildir")
 
     def deliver(self, count, refused=None):
         return self.watcher.run(self.work, "deliver", self.maildir, count, refused)
@@ -96,8 +96,7 @@ class Listings(unittest.TestCase):
     """What is held of the messages 1 to n, as the program counts it."""
 
     def setUp(self):
-        self.maildir = folder_for(self) / "maildir"
-        make_maildir(self.maildir)
+        self.maildir = make_maildir(folder_for(self) / "maildir")
 
     def check_held(self, count, held):
         run = programs.run("store_bench", "held", str(self.maildir), str(count))

@@ -16,11 +16,6 @@ def name_of(number):
     return ACCOUNT + "." + f"id-{number:05}".encode().hex()
 
 
-def make_maildir(path):
-    for name in ("tmp", "new", "cur"):
-        (path / name).mkdir(parents=True)
-
-
 def folder_for(test):
     """An empty folder, by its whole path, which is there until the test is over."""
     folder = tempfile.TemporaryDirectory()
