@@ -1,3 +1,4 @@
 mod ListingLemmas
 mod NumberingLemmas
+mod NumeralLemmas
 mod TextLemmas

@@ -9,6 +9,7 @@ mod failure_count;
 mod listing;
 mod maildir_name;
 mod numbering;
+mod numeral;
 mod text;
 mod unique_id;
 
@@ -17,5 +18,6 @@ pub use credential::is_credential;
 pub use failure_count::FailureCount;
 pub use listing::{Listing, ListingFault, MESSAGE_LIMIT, ScanRow, UidRow, have_legal_ids};
 pub use maildir_name::base;
+pub use numeral::read_numeral;
 pub use text::cut_text;
 pub use unique_id::{is_legal_id, legal_ids_have_ranges};

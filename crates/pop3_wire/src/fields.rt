@@ -1,15 +1,14 @@
 //! Fields of reply lines, which stand apart by one or more spaces (RFC 1939, sections 5 and 7).
-ghost use Rattle.std.specs.Prelude.{◌≡◌, ◌≤◌, ◌^◌, ◌<◌, ◌↔◌, ℕ, IsTrue, IfOk, IfErr, Ok, Err, length, take_while};
+ghost use Rattle.std.specs.Prelude.{◌≡◌, ◌≤◌, IfOk, IfErr, Ok, Err, length, take_while};
 ghost use Rattle.std.specs.Char.{is_ascii_digit};
-ghost use Rattle.std.specs.List.{prefix_len, list_all};
-ghost use Rattle.std.specs.Str.Parse.{digits_value};
+ghost use Rattle.std.specs.List.{prefix_len};
 ghost use Rattle.pop3_wire.specs.Fields.{is_space, is_in_field, past, number, next_field, legal_id, nothing_more, message_number, number_and_size, number_and_id};
 ghost use Rattle.mail_terms.specs.UniqueId.{is_legal_id, IsLegalId};
-ghost use Rattle.mail_terms.specs.Numeral.{is_numeral, greatest_number, greatest_size};
+ghost use Rattle.mail_terms.specs.Numeral.{greatest_number, greatest_size};
 ghost use Rattle.pop3_wire.specs.Rows.{ScanRowsHaveForm, UidRowsHaveForm};
 
 use crate::fault::WireFault;
-use mail_terms::is_legal_id;
+use mail_terms::{is_legal_id, read_numeral};
 
 /// How many spaces the bytes begin with.
 fn leading_spaces(bytes: &[u8]) -> usize
@@ -45,49 +44,16 @@ fn past_spaces(bytes: &[u8]) -> &[u8]
     &bytes[leading_spaces(bytes)..]
 }
 
-/// Whether all bytes are digits.
-fn are_digits(bytes: &[u8]) -> bool
-    ensures { result ≡ list_all is_ascii_digit bytes.now }
-{
-    bytes.iter().all(|byte| byte.is_ascii_digit())
-}
-
-/// Whether a field is a numeral: 1 to 20 digits.
-fn is_numeral(field: &[u8]) -> bool
-    ensures { result ≡ is_numeral field.now }
-{
-    if field.is_empty() || field.len() > 20 {
-        return false;
-    }
-    are_digits(field)
-}
-
-/// The number that a numeral stands for.
-fn digits_value(field: &[u8]) -> u128
-    requires { IsTrue (is_numeral field.now) }
-    ensures { result ≡ digits_value 10 field.now }
-{
-    let mut value = 0u128;
-    for byte in field {
-        value = value * 10 + u128::from(*byte - b'0');
-    }
-    value
-}
-
 /// The number that a field stands for, where it isn't above the limit.
 #[tactic(auto, unfolding(crate::specs::Fields::number))]
 pub fn number(limit: u64, field: &[u8]) -> Result<u64, WireFault>
     ensures value { result ≡ number limit field.now }
     ensures within { IfOk result (λ n. n ≤ limit) }
 {
-    if !is_numeral(field) {
-        return Err(WireFault::BadNumber);
+    match read_numeral(field) {
+        Some(n) if n <= limit => Ok(n),
+        _ => Err(WireFault::BadNumber),
     }
-    let value = digits_value(field);
-    if value > u128::from(limit) {
-        return Err(WireFault::BadNumber);
-    }
-    Ok(value as u64)
 }
 
 /// The bytes from the next field on.

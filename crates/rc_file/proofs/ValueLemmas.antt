@@ -1,14 +1,7 @@
 -- Look-ups in the rows of an rc file.
-use Rattle.std.proofs.Common.{◌≡◌, ℕ, ◌<◌, ◌≤◌, List, [], ◌∷◌, map, length, Bool, true, false, ◌&&◌, ◌||◌, Option, Some, None, Result, Ok, Err, if◌then◌else◌, nat_lt, nat_le, ap, refl, sym, ◌∙◌, arith, inl, inr, Bor}
-use Rattle.std.proofs.lemmas.Bool.{and_parts, cases_lt, le-leb, lt-leb, ltb-true}
-use Rattle.std.proofs.lemmas.Str.Parse.{numerals_by_value, tells_all_ascii_digits, parse_digits}
-use Rattle.std.specs.Char.{is_ascii_digit}
-use Rattle.std.specs.List.{list_all, list_any}
+use Rattle.std.proofs.Common.{◌≡◌, ℕ, List, [], ◌∷◌, map, Bool, true, false, ◌||◌, Option, Some, None, Result, Ok, Err, ap, refl, sym, ◌∙◌, Bor}
+use Rattle.std.specs.List.{list_any}
 use Rattle.std.specs.Option.{unwrap_or}
-use Rattle.std.specs.Result.{result_ok}
-use Rattle.std.specs.Str.{all_ascii_digits}
-use Rattle.std.specs.Str.Parse.{digits_value, ParsesUnsigned}
-use Rattle.mail_terms.specs.Numeral.{is_numeral}
 use Rattle.rc_file.specs.KeyTable.{Form, rule, value_fault}
 use Rattle.rc_file.specs.RcMeaning.{is_section, section_name, missing_section, first_fault, fault_at, value_of, text_of, is_folder, judged}
 use Rattle.rc_file.specs.KeyReading.{ReadsAs, ReadsText}
@@ -57,25 +50,3 @@ reads_same fault fault' wanted wanted' (Err found) same kept h = sym same ∙ h
 pub reads_text_same : (fault fault' : Option RcFault) (wanted wanted' : List ℕ) (result : Result (Bor (List ℕ)) RcFault) → fault ≡ fault' → wanted ≡ wanted' → ReadsText fault wanted result → ReadsText fault' wanted' result
 reads_text_same fault fault' wanted wanted' (Ok value) same kept h = (sym same ∙ h.0, h.1 ∙ kept)
 reads_text_same fault fault' wanted wanted' (Err found) same kept h = sym same ∙ h
-
--- what `parse` reads from digits
-digits_same : (ds : List ℕ) → list_all is_ascii_digit ds ≡ all_ascii_digits ds
-digits_same [] = refl
-digits_same (d ∷ ds) = ap (λ (b : Bool). is_ascii_digit d && b) (digits_same ds)
-
-pub number_parsed : {E : Type 0} (ds : List ℕ) (r : Result ℕ E) → is_numeral ds ≡ true → ParsesUnsigned 64 10 ds r
-    → result_ok r ≡ (if is_numeral ds && nat_le (digits_value 10 ds) 18446744073709551615 then Some (digits_value 10 ds) else None)
-number_parsed {E} ds (Ok n) numeral h =
-    let parts = and_parts (nat_lt 0 (length ds) && nat_le (length ds) 20) (list_all is_ascii_digit ds) numeral in
-    let own = numerals_by_value (λ (l : List ℕ). all_ascii_digits l ≡ true) tells_all_ascii_digits in
-    let read = parse_digits own {E = E} 64 ds (Ok n) h (sym (digits_same ds) ∙ parts.1) in
-    let small : digits_value 10 ds ≤ 18446744073709551615 = omega (arith, read.0.1) in
-    rw (numeral, le-leb (digits_value 10 ds) 18446744073709551615 small) (ap (λ (k : ℕ). Some k) read.1)
-number_parsed {E} ds (Err e) numeral h =
-    let parts = and_parts (nat_lt 0 (length ds) && nat_le (length ds) 20) (list_all is_ascii_digit ds) numeral in
-    let own = numerals_by_value (λ (l : List ℕ). all_ascii_digits l ≡ true) tells_all_ascii_digits in
-    let read = parse_digits own {E = E} 64 ds (Err e) h (sym (digits_same ds) ∙ parts.1) in
-    let some : 0 < length ds = ltb-true 0 (length ds) (and_parts (nat_lt 0 (length ds)) (nat_le (length ds) 20) parts.0).0 in
-    let large : 18446744073709551615 < digits_value 10 ds =
-    elim (cases_lt 18446744073709551615 (digits_value 10 ds)) [ inl lt ↦ lt | inr le ↦ absurd (read (some, omega (arith, le))) ] in
-    rw (numeral, lt-leb (digits_value 10 ds) 18446744073709551615 large)

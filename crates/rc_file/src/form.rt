@@ -1,10 +1,8 @@
 //! Values of keys, each read by its form.
-ghost use Rattle.std.specs.Prelude.{◌≡◌, ◌≤◌, ◌&&◌, map, nat_le, IfOk, IsTrue, Some, None, true, if◌then◌else◌};
-ghost use Rattle.std.specs.Char.{is_ascii_digit, to_ascii_lowercase};
-ghost use Rattle.std.specs.List.{list_all};
+ghost use Rattle.std.specs.Prelude.{◌≡◌, ◌≤◌, map, IfOk, IsTrue, Some, true};
+ghost use Rattle.std.specs.Char.{to_ascii_lowercase};
 ghost use Rattle.std.specs.Str.Parse.{digits_value};
 ghost use Rattle.mail_terms.specs.Credential.{is_credential};
-ghost use Rattle.mail_terms.specs.Numeral.{is_numeral};
 ghost use Rattle.rc_file.specs.KeyTable.{
   rule,
   boolean,
@@ -27,7 +25,7 @@ use crate::key::Key;
 use crate::row::ReadRow;
 use crate::settings::is_server;
 use crate::value::required;
-use mail_terms::is_credential;
+use mail_terms::{is_credential, read_numeral};
 
 /// The value of a key that holds a boolean.
 pub(crate) fn read_boolean(rows: &[ReadRow<'_>], key: Key) -> Result<bool, RcFault>
@@ -106,33 +104,10 @@ fn parse_within(key: Key, text: &str, low: u64, high: u64) -> Result<u64, RcFaul
     ensures value { ReadsAs (value_fault (number low high) key true text.now) (digits_value 10 text.now) result }
     ensures within { IfOk result (λ n. (low ≤ n) × (n ≤ high)) }
 {
-    match parse_number(text) {
+    match read_numeral(text.as_bytes()) {
         Some(n) if low <= n && n <= high => Ok(n),
         _ => Err(RcFault::BadValue(key)),
     }
-}
-
-/// The number that 1 to 20 digits write.
-fn parse_number(text: &str) -> Option<u64>
-    ensures { result ≡ (if is_numeral text.now && nat_le (digits_value 10 text.now) 18446744073709551615 then Some (digits_value 10 text.now) else None) }
-{
-    if is_numeral(text) {
-        text.parse().ok()
-    } else {
-        None
-    }
-}
-
-fn is_numeral(text: &str) -> bool
-    ensures { result ≡ is_numeral text.now }
-{
-    !text.is_empty() && text.len() <= 20 && has_digits_alone(text.as_bytes())
-}
-
-fn has_digits_alone(bytes: &[u8]) -> bool
-    ensures { result ≡ list_all is_ascii_digit bytes.now }
-{
-    bytes.iter().all(|byte| byte.is_ascii_digit())
 }
 
 /// The name of the server.
