@@ -2,13 +2,13 @@
 use Rattle.std.specs.Prelude.{◌≡◌, ℕ, List, [], ◌∷◌, ◌++◌, Option, None, Some, Result, Ok, Err}
 use Rattle.pop3_wire.specs.Bodies.{Rest}
 use Rattle.pop3_wire.specs.declared.unstuffer.Spot.TheVariants.{Done}
-use Rattle.pop3_client.specs.Texts.{Fetching}
+use Rattle.pop3_client.specs.Texts.{Fetching, TakesRest}
 use Rattle.fetch_session.specs.declared.fault.Cut.{Cut}
 use Rattle.pop3_wire.specs.Place.{Place}
 use Rattle.pop3_client.specs.declared.fault.Asked.TheVariants.{Quit}
 use Rattle.pop3_client.specs.declared.fault.Fault.{Fault as TalkFault}
-use Rattle.pop3_client.specs.Turns.{Turn, quit, rset, retr}
-use Rattle.pop3_client.specs.Conversation.{Tells, Talks}
+use Rattle.pop3_client.specs.Turns.{Turn, asking, quit, rset, retr}
+use Rattle.pop3_client.specs.Conversation.{Talks}
 use Rattle.fetch_session.specs.declared.fault.Fault.{Fault}
 use Rattle.fetch_session.specs.declared.fault.Fault.TheVariants.{Refused, StoreRefused, SeenRefused, BadSeen}
 use Rattle.fetch_session.specs.declared.tail.Tail.{Tail}
@@ -33,18 +33,22 @@ abbrev pub Drops : Option Rest → Place → Result (Unit {0}) TalkFault → Pla
 Drops None old (Ok done) new = new ≡ old
 Drops None old (Err fault) new = ⊥
 Drops (Some rest) old result new = (rest.spot ≡ Done → (result ≡ Ok tt) × (new ≡ old))
-    × ((number : ℕ) (start : Place) (text : List ℕ) → Fetching (retr number) start old rest text → Tells (retr number) start result new)
+    × ((number : ℕ) (start : Place) (text : List ℕ) → Fetching (retr number) start old rest text → TakesRest (retr number) start result new)
 
--- what had come until then stands in front of all that came
-abbrev pub GotOn : Place → Place → Type 0
-GotOn old new = (gained : List ℕ) × (new.link.got ≡ old.link.got ++ gained)
+-- what had been sent and what had come until then stand in front of all that was sent and that came, and what was sent behind them begins these turns
+pub record WentOn (turns : List Turn) (old new : Place) : Type 0 where
+  pub said : List ℕ
+  pub gained : List ℕ
+  pub sent : new.link.sent ≡ old.link.sent ++ said
+  pub got : new.link.got ≡ old.link.got ++ gained
+  pub front : (later : List ℕ) × (asking turns ≡ said ++ later)
 
--- with no reply under way the tail was talked, or it stopped; else the turn of that reply and then the tail, from where that turn began, where what comes goes on from what had come; and behind a whole reply the tail alone
+-- with no reply under way the tail was talked, or it stopped; else the turn of that reply and then the tail, from where that turn began, where what is sent and what comes go on from what had been sent and had come; and behind a whole reply the tail alone
 abbrev pub LeftBy : Fault → Option Rest → Place → Place → Type 0
 LeftBy fault None old new = (result : Result (Unit {0}) TalkFault) × Talks (turns_in (tail fault)) old result new
 LeftBy fault (Some rest) old new = (rest.spot ≡ Done → (result : Result (Unit {0}) TalkFault) × Talks (turns_in (tail fault)) old result new)
     × ((number : ℕ) (start : Place) (text : List ℕ) → Fetching (retr number) start old rest text
-    → (result : Result (Unit {0}) TalkFault) × Talks (retr number ∷ turns_in (tail fault)) start result new × GotOn old new)
+    → (result : Result (Unit {0}) TalkFault) × Talks (retr number ∷ turns_in (tail fault)) start result new × WentOn (turns_in (tail fault)) old new)
 
 abbrev pub Left : Cut → Place → Place → Type 0
 Left cut old new = LeftBy cut.fault cut.rest old new

@@ -21,7 +21,7 @@ use Rattle.pop3_client.specs.Conversation.{Opened}
 use Rattle.pop3_wire.specs.Reading.{IsUidLine, IsScanLine}
 use Rattle.pop3_client.specs.Listing.{Listed, GetsListing, ListsRows, RowBehind, RowCause, RowsCause, NotTaken, TakesRows}
 use Rattle.pop3_client.proofs.MostLemmas.{lines_within}
-use Rattle.pop3_client.proofs.TalkLemmas.{drew_of, talked_on, talked_body, broke_behind, begins_of}
+use Rattle.pop3_client.proofs.TalkLemmas.{drew_of, talked_on, talked_body, not_answered_behind, begins_of}
 
 -- some rows were taken: these lines, which stand for these rows, and the rest waits
 pub record InRows {W R : Type 0} (sound : W → Type 0) (leads_to : W → W → Type 0) (seen : W → Link) (turn : Turn) (IsThisRow : List ℕ → R → Type 0)
@@ -260,7 +260,7 @@ lists_of turn IsThisRow line old mid new (Err fault) begun listing takes =
     let few : length takes.used ≤ row_limit = takes.has.few in
     let size : length (flat_map ended takes.used) ≤ line_limit * length takes.used = lines_within takes.used takes.has.short in
     let all : most turn ≡ line_limit + line_limit * (row_limit + 1) = most_of_listing turn listing in
-    broke_behind turn line old mid new takes.gained (flat_map ended takes.used) fault begun takes.drew cause.0 takes.has.whole (omega arith) cause.1
+    inr (inl (not_answered_behind turn line old mid new takes.gained (flat_map ended takes.used) fault begun takes.drew cause.0 takes.has.whole (omega arith) cause.1))
 
 -- both listings were talked
 pub listed : (old mid new : Place) (uids : List UidRow) (sizes : List ScanRow) → ListsRows uidl IsUidLine old (Ok uids) mid → ListsRows list IsScanLine mid (Ok sizes) new → Listed old new uids sizes

@@ -19,7 +19,7 @@ use Rattle.pop3_client.specs.declared.fault.Fault.{Fault}
 use Rattle.pop3_client.specs.declared.fault.Fault.TheVariants.{ConnectionEnded, ReadFailed, WriteFailed, ReplyTooLong, BadReply, Refused, BadListing, ListingsDisagree, TooMany, TextTooLong, NoMemory}
 use Rattle.pop3_client.specs.Turns.{Turn, turn_bytes, asking, Names, stat, uidl, list, rset, quit, tells_count, Fits, IsBody, IsGood, line_limit, IsShort, most}
 use Rattle.pop3_client.specs.Causes.{Cause, BeginsPositive, FirstLine}
-use Rattle.pop3_client.specs.Conversation.{Opened, Talked, NoLineCause, TakesRefusal, Heard, Broke, Stopped, Sent, TellsFew, AsksTurn, Tells, Talks}
+use Rattle.pop3_client.specs.Conversation.{Opened, Talked, NoLineCause, TakesRefusal, Heard, Broke, NotAnswered, Stopped, Sent, TellsFew, AsksTurn, Tells, Talks}
 use Rattle.pop3_client.proofs.MostLemmas.{most_least}
 
 pub none_in_all : (limit : ℕ) (bytes : List ℕ) → HasNoLine limit bytes → length bytes < limit → IsLine bytes
@@ -334,14 +334,14 @@ talked_body turn line old mid new lines gained begun drew steady heard is = reco
         sym (append_assoc old.waiting first gained) ∙ ap (λ (s : List ℕ). s ++ gained) e ∙ append_assoc (ended line) mid.waiting gained
 
 -- a turn whose first line is good broke behind it
-pub broke_behind : (turn : Turn) (line : List ℕ) (old mid new : Place) (gained used : List ℕ) (fault : Fault) → Opened turn line old mid
+pub not_answered_behind : (turn : Turn) (line : List ℕ) (old mid new : Place) (gained used : List ℕ) (fault : Fault) → Opened turn line old mid
     → Drew mid.link new.link gained → Cause fault turn mid.link new.link (ended line ++ (mid.waiting ++ gained))
-    → mid.waiting ++ gained ≡ used ++ new.waiting → line_limit + length used ≤ most turn → ((to : Asked) → fault ≡ Refused to → ⊥) → Broke turn old new fault
-broke_behind turn line old mid new gained used fault begun drew why rest small other =
+    → mid.waiting ++ gained ≡ used ++ new.waiting → line_limit + length used ≤ most turn → ((to : Asked) → fault ≡ Refused to → ⊥) → NotAnswered turn old new fault
+not_answered_behind turn line old mid new gained used fault begun drew why rest small other =
     let short : length line + 2 ≤ line_limit = begun.short in
     let size : length (ended line) ≡ length line + 2 = length-append line crlf in
     let all : length (ended line ++ used) ≡ length (ended line) + length used = length-append (ended line) used in
-    inr (inl record {
+    record {
       gained = begun.gained ++ gained;
       used = ended line ++ used;
       sent = drew.sent ∙ begun.sent;
@@ -351,7 +351,7 @@ broke_behind turn line old mid new gained used fault begun drew why rest small o
       cause = cause_since fault turn old.link mid.link new.link (old.waiting ++ (begun.gained ++ gained)) begun.steady.failures
           (subst (Cause fault turn mid.link new.link) (sym heard) why);
       takes = takes_other fault (ended line ++ used) other;
-    })
+    }
   where
     heard : old.waiting ++ (begun.gained ++ gained) ≡ ended line ++ (mid.waiting ++ gained)
     heard = sym (append_assoc old.waiting begun.gained gained) ∙ ap (λ (s : List ℕ). s ++ gained) begun.heard ∙ append_assoc (ended line) mid.waiting gained

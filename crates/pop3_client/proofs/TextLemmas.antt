@@ -14,9 +14,9 @@ use Rattle.pop3_client.specs.declared.fault.Fault.{Fault}
 use Rattle.pop3_client.specs.declared.fault.Fault.TheVariants.{ConnectionEnded, ReadFailed, TextTooLong, Refused}
 use Rattle.pop3_client.specs.Turns.{text_limit, retr}
 use Rattle.pop3_client.specs.Causes.{Cause}
-use Rattle.pop3_client.specs.Conversation.{Opened, Broke, Tells}
-use Rattle.pop3_client.specs.Texts.{Fetched, Fetching}
-use Rattle.pop3_client.proofs.TalkLemmas.{talked_body, broke_behind, begins_of}
+use Rattle.pop3_client.specs.Conversation.{Opened, NotAnswered}
+use Rattle.pop3_client.specs.Texts.{Fetched, Fetching, TakesRest}
+use Rattle.pop3_client.proofs.TalkLemmas.{talked_body, not_answered_behind, begins_of}
 
 -- a text that has ended was taken whole
 pub fetched : (number : ℕ) (old new : Place) (body : Rest) (text : List ℕ) → Fetching (retr number) old new body text → body.spot ≡ Done → Fetched (retr number) old text new
@@ -31,27 +31,27 @@ fetched number old new body text now done =
       is.read,
     )
 
-pub dropped : (number : ℕ) (old new : Place) (body : Rest) (text : List ℕ) → Fetching (retr number) old new body text → body.spot ≡ Done → Tells (retr number) old (Ok tt) new
+pub dropped : (number : ℕ) (old new : Place) (body : Rest) (text : List ℕ) → Fetching (retr number) old new body text → body.spot ≡ Done → TakesRest (retr number) old (Ok tt) new
 dropped number old new body text now done = let whole = fetched number old new body text now done in (whole.0, whole.1)
 
 -- a text under way broke
 module _ (number : ℕ) (start mid new : Place) (line : List ℕ) (begun : Opened (retr number) line start mid) (leaves : LeavesRest text_limit mid new) (gained : List ℕ)
     (drew : Drew mid.link new.link gained) where
-  there : (fault : Fault) → Cause fault (retr number) mid.link new.link (ended line ++ (mid.waiting ++ gained)) → ((to : Asked) → fault ≡ Refused to → ⊥) → Broke (retr number) start new fault
+  there : (fault : Fault) → Cause fault (retr number) mid.link new.link (ended line ++ (mid.waiting ++ gained)) → ((to : Asked) → fault ≡ Refused to → ⊥) → NotAnswered (retr number) start new fault
   there fault cause other =
       let within : length leaves.used ≤ text_limit = leaves.within in
       let same : leaves.gained ≡ gained = append_cancel_left mid.link.got leaves.gained gained (sym leaves.got ∙ drew.got) in
-      broke_behind (retr number) line start mid new gained leaves.used fault begun drew cause (subst (λ (g : List ℕ). mid.waiting ++ g ≡ leaves.used ++ new.waiting) same leaves.heard) (omega arith) other
+      not_answered_behind (retr number) line start mid new gained leaves.used fault begun drew cause (subst (λ (g : List ℕ). mid.waiting ++ g ≡ leaves.used ++ new.waiting) same leaves.heard) (omega arith) other
 
-  pub broke_ended : BodyCause text_limit Ended mid.link new.link (mid.waiting ++ gained) → Broke (retr number) start new ConnectionEnded
+  pub broke_ended : BodyCause text_limit Ended mid.link new.link (mid.waiting ++ gained) → NotAnswered (retr number) start new ConnectionEnded
   broke_ended why = there ConnectionEnded (why.2, inr (mid.waiting ++ gained, begins_of (retr number) line start mid (mid.waiting ++ gained) begun, (why.0, why.1))) (λ to is. cc)
 
-  pub broke_failed : BodyCause text_limit Failed mid.link new.link (mid.waiting ++ gained) → Broke (retr number) start new ReadFailed
+  pub broke_failed : BodyCause text_limit Failed mid.link new.link (mid.waiting ++ gained) → NotAnswered (retr number) start new ReadFailed
   broke_failed why =
       let risen : new.link.failures ≡ mid.link.failures + 1 = why.3 in
       let more : mid.link.failures < new.link.failures = omega arith in
       there ReadFailed (more, inr (mid.waiting ++ gained, begins_of (retr number) line start mid (mid.waiting ++ gained) begun, (why.0, why.1))) (λ to is. cc)
 
-  pub broke_too_long : BodyCause text_limit TooLong mid.link new.link (mid.waiting ++ gained) → Broke (retr number) start new TextTooLong
+  pub broke_too_long : BodyCause text_limit TooLong mid.link new.link (mid.waiting ++ gained) → NotAnswered (retr number) start new TextTooLong
   broke_too_long why =
       there TextTooLong ((number, refl), (mid.waiting ++ gained, begins_of (retr number) line start mid (mid.waiting ++ gained) begun, why.0, why.1)) (λ to is. cc)

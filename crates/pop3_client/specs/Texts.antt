@@ -7,7 +7,7 @@ use Rattle.pop3_wire.specs.Bodies.{Rest, UnderWay}
 use Rattle.pop3_wire.specs.declared.body_reader.Piece.{Piece}
 use Rattle.pop3_client.specs.declared.fault.Fault.{Fault}
 use Rattle.pop3_client.specs.Turns.{Turn, text_limit}
-use Rattle.pop3_client.specs.Conversation.{Talked, Opened, Broke}
+use Rattle.pop3_client.specs.Conversation.{Talked, Opened, Broke, NotAnswered}
 
 -- the text that a reply's body carries
 abbrev pub body_text : Option (List (List ℕ)) → List ℕ
@@ -34,4 +34,9 @@ Opens turn old (Err fault) new = Broke turn old new fault
 abbrev pub FetchesPiece : Turn → Place → List ℕ → Result Piece Fault → List ℕ → Place → Rest → Type 0
 FetchesPiece turn start text (Ok piece) out new body = Fetching turn start new body (text ++ take piece.put out)
     × (IsTrue piece.ended → Fetched turn start (text ++ take piece.put out) new)
-FetchesPiece turn start text (Err fault) out new body = Broke turn start new fault
+FetchesPiece turn start text (Err fault) out new body = NotAnswered turn start new fault
+
+-- the rest of a text was taken to its end, or its reply isn't whole: nothing was sent meanwhile
+abbrev pub TakesRest : Turn → Place → Result (Unit {0}) Fault → Place → Type 0
+TakesRest turn start (Ok done) new = (reply : WholeReply) × Talked (turn ∷ []) (reply ∷ []) start new
+TakesRest turn start (Err fault) new = NotAnswered turn start new fault

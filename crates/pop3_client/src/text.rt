@@ -4,8 +4,8 @@ ghost use Rattle.pop3_wire.specs.declared.unstuffer.Spot.TheVariants.{Done};
 ghost use Rattle.pop3_wire.specs.Link.{CountsRefusal, WhereSound};
 ghost use Rattle.pop3_wire.specs.Place.{Place, at};
 ghost use Rattle.pop3_client.specs.Turns.{turn_bytes, retr};
-ghost use Rattle.pop3_client.specs.Conversation.{is_refusal, Tells};
-ghost use Rattle.pop3_client.specs.Texts.{Fetching, Opens, FetchesPiece};
+ghost use Rattle.pop3_client.specs.Conversation.{is_refusal};
+ghost use Rattle.pop3_client.specs.Texts.{Fetching, Opens, FetchesPiece, TakesRest};
 
 use crate::fault::{Asked, Fault};
 use crate::talk::ask;
@@ -93,7 +93,7 @@ pub fn drop_rest<W: Wire>(
     ensures whole { body.old.spot ≡ Done → (result ≡ Ok tt) × (at (W.seen wire.new) reader.new ≡ at (W.seen wire.old) reader.old) }
     ensures tells { WhereSound W.sound W.leads_to wire.old wire.new
         ((number : ℕ) (start : Place) (text : List ℕ) → Fetching (retr number) start (at (W.seen wire.old) reader.old) body.old text
-        → Tells (retr number) start result (at (W.seen wire.new) reader.new)) }
+        → TakesRest (retr number) start result (at (W.seen wire.new) reader.new)) }
 {
     if body.has_ended() {
         return Ok(());

@@ -1,4 +1,4 @@
-use Rattle.std.proofs.Common.{◌≡◌, ◌<◌, ◌++◌, ℕ, length, take, arith, sym, ◌∙◌, ap, subst}
+use Rattle.std.proofs.Common.{◌≡◌, inl, inr, ◌<◌, ◌++◌, ℕ, length, take, arith, sym, ◌∙◌, ap, subst}
 use Rattle.mail_terms.specs.FailureCount.{Tallies}
 use Rattle.pop3_client.specs.Conversation.{is_refusal}
 use Rattle.std.proofs.lemmas.Bool.{false≢true}
@@ -11,7 +11,7 @@ returns-in-Err-clause-passes g c = λ w.
     let before = c.pieces.invariant.2 took.0 in (
       before.0,
       g.met.W.Wire.leads_on _ _ _ before.1 took.1,
-      λ number start now. let so_far = before.2 number start now in took.2 number start so_far.0 so_far.1,
+      λ number start now. let so_far = before.2 number start now in inr (inl (took.2 number start so_far.0 so_far.1)),
     )
 
 pub returns-then-piece-clause-passes : goal.returns-then-piece-clause-passes

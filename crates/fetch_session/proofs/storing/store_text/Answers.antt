@@ -1,4 +1,4 @@
-use Rattle.std.proofs.Common.{◌≡◌, ◌<◌, [], ◌++◌, length, take, arith, sym, ap, subst, ◌∙◌, inl, refl}
+use Rattle.std.proofs.Common.{◌≡◌, inr, ◌<◌, [], ◌++◌, length, take, arith, sym, ap, subst, ◌∙◌, inl, refl}
 use Rattle.std.proofs.lemmas.Bool.{false≢true}
 use Rattle.pop3_wire.specs.Place.{at}
 use Rattle.mail_store.specs.Maildir.{Maildir, file, IsInNew}
@@ -32,7 +32,7 @@ returns-in-Err-next_piece-clause-stores g c = λ d.
               before.0,
               g.met.W.Wire.leads_on _ _ _ before.1 took.1,
               λ number start now. stopped_read number start (at (g.W.Wire.seen c.next_piece.new.wire) c.next_piece.new.reader) inv.1.0 c.plain.result c.told.result c.in-Err-next_piece.fault
-                  c.plain.ensures c.told.ensures (took.2 number start inv.1.0 (before.2 number start now)),
+                  c.plain.ensures c.told.ensures (inr (inl (took.2 number start inv.1.0 (before.2 number start now)))),
             ),
       ),
     )
@@ -157,7 +157,7 @@ returns-in-Err-next_piece-clause-reads g c = λ w.
       before.0,
       λ number start now.
           let so_far = before.1 number start now in
-          (so_far.0, stopped_read number start (at (g.W.Wire.seen c.next_piece.new.wire) c.next_piece.new.reader) so_far.0 c.plain.result c.told.result c.in-Err-next_piece.fault c.plain.ensures c.told.ensures (took.2 number start so_far.0 so_far.1)),
+          (so_far.0, stopped_read number start (at (g.W.Wire.seen c.next_piece.new.wire) c.next_piece.new.reader) so_far.0 c.plain.result c.told.result c.in-Err-next_piece.fault c.plain.ensures c.told.ensures (inr (inl (took.2 number start so_far.0 so_far.1)))),
     )
 
 pub returns-in-Err-put_piece-clause-reads : goal.returns-in-Err-put_piece-clause-reads
