@@ -32,9 +32,9 @@ use Rattle.fetch_session.specs.Report.{retrieved_in}
 use Rattle.fetch_session.specs.Task.{Task, deletes}
 use Rattle.fetch_session.specs.Record.{Keeps}
 use Rattle.fetch_session.specs.Session.{Kept, outcome_of}
-use Rattle.fetch_runs.specs.Steps.{holds, IsStep, SessionIsAStep}
-use Rattle.fetch_runs.proofs.Courses.{Way, Idle, Deals, way_of, begun_of, found_of, IsDeleted}
-use Rattle.fetch_runs.proofs.StatePlan.{IsRight, deleted_in, deleted_by, uids_in}
+use Rattle.fetch_runs.specs.Steps.{holds, AsksForNoMessage, IsStep, SessionIsAStep}
+use Rattle.fetch_runs.proofs.Courses.{Way, Idle, Deals, way_of, begun_of, found_of, IsOfTask}
+use Rattle.fetch_runs.proofs.StatePlan.{IsRight, deleted_in, deleted_by, uids_in, all_weaker}
 use Rattle.fetch_runs.proofs.StateDone.{text_found}
 use Rattle.fetch_runs.proofs.StateBuilt.{Laws, effect_of}
 use Rattle.fetch_runs.proofs.StateCases.{is_ended, RefusedIn, UnsavedIn}
@@ -61,8 +61,12 @@ id_there items front behind number item at =
     ∙ ap (λ (b : Bool). b || list_any (bytes_eq item.uid) (deleted_by items behind)) ((bytes_eq-Decides item.uid item.uid).1 refl))
     ∙ or_true (list_any (bytes_eq item.uid) (deleted_by items front))
 
+no_task : (front : List Task) (task : Task) (behind : List Task) → front ++ task ∷ behind ≡ [] → ⊥
+no_task [] task behind e = cc
+no_task (x ∷ front) task behind e = cc
+
 begun_one : (account : List ℕ) (maildir : Maildir) (items : List Item) (tasks : List Task) → AllByRecursion (IsRight account maildir items) tasks → (command : Command)
-    → IsDeleted tasks command → IsBegun items (deleted_by items tasks) command
+    → IsOfTask tasks command → IsBegun items (deleted_by items tasks) command
 begun_one account maildir items tasks right (Dele number) is =
     let at = right_at account maildir items is.0 is.1 (deletes number) (subst (AllByRecursion (IsRight account maildir items)) is.2 right) in
     (at.0, at.1, ap (λ (ts : List Task). has_id (deleted_by items ts) at.0.uid) is.2 ∙ id_there items is.0 is.1 number at.0 at.1, at.2, at.3)
@@ -80,9 +84,25 @@ begun_one account maildir items tasks right (Top n k) is = tt
 begun_one account maildir items tasks right Quit is = tt
 
 begun_all : (account : List ℕ) (maildir : Maildir) (items : List Item) (tasks : List Task) → AllByRecursion (IsRight account maildir items) tasks → (commands : List Command)
-    → AllByRecursion (IsDeleted tasks) commands → AllByRecursion (IsBegun items (deleted_by items tasks)) commands
+    → AllByRecursion (IsOfTask tasks) commands → AllByRecursion (IsBegun items (deleted_by items tasks)) commands
 begun_all account maildir items tasks right [] all = tt
 begun_all account maildir items tasks right (command ∷ commands) all = (begun_one account maildir items tasks right command all.0, begun_all account maildir items tasks right commands all.1)
+
+-- where no task was begun, no RETR or DELE was sent
+nothing_asked : (tasks : List Task) → tasks ≡ [] → (command : Command) → IsOfTask tasks command → AsksForNoMessage command
+nothing_asked tasks none (Dele number) is = no_task is.0 (deletes number) is.1 (sym is.2 ∙ none)
+nothing_asked tasks none (Retr number) is = no_task is.0 is.1 is.2 (sym is.3 ∙ none)
+nothing_asked tasks none (User name) is = tt
+nothing_asked tasks none (Pass word) is = tt
+nothing_asked tasks none Stat is = tt
+nothing_asked tasks none UidlAll is = tt
+nothing_asked tasks none (UidlOne n) is = tt
+nothing_asked tasks none ListAll is = tt
+nothing_asked tasks none (ListOne n) is = tt
+nothing_asked tasks none Rset is = tt
+nothing_asked tasks none Noop is = tt
+nothing_asked tasks none (Top n k) is = tt
+nothing_asked tasks none Quit is = tt
 
 -- ---- the outcome
 
@@ -123,7 +143,7 @@ module _ (stores : ToldStores) (settings : Settings) (account : List ℕ) (now :
       commands = said.tells.0;
       asked = said.tells.1;
       begun = begun_all account before.maildir [] [] tt said.tells.0 said.tells.2;
-      next = begins_of (IsDeleted []) (IsBegun [] []) (begun_one account before.maildir [] [] tt) said.tells.1.part said.tells.3;
+      next = begins_of (IsOfTask []) (IsBegun [] []) (begun_one account before.maildir [] [] tt) said.tells.1.part said.tells.3;
       step = inl unchanged;
     };
   }
@@ -147,14 +167,21 @@ module _ (stores : ToldStores) (settings : Settings) (account : List ℕ) (now :
       one_less = λ is. unsaved_is result report.outcome outcome_is (left.one_less is);
       recorded = elim left.recorded [
         | inl is ↦ inl is
-        | inr none ↦ inr (none.0, ap (map text_found) none.1, ap (deleted_by c.items) none.2, none.3)
+        | inr none ↦ inr (
+          none.0,
+          ap (map text_found) none.1,
+          ap (deleted_by c.items) none.2,
+          none.3,
+          all_weaker (IsOfTask (begun_of c)) AsksForNoMessage (User said.tells.name ∷ Pass said.tells.word ∷ Stat ∷ UidlAll ∷ ListAll ∷ said.tells.more) (nothing_asked (begun_of c) none.2) said.tells.deletes,
+          begins_of (IsOfTask (begun_of c)) AsksForNoMessage (nothing_asked (begun_of c) none.2) said.tells.talked.asked.part said.tells.next,
+        )
       ];
     });
     stepped = record {
       commands = User said.tells.name ∷ Pass said.tells.word ∷ Stat ∷ UidlAll ∷ ListAll ∷ said.tells.more;
       asked = said.tells.talked.asked;
       begun = begun_all account before.maildir c.items (begun_of c) left.right (User said.tells.name ∷ Pass said.tells.word ∷ Stat ∷ UidlAll ∷ ListAll ∷ said.tells.more) said.tells.deletes;
-      next = begins_of (IsDeleted (begun_of c)) (IsBegun c.items (deleted_by c.items (begun_of c))) (begun_one account before.maildir c.items (begun_of c) left.right) said.tells.talked.asked.part said.tells.next;
+      next = begins_of (IsOfTask (begun_of c)) (IsBegun c.items (deleted_by c.items (begun_of c))) (begun_one account before.maildir c.items (begun_of c) left.right) said.tells.talked.asked.part said.tells.next;
       step = inr (
         stores settings account (holds rows before.maildir) (effect_of now (is_ended result) c) (holds left.rows' after.maildir) left.told,
         record {

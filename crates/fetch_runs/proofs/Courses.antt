@@ -7,7 +7,7 @@ use Rattle.pop3_wire.specs.Place.{Place, at}
 use Rattle.pop3_wire.specs.Reading.{WholeReply}
 use Rattle.pop3_wire.specs.declared.unstuffer.Spot.TheVariants.{Done as AtEnd}
 use Rattle.pop3_wire.specs.declared.command.Command.{Command}
-use Rattle.pop3_wire.specs.declared.command.Command.TheVariants.{Dele}
+use Rattle.pop3_wire.specs.declared.command.Command.TheVariants.{Retr, Dele}
 use Rattle.pop3_client.specs.Texts.{Fetched, body_text}
 use Rattle.pop3_client.specs.Turns.{retr}
 use Rattle.mail_terms.specs.Listing.{Item}
@@ -119,7 +119,8 @@ found_of course = found_by course.taken ++ flat_map (λ (task : Task). found_in 
 abbrev pub begun_of : Course → List Task
 begun_of course = tasks_of course.taken ++ course.under
 
--- a DELE is the command of one of these tasks
-abbrev pub IsDeleted : List Task → Command → Type 0
-IsDeleted tasks (Dele number) = (front behind : List Task) × (tasks ≡ front ++ deletes number ∷ behind)
-IsDeleted tasks _ = Unit {0}
+-- a DELE is the command of one of these tasks, and so is a RETR, of whichever
+abbrev pub IsOfTask : List Task → Command → Type 0
+IsOfTask tasks (Dele number) = (front behind : List Task) × (tasks ≡ front ++ deletes number ∷ behind)
+IsOfTask tasks (Retr number) = (front : List Task) × (task : Task) × (behind : List Task) × (tasks ≡ front ++ task ∷ behind)
+IsOfTask tasks _ = Unit {0}

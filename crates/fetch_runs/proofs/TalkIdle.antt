@@ -17,12 +17,12 @@ use Rattle.fetch_session.specs.Fault.{fault_of}
 use Rattle.fetch_session.specs.Opening.{opening, Opened, Enters}
 use Rattle.fetch_session.specs.Tail.{tail, turns_in as tail_turns}
 use Rattle.fetch_runs.specs.Conversations.{Converses}
-use Rattle.fetch_runs.proofs.Courses.{IsDeleted}
+use Rattle.fetch_runs.proofs.Courses.{IsOfTask}
 use Rattle.fetch_runs.proofs.TalkParts.{fronted, goes_tail, goes_broke, conversation}
 use Rattle.fetch_runs.proofs.TalkCommands.{commands_in, CanBeSaid, Commanded, commanded, all_front, all_back}
 use Rattle.fetch_runs.proofs.TalkTasks.{commands_split}
 use Rattle.fetch_runs.proofs.TalkOpenings.{said_opening}
-use Rattle.fetch_runs.proofs.TalkSpeech.{IsTail, said_tail, undeleted, undeleted_next}
+use Rattle.fetch_runs.proofs.TalkSpeech.{IsTail, said_tail, said_of_tasks, next_of_tasks}
 
 -- what the link gained is a conversation of the opening
 pub record Opens (name word : List ℕ) (turns : List Turn) (old new : Link) : Type 0 where
@@ -66,11 +66,11 @@ module _ (paced : ConversationsArePaced) (name word : List ℕ) (start new last 
   opens_cut why (inr (inl (is, (count, uids, sizes, opened, never)))) result talks = opens_all count uids sizes (tail_turns (tail (fault_of why))) opened result talks
   opens_cut why (inr (inr (is, (count, uids, sizes, opened)))) result talks = opens_all count uids sizes (tail_turns (tail (fault_of why))) opened result talks
 
--- its commands, of which none is a DELE
+-- its commands, of which none is a RETR or a DELE
 pub idle_said : FrontsAreAsked → (name word : List ℕ) → is_credential name ≡ true → is_credential word ≡ true → (turns : List Turn) → IsTail turns → (sent got : List ℕ)
-    → Converses (opening name word) turns sent got → (commands : List Command) × (asked : Asked commands sent) × AllByRecursion (IsDeleted []) commands × BeginsOne (IsDeleted []) asked.part
+    → Converses (opening name word) turns sent got → (commands : List Command) × (asked : Asked commands sent) × AllByRecursion (IsOfTask []) commands × BeginsOne (IsOfTask []) asked.part
 idle_said law name word named worded turns kind sent got said =
-    (commands_in said.done ++ (whole.ahead ++ whole.ends), whole.asked, undeleted [] said.done said.begun turns sent kind whole none, undeleted_next [] said.done said.begun turns sent kind whole none)
+    (commands_in said.done ++ (whole.ahead ++ whole.ends), whole.asked, said_of_tasks [] said.done said.begun turns sent kind whole none, next_of_tasks [] said.done said.begun turns sent kind whole none)
   where
     can : AllByRecursion CanBeSaid (said.done ++ (said.begun ++ said.later))
     can = subst (AllByRecursion CanBeSaid) said.split (said_opening name word named worded)
@@ -79,12 +79,12 @@ idle_said law name word named worded turns kind sent got said =
     whole = commanded law said.done said.replies said.begun turns sent got (all_front CanBeSaid said.done (said.begun ++ said.later) can)
         (all_front CanBeSaid said.begun said.later (all_back CanBeSaid said.done (said.begun ++ said.later) can)) (said_tail turns kind) said.is
 
-    all : AllByRecursion (IsDeleted []) (commands_in (opening name word))
+    all : AllByRecursion (IsOfTask []) (commands_in (opening name word))
     all = (tt, (tt, (tt, (tt, (tt, tt)))))
 
     parts : commands_in (opening name word) ≡ (commands_in said.done ++ commands_in said.begun) ++ commands_in said.later
     parts = ap commands_in said.split ∙ commands_split said.done (said.begun ++ said.later) ∙ ap (λ (l : List Command). commands_in said.done ++ l) (commands_split said.begun said.later)
         ∙ sym (append_assoc (commands_in said.done) (commands_in said.begun) (commands_in said.later))
 
-    none : AllByRecursion (IsDeleted []) (commands_in said.done ++ commands_in said.begun)
-    none = all_front (IsDeleted []) (commands_in said.done ++ commands_in said.begun) (commands_in said.later) (subst (AllByRecursion (IsDeleted [])) parts all)
+    none : AllByRecursion (IsOfTask []) (commands_in said.done ++ commands_in said.begun)
+    none = all_front (IsOfTask []) (commands_in said.done ++ commands_in said.begun) (commands_in said.later) (subst (AllByRecursion (IsOfTask [])) parts all)

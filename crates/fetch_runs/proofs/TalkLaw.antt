@@ -20,7 +20,7 @@ use Rattle.fetch_session.specs.Fault.{fault_of}
 use Rattle.fetch_session.specs.declared.report.Report.{Report}
 use Rattle.fetch_session.specs.Tail.{tail, Left, turns_in as tail_turns}
 use Rattle.fetch_session.specs.Session.{Kept, Noted, Dealt, NotEntered, NoRoom, Proceeds, LeavesLink, Session}
-use Rattle.fetch_runs.proofs.Courses.{Course, Way, Idle, Deals, course_dealt, way_proceeded, way_of, begun_of, IsDeleted}
+use Rattle.fetch_runs.proofs.Courses.{Course, Way, Idle, Deals, course_dealt, way_proceeded, way_of, begun_of, IsOfTask}
 use Rattle.fetch_runs.proofs.TalkCommands.{all_front}
 use Rattle.fetch_runs.proofs.TalkReplies.{IsPlain}
 use Rattle.fetch_runs.proofs.TalkTasks.{plain_ahead}
@@ -31,7 +31,7 @@ use Rattle.fetch_runs.proofs.TalkSessions.{Dealing, tail_for, is_tail_for, deali
 
 -- what the law over runs takes of what was said and read
 abbrev pub Tells : Way → List ℕ → List ℕ → Type 0
-Tells Idle sent got = (commands : List Command) × (asked : Asked commands sent) × AllByRecursion (IsDeleted []) commands × BeginsOne (IsDeleted []) asked.part
+Tells Idle sent got = (commands : List Command) × (asked : Asked commands sent) × AllByRecursion (IsOfTask []) commands × BeginsOne (IsOfTask []) asked.part
 Tells (Deals c) sent got = Speaks c sent got
 
 pub record Gained (way : Way) (old new : Link) : Type 0 where

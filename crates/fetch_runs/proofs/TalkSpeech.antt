@@ -24,11 +24,11 @@ use Rattle.fetch_session.specs.declared.fault.Fault.TheVariants.{ConnectionEnded
 use Rattle.fetch_session.specs.Tail.{tail, turns_in as tail_turns}
 use Rattle.fetch_session.specs.Laws.{TurnsJoin}
 use Rattle.fetch_runs.specs.Conversations.{Conversation}
-use Rattle.fetch_runs.proofs.Courses.{Course, found_of, begun_of, IsDeleted}
+use Rattle.fetch_runs.proofs.Courses.{Course, found_of, begun_of, IsOfTask}
 use Rattle.fetch_runs.proofs.TalkParts.{conversation}
 use Rattle.fetch_runs.proofs.TalkCommands.{commands_in, CanBeSaid, Commanded, commanded, begins_one, all_append, all_front, all_back}
 use Rattle.fetch_runs.proofs.TalkReplies.{IsCommand, IsPlain, reply_read, replies_read}
-use Rattle.fetch_runs.proofs.TalkTasks.{said_tasks, commands_tasks, commands_split, deleted_in}
+use Rattle.fetch_runs.proofs.TalkTasks.{said_tasks, commands_tasks, commands_split, of_tasks}
 use Rattle.fetch_runs.proofs.TalkCourses.{Took}
 use Rattle.fetch_runs.proofs.TalkOpenings.{Replied, replied, no_body, said_opening, listed}
 
@@ -45,8 +45,8 @@ pub record Speaks (c : Course) (sent got : List ℕ) : Type 0 where
   pub talked : IsTalked (User name ∷ Pass word ∷ Stat ∷ UidlAll ∷ ListAll ∷ more) (user ∷ pass ∷ stat ∷ uidl ∷ list ∷ replies) sent got
   pub listed : IsListed stat uidl list c.items
   pub retrieves : Retrieves (User name ∷ Pass word ∷ Stat ∷ UidlAll ∷ ListAll ∷ more) (user ∷ pass ∷ stat ∷ uidl ∷ list ∷ replies) (found_of c)
-  pub deletes : AllByRecursion (IsDeleted (begun_of c)) (User name ∷ Pass word ∷ Stat ∷ UidlAll ∷ ListAll ∷ more)
-  pub next : BeginsOne (IsDeleted (begun_of c)) talked.asked.part
+  pub deletes : AllByRecursion (IsOfTask (begun_of c)) (User name ∷ Pass word ∷ Stat ∷ UidlAll ∷ ListAll ∷ more)
+  pub next : BeginsOne (IsOfTask (begun_of c)) talked.asked.part
 
 -- the turns behind a fault
 pub data IsTail : List Turn → Type 0 where
@@ -83,33 +83,33 @@ said_tail turns silent = tt
 said_tail turns leaves = ((refl, tt), tt)
 said_tail turns undoes = ((refl, tt), ((refl, tt), tt))
 
-pub undeleted_tail : (tasks : List Task) (turns : List Turn) → IsTail turns → AllByRecursion (IsDeleted tasks) (commands_in turns)
-undeleted_tail tasks turns silent = tt
-undeleted_tail tasks turns leaves = (tt, tt)
-undeleted_tail tasks turns undoes = (tt, (tt, tt))
+pub of_tail_tasks : (tasks : List Task) (turns : List Turn) → IsTail turns → AllByRecursion (IsOfTask tasks) (commands_in turns)
+of_tail_tasks tasks turns silent = tt
+of_tail_tasks tasks turns leaves = (tt, tt)
+of_tail_tasks tasks turns undoes = (tt, (tt, tt))
 
--- the commands of a tail are no DELE, nor is one that isn't a task's
-pub undeleted : (tasks : List Task) (done begun turns : List Turn) (sent : List ℕ) → IsTail turns → (c : Commanded done begun turns sent)
-    → AllByRecursion (IsDeleted tasks) (commands_in done ++ commands_in begun) → AllByRecursion (IsDeleted tasks) (commands_in done ++ (c.ahead ++ c.ends))
-undeleted tasks done begun turns sent kind c all =
-    all_append (IsDeleted tasks) (commands_in done) (c.ahead ++ c.ends) (all_front (IsDeleted tasks) (commands_in done) (commands_in begun) all)
-    (all_append (IsDeleted tasks) c.ahead c.ends
-    (all_front (IsDeleted tasks) c.ahead c.unsaid (subst (AllByRecursion (IsDeleted tasks)) c.of_begun (all_back (IsDeleted tasks) (commands_in done) (commands_in begun) all)))
-    (all_front (IsDeleted tasks) c.ends c.unended (subst (AllByRecursion (IsDeleted tasks)) c.of_tail (undeleted_tail tasks turns kind))))
+-- a RETR or DELE among what was said is a task's: a tail has none
+pub said_of_tasks : (tasks : List Task) (done begun turns : List Turn) (sent : List ℕ) → IsTail turns → (c : Commanded done begun turns sent)
+    → AllByRecursion (IsOfTask tasks) (commands_in done ++ commands_in begun) → AllByRecursion (IsOfTask tasks) (commands_in done ++ (c.ahead ++ c.ends))
+said_of_tasks tasks done begun turns sent kind c all =
+    all_append (IsOfTask tasks) (commands_in done) (c.ahead ++ c.ends) (all_front (IsOfTask tasks) (commands_in done) (commands_in begun) all)
+    (all_append (IsOfTask tasks) c.ahead c.ends
+    (all_front (IsOfTask tasks) c.ahead c.unsaid (subst (AllByRecursion (IsOfTask tasks)) c.of_begun (all_back (IsOfTask tasks) (commands_in done) (commands_in begun) all)))
+    (all_front (IsOfTask tasks) c.ends c.unended (subst (AllByRecursion (IsOfTask tasks)) c.of_tail (of_tail_tasks tasks turns kind))))
 
--- nor is what was begun behind them
-pub undeleted_next : (tasks : List Task) (done begun turns : List Turn) (sent : List ℕ) → IsTail turns → (c : Commanded done begun turns sent)
-    → AllByRecursion (IsDeleted tasks) (commands_in done ++ commands_in begun) → BeginsOne (IsDeleted tasks) c.asked.part
-undeleted_next tasks done begun turns sent kind c all = begins_one (IsDeleted tasks) c.next c.asked.part c.begins by_kind
+-- so is one that was begun behind them
+pub next_of_tasks : (tasks : List Task) (done begun turns : List Turn) (sent : List ℕ) → IsTail turns → (c : Commanded done begun turns sent)
+    → AllByRecursion (IsOfTask tasks) (commands_in done ++ commands_in begun) → BeginsOne (IsOfTask tasks) c.asked.part
+next_of_tasks tasks done begun turns sent kind c all = begins_one (IsOfTask tasks) c.next c.asked.part c.begins by_kind
   where
-    by_kind : AllByRecursion (IsDeleted tasks) c.next
+    by_kind : AllByRecursion (IsOfTask tasks) c.next
     by_kind = elim c.next_is [
       | inl is ↦
-          subst (AllByRecursion (IsDeleted tasks)) (sym is)
-          (all_back (IsDeleted tasks) c.ahead c.unsaid (subst (AllByRecursion (IsDeleted tasks)) c.of_begun (all_back (IsDeleted tasks) (commands_in done) (commands_in begun) all)))
+          subst (AllByRecursion (IsOfTask tasks)) (sym is)
+          (all_back (IsOfTask tasks) c.ahead c.unsaid (subst (AllByRecursion (IsOfTask tasks)) c.of_begun (all_back (IsOfTask tasks) (commands_in done) (commands_in begun) all)))
       | inr is ↦
-          subst (AllByRecursion (IsDeleted tasks)) (sym is)
-          (all_back (IsDeleted tasks) c.ends c.unended (subst (AllByRecursion (IsDeleted tasks)) c.of_tail (undeleted_tail tasks turns kind)))
+          subst (AllByRecursion (IsOfTask tasks)) (sym is)
+          (all_back (IsOfTask tasks) c.ends c.unended (subst (AllByRecursion (IsOfTask tasks)) c.of_tail (of_tail_tasks tasks turns kind)))
     ]
 
 module _ (joining : TurnsJoin) (law : FrontsAreAsked) (name word : List ℕ) (named' : is_credential name ≡ true) (worded : is_credential word ≡ true) where
@@ -148,8 +148,8 @@ module _ (joining : TurnsJoin) (law : FrontsAreAsked) (name word : List ℕ) (na
     };
     listed = listed name word start mid count uids sizes c.items opened joins;
     retrieves = took.read (whole.ahead ++ whole.ends);
-    deletes = (tt, (tt, (tt, (tt, (tt, undeleted_here)))));
-    next = undeleted_next (begun_of c) (opening name word ++ took.done) took.begun turns sent kind whole (tt, (tt, (tt, (tt, (tt, deleted)))));
+    deletes = (tt, (tt, (tt, (tt, (tt, all_of_tasks)))));
+    next = next_of_tasks (begun_of c) (opening name word ++ took.done) took.begun turns sent kind whole (tt, (tt, (tt, (tt, (tt, tasked)))));
   }
     where
       behind : List WholeReply
@@ -166,14 +166,14 @@ module _ (joining : TurnsJoin) (law : FrontsAreAsked) (name word : List ℕ) (na
           (all_append CanBeSaid (opening name word) took.done (said_opening name word named' worded) (all_front CanBeSaid took.done took.begun can))
           (all_back CanBeSaid took.done took.begun can) (said_tail turns kind) said
 
-      deleted : AllByRecursion (IsDeleted (begun_of c)) (commands_in took.done ++ commands_in took.begun)
-      deleted = subst (AllByRecursion (IsDeleted (begun_of c))) (ap commands_in took.all ∙ commands_split took.done took.begun) (deleted_in [] (begun_of c) plain)
+      tasked : AllByRecursion (IsOfTask (begun_of c)) (commands_in took.done ++ commands_in took.begun)
+      tasked = subst (AllByRecursion (IsOfTask (begun_of c))) (ap commands_in took.all ∙ commands_split took.done took.begun) (of_tasks [] (begun_of c) plain)
 
       later : AreGood (commands_in took.done ++ (whole.ahead ++ whole.ends)) took.replies
       later = replies_read took.done took.replies (whole.ahead ++ whole.ends) (all_front IsCommand took.done took.begun (subst (AllByRecursion IsCommand) took.all (commands_tasks (begun_of c) plain))) took.talked.good
 
-      undeleted_here : AllByRecursion (IsDeleted (begun_of c)) (commands_in took.done ++ (whole.ahead ++ whole.ends))
-      undeleted_here = (undeleted (begun_of c) (opening name word ++ took.done) took.begun turns sent kind whole (tt, (tt, (tt, (tt, (tt, deleted)))))).1.1.1.1.1
+      all_of_tasks : AllByRecursion (IsOfTask (begun_of c)) (commands_in took.done ++ (whole.ahead ++ whole.ends))
+      all_of_tasks = (said_of_tasks (begun_of c) (opening name word ++ took.done) took.begun turns sent kind whole (tt, (tt, (tt, (tt, (tt, tasked)))))).1.1.1.1.1
 
   -- a session that joined its listing
   pub spoken : (c : Course) (count : ℕ) (uids : List UidRow) (sizes : List ScanRow) (start mid : Place) (turns : List Turn) (kind : IsTail turns) (link : Link) → start.waiting ≡ []

@@ -12,7 +12,7 @@ use Rattle.mail_store.specs.Maildir.{Maildir}
 use Rattle.mail_store.specs.Held.{flags_of}
 use Rattle.fetch_session.specs.Task.{Task, says, skips, stores, rereads, deletes, Done, fetching, deleting, tasks_planned, turns_in, tasks_of, turns_of}
 use Rattle.fetch_session.specs.Plan.{tasks_ahead}
-use Rattle.fetch_runs.proofs.Courses.{IsDeleted}
+use Rattle.fetch_runs.proofs.Courses.{IsOfTask}
 use Rattle.fetch_runs.proofs.TalkCommands.{said_in, commands_in, CanBeSaid, all_append}
 use Rattle.fetch_runs.proofs.TalkReplies.{IsCommand, IsPlain}
 
@@ -85,25 +85,24 @@ pub turns_on : (dones : List Done) (tasks : List Task) → flat_map turns_in (ta
 turns_on [] tasks = refl
 turns_on (d ∷ dones) tasks = ap (λ (ts : List Turn). turns_in d.task ++ ts) (turns_on dones tasks) ∙ sym (append_assoc (turns_in d.task) (turns_of dones) (flat_map turns_in tasks))
 
--- ---- their deletions
+-- ---- their retrievals and deletions
 
-deleted_first : (all : List Task) (task : Task) (commands : List Command) → IsPlain task → ((number : ℕ) → task ≡ deletes number → (front behind : List Task) × (all ≡ front ++ deletes number ∷ behind))
-    → AllByRecursion (IsDeleted all) commands → AllByRecursion (IsDeleted all) (commands_in (turns_in task) ++ commands)
-deleted_first all (says turn) commands is there later =
-    subst (λ (t : Turn). AllByRecursion (IsDeleted all) (commands_in (t ∷ []) ++ commands)) (sym is) (tt, later)
-deleted_first all (skips number size) commands is there later = later
-deleted_first all (stores number uid) commands is there later = (tt, later)
-deleted_first all (rereads number uid) commands is there later = (tt, later)
-deleted_first all (deletes number) commands is there later = (there number refl, later)
+of_first : (front behind : List Task) (task : Task) (commands : List Command) → IsPlain task
+    → AllByRecursion (IsOfTask (front ++ task ∷ behind)) commands → AllByRecursion (IsOfTask (front ++ task ∷ behind)) (commands_in (turns_in task) ++ commands)
+of_first front behind (says turn) commands is later =
+    subst (λ (t : Turn). AllByRecursion (IsOfTask (front ++ says turn ∷ behind)) (commands_in (t ∷ []) ++ commands)) (sym is) (tt, later)
+of_first front behind (skips number size) commands is later = later
+of_first front behind (stores number uid) commands is later = ((front, stores number uid, behind, refl), later)
+of_first front behind (rereads number uid) commands is later = ((front, rereads number uid, behind, refl), later)
+of_first front behind (deletes number) commands is later = ((front, behind, refl), later)
 
 pub commands_split : (xs ys : List Turn) → commands_in (xs ++ ys) ≡ commands_in xs ++ commands_in ys
 commands_split [] ys = refl
 commands_split (x ∷ xs) ys = ap (λ (l : List Command). said_in x ++ l) (commands_split xs ys) ∙ sym (append_assoc (said_in x) (commands_in xs) (commands_in ys))
 
-pub deleted_in : (front tasks : List Task) → AllByRecursion IsPlain tasks → AllByRecursion (IsDeleted (front ++ tasks)) (commands_in (flat_map turns_in tasks))
-deleted_in front [] plain = tt
-deleted_in front (task ∷ tasks) plain =
-    subst (AllByRecursion (IsDeleted (front ++ task ∷ tasks))) (sym (commands_split (turns_in task) (flat_map turns_in tasks)))
-    (deleted_first (front ++ task ∷ tasks) task (commands_in (flat_map turns_in tasks)) plain.0
-    (λ number is. (front, tasks, ap (λ (t : Task). front ++ t ∷ tasks) is))
-    (subst (λ (ts : List Task). AllByRecursion (IsDeleted ts) (commands_in (flat_map turns_in tasks))) (append_assoc front (task ∷ []) tasks) (deleted_in (front ++ task ∷ []) tasks plain.1)))
+pub of_tasks : (front tasks : List Task) → AllByRecursion IsPlain tasks → AllByRecursion (IsOfTask (front ++ tasks)) (commands_in (flat_map turns_in tasks))
+of_tasks front [] plain = tt
+of_tasks front (task ∷ tasks) plain =
+    subst (AllByRecursion (IsOfTask (front ++ task ∷ tasks))) (sym (commands_split (turns_in task) (flat_map turns_in tasks)))
+    (of_first front tasks task (commands_in (flat_map turns_in tasks)) plain.0
+    (subst (λ (ts : List Task). AllByRecursion (IsOfTask ts) (commands_in (flat_map turns_in tasks))) (append_assoc front (task ∷ []) tasks) (of_tasks (front ++ task ∷ []) tasks plain.1)))
