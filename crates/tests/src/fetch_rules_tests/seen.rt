@@ -67,55 +67,57 @@ fn marks_and_looks_up(rt: HostRuntime) -> Result<(), Fail> {
     Ok(())
 }
 
+/// Files that are no record, and the first fault of each.
+const FAULTY_FILES: [(&str, SeenFault); 26] = [
+    ("x\n", SeenFault::BadHeader),
+    ("\n", SeenFault::BadHeader),
+    ("getmail-seen 1", SeenFault::BadHeader),
+    ("getmail-seen 3\n", SeenFault::BadHeader),
+    (
+        "getmail-seen 1\na 5 1\na 6 0\nb\n",
+        SeenFault::RepeatedId(3),
+    ),
+    ("getmail-seen 1\na 5 1\nb\na 6 0\n", SeenFault::BadRow(3)),
+    ("getmail-seen 1\na 5 2\n", SeenFault::BadRow(2)),
+    ("getmail-seen 1\na 5 1 x\n", SeenFault::BadRow(2)),
+    ("getmail-seen 1\na 5\n", SeenFault::BadRow(2)),
+    ("getmail-seen 1\na  5 1\n", SeenFault::BadRow(2)),
+    ("getmail-seen 1\na 05 1\n", SeenFault::BadRow(2)),
+    ("getmail-seen 1\na +5 1\n", SeenFault::BadRow(2)),
+    (
+        "getmail-seen 1\na 18446744073709551616 1\n",
+        SeenFault::BadRow(2),
+    ),
+    ("getmail-seen 1\n 5 1\n", SeenFault::BadRow(2)),
+    ("getmail-seen 1\na\x7F 5 1\n", SeenFault::BadRow(2)),
+    ("getmail-seen 1\na 5 1\r\n", SeenFault::BadRow(2)),
+    ("getmail-seen 1\n+ 0\n", SeenFault::BadRow(2)),
+    ("getmail-seen 1\n+ 01\na 5 0\n", SeenFault::BadRow(2)),
+    ("getmail-seen 1\n+ 100001\n", SeenFault::BadRow(2)),
+    ("getmail-seen 1\n+ 1\r\n", SeenFault::BadRow(2)),
+    ("getmail-seen 1\n+ 1\na 5 0\nb 5 0\n", SeenFault::BadRow(4)),
+    (
+        "getmail-seen 1\n+ 2\na 5 0\n+ 1\nb 5 0\n",
+        SeenFault::BadRow(4),
+    ),
+    (
+        "getmail-seen 1\na 5 0\n+ 1\na 6 1\n",
+        SeenFault::RepeatedId(4),
+    ),
+    (
+        "getmail-seen 1\na 5 0\n+ 1\na 5 0\n",
+        SeenFault::RepeatedId(4),
+    ),
+    (
+        "getmail-seen 1\na 5 1\n+ 2\na 5 1\n",
+        SeenFault::RepeatedId(4),
+    ),
+    ("getmail-seen 1\n\n", SeenFault::BadRow(2)),
+];
+
 #[test]
 fn refuses_files_by_their_first_fault(rt: HostRuntime) {
-    let rows = [
-        ("x\n", SeenFault::BadHeader),
-        ("\n", SeenFault::BadHeader),
-        ("getmail-seen 1", SeenFault::BadHeader),
-        ("getmail-seen 3\n", SeenFault::BadHeader),
-        (
-            "getmail-seen 1\na 5 1\na 6 0\nb\n",
-            SeenFault::RepeatedId(3),
-        ),
-        ("getmail-seen 1\na 5 1\nb\na 6 0\n", SeenFault::BadRow(3)),
-        ("getmail-seen 1\na 5 2\n", SeenFault::BadRow(2)),
-        ("getmail-seen 1\na 5 1 x\n", SeenFault::BadRow(2)),
-        ("getmail-seen 1\na 5\n", SeenFault::BadRow(2)),
-        ("getmail-seen 1\na  5 1\n", SeenFault::BadRow(2)),
-        ("getmail-seen 1\na 05 1\n", SeenFault::BadRow(2)),
-        ("getmail-seen 1\na +5 1\n", SeenFault::BadRow(2)),
-        (
-            "getmail-seen 1\na 18446744073709551616 1\n",
-            SeenFault::BadRow(2),
-        ),
-        ("getmail-seen 1\n 5 1\n", SeenFault::BadRow(2)),
-        ("getmail-seen 1\na\x7F 5 1\n", SeenFault::BadRow(2)),
-        ("getmail-seen 1\na 5 1\r\n", SeenFault::BadRow(2)),
-        ("getmail-seen 1\n+ 0\n", SeenFault::BadRow(2)),
-        ("getmail-seen 1\n+ 01\na 5 0\n", SeenFault::BadRow(2)),
-        ("getmail-seen 1\n+ 100001\n", SeenFault::BadRow(2)),
-        ("getmail-seen 1\n+ 1\r\n", SeenFault::BadRow(2)),
-        ("getmail-seen 1\n+ 1\na 5 0\nb 5 0\n", SeenFault::BadRow(4)),
-        (
-            "getmail-seen 1\n+ 2\na 5 0\n+ 1\nb 5 0\n",
-            SeenFault::BadRow(4),
-        ),
-        (
-            "getmail-seen 1\na 5 0\n+ 1\na 6 1\n",
-            SeenFault::RepeatedId(4),
-        ),
-        (
-            "getmail-seen 1\na 5 0\n+ 1\na 5 0\n",
-            SeenFault::RepeatedId(4),
-        ),
-        (
-            "getmail-seen 1\na 5 1\n+ 2\na 5 1\n",
-            SeenFault::RepeatedId(4),
-        ),
-        ("getmail-seen 1\n\n", SeenFault::BadRow(2)),
-    ];
-    for (file, fault) in rows {
+    for (file, fault) in FAULTY_FILES {
         let found = read_record(rt.alloc(), file.as_bytes()).err();
         assert_eq!(rt; found, Some(fault), "in {file}");
     }

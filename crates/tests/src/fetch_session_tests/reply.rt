@@ -72,45 +72,47 @@ fn ends_at_a_message_that_is_refused(rt: HostRuntime) -> Result<(), Fail> {
     )
 }
 
+/// Replies that end a session, what was sent up to there, and the fault.
+const NOT_UNDERSTOOD: [(&str, &str); 10] = [
+    ("ok|", " Cut(BadReply)"),
+    ("+ok|", " Cut(BadReply)"),
+    (
+        "+OK|+OK|+OK|+OK 2|",
+        "USER fred|PASS secret|STAT| Cut(BadReply)",
+    ),
+    (
+        "+OK|+OK|+OK|+OK x 1|",
+        "USER fred|PASS secret|STAT| Cut(BadReply)",
+    ),
+    (
+        "+OK|+OK|+OK|+OK 4294967296 1|",
+        "USER fred|PASS secret|STAT| Cut(BadReply)",
+    ),
+    (
+        "+OK|+OK|+OK|+OK 100001 5|",
+        "USER fred|PASS secret|STAT| Cut(TooMany)",
+    ),
+    (
+        "+OK|+OK|+OK|+OK 2 10|+OK|1 a|3 b|.|+OK|1 5|2 5|.|",
+        "P| Cut(ListingsDisagree)",
+    ),
+    (
+        "+OK|+OK|+OK|+OK 1 5|+OK|1 a|.|+OK|.|",
+        "P| Cut(ListingsDisagree)",
+    ),
+    (
+        "+OK|+OK|+OK|+OK 1 5|+OK|0 a|.|+OK|1 5|.|",
+        "P| Cut(ListingsDisagree)",
+    ),
+    (
+        "+OK|+OK|+OK|+OK 1 5|+OK|1 a|1 a|.|+OK|1 5|.|",
+        "P| Cut(ListingsDisagree)",
+    ),
+];
+
 #[test]
 fn ends_at_a_reply_that_is_not_understood(rt: HostRuntime) -> Result<(), Fail> {
-    let rows = [
-        ("ok|", " Cut(BadReply)"),
-        ("+ok|", " Cut(BadReply)"),
-        (
-            "+OK|+OK|+OK|+OK 2|",
-            "USER fred|PASS secret|STAT| Cut(BadReply)",
-        ),
-        (
-            "+OK|+OK|+OK|+OK x 1|",
-            "USER fred|PASS secret|STAT| Cut(BadReply)",
-        ),
-        (
-            "+OK|+OK|+OK|+OK 4294967296 1|",
-            "USER fred|PASS secret|STAT| Cut(BadReply)",
-        ),
-        (
-            "+OK|+OK|+OK|+OK 100001 5|",
-            "USER fred|PASS secret|STAT| Cut(TooMany)",
-        ),
-        (
-            "+OK|+OK|+OK|+OK 2 10|+OK|1 a|3 b|.|+OK|1 5|2 5|.|",
-            "P| Cut(ListingsDisagree)",
-        ),
-        (
-            "+OK|+OK|+OK|+OK 1 5|+OK|1 a|.|+OK|.|",
-            "P| Cut(ListingsDisagree)",
-        ),
-        (
-            "+OK|+OK|+OK|+OK 1 5|+OK|0 a|.|+OK|1 5|.|",
-            "P| Cut(ListingsDisagree)",
-        ),
-        (
-            "+OK|+OK|+OK|+OK 1 5|+OK|1 a|1 a|.|+OK|1 5|.|",
-            "P| Cut(ListingsDisagree)",
-        ),
-    ];
-    for (replies, wanted) in rows {
+    for (replies, wanted) in NOT_UNDERSTOOD {
         expect_cut(&rt, replies, wanted)?;
     }
     Ok(())

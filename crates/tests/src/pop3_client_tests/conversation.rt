@@ -5,6 +5,7 @@ ghost use Rattle.std.specs.Prelude.{◌<◌};
 use pop3_client::{Fault, count, fault_number, leave, list, log_in, next_piece, open, quit};
 use pop3_wire::{LineReader, ScriptWire};
 use std::alloc::Global;
+use std::process::Abort;
 use std::test::Fail;
 
 /// Adds the text of a message.
@@ -63,6 +64,16 @@ fn outcome(alloc: Global, replies: &[u8], cut: usize) -> Result<String, Fail>
     Ok(format!(in alloc; "{number}\n{sent}{taken}")?)
 }
 
+/// A conversation over these replies has this outcome, in whatever pieces they come.
+fn has_outcome(rt: &(impl Abort + AllocGlobal), replies: &[u8], wanted: &str) -> Result<(), Fail> {
+    for cut in [1usize, 2, 3, 4096] {
+        assert!(rt; cut > 0);
+        let found = outcome(rt.alloc(), replies, cut)?;
+        assert_eq!(rt; found.as_str(), wanted);
+    }
+    Ok(())
+}
+
 /// The replies up to the first line of RETR's, for one message `a1`.
 const BEFORE_THE_TEXT: &[u8] =
     b"+OK hi\r\n+OK\r\n+OK\r\n+OK 1 18\r\n+OK\r\n1 a1\r\n.\r\n+OK\r\n1 18\r\n.\r\n+OK\r\n";
@@ -84,71 +95,70 @@ fn texts_come_in_pieces(rt: HostRuntime) -> Result<(), Fail> {
         let wanted = format!(in alloc;
             "0\nUSER u\r\nPASS p\r\nSTAT\r\nUIDL\r\nLIST\r\nRETR 1\r\nQUIT\r\na1 {text}"
         )?;
-        for cut in [1usize, 2, 3, 4096] {
-            assert!(rt; cut > 0);
-            let found = outcome(alloc, &replies, cut)?;
-            assert_eq!(rt; found.as_str(), wanted.as_str());
-        }
+        has_outcome(&rt, &replies, wanted.as_str())?;
     }
     Ok(())
 }
 
+/// What is sent where PASS, UIDL or LIST is the last command.
+const LOG_IN: &str = "USER u\r\nPASS p\r\n";
+
+const IDS: &str = "USER u\r\nPASS p\r\nSTAT\r\nUIDL\r\n";
+
+const LISTINGS: &str = "USER u\r\nPASS p\r\nSTAT\r\nUIDL\r\nLIST\r\n";
+
+/// Replies whose conversation ends before a text, the number of its fault or 0, and what was sent, in
+/// two parts.
+const STOPPED: [(&str, &str, &str, &str); 6] = [
+    // no message
+    (
+        "+OK\r\n+OK\r\n+OK\r\n+OK 0 0\r\n+OK\r\n.\r\n+OK\r\n.\r\n+OK\r\n",
+        "0\n",
+        LISTINGS,
+        "QUIT\r\n",
+    ),
+    // a refused password
+    (
+        "+OK\r\n+OK\r\n-ERR no\r\n+OK bye\r\n",
+        "6\n",
+        LOG_IN,
+        "QUIT\r\n",
+    ),
+    // listings that disagree
+    (
+        "+OK\r\n+OK\r\n+OK\r\n+OK 2 10\r\n+OK\r\n1 a\r\n3 b\r\n.\r\n+OK\r\n1 5\r\n2 5\r\n.\r\n",
+        "8\n",
+        LISTINGS,
+        "",
+    ),
+    // too many messages
+    (
+        "+OK\r\n+OK\r\n+OK\r\n+OK 100001 5\r\n",
+        "9\n",
+        LOG_IN,
+        "STAT\r\n",
+    ),
+    // an id of 71 characters
+    (
+        "+OK\r\n+OK\r\n+OK\r\n+OK 1 5\r\n+OK\r\n1 1234567890123456789012345678901234567890123456789012345678901234567890x\r\n",
+        "7\n",
+        IDS,
+        "",
+    ),
+    // a size of 21 digits
+    (
+        "+OK\r\n+OK\r\n+OK\r\n+OK 1 5\r\n+OK\r\n1 a\r\n.\r\n+OK\r\n1 000000000000000000005\r\n",
+        "7\n",
+        LISTINGS,
+        "",
+    ),
+];
+
 #[test]
 fn conversations_stop_at_their_first_fault(rt: HostRuntime) -> Result<(), Fail> {
-    let log_in = "USER u\r\nPASS p\r\n";
-    let listings = "USER u\r\nPASS p\r\nSTAT\r\nUIDL\r\nLIST\r\n";
-    let ids = "USER u\r\nPASS p\r\nSTAT\r\nUIDL\r\n";
-    let rows = [
-        // no message
-        (
-            "+OK\r\n+OK\r\n+OK\r\n+OK 0 0\r\n+OK\r\n.\r\n+OK\r\n.\r\n+OK\r\n",
-            "0\n",
-            listings,
-            "QUIT\r\n",
-        ),
-        // a refused password
-        (
-            "+OK\r\n+OK\r\n-ERR no\r\n+OK bye\r\n",
-            "6\n",
-            log_in,
-            "QUIT\r\n",
-        ),
-        // listings that disagree
-        (
-            "+OK\r\n+OK\r\n+OK\r\n+OK 2 10\r\n+OK\r\n1 a\r\n3 b\r\n.\r\n+OK\r\n1 5\r\n2 5\r\n.\r\n",
-            "8\n",
-            listings,
-            "",
-        ),
-        // too many messages
-        (
-            "+OK\r\n+OK\r\n+OK\r\n+OK 100001 5\r\n",
-            "9\n",
-            log_in,
-            "STAT\r\n",
-        ),
-        // an id of 71 characters
-        (
-            "+OK\r\n+OK\r\n+OK\r\n+OK 1 5\r\n+OK\r\n1 1234567890123456789012345678901234567890123456789012345678901234567890x\r\n",
-            "7\n",
-            ids,
-            "",
-        ),
-        // a size of 21 digits
-        (
-            "+OK\r\n+OK\r\n+OK\r\n+OK 1 5\r\n+OK\r\n1 a\r\n.\r\n+OK\r\n1 000000000000000000005\r\n",
-            "7\n",
-            listings,
-            "",
-        ),
-    ];
-    for (replies, number, sent, tail) in rows {
+    for (replies, number, sent, tail) in STOPPED {
         let wanted = format!(in rt.alloc(); "{number}{sent}{tail}")?;
-        for cut in [1usize, 2, 3, 4096] {
-            assert!(rt; cut > 0);
-            let found = outcome(rt.alloc(), replies.as_bytes(), cut)?;
-            assert_eq!(rt; found.as_str(), wanted.as_str());
-        }
+        has_outcome(&rt, replies.as_bytes(), wanted.as_str())?;
     }
     Ok(())
 }
@@ -189,11 +199,7 @@ fn a_greeting_has_2048_octets_at_most(rt: HostRuntime) -> Result<(), Fail> {
             replies.push(b'x')?;
         }
         replies.extend_from_slice(b"\r\n")?;
-        for cut in [1usize, 2, 3, 4096] {
-            assert!(rt; cut > 0);
-            let found = outcome(alloc, &replies, cut)?;
-            assert_eq!(rt; found.as_str(), wanted);
-        }
+        has_outcome(&rt, &replies, wanted)?;
     }
     Ok(())
 }

@@ -124,25 +124,23 @@ warning: line 10: options.port has no effect",
     reads(&rt, "", &rows)
 }
 
-#[test]
-fn reads_ends_of_files(rt: HostRuntime) -> Result<(), Fail> {
-    let front = format!(in rt.alloc(); "{DESTINATION}{RETRIEVER}")?;
-    let rows = [
-        (
-            "port=00000000000000065535\n[options]\nmax_messages_per_session=18446744073709551615\n\
+/// What comes of a file that ends so, behind both sections.
+const ENDS: [(&str, &str); 14] = [
+    (
+        "port=00000000000000065535\n[options]\nmax_messages_per_session=18446744073709551615\n\
 verbose=18446744073709551615\n",
-            "u:p@s:65535 Maildir m/ true false 0 0 18446744073709551615 2",
-        ),
-        (
-            "[other]\nk = a\n  # a comment\n b = c\n",
-            "u:p@s:110 Maildir m/ true false 0 0 0 1\n\
+        "u:p@s:65535 Maildir m/ true false 0 0 18446744073709551615 2",
+    ),
+    (
+        "[other]\nk = a\n  # a comment\n b = c\n",
+        "u:p@s:110 Maildir m/ true false 0 0 0 1\n\
 warning: line 9: section [other] has no effect",
-        ),
-        (
-            "[filter-1]\ntype = x\n[retriever]\nTimeout = 5\ndelete_dup_msgids = 1\n[default]\n[options]\n\
+    ),
+    (
+        "[filter-1]\ntype = x\n[retriever]\nTimeout = 5\ndelete_dup_msgids = 1\n[default]\n[options]\n\
 max_bytes_per_session = 1\ndelete_bigger_than = 2\nreceived = 1\ndelivered_to = 1\n[destination]\nlocktype = x\n\
 filemode = 0600\nuser = x\n[filter-1]\n[retriever]\ntimeout = 6\nuser = y\n",
-            "u:p@s:110 Maildir m/ true false 0 0 0 1\n\
+        "u:p@s:110 Maildir m/ true false 0 0 0 1\n\
 warning: line 9: section [filter-1] has no effect\n\
 warning: line 12: retriever.timeout has no effect\n\
 warning: line 13: retriever.delete_dup_msgids has no effect\n\
@@ -155,32 +153,36 @@ warning: line 21: destination.locktype has no effect\n\
 warning: line 22: destination.filemode has no effect\n\
 warning: line 23: destination.user has no effect\n\
 warning: line 27: retriever.user has no effect",
-        ),
-        ("port=0", "retriever.port has a bad value"),
-        ("port=65536", "retriever.port has a bad value"),
-        ("port=+1", "retriever.port has a bad value"),
-        ("port=-1", "retriever.port has a bad value"),
-        ("port=1 1", "retriever.port has a bad value"),
-        ("port=", "retriever.port has a bad value"),
-        (
-            "port=000000000000000000110",
-            "retriever.port has a bad value",
-        ),
-        ("port=1_0", "retriever.port has a bad value"),
-        (
-            "server = a\n# not the end\n\n\tb\n",
-            "retriever.server has a bad value",
-        ),
-        (
-            "[options]\ndelete_after=4294967296",
-            "options.delete_after has a bad value",
-        ),
-        (
-            "[options]\nmax_message_size=18446744073709551616",
-            "options.max_message_size has a bad value",
-        ),
-    ];
-    reads(&rt, front.as_str(), &rows)
+    ),
+    ("port=0", "retriever.port has a bad value"),
+    ("port=65536", "retriever.port has a bad value"),
+    ("port=+1", "retriever.port has a bad value"),
+    ("port=-1", "retriever.port has a bad value"),
+    ("port=1 1", "retriever.port has a bad value"),
+    ("port=", "retriever.port has a bad value"),
+    (
+        "port=000000000000000000110",
+        "retriever.port has a bad value",
+    ),
+    ("port=1_0", "retriever.port has a bad value"),
+    (
+        "server = a\n# not the end\n\n\tb\n",
+        "retriever.server has a bad value",
+    ),
+    (
+        "[options]\ndelete_after=4294967296",
+        "options.delete_after has a bad value",
+    ),
+    (
+        "[options]\nmax_message_size=18446744073709551616",
+        "options.max_message_size has a bad value",
+    ),
+];
+
+#[test]
+fn reads_ends_of_files(rt: HostRuntime) -> Result<(), Fail> {
+    let front = format!(in rt.alloc(); "{DESTINATION}{RETRIEVER}")?;
+    reads(&rt, front.as_str(), &ENDS)
 }
 
 #[test]

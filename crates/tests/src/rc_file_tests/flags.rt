@@ -43,54 +43,56 @@ fn overridden(alloc: Global, flags: Flags) -> Result<String, Fail> {
     }
 }
 
+/// Flags, and what `overridden` says of them.
+const OVERRIDDEN: [(Flags, &str); 6] = [
+    (NONE, "true false 1"),
+    (
+        Flags {
+            new_only: true,
+            delete: true,
+            verbose: 3,
+            ..NONE
+        },
+        "false true 2",
+    ),
+    (
+        Flags {
+            all: true,
+            dont_delete: true,
+            quiet: true,
+            ..NONE
+        },
+        "true false 0",
+    ),
+    (
+        Flags {
+            all: true,
+            new_only: true,
+            ..NONE
+        },
+        "opposite flags",
+    ),
+    (
+        Flags {
+            delete: true,
+            dont_delete: true,
+            ..NONE
+        },
+        "opposite flags",
+    ),
+    (
+        Flags {
+            quiet: true,
+            verbose: 1,
+            ..NONE
+        },
+        "opposite flags",
+    ),
+];
+
 #[test]
 fn flags_are_stronger_than_settings(rt: HostRuntime) -> Result<(), Fail> {
-    let rows = [
-        (NONE, "true false 1"),
-        (
-            Flags {
-                new_only: true,
-                delete: true,
-                verbose: 3,
-                ..NONE
-            },
-            "false true 2",
-        ),
-        (
-            Flags {
-                all: true,
-                dont_delete: true,
-                quiet: true,
-                ..NONE
-            },
-            "true false 0",
-        ),
-        (
-            Flags {
-                all: true,
-                new_only: true,
-                ..NONE
-            },
-            "opposite flags",
-        ),
-        (
-            Flags {
-                delete: true,
-                dont_delete: true,
-                ..NONE
-            },
-            "opposite flags",
-        ),
-        (
-            Flags {
-                quiet: true,
-                verbose: 1,
-                ..NONE
-            },
-            "opposite flags",
-        ),
-    ];
-    for (flags, wanted) in rows {
+    for (flags, wanted) in OVERRIDDEN {
         let found = overridden(rt.alloc(), flags)?;
         assert_eq!(rt; found.as_str(), wanted);
     }
