@@ -25,8 +25,8 @@ struct Begun<F: Drop> {
 /// none of them is made. Nothing is known of what the system does; which file is begun is known.
 ///
 /// A file is made so that its owner alone can read it (mode 0600). It is flushed before it is renamed
-/// into `new`, and then `new` is flushed, where the system
-/// flushes folders, so that a delivered text outlives a loss of power.
+/// into `new`, and then `new` is flushed, where the system flushes folders, so that a delivered text
+/// outlives a loss of power.
 #[derive(Drop)]
 pub struct FolderMaildir<'a, R: Files + AllocGlobal + Clone + Drop> {
     rt: &'a R,
@@ -140,7 +140,8 @@ impl<'a, R: Files + AllocGlobal + Clone + Drop> FolderMaildir<'a, R> {
 }
 
 /// Whether a folder may hold others. Each of them links to it by its `..`, beside the folder's name
-/// and its own `.`; file systems that don't count so answer another number than 2.
+/// and its own `.`. File systems that don't count so answer another number than 2, or always 2. The
+/// latter let a folder pass for a file, which does no harm: no folder has the name of an id's file.
 fn may_hold_folders(folder: &Metadata) -> bool {
     folder.nlink() != 2
 }
