@@ -4,6 +4,7 @@
 //! group is the line `+ N`, N from 1 to 100,000 without leading zeros, and N rows. LF ends each line.
 
 ghost use Rattle.std.specs.Prelude.{◌≡◌, ◌≢◌, ℕ, ◌≤◌, ◌++◌, Bool, List, length, flat_map, OnOk, IfOk, IfSome, IfNone};
+ghost use Rattle.mail_terms.specs.Listing.{message_limit};
 ghost use Rattle.fetch_rules.specs.Record.{Row, IsRow};
 ghost use Rattle.fetch_rules.specs.RecordFile.{header, state_of, line_of, group_line, written, text_of, IsLine, Line as FileLine};
 ghost use Rattle.fetch_rules.specs.RecordMeaning.{BeginsWithNoLine};
@@ -12,7 +13,7 @@ ghost use Rattle.fetch_rules.specs.Lines.{line_seen};
 
 use crate::seen::field::{cut_at, read_number};
 use crate::seen::row_map::State;
-use mail_terms::is_legal_id;
+use mail_terms::{MESSAGE_LIMIT, is_legal_id};
 use std::alloc::{AllocError, Global};
 
 /// The line of the header.
@@ -71,16 +72,16 @@ fn read_row(bytes: &[u8]) -> Option<(ReadRow<'_>, &[u8])>
 /// The number of rows of the group whose first line the bytes begin with, if they do, and what
 /// follows that line.
 fn read_group_line(bytes: &[u8]) -> Option<(u64, &[u8])>
-    ensures count { IfSome result (λ parts. (1 ≤ parts.0) × (parts.0 ≤ 100000)) }
+    ensures count { IfSome result (λ parts. (1 ≤ parts.0) × (parts.0 ≤ message_limit)) }
     ensures found { IfSome result (λ parts. bytes.now ≡ group_line parts.0 ++ parts.1.now) }
-    ensures none { IfNone result ((count : ℕ) (behind : List ℕ) → 1 ≤ count → count ≤ 100000 → bytes.now ≢ group_line count ++ behind) }
+    ensures none { IfNone result ((count : ℕ) (behind : List ℕ) → 1 ≤ count → count ≤ message_limit → bytes.now ≢ group_line count ++ behind) }
 {
     let Some(line) = bytes.strip_prefix(SIGN) else {
         return None;
     };
     let (number, rest) = cut_at(line, b'\n')?;
     let count = read_number(number)?;
-    if count == 0 || count > 100_000 {
+    if count == 0 || count > u64::from(MESSAGE_LIMIT) {
         return None;
     }
     Some((count, rest))

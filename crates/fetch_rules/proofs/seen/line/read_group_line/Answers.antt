@@ -3,7 +3,7 @@ use Rattle.std.specs.Cmp.Lexicographic.{pointwise}
 use Rattle.std.proofs.lemmas.Bool.{true≢false}
 use Rattle.fetch_rules.proofs.LineLemmas.{signed, not_group-no_end, count_of_line, same_count, group_whole_line}
 use Rattle.fetch_rules.proofs.seen.line.read_group_line.Goals as goal
-use Rattle.fetch_rules.proofs.seen.line.read_group_line.Goals.{then-count-eq0-via-then-count-eq0, then-count-eq0-via-else-count-eq0+then-count-gt100000}
+use Rattle.fetch_rules.proofs.seen.line.read_group_line.Goals.{then-count-eq0-via-then-count-eq0, then-count-eq0-via-else-count-eq0+then-count-from}
 
 pub returns-in_default-clause-none : goal.returns-in_default-clause-none
 returns-in_default-clause-none c = λ count behind some small is.
@@ -26,7 +26,7 @@ returns-then-count-eq0-clause-none c = λ count behind some small is.
     c.in_ok-number.ensures.found c.in_ok-number.ensures.first small is) in
     elim c.then-count-eq0.branch [
       | then-count-eq0-via-then-count-eq0 w ↦ omega (arith, same, some, w.if-count-eq0.true)
-      | then-count-eq0-via-else-count-eq0+then-count-gt100000 w ↦ omega (arith, same, small, w.if-count-gt100000.true)
+      | then-count-eq0-via-else-count-eq0+then-count-from w ↦ omega (arith, same, small, w.if-count-from.true, w.from.ensures)
     ]
 
 pub returns-clause-found : goal.returns-clause-found
