@@ -99,7 +99,7 @@ fn is_done_with<H: BuildHasher>(
 /// limit. A message is deleted where it is recorded as delivered or is fetched, no other message has
 /// its id, and `delete` is true or it was first seen `delete_after` days ago or more, where 0 sets no
 /// age. An id without a row is not delivered, and is first seen now. `now` is in seconds since 1970.
-/// Takes n log n comparisons of ids for n messages, and a look-up in the record for each.
+/// Takes n log n comparisons of ids for n messages, and up to three look-ups in the record for each.
 pub fn plan<H: BuildHasher>(
     alloc: Global,
     settings: &Settings,

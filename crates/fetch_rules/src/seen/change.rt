@@ -39,7 +39,7 @@ impl<H: BuildHasher> RowMap<H> {
         ensures front { take (length self.old) self.new ≡ self.old }
         ensures is_record { IsRecord self.new }
     {
-        // The loop below starts from what is always true of the rows.
+        // For the proof alone: `len` says that the rows are a record, from which the loop starts.
         let _ = self.len();
         for i in 0..listing.len() {
             let uid = listing.uid(i);
@@ -79,6 +79,7 @@ impl<H: BuildHasher> RowMap<H> {
         ensures unchanged { OnFalse result (self.new ≡ self.old) }
         ensures is_record { IsRecord self.new }
     {
+        // For the proof alone: `len` says that the rows are a record, from which the loop starts.
         let _ = self.len();
         let mut changed = false;
         for i in 0..listing.len() {

@@ -96,7 +96,8 @@ impl<H: BuildHasher> RowMap<H> {
         ensures rows { self.new ≡ marked self.old uid.now }
         ensures is_record { IsRecord self.new }
     {
-        // What is always true of the rows says that none is of an id that isn't legal.
+        // For the proof alone: `len` says that the rows are a record, so that no row has an id that
+        // isn't legal.
         let _ = self.len();
         let Some(text) = text_of(uid) else {
             return;
