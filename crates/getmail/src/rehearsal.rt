@@ -1,6 +1,6 @@
 //! The rehearsal: a session whose server is a recorded conversation, over a Maildir and a record in
 //! memory.
-ghost use Rattle.std.specs.Prelude.{◌≡◌, ◌≤◌, true, IfOk};
+ghost use Rattle.std.specs.Prelude.{◌≡◌, ◌≤◌, ◌<◌, true, IfOk};
 ghost use Rattle.rc_file.specs.Flags.{is_contradiction};
 ghost use Rattle.rc_file.specs.Settings.{IsValid};
 
@@ -134,6 +134,7 @@ pub fn rehearse<R: Read + Drop, W: Write + Drop>(
     output: W,
 ) -> u8
     ensures within { result ≤ 2 }
+    ensures refused { is_contradiction flags ≡ true → 0 < result }
     ensures opposite { result ≡ 2 → is_contradiction flags ≡ true }
 {
     let Ok(settings) = defaults(alloc) else {
