@@ -92,6 +92,15 @@ base-marked [] marks = refl
 base-marked (x ∷ xs) marks =
     base-cons x (xs ++ 58 ∷ marks) ∙ ap (λ (ys : List ℕ). cond (is_colon x) [] (x ∷ ys)) (base-marked xs marks) ∙ sym (base-cons x xs)
 
+-- a base has no more to cut off
+pub base_base : (name : List ℕ) → base (base name) ≡ base name
+base_base [] = refl
+base_base (x ∷ xs) = ap base (base-cons x xs) ∙ by (is_colon x) refl (base_base xs) ∙ sym (base-cons x xs)
+  where
+    by : (b : Bool) → is_colon x ≡ b → base (base xs) ≡ base xs → base (cond b [] (x ∷ base xs)) ≡ cond b [] (x ∷ base xs)
+    by true e ih = refl
+    by false e ih = base-cons x (base xs) ∙ ap (λ b. cond b [] (x ∷ base (base xs))) e ∙ ap (λ t. x ∷ t) ih
+
 -- ---- different names
 
 -- what the law of legal ids says

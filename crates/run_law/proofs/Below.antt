@@ -1,7 +1,8 @@
 -- What the laws of the crates below say, of names, plans and records.
-use Rattle.std.proofs.Common.{◌≡◌, ℕ, List, Bool, ◌&&◌, ◌||◌}
+use Rattle.std.proofs.Common.{◌≡◌, ℕ, List, ◌∷◌, ◌++◌, Bool, ◌&&◌, ◌||◌}
 use Rattle.std.specs.Prelude.{bytes_eq}
 use Rattle.mail_terms.specs.Listing.{Item, has_item, is_flagged}
+use Rattle.mail_terms.specs.MaildirName.{base}
 use Rattle.fetch_rules.specs.Record.{Row, has_row, is_delivered, marked, merged}
 use Rattle.fetch_rules.specs.Wanted.{DistinctAreFiltered}
 use Rattle.mail_store.specs.Maildir.{Maildir}
@@ -17,9 +18,15 @@ pub record Records : Type 0 where
   pub marks : (rows : List Row) (uid other : List ℕ)
       → is_delivered (marked rows uid) other ≡ (is_delivered rows other || (has_row rows other && bytes_eq uid other))
 
--- of all that a session stores
+-- of the marks that a reader puts behind names
+pub record Marks : Type 0 where
+  pub kept : (name marks : List ℕ) → base (name ++ 58 ∷ marks) ≡ base name
+  pub own : (name : List ℕ) → base (base name) ≡ base name
+
+-- of all that a session stores and a reader moves
 pub record Below : Type 0 where
   pub differ : NamesDiffer
   pub bases : NamesAreBases
+  pub marks : Marks
   pub filtered : DistinctAreFiltered
   pub records : Records

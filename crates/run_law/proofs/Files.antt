@@ -1,16 +1,17 @@
 -- Files of a Maildir: which ids they hold, what a delivery adds, and what a reader's move leaves.
-use Rattle.std.proofs.Common.{◌≡◌, ◌≤◌, ◌+◌, inl, inr, ℕ, suc, List, [], ◌∷◌, ◌++◌, Bool, true, false, not, cond, ◌&&◌, length, take, map, refl, sym, ◌∙◌, ap, subst, arith, append_assoc, length-append}
+use Rattle.std.proofs.Common.{◌≡◌, ◌≤◌, ◌+◌, inl, inr, ℕ, List, [], ◌∷◌, ◌++◌, Bool, true, false, cond, ◌&&◌, length, map, refl, sym, ◌∙◌, ap, subst, arith, append_assoc, length-append}
 use Rattle.std.specs.Prelude.{bytes_eq}
-use Rattle.std.specs.List.{filter, list_any, AllByRecursion, prefix_len}
+use Rattle.std.specs.List.{filter, list_any, AllByRecursion}
 use Rattle.std.proofs.lemmas.Bool.{both_ways, cases_Bool, false_from_ne_true}
 use Rattle.mail_terms.specs.UniqueId.{is_legal_id, has_id}
 use Rattle.pop3_wire.specs.World.{Message}
 use Rattle.mail_store.specs.Maildir.{Maildir, File, file}
-use Rattle.mail_terms.specs.MaildirName.{base, is_colon}
+use Rattle.mail_terms.specs.MaildirName.{base}
 use Rattle.mail_store.specs.FileName.{NamesAreBases, NamesDiffer, name_of, names_id, is_held, IsAccountText}
 use Rattle.run_law.specs.Mails.{ids_of, texts_of}
 use Rattle.std.proofs.lemmas.List.Elements.{filter-append}
 use Rattle.run_law.specs.Accounts.{Account, files, copies, TakesOut, Renames, Moves, count_files, IsOther, KeepsOthers}
+use Rattle.run_law.proofs.Below.{Marks}
 use Rattle.run_law.proofs.Lists.{any-append, any_filter, any_swap, is_some, swap}
 use Rattle.run_law.proofs.Ids.{bytes_same, bytes_self, has_texts}
 
@@ -74,30 +75,6 @@ copies_messages differ bases account (m ∷ ms) id text l h =
     by true ih = ap (λ t. m.text ∷ t) ih
     by false ih = ih
 
--- ---- bases
-
-base-cons : (x : ℕ) (xs : List ℕ) → base (x ∷ xs) ≡ cond (is_colon x) [] (x ∷ base xs)
-base-cons x xs = by (is_colon x)
-  where
-    count : ℕ
-    count = prefix_len (λ y. not (is_colon y)) xs
-
-    by : (b : Bool) → take (cond (not b) (1 + count) 0) (x ∷ xs) ≡ cond b [] (x ∷ take count xs)
-    by true = refl
-    by false = ap (λ k. take k (x ∷ xs)) (let e : 1 + count ≡ suc count = omega arith in e)
-
-pub base_with : (name suffix : List ℕ) → base (name ++ 58 ∷ suffix) ≡ base name
-base_with [] suffix = base-cons 58 suffix
-base_with (x ∷ xs) suffix = base-cons x (xs ++ 58 ∷ suffix) ∙ ap (λ t. cond (is_colon x) [] (x ∷ t)) (base_with xs suffix) ∙ sym (base-cons x xs)
-
-pub base_base : (name : List ℕ) → base (base name) ≡ base name
-base_base [] = refl
-base_base (x ∷ xs) = ap base (base-cons x xs) ∙ by (is_colon x) refl (base_base xs) ∙ sym (base-cons x xs)
-  where
-    by : (b : Bool) → is_colon x ≡ b → base (base xs) ≡ base xs → base (cond b [] (x ∷ base xs)) ≡ cond b [] (x ∷ base xs)
-    by true e ih = refl
-    by false e ih = base-cons x (base xs) ∙ ap (λ b. cond b [] (x ∷ base (base xs))) e ∙ ap (λ t. x ∷ t) ih
-
 -- ---- moves
 
 copies_around : (front back : List File) (f : File) (name : List ℕ) → copies (front ++ f ∷ back) name ≡ copies front name ++ (copies (f ∷ []) name ++ copies back name)
@@ -145,8 +122,8 @@ pub record OneMoves (before after : Account) : Type 0 where
   pub content_same : old.content ≡ new.content
   pub rows : after.rows ≡ before.rows
 
-one_taken : (before after : Account) → TakesOut before after → OneMoves before after
-one_taken before after t = record {
+one_taken : Marks → (before after : Account) → TakesOut before after → OneMoves before after
+one_taken marks before after t = record {
   front = before.maildir.in_cur ++ t.taken.front;
   back = t.taken.back;
   first = before.maildir.in_cur;
@@ -157,13 +134,13 @@ one_taken before after t = record {
   others = append_assoc before.maildir.in_cur t.taken.front t.taken.back;
   is = ap (λ (m : Maildir). m.in_cur ++ m.in_new) t.taken.is
       ∙ append_assoc before.maildir.in_cur (file (t.name ++ 58 ∷ t.suffix) t.taken.content ∷ []) (t.taken.front ++ t.taken.back);
-  base_same = sym (base_with t.name t.suffix);
+  base_same = sym (marks.kept t.name t.suffix);
   content_same = refl;
   rows = t.rows;
 }
 
-one_renamed : (before after : Account) → Renames before after → OneMoves before after
-one_renamed before after r = record {
+one_renamed : Marks → (before after : Account) → Renames before after → OneMoves before after
+one_renamed marks before after r = record {
   front = r.front;
   back = r.back ++ before.maildir.in_new;
   first = r.first;
@@ -174,14 +151,14 @@ one_renamed before after r = record {
   others = sym (append_assoc r.front r.back before.maildir.in_new) ∙ ap (λ l. l ++ before.maildir.in_new) r.others ∙ append_assoc r.first r.last before.maildir.in_new;
   is = ap (λ l. l ++ after.maildir.in_new) r.is ∙ ap (λ l. (r.first ++ file (base r.moved.name ++ 58 ∷ r.suffix) r.moved.content ∷ r.last) ++ l) r.in_new
       ∙ append_assoc r.first (file (base r.moved.name ++ 58 ∷ r.suffix) r.moved.content ∷ r.last) before.maildir.in_new;
-  base_same = sym (base_with (base r.moved.name) r.suffix ∙ base_base r.moved.name);
+  base_same = sym (marks.kept (base r.moved.name) r.suffix ∙ marks.own r.moved.name);
   content_same = refl;
   rows = r.rows;
 }
 
-pub one_moves : (before after : Account) → Moves before after → OneMoves before after
-one_moves before after (inl t) = one_taken before after t
-one_moves before after (inr r) = one_renamed before after r
+pub one_moves : Marks → (before after : Account) → Moves before after → OneMoves before after
+one_moves marks before after (inl t) = one_taken marks before after t
+one_moves marks before after (inr r) = one_renamed marks before after r
 
 pub copies_after : (before after : Account) (o : OneMoves before after) (name : List ℕ) → length (copies (files before) name) ≤ 1 → copies (files after) name ≡ copies (files before) name
 copies_after before after o name l =

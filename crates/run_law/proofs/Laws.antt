@@ -94,7 +94,7 @@ happened : Below → (frame : Frame) (before : Situation) (event : Event) → Is
     → Kept frame (after_event before event) × Promises frame before event
 happened laws frame before (Visited v) is kept h = visited laws frame before v is kept h.0
 happened laws frame before (Moved after) is kept h =
-    let o = one_moves before.account after h.0 in
+    let o = one_moves laws.marks before.account after h.0 in
     (moved_kept frame before after is kept o, moves_keep frame.account before.account after o)
 
 pub kept_states : Below → KeptStaysKept

@@ -10,7 +10,7 @@ ghost use Rattle.run_law.specs.Sessions.{LinksAreVisits, LinksKeep};
 ghost use Rattle.run_law.specs.Told.{ToldStores};
 
 use fetch_rules::{distinct_messages_are_filtered, held_is_delivered, marked_is_delivered};
-use mail_store::{flags_tell_what_is_held, names_are_bases, names_differ};
+use mail_store::{flags_tell_what_is_held, marks_keep_the_base, names_are_bases, names_differ};
 use pop3_wire::{
     only_one_body, only_one_line, only_one_list_of_commands, only_one_list_of_lines,
     only_one_reading,
@@ -22,6 +22,7 @@ pub fn kept_states()
 {
     names_differ();
     names_are_bases();
+    marks_keep_the_base();
     distinct_messages_are_filtered();
     held_is_delivered();
     flags_tell_what_is_held();

@@ -40,9 +40,10 @@ pub fn names_are_bases()
     ensures { NamesAreBases }
 {}
 
-/// A mark behind a name, which begins with a colon, doesn't change its base.
+/// A mark behind a name, which begins with a colon, doesn't change its base; and a base is its own.
 pub fn marks_keep_the_base()
-    ensures { (name marks : List ℕ) → base (name ++ 58 ∷ marks) ≡ base name }
+    ensures kept { (name marks : List ℕ) → base (name ++ 58 ∷ marks) ≡ base name }
+    ensures own { (name : List ℕ) → base (base name) ≡ base name }
 {}
 
 /// A file that comes into `new` under the name of an id makes that id held, and no other.
