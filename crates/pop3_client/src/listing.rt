@@ -12,7 +12,7 @@ ghost use Rattle.pop3_client.specs.Listing.{NextRow, TakesRows, ListsRows, GetsL
 
 use crate::fault::{Asked, Fault};
 use crate::talk::{ask, next_line};
-use mail_terms::{Listing, ListingFault, ScanRow, UidRow};
+use mail_terms::{Listing, ListingFault, MESSAGE_LIMIT, ScanRow, UidRow};
 use pop3_wire::{LineReader, Wire, is_end_mark, read_scan, read_uid, without_dot};
 use std::alloc::Global;
 use std::vec::Vec;
@@ -26,7 +26,7 @@ fn next_row<W: Wire>(
 ) -> Result<Option<usize>, Fault>
     ensures counted { CountsRefusal is_refusal (W.seen wire.old) result (W.seen wire.new) }
     ensures line { IfOk result (λ found. IfSome found (HasLine 2048 reader.new)) }
-    ensures few { IfOk result (λ found. IfSome found (λ n. rows < 100000)) }
+    ensures few { IfOk result (λ found. IfSome found (λ n. rows < row_limit)) }
     ensures next { WhereSound W.sound W.leads_to wire.old wire.new
         (NextRow rows (at (W.seen wire.old) reader.old) result (at (W.seen wire.new) reader.new)) }
 {
@@ -38,7 +38,7 @@ fn next_row<W: Wire>(
         reader.skip(length + 2);
         return Ok(None);
     }
-    if rows >= 100_000 {
+    if rows >= MESSAGE_LIMIT as usize {
         return Err(Fault::TooMany);
     }
     Ok(Some(length))

@@ -6,7 +6,7 @@ use Rattle.pop3_wire.specs.Body.{unstuffed}
 use Rattle.pop3_wire.specs.Fields.{number_and_size}
 use Rattle.pop3_client.specs.declared.fault.Fault.{Fault}
 use Rattle.pop3_client.specs.declared.fault.Fault.TheVariants.{NoMemory}
-use Rattle.pop3_client.specs.Turns.{list, IsRow}
+use Rattle.pop3_client.specs.Turns.{list, IsRow, row_limit}
 use Rattle.pop3_wire.specs.Reading.{IsScanLine}
 use Rattle.pop3_client.specs.Listing.{RowsCause}
 use Rattle.pop3_client.proofs.TalkLemmas.{line_short, line_waits}
@@ -43,7 +43,7 @@ returns-in-Err-scan_row-clause-takes g c sound =
     let w = c.next_row.new.reader in
     let now = in_rows_on g.W.Wire.sound g.W.Wire.leads_to g.W.Wire.seen g.met.W.Wire.leads_on list IsScanLine c.args.wire.now c.args.reader.now c.rows.wire c.rows.reader c.rows.rows.items
     (c.rows.invariant.1 next.0) c.next_row.new.wire w next.2.0 next.1 next.2.1 next.2.2 in
-    let few : c.len.result < 100000 = rw c.in-Ok-Some.field-0-is at c.in-Ok-Some.ensures.few in
+    let few : c.len.result < row_limit = rw c.in-Ok-Some.field-0-is at c.in-Ok-Some.ensures.few in
     let size : c.len.result ≡ length c.rows.rows.items = omega arith in
     let there = row_behind g.W.Wire.sound g.W.Wire.leads_to g.W.Wire.seen g.met.W.Wire.leads_on list IsScanLine c.args.wire.now c.args.reader.now c.next_row.new.wire w c.rows.rows.items now
     (take n w) (drop (n + 2) w) (line_waits 2048 n w next.2.3) (next.2.3.line, next.2.4) (line_short n w next.2.3) in
@@ -62,7 +62,7 @@ returns-in-Err-push-clause-takes g c sound =
     let w = c.next_row.new.reader in
     let now = in_rows_on g.W.Wire.sound g.W.Wire.leads_to g.W.Wire.seen g.met.W.Wire.leads_on list IsScanLine c.args.wire.now c.args.reader.now c.rows.wire c.rows.reader c.rows.rows.items
     (c.rows.invariant.1 next.0) c.next_row.new.wire w next.2.0 next.1 next.2.1 next.2.2 in
-    let few : c.len.result < 100000 = rw c.in-Ok-Some.field-0-is at c.in-Ok-Some.ensures.few in
+    let few : c.len.result < row_limit = rw c.in-Ok-Some.field-0-is at c.in-Ok-Some.ensures.few in
     let size : c.len.result ≡ length c.rows.rows.items = omega arith in
     let read : IsScanLine (take n w) c.in-Ok.row = subst (λ (l : List ℕ). IsScanLine (take n l) c.in-Ok.row) c.waiting.ensures.value c.in-Ok.ensures.ok in
     let there = row_behind g.W.Wire.sound g.W.Wire.leads_to g.W.Wire.seen g.met.W.Wire.leads_on list IsScanLine c.args.wire.now c.args.reader.now c.next_row.new.wire w c.rows.rows.items now
@@ -83,7 +83,7 @@ rows-preserved g c = (
       let now = in_rows_on g.W.Wire.sound g.W.Wire.leads_to g.W.Wire.seen g.met.W.Wire.leads_on list IsScanLine c.args.wire.now c.args.reader.now c.rows.wire c.rows.reader c.rows.rows.items
       (c.rows.invariant.1 next.0) c.next_row.new.wire w next.2.0 next.1 next.2.1 next.2.2 in
       let size : c.len.result ≡ length c.rows.rows.items = omega arith in
-      let few : c.len.result < 100000 = rw c.in-Ok-Some.field-0-is at c.in-Ok-Some.ensures.few in
+      let few : c.len.result < row_limit = rw c.in-Ok-Some.field-0-is at c.in-Ok-Some.ensures.few in
       let read : IsScanLine (take n w) c.in-Ok.row = subst (λ (l : List ℕ). IsScanLine (take n l) c.in-Ok.row) c.waiting.ensures.value c.in-Ok.ensures.ok in
       subst (λ (rest : List ℕ). InRows g.W.Wire.sound g.W.Wire.leads_to g.W.Wire.seen list IsScanLine c.args.wire.now c.args.reader.now c.next_row.new.wire rest c.push.new.self.items)
       (sym c.skip.ensures)
