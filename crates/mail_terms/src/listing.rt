@@ -148,7 +148,7 @@ impl Listing {
     /// The listing of `n` messages by the rows of UIDL and LIST, in whatever order they came.
     /// TooMany where `n` is above `MESSAGE_LIMIT`, before anything else is looked at; Disagree where
     /// either list isn't the numbers 1 to `n`, each once. Time and memory grow in proportion to the
-    /// rows.
+    /// rows and to `n`, since each list's places go into a table of `n` slots.
     pub fn join(
         alloc: Global,
         n: u32,
