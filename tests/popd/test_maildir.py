@@ -434,7 +434,7 @@ class GreatMaildirs(unittest.TestCase):
         octets = 1 << 26
         with Maildir() as maildir:
             os.truncate(maildir.add("new", "great", b""), octets)
-            for command in (b"RETR 1",):
+            for command in (b"RETR 1", b"TOP 1 0"):
                 with self.subTest(command), Service(maildir) as service, service.client() as client:
                     client.log_in()
                     self.assertTrue(client.ask(command).startswith(b"+OK"))
