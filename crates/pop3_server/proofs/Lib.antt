@@ -12,7 +12,6 @@ mod LoopLemmas
 mod MaildirLemmas
 mod OpenLemmas
 mod RemovalLemmas
-mod ReplyLemmas
 mod RowLemmas
 mod ServeIntakeLemmas
 mod ServeLemmas
@@ -20,3 +19,4 @@ mod SizeLemmas
 mod SlotLemmas
 mod TextPartLemmas
 mod TextPieceLemmas
+mod TextTopLemmas

@@ -1,14 +1,15 @@
 -- Texts of a maildrop that were given part by part.
-use Rattle.std.proofs.Common.{◌≡◌, ◌≤◌, ◌+◌, ℕ, true, List, [], ◌∷◌, ◌++◌, length, take, drop, Option, Some, Ok, refl, sym, ap, subst, ◌∙◌, arith}
+use Rattle.std.proofs.Common.{◌≡◌, ◌≤◌, ◌+◌, ℕ, true, false, List, [], ◌∷◌, ◌++◌, length, take, drop, Option, Some, Ok, refl, sym, ap, subst, ◌∙◌, arith}
 use Rattle.std.specs.List.{slice_get}
 use Rattle.std.proofs.Math.Seq.{take-add}
-use Rattle.std.proofs.lemmas.List.{length-take-le, take-append-drop, take_all}
+use Rattle.std.proofs.lemmas.List.{append-nil, length-take-le, take-append-drop, take_all}
 use Rattle.mail_terms.specs.Text.{lines_of_text}
 use Rattle.pop3_wire.specs.World.{Message}
 use Rattle.pop3_server.specs.Maildrop.{GivesPart, HasPlace, Mail}
 use Rattle.pop3_server.specs.ServerMachine.{top_lines}
 use Rattle.pop3_server.specs.TextPart.{BeginsTextAt, GaveTop, IsTextAt}
-use Rattle.pop3_server.specs.TextPiece.{HoldsTop}
+use Rattle.pop3_server.specs.TextPiece.{top_octets}
+use Rattle.pop3_server.proofs.TextTopLemmas.{lines_of_whole_top}
 
 joined_length : (one two : List ℕ) → length (one ++ two) ≡ length one + length two
 joined_length [] two = omega arith
@@ -43,15 +44,20 @@ begins_all before after i text piece (message, at, begins) gives =
     let short : length message.text ≤ length text = subst (λ (m : Message). length m.text ≤ length text) same (gives.1.3 refl) in
     (message, at, begins ∙ take_all (length text) message.text short)
 
-pub top_of_all : (mail : Mail) (i count : ℕ) (text : List ℕ) → IsTextAt mail i text → GaveTop mail i count text
-top_of_all mail i count text (message, at, is) = (message, at, ap (λ (t : List ℕ). top_lines count (lines_of_text t)) is)
-
--- what was given holds the top
-pub top_of_beginning : (mail : Mail) (i count : ℕ) (text : List ℕ) → BeginsTextAt mail i text → HoldsTop true count text → GaveTop mail i count text
-top_of_beginning mail i count text (message, at, begins) holds =
+-- a beginning whose top is that of all of it, whatever follows
+pub top_of_beginning : (mail : Mail) (i count : ℕ) (text top : List ℕ) → BeginsTextAt mail i text → ((rest : List ℕ) → top_octets true false count (text ++ rest) ≡ top) → GaveTop mail i count text
+top_of_beginning mail i count text top (message, at, begins) same =
     let rest = drop (length text) message.text in
     let whole : text ++ rest ≡ message.text = ap (λ (l : List ℕ). l ++ rest) begins ∙ take-append-drop (length text) message.text in
-    (message, at, sym (holds rest) ∙ ap (λ (t : List ℕ). top_lines count (lines_of_text t)) whole)
+    let beginning : top_octets true false count text ≡ top = ap (top_octets true false count) (sym (append-nil text)) ∙ same [] in
+    let all : top_octets true false count message.text ≡ top = ap (top_octets true false count) (sym whole) ∙ same rest in (
+      message,
+      at,
+      sym (lines_of_whole_top count text) ∙ ap lines_of_text (beginning ∙ sym all) ∙ lines_of_whole_top count message.text,
+    )
+
+pub top_of_all : (mail : Mail) (i count : ℕ) (text : List ℕ) → IsTextAt mail i text → GaveTop mail i count text
+top_of_all mail i count text (message, at, is) = (message, at, ap (λ (t : List ℕ). top_lines count (lines_of_text t)) is)
 
 -- ---- the same of a maildrop, under its premise, since the first part was asked for
 

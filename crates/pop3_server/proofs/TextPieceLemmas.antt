@@ -1,14 +1,12 @@
 -- Pieces of a text, cut at their first LF.
-use Rattle.std.proofs.Common.{◌≡◌, ◌≢◌, ◌==◌, ℕ, suc, Bool, true, false, not, List, [], ◌∷◌, ◌++◌, length, refl, sym, ap, ◌∙◌, append_assoc, arith, inl, inr, if◌then◌else◌}
+use Rattle.std.proofs.Common.{◌≡◌, ◌≢◌, ◌==◌, ℕ, Bool, true, false, not, List, [], ◌∷◌, ◌++◌, length, refl, sym, ap, ◌∙◌, append_assoc, arith, inl, inr, if◌then◌else◌}
 use Rattle.std.specs.List.{flat_map, onto_first}
 use Rattle.std.proofs.lemmas.Bool.Decides.{eqb_tells}
 use Rattle.mail_terms.specs.Text.{lines_of_text, HasNoLf}
 use Rattle.pop3_wire.specs.Line.{crlf, ended}
 use Rattle.pop3_wire.specs.Body.{dot}
 use Rattle.pop3_wire.specs.Stuffed.{sent_line, stuffed_lines}
-use Rattle.pop3_server.specs.ServerMachine.{top_from}
-use Rattle.pop3_server.specs.TextPiece.{HoldsTop, is_open_after, sent_end, sent_piece, stuffing}
-use Rattle.pop3_server.proofs.ReplyLemmas.{top_from-none}
+use Rattle.pop3_server.specs.TextPiece.{is_open_after, sent_end, sent_piece, stuffing}
 
 -- two pieces, one behind the other
 pub open_append : (in_line : Bool) (one two : List ℕ) → is_open_after in_line (one ++ two) ≡ is_open_after (is_open_after in_line one) two
@@ -137,35 +135,6 @@ pub sent_whole : (text : List ℕ) → sent_piece false text ++ sent_end (is_ope
 sent_whole text =
     sym (append_assoc (sent_piece false text) (if is_open_after false text then crlf else []) (ended dot))
     ∙ ap (λ (l : List ℕ). l ++ ended dot) (closed false text)
-
--- ---- the top of a text by its beginning
-
-pub first_line : (line after : List ℕ) → HasNoLf line → lines_of_text (line ++ 10 ∷ after) ≡ line ∷ lines_of_text after
-first_line [] after none = refl
-first_line (byte ∷ line) after none = elim (eqb_tells byte 10) [
-  | inl p ↦ absurd (none.0 p.1)
-  | inr p ↦ rw (p.0, first_line line after none.1) refl
-]
-
--- with one line in front
-pub holds_more : (n : ℕ) (text line after : List ℕ) → HasNoLf line → text ≡ line ++ 10 ∷ after → HoldsTop (not (length line == 0)) n after → HoldsTop true n text
-holds_more n text line after none is holds more =
-    ap (λ (t : List ℕ). top_from true n (lines_of_text (t ++ more))) is
-    ∙ ap (λ (t : List ℕ). top_from true n (lines_of_text t)) (append_assoc line (10 ∷ after) more)
-    ∙ ap (top_from true n) (first_line line (after ++ more) none)
-    ∙ ap (λ (l : List (List ℕ)). line ∷ l) (holds more)
-    ∙ sym (ap (λ (t : List ℕ). top_from true n (lines_of_text t)) is ∙ ap (top_from true n) (first_line line after none))
-
-pub counts_more : (n : ℕ) (text line after : List ℕ) → HasNoLf line → text ≡ line ++ 10 ∷ after → HoldsTop false n after → HoldsTop false (suc n) text
-counts_more n text line after none is holds more =
-    ap (λ (t : List ℕ). top_from false (suc n) (lines_of_text (t ++ more))) is
-    ∙ ap (λ (t : List ℕ). top_from false (suc n) (lines_of_text t)) (append_assoc line (10 ∷ after) more)
-    ∙ ap (top_from false (suc n)) (first_line line (after ++ more) none)
-    ∙ ap (λ (l : List (List ℕ)). line ∷ l) (holds more)
-    ∙ sym (ap (λ (t : List ℕ). top_from false (suc n) (lines_of_text t)) is ∙ ap (top_from false (suc n)) (first_line line after none))
-
-pub counts_none : (text : List ℕ) → HoldsTop false 0 text
-counts_none text more = top_from-none (lines_of_text (text ++ more)) ∙ sym (top_from-none (lines_of_text text))
 
 -- ---- what was put behind what stood
 

@@ -1,9 +1,8 @@
 -- Pieces of a text.
-use Rattle.std.specs.Prelude.{◌≡◌, ◌==◌, ℕ, Bool, not, List, [], ◌∷◌, ◌++◌, if◌then◌else◌}
-use Rattle.mail_terms.specs.Text.{lines_of_text}
+use Rattle.std.specs.Prelude.{◌==◌, ℕ, zero, suc, Bool, true, false, not, List, [], ◌∷◌, ◌++◌, if◌then◌else◌}
 use Rattle.pop3_wire.specs.Line.{crlf, ended}
 use Rattle.pop3_wire.specs.Body.{dot}
-use Rattle.pop3_server.specs.ServerMachine.{top_from}
+use Rattle.pop3_server.specs.declared.text_top.Top.{Top}
 
 -- a line is open behind a piece, by whether one was before it
 abbrev pub is_open_after : Bool → List ℕ → Bool
@@ -25,7 +24,20 @@ sent_piece in_line (byte ∷ rest) =
 abbrev pub sent_end : Bool → List ℕ
 sent_end in_line = (if in_line then crlf else []) ++ ended dot
 
--- whatever follows this beginning of a text, its top is that of the beginning
-abbrev pub HoldsTop : Bool → ℕ → List ℕ → Type 0
-HoldsTop in_head n beginning = (more : List ℕ)
-    → top_from in_head n (lines_of_text (beginning ++ more)) ≡ top_from in_head n (lines_of_text beginning)
+-- the octets that a text's top takes of what follows, by whether its first empty line is still to come, whether a line is
+-- open, and how many lines are to come behind that one (RFC 1939, section 7)
+abbrev pub top_octets : Bool → Bool → ℕ → List ℕ → List ℕ
+top_octets in_head in_line n [] = []
+top_octets true in_line n (byte ∷ rest) =
+    byte ∷ (if byte == 10 then top_octets in_line false n rest else top_octets true true n rest)
+top_octets false in_line zero (byte ∷ rest) = []
+top_octets false in_line (suc n) (byte ∷ rest) =
+    byte ∷ (if byte == 10 then top_octets false false n rest else top_octets false true (suc n) rest)
+
+-- a top of which nothing has come
+abbrev pub top_begun : ℕ → Top
+top_begun n = record { in_head = true; in_line = false; left = n }
+
+-- what a top takes of the octets that follow
+abbrev pub taken : Top → List ℕ → List ℕ
+taken top rest = top_octets top.in_head top.in_line top.left rest

@@ -10,12 +10,10 @@ ghost use Rattle.pop3_server.specs.ServerMachine.{Say, Open, Leave, Answers, Sam
 
 use crate::fault::ServerFault;
 use crate::maildrop::{DropFault, Maildrop};
-use crate::reply::{
-    begin_text, say, say_count, say_left, say_size, say_sizes, say_top, say_uid, say_uids,
-};
+use crate::reply::{begin_text, say, say_count, say_left, say_size, say_sizes, say_uid, say_uids};
 use crate::rows::{MessageRow, Rows};
 use crate::state::State;
-use crate::text_part::{put_text, read_top};
+use crate::text_part::{put_text, put_top};
 use pop3_wire::{Bytes, Command};
 use std::alloc::Global;
 
@@ -80,8 +78,9 @@ fn top<D: Maildrop>(
         return say(alloc, b"-ERR no such message");
     };
     let unavailable = say(alloc, b"-ERR message unavailable")?;
-    match read_top(alloc, drop, i, count) {
-        Ok(beginning) => say_top(alloc, count, beginning.as_slice()),
+    let mut reply = say(alloc, b"+OK")?;
+    match put_top(drop, i, count, &mut reply) {
+        Ok(()) => Ok(reply),
         Err(DropFault::NoMemory) => Err(ServerFault::NoMemory),
         Err(DropFault::Refused) => Ok(unavailable),
     }

@@ -23,6 +23,7 @@ mod state;
 mod stuffer;
 mod text_line;
 mod text_part;
+mod text_top;
 
 pub use fault::ServerFault;
 pub use honesty::{conversations_are_honest, loops_are_honest};

@@ -1,16 +1,11 @@
 //! What a server says: each reply whole, with its CR LF (RFC 1939, sections 5 to 7).
-ghost use Rattle.std.specs.Prelude.{◌≡◌, ◌≤◌, ◌<◌, ◌++◌, ℕ, length, IfOk, IfErr, codes, true, false, None, Some, vec_len};
+ghost use Rattle.std.specs.Prelude.{◌≡◌, ◌≤◌, ◌<◌, ◌++◌, length, IfOk, IfErr, codes, vec_len};
 ghost use Rattle.std.specs.Fmt.{decimal};
-ghost use Rattle.std.specs.List.{flat_map};
-ghost use Rattle.mail_terms.specs.Text.{lines_of_text};
-ghost use Rattle.pop3_wire.specs.Stuffed.{sent_line};
-ghost use Rattle.pop3_server.specs.ServerMachine.{said, scan_line, uid_line, listed, lines_from, left_count, left_total, octets_line, text_body, top_from};
+ghost use Rattle.pop3_server.specs.ServerMachine.{said, scan_line, uid_line, listed, lines_from, left_count, left_total, octets_line};
 
 use crate::fault::ServerFault;
 use crate::maildrop::MAX_COUNT;
 use crate::rows::{MessageRow, left};
-use mail_terms::cut_text;
-use pop3_wire::put_line;
 use std::alloc::Global;
 
 /// One line.
@@ -138,60 +133,5 @@ pub fn begin_text(alloc: Global, row: &MessageRow) -> Result<Vec<u8>, ServerFaul
     let mut reply = format!(in alloc; "+OK {size} octets\r\n")?.into_bytes();
     // The size counts all that is sent but dots that are stuffed in and the end mark.
     reply.reserve(size as usize + b".\r\n".len())?;
-    Ok(reply)
-}
-
-/// Puts the lines of a text up to and including its first empty one behind what stands there, and
-/// gives what follows them.
-fn put_head<'a>(reply: &mut Vec<u8>, text: &'a [u8]) -> Result<&'a [u8], ServerFault>
-    ensures ok { IfOk result (λ rest. (n : ℕ)
-        → reply.new.items ++ flat_map sent_line (top_from false n (lines_of_text rest.now))
-        ≡ reply.old.items ++ flat_map sent_line (top_from true n (lines_of_text text.now))) }
-    ensures err { IfErr result (λ e. e ≡ ServerFault.NoMemory) }
-{
-    let mut rest = text;
-    while !rest.is_empty() {
-        let (line, after) = cut_text(rest);
-        if put_line(reply, line).is_err() {
-            return Err(ServerFault::NoMemory);
-        }
-        rest = after;
-        if line.is_empty() {
-            return Ok(rest);
-        }
-    }
-    Ok(rest)
-}
-
-/// Puts so many lines of a text behind what stands there, or all that there are.
-fn put_lines(reply: &mut Vec<u8>, count: u32, text: &[u8]) -> Result<(), ServerFault>
-    ensures ok { IfOk result (λ _. reply.new.items ≡ reply.old.items ++ flat_map sent_line (top_from false count (lines_of_text text.now))) }
-    ensures err { IfErr result (λ e. e ≡ ServerFault.NoMemory) }
-{
-    let mut rest = text;
-    let mut left = count;
-    while left > 0 {
-        if rest.is_empty() {
-            return Ok(());
-        }
-        let (line, after) = cut_text(rest);
-        if put_line(reply, line).is_err() {
-            return Err(ServerFault::NoMemory);
-        }
-        rest = after;
-        left -= 1;
-    }
-    Ok(())
-}
-
-/// The head of a text and so many lines of what follows, in answer to TOP.
-pub fn say_top(alloc: Global, count: u32, text: &[u8]) -> Result<Vec<u8>, ServerFault>
-    ensures ok { IfOk result (λ reply. reply.items ≡ said (codes "+OK") ++ text_body (Some count) text.now) }
-    ensures err { IfErr result (λ e. e ≡ ServerFault.NoMemory) }
-{
-    let mut reply = Vec::from_slice(alloc, b"+OK\r\n")?;
-    let rest = put_head(&mut reply, text)?;
-    put_lines(&mut reply, count, rest)?;
-    reply.extend_from_slice(b".\r\n")?;
     Ok(reply)
 }

@@ -3,3 +3,4 @@
 mod lock_step;
 pub mod memory_drop;
 mod serving;
+mod text_calls;

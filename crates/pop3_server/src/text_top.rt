@@ -1,0 +1,79 @@
+//! The top of a text that comes piece by piece (RFC 1939, section 7).
+ghost use Rattle.std.specs.Prelude.{◌≡◌, ◌==◌, ◌<◌, ◌↔◌, ◌||◌, length, not, ◌++◌, ◌∷◌, ℕ, List, IsTrue, true, false};
+ghost use Rattle.mail_terms.specs.Text.{HasNoLf};
+ghost use Rattle.pop3_server.specs.TextPiece.{taken, top_begun};
+
+use crate::text_line::cut_line;
+
+/// How far the top of a text has come: its lines up to and including the first empty one, and so many
+/// lines more.
+#[derive(Clone, Copy)]
+pub struct Top {
+    // Whether the first empty line is still to come.
+    in_head: bool,
+    // Whether a line has begun.
+    in_line: bool,
+    // How many lines are still to come behind the first empty one.
+    left: u32,
+}
+
+impl Top {
+    /// Nothing has come yet.
+    pub fn new(count: u32) -> Top
+        ensures { result ≡ top_begun count }
+    {
+        Top {
+            in_head: true,
+            in_line: false,
+            left: count,
+        }
+    }
+
+    /// Whether all of it has come.
+    pub fn is_done(&self) -> bool
+        ensures { IsTrue result ↔ (self.now.in_head ≡ false) × (self.now.left ≡ 0) }
+    {
+        !self.in_head && self.left == 0
+    }
+
+    /// Whether a line is open behind some octets of it.
+    fn is_open_behind(&self, octets: &[u8]) -> bool
+        ensures { result ≡ (self.now.in_line || not (length octets.now == 0)) }
+    {
+        self.in_line || !octets.is_empty()
+    }
+
+    /// Ends a line of it, behind some octets of that line.
+    fn end_line(&mut self, octets: &[u8])
+        requires { self.old.in_head ≡ false → 0 < self.old.left }
+        ensures { HasNoLf octets.now → (rest : List ℕ)
+            → taken self.old (octets.now ++ 10 ∷ rest) ≡ octets.now ++ 10 ∷ taken self.new rest }
+    {
+        if self.in_head {
+            self.in_head = self.is_open_behind(octets);
+        } else {
+            self.left -= 1;
+        }
+        self.in_line = false;
+    }
+
+    /// The octets of a piece of the text that belong to its top.
+    pub fn take<'a>(&mut self, piece: &'a [u8]) -> &'a [u8]
+        ensures { (rest : List ℕ) → taken self.old (piece.now ++ rest) ≡ result.now ++ taken self.new rest }
+    {
+        let mut rest = piece;
+        while !self.is_done() {
+            match cut_line(rest) {
+                Some((line, after)) => {
+                    self.end_line(line);
+                    rest = after;
+                }
+                None => {
+                    self.in_line = self.is_open_behind(rest);
+                    return piece;
+                }
+            }
+        }
+        &piece[..piece.len() - rest.len()]
+    }
+}
