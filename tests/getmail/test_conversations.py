@@ -21,7 +21,11 @@ class Conversations(unittest.TestCase):
 
 
 def add_tests():
-    """Gives each table a test of its own, named after it."""
+    """Gives each table a test of its own, named after it; a table that TABLES doesn't name is an error."""
+    unlisted = [name for name, table in vars(conversations).items()
+                if name.endswith("_conversations") and table not in conversations.TABLES]
+    if unlisted:
+        raise LookupError(f"TABLES in tests/getmail/conversations.py doesn't name {', '.join(unlisted)}")
     for table in conversations.TABLES:
         def test(self, table=table):
             self.check_table(table)

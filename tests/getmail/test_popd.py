@@ -20,6 +20,7 @@ TEXTS = {
 }
 
 
+@programs.needs("popd")
 class Together(unittest.TestCase):
     def setUp(self):
         self.served = Maildir()

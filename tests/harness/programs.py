@@ -5,6 +5,7 @@ A program is looked for where `rt` leaves it, `crates/NAME/out/NAME`, unless `pl
 
 import os
 import subprocess
+import unittest
 from dataclasses import dataclass
 from pathlib import Path
 
@@ -36,6 +37,12 @@ def place(name, path):
 def path_of(name):
     """The file of the built program `name`."""
     return _placed.get(name, ROOT / "crates" / name / "out" / name)
+
+
+def needs(*names):
+    """Skips a test, by name, if one of these programs isn't built; its own tests in the gate tell of that."""
+    missing = [name for name in names if not path_of(name).is_file()]
+    return unittest.skipIf(missing, f"{', '.join(missing)} is not built")
 
 
 def environment(**changes):
