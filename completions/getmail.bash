@@ -1,8 +1,18 @@
 # Completion of getmail for bash.
 _getmail() {
-    local word=${COMP_WORDS[COMP_CWORD]} before=${COMP_WORDS[COMP_CWORD - 1]}
+    local word=${COMP_WORDS[COMP_CWORD]} before=${COMP_WORDS[COMP_CWORD - 1]} dir=$HOME/.getmail index
     case $before in
-        -r | --rcfile) mapfile -t COMPREPLY < <(compgen -f -- "$word"); return ;;
+        -r | --rcfile)
+            # A name is looked for in DIR unless it begins with / or ~/.
+            if [[ $word == [/~]* ]]; then
+                mapfile -t COMPREPLY < <(compgen -f -- "$word")
+                return
+            fi
+            for ((index = 1; index < COMP_CWORD - 1; index++)); do
+                case ${COMP_WORDS[index]} in -g | --getmaildir) dir=${COMP_WORDS[index + 1]/#\~\//$HOME/} ;; esac
+            done
+            mapfile -t COMPREPLY < <(cd -- "$dir" 2> /dev/null && compgen -f -X 'seen-*' -- "$word")
+            return ;;
         -g | --getmaildir) mapfile -t COMPREPLY < <(compgen -d -- "$word"); return ;;
     esac
     mapfile -t COMPREPLY < <(compgen -W '-a --all -d --delete -g --getmaildir -h --help

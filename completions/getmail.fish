@@ -1,11 +1,26 @@
 # Completion of getmail for fish.
+
+# The rc files in DIR, for a word that doesn't begin with / or ~.
+function __getmail_rcfiles
+    set -l dir ~/.getmail
+    set -l words (commandline -opc)
+    for index in (seq (count $words))
+        if contains -- $words[$index] -g --getmaildir; and set -q words[(math $index + 1)]
+            set dir (string replace -r '^~/' "$HOME/" -- $words[(math $index + 1)])
+        end
+    end
+    for file in $dir/*
+        string match -q -- '*/seen-*' $file; or string replace -- "$dir/" '' $file
+    end
+end
+
 complete -c getmail -s a -l all -d 'Fetch all messages'
-complete -c getmail -s d -l delete -d 'Delete from the server what is held'
+complete -c getmail -s d -l delete -d 'Delete from the server what was delivered'
 complete -c getmail -s g -l getmaildir -r -a '(__fish_complete_directories)' -d 'Folder of the rc file and the record'
 complete -c getmail -s h -l help -d 'Show the options'
 complete -c getmail -s l -l dont-delete -d 'Delete nothing now'
 complete -c getmail -s n -l new -d 'Fetch only what was not delivered before'
 complete -c getmail -s q -l quiet -d 'Write no report'
-complete -c getmail -s r -l rcfile -r -F -d 'Settings'
+complete -c getmail -s r -l rcfile -r -F -a '(__getmail_rcfiles)' -d 'Settings'
 complete -c getmail -l rehearse -d 'Hold a session with standard input'
 complete -c getmail -s v -l verbose -d 'Report more'
