@@ -72,12 +72,11 @@ server = mail.example.org
 # port = 110
 username = fred
 password = secret
-# The password would go over the wire in plain where use_apop were true and ignored;
-# so a true use_apop is refused.
+# APOP isn't supported, and the password would be sent in plain: so yes is refused.
 use_apop = no
 
 [destination]
-# A Maildir ends in '/' and has the folders tmp, new and cur; it isn't made.
+# A Maildir's path ends in '/'. It has to be there, with its folders tmp, new and cur.
 type = Maildir
 path = ~/Maildir/
 # Or a file in the form mboxrd, which has to be there, and may be empty:
@@ -85,15 +84,17 @@ path = ~/Maildir/
 # path = ~/mail/inbox
 
 [options]
-; Fetch messages anew that were fetched before: 1, yes, true, on; 0, no, false, off.
+; With true all mail crosses the network in each run, and max_messages_per_session never gets past
+; the first so many. With false only new mail does. (1, yes, true, on; 0, no, false, off.)
 read_all = false
-; Delete from the server what is held, at once or after days; 0 days is never.
+; Delete from the server what was delivered: in the same run, or so many days after it was first
+; listed; 0 days is never.
 delete = off
 delete_after = 7
-; Pass over larger messages, in octets, and fetch at most so many in a session; 0 is no limit.
+; Skip larger messages, in octets, and fetch at most so many in a run; 0 is no limit.
 max_message_size = 10000000
 max_messages_per_session = 0
-; 0 tells nothing, 1 what was done, 2 also what was passed over.
+; 0 reports nothing, 1 what was done, 2 what was skipped too.
 verbose = 1
 ";
 
