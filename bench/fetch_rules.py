@@ -42,11 +42,14 @@ def main():
     print(f"fetch_rules, microseconds of the processor, least of {RUNS}; to be reached: growth at most {MOST_GROWTH}, "
           f"{MOST_SECONDS} s together")
     few, some, many = (least("session", count) for count in (FEW, SOME, MANY))
-    print(f"  {'':8}{FEW:>10}{SOME:>10}{MANY:>10}    growth from {FEW} to {SOME}")
+    measure.print_head("call", f"{FEW:,}", f"{SOME:,}", f"{MANY:,}", f"growth from {FEW:,} to {SOME:,}")
     for call in few:
         growth = some[call] / few[call]
-        print(f"  {call:8}{few[call]:10}{some[call]:10}{many[call]:10}    {growth:.1f} "
-              f"({measure.verdict(growth <= MOST_GROWTH)})")
+        owner = "Listing" if call == "join" else "Seen"
+        measure.print_row(f"`{call}`" if call == "plan" else f"`{owner}::{call}`", f"{few[call]:,}", f"{some[call]:,}",
+                          f"{many[call]:,}", f"{growth:.1f}")
+        if growth > MOST_GROWTH:
+            print(f"{call}: {measure.verdict(False)}")
     together = sum(many.values()) / 1e6
     print(f"  together at {MANY}: {together:.2f} s ({measure.verdict(together < MOST_SECONDS)})")
     rows = least("read", ROWS)["read"]

@@ -34,6 +34,7 @@ LETTER_LINE = b"A line of a common length, as a letter to somebody has them.\n"
 MOST_RATIO = 1.5
 MOST_MEMORY = 8 * measure.MEBIBYTE
 FEW, MANY = 5_000, 20_000
+MANY_MESSAGES = 1_000
 MOST_POLL = 0.030
 SHAPES = (("2,000 of 2 KB", 2000, 2_000), ("20 of 5 MB", 20, 5_000_000), ("one of 100 MB", 1, 100_000_000))
 
@@ -98,7 +99,7 @@ def fetched(maildir):
 
 
 def measure_shape(folder, plain, name, count, octets):
-    """Fetches so many messages of a size by both programs, in turns."""
+    """Fetches so many messages of a size by both programs, in turns, and answers whether the marks were reached."""
     make_served(folder, count, octets)
     ours, theirs = [], []
     with Service(folder) as service:
@@ -110,12 +111,16 @@ def measure_shape(folder, plain, name, count, octets):
         sys.exit(f"{name}: not all was fetched")
     ratio = min(cost.processor for cost in ours) / min(cost.processor for cost in theirs)
     memory = max(cost.memory for cost in ours)
-    for program, costs in (("getmail", ours), ("plain program", theirs)):
-        seconds = min(cost.seconds for cost in costs)
-        print(f"  {name:<14} {program:<14} {count / seconds:6.0f} messages/s, {total[1] / seconds / 1e6:6.1f} MB/s, "
-              f"processor time {min(cost.processor for cost in costs) * 1000:6.0f} ms")
-    print(f"  {name:<14} processor time {ratio:.2f} of the plain program's ({measure.verdict(ratio <= MOST_RATIO)}), "
-          f"peak of memory {memory / measure.MEBIBYTE:.1f} MiB ({measure.verdict(memory <= MOST_MEMORY)})", flush=True)
+    measure.print_row(name, *(speed_of(costs, count, total[1]) for costs in (ours, theirs)),
+                      f"{min(cost.processor for cost in ours) * 1000:.0f} ms", f"{ratio:.2f}",
+                      f"{memory / measure.MEBIBYTE:.1f} MiB")
+    return ratio <= MOST_RATIO and memory <= MOST_MEMORY
+
+
+def speed_of(costs, count, octets):
+    """The speed of the fastest turn: of many messages how many a second, else how many octets."""
+    seconds = min(cost.seconds for cost in costs)
+    return f"{count / seconds:,.0f} a second" if count >= MANY_MESSAGES else f"{octets / seconds / 1e6:,.0f} MB/s"
 
 
 def uid_of(number):
@@ -160,13 +165,12 @@ def poll(folder, count, is_held):
 
 
 def measure_polls(folder, name, is_held):
-    """Polls where few and where many messages are known."""
+    """Polls with few and with many messages known; prints the row, and answers whether it reached its marks."""
     few, _ = poll(folder, FEW, is_held)
     many, memory = poll(folder, MANY, is_held)
     allowed = MANY / FEW * math.log(MANY) / math.log(FEW)
-    print(f"  poll, {MANY:,} known {name}: processor time {many * 1000:.0f} ms ({measure.verdict(many <= MOST_POLL)}), "
-          f"{many / few:.1f} times that of {FEW:,} (n log n: {allowed:.1f}), peak of memory "
-          f"{memory / measure.MEBIBYTE:.1f} MiB", flush=True)
+    measure.print_row(name, f"{many * 1000:.0f} ms", f"{many / few:.1f}", f"{memory / measure.MEBIBYTE:.1f} MiB")
+    return many <= MOST_POLL and many / few <= allowed
 
 
 def main():
@@ -176,10 +180,13 @@ def main():
         folder = Path(name).resolve()
         plain = folder / "fetch"
         subprocess.run(["cc", "-O2", "-o", plain, Path(__file__).with_name("fetch.c")], check=True)
-        for shape in SHAPES:
-            measure_shape(folder, plain, *shape)
-        measure_polls(folder, "by the record alone", False)
-        measure_polls(folder, "and held in the Maildir", True)
+        measure.print_head("messages", "`getmail`", "plain program", "processor time", "of the plain program's", "peak of memory")
+        reached = [measure_shape(folder, plain, *shape) for shape in SHAPES]
+        print(f"processor time and memory: {measure.verdict(all(reached))}")
+        measure.print_head("known", "processor time", f"growth from {FEW:,}", "peak of memory")
+        reached = [measure_polls(folder, known, is_held)
+                   for known, is_held in (("by the record alone", False), ("and held in the Maildir", True))]
+        print(f"polls: {', '.join(map(measure.verdict, reached))}")
 
 
 if __name__ == "__main__":

@@ -44,25 +44,26 @@ def least(command):
 
 
 def measure_held(folder):
-    print("held, files and items: found, wall us, processor us")
+    measure.print_head("files and items", "processor time", "growth")
     times = {}
     for count in (2000, 20000):
         path = make_maildir(folder / f"held-{count}")
         fill(path, count)
-        found, wall, processor = least(lambda: run(PROGRAM, "held", path, str(count)))
+        found, _, processor = least(lambda: run(PROGRAM, "held", path, str(count)))
         assert found == (count + 1) // 2, found
         times[count] = processor
-        print("  %6d: %6d %9d %9d" % (count, found, wall, processor))
+        growth = f"{processor / times[2000]:.1f}" if count > 2000 else ""
+        measure.print_row(f"{count:,}", f"{processor / 1000:.1f} ms", growth)
     allowed = 10 * math.log(20000) / math.log(2000)
     grown = times[20000] / times[2000]
-    print("  processor time grew %.1f times; n log n grows %.1f times" % (grown, allowed))
+    print(f"n log n grows {allowed:.1f} times")
     return grown <= 1.5 * allowed
 
 
 def measure_deliver(folder, plain):
-    print("deliver, 2,000 texts of 2 KB: wall us, processor us")
+    measure.print_head("2,000 deliveries beside", "of its time by the clock", "of its processor time")
 
-    def times(kind, *words):
+    def times(*words):
         def once():
             path = make_maildir(folder / "deliver")
             try:
@@ -70,17 +71,15 @@ def measure_deliver(folder, plain):
             finally:
                 shutil.rmtree(path)
         _, wall, processor = least(once)
-        print("  %-34s %9d %9d" % (kind, wall, processor))
         return wall, processor
 
-    ours = times("deliver", PROGRAM, "deliver", None, "2000")
+    ours = times(PROGRAM, "deliver", None, "2000")
     for kind, words in (
-        ("plain loop", (plain, None, "2000")),
-        ("plain loop that flushes `new` too", (plain, None, "2000", "new")),
+        ("a plain loop", (plain, None, "2000")),
+        ("one that flushes `new` too", (plain, None, "2000", "new")),
     ):
-        theirs = times(kind, *words)
-        print("    deliver takes %.2f of its wall time, %.2f of its processor time"
-              % (ours[0] / theirs[0], ours[1] / theirs[1]))
+        theirs = times(*words)
+        measure.print_row(kind, f"{ours[0] / theirs[0]:.2f}", f"{ours[1] / theirs[1]:.2f}")
 
 
 def main():

@@ -12,19 +12,21 @@ import sys
 import tempfile
 from pathlib import Path
 
-from measure import MEBIBYTE, cost_of, small_program
+from measure import MEBIBYTE, cost_of, print_head, print_row, small_program
 
 PROGRAM = small_program("store_bench")
 SEPARATOR = b"From MAILER-DAEMON Thu Jan  1 00:00:00 1970\n"
 SIZE = 64 * MEBIBYTE
 RUNS = 5
+# The peaks of all runs.
+memory = []
 # The lines of a text and how often they stand in it, and the same as they stand in an entry.
 LONG = b"x" * 69 + b"\n"
 LINES = {
     "lines of 70 octets": (LONG, LONG),
-    "every tenth marked": (LONG * 9 + b">>From x\n", LONG * 9 + b">>>From x\n"),
-    "all marked": (b"From x\n", b">From x\n"),
-    "all empty": (b"\n", b"\n"),
+    "every tenth line marked": (LONG * 9 + b">>From x\n", LONG * 9 + b">>>From x\n"),
+    "all lines marked": (b"From x\n", b">From x\n"),
+    "all lines empty": (b"\n", b"\n"),
 }
 
 
@@ -34,9 +36,10 @@ def least(words, given):
     return min(cost.processor for cost in costs), max(cost.memory for cost in costs)
 
 
-def tell(kind, ours, theirs):
-    print(f"  {kind:44} {ours[0] * 1000:6.0f} ms, {ours[0] / theirs[0]:5.2f} of sed's; {ours[1] / MEBIBYTE:5.0f} MiB, "
-          f"{ours[1] / SIZE:.2f} of the file, {ours[1] / theirs[1]:5.1f} of sed's")
+def cells_of(ours, theirs):
+    """The cells of a row for one of the two: the time, and of `sed`'s. The greatest memory is told at the end."""
+    memory.append(ours[1])
+    return f"{ours[0] * 1000:.0f} ms", f"{ours[0] / theirs[0]:.2f}"
 
 
 def write(path, part):
@@ -48,14 +51,14 @@ def write(path, part):
             file.write(parts)
 
 
-def measure_quoting(path, texts):
+def measure_quoting(path):
     ours = least([PROGRAM, "quote", str(path), "1"], os.devnull)
-    tell("quote, " + texts, ours, least(["sed", "-e", "s/^>*From />&/"], path))
+    return cells_of(ours, least(["sed", "-e", "s/^>*From />&/"], path))
 
 
-def measure_reading(path, texts):
+def measure_reading(path):
     ours = least([PROGRAM, "texts", str(path), "1"], os.devnull)
-    tell("read, " + texts, ours, least(["sed", "-e", "/^From /d", "-e", r"s/^>\(>*From \)/\1/"], path))
+    return cells_of(ours, least(["sed", "-e", "/^From /d", "-e", r"s/^>\(>*From \)/\1/"], path))
 
 
 def main():
@@ -63,16 +66,18 @@ def main():
     os.environ["LC_ALL"] = "C"
     with tempfile.TemporaryDirectory(prefix="mboxrd-", dir=where) as folder:
         path = Path(folder) / "text"
+        print_head("text", "quoting", "of `sed`'s time", "reading", "of `sed`'s time")
         for texts, (lines, quoted) in LINES.items():
             write(path, lines)
-            measure_quoting(path, texts)
+            quoting = measure_quoting(path)
             write(path, SEPARATOR + quoted * max(1, 2048 // len(quoted)) + b"\n")
-            measure_reading(path, texts + ", entries of 2 KB")
+            print_row(texts, *quoting, *measure_reading(path))
         with open(path, "wb") as file:
             for _ in range(SIZE // MEBIBYTE - 1):
                 file.write(b"x" * MEBIBYTE)
             file.write(b"\n")
-        measure_quoting(path, "one line")
+        print_row("one line", *measure_quoting(path), "", "")
+    print(f"memory: at most {max(memory) / SIZE:.2f} times the file")
 
 
 if __name__ == "__main__":

@@ -78,6 +78,17 @@ def cost_of(words, given=os.devnull, wait=wait_for):
     return Cost(seconds, usage.ru_utime + usage.ru_stime, memory)
 
 
+def print_row(*cells):
+    """Prints a row of a table, as it stands in bench/README.md."""
+    print("| " + " | ".join(map(str, cells)) + " |", flush=True)
+
+
+def print_head(*names):
+    """Prints the first two lines of a table."""
+    print_row(*names)
+    print("|" + "---|" * len(names), flush=True)
+
+
 def verdict(reached):
-    """The word that stands behind a figure that has a mark to reach."""
+    """The word after a figure that has a mark to reach."""
     return "reached" if reached else "NOT reached"

@@ -20,7 +20,7 @@ import threading
 from collections import Counter
 from pathlib import Path
 
-import measure  # noqa: F401 (puts the tests' folder on the path)
+import measure  # also puts the tests' folder on the path
 from getmail import server as servers
 from getmail.account import RC
 from harness.kernel import LOOPBACK
@@ -158,21 +158,37 @@ def places_of(name, delete, step):
     return [n for n, octet in enumerate(server.given, 1) if n % step == 0 or octet == ord(".")]
 
 
+def counts_of(name, delete, step, killed):
+    """How many rounds there were, and in how many each thing went wrong."""
+    places = places_of(name, delete, step)
+    counts = Counter()
+    for octets in places:
+        counts.update(what for what, so in round_of(name, delete, octets, killed).items() if so)
+    return len(places), counts
+
+
 def main():
     step = int(sys.argv[1]) if len(sys.argv) > 1 else 7
     programs = sys.argv[2:] or ["getmail", "getmail6", "mpop", "fetchmail"]
+    measure.print_head("program", "connection cut: missing", "more than once", "in part", "killed: more than once")
     for name in programs:
         if not shutil.which(Fetcher(name, 1, False).words[0]):
             print(f"{name}: not installed")
             continue
-        for delete, killed in ((False, False), (True, False), (False, True), (True, True)):
-            kind = f"{name}, {'deleting' if delete else 'keeping'}, {'killed' if killed else 'cut'}"
-            places = places_of(name, delete, step)
-            counts = Counter()
-            for octets in places:
-                counts.update(what for what, so in round_of(name, delete, octets, killed).items() if so)
-            told = ", ".join(f"{what} {counts[what]}" for what in counts) or "each message once, every time"
-            print(f"{kind}, {len(places)} rounds: {told}" if places else f"{kind}: it fetched nothing here", flush=True)
+        for delete in (False, True):
+            rounds, cut = counts_of(name, delete, step, killed=False)
+            kills, killed = counts_of(name, delete, step, killed=True)
+            if not rounds or not kills:
+                print(f"{name}: it fetched nothing here")
+                continue
+            measure.print_row(f"{name}, {'deleting' if delete else 'keeping'}", f"{cut['missing for good']} of {rounds}",
+                              cut["more than once"], cut["in part"], f"{killed['more than once']} of {kills}")
+            for what in ("missing for good", "in part"):
+                if killed[what]:
+                    print(f"{name}, killed: {what} {killed[what]} of {kills}", flush=True)
+            for what in ("gone from the server before it was held", "didn't end by itself"):
+                if cut[what]:
+                    print(f"{name}, cut: {what} {cut[what]} of {rounds}", flush=True)
 
 
 if __name__ == "__main__":

@@ -29,15 +29,15 @@ def best_of(words, given):
 
 
 def measure_text(name, piece, folder):
-    """Measures one text and prints its line."""
+    """Measures one text, prints its row, and answers whether it reached its marks."""
     conversation = Path(folder) / "conversation"
     length = rehearsal.write_conversation(conversation, piece)
     ours, theirs = best_of([PROGRAM], conversation), best_of(["tr", "-d", "\\r"], conversation)
     ratio = theirs.seconds / ours.seconds
-    print(f"  {name:<17} {length / ours.seconds / 1e6:6.0f} MB/s, tr {length / theirs.seconds / 1e6:6.0f} MB/s, "
-          f"ratio {ratio:.2f} ({measure.verdict(ratio >= LEAST_RATIO)}), of processor time "
-          f"{theirs.processor / ours.processor:.2f}; memory {ours.memory / measure.MEBIBYTE:.0f} MiB "
-          f"({measure.verdict(ours.memory <= MOST_MEMORY)})", flush=True)
+    measure.print_row(name, f"{length / ours.seconds / 1e6:,.0f} MB/s", f"{length / theirs.seconds / 1e6:,.0f} MB/s",
+                      f"{ratio:.2f}", f"{theirs.processor / ours.processor:.2f}",
+                      f"{ours.memory / measure.MEBIBYTE:.0f} MiB")
+    return ratio >= LEAST_RATIO and ours.memory <= MOST_MEMORY
 
 
 def measure_listing(rows, folder):
@@ -61,8 +61,9 @@ def main():
     print(f"pop3_client, one text of {rehearsal.MESSAGE // measure.MEBIBYTE} MiB, best of {TURNS}; to be reached: ratio "
           f"{LEAST_RATIO}, memory at most {MOST_MEMORY // measure.MEBIBYTE} MiB")
     with tempfile.TemporaryDirectory() as folder:
-        for name, piece in rehearsal.SHAPES:
-            measure_text(name, piece, folder)
+        measure.print_head("text", "client", "`tr`", "ratio", "ratio of processor times", "memory")
+        reached = [measure_text(name, piece, folder) for name, piece in rehearsal.SHAPES]
+        print(f"ratio and memory: {measure.verdict(all(reached))}")
         print("both listings, and as many empty texts")
         growth = measure_listing(MANY, folder) / measure_listing(FEW, folder) * FEW / MANY
     print(f"  a row of {MANY} costs {growth:.2f} of one of {FEW} ({measure.verdict(growth <= MOST_A_ROW)})")

@@ -232,11 +232,11 @@ class Popd:
 
 
 def print_visits(name, server, first, later, processor, count):
-    """Prints the times of a server's first visit and the best of the later ones."""
+    """Prints the row of a server: its first visit and the best of the later ones; the last three in microseconds a message."""
     best = [min(getattr(one, what) for one in later) for what in ("login", "listings", "tops", "texts")]
-    print(f"  {name}, {server}: PASS and STAT {first.login * 1e3:.1f} ms, later {best[0] * 1e3:.1f} ms; LIST and UIDL "
-          f"{best[1] * 1e3:.1f} ms; TOP 10 {best[2] / count * 1e6:.0f} us; RETR {best[3] / count * 1e6:.0f} us; processor "
-          f"{processor / count / (1 + len(later)) * 1e6:.0f} us a message and visit", flush=True)
+    measure.print_row(name, server, f"{first.login * 1e3:.1f} ms", f"{best[0] * 1e3:.1f} ms", f"{best[1] * 1e3:.1f} ms",
+                      f"{best[2] / count * 1e6:,.0f}", f"{best[3] / count * 1e6:,.0f}",
+                      f"{processor / count / (1 + len(later)) * 1e6:,.0f}")
     return best
 
 
@@ -247,13 +247,15 @@ def measure_beside_dovecot(folder, name, count, octets):
     time.sleep(SETTLED_SECONDS)
     with Popd(maildir) as ours:
         our_visits = [visit(ours.port, count) for _ in range(VISITS)]
-    best = print_visits(name, "popd", our_visits[0], our_visits[1:], ours.processor, count)
-    print(f"  {name}, popd: peak of memory {ours.memory / 1e6:.1f} MB", flush=True)
+    measure.print_head("messages", "server", "PASS and STAT, first", "later", "LIST and UIDL", "TOP 10", "RETR", "processor time")
+    best = print_visits(name, "`popd`", our_visits[0], our_visits[1:], ours.processor, count)
     if not dovecot.is_there():
+        print(f"  {name}, popd: peak of memory {ours.memory / 1e6:.1f} MB", flush=True)
         return
     with dovecot.Dovecot(folder, maildir) as theirs:
         visits = [visit(theirs.port, count) for _ in range(VISITS)]
-    other = print_visits(name, "dovecot", visits[0], visits[1:], theirs.processor, count)
+    other = print_visits("", "dovecot", visits[0], visits[1:], theirs.processor, count)
+    print(f"  {name}, popd: peak of memory {ours.memory / 1e6:.1f} MB", flush=True)
     ratios = [mine / yours for mine, yours in zip(best, other)]
     print(f"  {name}: of dovecot's time: PASS and STAT from the second login on {ratios[0]:.2f} "
           f"({measure.verdict(ratios[0] < 1)}), LIST and UIDL {ratios[1]:.2f}, TOP {ratios[2]:.2f} "
@@ -311,7 +313,7 @@ def main():
     with tempfile.TemporaryDirectory() as folder:
         measure_small(folder)
         measure_large(folder)
-    print(f"beside dovecot, best of {VISITS - 1} visits behind the first; to be reached: its time at PASS and STAT, twice "
+    print(f"beside dovecot, best of {VISITS - 1} visits after the first; to be reached: its time at PASS and STAT, twice "
           "its time at TOP, memory of the largest message and a quarter")
     if not dovecot.is_there():
         print("  dovecot is not installed, or this is not root: popd alone")

@@ -55,7 +55,7 @@ def write_messages(path, messages, length):
 
 
 def measure_shape(name, conversation, length):
-    """Measures the session of one conversation, and prints its line."""
+    """Measures the session of one conversation, prints its row, and answers whether it reached its marks."""
     ours, theirs = [], []
     for _ in range(TURNS):
         ours.append(measure.cost_of([measure.program("getmail"), "--rehearse"], conversation))
@@ -65,9 +65,9 @@ def measure_shape(name, conversation, length):
     ratio = fastest_tr / fastest
     processor_ratio = min(cost.processor for cost in theirs) / min(cost.processor for cost in ours)
     memory = max(cost.memory for cost in ours)
-    print(f"  {name:<17} {length / fastest / 1e6:6.0f} MB/s, tr {length / fastest_tr / 1e6:6.0f} MB/s, "
-          f"ratio {ratio:.2f} ({measure.verdict(ratio >= LEAST_RATIO)}), of processor time {processor_ratio:.2f}; "
-          f"memory {memory / length:.2f} of the texts ({measure.verdict(memory <= max(MOST_MEMORY * length, LEAST_MEMORY))})", flush=True)
+    measure.print_row(name, f"{length / fastest / 1e6:,.0f} MB/s", f"{length / fastest_tr / 1e6:,.0f} MB/s", f"{ratio:.2f}",
+                      f"{processor_ratio:.2f}", f"{memory / length:.2f}")
+    return ratio >= LEAST_RATIO and memory <= max(MOST_MEMORY * length, LEAST_MEMORY)
 
 
 def main():
@@ -75,10 +75,11 @@ def main():
           f"to be reached: ratio {LEAST_RATIO}, memory {MOST_MEMORY} times the texts")
     with tempfile.TemporaryDirectory() as folder:
         conversation = Path(folder) / "conversation"
-        for name, piece in SHAPES:
-            measure_shape(name, conversation, write_conversation(conversation, piece))
-        for name, messages, length in SESSIONS:
-            measure_shape(name, conversation, write_messages(conversation, messages, length))
+        measure.print_head("messages", "`getmail`", "`tr`", "ratio", "ratio of processor times", "memory, of the texts")
+        reached = [measure_shape(name, conversation, write_conversation(conversation, piece)) for name, piece in SHAPES]
+        reached += [measure_shape(name, conversation, write_messages(conversation, messages, length))
+                    for name, messages, length in SESSIONS]
+    print(f"ratio and memory: {measure.verdict(all(reached))}")
 
 
 if __name__ == "__main__":
