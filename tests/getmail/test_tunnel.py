@@ -1,0 +1,168 @@
+"""`getmail` through stunnel, set up as `examples/stunnel.conf` has it, from a dovecot that speaks TLS alone."""
+
+import os
+import pwd
+import re
+import shutil
+import subprocess
+import tempfile
+import threading
+import unittest
+from pathlib import Path
+
+from getmail.account import Account
+from harness import kernel, programs
+from harness.maildir import make_maildir
+
+NAME = "mail.example.org"
+OWNER = "nobody"
+STUNNEL = shutil.which("stunnel4") or shutil.which("stunnel")
+MISSING = [name for name, there in (
+    ("stunnel", STUNNEL), ("dovecot", shutil.which("dovecot")), ("dovecot's POP3", os.path.exists("/usr/lib/dovecot/pop3")),
+    ("openssl", shutil.which("openssl")), ("root, whom dovecot wants,", os.geteuid() == 0)) if not there]
+MESSAGES = [(b"1.one", b"Subject: one\n\n.x\n"), (b"2.two", b"two\n" * 1000)]
+DOVECOT = """
+base_dir = {folder}/run
+state_dir = {folder}/state
+log_path = {folder}/log
+protocols = pop3
+ssl = required
+ssl_cert = <{certificate}
+ssl_key = <{key}
+listen = 127.0.0.1
+mail_location = maildir:{folder}/Maildir
+first_valid_uid = 1
+first_valid_gid = 1
+pop3_uidl_format = %f
+passdb {{
+  driver = static
+  args = password=p
+}}
+userdb {{
+  driver = static
+  args = uid={uid} gid={gid} home={folder}
+}}
+service pop3-login {{
+  inet_listener pop3 {{
+    port = 0
+  }}
+  inet_listener pop3s {{
+    port = {port}
+    ssl = yes
+  }}
+}}
+"""
+
+
+class Certificates:
+    """An authority of our own, and certificates that it, or nobody else, has signed."""
+
+    def __init__(self, folder):
+        self.folder = folder
+        self.authority, self.key = self._issue("authority", "/CN=an authority of the tests", ["-addext", "basicConstraints=critical,CA:true"])
+
+    def _issue(self, name, subject, words):
+        certificate, key = self.folder / f"{name}.pem", self.folder / f"{name}.key"
+        subprocess.run(["openssl", "req", "-x509", "-newkey", "rsa:2048", "-nodes", "-days", "2", "-subj", subject, "-keyout", key,
+                        "-out", certificate, *words], check=True, capture_output=True, timeout=programs.SECONDS)
+        return certificate, key
+
+    def signed(self, host):
+        """A certificate for the host that the authority has signed."""
+        request, certificate, key = (self.folder / f"{host}.{end}" for end in ("request", "signed", "key"))
+        subprocess.run(["openssl", "req", "-new", "-newkey", "rsa:2048", "-nodes", "-subj", f"/CN={host}", "-keyout", key, "-out", request],
+                       check=True, capture_output=True, timeout=programs.SECONDS)
+        names = self.folder / f"{host}.names"
+        names.write_text(f"subjectAltName=DNS:{host}\n")
+        subprocess.run(["openssl", "x509", "-req", "-in", request, "-CA", self.authority, "-CAkey", self.key, "-CAcreateserial",
+                        "-days", "2", "-extfile", names, "-out", certificate], check=True, capture_output=True,
+                       timeout=programs.SECONDS)
+        return certificate, key
+
+    def unsigned(self, host):
+        """A certificate for the host that no authority has signed."""
+        return self._issue(f"{host}-alone", f"/CN={host}", ["-addext", f"subjectAltName=DNS:{host}"])
+
+
+@unittest.skipIf(MISSING, f"{', '.join(MISSING)} is not here")
+class Tunnel(unittest.TestCase):
+    @classmethod
+    def setUpClass(cls):
+        holder = tempfile.TemporaryDirectory()
+        cls.addClassCleanup(holder.cleanup)
+        cls.certificates = Certificates(Path(holder.name))
+
+    def setUp(self):
+        holder = tempfile.TemporaryDirectory()
+        self.addCleanup(holder.cleanup)
+        self.folder = Path(holder.name)
+        self.folder.chmod(0o755)
+
+    def start(self, words, port):
+        """Starts a server, and answers once it listens."""
+        log = open(self.folder / f"{Path(words[0]).name}.out", "wb")
+        self.addCleanup(log.close)
+        process = subprocess.Popen(words, stdin=subprocess.DEVNULL, stdout=log, stderr=log)
+        self.addCleanup(process.wait, programs.SECONDS)
+        self.addCleanup(process.terminate)
+        woken = threading.Event()
+        for _ in range(programs.SECONDS * 20):
+            if kernel.listens(port):
+                return
+            self.assertIsNone(process.poll(), Path(log.name).read_text())
+            woken.wait(0.05)
+        self.fail(f"{words[0]} doesn't listen")
+
+    def start_dovecot(self, certificate, key):
+        """Serves the messages over TLS alone, and answers the port."""
+        owner, port = pwd.getpwnam(OWNER), kernel.free_port()
+        make_maildir(self.folder / "Maildir")
+        for uid, text in MESSAGES:
+            (self.folder / "Maildir/new" / uid.decode()).write_bytes(text)
+        for path in (self.folder / "Maildir", *(self.folder / "Maildir").rglob("*")):
+            os.chown(path, owner.pw_uid, owner.pw_gid)
+        settings = self.folder / "dovecot.conf"
+        settings.write_text(DOVECOT.format(folder=self.folder, port=port, uid=owner.pw_uid, gid=owner.pw_gid,
+                                           certificate=certificate, key=key))
+        self.start(["dovecot", "-F", "-c", settings], port)
+        return port
+
+    def start_stunnel(self, served):
+        """Runs stunnel by the example, with its ports and its authority changed, and answers the port of its near end."""
+        text = (programs.ROOT / "examples/stunnel.conf").read_text()
+        port = kernel.free_port()
+        for old, new in (("accept = 127.0.0.1:11995", f"accept = 127.0.0.1:{port}"),
+                         (f"connect = {NAME}:995", f"connect = 127.0.0.1:{served}"),
+                         ("CAfile = /etc/ssl/certs/ca-certificates.crt", f"CAfile = {self.certificates.authority}")):
+            self.assertEqual(len(re.findall(f"^{re.escape(old)}$", text, re.MULTILINE)), 1, old)
+            text = text.replace(old, new)
+        settings = self.folder / "stunnel.conf"
+        settings.write_text(text)
+        self.start([STUNNEL, settings], port)
+        return port
+
+    def fetch(self, certificate, key):
+        """One run through the tunnel: the account, and what the run left."""
+        account = Account(self.start_stunnel(self.start_dovecot(certificate, key)))
+        self.addCleanup(account.holder.cleanup)
+        return account, account.run()
+
+    def test_mail_comes_through_the_tunnel(self):
+        account, run = self.fetch(*self.certificates.signed(NAME))
+        self.assertEqual((run.status, run.err), (0, b""), run.out)
+        self.assertEqual(account.held(), MESSAGES)
+        again = account.run()
+        self.assertTrue(again.out.endswith(b"0 messages (0 bytes) retrieved, 2 skipped, 0 deleted\n"), again.out)
+
+    def test_a_wrong_certificate_gives_no_mail(self):
+        wrong = {"another server's": self.certificates.signed("other.example.org"),
+                 "one that no authority signed": self.certificates.unsigned(NAME)}
+        for kind, pair in wrong.items():
+            with self.subTest(kind):
+                account, run = self.fetch(*pair)
+                self.assertEqual(run.status, 1)
+                self.assertIn(run.err, (b"getmail: connection ended by the server\n", b"getmail: reading from the server failed\n"))
+                self.assertEqual(account.held(), [])
+                self.assertFalse(account.record.exists())
+                self.doCleanups()
+                self.setUp()
