@@ -1,0 +1,114 @@
+"""The units for systemd: that they are understood, and `popd` as popd.socket starts it, a process for each connection."""
+
+import re
+import shutil
+import subprocess
+import tempfile
+import threading
+import unittest
+from pathlib import Path
+
+from harness import kernel, programs
+from popd.service import Client, Maildir
+
+EXAMPLES = programs.ROOT / "examples"
+UNITS = ("getmail.service", "getmail.timer", "popd.service", "popd.socket", "popd@.service")
+
+
+def keys_of(unit):
+    """The unit's keys with their values; each stands once."""
+    return dict(re.findall(r"^(\w+)=(.*)$", (EXAMPLES / unit).read_text(), re.MULTILINE))
+
+
+class Units(unittest.TestCase):
+    def test_systemd_understands_them(self):
+        if not shutil.which("systemd-analyze"):
+            self.skipTest("systemd-analyze is not installed")
+        with tempfile.TemporaryDirectory() as holder:
+            for name in UNITS:
+                text = (EXAMPLES / name).read_text().replace("/usr/local/bin/", f"{holder}/")
+                (Path(holder) / name).write_text(text)
+            for name in ("getmail", "popd"):
+                (Path(holder) / name).write_text("#!/bin/sh\n")
+                (Path(holder) / name).chmod(0o755)
+            for name in UNITS:
+                file = Path(holder) / name.replace("@", "@1")
+                if "@" in name:
+                    shutil.copy(Path(holder) / name, file)
+                done = subprocess.run(["systemd-analyze", "verify", "--man=no", file], capture_output=True, text=True,
+                                      timeout=programs.SECONDS)
+                told = [line for line in done.stderr.splitlines() if holder in line or name in line]
+                self.assertEqual(told, [], name)
+
+    def test_a_connection_starts_one_popd_whose_errors_the_client_never_sees(self):
+        self.assertEqual(keys_of("popd.socket")["Accept"], "yes")
+        self.assertEqual(keys_of("popd.socket")["MaxConnections"], "1")
+        unit = keys_of("popd@.service")
+        self.assertEqual((unit["StandardInput"], unit["StandardOutput"], unit["StandardError"]), ("socket", "socket", "journal"))
+
+
+class Started(unittest.TestCase):
+    """`popd` with a connection as its standard input and output, by each program that can do that."""
+
+    def setUp(self):
+        self.maildir = Maildir()
+        self.addCleanup(self.maildir.holder.cleanup)
+        self.maildir.add("new", b"a", b"one\n")
+        self.maildir.add("new", b"b", b"two\n")
+        # So popd has something to warn of, each time that it starts.
+        self.maildir.passfile.chmod(0o644)
+
+    def words(self):
+        """The words of ExecStart, with this test's program, user and files."""
+        program, *words = keys_of("popd@.service")["ExecStart"].split()
+        self.assertEqual(program, "/usr/local/bin/popd")
+        places = {"%u": "u", "%h/.popd-password": str(self.maildir.passfile), "%h/Maildir": str(self.maildir.folder)}
+        return [str(programs.path_of("popd")), *(places.get(word, word) for word in words)]
+
+    def start(self, words, port):
+        """Starts what listens for popd, and answers the process; its standard error goes to a file."""
+        log = tempfile.TemporaryFile()
+        self.addCleanup(log.close)
+        process = subprocess.Popen(words, stdin=subprocess.DEVNULL, stdout=log, stderr=log)
+        self.addCleanup(process.wait, programs.SECONDS)
+        self.addCleanup(process.terminate)
+        woken = threading.Event()
+        for _ in range(programs.SECONDS * 20):
+            if kernel.listens(port):
+                return log
+            woken.wait(0.05)
+        self.fail(f"{words[0]} doesn't listen")
+
+    def converse(self, port):
+        """A whole session that removes a message, and the next one; everything that the clients were sent."""
+        got = []
+        for commands in ((b"USER u", b"PASS p", b"DELE 1", b"QUIT"), (b"USER u", b"PASS p", b"STAT", b"QUIT")):
+            with Client(port) as client:
+                got.append(client.line())
+                got += [client.ask(command) for command in commands]
+                got.append(client.line())
+        return got
+
+    def check(self, words, port):
+        log = self.start(words, port)
+        first = [b"+OK popd ready\r\n", b"+OK send PASS\r\n", b"+OK 2 messages\r\n", b"+OK marked\r\n", b"+OK bye\r\n", b""]
+        second = [b"+OK popd ready\r\n", b"+OK send PASS\r\n", b"+OK 1 messages\r\n", b"+OK 1 5\r\n", b"+OK bye\r\n", b""]
+        self.assertEqual(self.converse(port), first + second)
+        self.assertEqual(self.maildir.names(), [("new", b"b")])
+        log.seek(0)
+        told = log.read()
+        self.assertEqual(told.count(b"popd: warning: "), 2, told)
+        self.assertIn(b"1 messages removed", told)
+
+    def test_by_systemd(self):
+        if not shutil.which("systemd-socket-activate"):
+            self.skipTest("systemd-socket-activate is not installed")
+        port = kernel.free_port()
+        self.check(["systemd-socket-activate", "--accept", "--inetd", "-l", f"127.0.0.1:{port}", *self.words()], port)
+
+    def test_by_socat(self):
+        if not shutil.which("socat"):
+            self.skipTest("socat is not installed")
+        port = kernel.free_port()
+        command = " ".join(self.words())
+        self.check(["socat", f"TCP-LISTEN:{port},bind=127.0.0.1,reuseaddr,fork,max-children=1", f"EXEC:{command}"], port)
