@@ -1,26 +1,34 @@
 # getmail and popd: to build them, to try them out, to check them.
 #
-#   make            proves and builds the programs, and leaves them in bin/
-#   make rehearse   runs getmail on the recorded conversation in examples/ before any proof, within a
-#                   minute; then proves and builds it as above, and runs it again
+#   make            proves and builds the programs into bin/: about twenty minutes on four cores the first time, seconds
+#                   if nothing has changed
+#   make demo       builds them if need be, serves a message with popd and fetches it with getmail, and shows each step
 #   make check      the gate: every proof, then every test; its last line is 'N passed, 0 failed'
+#   make rehearse   runs getmail on the recorded conversation in examples/ before any proof, within a minute; then
+#                   proves and builds it as above, and runs it again
 #   make test       builds the programs, then runs the tests from outside alone
-#   make install    puts the programs, man pages and completions below PREFIX (/usr/local); make uninstall takes them away
+#   make install    puts programs, man pages, completions, units and examples below PREFIX (/usr/local), and builds only
+#                   what bin/ lacks; `make uninstall` takes them away
+#   make dist       an archive and a Debian package of what bin/ has, for machines without the toolchain
 #   make bench      builds the programs, then prints speed and memory as ratios; not in the gate
 
 SHELL := /bin/bash
 .SHELLFLAGS := -eu -o pipefail -c
 
-.PHONY: all rehearse check test bench install uninstall clean getmail popd store_bench
+.PHONY: all demo rehearse check test dist bench install uninstall clean getmail popd store_bench
 .PHONY: bench-getmail bench-popd bench-client_bench bench-record_bench bench-store_bench
 .NOTPARALLEL:
 
 all: getmail popd
 
+demo:
+	@python3 examples/demo/run.py
+
 # `rt run` builds a program once it is proved, and runs it: here on its recorded conversation,
 # with which it ends well, so that whatever fails is the proof, the build or the program.
 getmail popd:
-	cd crates/$@ && rt run -- --rehearse < $(CURDIR)/examples/$@-rehearsal.txt > /dev/null
+	@echo 'Proving and building $@: minutes the first time, while rt says how far it is.'
+	@cd crates/$@ && rt run -- --rehearse < $(CURDIR)/examples/$@-rehearsal.txt > /dev/null
 	mkdir -p bin
 	install -m 755 crates/$@/out/$@ bin/$@
 
@@ -63,31 +71,22 @@ bench-store_bench: store_bench
 	@python3 bench/mail_store.py
 	@python3 bench/mboxrd.py
 
-# Where `make install` puts things; DESTDIR stands before all of it.
-PREFIX ?= /usr/local
-bindir := $(DESTDIR)$(PREFIX)/bin
-mandir := $(DESTDIR)$(PREFIX)/share/man
-completions := $(DESTDIR)$(PREFIX)/share
-# Where a man page goes: getmail.1 to man1/getmail.1.
-place_of = $(mandir)/man$(patsubst .%,%,$(suffix $(1)))/$(notdir $(1))
-pages := $(wildcard man/*)
+# The programs are built here only if they aren't there: a machine without the toolchain installs what it was given.
+bin/getmail bin/popd:
+	$(MAKE) --no-print-directory $(notdir $@)
 
-install: all
-	install -d $(bindir)
-	install -m 755 bin/getmail bin/popd $(bindir)
-	$(foreach page,$(pages),install -D -m 644 $(page) $(call place_of,$(page)) &&) true
-	for name in getmail popd; do \
-	    install -D -m 644 completions/$$name.bash $(completions)/bash-completion/completions/$$name; \
-	    install -D -m 644 completions/_$$name $(completions)/zsh/site-functions/_$$name; \
-	    install -D -m 644 completions/$$name.fish $(completions)/fish/vendor_completions.d/$$name.fish; \
-	done
+# DESTDIR comes before all of it.
+PREFIX ?= /usr/local
+export PREFIX DESTDIR
+
+install: bin/getmail bin/popd
+	./install.sh
 
 uninstall:
-	rm -f $(bindir)/getmail $(bindir)/popd $(foreach page,$(pages),$(call place_of,$(page)))
-	for name in getmail popd; do \
-	    rm -f $(completions)/bash-completion/completions/$$name $(completions)/zsh/site-functions/_$$name; \
-	    rm -f $(completions)/fish/vendor_completions.d/$$name.fish; \
-	done
+	./install.sh --remove
+
+dist: bin/getmail bin/popd
+	packaging/dist.py
 
 clean:
-	rm -rf bin
+	rm -rf bin dist

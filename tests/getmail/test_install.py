@@ -1,54 +1,88 @@
-"""What `make install` puts where, that `make uninstall` leaves nothing of it, and the line for cron."""
+"""What `make install` and `make dist` put where, that `make uninstall` leaves nothing of it, and the line for cron."""
 
 import os
+import re
 import shutil
+import stat
 import subprocess
+import tarfile
 import tempfile
+import threading
 import unittest
 from pathlib import Path
 
-from getmail.account import Account
+from getmail.account import Account, RC
 from getmail.server import Server
 from getmail.test_stalls import SilentServer
 from harness import kernel, programs
+from harness.maildir import make_maildir
 
 PAGES = {"1": "man1", "5": "man5", "8": "man8"}
 COMPLETIONS = [path for name in ("getmail", "popd") for path in (
     f"share/bash-completion/completions/{name}", f"share/zsh/site-functions/_{name}",
     f"share/fish/vendor_completions.d/{name}.fish")]
+UNITS = [f"lib/systemd/user/{name}" for name in
+         ("getmail.service", "getmail.timer", "popd.service", "popd.socket", "popd@.service")]
+DOCUMENTS = [f"share/doc/getmail/{name}" for name in
+             ("README.md", "CHANGELOG.md", "LICENSE", "FROM-GETMAIL6.md", "getmailrc.sample", "stunnel.conf", "crontab")]
+# What the rules of `make install` and `make dist` read.
+PARTS = ("Makefile", "crates.txt", "install.sh", "README.md", "CHANGELOG.md", "LICENSE", "man", "completions", "examples",
+         "packaging", "docs/FROM-GETMAIL6.md", "docs/getmailrc.sample")
 
 
-class Install(unittest.TestCase):
-    """`make install` over a copy of the repository's files, with the programs as they were built last."""
+def copy_repository(top):
+    """Copies what is installed, and the programs as they were built last, into the folder."""
+    for part in PARTS:
+        source, target = programs.ROOT / part, top / part
+        target.parent.mkdir(parents=True, exist_ok=True)
+        if source.is_dir():
+            left = shutil.ignore_patterns("seen-*", f"{'?' * 64}.*", "__pycache__")
+            shutil.copytree(source, target, ignore=left)
+        else:
+            shutil.copy(source, target)
+    (top / "bin").mkdir()
+    for name in ("getmail", "popd"):
+        shutil.copy(programs.path_of(name), top / "bin" / name)
+
+
+@programs.needs("getmail", "popd")
+class Copied(unittest.TestCase):
+    """A copy of the repository's files, with the programs as they were built last."""
 
     def setUp(self):
         holder = tempfile.TemporaryDirectory()
         self.addCleanup(holder.cleanup)
         self.top = Path(holder.name) / "repository"
         self.place = Path(holder.name) / "place"
-        (self.top / "bin").mkdir(parents=True)
-        for name in ("Makefile", "crates.txt"):
-            shutil.copy(programs.ROOT / name, self.top)
-        for name in ("man", "completions"):
-            shutil.copytree(programs.ROOT / name, self.top / name)
-        for name in ("getmail", "popd"):
-            shutil.copy(programs.path_of(name), self.top / "bin" / name)
+        copy_repository(self.top)
 
-    def make(self, *words):
-        """Runs `make`, with what it would build taken as built."""
-        subprocess.run(["make", "-o", "all", *words], cwd=self.top, check=True, stdout=subprocess.DEVNULL,
-                       env=programs.environment(), timeout=programs.SECONDS)
+    def make(self, *words, **changes):
+        """Runs `make` and answers what it printed."""
+        return subprocess.run(["make", *words], cwd=self.top, check=True, stdout=subprocess.PIPE, text=True,
+                              env=programs.environment(**changes), timeout=programs.SECONDS).stdout
 
+
+class Install(Copied):
     def files(self, prefix):
         """The files below the prefix, with their modes."""
         paths = [path for path in self.place.rglob("*") if not path.is_dir()]
-        return {str(path.relative_to(self.place / prefix)): path.stat().st_mode & 0o777 for path in paths}
+        return {str(path.relative_to(self.place / prefix)): stat.S_IMODE(path.stat().st_mode) for path in paths}
 
     def check_installed(self, prefix):
-        wanted = {"bin/getmail": 0o755, "bin/popd": 0o755, **{name: 0o644 for name in COMPLETIONS}}
+        wanted = {name: 0o755 for name in ("bin/getmail", "bin/popd", "share/doc/getmail/from-getmail6.py")}
+        wanted |= {name: 0o644 for name in (*COMPLETIONS, *UNITS, *DOCUMENTS)}
         for page in (programs.ROOT / "man").iterdir():
             wanted[f"share/man/{PAGES[page.suffix[1:]]}/{page.name}"] = 0o644
         self.assertEqual(self.files(prefix), wanted)
+        self.check_names(self.place / prefix, f"/{prefix}")
+
+    def check_names(self, place, prefix):
+        """Units and the line for cron name the programs where they are."""
+        for name in ("getmail.service", "popd.service", "popd@.service"):
+            started, = re.findall("^ExecStart=(\\S+)", (place / "lib/systemd/user" / name).read_text(), re.MULTILINE)
+            self.assertEqual(started, f"{prefix}/bin/{name[:name.index('.')].removesuffix('@')}")
+        crontab = (place / "share/doc/getmail/crontab").read_text()
+        self.assertIn(f"\nPATH={prefix}/bin:/usr/bin:/bin\n", crontab)
 
     def test_each_file_has_its_place_and_is_taken_away(self):
         for words, prefix in (([], "usr/local"), (["PREFIX=/usr"], "usr"), (["PREFIX=/srv/mail"], "srv/mail")):
@@ -67,51 +101,201 @@ class Install(unittest.TestCase):
         self.make("uninstall", f"DESTDIR={self.place}")
         self.assertEqual(list(self.files("usr/local")), ["bin/other"])
 
+    def test_the_programs_are_installed_as_they_are(self):
+        for name in ("getmail", "popd"):
+            (self.top / "bin" / name).write_text(f"{name} of another day")
+        self.make("install", f"PREFIX={self.place}")
+        for name in ("getmail", "popd"):
+            self.assertEqual((self.place / "bin" / name).read_text(), f"{name} of another day")
+
+    def test_what_is_missing_is_built_first(self):
+        (self.top / "bin/popd").unlink()
+        told = self.make("-n", "install")
+        self.assertIn("popd", told.split("./install.sh")[0])
+        self.assertNotIn("getmail", told.split("./install.sh")[0])
+
     def test_the_installed_program_runs(self):
         self.make("install", f"PREFIX={self.place}")
         help_text = subprocess.run([self.place / "bin/getmail", "--help"], capture_output=True, check=True,
                                    timeout=programs.SECONDS)
         self.assertEqual(help_text.stdout, programs.run("getmail", "--help").out)
 
+    def test_the_sample_installed_is_an_rc_file(self):
+        """It is understood whole: the run ends where it looks for the server, which it doesn't find here."""
+        self.make("install", f"PREFIX={self.place}")
+        run = programs.run("getmail", "-r", str(self.place / "share/doc/getmail/getmailrc.sample"), HOME=str(self.place))
+        self.assertEqual((run.status, run.err), (1, b"getmail: cannot connect to mail.example.org:110\n"))
 
-class FirstFetch(unittest.TestCase):
-    """The commands in the README, as they stand there but for `make` and the port."""
 
-    def setUp(self):
-        holder = tempfile.TemporaryDirectory()
-        self.addCleanup(holder.cleanup)
-        self.top = Path(holder.name)
-        self.demo = self.top / "examples" / "demo"
-        # Without what somebody's own first fetch left there.
-        left = shutil.ignore_patterns("seen-*", f"{'?' * 64}.*")
-        shutil.copytree(programs.ROOT / "examples" / "demo", self.demo, ignore=left)
-        # As it comes with the repository others may read it, of which popd warns.
-        (self.demo / "password").chmod(0o600)
-        (self.top / "bin").mkdir()
-        for name in ("getmail", "popd"):
-            shutil.copy(programs.path_of(name), self.top / "bin" / name)
-        self.port = kernel.free_port()
-        rcfile = self.demo / ".getmail" / "getmailrc"
-        rcfile.write_text(rcfile.read_text().replace("port = 1100", f"port = {self.port}"))
+class EmptyRoot:
+    """A folder in which nothing is but the archive, as its install.sh leaves it, and the C library."""
 
-    def commands(self):
-        section = (programs.ROOT / "README.md").read_text().split("## A first fetch, in three commands\n")[1]
-        make, *others = [line[4:] for line in section.split("\n## ")[0].splitlines() if line.startswith("    ")]
-        self.assertEqual((make, len(others)), ("make", 2))
-        return "\n".join(others).replace(":1100", f":{self.port}")
+    def __init__(self, folder):
+        self.folder = folder
+        self.change = ["chroot"] if os.geteuid() == 0 else ["unshare", "--map-root-user", "--root"]
 
-    def run_commands(self):
-        done = subprocess.run(["bash", "-c", self.commands()], cwd=self.top, env=programs.environment(),
-                              stdin=subprocess.DEVNULL, capture_output=True, timeout=programs.SECONDS)
-        self.assertEqual((done.returncode, done.stderr), (0, b""))
-        return done.stdout.decode().splitlines()
+    def is_allowed(self):
+        """Whether a program may be run in such a root here."""
+        if not shutil.which(self.change[0]):
+            return False
+        return subprocess.run([*self.change, "/", "true"], capture_output=True, timeout=programs.SECONDS).returncode == 0
+
+    def add_libraries(self, program):
+        """Copies the libraries that the program asks for, and answers their names."""
+        told = subprocess.run(["ldd", program], check=True, capture_output=True, text=True, timeout=programs.SECONDS).stdout
+        paths = re.findall(r"(/\S+) \(0x", told)
+        for path in paths:
+            target = self.folder / path[1:]
+            target.parent.mkdir(parents=True, exist_ok=True)
+            shutil.copy(path, target)
+        return {Path(path).name for path in paths}
+
+    def command(self, *words):
+        return [*self.change, self.folder, *words]
+
+
+class Dist(Copied):
+    def unpacked(self):
+        """The folder of the archive that `make dist` writes."""
+        self.make("dist")
+        archive, = (self.top / "dist").glob("getmail-*-linux-*.tar.gz")
+        with tarfile.open(archive) as opened:
+            opened.extractall(self.place)
+        folder, = self.place.iterdir()
+        self.assertEqual(archive.name, f"{folder.name}.tar.gz")
+        return folder
+
+    def install(self, root):
+        subprocess.run([self.unpacked() / "install.sh"], check=True, timeout=programs.SECONDS,
+                       env=programs.environment(DESTDIR=str(root), PREFIX="/usr"))
+
+    def test_the_archive_is_the_same_each_time(self):
+        def written():
+            self.make("dist", SOURCE_DATE_EPOCH="1795348800")
+            return {path.name: path.read_bytes() for path in (self.top / "dist").iterdir()}
+        self.assertEqual(written(), written())
+
+    def test_the_package_holds_what_is_installed(self):
+        if not shutil.which("dpkg-deb"):
+            self.skipTest("dpkg-deb is not installed")
+        self.make("dist")
+        package, = (self.top / "dist").glob("*.deb")
+        subprocess.run(["dpkg-deb", "-x", package, self.place], check=True, timeout=programs.SECONDS)
+        there = {str(path.relative_to(self.place / "usr")) for path in self.place.rglob("*") if path.is_file()}
+        pages = {f"share/man/{PAGES[page.suffix[1:]]}/{page.name}.gz" for page in (programs.ROOT / "man").iterdir()}
+        self.assertLessEqual({"bin/getmail", "bin/popd", "share/doc/getmail/copyright", *pages, *UNITS}, there)
+        subprocess.run([self.place / "usr/bin/getmail", "--help"], check=True, stdout=subprocess.DEVNULL,
+                       timeout=programs.SECONDS)
+
+    def test_a_first_fetch_on_a_machine_with_the_c_library_alone(self):
+        root = EmptyRoot(self.top.parent / "root")
+        if not root.is_allowed():
+            self.skipTest("no program may be run in another root here (chroot, unshare)")
+        self.install(root.folder)
+        libraries = root.add_libraries(root.folder / "usr/bin/getmail") | root.add_libraries(root.folder / "usr/bin/popd")
+        for name in libraries:
+            self.assertRegex(name, r"^(libc\.so|ld-linux|libm\.so|libpthread\.so)")
+        port = kernel.free_port()
+        self.fill_homes(root.folder, port)
+        served = subprocess.Popen(root.command("/usr/bin/popd", "--listen", f"127.0.0.1:{port}", "--connections", "2", "u",
+                                               "/fred/password", "/fred/served"))
+        self.addCleanup(served.wait)
+        self.addCleanup(served.kill)
+        self.wait_for(port)
+        told = [self.fetch(root) for _ in range(2)]
+        self.assertIn("1 messages (20 bytes) retrieved, 0 skipped, 0 deleted\n", told[0])
+        self.assertIn("0 messages (0 bytes) retrieved, 1 skipped, 0 deleted\n", told[1])
+        fetched, = (root.folder / "ann/Maildir/new").iterdir()
+        self.assertEqual(fetched.read_bytes(), b"Subject: one\n\nIt is.\n"[:20])
+
+    def fill_homes(self, root, port):
+        """Fred's Maildir with a message, and the settings of Ann."""
+        (make_maildir(root / "fred/served") / "new/1").write_bytes(b"Subject: one\n\nIt is.\n"[:20])
+        (root / "fred/password").write_text("p\n")
+        (root / "fred/password").chmod(0o600)
+        make_maildir(root / "ann/Maildir")
+        (root / "ann/.getmail").mkdir()
+        (root / "ann/.getmail/getmailrc").write_text(RC.format(server="127.0.0.1", port=port))
+
+    def wait_for(self, port):
+        woken = threading.Event()
+        for _ in range(programs.SECONDS * 20):
+            if kernel.listens(port):
+                return
+            woken.wait(0.05)
+        self.fail("popd doesn't listen")
+
+    def fetch(self, root):
+        done = subprocess.run(root.command("/usr/bin/getmail"), env={"HOME": "/ann"}, capture_output=True, text=True,
+                              timeout=programs.SECONDS)
+        self.assertEqual((done.returncode, done.stderr), (0, ""))
+        return done.stdout
+
+
+class Demo(Copied):
+    """`make demo` with the programs there, and `make` where they aren't and proving them takes its time."""
+
+    def path_without_rt(self):
+        """A folder with the few programs that the demonstration calls, and no `rt`."""
+        folder = self.top.parent / "path"
+        folder.mkdir()
+        for name in ("python3", "make", "bash", "sh"):
+            (folder / name).symlink_to(shutil.which(name))
+        return folder
 
     def test_the_message_is_fetched_and_then_known(self):
-        self.assertTrue(self.run_commands()[-1].startswith("1 messages "))
-        served, = (path for path in (self.demo / "served" / "new").iterdir() if path.name != ".gitkeep")
-        fetched, = (path for path in (self.demo / "Maildir" / "new").iterdir() if path.name != ".gitkeep")
-        self.assertEqual(fetched.read_bytes(), served.read_bytes())
-        self.assertEqual(self.run_commands()[-1], "0 messages (0 bytes) retrieved, 1 skipped, 0 deleted")
+        before = sorted(self.top.rglob("*"))
+        told = self.make("demo", PATH=str(self.path_without_rt()))
+        for part in ("$ popd --listen 127.0.0.1:", "delivered\n", "1 messages (", "Subject: hello\n", "It works.\n",
+                     "0 messages (0 bytes) retrieved, 1 skipped, 0 deleted\n", "popd has ended"):
+            self.assertIn(part, told)
+            told = told[told.index(part):]
+        self.assertEqual(sorted(self.top.rglob("*")), before)
+
+    def test_it_says_that_proving_takes_a_while_and_how_far_it_is(self):
+        """A stand-in for `rt` says how far it is, and leaves the program after twelve seconds."""
+        folder = self.path_without_rt()
+        for name in ("sleep", "mkdir", "install"):
+            (folder / name).symlink_to(shutil.which(name))
+        for name in ("getmail", "popd"):
+            (self.top / "crates" / name / "out").mkdir(parents=True)
+            (self.top / "bin" / name).unlink()
+            shutil.copy(programs.path_of(name), self.top / f"{name}.built")
+        (folder / "rt").write_text("#!/bin/sh\necho 'rt: chose --jobs 4 for pop3_wire' >&2\n"
+                                   "echo 'so far: 51 of 128 functions checked' >&2\n"
+                                   "name=${PWD##*/}\nif [ $name = getmail ]; then sleep 12; fi\n"
+                                   "install ../../$name.built out/$name\n")
+        (folder / "rt").chmod(0o755)
+        process = subprocess.Popen(["make", "demo"], cwd=self.top, stdout=subprocess.PIPE, text=True,
+                                   env=programs.environment(PATH=str(folder)))
+        self.addCleanup(process.stdout.close)
+        self.addCleanup(process.wait)
+        self.addCleanup(process.kill)
+        told = process.communicate(timeout=programs.SECONDS)[0].splitlines()
+        self.assertIn("takes a while", told[0])
+        self.assertRegex(told[1], r"^ +0:1\d  .*pop3_wire, 51 of 128 functions$")
+        self.assertIn("It works.", told)
+
+
+class Readme(unittest.TestCase):
+    """The lines of the README that set up a real account, but for cron's, with a stand-in for the editor."""
+
+    def test_the_lines_that_set_up_an_account(self):
+        section = (programs.ROOT / "README.md").read_text().split("## A real account\n")[1].split("\n## ")[0]
+        lines = [line[4:] for line in section.splitlines() if line.startswith("    ")]
+        self.assertEqual(len(lines), 5)
+        messages = [(b"a", b"one\n"), (b"b", b"two\n")]
+        with Server(messages) as server, tempfile.TemporaryDirectory() as home:
+            thread = server.begin_session()
+            edits = f"sed -i -e s/mail.example.org/127.0.0.1/ -e s/^#.port.*/port={server.port}/"
+            path = f"{Path(programs.path_of('getmail')).parent}:{os.environ['PATH']}"
+            done = subprocess.run(["bash", "-euc", "\n".join(lines[:-1])], cwd=programs.ROOT, capture_output=True, text=True,
+                                  env=programs.environment(HOME=home, EDITOR=edits, PATH=path), timeout=programs.SECONDS)
+            thread.join(programs.SECONDS)
+            self.assertEqual((done.returncode, done.stderr), (0, ""))
+            self.assertEqual(len(os.listdir(Path(home) / "Maildir/new")), len(messages))
+            self.assertEqual(stat.S_IMODE((Path(home) / ".getmail/getmailrc").stat().st_mode), 0o600)
+        self.assertIn("flock -n ~/.getmail/lock getmail -q", lines[-1])
 
 
 class Cron(unittest.TestCase):

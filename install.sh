@@ -1,0 +1,72 @@
+#!/bin/sh
+# Installs getmail and popd from this folder, which has their programs in bin/.
+#
+#   ./install.sh                        into /usr/local
+#   PREFIX=$HOME/.local ./install.sh    into another place
+#   ./install.sh --remove               takes away what was installed, with the same PREFIX
+#
+# With DESTDIR every file goes below that folder. Nothing but these files is written.
+set -eu
+cd "$(dirname "$0")"
+
+prefix=${PREFIX:-/usr/local}
+place=${DESTDIR:-}$prefix
+share=$place/share
+docs=$share/doc/getmail
+units=$place/lib/systemd/user
+
+case ${1:-} in
+    "" | --remove) ;;
+    *) sed -n '2,8s/^# \{0,1\}//p' "$0" >&2; exit 2 ;;
+esac
+
+# put MODE FILE PLACE
+put() {
+    mkdir -p "$(dirname "$3")"
+    cp "$2" "$3"
+    chmod "$1" "$3"
+}
+
+# put_named FILE PLACE: a file that names the programs' folder gets the PREFIX
+put_named() {
+    mkdir -p "$(dirname "$2")"
+    sed "s|/usr/local|$prefix|g" "$1" >"$2"
+    chmod 644 "$2"
+}
+
+# remove FILE PLACE
+remove() {
+    rm -f "$2"
+}
+
+# each_file HOW HOW_NAMED: calls HOW for each file as it is, HOW_NAMED for each that names the programs' folder
+each_file() {
+    for name in getmail popd; do
+        "$1" 755 "bin/$name" "$place/bin/$name"
+        "$1" 644 "completions/$name.bash" "$share/bash-completion/completions/$name"
+        "$1" 644 "completions/_$name" "$share/zsh/site-functions/_$name"
+        "$1" 644 "completions/$name.fish" "$share/fish/vendor_completions.d/$name.fish"
+    done
+    for page in man/*.[1-8]; do
+        "$1" 644 "$page" "$share/man/man${page##*.}/$(basename "$page")"
+    done
+    for unit in examples/*.service examples/*.timer examples/*.socket; do
+        "$2" "$unit" "$units/$(basename "$unit")"
+    done
+    for file in README.md CHANGELOG.md LICENSE docs/FROM-GETMAIL6.md docs/getmailrc.sample examples/stunnel.conf; do
+        "$1" 644 "$file" "$docs/$(basename "$file")"
+    done
+    "$1" 755 examples/from-getmail6.py "$docs/from-getmail6.py"
+    "$2" examples/crontab "$docs/crontab"
+}
+
+remove_first() {
+    rm -f "$3"
+}
+
+if [ "${1:-}" = --remove ]; then
+    each_file remove_first remove
+    rmdir "$docs" 2>/dev/null || true
+else
+    each_file put put_named
+fi

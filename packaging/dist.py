@@ -1,0 +1,166 @@
+#!/usr/bin/env python3
+"""Writes dist/getmail-VERSION-linux-ARCH.tar.gz and, where dpkg-deb is installed, dist/getmail_VERSION_ARCH.deb.
+
+Both hold the programs of bin/, which have to be there and need the C library alone. The archive installs itself by its own
+install.sh. The same files give the same octets: the time of each file is that of SOURCE_DATE_EPOCH, or of the last commit.
+"""
+
+import gzip
+import hashlib
+import os
+import re
+import shutil
+import subprocess
+import sys
+import tarfile
+import tempfile
+import time
+from email.utils import formatdate
+from pathlib import Path
+
+TOP = Path(__file__).resolve().parent.parent
+CONTENT = ("bin/getmail", "bin/popd", "install.sh", "README.md", "CHANGELOG.md", "LICENSE", "man", "completions", "examples",
+           "docs/FROM-GETMAIL6.md", "docs/getmailrc.sample")
+# What demo runs leave in the repository, and what belongs to no machine without it.
+LEFT_OUT = re.compile(r"__pycache__|/seen-|/demo(/|$)|\.pyc$")
+MAINTAINER = "The Quailtuffet authors <maintainers@users.noreply.quailtuffet.example>"
+CONTROL = """\
+Package: getmail
+Version: {version}
+Architecture: {arch}
+Maintainer: {maintainer}
+Installed-Size: {size}
+Depends: libc6 (>= {libc})
+Conflicts: getmail4, getmail6
+Section: mail
+Priority: optional
+Description: POP3 fetcher and server that are proved correct
+ getmail fetches mail from a POP3 server into a Maildir. A run may be cut at
+ any moment: no message is lost and none is stored twice. popd is a small POP3
+ server over one user's Maildir. Both are proved to meet their contracts.
+"""
+CHANGES = """\
+getmail ({version}) unstable; urgency=medium
+
+  * What is new is in /usr/share/doc/getmail/CHANGELOG.md.
+
+ -- {maintainer}  {date}
+"""
+COPYRIGHT = """\
+Format: https://www.debian.org/doc/packaging-manuals/copyright-format/1.0/
+Upstream-Name: getmail
+
+Files: *
+Copyright: 2026 The Quailtuffet authors
+License: Expat
+{text}
+"""
+
+
+def version():
+    """The version that CHANGELOG.md begins with."""
+    return re.search(r"^## (\d+(?:\.\d+)+)", (TOP / "CHANGELOG.md").read_text(), re.MULTILINE)[1]
+
+
+def moment():
+    """The time that every file gets, in seconds since 1970."""
+    if "SOURCE_DATE_EPOCH" in os.environ:
+        return int(os.environ["SOURCE_DATE_EPOCH"])
+    told = subprocess.run(["git", "-C", TOP, "log", "-1", "--format=%ct"], capture_output=True, text=True)
+    return int(told.stdout) if told.returncode == 0 and told.stdout.strip() else int(time.time())
+
+
+def oldest_libc():
+    """The oldest C library that has all that the programs ask for."""
+    asked = {tuple(map(int, found)) for name in ("getmail", "popd")
+             for found in re.findall(rb"GLIBC_(\d+)\.(\d+)", (TOP / "bin" / name).read_bytes())}
+    return ".".join(map(str, max(asked, default=(2, 17))))
+
+
+def write_archive(name, seconds):
+    """Writes the archive of that name and answers its path."""
+    def settle(entry):
+        if LEFT_OUT.search(entry.name):
+            return None
+        entry.uid = entry.gid = 0
+        entry.uname = entry.gname = "root"
+        entry.mtime = seconds
+        entry.mode = 0o755 if entry.isdir() or entry.mode & 0o100 else 0o644
+        return entry
+
+    path = TOP / "dist" / f"{name}.tar.gz"
+    with path.open("wb") as file, gzip.GzipFile("", "wb", mtime=seconds, fileobj=file) as packed, \
+            tarfile.open(fileobj=packed, mode="w") as archive:
+        for part in CONTENT:
+            archive.add(TOP / part, f"{name}/{part}", filter=settle)
+    return path
+
+
+def compress(path):
+    """Puts a gzip file, which names no time, in the place of the file."""
+    with Path(f"{path}.gz").open("wb") as file, gzip.GzipFile("", "wb", 9, file, mtime=0) as packed:
+        packed.write(path.read_bytes())
+    path.unlink()
+
+
+def fill_tree(tree, seconds):
+    """Installs into the tree, as Debian wants it: compressed pages and change log, its copyright file, its zsh folder."""
+    install = {**os.environ, "DESTDIR": str(tree), "PREFIX": "/usr"}
+    subprocess.run([TOP / "install.sh"], env=install, check=True)
+    for name in ("getmail", "popd"):
+        if shutil.which("strip"):
+            subprocess.run(["strip", "--remove-section=.comment", "--remove-section=.note", tree / "usr/bin" / name], check=True)
+    docs = tree / "usr/share/doc/getmail"
+    licence = (docs / "LICENSE").read_text().partition("\n\n")[2].partition("\n\n")[2]
+    indented = "".join(f" {line or '.'}\n" for line in licence.strip().splitlines())
+    (docs / "copyright").write_text(COPYRIGHT.format(text=indented))
+    (docs / "LICENSE").unlink()
+    (docs / "changelog").write_text(CHANGES.format(version=version(), maintainer=MAINTAINER, date=formatdate(seconds)))
+    for page in [docs / "changelog", *(tree / "usr/share/man").glob("man?/*")]:
+        compress(page)
+    (tree / "usr/share/zsh/site-functions").rename(tree / "usr/share/zsh/vendor-completions")
+
+
+def write_package(seconds):
+    """Writes the package and answers its path."""
+    arch = subprocess.run(["dpkg", "--print-architecture"], check=True, capture_output=True, text=True).stdout.strip()
+    with tempfile.TemporaryDirectory() as folder:
+        tree = Path(folder) / "tree"
+        tree.mkdir(mode=0o755)
+        fill_tree(tree, seconds)
+        files = sorted(path for path in tree.rglob("*") if path.is_file())
+        (tree / "DEBIAN").mkdir()
+        (tree / "DEBIAN/md5sums").write_text("".join(
+            f"{hashlib.md5(path.read_bytes()).hexdigest()}  {path.relative_to(tree)}\n" for path in files))
+        (tree / "DEBIAN/control").write_text(CONTROL.format(
+            version=version(), arch=arch, maintainer=MAINTAINER, libc=oldest_libc(),
+            size=sum(-(-path.stat().st_size // 1024) for path in files)))
+        for path in (tree, *tree.rglob("*")):
+            path.chmod(0o755 if path.is_dir() or path.stat().st_mode & 0o100 else 0o644)
+            os.utime(path, (seconds, seconds))
+        path = TOP / "dist" / f"getmail_{version()}_{arch}.deb"
+        subprocess.run(["dpkg-deb", "--root-owner-group", "--build", tree, path], check=True, stdout=subprocess.DEVNULL,
+                       env={**os.environ, "SOURCE_DATE_EPOCH": str(seconds)})
+    return path
+
+
+def main():
+    os.umask(0o022)
+    for name in ("getmail", "popd"):
+        if not (TOP / "bin" / name).is_file():
+            sys.exit(f"bin/{name} is not there; `make` builds it")
+    (TOP / "dist").mkdir(exist_ok=True)
+    seconds = moment()
+    print(write_archive(f"getmail-{version()}-linux-{os.uname().machine}", seconds).relative_to(TOP))
+    if shutil.which("dpkg-deb") and shutil.which("dpkg"):
+        package = write_package(seconds)
+        print(package.relative_to(TOP))
+        if shutil.which("lintian"):
+            if subprocess.run(["lintian", "--fail-on", "error", "--tag-display-limit", "0", package]).returncode:
+                sys.exit("lintian found an error in the package")
+    else:
+        print("dpkg-deb is not installed: no .deb was written")
+
+
+if __name__ == "__main__":
+    main()
