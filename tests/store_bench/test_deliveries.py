@@ -4,12 +4,15 @@ The program delivers texts of 2,048 bytes. What it asks of the system is written
 and one call of fsync or rename is refused in turn.
 """
 
+import os
 import stat
+import threading
+import time
 import unittest
 
 from harness import programs
 from harness.maildir import make_maildir
-from store_bench.watched import SIZE, TEXT, folder_for, name_of, watcher_for, written
+from store_bench.watched import ACCOUNT, SIZE, TEXT, folder_for, is_own, make_older, name_of, watcher_for, written
 
 
 class Deliveries(unittest.TestCase):
@@ -32,8 +35,9 @@ class Deliveries(unittest.TestCase):
 
     def check_discipline(self, calls, number):
         """These are the calls of one whole delivery."""
-        begun, settled = f"maildir/tmp/{name_of(number)}", f"maildir/new/{name_of(number)}"
-        count, after = written([call for call in calls if call[0] != "unlink"], begun)
+        begun, settled = calls[0][2], f"maildir/new/{name_of(number)}"
+        self.assertTrue(is_own(begun, f"maildir/tmp/{name_of(number)}"), begun)
+        count, after = written(calls, begun)
         self.assertEqual(count, SIZE)
         self.assertEqual(after, [("fsync", "done", begun), ("rename", "done", begun, settled),
                                  ("fsync", "done", "maildir/new")])
@@ -68,20 +72,39 @@ class Deliveries(unittest.TestCase):
         self.check_left(2)
 
     def test_readable_by_its_owner_alone(self):
-        """Also where an older file of the name stands in `tmp`, or a link, whose target stays as it was."""
-        target = self.work / "target"
-        target.write_bytes(b"kept")
-        older = self.maildir / "tmp" / name_of(1)
-        older.write_bytes(b"an older beginning")
-        older.chmod(0o644)
-        (self.maildir / "tmp" / name_of(2)).symlink_to(target)
         run, _ = self.deliver(3)
         self.assertEqual((run.status, run.err), (0, b""))
         self.check_left(3)
         for file in (self.maildir / "new").iterdir():
             self.assertTrue(stat.S_ISREG(file.lstat().st_mode))
             self.assertEqual(stat.S_IMODE(file.lstat().st_mode), 0o600)
-        self.assertEqual(target.read_bytes(), b"kept")
+
+    def test_what_another_run_is_writing_stays(self):
+        """In `tmp` a file has a name that no other run takes, even for the same message."""
+        _, calls = self.deliver(1, 1)
+        first = calls[0][2]
+        other = self.work / first
+        other.write_bytes(b"half a text")
+        run, calls = self.deliver(1)
+        self.assertEqual((run.status, run.err), (0, b""))
+        self.assertNotEqual(calls[0][2], first)
+        self.assertEqual(other.read_bytes(), b"half a text")
+        other.unlink()
+        self.check_left(1)
+
+    def test_what_killed_runs_left_in_tmp_is_swept_after_36_hours(self):
+        tmp, other = self.maildir / "tmp", "0" * 64
+        marked = name_of(1) + ".P1R0123456789abcdef"
+        for name, hours in ((marked, 37), (name_of(2), 37), (name_of(3), 35), (f"{other}.61", 37), (ACCOUNT, 37)):
+            make_older(tmp / name, hours)
+        with open(bytes(tmp) + b"/" + ACCOUNT.encode() + b".\xff", "wb"):
+            pass
+        make_older(self.maildir / "new" / name_of(1), 37)
+        run = programs.run("store_bench", "sweep", str(self.maildir), "1")
+        self.assertEqual((run.status, run.err), (0, b""))
+        left = {name for name in os.listdir(tmp) if name.isascii()}
+        self.assertEqual(left, {name_of(3), f"{other}.61", ACCOUNT})
+        self.assertTrue((self.maildir / "new" / name_of(1)).exists())
 
     def test_no_delivery_over_a_link_that_leads_nowhere(self):
         link = self.maildir / "new" / name_of(1)
@@ -95,8 +118,13 @@ class Deliveries(unittest.TestCase):
 class Listings(unittest.TestCase):
     """What is held of the messages 1 to n, as the program counts it."""
 
+    @classmethod
+    def setUpClass(cls):
+        cls.watcher = watcher_for(cls)
+
     def setUp(self):
-        self.maildir = make_maildir(folder_for(self) / "maildir")
+        self.work = folder_for(self)
+        self.maildir = make_maildir(self.work / "maildir")
 
     def check_held(self, count, held):
         run = programs.run("store_bench", "held", str(self.maildir), str(count))
@@ -111,6 +139,54 @@ class Listings(unittest.TestCase):
                 with open(bytes(self.maildir / name) + b"/\xff%d" % number, "wb"):
                     pass
         self.check_held(200, 200)
+
+    def test_what_is_told_was_flushed(self):
+        """Each folder once. If that is refused, nothing is told of it."""
+        (self.maildir / "new" / name_of(1)).touch()
+        flushes = [("fsync", "done", "maildir/new"), ("fsync", "done", "maildir/cur")]
+        run, calls = self.watcher.run(self.work, "held", self.maildir, 2)
+        self.assertEqual((run.status, run.err, calls), (0, b"", flushes))
+        self.assertEqual(int(run.out.split()[0]), 1)
+        for refused in (1, 2):
+            run, calls = self.watcher.run(self.work, "held", self.maildir, 2, refused)
+            self.assertEqual((run.status, run.out, len(calls)), (1, b"", refused))
+            self.assertIn(b"destination refused", run.err)
+
+    def test_a_folder_that_finds_no_rest_is_refused(self):
+        """Files come and go all the time: after 2 seconds the call is refused, and nothing is told."""
+        stop = threading.Event()
+
+        def meddle():
+            while not stop.is_set():
+                (self.maildir / "new" / "other").touch()
+                (self.maildir / "new" / "other").unlink()
+
+        meddler = threading.Thread(target=meddle)
+        meddler.start()
+        run = programs.run("store_bench", "held", str(self.maildir), "1")
+        stop.set()
+        meddler.join()
+        self.assertEqual((run.status, run.out), (1, b""))
+        self.assertIn(b"destination refused", run.err)
+        self.check_held(1, 0)
+
+    def test_none_is_left_out_while_a_reader_renames(self):
+        """A reader marks 2,000 messages as read at moments spread over the start of the run."""
+        for number in range(1, 2_001):
+            (self.maildir / "cur" / (name_of(number) + ":2,")).touch()
+        for delay in range(10):
+            marks = (":2,", ":2,S") if delay % 2 == 0 else (":2,S", ":2,")
+
+            def mark(old=marks[0], new=marks[1], delay=delay):
+                time.sleep(delay / 1_000)
+                for number in range(1, 2_001):
+                    path = self.maildir / "cur" / name_of(number)
+                    path.with_name(path.name + old).rename(path.with_name(path.name + new))
+
+            reader = threading.Thread(target=mark)
+            reader.start()
+            self.check_held(2_000, 2_000)
+            reader.join()
 
     def test_a_link_that_leads_nowhere_is_held(self):
         (self.maildir / "new" / name_of(1)).symlink_to("nowhere")

@@ -7,7 +7,8 @@ refused in turn: what stands afterwards is the old content or the new one.
 import stat
 import unittest
 
-from store_bench.watched import SIZE, TEXT, folder_for, watcher_for, written
+from harness import programs
+from store_bench.watched import SIZE, TEXT, folder_for, is_own, make_older, watcher_for, written
 
 
 class Files(unittest.TestCase):
@@ -26,9 +27,11 @@ class Files(unittest.TestCase):
         run, calls = self.rewrite(1)
         self.assertEqual((run.status, run.err), (0, b""))
         self.assertEqual(self.file.read_bytes(), TEXT)
-        count, after = written([call for call in calls if call[0] != "unlink"], "seen.tmp")
+        beside = calls[0][2]
+        self.assertTrue(is_own(beside, "seen.tmp"), beside)
+        count, after = written(calls, beside)
         self.assertEqual(count, SIZE)
-        self.assertEqual(after[:3], [("fsync", "done", "seen.tmp"), ("rename", "done", "seen.tmp", "seen"),
+        self.assertEqual(after[:3], [("fsync", "done", beside), ("rename", "done", beside, "seen"),
                                      ("fsync", "done", str(self.work))])
         count, after = written(after[3:], "seen")
         self.assertEqual(count, SIZE)
@@ -44,13 +47,58 @@ class Files(unittest.TestCase):
                 self.assertEqual(run.status, 1)
                 self.assertIn(b"destination refused", run.err)
                 self.assertEqual(self.file.read_bytes(), wanted)
-                self.assertEqual(calls[-1][1], "refused", "nothing is tried again")
+                place = [call[1] for call in calls].index("refused")
+                self.assertLessEqual({call[0] for call in calls[place + 1:]}, {"unlink"}, "nothing is tried again")
+                self.assertEqual({file.name for file in self.work.iterdir()} - {"note"}, {"seen"})
 
     def test_readable_by_its_owner_alone(self):
-        """Also where the old file, or one beside it, could be read by others."""
-        for path in (self.file, self.work / "seen.tmp"):
-            path.write_bytes(b"old")
-            path.chmod(0o644)
+        """Also where the old file could be read by others."""
+        self.file.write_bytes(b"old")
+        self.file.chmod(0o644)
         run, _ = self.rewrite(1)
         self.assertEqual((run.status, run.err), (0, b""))
         self.assertEqual(stat.S_IMODE(self.file.stat().st_mode), 0o600)
+
+    def append_pages(self, held, count, refused=None):
+        self.file.write_bytes(b"." * held)
+        return self.watcher.run(self.work, "pages", self.file, count, refused)
+
+    def test_an_append_by_pages_is_flushed_at_each_border(self):
+        """After the flush of what stands there and of its name, which the program asks about first."""
+        for held, count, parts in ((100, 10_000, [3_996, 4_096, 1_908]), (4_000, 96, [96]), (4_000, 97, [96, 1]),
+                                   (4_096, 4_096, [4_096]), (0, 1, [1])):
+            with self.subTest(held=held, count=count):
+                run, calls = self.append_pages(held, count)
+                self.assertEqual((run.status, run.err), (0, b""))
+                self.assertEqual(calls[:2], [("fsync", "done", "seen"), ("fsync", "done", str(self.work))])
+                calls = calls[2:]
+                for part in parts:
+                    size, calls = written(calls, "seen")
+                    self.assertEqual((size, calls[0]), (part, ("fsync", "done", "seen")))
+                    calls = calls[1:]
+                self.assertEqual(calls, [])
+                self.assertEqual(self.file.read_bytes(), b"." * held + b"x" * count)
+
+    def test_no_page_is_written_after_a_refused_flush(self):
+        """The third flush is that of the first page."""
+        run, _ = self.append_pages(100, 10_000, 3)
+        self.assertEqual(run.status, 1)
+        self.assertIn(b"destination refused", run.err)
+        self.assertEqual(self.file.read_bytes(), b"." * 100 + b"x" * 3_996)
+
+    def test_nothing_is_told_of_a_file_that_is_not_flushed(self):
+        for refused in (1, 2):
+            run, calls = self.append_pages(100, 1, refused)
+            self.assertEqual((run.status, len(calls)), (1, refused))
+            self.assertIn(b"destination refused", run.err)
+            self.assertEqual(self.file.read_bytes(), b"." * 100)
+
+    def test_what_killed_runs_left_beside_it_is_swept_after_36_hours(self):
+        marked = "seen.tmp.P1R0123456789abcdef"
+        for name, hours in ((marked, 37), ("seen.tmp", 37), ("seen.tmp.P2R0123456789abcdef", 35), ("seen", 37),
+                            ("seen.kept", 37), ("seen2.tmp", 37)):
+            make_older(self.work / name, hours)
+        run = programs.run("store_bench", "sweep", str(self.work), "1")
+        self.assertEqual((run.status, run.err), (0, b""))
+        left = {file.name for file in self.work.iterdir()}
+        self.assertEqual(left, {"seen.tmp.P2R0123456789abcdef", "seen", "seen.kept", "seen2.tmp"})

@@ -46,6 +46,10 @@ class Mbox(unittest.TestCase):
         (self.work / "mbox.text").write_bytes(text)
         return self.watcher.run(self.work, "append", self.file, count, refused)
 
+    def flushes(self):
+        """What stands in the file, and its name, are flushed before the first look at its ends is told."""
+        return [("fsync", "done", "mbox"), ("fsync", "done", str(self.work))]
+
     def fill(self, front=b""):
         for text in TEXTS:
             run, _ = self.append(front + text)
@@ -65,6 +69,8 @@ class Mbox(unittest.TestCase):
         text = TEXTS[3]
         run, calls = self.append(text, 2)
         self.assertEqual((run.status, run.err), (0, b""))
+        self.assertEqual(calls[:2], self.flushes())
+        calls = calls[2:]
         for _ in range(2):
             count, calls = written(calls, "mbox")
             self.assertEqual((count, calls[0]), (len(entry(text)), ("fsync", "done", "mbox")))
@@ -72,8 +78,8 @@ class Mbox(unittest.TestCase):
         self.assertEqual(calls, [])
 
     def test_a_refused_append_is_taken_back(self):
-        """The second call of fsync is that of the second entry; the file is cut to what it held before."""
-        run, calls = self.append(TEXTS[1], 2, 2)
+        """The fourth call of fsync is that of the second entry; the file is cut to what it held before."""
+        run, calls = self.append(TEXTS[1], 2, 4)
         self.assertEqual(run.status, 1)
         self.assertIn(b"destination refused", run.err)
         self.assertEqual(self.file.read_bytes(), entry(TEXTS[1]))
@@ -84,7 +90,7 @@ class Mbox(unittest.TestCase):
             with self.subTest(held=held):
                 self.file.write_bytes(held)
                 run, calls = self.append(TEXTS[1])
-                self.assertEqual((run.status, calls), (1, []))
+                self.assertEqual((run.status, calls), (1, self.flushes()))
                 self.assertIn(b"destination is no mbox", run.err)
                 self.assertEqual(self.file.read_bytes(), held)
         self.file.unlink()

@@ -1,7 +1,10 @@
 """One run of the stores' small program in a folder of its own, and what it asked of the system."""
 
 import hashlib
+import os
+import re
 import tempfile
+import time
 from pathlib import Path
 
 from harness import preload, programs
@@ -14,6 +17,18 @@ ACCOUNT = hashlib.sha256(b"bench\x00110\x00bench").hexdigest()
 def name_of(number):
     """The name of the file of a message, as the program delivers it."""
     return ACCOUNT + "." + f"id-{number:05}".encode().hex()
+
+
+def is_own(path, front):
+    """Whether a path is the front and then the mark of a process: its id and octets of random."""
+    return re.fullmatch(re.escape(front) + r"\.P\d+R[0-9a-f]{16}", path) is not None
+
+
+def make_older(path, hours):
+    """Gives a file that was changed last so many hours ago."""
+    path.write_bytes(b"half a text")
+    changed = time.time() - hours * 3_600
+    os.utime(path, (changed, changed))
 
 
 def folder_for(test):

@@ -18,12 +18,12 @@ use crate::connection::connect;
 use crate::failure::{Failure, failure_of, tell};
 use crate::fetching::fetch_into;
 use crate::rehearsal::rehearse;
-use crate::setup::{Setup, set_up};
+use crate::setup::{Setup, account_of, set_up};
 use crate::shown_wire::ShownWire;
 use crate::words::{Words, WordsFault, command, read_words};
 use fetch_rules::RcFault;
 use fetch_session::{Account, Store};
-use mail_store::{FolderMaildir, HostFile};
+use mail_store::{FolderMaildir, HostFile, ProcessMark};
 use pop3_wire::StreamWire;
 use std::env;
 use std::hash::RandomState;
@@ -42,6 +42,14 @@ fn seconds_now(rt: &HostRuntime) -> u64 {
     }
 }
 
+/// What a run takes of random: keys, since a server chooses the unique-ids and mustn't be able to
+/// choose ids that collide, and the mark of the files that it writes.
+fn draw(rt: &HostRuntime) -> io::Result<(RandomState, ProcessMark)> {
+    let hasher = RandomState::new(rt)?;
+    let mark = ProcessMark::new(rt.process(), rt)?;
+    Ok((hasher, mark))
+}
+
 /// Connects, holds one session, and answers the status.
 fn fetch(rt: &HostRuntime, setup: Setup) -> u8
     requires { IsValid setup.settings }
@@ -51,9 +59,8 @@ fn fetch(rt: &HostRuntime, setup: Setup) -> u8
         maildir,
         record,
     } = setup;
-    // Keys of random: a server chooses the unique-ids, and can't choose ids that collide.
-    let hasher = match RandomState::new(rt) {
-        Ok(hasher) => hasher,
+    let (hasher, mark) = match draw(rt) {
+        Ok(drawn) => drawn,
         Err(error) => return tell(rt, failure_of(error, Failure::CannotRead)),
     };
     let stream = match connect(rt, settings.server.as_str(), settings.port) {
@@ -66,14 +73,9 @@ fn fetch(rt: &HostRuntime, setup: Setup) -> u8
         None
     };
     let mut wire = ShownWire::new(rt.alloc(), StreamWire::new(&stream, &stream), screen);
-    let store = Store::Maildir(FolderMaildir::at(rt, maildir));
-    let mut account = Account::new(
-        rt.alloc(),
-        settings,
-        store,
-        HostFile::at(rt, record),
-        hasher,
-    );
+    let store = Store::Maildir(FolderMaildir::at(rt, maildir, mark));
+    let record = HostFile::by_pages(rt, record, mark);
+    let mut account = Account::new(rt.alloc(), settings, store, record, hasher);
     let fetched = fetch_into(
         rt.alloc(),
         &mut account,
@@ -82,8 +84,10 @@ fn fetch(rt: &HostRuntime, setup: Setup) -> u8
         &mut rt.stdout(),
         &mut rt.stderr(),
     );
-    let (_settings, store, _record) = account.into_parts();
-    let Store::Maildir(_maildir) = store;
+    let (settings, store, record) = account.into_parts();
+    let Store::Maildir(maildir) = store;
+    maildir.sweep(&account_of(&settings));
+    record.sweep();
     fetched.status()
 }
 

@@ -9,7 +9,7 @@ use crate::failure::{Failure, failure_of};
 use crate::place::{folder, joined, rc_file, whole_path};
 use crate::words::Words;
 use fetch_rules::{Dest, Key, RcFault, Settings, Warning, override_with, read_rc, warning_text};
-use mail_store::account_id;
+use mail_store::{AccountId, account_id};
 use std::alloc::{AllocError, Global};
 use std::fs;
 use std::io::{self, Read};
@@ -57,15 +57,22 @@ fn settings_of<'a>(rt: &HostRuntime, path: &str, words: &Words) -> Result<Settin
     Ok(override_with(settings, words.flags)?)
 }
 
+/// The account that the settings name.
+pub fn account_of(settings: &Settings) -> AccountId
+    ensures { result ≡ digits_of settings.now }
+{
+    account_id(
+        settings.server.as_str(),
+        settings.port,
+        settings.username.as_str(),
+    )
+}
+
 /// The path of the account's record in the folder.
 fn record_path(alloc: Global, folder: &str, settings: &Settings) -> Result<String, AllocError>
     ensures { IfOk result (λ path. string_bytes path ≡ joined folder.now (codes "seen-" ++ digits_of settings.now)) }
 {
-    let account = account_id(
-        settings.server.as_str(),
-        settings.port,
-        settings.username.as_str(),
-    );
+    let account = account_of(settings);
     let digest = account.as_str();
     let name = format!(in alloc; "seen-{digest}")?;
     joined(alloc, folder, name.as_str())

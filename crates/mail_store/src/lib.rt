@@ -7,6 +7,7 @@ mod file;
 mod fused;
 mod maildir;
 mod mboxrd;
+mod process_mark;
 mod refusal;
 mod system;
 
@@ -31,3 +32,4 @@ pub use mboxrd::entry::{
 };
 pub use mboxrd::quoting::{is_whole, quote, unquote, unquoting_undoes_quoting};
 pub use mboxrd::reading::read_mbox;
+pub use process_mark::ProcessMark;

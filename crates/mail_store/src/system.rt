@@ -1,18 +1,19 @@
-//! What the devices of the file system share: making a file, and flushing a folder.
+//! What the devices of the file system share: making a file, flushing a folder, and removing what
+//! killed runs left behind.
 
-use std::fs::{OpenFile, OpenOptions};
+use std::fs::{Metadata, OpenFile, OpenOptions};
 use std::io::ErrorKind;
 use std::os::unix::fs::OpenOptionsExt;
 use std::rt::Files;
+use std::time::{Clock, SystemTime};
 use std::{fs, io};
 
-/// Makes an empty file in place of an older one, if there is one. Its owner alone can read and
-/// write it (mode 0600).
+/// How many seconds a file that is being written goes without a change before it counts as left
+/// behind: 36 hours, as the Maildir format says of `tmp`.
+const LEFT_BEHIND_SECONDS: u64 = 129_600;
+
+/// Makes an empty file where none is. Its owner alone can read and write it (mode 0600).
 pub fn make_file<R: Files>(rt: &R, path: &str) -> io::Result<R::File> {
-    match fs::remove_file(rt, path) {
-        Err(fault) if fault.kind() != ErrorKind::NotFound => return Err(fault),
-        _ => {}
-    }
     OpenOptions::new()
         .write(true)
         .create_new(true)
@@ -37,4 +38,49 @@ pub fn folder_of(path: &str) -> &str {
         Some((folder, _)) => folder,
         None => ".",
     }
+}
+
+/// The name in its folder of what the path names.
+pub fn name_in(path: &str) -> &str {
+    match path.rsplit_once('/') {
+        Some((_, name)) => name,
+        None => path,
+    }
+}
+
+/// Whether a file was changed last so long ago that no run is writing it.
+fn is_left_behind(file: &Metadata, now: SystemTime) -> bool {
+    match file.modified() {
+        Ok(modified) => match now.duration_since(modified) {
+            Ok(age) => age.as_secs() >= LEFT_BEHIND_SECONDS,
+            Err(_) => false,
+        },
+        Err(_) => false,
+    }
+}
+
+/// Removes the files of a folder whose names begin so and that were left behind. One that can't be
+/// looked at or removed stays.
+pub fn sweep<R: Files + Clock + AllocGlobal + Clone + Drop>(
+    rt: &R,
+    folder: &str,
+    front: &str,
+) -> io::Result<()> {
+    let now = SystemTime::now(rt)?;
+    for entry in fs::read_dir(rt, folder)? {
+        let entry = match entry {
+            Ok(entry) => entry,
+            Err(fault) if fault.kind() == ErrorKind::InvalidFilename => continue,
+            Err(fault) => return Err(fault),
+        };
+        if !entry.file_name().starts_with(front) {
+            continue;
+        }
+        if let Ok(file) = entry.metadata() {
+            if is_left_behind(&file, now) {
+                let _ = fs::remove_file(rt, entry.path());
+            }
+        }
+    }
+    Ok(())
 }

@@ -8,7 +8,9 @@ ghost use Rattle.std.specs.Prelude.{◌≡◌, IfOk, length};
 mod mbox;
 
 use anyhow::{Result, ensure};
-use mail_store::{FlatFile, FolderMaildir, HostFile, account_id, deliver, file_name, held};
+use mail_store::{
+    FlatFile, FolderMaildir, HostFile, ProcessMark, account_id, deliver, file_name, held,
+};
 use mail_terms::{Listing, ScanRow, UidRow, have_legal_ids, is_legal_id};
 use std::alloc::Global;
 use std::env;
@@ -17,6 +19,11 @@ use std::time::{CpuClock, Instant};
 /// The id of the message of a number, as the driver names its files.
 fn id_of(alloc: Global, number: u32) -> Result<String> {
     Ok(format!(in alloc; "id-{number:05}")?)
+}
+
+/// The mark of this process.
+fn mark_of(rt: &HostRuntime) -> Result<ProcessMark> {
+    Ok(ProcessMark::new(rt.process(), rt)?)
 }
 
 /// The listing of messages 1 to `count`.
@@ -40,7 +47,7 @@ fn time_held(rt: &HostRuntime, path: &str, count: u32) -> Result<()> {
     let alloc = rt.alloc();
     let account = account_id("bench", 110, "bench");
     let listing = listing_of(alloc, count)?;
-    let mut disk = FolderMaildir::at(rt, String::from_str(alloc, path)?);
+    let mut disk = FolderMaildir::at(rt, String::from_str(alloc, path)?, mark_of(rt)?);
     let start = Instant::now(rt)?;
     let used = rt.process_cpu_time()?;
     let flags = held(alloc, &mut disk, &account, &listing)?;
@@ -57,7 +64,7 @@ fn time_deliver(rt: &HostRuntime, path: &str, count: u32) -> Result<()> {
     let alloc = rt.alloc();
     let account = account_id("bench", 110, "bench");
     let text = [b'x'; 2048];
-    let mut disk = FolderMaildir::at(rt, String::from_str(alloc, path)?);
+    let mut disk = FolderMaildir::at(rt, String::from_str(alloc, path)?, mark_of(rt)?);
     let start = Instant::now(rt)?;
     let used = rt.process_cpu_time()?;
     for number in 1..=count {
@@ -76,7 +83,7 @@ fn time_deliver(rt: &HostRuntime, path: &str, count: u32) -> Result<()> {
 /// `count` times.
 fn rewrite(rt: &HostRuntime, path: &str, count: u32) -> Result<()> {
     let text = [b'x'; 2048];
-    let mut file = HostFile::at(rt, String::from_str(rt.alloc(), path)?);
+    let mut file = HostFile::at(rt, String::from_str(rt.alloc(), path)?, mark_of(rt)?);
     for _ in 0..count {
         file.replace(text.as_slice())?;
         file.append(text.as_slice())?;
@@ -86,8 +93,33 @@ fn rewrite(rt: &HostRuntime, path: &str, count: u32) -> Result<()> {
     Ok(())
 }
 
+/// Puts one text of `count` bytes behind a file, page by page as a record's.
+fn append_pages(rt: &HostRuntime, path: &str, count: u32) -> Result<()> {
+    let text = Vec::from_elem(rt.alloc(), b'x', count as usize)?;
+    let path = String::from_str(rt.alloc(), path)?;
+    let mut file = HostFile::by_pages(rt, path, mark_of(rt)?);
+    file.edges()?;
+    file.append(&text)?;
+    println!(rt; "{count}")?;
+    Ok(())
+}
+
+/// Removes what killed runs left in a Maildir and beside the record in it.
+fn sweep(rt: &HostRuntime, path: &str) -> Result<()> {
+    let alloc = rt.alloc();
+    let mark = mark_of(rt)?;
+    let record = format!(in alloc; "{path}/seen")?;
+    HostFile::by_pages(rt, record, mark).sweep();
+    FolderMaildir::at(rt, String::from_str(alloc, path)?, mark).sweep(&account_id(
+        "bench", 110, "bench",
+    ));
+    Ok(())
+}
+
 fn tell_usage(rt: &HostRuntime) -> Result<()> {
-    println!(rt; "usage: store_bench held|deliver|rewrite|append|texts|quote PATH COUNT")?;
+    println!(rt;
+        "usage: store_bench held|deliver|rewrite|append|pages|sweep|texts|quote PATH COUNT"
+    )?;
     Ok(())
 }
 
@@ -103,6 +135,8 @@ fn main(rt: HostRuntime) -> Result<()> {
         "deliver" => time_deliver(&rt, path, count),
         "rewrite" => rewrite(&rt, path, count),
         "append" => mbox::append(&rt, path, count),
+        "pages" => append_pages(&rt, path, count),
+        "sweep" => sweep(&rt, path),
         "texts" => mbox::time_texts(&rt, path),
         "quote" => mbox::time_quote(&rt, path),
         _ => tell_usage(&rt),

@@ -7,6 +7,8 @@ mod fetch_rules_tests;
 #[cfg(test)]
 mod fetch_session_tests;
 #[cfg(test)]
+mod folder_names_tests;
+#[cfg(test)]
 mod local_fetch_tests;
 #[cfg(test)]
 mod mail_store_tests;

@@ -3,52 +3,73 @@
 ghost use Rattle.std.specs.Prelude.{◌≡◌, ◌<◌, ◌+◌, IfOk, string_bytes};
 ghost use Rattle.mail_terms.specs.FailureCount.{greatest_count};
 
+use crate::account::AccountId;
 use crate::fault::StoreFault;
 use crate::maildir::disk::{Folder, MaildirDisk};
+use crate::process_mark::ProcessMark;
 use crate::refusal::{admit, refuse};
-use crate::system::{flush_folder, make_file};
+use crate::system::{flush_folder, make_file, sweep};
+use folder_names::list_names;
 use mail_terms::FailureCount;
 use std::fs::{Metadata, OpenFile};
 use std::io::{ErrorKind, Write};
 use std::os::unix::fs::MetadataExt;
 use std::rt::Files;
+use std::time::Clock;
 use std::{fs, io};
 
-/// The file that is being written, and its name in `tmp`.
+/// The file that is being written, its path in `tmp`, and the name that it gets in `new`.
 #[derive(Drop)]
 struct Begun<F: Drop> {
     file: F,
+    path: String,
     name: String,
 }
 
 /// A Maildir in a folder of the file system, which must hold the folders `tmp`, `new` and `cur`;
 /// none of them is made. Nothing is known of what the system does; which file is begun is known.
 ///
-/// A file is made so that its owner alone can read it (mode 0600). It is flushed before it is renamed
-/// into `new`, and then `new` is flushed, where the system flushes folders, so that a delivered text
-/// outlives a loss of power.
+/// A file is made so that its owner alone can read it (mode 0600), and in `tmp` its name ends with the
+/// process's mark, so that no other run writes it. It is flushed before it is renamed into `new`, and
+/// then `new` is flushed, where the system flushes folders, so that a delivered text outlives a loss
+/// of power. `names` is exact although readers rename files meanwhile, and flushes the folder before it
+/// answers, so that no loss of power takes back what it told.
 #[derive(Drop)]
-pub struct FolderMaildir<'a, R: Files + AllocGlobal + Clone + Drop> {
+pub struct FolderMaildir<'a, R: Files + Clock + AllocGlobal + Clone + Drop> {
     rt: &'a R,
     path: String,
+    mark: ProcessMark,
     begun: Option<Begun<R::File>>,
     failures: FailureCount,
 }
 
-impl<'a, R: Files + AllocGlobal + Clone + Drop> FolderMaildir<'a, R> {
+impl<'a, R: Files + Clock + AllocGlobal + Clone + Drop> FolderMaildir<'a, R> {
     ghost use Rattle.std.specs.Prelude.{None};
     ghost use Rattle.mail_store.specs.Maildir.{unknown_maildir};
 
     /// The Maildir at a path, absolute or taken from the working folder.
-    pub fn at(rt: &'a R, path: String) -> FolderMaildir<'a, R>
+    pub fn at(rt: &'a R, path: String, mark: ProcessMark) -> FolderMaildir<'a, R>
         ensures { ⟦<FolderMaildir<'a, R> as MaildirDisk>⟧.maildir result ≡ unknown_maildir None 0 }
     {
         FolderMaildir {
             rt,
             path,
+            mark,
             begun: None,
             failures: FailureCount::new(),
         }
+    }
+
+    /// Removes from `tmp` the files of an account that killed runs left behind: those that weren't
+    /// changed for 36 hours. What can't be removed stays.
+    pub fn sweep(&self, account: &AccountId) {
+        let _ = self.sweep_tmp(account);
+    }
+
+    fn sweep_tmp(&self, account: &AccountId) -> io::Result<()> {
+        let digits = account.as_str();
+        let front = format!(in self.rt.alloc(); "{digits}.")?;
+        sweep(self.rt, self.folder_path("tmp")?.as_str(), front.as_str())
     }
 
     // The path of a folder of the Maildir.
@@ -69,28 +90,29 @@ impl<'a, R: Files + AllocGlobal + Clone + Drop> FolderMaildir<'a, R> {
         Ok(path)
     }
 
-    // The names of a folder's files. A name that begins with a full stop or isn't UTF-8 is passed
-    // over, and so is a folder. What vanishes while the folder is read counts as a file: a reader
-    // may have renamed it. The system is asked what each name stands for only where a folder may be
-    // among them, since that takes longer than all else.
+    // The names of a folder's files. A name that begins with a full stop or isn't UTF-8 is skipped,
+    // and so is a folder. The folder is flushed after it was listed, so that what the listing has
+    // stays. The system is asked what each name stands for only where a folder may be among them,
+    // since that takes longer than all else.
     fn read_names(&self, folder: &str) -> io::Result<Vec<String>> {
         let path = self.folder_path(folder)?;
-        let may_hold_folders = may_hold_folders(&fs::metadata(self.rt, path.as_str())?);
-        let mut names = Vec::new(self.rt.alloc());
-        for entry in fs::read_dir(self.rt, path)? {
-            let entry = match entry {
-                Ok(entry) => entry,
-                Err(fault) if fault.kind() == ErrorKind::InvalidFilename => continue,
-                Err(fault) => return Err(fault),
-            };
-            let name = entry.file_name();
-            if name.starts_with('.') {
-                continue;
+        let found = list_names(self.rt, path.as_str())?;
+        flush_folder(self.rt, path.as_str())?;
+        if may_hold_folders(&found.folder) {
+            return self.files_among(folder, found.names);
+        }
+        Ok(found.names)
+    }
+
+    // The names that stand for no folder. What has vanished counts as a file: a reader may have
+    // renamed it.
+    fn files_among(&self, folder: &str, found: Vec<String>) -> io::Result<Vec<String>> {
+        let mut names = Vec::with_capacity(self.rt.alloc(), found.len())?;
+        for name in found {
+            let path = self.file_path(folder, name.as_str())?;
+            if !is_folder(fs::symlink_metadata(self.rt, path))? {
+                names.push(name)?;
             }
-            if may_hold_folders && is_folder(entry.metadata())? {
-                continue;
-            }
-            names.push(String::from_str(self.rt.alloc(), name)?)?;
         }
         Ok(names)
     }
@@ -101,9 +123,11 @@ impl<'a, R: Files + AllocGlobal + Clone + Drop> FolderMaildir<'a, R> {
         if !is_file_name(name) {
             return Err(io::Error::from(ErrorKind::InvalidInput));
         }
-        let name = String::from_str(self.rt.alloc(), name)?;
-        let file = make_file(self.rt, self.file_path("tmp", name.as_str())?.as_str())?;
-        Ok(Begun { file, name })
+        let alloc = self.rt.alloc();
+        let path = self.file_path("tmp", self.mark.marked(alloc, name)?.as_str())?;
+        let name = String::from_str(alloc, name)?;
+        let file = make_file(self.rt, path.as_str())?;
+        Ok(Begun { file, path, name })
     }
 
     // Whether a folder of the Maildir isn't there.
@@ -117,25 +141,23 @@ impl<'a, R: Files + AllocGlobal + Clone + Drop> FolderMaildir<'a, R> {
         }
     }
 
-    // Flushes the file and renames it into `new`, where no file has its name.
+    // Flushes the file and renames it into `new`, where no file has its name. If another run puts one
+    // there after the look, the name is that of the same message, and either text is whole.
     fn move_into_new(&self, begun: &Begun<R::File>) -> io::Result<()> {
         begun.file.sync_all()?;
-        let from = self.file_path("tmp", begun.name.as_str())?;
         let to = self.file_path("new", begun.name.as_str())?;
         match fs::symlink_metadata(self.rt, to.as_str()) {
             Ok(_) => return Err(io::Error::from(ErrorKind::AlreadyExists)),
             Err(fault) if fault.kind() == ErrorKind::NotFound => {}
             Err(fault) => return Err(fault),
         }
-        fs::rename(self.rt, from, to)?;
+        fs::rename(self.rt, begun.path.as_str(), to)?;
         flush_folder(self.rt, self.folder_path("new")?.as_str())
     }
 
     // Removes the file from `tmp`, if it is there and the system lets it.
     fn remove_from_tmp(&self, begun: Begun<R::File>) {
-        if let Ok(path) = self.file_path("tmp", begun.name.as_str()) {
-            let _ = fs::remove_file(self.rt, path);
-        }
+        let _ = fs::remove_file(self.rt, begun.path);
     }
 }
 
@@ -161,7 +183,7 @@ fn is_file_name(name: &str) -> bool {
     !name.is_empty() && !name.starts_with('.') && !name.bytes().any(|b| b == b'/' || b == 0)
 }
 
-impl<'a, R: Files + AllocGlobal + Clone + Drop> MaildirDisk for FolderMaildir<'a, R> {
+impl<'a, R: Files + Clock + AllocGlobal + Clone + Drop> MaildirDisk for FolderMaildir<'a, R> {
     ghost use Rattle.std.specs.Prelude.{option_map};
     ghost use Rattle.mail_store.specs.Maildir.{file_named, unknown_maildir};
 

@@ -1,10 +1,15 @@
 //! Files of the file system, with ample memory. What `replace`, `append` and `cut_to` ask of it is
 //! watched by the tests from outside.
 
-use mail_store::{Edges, FlatFile, HostFile, StoreFault};
+use mail_store::{Edges, FlatFile, HostFile, ProcessMark, StoreFault};
 use std::alloc::Global;
 use std::fs;
 use std::test::Fail;
+
+/// The mark of this process.
+pub fn mark_of(rt: &HostRuntime) -> Result<ProcessMark, Fail> {
+    Ok(ProcessMark::new(rt.process(), rt)?)
+}
 
 /// A text of so many letters.
 pub fn text_of(alloc: Global, letter: u8, count: usize) -> Result<Vec<u8>, Fail> {
@@ -17,7 +22,11 @@ pub fn text_of(alloc: Global, letter: u8, count: usize) -> Result<Vec<u8>, Fail>
 
 #[test]
 fn a_full_disk_refuses(rt: HostRuntime) -> Result<(), Fail> {
-    let mut file = HostFile::at(&rt, String::from_str(rt.alloc(), "/dev/full")?);
+    let mut file = HostFile::at(
+        &rt,
+        String::from_str(rt.alloc(), "/dev/full")?,
+        mark_of(&rt)?,
+    );
     assert_eq!(rt; file.append(b"x"), Err(StoreFault::Refused));
     assert_eq!(rt; file.failures(), 1);
     Ok(())
@@ -25,7 +34,11 @@ fn a_full_disk_refuses(rt: HostRuntime) -> Result<(), Fail> {
 
 /// What a file holds once one text replaced what stood there, and another was appended.
 fn kept(rt: &HostRuntime, replaced: &[u8], appended: &[u8]) -> Result<Vec<u8>, Fail> {
-    let mut file = HostFile::at(rt, String::from_str(rt.alloc(), "long_texts")?);
+    let mut file = HostFile::at(
+        rt,
+        String::from_str(rt.alloc(), "long_texts")?,
+        mark_of(rt)?,
+    );
     file.replace(b"old")?;
     file.replace(replaced)?;
     file.append(appended)?;
@@ -44,9 +57,24 @@ fn keeps_long_texts(rt: HostRuntime) -> Result<(), Fail> {
     Ok(())
 }
 
+#[test]
+fn appends_by_pages(rt: HostRuntime) -> Result<(), Fail> {
+    let text = text_of(rt.alloc(), b'y', 10_000)?;
+    let path = String::from_str(rt.alloc(), "by_pages")?;
+    let mut file = HostFile::by_pages(&rt, path, mark_of(&rt)?);
+    file.replace(b"first")?;
+    file.append(text.as_slice())?;
+    file.append(b"")?;
+    let found = file.load()?;
+    fs::remove_file(&rt, "by_pages")?;
+    assert_eq!(rt; found.len(), 10_005);
+    assert!(rt; found.starts_with(b"first") && found.ends_with(text.as_slice()));
+    Ok(())
+}
+
 /// The edges of a file of these bytes, cut to so many of them.
 fn edges_of(rt: &HostRuntime, bytes: &str, len: u64) -> Result<Edges, Fail> {
-    let mut file = HostFile::at(rt, String::from_str(rt.alloc(), "edges")?);
+    let mut file = HostFile::at(rt, String::from_str(rt.alloc(), "edges")?, mark_of(rt)?);
     file.replace(bytes.as_bytes())?;
     file.cut_to(len)?;
     let edges = file.edges()?;
@@ -80,7 +108,7 @@ fn faults_at(
     rt: &HostRuntime,
     path: &str,
 ) -> Result<(Option<StoreFault>, Option<StoreFault>, u64), Fail> {
-    let mut file = HostFile::at(rt, String::from_str(rt.alloc(), path)?);
+    let mut file = HostFile::at(rt, String::from_str(rt.alloc(), path)?, mark_of(rt)?);
     let loaded = file.load().err();
     let measured = file.edges().err();
     Ok((loaded, measured, file.failures()))

@@ -1,5 +1,6 @@
 //! The mboxrd file: its vectors, appending over devices that refuse, and files of other forms.
 
+use crate::mail_store_tests::file::mark_of;
 use mail_store::{
     FlatFile, Fused, HostFile, MemoryFile, StoreFault, append_entry, check_mbox, is_whole, quote,
     read_mbox, unquote,
@@ -74,7 +75,7 @@ fn appends_to_a_real_file(rt: HostRuntime) -> Result<(), Fail> {
     let path = "appends_to_a_real_file";
     fs::write(&rt, path, b"")?;
     for passes in 0..4 {
-        let file = HostFile::at(&rt, String::from_str(alloc, path)?);
+        let file = HostFile::at(&rt, String::from_str(alloc, path)?, mark_of(&rt)?);
         let mut file = Fused::new(file, passes, false);
         assert!(rt; is_whole(TEXT));
         let whole = passes >= 2;
@@ -83,7 +84,7 @@ fn appends_to_a_real_file(rt: HostRuntime) -> Result<(), Fail> {
             "after {passes} calls"
         );
     }
-    let mut file = HostFile::at(&rt, String::from_str(alloc, path)?);
+    let mut file = HostFile::at(&rt, String::from_str(alloc, path)?, mark_of(&rt)?);
     let bytes = file.load()?;
     let texts = read_mbox(alloc, &bytes)?;
     assert_eq!(rt; texts.len(), 2);
