@@ -204,21 +204,23 @@ class Changes(unittest.TestCase):
         with Service(self.maildir) as service, service.client() as client:
             client.log_in()
             os.rename(self.paths[1], self.maildir.folder / "cur" / "b:2,S")
-            self.assertEqual(client.ask(b"RETR 2"), b"-ERR message unavailable\r\n")
+            self.assertEqual(client.ask_lines(b"RETR 2"), b"+OK 3 octets\r\nb\r\n.\r\n")
             self.assertEqual(client.ask(b"DELE 2"), b"+OK marked\r\n")
-            self.assertEqual(client.ask(b"QUIT"), b"-ERR some messages not removed\r\n")
-        self.assertEqual(self.names(), [b"b:2,S", b"a", b"c"])
+            self.assertEqual(client.ask(b"QUIT"), b"+OK bye\r\n")
+        self.assertEqual(self.names(), [b"a", b"c"])
 
     def test_every_removal_is_tried(self):
+        """One is refused, as a folder is in the file's place."""
         with Service(self.maildir, "--connections", "1") as service, service.client() as client:
             client.log_in()
             for number in (1, 2, 3):
                 client.ask(b"DELE %d" % number)
             os.unlink(self.paths[1])
+            os.mkdir(self.paths[1])
             self.assertEqual(client.ask(b"QUIT"), b"-ERR some messages not removed\r\n")
             self.assertEqual(client.rest(), b"")
             self.assertEqual(service.finish(), (0, b""))
-        self.assertEqual(self.names(), [])
+        self.assertEqual(self.names(), [b"b"])
 
     def test_a_message_that_comes_later_has_no_number(self):
         with Service(self.maildir) as service:
@@ -260,6 +262,11 @@ class Changes(unittest.TestCase):
                 client.pass_("q")
 
 
+def variables(meddling):
+    """The environment of a program that is meddled with."""
+    return {f"MEDDLE_{what.upper()}": os.fsdecode(path) for what, path in meddling.items()}
+
+
 class Listings(unittest.TestCase):
     """What a listing reads, and what comes between."""
 
@@ -274,17 +281,18 @@ class Listings(unittest.TestCase):
             client.log_in()
             return client.ask_lines(b"LIST").split(b"\r\n")[1:-2]
 
-    def clocked(self):
-        """A service whose time of day `set_clock` sets."""
-        library = self.enterContext(preload.library("clock"))
+    def clocked(self, **meddling):
+        """A service whose time of day `set_clock` sets, and that somebody may meddle with."""
+        libraries = [self.enterContext(preload.library(name)) for name in ("clock", "meddle")]
         self.clock = Path(self.maildir.holder.name) / "clock"
         self.set_clock(0)
-        return Service(self.maildir, LD_PRELOAD=str(library), CLOCK=str(self.clock))
+        return Service(self.maildir, LD_PRELOAD=":".join(map(str, libraries)), CLOCK=str(self.clock),
+                       **variables(meddling))
 
-    def set_clock(self, seconds):
+    def set_clock(self, seconds, clock=None):
         """Sets it to so many seconds after the one in which a folder was changed last."""
         changed = max(os.stat(self.maildir.folder / part).st_ctime_ns for part in ("new", "cur"))
-        self.clock.write_text(f"{changed // 1_000_000_000 + seconds}\n")
+        (clock or self.clock).write_text(f"{changed // 1_000_000_000 + seconds}\n")
 
     def grow(self):
         """One more line for the first message, in place: its size grows by three octets."""
@@ -306,6 +314,30 @@ class Listings(unittest.TestCase):
             self.maildir.add("new", "0", b"")
             self.assertEqual(self.sizes(service), [b"1 0", b"2 11", b"3 12"])
 
+    def change_in_place(self):
+        """Another text of the first message's length and time of change."""
+        stands = os.stat(self.path)
+        with open(self.path, "wb") as file:
+            file.write(b"\n\n\n\n")
+        os.utime(self.path, ns=(stands.st_atime_ns, stands.st_mtime_ns))
+
+    def test_a_size_is_kept_though_a_file_comes(self):
+        with self.clocked() as service:
+            self.assertEqual(self.sizes(service), [b"1 5", b"2 12"])
+            self.change_in_place()
+            self.maildir.add("new", "0", b"")
+            self.assertEqual(self.sizes(service), [b"1 0", b"2 5", b"3 12"])
+
+    def test_a_size_is_kept_though_a_login_is_refused(self):
+        with self.clocked() as service:
+            self.assertEqual(self.sizes(service), [b"1 5", b"2 12"])
+            self.change_in_place()
+            with service.client() as client:
+                client.ask(b"USER u")
+                client.line()
+                self.assertEqual(client.ask(b"PASS q"), b"-ERR refused\r\n")
+            self.assertEqual(self.sizes(service), [b"1 5", b"2 12"])
+
     def test_a_size_goes_with_its_name(self):
         """Another file of the same length and the same time of change is counted for itself."""
         with self.clocked() as service:
@@ -320,10 +352,7 @@ class Listings(unittest.TestCase):
         """A file that was counted is served as it was counted, though it has other lines now: it wasn't read."""
         with self.clocked() as service:
             self.assertEqual(self.sizes(service), [b"1 5", b"2 12"])
-            stands = os.stat(self.path)
-            with open(self.path, "wb") as file:
-                file.write(b"\n\n\n\n")
-            os.utime(self.path, ns=(stands.st_atime_ns, stands.st_mtime_ns))
+            self.change_in_place()
             self.assertEqual(self.sizes(service), [b"1 5", b"2 12"])
 
     def test_folders_that_were_not_changed_are_not_looked_through_again(self):
@@ -349,6 +378,38 @@ class Listings(unittest.TestCase):
                 self.assertEqual(self.sizes(service), [b"1 %d" % size, b"2 12"])
                 self.grow()
             self.assertEqual(self.sizes(service), [b"1 14", b"2 12"])
+
+    def test_a_folder_whose_times_are_put_back_is_looked_through_again(self):
+        """All but its time of change, which nobody can put back."""
+        for part in ("new", "cur"):
+            with self.subTest(part), self.clocked() as service:
+                self.set_clock(3)
+                count = len(self.sizes(service))
+                stands = os.stat(self.maildir.folder / part)
+                self.maildir.add(part, "c" + part, b"")
+                os.utime(self.maildir.folder / part, ns=(stands.st_atime_ns, stands.st_mtime_ns))
+                self.assertEqual(len(self.sizes(service)), count + 1)
+
+    def test_a_file_that_comes_while_it_is_listed(self):
+        """It is in the next listing, however long the folder has been at rest by then."""
+        coming = self.maildir.add("tmp", "c", b"")
+        meddling = {"at": f"{self.maildir.folder / 'cur'}/", "from": coming, "to": self.maildir.folder / "new" / "c"}
+        with self.clocked(**meddling) as service:
+            self.set_clock(100)
+            self.assertEqual(self.sizes(service), [b"1 5", b"2 12"])
+            self.set_clock(200)
+            self.assertEqual(self.sizes(service), [b"1 5", b"2 12", b"3 0"])
+
+    def test_a_listing_that_takes_long(self):
+        """Whether the folders were at rest is asked of the time before it."""
+        later = self.maildir.folder / "later"
+        self.set_clock(100, later)
+        clock = Path(self.maildir.holder.name) / "clock"
+        meddling = {"at": f"{self.maildir.folder / 'cur'}/", "from": later, "to": clock}
+        with self.clocked(**meddling) as service:
+            self.assertEqual(self.sizes(service), [b"1 5", b"2 12"])
+            self.grow()
+            self.assertEqual(self.sizes(service), [b"1 8", b"2 12"])
 
     def test_a_listing_stands_for_an_hour(self):
         with self.clocked() as service:
@@ -383,8 +444,7 @@ class Listings(unittest.TestCase):
     def meddled(self, **meddling):
         """A service that somebody meddles with."""
         library = self.enterContext(preload.library("meddle"))
-        names = {f"MEDDLE_{what.upper()}": str(path) for what, path in meddling.items()}
-        return Service(self.maildir, "--connections", "2", LD_PRELOAD=str(library), **names)
+        return Service(self.maildir, "--connections", "2", LD_PRELOAD=str(library), **variables(meddling))
 
     def test_a_file_that_moves_while_it_is_listed(self):
         """The folders are looked through anew, and the message is listed under its new name."""
@@ -409,6 +469,58 @@ class Listings(unittest.TestCase):
                 with service.client() as client:
                     self.assertEqual(client.log_in(), b"-ERR maildrop unavailable\r\n")
             self.assertEqual(service.finish(), (0, f'popd: warning: cannot read "{path}"\n'.encode() * 2))
+
+
+    def test_names_that_are_no_text_end_no_listing(self):
+        for number in range(20):
+            for part in ("new", "cur"):
+                self.maildir.add(part, b"\xff%d" % number, b"passed over\n")
+                self.maildir.add(part, f"{part}{number}", b"")
+        with Service(self.maildir) as service:
+            self.assertEqual(len(self.sizes(service)), 42)
+
+
+class Reads(unittest.TestCase):
+    """A message of several parts is read while something happens to its file."""
+
+    def setUp(self):
+        self.maildir = Maildir()
+        self.addCleanup(self.maildir.holder.cleanup)
+        self.path = self.maildir.add("new", "a", b"a" * 79 + b"\n")
+        with open(self.path, "ab") as file:
+            file.write((b"a" * 79 + b"\n") * 2_000)
+        self.answer = b"+OK %d octets\r\n" % (81 * 2_001) + (b"a" * 79 + b"\r\n") * 2_001 + b".\r\n"
+        self.when = Path(self.maildir.holder.name) / "when"
+
+    def meddled(self, **meddling):
+        """A service that somebody meddles with once `when` is there."""
+        library = self.enterContext(preload.library("meddle"))
+        return Service(self.maildir, LD_PRELOAD=str(library), **variables(meddling | {"when": self.when}))
+
+    def test_a_file_that_is_replaced(self):
+        """Its text is that of one file, the one that it was at first."""
+        other = self.maildir.add("tmp", "a", (b"b" * 79 + b"\n") * 2_001)
+        meddling = {"read": self.path, "from": other, "to": self.path}
+        with self.meddled(**meddling) as service, service.client() as client:
+            client.log_in()
+            self.when.touch()
+            self.assertEqual(client.ask_lines(b"RETR 1"), self.answer)
+            self.assertEqual(client.ask_lines(b"RETR 1"), self.answer.replace(b"a", b"b"))
+
+    def test_a_file_that_cannot_be_read_to_its_end(self):
+        """No part of it is served as if it were the whole."""
+        with self.meddled(broken=self.path) as service, service.client() as client:
+            client.log_in()
+            self.assertEqual(client.ask_lines(b"RETR 1"), self.answer)
+            self.when.touch()
+            for command in (b"RETR 1", b"TOP 1 2001"):
+                self.assertEqual(client.ask(command), b"-ERR message unavailable\r\n")
+            self.assertEqual(client.ask(b"NOOP"), b"+OK\r\n")
+
+    def test_a_size_that_cannot_be_counted_to_its_end(self):
+        self.when.touch()
+        with self.meddled(broken=self.path) as service, service.client() as client:
+            self.assertEqual(client.log_in(), b"-ERR maildrop unavailable\r\n")
 
 
 class GreatMaildirs(unittest.TestCase):

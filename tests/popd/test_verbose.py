@@ -75,16 +75,31 @@ class Verbose(unittest.TestCase):
                 client.line()
             self.check_told(service)
 
-    def test_a_removal_that_is_refused(self):
-        """A file that is gone at QUIT can't be removed."""
+    def check_refused_removals(self, refused, told):
+        """Of two messages that are marked, those removals are refused: a folder is in the place of the file."""
         with self.service() as service, service.client() as client:
             client.line()
             for command in (b"USER u", b"PASS secret", b"DELE 1", b"DELE 2"):
                 client.ask(command)
-            os.remove(self.paths[0])
+            for path in refused:
+                os.remove(path)
+                os.mkdir(path)
             self.assertEqual(client.ask(b"QUIT"), b"-ERR some messages not removed\r\n")
             peer = f"{LOOPBACK}:{client.socket.getsockname()[1]}"
-            self.check_told(service, f"{peer}: logged in, 2 messages", f"{peer}: 1 messages removed, 1 not removed")
+            self.check_told(service, f"{peer}: logged in, 2 messages", f"{peer}: {told}")
+
+    def test_a_removal_that_is_refused(self):
+        self.check_refused_removals(self.paths[:1], "1 messages removed, 1 not removed")
+
+    def test_removals_that_are_all_refused(self):
+        self.check_refused_removals(self.paths, "0 messages removed, 2 not removed")
+
+    def test_a_login_to_an_empty_maildrop(self):
+        for path in self.paths:
+            os.remove(path)
+        with self.service() as service:
+            peer, _ = self.talk(service, b"QUIT")
+            self.check_told(service, f"{peer}: logged in, 0 messages")
 
     def test_a_maildrop_that_cannot_be_listed(self):
         with self.service() as service:

@@ -4,13 +4,12 @@ ghost use Rattle.std.specs.String.{string_bytes};
 ghost use Rattle.pop3_server.specs.ListedFiles.{WasCounted};
 
 use crate::folders_look::FoldersLook;
-use crate::maildir_names::{Folder, MailFile, Stamp};
+use crate::maildir_names::{Folder, MailFile, PlacedFile, Stamp};
 use crate::size::SizeCount;
 use mail_terms::base;
 use std::alloc::{AllocError, Global};
-use std::fs::{self, Metadata};
+use std::fs::Metadata;
 use std::io::{self, Read};
-use std::rt::Files;
 use std::time::UNIX_EPOCH;
 
 /// How many octets of a file are read at once.
@@ -118,7 +117,9 @@ impl Listing {
     pub fn found(&self, alloc: Global) -> Result<FoundFiles, AllocError> {
         let mut files = Vec::with_capacity(alloc, self.files.len())?;
         for file in self.files.as_slice() {
-            files.push(MailFile::of(alloc, file.folder, file.name.as_str(), file.stamp)?)?;
+            let name = String::from_str(alloc, file.name.as_str())?;
+            let placed = PlacedFile::of(alloc, file.folder, name)?;
+            files.push(MailFile::of(placed, file.stamp))?;
         }
         Ok(FoundFiles {
             look: self.look,
@@ -158,9 +159,8 @@ impl<'a> Counted<'a> {
     }
 }
 
-/// The size of a file as a message, which is read in pieces.
-pub fn count_size<R: Files>(rt: &R, path: &str, piece: &mut [u8]) -> io::Result<u64> {
-    let mut file = fs::open(rt, path)?;
+/// The size of a file as a message, which is read in pieces to its end.
+pub fn count_size<F: Read>(file: &mut F, piece: &mut [u8]) -> io::Result<u64> {
     let mut count = SizeCount::new();
     for _ in 0..u64::MAX {
         let n = file.read(piece)?;

@@ -8,15 +8,13 @@ ghost use Rattle.mail_terms.specs.FailureCount.{Tallies, counted_up, refuses};
 ghost use Rattle.pop3_server.specs.Maildrop.{is_refusal};
 ghost use Rattle.pop3_server.specs.RealMaildir.{mail_of, names_of, uid_of, HaveIds, ListsNames};
 
-use crate::folders_look::{ChangeTime, FoldersLook};
-use crate::listed_file::{Counted, FoundFiles, ListedFile, Listing, PIECE, count_size, stamp_of};
-use crate::maildir_names::{Folder, MailFile, unique_id};
+use crate::listed_file::{Counted, FoundFiles, ListedFile, Listing, PIECE};
+use crate::maildir_folders::{MaildirFolders, Unread};
+use crate::maildir_names::{MailFile, unique_id};
 use crate::maildrop::{DropFault, Entry, MAX_COUNT, MAX_SIZE, Maildrop};
+use crate::seen_files::SeenFiles;
 use mail_terms::{FailureCount, base};
-use std::alloc::{AllocError, AllocFailed};
 use std::collections::HashSet;
-use std::fs;
-use std::fs::OpenFile;
 use std::hash::RandomState;
 use std::io::{self, ErrorKind, Read, Seek, SeekFrom};
 use std::marker::Model;
@@ -29,12 +27,14 @@ use std::time::Clock;
 #[derive(Drop)]
 pub struct MaildirDrop<'a, R: Files + AllocGlobal + Clone + Drop> {
     rt: &'a R,
-    path: String,
+    folders: MaildirFolders<'a, R>,
     listing: Listing,
     /// An earlier server's listing, until this one has its own.
     earlier: Listing,
     /// The path of the file or folder that couldn't be read, where that refused a listing.
     unread: Option<String>,
+    /// Where files were seen last that aren't where they were listed.
+    last_seen: SeenFiles,
     /// The file of which a part was given last.
     open: Option<OpenText<R::File>>,
     failures: FailureCount,
@@ -56,52 +56,16 @@ impl<'a, R: Files + AllocGlobal + Clone + Drop> Model for MaildirDrop<'a, R> {
     ghost Value = { RealMaildir };
 
     ghost view = { λ d. record {
-      path = string_bytes d.path;
+      path = d.folders;
       names = names_of d.listing.files.items;
       failures = d.failures;
       removals = d.removals;
     } };
 }
 
-/// Why a Maildir couldn't be listed: the error of the system, and the path of the file or folder that
-/// couldn't be read, where it was one.
-#[derive(Drop)]
-struct Unlisted {
-    error: io::Error,
-    path: Option<String>,
-}
-
-impl Unlisted {
-    /// What kept a file or folder from being read. Want of memory has nothing to do with its path.
-    fn at(error: io::Error, path: String) -> Unlisted {
-        let path = if error.kind() == ErrorKind::OutOfMemory {
-            None
-        } else {
-            Some(path)
-        };
-        Unlisted { error, path }
-    }
-}
-
-impl From<io::Error> for Unlisted {
-    fn from(error: io::Error) -> Unlisted {
-        Unlisted { error, path: None }
-    }
-}
-
-impl From<AllocError> for Unlisted {
-    fn from(error: AllocError) -> Unlisted {
-        Unlisted {
-            error: error.into(),
-            path: None,
-        }
-    }
-}
-
-impl<T: Drop> From<AllocFailed<T>> for Unlisted {
-    fn from(error: AllocFailed<T>) -> Unlisted {
-        AllocError::from(error).into()
-    }
+/// No file is there.
+fn missing() -> Unread {
+    io::Error::from(ErrorKind::NotFound).into()
 }
 
 /// The messages found in a Maildir, and where their files lie.
@@ -118,10 +82,11 @@ impl<'a, R: Files + Clock + RandomSource + AllocGlobal + Clone + Drop> MaildirDr
     {
         MaildirDrop {
             rt,
-            path,
+            folders: MaildirFolders::at(rt, path),
             listing: Listing::none(rt.alloc()),
             earlier: Listing::none(rt.alloc()),
             unread: None,
+            last_seen: SeenFiles::none(),
             open: None,
             failures: FailureCount::new(),
             removals: 0,
@@ -136,7 +101,7 @@ impl<'a, R: Files + Clock + RandomSource + AllocGlobal + Clone + Drop> MaildirDr
     {
         let MaildirDrop {
             rt,
-            path,
+            folders,
             listing,
             earlier,
             ..
@@ -148,7 +113,7 @@ impl<'a, R: Files + Clock + RandomSource + AllocGlobal + Clone + Drop> MaildirDr
         };
         MaildirDrop {
             earlier,
-            ..MaildirDrop::at(rt, path)
+            ..MaildirDrop::at(rt, folders.into_path())
         }
     }
 
@@ -160,117 +125,42 @@ impl<'a, R: Files + Clock + RandomSource + AllocGlobal + Clone + Drop> MaildirDr
         }
     }
 
-    /// The path of a folder.
-    fn folder_path(&self, folder: Folder) -> io::Result<String> {
-        let path = self.path.as_str();
-        let name = folder.name();
-        Ok(format!(in self.rt.alloc(); "{path}/{name}")?)
-    }
-
-    /// The path of a file in a folder.
-    fn path_of(&self, folder: Folder, name: &str) -> io::Result<String> {
-        let path = self.path.as_str();
-        let folder = folder.name();
-        Ok(format!(in self.rt.alloc(); "{path}/{folder}/{name}")?)
-    }
-
-    /// Adds the regular files of a folder, which has this path. A name that isn't UTF-8 is passed over.
-    fn add_files(&self, folder: Folder, path: &str, found: &mut Vec<MailFile>) -> io::Result<()> {
-        let alloc = self.rt.alloc();
-        for entry in fs::read_dir(self.rt, path)? {
-            let entry = match entry {
-                Ok(entry) => entry,
-                Err(error) => {
-                    if error.kind() == ErrorKind::InvalidFilename {
-                        continue;
-                    }
-                    return Err(error);
-                }
-            };
-            let name = entry.file_name();
-            if name.starts_with('.') {
-                continue;
-            }
-            let metadata = entry.metadata()?;
-            if !metadata.is_file() {
-                continue;
-            }
-            found.push(MailFile::of(alloc, folder, name, stamp_of(&metadata))?)?;
-        }
-        Ok(())
-    }
-
-    /// Adds the regular files of a folder.
-    fn find_in(&self, folder: Folder, found: &mut Vec<MailFile>) -> Result<(), Unlisted> {
-        let path = self.folder_path(folder)?;
-        match self.add_files(folder, path.as_str(), found) {
-            Ok(()) => Ok(()),
-            Err(error) => Err(Unlisted::at(error, path)),
-        }
-    }
-
-    /// When a folder was changed last.
-    fn change_of(&self, folder: Folder) -> Result<ChangeTime, Unlisted> {
-        let path = self.folder_path(folder)?;
-        match fs::metadata(self.rt, path.as_str()) {
-            Ok(metadata) => Ok(ChangeTime::of(&metadata)),
-            Err(error) => Err(Unlisted::at(error, path)),
-        }
-    }
-
-    /// A look at both folders. The clock is read first: what a folder's change that the look misses
-    /// leaves behind is no older than the look.
-    fn look_at_folders(&self) -> Result<FoldersLook, Unlisted> {
-        let at = match self.rt.since_1970() {
-            Ok(passed) => passed.as_secs(),
-            Err(_) => 0,
-        };
-        Ok(FoldersLook {
-            at,
-            new: self.change_of(Folder::New)?,
-            cur: self.change_of(Folder::Cur)?,
-        })
-    }
-
-    /// All files: those of the earlier listing where it stands. A file that moves from `new` to `cur`
-    /// while they are looked through is found all the same, as `new` is looked through first.
-    fn find(&self) -> Result<FoundFiles, Unlisted> {
-        let look = self.look_at_folders()?;
+    /// The files of the Maildir: those of the earlier listing where it stands.
+    fn find(&self, last_seen: &mut SeenFiles) -> Result<FoundFiles, Unread> {
+        let look = self.folders.look()?;
         if self.earlier.look.stands_at(&look) {
             return Ok(self.earlier.found(self.rt.alloc())?);
         }
-        let mut files = Vec::with_capacity(self.rt.alloc(), self.earlier.files.len())?;
-        self.find_in(Folder::New, &mut files)?;
-        self.find_in(Folder::Cur, &mut files)?;
-        files.sort()?;
+        let placed = self.folders.list()?;
+        let mut files = Vec::with_capacity(self.rt.alloc(), placed.len())?;
+        for file in placed {
+            if let Some(stamp) = self.folders.stamp(last_seen, &file)? {
+                files.push(MailFile::of(file, stamp))?;
+            }
+        }
         Ok(FoundFiles { look, files })
     }
 
-    /// The size of a file, which is read for it.
-    fn count(&self, folder: Folder, name: &str, piece: &mut [u8]) -> Result<u64, Unlisted> {
-        let path = self.path_of(folder, name)?;
-        match count_size(self.rt, path.as_str(), piece) {
-            Ok(size) => Ok(size),
-            Err(error) => Err(Unlisted::at(error, path)),
-        }
-    }
-
-    /// The size of a file: the one that is known, or else it is read.
+    /// The size of a file: the one that is known, or else it is read. None where it is gone.
     fn size_of(
         &self,
+        last_seen: &mut SeenFiles,
         file: &MailFile,
         known: Option<u64>,
         piece: &mut [u8],
-    ) -> Result<u64, Unlisted> {
+    ) -> Result<Option<u64>, Unread> {
         match known {
-            Some(size) => Ok(size),
-            None => self.count(file.folder, file.name.as_str(), piece),
+            Some(size) => Ok(Some(size)),
+            None => self
+                .folders
+                .size(last_seen, file.folder, file.name.as_str(), piece),
         }
     }
 
-    /// The messages of these files: of several with one id the first, none past the limits.
+    /// The messages of these files: of several with one id the first, none past the limits, and none
+    /// whose file is gone.
     #[tactic(auto, using(crate::proofs::MaildirLemmas::ids_push))]
-    fn list(&self, found: FoundFiles) -> Result<ListedMessages, Unlisted>
+    fn list(&self, last_seen: &mut SeenFiles, found: FoundFiles) -> Result<ListedMessages, Unread>
         ensures within { IfOk result (λ listed. vec_len listed.entries ≤ MAX_COUNT) }
         ensures distinct { IfOk result (λ listed. AreDistinct (map uid_of listed.entries.items)) }
         ensures names { IfOk result (λ listed. HaveIds listed.entries.items (names_of listed.listing.files.items)) }
@@ -299,7 +189,9 @@ impl<'a, R: Files + Clock + RandomSource + AllocGlobal + Clone + Drop> MaildirDr
             if seen.contains(&key) || file.stamp.length > MAX_SIZE {
                 continue;
             }
-            let size = self.size_of(&file, known, piece.as_mut_slice())?;
+            let Some(size) = self.size_of(last_seen, &file, known, piece.as_mut_slice())? else {
+                continue;
+            };
             if size > MAX_SIZE {
                 continue;
             }
@@ -314,55 +206,51 @@ impl<'a, R: Files + Clock + RandomSource + AllocGlobal + Clone + Drop> MaildirDr
     }
 
     /// The messages of the Maildir as it is now.
-    fn look(&self) -> Result<ListedMessages, Unlisted>
+    fn look(&self, last_seen: &mut SeenFiles) -> Result<ListedMessages, Unread>
         ensures within { IfOk result (λ listed. vec_len listed.entries ≤ MAX_COUNT) }
         ensures distinct { IfOk result (λ listed. AreDistinct (map uid_of listed.entries.items)) }
         ensures names { IfOk result (λ listed. HaveIds listed.entries.items (names_of listed.listing.files.items)) }
     {
-        self.list(self.find()?)
+        let found = self.find(last_seen)?;
+        self.list(last_seen, found)
     }
 
-    /// The messages of the Maildir. Where a file vanished meanwhile or got another name, the folders are
-    /// looked through once more.
-    fn look_twice(&self) -> Result<ListedMessages, Unlisted>
-        ensures within { IfOk result (λ listed. vec_len listed.entries ≤ MAX_COUNT) }
-        ensures distinct { IfOk result (λ listed. AreDistinct (map uid_of listed.entries.items)) }
-        ensures names { IfOk result (λ listed. HaveIds listed.entries.items (names_of listed.listing.files.items)) }
+    /// Opens the file at a place of the last listing.
+    fn open_file(&mut self, i: usize) -> Result<R::File, Unread>
+        ensures same { self.new ≡ self.old }
     {
-        match self.look() {
-            Ok(listed) => Ok(listed),
-            Err(unlisted) => {
-                if unlisted.error.kind() == ErrorKind::NotFound {
-                    self.look()
-                } else {
-                    Err(unlisted)
-                }
-            }
+        let Some(listed) = self.listing.files.get(i) else {
+            return Err(missing());
+        };
+        let name = listed.name.as_str();
+        match self.folders.open(&mut self.last_seen, listed.folder, name)? {
+            Some(file) => Ok(file),
+            None => Err(missing()),
         }
     }
 
     /// The bytes of the file at a place of the last listing. They go into room for one more than the
     /// listing counted, so that the read that finds the end has room too: it grows only where the
     /// file has grown.
-    fn read_file(&self, i: usize) -> io::Result<Vec<u8>> {
-        let Some(listed) = self.listing.files.get(i) else {
-            return Err(ErrorKind::NotFound.into());
+    fn read_file(&mut self, i: usize) -> Result<Vec<u8>, Unread>
+        ensures same { self.new ≡ self.old }
+    {
+        let mut file = self.open_file(i)?;
+        let length = match self.listing.files.get(i) {
+            Some(listed) => listed.stamp.length,
+            None => 0,
         };
-        let path = self.path_of(listed.folder, listed.name.as_str())?;
-        let mut file = fs::open(self.rt, path.as_str())?;
-        let room = (listed.stamp.length as usize).saturating_add(1);
+        let room = (length as usize).saturating_add(1);
         let mut text = Vec::with_capacity(self.rt.alloc(), room)?;
         file.read_to_end(&mut text)?;
         Ok(text)
     }
 
     /// Opens the file at a place of the last listing, to be read from the octet `start` on.
-    fn open_text(&self, i: usize, start: usize) -> io::Result<OpenText<R::File>> {
-        let Some(listed) = self.listing.files.get(i) else {
-            return Err(ErrorKind::NotFound.into());
-        };
-        let path = self.path_of(listed.folder, listed.name.as_str())?;
-        let mut file = fs::open(self.rt, path.as_str())?;
+    fn open_text(&mut self, i: usize, start: usize) -> Result<OpenText<R::File>, Unread>
+        ensures same { self.new ≡ self.old }
+    {
+        let mut file = self.open_file(i)?;
         if start > 0 {
             file.seek(SeekFrom::Start(start as u64))?;
         }
@@ -375,7 +263,7 @@ impl<'a, R: Files + Clock + RandomSource + AllocGlobal + Clone + Drop> MaildirDr
 
     /// Reads a part of the file at a place. The file stays open until its end was read, so that it is
     /// the same one from the first part on.
-    fn read_part(&mut self, i: usize, start: usize, piece: &mut [u8]) -> io::Result<usize>
+    fn read_part(&mut self, i: usize, start: usize, piece: &mut [u8]) -> Result<usize, Unread>
         ensures same { self.new ≡ self.old }
         ensures within { IfOk result (λ n. n ≤ length piece.new) }
     {
@@ -397,15 +285,17 @@ impl<'a, R: Files + Clock + RandomSource + AllocGlobal + Clone + Drop> MaildirDr
         Ok(n)
     }
 
-    /// Removes the file at a place of the last listing.
-    fn remove_file(&self, i: usize) -> io::Result<()> {
-        match self.listing.files.get(i) {
-            Some(listed) => {
-                let path = self.path_of(listed.folder, listed.name.as_str())?;
-                fs::remove_file(self.rt, path.as_str())
-            }
-            None => Err(ErrorKind::NotFound.into()),
-        }
+    /// Removes the file at a place of the last listing. One that is gone already is removed.
+    fn remove_file(&mut self, i: usize) -> Result<(), Unread>
+        ensures same { self.new ≡ self.old }
+    {
+        let Some(listed) = self.listing.files.get(i) else {
+            return Err(missing());
+        };
+        self.last_seen.begin_removals();
+        let name = listed.name.as_str();
+        self.folders
+            .remove(&mut self.last_seen, listed.folder, name)
     }
 
     /// What a call answers after an error of the system: want of memory as such, anything else as a
@@ -439,13 +329,15 @@ impl<'a, R: Files + Clock + RandomSource + AllocGlobal + Clone + Drop> Maildrop
         if self.failures.is_full() {
             return Err(DropFault::Refused);
         }
-        match self.look_twice() {
+        let mut last_seen = SeenFiles::none();
+        match self.look(&mut last_seen) {
             Ok(ListedMessages { entries, listing }) => {
                 self.listing = listing;
+                self.last_seen = last_seen;
                 self.earlier = Listing::none(self.rt.alloc());
                 Ok(entries)
             }
-            Err(Unlisted { error, path }) => {
+            Err(Unread { error, path }) => {
                 self.unread = path;
                 Err(self.refuse(error))
             }
@@ -461,7 +353,7 @@ impl<'a, R: Files + Clock + RandomSource + AllocGlobal + Clone + Drop> Maildrop
         }
         match self.read_file(i) {
             Ok(text) => Ok(text),
-            Err(error) => Err(self.refuse(error)),
+            Err(unread) => Err(self.refuse(unread.error)),
         }
     }
 
@@ -475,7 +367,7 @@ impl<'a, R: Files + Clock + RandomSource + AllocGlobal + Clone + Drop> Maildrop
         }
         match self.read_part(i, start, piece) {
             Ok(n) => Ok(n),
-            Err(error) => Err(self.refuse(error)),
+            Err(unread) => Err(self.refuse(unread.error)),
         }
     }
 

@@ -38,8 +38,27 @@ pub struct Stamp {
     pub nanoseconds: u32,
 }
 
-/// A file of a Maildir. Files are ordered by the bytes of their base, then `cur` before `new`, then
-/// by their whole name.
+/// Where a file of a Maildir lies. Files are ordered by the bytes of their base, then `cur` before
+/// `new`, then by their whole name.
+#[derive(PartialEq, Eq, PartialOrd, Ord, Drop)]
+pub struct PlacedFile {
+    pub base: Vec<u8>,
+    pub folder: Folder,
+    pub name: String,
+}
+
+impl PlacedFile {
+    /// The file of this name.
+    pub fn of(alloc: Global, folder: Folder, name: String) -> Result<PlacedFile, AllocError> {
+        Ok(PlacedFile {
+            base: Vec::from_slice(alloc, base(name.as_str()).as_bytes())?,
+            folder,
+            name,
+        })
+    }
+}
+
+/// A file of a Maildir, in the same order.
 #[derive(PartialEq, Eq, PartialOrd, Ord, Drop)]
 pub struct MailFile {
     pub base: Vec<u8>,
@@ -50,19 +69,15 @@ pub struct MailFile {
 }
 
 impl MailFile {
-    /// A file of this name.
-    pub fn of(
-        alloc: Global,
-        folder: Folder,
-        name: &str,
-        stamp: Stamp,
-    ) -> Result<MailFile, AllocError> {
-        Ok(MailFile {
-            base: Vec::from_slice(alloc, base(name).as_bytes())?,
+    /// A file that lies there.
+    pub fn of(placed: PlacedFile, stamp: Stamp) -> MailFile {
+        let PlacedFile { base, folder, name } = placed;
+        MailFile {
+            base,
             folder,
-            name: String::from_str(alloc, name)?,
+            name,
             stamp,
-        })
+        }
     }
 }
 

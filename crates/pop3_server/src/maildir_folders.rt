@@ -1,0 +1,251 @@
+//! The two folders of a Maildir whose files are messages, and where such a file lies now: mail software
+//! moves files from `new` to `cur` and gives them other flags while they are served.
+ghost use Rattle.std.specs.Prelude.{◌≡◌};
+ghost use Rattle.std.specs.String.{string_bytes};
+
+use crate::folders_look::{ChangeTime, FoldersLook};
+use crate::listed_file::{count_size, stamp_of};
+use crate::maildir_names::{Folder, PlacedFile, Stamp};
+use crate::seen_files::SeenFiles;
+use folder_names::{FolderNames, list_names};
+use mail_terms::base;
+use std::alloc::{AllocError, AllocFailed};
+use std::fs;
+use std::io::{self, ErrorKind};
+use std::marker::Model;
+use std::rt::Files;
+use std::time::Clock;
+
+/// How many times a file is tried that has got another name each time.
+const MOST_TRIES: u32 = 10;
+
+/// Why a file or folder couldn't be read or removed: the error of the system, and its path, where it was
+/// for one.
+#[derive(Drop)]
+pub struct Unread {
+    pub error: io::Error,
+    pub path: Option<String>,
+}
+
+impl Unread {
+    /// What kept a file or folder from being read. Running out of memory has nothing to do with its path.
+    pub fn at(error: io::Error, path: String) -> Unread {
+        let path = if error.kind() == ErrorKind::OutOfMemory {
+            None
+        } else {
+            Some(path)
+        };
+        Unread { error, path }
+    }
+}
+
+impl From<io::Error> for Unread {
+    fn from(error: io::Error) -> Unread {
+        Unread { error, path: None }
+    }
+}
+
+impl From<AllocError> for Unread {
+    fn from(error: AllocError) -> Unread {
+        Unread {
+            error: error.into(),
+            path: None,
+        }
+    }
+}
+
+impl<T: Drop> From<AllocFailed<T>> for Unread {
+    fn from(error: AllocFailed<T>) -> Unread {
+        AllocError::from(error).into()
+    }
+}
+
+/// The folders `new` and `cur` of the Maildir at a path.
+#[derive(Drop)]
+pub struct MaildirFolders<'a, R: Files + AllocGlobal + Clone + Drop> {
+    rt: &'a R,
+    path: String,
+}
+
+impl<'a, R: Files + AllocGlobal + Clone + Drop> Model for MaildirFolders<'a, R> {
+    ghost use Rattle.std.specs.Prelude.{ℕ, List};
+    ghost use Rattle.std.specs.String.{string_bytes};
+
+    ghost Value = { List ℕ };
+
+    ghost view = { λ f. string_bytes f.path };
+}
+
+impl<'a, R: Files + Clock + AllocGlobal + Clone + Drop> MaildirFolders<'a, R> {
+    /// Those of the Maildir at this path.
+    pub fn at(rt: &'a R, path: String) -> MaildirFolders<'a, R>
+        ensures { result ≡ string_bytes path }
+    {
+        MaildirFolders { rt, path }
+    }
+
+    /// The path of the Maildir.
+    pub fn into_path(self) -> String
+        ensures { string_bytes result ≡ self.entry }
+    {
+        let MaildirFolders { path, .. } = self;
+        path
+    }
+
+    /// The path of a folder.
+    fn folder_path(&self, folder: Folder) -> io::Result<String> {
+        let path = self.path.as_str();
+        let name = folder.name();
+        Ok(format!(in self.rt.alloc(); "{path}/{name}")?)
+    }
+
+    /// The path of a file in a folder.
+    fn path_of(&self, folder: Folder, name: &str) -> io::Result<String> {
+        let path = self.path.as_str();
+        let folder = folder.name();
+        Ok(format!(in self.rt.alloc(); "{path}/{folder}/{name}")?)
+    }
+
+    /// When a folder was changed last.
+    fn change_of(&self, folder: Folder) -> Result<ChangeTime, Unread> {
+        let path = self.folder_path(folder)?;
+        match fs::metadata(self.rt, path.as_str()) {
+            Ok(metadata) => Ok(ChangeTime::of(&metadata)),
+            Err(error) => Err(Unread::at(error, path)),
+        }
+    }
+
+    /// A look at both folders. The clock is read first: what a folder's change that the look misses
+    /// leaves behind is no older than the look.
+    pub fn look(&self) -> Result<FoldersLook, Unread> {
+        let at = match self.rt.since_1970() {
+            Ok(passed) => passed.as_secs(),
+            Err(_) => 0,
+        };
+        Ok(FoldersLook {
+            at,
+            new: self.change_of(Folder::New)?,
+            cur: self.change_of(Folder::Cur)?,
+        })
+    }
+
+    /// Adds the files of a folder, none left out that is there all the time. A name that isn't UTF-8, or
+    /// begins with a full stop, is passed over.
+    fn add_files(&self, folder: Folder, files: &mut Vec<PlacedFile>) -> Result<(), Unread> {
+        let path = self.folder_path(folder)?;
+        let names = match list_names(self.rt, path.as_str()) {
+            Ok(FolderNames { names, .. }) => names,
+            Err(error) => return Err(Unread::at(error, path)),
+        };
+        for name in names {
+            files.push(PlacedFile::of(self.rt.alloc(), folder, name)?)?;
+        }
+        Ok(())
+    }
+
+    /// The files of both folders, in their order. A file that moves from `new` to `cur` meanwhile is
+    /// found all the same, as `new` is listed first; it may be found in both.
+    pub fn list(&self) -> Result<Vec<PlacedFile>, Unread> {
+        let mut files = Vec::new(self.rt.alloc());
+        self.add_files(Folder::New, &mut files)?;
+        self.add_files(Folder::Cur, &mut files)?;
+        files.sort()?;
+        Ok(files)
+    }
+
+    /// The path of a file that isn't at `tried` any more: where the last listing saw a file of its base,
+    /// else where a new one does. None where no file has it.
+    fn path_now(
+        &self,
+        seen: &mut SeenFiles,
+        base: &[u8],
+        tried: &str,
+    ) -> Result<Option<String>, Unread> {
+        if let Some(file) = seen.with_base(base) {
+            let path = self.path_of(file.folder, file.name.as_str())?;
+            if path.as_str() != tried {
+                return Ok(Some(path));
+            }
+        } else if seen.tells_all() {
+            return Ok(None);
+        }
+        seen.renew(self.list()?);
+        match seen.with_base(base) {
+            Some(file) => Ok(Some(self.path_of(file.folder, file.name.as_str())?)),
+            None => Ok(None),
+        }
+    }
+
+    /// Does something with the file that had this name: where it isn't there, with the one that has its
+    /// base now. None where no file has it.
+    fn reach<T: Drop, D: FnMut(&R, &str) -> io::Result<T>>(
+        &self,
+        seen: &mut SeenFiles,
+        folder: Folder,
+        name: &str,
+        mut deed: D,
+    ) -> Result<Option<T>, Unread>
+        requires { D.IsAlwaysCallable deed }
+    {
+        let mut path = self.path_of(folder, name)?;
+        for _ in 0..MOST_TRIES {
+            match deed(self.rt, path.as_str()) {
+                Ok(done) => return Ok(Some(done)),
+                Err(error) => {
+                    if error.kind() != ErrorKind::NotFound {
+                        return Err(Unread::at(error, path));
+                    }
+                }
+            }
+            match self.path_now(seen, base(name).as_bytes(), path.as_str())? {
+                Some(now) => path = now,
+                None => return Ok(None),
+            }
+        }
+        Err(Unread::at(ErrorKind::TimedOut.into(), path))
+    }
+
+    /// The stamp of a regular file. None where it is none, or gone.
+    pub fn stamp(&self, seen: &mut SeenFiles, file: &PlacedFile) -> Result<Option<Stamp>, Unread> {
+        let told = self.reach(seen, file.folder, file.name.as_str(), |rt, path| {
+            fs::symlink_metadata(rt, path)
+        })?;
+        match told {
+            Some(metadata) if metadata.is_file() => Ok(Some(stamp_of(&metadata))),
+            _ => Ok(None),
+        }
+    }
+
+    /// Opens a file. None where it is gone.
+    pub fn open(
+        &self,
+        seen: &mut SeenFiles,
+        folder: Folder,
+        name: &str,
+    ) -> Result<Option<R::File>, Unread> {
+        self.reach(seen, folder, name, |rt, path| fs::open(rt, path))
+    }
+
+    /// Removes a file. One that is gone already is removed.
+    pub fn remove(&self, seen: &mut SeenFiles, folder: Folder, name: &str) -> Result<(), Unread> {
+        self.reach(seen, folder, name, |rt, path| fs::remove_file(rt, path))?;
+        Ok(())
+    }
+
+    /// The size of a file as a message, which is read in pieces. None where it is gone.
+    pub fn size(
+        &self,
+        seen: &mut SeenFiles,
+        folder: Folder,
+        name: &str,
+        piece: &mut [u8],
+    ) -> Result<Option<u64>, Unread> {
+        let Some(mut file) = self.open(seen, folder, name)? else {
+            return Ok(None);
+        };
+        match count_size(&mut file, piece) {
+            Ok(size) => Ok(Some(size)),
+            Err(error) => Err(Unread::at(error, self.path_of(folder, name)?)),
+        }
+    }
+}

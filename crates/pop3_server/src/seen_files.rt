@@ -1,0 +1,59 @@
+//! Where the files of a Maildir were seen last, for those that aren't where they were listed.
+ghost use Rattle.std.specs.Prelude.{◌≡◌, IfSome};
+
+use crate::maildir_names::PlacedFile;
+
+/// The files that were seen when one was looked for last.
+#[derive(Drop)]
+pub struct SeenFiles {
+    /// In their order. None before the first look.
+    files: Option<Vec<PlacedFile>>,
+    /// Whether the removals of a session have begun.
+    are_removed: bool,
+}
+
+impl SeenFiles {
+    /// No files, as none was looked for.
+    pub fn none() -> SeenFiles {
+        SeenFiles {
+            files: None,
+            are_removed: false,
+        }
+    }
+
+    /// Takes the place of what was seen before; the files are in their order.
+    pub fn renew(&mut self, files: Vec<PlacedFile>) {
+        self.files = Some(files);
+    }
+
+    /// The first file that was seen with this base.
+    pub fn with_base(&self, base: &[u8]) -> Option<&PlacedFile>
+        ensures { IfSome result (λ file. file.now.base.items ≡ base.now) }
+    {
+        let files = match &self.files {
+            Some(files) => files.as_slice(),
+            None => return None,
+        };
+        let i = files.partition_point(|file| file.base.as_slice() < base);
+        match files.get(i) {
+            Some(file) if file.base.as_slice() == base => Some(file),
+            _ => None,
+        }
+    }
+
+    /// From now on a file that wasn't seen is gone: one look during the removals of a session is enough
+    /// for all of them.
+    pub fn begin_removals(&mut self) {
+        if !self.are_removed {
+            *self = SeenFiles {
+                files: None,
+                are_removed: true,
+            };
+        }
+    }
+
+    /// Whether a file that wasn't seen is gone.
+    pub fn tells_all(&self) -> bool {
+        self.are_removed && self.files.is_some()
+    }
+}
