@@ -30,8 +30,9 @@ read_all = false
 class Account:
     """The account of user `u` at a port of this machine; removed with the `with` block."""
 
-    def __init__(self, port, options=""):
-        self.holder = tempfile.TemporaryDirectory()
+    def __init__(self, port, options="", above=None):
+        """With `above` the home is a folder in that one."""
+        self.holder = tempfile.TemporaryDirectory(dir=above)
         self.home = Path(self.holder.name)
         self.maildir = make_maildir(self.home / "Maildir")
         self.folder = self.home / ".getmail"

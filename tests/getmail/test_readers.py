@@ -1,0 +1,170 @@
+"""A mail reader renames files while `getmail` looks which messages are held: none is stored a second time.
+
+The reader is another process, whose bursts come at moments spread over the start of a run (TESTS_READER_RUNS is their
+number), or works just before one of the calls by which the program reads a folder, each of them in turn.
+"""
+
+import multiprocessing
+import os
+import time
+import unittest
+
+from getmail.account import Account
+from getmail.shared_server import SharedServer
+from harness import preload, programs
+
+COUNT = 2000
+RUNS = int(os.environ.get("TESTS_READER_RUNS", "20"))
+# The moments of the bursts, in parts of the time that a run takes; a burst itself takes some of it.
+SPREAD = 1.0
+REFUSED = b"getmail: destination refused\n"
+
+
+def other_name(name):
+    """The name with the flag of a read message, or without it."""
+    base, _, flags = name.partition(":2,")
+    return f"{base}:2,{'' if flags else 'S'}"
+
+
+def burst(maildir, part, order):
+    """Marks each message of a folder as read, or as unread where it is read; a new one is moved to `cur`."""
+    for name in order:
+        os.rename(f"{maildir}/{part}/{name}", f"{maildir}/cur/{other_name(name)}")
+
+
+def read(maildir, asked):
+    """The reader's process: for each part and moment that it gets, one burst at that moment."""
+    while (job := asked.recv()) is not None:
+        part, moment = job
+        order = os.listdir(f"{maildir}/{part}")
+        asked.send("ready")
+        asked.recv()
+        time.sleep(moment)
+        burst(maildir, part, order)
+        asked.send("done")
+
+
+class Reading(unittest.TestCase):
+    @classmethod
+    def setUpClass(cls):
+        cls.messages = [(b"uid-%04d" % number, b"%d\n" % number) for number in range(COUNT)]
+
+    def setUp(self):
+        self.server = SharedServer(self.messages)
+        self.addCleanup(self.server.close)
+        self.account = Account(self.server.port)
+        self.addCleanup(self.account.holder.cleanup)
+        self.account.rcfile.write_text(self.account.rcfile.read_text().replace("read_all = false\n", ""))
+        for uid, text in self.messages:
+            (self.account.maildir / "cur" / f"{self.account.name(uid)}:2,").write_bytes(text)
+
+    def run_once(self, **changes):
+        run = self.account.run("-q", **changes)
+        self.server.wait_for_end()
+        return run
+
+    def count_held(self):
+        return sum(len(os.listdir(self.account.maildir / part)) for part in ("new", "cur"))
+
+    def check_run(self, run):
+        """It was a good run, or it says why not and the next one is; no file came to those that are held."""
+        if run.status != 0:
+            self.assertEqual(run, programs.Run(1, b"", REFUSED))
+            self.assertEqual(self.count_held(), COUNT, "files after a run that was refused")
+            run = self.run_once()
+        self.assertEqual(run, programs.Run(0, b"", b""))
+        self.assertEqual(self.count_held(), COUNT, "files of as many messages")
+
+    def put_back(self, part):
+        """Makes each file one of that folder again, a new one or one with `:2,`; there are no second copies then."""
+        for folder in ("cur", "new"):
+            for name in os.listdir(self.account.maildir / folder):
+                base = name.partition(":")[0]
+                os.replace(self.account.maildir / folder / name,
+                           self.account.maildir / part / (base if part == "new" else f"{base}:2,"))
+
+
+class Bursts(Reading):
+    """The reader is another process."""
+
+    def setUp(self):
+        super().setUp()
+        self.asking, asked = multiprocessing.Pipe()
+        reader = multiprocessing.get_context("fork").Process(target=read, args=(self.account.maildir, asked), daemon=True)
+        reader.start()
+        self.addCleanup(reader.join, programs.SECONDS)
+        self.addCleanup(self.asking.send, None)
+
+    def hear(self, word):
+        self.assertTrue(self.asking.poll(programs.SECONDS), "the reader says nothing")
+        self.assertEqual(self.asking.recv(), word)
+
+    def check_bursts(self, part):
+        self.put_back(part)
+        begun = time.monotonic()
+        self.check_run(self.run_once())
+        length = time.monotonic() - begun
+        for number in range(RUNS):
+            with self.subTest(number=number):
+                self.asking.send((part, length * SPREAD * number / RUNS))
+                self.hear("ready")
+                self.asking.send("go")
+                run = self.run_once()
+                self.hear("done")
+                self.check_run(run)
+            if part == "new" or self.count_held() != COUNT:
+                self.put_back(part)
+
+    def test_messages_that_are_marked_as_read(self):
+        self.check_bursts("cur")
+
+    def test_messages_that_are_moved_from_new(self):
+        self.check_bursts("new")
+
+
+class EachCall(Reading):
+    """The reader works just before one of the calls by which the program reads a folder."""
+
+    @classmethod
+    def setUpClass(cls):
+        super().setUpClass()
+        library = preload.library("reader")
+        cls.library = library.__enter__()
+        cls.addClassCleanup(library.__exit__, None, None, None)
+
+    def read_at(self, call):
+        """A run whose reader works before that call, and whether there was such a call."""
+        note = self.account.home / "note"
+        note.unlink(missing_ok=True)
+        run = self.run_once(LD_PRELOAD=str(self.library), READER_MAILDIR=str(self.account.maildir),
+                            READER_CALL=str(call), READER_NOTE=str(note))
+        return run, note.exists()
+
+    def check_each_call(self, part):
+        for call in range(1, 200):
+            with self.subTest(call=call):
+                self.put_back(part)
+                run, came = self.read_at(call)
+                self.check_run(run)
+            if not came:
+                # Both folders are read, each with a last call that finds nothing more.
+                self.assertGreater(call, 4)
+                return
+        self.fail("more than 200 calls")
+
+    def test_messages_that_are_marked_as_read(self):
+        self.check_each_call("cur")
+
+    def test_messages_that_are_moved_from_new(self):
+        self.check_each_call("new")
+
+    def test_a_reader_that_never_rests(self):
+        """A run says that it was refused and stores nothing; the next one goes on once the reader rests."""
+        run, came = self.read_at(0)
+        self.assertTrue(came)
+        self.assertEqual(run, programs.Run(1, b"", REFUSED))
+        self.check_run(run)
+
+
+if __name__ == "__main__":
+    unittest.main()

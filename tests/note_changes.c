@@ -1,0 +1,273 @@
+/* Writes down each change that a program makes to files and folders, with its bytes, and all that it sends; kills it
+   after one of them.
+
+       cc -O1 -shared -fPIC -o note_changes.so note_changes.c -ldl
+       CHANGES_NOTE=note CHANGES_KILLED=5 LD_PRELOAD=./note_changes.so PROGRAM ..
+
+   Each call that did something adds a row to the file `note`: words and numbers with tabs between, the last of them a
+   count of bytes; then LF, and so many bytes. A file is named by the number of its inode, a folder by its path.
+
+       make INODE PATH 0       a file that was not there was made by open
+       write INODE PLACE n     n bytes were written from that place on
+       length INODE SIZE 0     the file got this length
+       flush INODE 0           fsync or fdatasync of a file
+       flush-folder PATH 0     the same of a folder
+       rename FROM TO 0        link FROM TO 0        unlink PATH 0
+       send n                  n bytes were written to a socket or a pipe
+
+   A path that isn't absolute is taken from the working folder. After the fifth row, here, the program is killed;
+   without CHANGES_KILLED it isn't. */
+
+#define _GNU_SOURCE
+#include <dlfcn.h>
+#include <errno.h>
+#include <fcntl.h>
+#include <limits.h>
+#include <signal.h>
+#include <stdarg.h>
+#include <stdint.h>
+#include <stdio.h>
+#include <stdlib.h>
+#include <string.h>
+#include <sys/socket.h>
+#include <sys/stat.h>
+#include <sys/types.h>
+#include <sys/uio.h>
+#include <unistd.h>
+
+static int note = -1;
+static long rows_until_kill = -1;
+static long rows_written = 0;
+
+#define NEXT(name) \
+    static __typeof__(name) *next; \
+    if (!next) \
+        next = (__typeof__(name) *)dlsym(RTLD_NEXT, #name)
+
+static ssize_t write_rows(const struct iovec *pieces)
+{
+    NEXT(writev);
+    return next(note, pieces, 2);
+}
+
+__attribute__((constructor)) static void begin(void)
+{
+    const char *path = getenv("CHANGES_NOTE");
+    const char *number = getenv("CHANGES_KILLED");
+    static int (*next)(const char *, int, ...);
+
+    next = (int (*)(const char *, int, ...))dlsym(RTLD_NEXT, "open");
+    rows_until_kill = number ? atol(number) : -1;
+    if (path)
+        note = next(path, O_WRONLY | O_CREAT | O_APPEND | O_CLOEXEC, 0600);
+}
+
+/* Adds a row, which has no count of bytes yet, and kills the program if it was the last one. */
+static void add_row(const void *bytes, size_t size, const char *format, ...)
+{
+    char row[3 * PATH_MAX];
+    int fault = errno, length;
+    va_list more;
+
+    if (note < 0)
+        return;
+    va_start(more, format);
+    length = vsnprintf(row, sizeof row - 32, format, more);
+    va_end(more);
+    length += sprintf(row + length, "\t%zu\n", size);
+    struct iovec pieces[2] = {{row, length}, {(void *)bytes, size}};
+    if (write_rows(pieces) != (ssize_t)(length + size))
+        abort();
+    if (++rows_written == rows_until_kill)
+        kill(getpid(), SIGKILL);
+    errno = fault;
+}
+
+static const char *absolute(const char *path, char whole[2 * PATH_MAX])
+{
+    if (path[0] == '/')
+        return path;
+    if (!getcwd(whole, PATH_MAX))
+        abort();
+    strcat(strcat(whole, "/"), path);
+    return whole;
+}
+
+/* The path of an open folder. */
+static const char *path_of(int descriptor, char path[PATH_MAX])
+{
+    char link[64];
+    ssize_t length;
+
+    snprintf(link, sizeof link, "/proc/self/fd/%d", descriptor);
+    length = readlink(link, path, PATH_MAX - 1);
+    path[length < 0 ? 0 : length] = 0;
+    return path;
+}
+
+/* What a file was before it is opened: -1 if there was none, else its length. */
+static off_t length_before(const char *path)
+{
+    struct stat about;
+
+    return stat(path, &about) == 0 ? about.st_size : -1;
+}
+
+static int opened(int descriptor, const char *path, int flags, off_t before)
+{
+    struct stat about;
+    char whole[2 * PATH_MAX];
+
+    if (descriptor < 0 || fstat(descriptor, &about) != 0 || !S_ISREG(about.st_mode))
+        return descriptor;
+    if (before < 0 && (flags & O_CREAT))
+        add_row("", 0, "make\t%ju\t%s", (uintmax_t)about.st_ino, absolute(path, whole));
+    else if (before > 0 && (flags & O_TRUNC))
+        add_row("", 0, "length\t%ju\t0", (uintmax_t)about.st_ino);
+    return descriptor;
+}
+
+int open(const char *path, int flags, ...)
+{
+    static int (*next)(const char *, int, ...);
+    off_t before = length_before(path);
+    va_list more;
+    mode_t mode;
+
+    if (!next)
+        next = (int (*)(const char *, int, ...))dlsym(RTLD_NEXT, "open");
+    va_start(more, flags);
+    mode = va_arg(more, mode_t);
+    va_end(more);
+    return opened(next(path, flags, mode), path, flags, before);
+}
+
+int openat(int folder, const char *path, int flags, ...)
+{
+    static int (*next)(int, const char *, int, ...);
+    off_t before = length_before(path);
+    va_list more;
+    mode_t mode;
+
+    /* The programs open no file by a folder; if one is made so, its tree isn't the one that the rows give. */
+    if (!next)
+        next = (int (*)(int, const char *, int, ...))dlsym(RTLD_NEXT, "openat");
+    va_start(more, flags);
+    mode = va_arg(more, mode_t);
+    va_end(more);
+    return opened(next(folder, path, flags, mode), path, flags, folder == AT_FDCWD || path[0] == '/' ? before : 0);
+}
+
+/* Writes the row of a write, which began at `place` unless the file is only appended to. */
+static void wrote(int descriptor, const void *bytes, ssize_t written, off_t place)
+{
+    struct stat about;
+
+    if (written < 0 || descriptor == note || fstat(descriptor, &about) != 0)
+        return;
+    if (!S_ISREG(about.st_mode)) {
+        add_row(bytes, written, "send");
+        return;
+    }
+    if (fcntl(descriptor, F_GETFL) & O_APPEND)
+        place = about.st_size - written;
+    add_row(bytes, written, "write\t%ju\t%jd", (uintmax_t)about.st_ino, (intmax_t)place);
+}
+
+ssize_t write(int descriptor, const void *bytes, size_t size)
+{
+    NEXT(write);
+    off_t place = lseek(descriptor, 0, SEEK_CUR);
+    ssize_t written = next(descriptor, bytes, size);
+
+    wrote(descriptor, bytes, written, place);
+    return written;
+}
+
+ssize_t pwrite(int descriptor, const void *bytes, size_t size, off_t place)
+{
+    NEXT(pwrite);
+    ssize_t written = next(descriptor, bytes, size, place);
+
+    wrote(descriptor, bytes, written, place);
+    return written;
+}
+
+ssize_t send(int socket, const void *bytes, size_t size, int flags)
+{
+    NEXT(send);
+    ssize_t written = next(socket, bytes, size, flags);
+
+    wrote(socket, bytes, written, 0);
+    return written;
+}
+
+int ftruncate(int descriptor, off_t size)
+{
+    NEXT(ftruncate);
+    struct stat about;
+    int answer = next(descriptor, size);
+
+    if (answer == 0 && fstat(descriptor, &about) == 0)
+        add_row("", 0, "length\t%ju\t%jd", (uintmax_t)about.st_ino, (intmax_t)size);
+    return answer;
+}
+
+static int flushed(int descriptor, int answer)
+{
+    struct stat about;
+    char path[PATH_MAX];
+
+    if (answer != 0 || fstat(descriptor, &about) != 0)
+        return answer;
+    if (S_ISDIR(about.st_mode))
+        add_row("", 0, "flush-folder\t%s", path_of(descriptor, path));
+    else
+        add_row("", 0, "flush\t%ju", (uintmax_t)about.st_ino);
+    return answer;
+}
+
+int fsync(int descriptor)
+{
+    NEXT(fsync);
+    return flushed(descriptor, next(descriptor));
+}
+
+int fdatasync(int descriptor)
+{
+    NEXT(fdatasync);
+    return flushed(descriptor, next(descriptor));
+}
+
+/* Writes the row of a call that gave a file another name. */
+static int renamed(const char *word, const char *from, const char *to, int answer)
+{
+    char one[2 * PATH_MAX], other[2 * PATH_MAX];
+
+    if (answer == 0)
+        add_row("", 0, "%s\t%s\t%s", word, absolute(from, one), absolute(to, other));
+    return answer;
+}
+
+int rename(const char *from, const char *to)
+{
+    NEXT(rename);
+    return renamed("rename", from, to, next(from, to));
+}
+
+int link(const char *from, const char *to)
+{
+    NEXT(link);
+    return renamed("link", from, to, next(from, to));
+}
+
+int unlink(const char *path)
+{
+    NEXT(unlink);
+    char whole[2 * PATH_MAX];
+    int answer = next(path);
+
+    if (answer == 0)
+        add_row("", 0, "unlink\t%s", absolute(path, whole));
+    return answer;
+}

@@ -1,0 +1,93 @@
+/* A mail reader at work while a program reads a folder.
+
+       cc -O1 -shared -fPIC -o reader.so reader.c -ldl
+       READER_MAILDIR=Maildir READER_CALL=3 READER_NOTE=note LD_PRELOAD=./reader.so PROGRAM ..
+
+   Just before the third call, here, by which the program reads entries of a folder, each file of the Maildir's `new`
+   is moved to `cur`, and each file of `cur` whose name ends in `:2,` gets `:2,S` there, and the other way round. The
+   file `note` is made at that moment, so that the caller can tell a run with fewer calls. With READER_CALL=0 this is
+   done before each call. */
+
+#define _GNU_SOURCE
+#include <dirent.h>
+#include <dlfcn.h>
+#include <fcntl.h>
+#include <limits.h>
+#include <stdio.h>
+#include <stdlib.h>
+#include <string.h>
+#include <sys/types.h>
+#include <unistd.h>
+
+enum { MOST_FILES = 10000 };
+
+/* The names of a folder's files, all of them read before one is changed. */
+static size_t names_in(const char *folder, char **names)
+{
+    DIR *reading = opendir(folder);
+    struct dirent *entry;
+    size_t count = 0;
+
+    if (!reading)
+        abort();
+    while ((entry = readdir(reading)))
+        if (entry->d_name[0] != '.') {
+            if (count == MOST_FILES)
+                abort();
+            names[count++] = strdup(entry->d_name);
+        }
+    closedir(reading);
+    return count;
+}
+
+/* The name that the reader gives to a file: other flags for one that has some, the first for one that has none. */
+static void flag(const char *name, char other[PATH_MAX])
+{
+    const char *flags = strstr(name, ":2,");
+    int base = flags ? (int)(flags - name) : (int)strlen(name);
+
+    snprintf(other, PATH_MAX, "%.*s:2,%s", base, name, flags && strchr(flags, 'S') ? "" : "S");
+}
+
+static void move_all(const char *maildir, const char *part)
+{
+    static char *names[MOST_FILES];
+    char folder[PATH_MAX], from[2 * PATH_MAX], to[2 * PATH_MAX], other[PATH_MAX];
+    size_t count, place;
+
+    snprintf(folder, sizeof folder, "%s/%s", maildir, part);
+    count = names_in(folder, names);
+    for (place = 0; place < count; place++) {
+        flag(names[place], other);
+        snprintf(from, sizeof from, "%s/%s", folder, names[place]);
+        snprintf(to, sizeof to, "%s/cur/%s", maildir, other);
+        if (rename(from, to) != 0)
+            abort();
+        free(names[place]);
+    }
+}
+
+static void read_mail(void)
+{
+    const char *maildir = getenv("READER_MAILDIR"), *note = getenv("READER_NOTE");
+    int descriptor = open(note, O_WRONLY | O_CREAT, 0600);
+
+    if (descriptor >= 0)
+        close(descriptor);
+    /* What was in `cur` first, so that no file is moved twice. */
+    move_all(maildir, "cur");
+    move_all(maildir, "new");
+}
+
+ssize_t getdents64(int folder, void *entries, size_t size)
+{
+    static ssize_t (*next)(int, void *, size_t);
+    static long calls = 0;
+    long wanted = atol(getenv("READER_CALL"));
+
+    if (!next)
+        next = (ssize_t (*)(int, void *, size_t))dlsym(RTLD_NEXT, "getdents64");
+    if (++calls == wanted || wanted == 0)
+        read_mail();
+    return next(folder, entries, size);
+}
