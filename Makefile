@@ -54,6 +54,7 @@ bench: bench-getmail bench-popd bench-store_bench bench-record_bench bench-clien
 bench-getmail: getmail popd
 	@python3 bench/rehearsal.py
 	@python3 bench/getmail.py
+	@python3 bench/flushes.py
 
 bench-popd: popd
 	@python3 bench/popd.py
