@@ -11,8 +11,8 @@ from getmail.power import SCENES, libraries, play_all
 from harness.power import Flush, FlushFolder
 
 WHOLE = os.environ.get("TESTS_POWER") == "whole"
-MOST = 4096 if WHOLE else 16
-KILLS = None if WHOLE else 20
+MOST = 4096 if WHOLE else 24
+KILLS = None if WHOLE else 24
 
 
 def flushes_a_text(change, _):

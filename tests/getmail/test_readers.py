@@ -1,7 +1,7 @@
 """A mail reader renames files while `getmail` looks which messages are held: none is stored a second time.
 
-The reader is another process, whose bursts come at moments spread over the start of a run (TESTS_READER_RUNS is their
-number), or works just before one of the calls by which the program reads a folder, each of them in turn.
+The reader is another process, whose bursts come at moments spread over a run until its first RETR (TESTS_READER_RUNS is
+their number), or works just before one of the calls by which the program reads a folder, each of them in turn.
 """
 
 import multiprocessing
@@ -15,8 +15,6 @@ from harness import preload, programs
 
 COUNT = 2000
 RUNS = int(os.environ.get("TESTS_READER_RUNS", "20"))
-# The moments of the bursts, in parts of the time that a run takes; a burst itself takes some of it.
-SPREAD = 1.0
 REFUSED = b"getmail: destination refused\n"
 
 
@@ -99,18 +97,32 @@ class Bursts(Reading):
         self.assertTrue(self.asking.poll(programs.SECONDS), "the reader says nothing")
         self.assertEqual(self.asking.recv(), word)
 
-    def check_bursts(self, part):
-        self.put_back(part)
+    def time_to_first_text(self):
+        """How long a run takes until it fetches: by then it has looked which messages are held."""
+        asked = []
+
+        def give(session, say, octets):
+            asked.append(time.monotonic())
+            say(octets)
+
+        plain, self.server.give = self.server.give, give
         begun = time.monotonic()
         self.check_run(self.run_once())
-        length = time.monotonic() - begun
+        self.server.give = plain
+        return asked[0] - begun
+
+    def check_bursts(self, part):
+        self.put_back(part)
+        length = self.time_to_first_text()
         for number in range(RUNS):
             with self.subTest(number=number):
-                self.asking.send((part, length * SPREAD * number / RUNS))
+                self.asking.send((part, length * number / RUNS))
                 self.hear("ready")
                 self.asking.send("go")
-                run = self.run_once()
-                self.hear("done")
+                try:
+                    run = self.run_once()
+                finally:
+                    self.hear("done")
                 self.check_run(run)
             if part == "new" or self.count_held() != COUNT:
                 self.put_back(part)
