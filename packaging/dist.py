@@ -153,11 +153,7 @@ def main():
     seconds = moment()
     print(write_archive(f"getmail-{version()}-linux-{os.uname().machine}", seconds).relative_to(TOP))
     if shutil.which("dpkg-deb") and shutil.which("dpkg"):
-        package = write_package(seconds)
-        print(package.relative_to(TOP))
-        if shutil.which("lintian"):
-            if subprocess.run(["lintian", "--fail-on", "error", "--tag-display-limit", "0", package]).returncode:
-                sys.exit("lintian found an error in the package")
+        print(write_package(seconds).relative_to(TOP))
     else:
         print("dpkg-deb is not installed: no .deb was written")
 

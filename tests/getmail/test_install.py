@@ -25,6 +25,7 @@ UNITS = [f"lib/systemd/user/{name}" for name in
          ("getmail.service", "getmail.timer", "popd.service", "popd.socket", "popd@.service")]
 DOCUMENTS = [f"share/doc/getmail/{name}" for name in
              ("README.md", "CHANGELOG.md", "LICENSE", "FROM-GETMAIL6.md", "getmailrc.sample", "stunnel.conf", "crontab")]
+MESSAGE = b"Subject: one\n\nIt is.\n"
 # What the rules of `make install` and `make dist` read.
 PARTS = ("Makefile", "crates.txt", "install.sh", "README.md", "CHANGELOG.md", "LICENSE", "man", "completions", "examples",
          "packaging", "docs/FROM-GETMAIL6.md", "docs/getmailrc.sample")
@@ -132,11 +133,12 @@ class EmptyRoot:
 
     def __init__(self, folder):
         self.folder = folder
-        self.change = ["chroot"] if os.geteuid() == 0 else ["unshare", "--map-root-user", "--root"]
+        program, *words = ["chroot"] if os.geteuid() == 0 else ["unshare", "--map-root-user", "--root"]
+        self.change = [shutil.which(program), *words]
 
     def is_allowed(self):
         """Whether a program may be run in such a root here."""
-        if not shutil.which(self.change[0]):
+        if self.change[0] is None:
             return False
         return subprocess.run([*self.change, "/", "true"], capture_output=True, timeout=programs.SECONDS).returncode == 0
 
@@ -175,11 +177,23 @@ class Dist(Copied):
             return {path.name: path.read_bytes() for path in (self.top / "dist").iterdir()}
         self.assertEqual(written(), written())
 
-    def test_the_package_holds_what_is_installed(self):
+    def package(self):
+        """The Debian package that `make dist` writes."""
         if not shutil.which("dpkg-deb"):
             self.skipTest("dpkg-deb is not installed")
         self.make("dist")
         package, = (self.top / "dist").glob("*.deb")
+        return package
+
+    def test_lintian_finds_no_error_in_the_package(self):
+        if not shutil.which("lintian"):
+            self.skipTest("lintian is not installed")
+        done = subprocess.run(["lintian", "--fail-on", "error", self.package()], capture_output=True, text=True,
+                              timeout=5 * programs.SECONDS)
+        self.assertEqual(done.returncode, 0, done.stdout)
+
+    def test_the_package_holds_what_is_installed(self):
+        package = self.package()
         subprocess.run(["dpkg-deb", "-x", package, self.place], check=True, timeout=programs.SECONDS)
         there = {str(path.relative_to(self.place / "usr")) for path in self.place.rglob("*") if path.is_file()}
         pages = {f"share/man/{PAGES[page.suffix[1:]]}/{page.name}.gz" for page in (programs.ROOT / "man").iterdir()}
@@ -203,14 +217,14 @@ class Dist(Copied):
         self.addCleanup(served.kill)
         self.wait_for(port)
         told = [self.fetch(root) for _ in range(2)]
-        self.assertIn("1 messages (20 bytes) retrieved, 0 skipped, 0 deleted\n", told[0])
+        self.assertIn("1 messages (21 bytes) retrieved, 0 skipped, 0 deleted\n", told[0])
         self.assertIn("0 messages (0 bytes) retrieved, 1 skipped, 0 deleted\n", told[1])
         fetched, = (root.folder / "ann/Maildir/new").iterdir()
-        self.assertEqual(fetched.read_bytes(), b"Subject: one\n\nIt is.\n"[:20])
+        self.assertEqual(fetched.read_bytes(), MESSAGE)
 
     def fill_homes(self, root, port):
         """Fred's Maildir with a message, and the settings of Ann."""
-        (make_maildir(root / "fred/served") / "new/1").write_bytes(b"Subject: one\n\nIt is.\n"[:20])
+        (make_maildir(root / "fred/served") / "new/1").write_bytes(MESSAGE)
         (root / "fred/password").write_text("p\n")
         (root / "fred/password").chmod(0o600)
         make_maildir(root / "ann/Maildir")
