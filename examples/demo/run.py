@@ -27,13 +27,21 @@ def say(text):
     print(text, flush=True)
 
 
+def crates_of_programs():
+    """The crates that both programs are made of, by crates.txt."""
+    lines = [line.split("#")[0].partition(":") for line in (TOP / "crates.txt").read_text().splitlines()]
+    below = {name.split()[0]: libraries.split() for name, _, libraries in lines if name.strip()}
+    return {crate for name in PROGRAMS for crate in (name, *below[name]) if crate in below}
+
+
 class Progress:
     """How far the proofs are, read from what `rt` prints."""
 
     def __init__(self):
-        self.crate = "the libraries"
+        self.crate = "what they are made of"
         self.part = ""
-        self.done = 0
+        self.all = crates_of_programs()
+        self.done = set()
         self.begun = time.monotonic()
 
     def read(self, line):
@@ -42,12 +50,11 @@ class Progress:
         elif found := re.match(r"so far: (\d+) of (\d+) functions checked", line):
             self.part = f", {found[1]} of {found[2]} functions"
         elif found := re.match(r"crate (\w+): ", line):
-            self.done += 1
-            self.crate, self.part = f"after {found[1]}", ""
+            self.done.add(found[1])
 
     def told(self):
         passed = int(time.monotonic() - self.begun)
-        return f"  {passed // 60:2}:{passed % 60:02}  {self.done} crates proved; now {self.crate}{self.part}"
+        return f"  {passed // 60:2}:{passed % 60:02}  {len(self.done & self.all)} of {len(self.all)} crates proved; now {self.crate}{self.part}"
 
 
 def lines_of(process):
