@@ -291,6 +291,25 @@ class Demo(Copied):
         self.assertIn("It works.", told)
 
 
+class Pages(unittest.TestCase):
+    """The man pages, by the programs that show them: neither warns of anything."""
+
+    def check(self, *words):
+        if not shutil.which(words[0]):
+            self.skipTest(f"{words[0]} is not installed")
+        for page in sorted((programs.ROOT / "man").iterdir()):
+            with self.subTest(page.name):
+                done = subprocess.run([*words, page], stdout=subprocess.DEVNULL if words[0] == "groff" else subprocess.PIPE,
+                                      stderr=subprocess.PIPE, timeout=programs.SECONDS)
+                self.assertEqual((done.returncode, done.stdout or b"", done.stderr), (0, b"", b""))
+
+    def test_mandoc(self):
+        self.check("mandoc", "-T", "lint", "-W", "warning")
+
+    def test_groff(self):
+        self.check("groff", "-mdoc", "-ww", "-Tutf8")
+
+
 class Readme(unittest.TestCase):
     """The lines of the README that set up a real account, but for cron's, with a stand-in for the editor."""
 
