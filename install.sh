@@ -48,7 +48,7 @@ each_file() {
         "$1" 644 "completions/$name.fish" "$share/fish/vendor_completions.d/$name.fish"
     done
     for page in man/*.[1-8]; do
-        "$1" 644 "$page" "$share/man/man${page##*.}/$(basename "$page")"
+        "$2" "$page" "$share/man/man${page##*.}/$(basename "$page")"
     done
     for unit in examples/*.service examples/*.timer examples/*.socket; do
         "$2" "$unit" "$units/$(basename "$unit")"

@@ -78,10 +78,12 @@ class Install(Copied):
         self.check_names(self.place / prefix, f"/{prefix}")
 
     def check_names(self, place, prefix):
-        """Units and the line for cron name the programs where they are."""
+        """Units, the line for cron and getmail(1) name files where they are."""
         for name in ("getmail.service", "popd.service", "popd@.service"):
             started, = re.findall("^ExecStart=(\\S+)", (place / "lib/systemd/user" / name).read_text(), re.MULTILINE)
             self.assertEqual(started, f"{prefix}/bin/{name[:name.index('.')].removesuffix('@')}")
+        page = (place / "share/man/man1/getmail.1").read_text()
+        self.assertIn(f"install -m 600 {prefix}/share/doc/getmail/getmailrc.sample ", page)
         crontab = (place / "share/doc/getmail/crontab").read_text()
         self.assertIn(f"\nPATH={prefix}/bin:/usr/bin:/bin\n", crontab)
 
