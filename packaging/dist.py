@@ -109,7 +109,8 @@ def fill_tree(tree, seconds):
     subprocess.run([TOP / "install.sh"], env=install, check=True)
     for name in ("getmail", "popd"):
         if shutil.which("strip"):
-            subprocess.run(["strip", "--remove-section=.comment", "--remove-section=.note", tree / "usr/bin" / name], check=True)
+            subprocess.run(["strip", "--remove-section=.comment", "--remove-section=.note", tree / "usr/bin" / name],
+                           check=True)
     docs = tree / "usr/share/doc/getmail"
     licence = (docs / "LICENSE").read_text().partition("\n\n")[2].partition("\n\n")[2]
     indented = "".join(f" {line or '.'}\n" for line in licence.strip().splitlines())

@@ -54,7 +54,8 @@ class Progress:
 
     def told(self):
         passed = int(time.monotonic() - self.begun)
-        return f"  {passed // 60:2}:{passed % 60:02}  {len(self.done & self.all)} of {len(self.all)} crates proved; now {self.crate}{self.part}"
+        clock = f"{passed // 60:2}:{passed % 60:02}"
+        return f"  {clock}  {len(self.done & self.all)} of {len(self.all)} crates proved; now {self.crate}{self.part}"
 
 
 def lines_of(process):

@@ -59,24 +59,26 @@ class Certificates:
 
     def __init__(self, folder):
         self.folder = folder
-        self.authority, self.key = self._issue("authority", "/CN=an authority of the tests", ["-addext", "basicConstraints=critical,CA:true"])
+        self.authority, self.key = self._issue("authority", "/CN=an authority of the tests",
+                                               ["-addext", "basicConstraints=critical,CA:true"])
+
+    def _openssl(self, *words):
+        subprocess.run(["openssl", *words], check=True, capture_output=True, timeout=programs.SECONDS)
 
     def _issue(self, name, subject, words):
         certificate, key = self.folder / f"{name}.pem", self.folder / f"{name}.key"
-        subprocess.run(["openssl", "req", "-x509", "-newkey", "rsa:2048", "-nodes", "-days", "2", "-subj", subject, "-keyout", key,
-                        "-out", certificate, *words], check=True, capture_output=True, timeout=programs.SECONDS)
+        self._openssl("req", "-x509", "-newkey", "rsa:2048", "-nodes", "-days", "2", "-subj", subject, "-keyout", key,
+                      "-out", certificate, *words)
         return certificate, key
 
     def signed(self, host):
         """A certificate for the host that the authority has signed."""
         request, certificate, key = (self.folder / f"{host}.{end}" for end in ("request", "signed", "key"))
-        subprocess.run(["openssl", "req", "-new", "-newkey", "rsa:2048", "-nodes", "-subj", f"/CN={host}", "-keyout", key, "-out", request],
-                       check=True, capture_output=True, timeout=programs.SECONDS)
+        self._openssl("req", "-new", "-newkey", "rsa:2048", "-nodes", "-subj", f"/CN={host}", "-keyout", key, "-out", request)
         names = self.folder / f"{host}.names"
         names.write_text(f"subjectAltName=DNS:{host}\n")
-        subprocess.run(["openssl", "x509", "-req", "-in", request, "-CA", self.authority, "-CAkey", self.key, "-CAcreateserial",
-                        "-days", "2", "-extfile", names, "-out", certificate], check=True, capture_output=True,
-                       timeout=programs.SECONDS)
+        self._openssl("x509", "-req", "-in", request, "-CA", self.authority, "-CAkey", self.key, "-CAcreateserial",
+                      "-days", "2", "-extfile", names, "-out", certificate)
         return certificate, key
 
     def unsigned(self, host):
@@ -161,7 +163,8 @@ class Tunnel(unittest.TestCase):
             with self.subTest(kind):
                 account, run = self.fetch(*pair)
                 self.assertEqual(run.status, 1)
-                self.assertIn(run.err, (b"getmail: connection ended by the server\n", b"getmail: reading from the server failed\n"))
+                self.assertIn(run.err, (b"getmail: connection ended by the server\n",
+                                        b"getmail: reading from the server failed\n"))
                 self.assertEqual(account.held(), [])
                 self.assertFalse(account.record.exists())
                 self.doCleanups()
