@@ -10,7 +10,7 @@ import threading
 import time
 import unittest
 
-from harness import programs
+from harness import preload, programs
 from harness.maildir import make_maildir
 from store_bench.watched import ACCOUNT, SIZE, TEXT, folder_for, is_own, make_older, name_of, watcher_for, written
 
@@ -121,6 +121,7 @@ class Listings(unittest.TestCase):
     @classmethod
     def setUpClass(cls):
         cls.watcher = watcher_for(cls)
+        cls.restless = cls.enterClassContext(preload.library("restless"))
 
     def setUp(self):
         self.work = folder_for(self)
@@ -152,23 +153,25 @@ class Listings(unittest.TestCase):
             self.assertEqual((run.status, run.out, len(calls)), (1, b"", refused))
             self.assertIn(b"destination refused", run.err)
 
+    def held_of_restless(self, **changes):
+        """The run over a folder that changes while it is listed."""
+        (self.maildir / "new" / name_of(1)).touch()
+        restless = {"LD_PRELOAD": str(self.restless), "RESTLESS_FILE": str(self.maildir / "new" / "x"), **changes}
+        return programs.run("store_bench", "held", str(self.maildir), "2", **restless)
+
+    def test_a_folder_that_changes_while_it_is_listed_is_listed_again(self):
+        run = self.held_of_restless(RESTLESS_TIMES="7")
+        self.assertEqual((run.status, run.err), (0, b""))
+        self.assertEqual(int(run.out.split()[0]), 1)
+
     def test_a_folder_that_finds_no_rest_is_refused(self):
-        """Files come and go all the time: after 2 seconds the call is refused, and nothing is told."""
-        stop = threading.Event()
-
-        def meddle():
-            while not stop.is_set():
-                (self.maildir / "new" / "other").touch()
-                (self.maildir / "new" / "other").unlink()
-
-        meddler = threading.Thread(target=meddle)
-        meddler.start()
-        run = programs.run("store_bench", "held", str(self.maildir), "1")
-        stop.set()
-        meddler.join()
+        """It is listed again for 2 seconds, and nothing is told of it."""
+        begun = time.monotonic()
+        run = self.held_of_restless()
         self.assertEqual((run.status, run.out), (1, b""))
         self.assertIn(b"destination refused", run.err)
-        self.check_held(1, 0)
+        self.assertGreater(time.monotonic() - begun, 1.5)
+        self.check_held(2, 1)
 
     def test_none_is_left_out_while_a_reader_renames(self):
         """A reader marks 2,000 messages as read at moments spread over the start of the run."""
