@@ -1,5 +1,5 @@
 -- What a record's growth appends to its file.
-use Rattle.std.proofs.Common.{◌≡◌, ◌≢◌, ◌⊎◌, ℕ, zero, suc, ◌+◌, ◌<◌, ◌≤◌, List, [], ◌∷◌, ◌++◌, take, get_or, Some, Bool, true, false, ◌&&◌, ◌||◌, not, cond, length, map, refl, sym, ◌∙◌, ap, subst, append_assoc, length-append, inl, inr, arith}
+use Rattle.std.proofs.Common.{◌≡◌, ◌≢◌, ◌⊎◌, ℕ, zero, suc, ◌+◌, ◌<◌, ◌≤◌, List, [], ◌∷◌, ◌++◌, take, get_or, Some, None, Bool, true, false, ◌&&◌, ◌||◌, not, cond, length, map, refl, sym, ◌∙◌, ap, subst, append_assoc, length-append, inl, inr, arith}
 use Rattle.std.specs.Prelude.{◌==◌, bytes_eq, flat_map}
 use Rattle.std.specs.List.{AllByRecursion, list_any}
 use Rattle.std.proofs.lemmas.Bool.{or_left, or_right, eq-eqb}
@@ -9,7 +9,7 @@ use Rattle.std.proofs.lemmas.List.Concat.{flat_map-append}
 use Rattle.std.proofs.lemmas.List.Elements.{All-from_recursion, recursion_from_All}
 use Rattle.mail_terms.specs.Listing.{Item, is_flagged}
 use Rattle.fetch_rules.specs.Record.{Row, IsRow, IsRecord, is_of, has_row, marked, merged, with_delivered}
-use Rattle.fetch_rules.specs.RecordFile.{changed, written, line_of}
+use Rattle.fetch_rules.specs.RecordFile.{Two, changed, written, line_of}
 use Rattle.fetch_rules.specs.RecordMeaning.{delivers, may_take, taken}
 use Rattle.fetch_rules.specs.RecordGrowth.{taken_all, MayFollow, Updates}
 use Rattle.fetch_rules.specs.Rows.{state_in}
@@ -39,7 +39,7 @@ pub record Leads (rows group new : List Row) : Type 0 where
   pub follows : MayFollow rows group
   pub ends : taken_all rows group ≡ new
 
-leads_first : (rows : List Row) (row : Row) (group new then : List Row) → may_take rows row ≡ true → taken rows row ≡ then → Leads then group new → Leads rows (row ∷ group) new
+leads_first : (rows : List Row) (row : Row) (group new then : List Row) → may_take Two rows row ≡ true → taken rows row ≡ then → Leads then group new → Leads rows (row ∷ group) new
 leads_first rows row group new then may is leads = record {
   follows = (may, subst (λ (xs : List Row). MayFollow xs group) (sym is) leads.follows);
   ends = ap (λ (xs : List Row). taken_all xs group) is ∙ leads.ends;
@@ -50,7 +50,7 @@ leads_new rows [] is = record { follows = tt; ends = sym (append-nil rows) }
 leads_new rows (row ∷ new) is =
     let none = fresh rows new row is in
     leads_first rows row new (rows ++ row ∷ new) (rows ++ row ∷ [])
-    (ap (λ (b : Bool). not b || delivers rows row) none)
+    (ap (λ (b : Bool). not b || delivers Two rows row) none)
     (ap (λ (b : Bool). cond b (marked rows row.uid) (rows ++ row ∷ [])) none)
     (subst (Leads (rows ++ row ∷ []) new) (append_assoc rows (row ∷ []) new)
     (leads_new (rows ++ row ∷ []) new (subst IsRecord (sym (append_assoc rows (row ∷ []) new)) is)))
@@ -100,17 +100,16 @@ module _ (front : List Row) (row : Row) (old : List Row) (next : Row) (new : Lis
   has_it : GrewFrom (row ∷ old) (next ∷ new) → has_row (front ++ row ∷ old) next.uid ≡ true
   has_it grew = list_any-append (is_of next.uid) front (row ∷ old) ∙ or_right _ _ (or_left _ _ (test_from_same next.uid row.uid grew.0))
 
-  delivers_it : GrewFrom (row ∷ old) (next ∷ new) → next.delivered ≡ true → row.delivered ≡ false → delivers (front ++ row ∷ old) next ≡ true
+  delivers_it : GrewFrom (row ∷ old) (next ∷ new) → next.delivered ≡ true → row.delivered ≡ false → delivers Two (front ++ row ∷ old) next ≡ true
   delivers_it grew now before =
       ap (λ (b : Bool). b && list_any test (front ++ row ∷ old)) now
       ∙ list_any-append test front (row ∷ old)
       ∙ or_right _ _ (or_left _ _
-      (ap (λ (b : Bool). b && (not row.delivered && (row.first_seen == next.first_seen))) (test_from_same next.uid row.uid grew.0)
-      ∙ ap (λ (b : Bool). not b && (row.first_seen == next.first_seen)) before
+      (ap (λ (b : Bool). b && (row.first_seen == next.first_seen)) (test_from_same next.uid row.uid grew.0)
       ∙ eq-eqb row.first_seen next.first_seen (sym grew.1)))
     where
       test : Row → Bool
-      test other = is_of next.uid other && (not other.delivered && (other.first_seen == next.first_seen))
+      test other = is_of next.uid other && (true && (other.first_seen == next.first_seen))
 
 -- the states of a row that stayed
 stayed : (before now : Bool) → (before ≡ true → now ≡ true) → (now && not before) ≡ false → now ≡ before
@@ -151,12 +150,12 @@ each_changed (row ∷ old) (next ∷ new) each = by (next.delivered && not row.d
     by true rest = (each.0, rest)
     by false rest = rest
 
-pub updates : (old new : List Row) → IsRecord new → GrewFrom old new → length (changed old new) ≤ 100000 → Updates old (written (changed old new)) new
+pub updates : (old new : List Row) → IsRecord new → GrewFrom old new → length (changed old new) ≤ 100000 → Updates old None (written (changed old new)) new None
 updates old new is grew short = by (changed old new) short (leads [] old new is grew) (each_changed old new (recursion_from_All IsRow new is.each))
   where
-    by : (group : List Row) → length group ≤ 100000 → Leads old group new → AllByRecursion IsRow group → Updates old (written group) new
-    by [] short' leads' each = inl (refl, sym leads'.ends)
-    by (row ∷ rows) short' leads' each = inr (row ∷ rows, record { each = All-from_recursion IsRow (row ∷ rows) each; count = (omega arith, short'); follows = leads'.follows }, refl, sym leads'.ends)
+    by : (group : List Row) → length group ≤ 100000 → Leads old group new → AllByRecursion IsRow group → Updates old None (written group) new None
+    by [] short' leads' each = inl (refl, sym leads'.ends, refl)
+    by (row ∷ rows) short' leads' each = inr (row ∷ rows, record { each = All-from_recursion IsRow (row ∷ rows) each; count = (omega arith, short'); follows = leads'.follows }, refl, sym leads'.ends, refl)
 
 -- one row more, as a loop goes over the rows
 changed-nil : (rows : List Row) → changed rows [] ≡ []
@@ -204,7 +203,7 @@ lines_more before rows i row inside at =
 
 -- a mark of a row that wasn't delivered
 pub mark_updates : (uid : List ℕ) (rows new : List Row) (state : State) → IsRecord new → new ≡ marked rows uid → IsRecord rows → state_in rows uid ≡ Some state → state.delivered ≡ false
-    → Updates rows (written (changed rows new)) new
+    → Updates rows None (written (changed rows new)) new None
 mark_updates uid rows new state is new_is was found fresh =
     updates rows new is (subst (GrewFrom rows) (append-nil (marked rows uid) ∙ sym new_is) (GrewFrom-more (is_of uid) rows []))
     (omega (arith, ap length (ap (changed rows) new_is ∙ changed-marked uid rows state was found fresh)))
@@ -259,9 +258,9 @@ HasWritten-all count f rows i changes lines were past =
     (sym (were.0 ∙ ap length all), sym (were.1 ∙ ap (flat_map line_of) all))
 
 -- a merge
-pub merge_updates : (rows new : List Row) (listing : List Item) (held : List Bool) (now : ℕ) → new ≡ merged rows listing held now → IsRecord new → length listing ≤ 100000 → Updates rows (written (changed rows new)) new
+pub merge_updates : (rows new : List Row) (listing : List Item) (held : List Bool) (now : ℕ) → new ≡ merged rows listing held now → IsRecord new → length listing ≤ 100000 → Updates rows None (written (changed rows new)) new None
 merge_updates rows new listing held now new_is is short =
-    subst (λ (xs : List Row). Updates rows (written (changed rows xs)) xs) (sym new_is)
+    subst (λ (xs : List Row). Updates rows None (written (changed rows xs)) xs None) (sym new_is)
     (updates rows (merged rows listing held now) good (GrewFrom-more (λ (row : Row). is_flagged listing held row.uid) rows _) (omega (arith, short, merge_is_short rows listing held now good)))
   where
     good : IsRecord (merged rows listing held now)

@@ -8,8 +8,9 @@ use Rattle.std.specs.List.{AllByRecursion}
 use Rattle.std.specs.Fmt.{decimal}
 use Rattle.std.proofs.lemmas.List.Elements.{All-weaker, recursion_from_All}
 use Rattle.std.proofs.lemmas.Fmt.{decimal_injective}
-use Rattle.fetch_rules.specs.Record.{Row, IsRow}
-use Rattle.fetch_rules.specs.RecordFile.{header, state_of, line_of, group_line, Line, RowLine, GroupLine, text_of, IsLine}
+use Rattle.mail_terms.specs.UniqueId.{IsLegalId}
+use Rattle.fetch_rules.specs.Record.{Row, IsRow, Intent, IsIntent}
+use Rattle.fetch_rules.specs.RecordFile.{Version, header, state_of, line_of, group_line, intent_line, Line, RowLine, GroupLine, IntentLine, text_of, IsLine}
 use Rattle.fetch_rules.proofs.IdLemmas.{id_characters}
 use Rattle.fetch_rules.proofs.NumeralLemmas.{none_below-decimal}
 
@@ -36,8 +37,11 @@ ends_clash s t [] (d ∷ b) x y other p q e = q.0 (sym (same_cons s d x (b ++ t 
 ends_clash s t (c ∷ a) [] x y other p q e = p.0 (same_cons c t (a ++ s ∷ x) y e).0
 ends_clash s t (c ∷ a) (d ∷ b) x y other p q e = ends_clash s t a b x y other p.1 q.1 (same_cons c d (a ++ s ∷ x) (b ++ t ∷ y) e).1
 
+HasNo-id : (s : ℕ) → s < 0x21 → (uid : List ℕ) → IsLegalId uid → HasNo s uid
+HasNo-id s below uid legal = recursion_from_All _ uid (All-weaker (λ byte. (0x21 ≤ byte) × (byte ≤ 0x7E)) (λ byte. byte ≢ s) (λ byte within same. absurd (omega (arith, within.0, same, below))) uid (id_characters uid legal))
+
 HasNo-uid : (s : ℕ) → s < 0x21 → (row : Row) → IsRow row → HasNo s row.uid
-HasNo-uid s below row is = recursion_from_All _ row.uid (All-weaker (λ byte. (0x21 ≤ byte) × (byte ≤ 0x7E)) (λ byte. byte ≢ s) (λ byte within same. absurd (omega (arith, within.0, same, below))) row.uid (id_characters row.uid is.legal))
+HasNo-uid s below row is = HasNo-id s below row.uid is.legal
 
 HasNo-decimal : (s : ℕ) → s < 48 → (n : ℕ) → n < 2 ^ 64 → HasNo s (decimal n)
 HasNo-decimal s below n fits = recursion_from_All _ _ (none_below-decimal s n below fits)
@@ -53,6 +57,13 @@ line_split row behind =
 
 pub group_split : (n : ℕ) (behind : List ℕ) → group_line n ++ behind ≡ 43 ∷ 32 ∷ (decimal n ++ 10 ∷ behind)
 group_split n behind = ap (λ (xs : List ℕ). 43 ∷ 32 ∷ xs) (append_assoc (decimal n) (10 ∷ []) behind)
+
+pub intent_split : (intent : Intent) (behind : List ℕ) → intent_line intent ++ behind ≡ 33 ∷ 32 ∷ (intent.uid ++ 32 ∷ (decimal intent.start ++ 32 ∷ (decimal intent.len ++ 10 ∷ behind)))
+intent_split intent behind =
+    ap (λ (xs : List ℕ). 33 ∷ 32 ∷ xs)
+    (append_assoc intent.uid (32 ∷ (decimal intent.start ++ 32 ∷ (decimal intent.len ++ 10 ∷ []))) behind
+    ∙ ap (λ (xs : List ℕ). intent.uid ++ 32 ∷ xs) (append_assoc (decimal intent.start) (32 ∷ (decimal intent.len ++ 10 ∷ [])) behind
+    ∙ ap (λ (xs : List ℕ). decimal intent.start ++ 32 ∷ xs) (append_assoc (decimal intent.len) (10 ∷ []) behind)))
 
 digits_differ : ◌≡◌ {A = ℕ} 48 49 → ⊥
 digits_differ e = omega arith
@@ -83,10 +94,47 @@ row_no_group row n x y is small e =
     let ids = cut_unique 32 row.uid (43 ∷ []) _ _ (HasNo-uid 32 (omega arith) row is) ((λ same. absurd (omega (arith, same))), tt) (sym (line_split row x) ∙ e ∙ group_split n y) in
     ends_clash 32 10 (decimal row.first_seen) (decimal n) _ _ feed_is_no_space (HasNo-decimal 10 (omega arith) row.first_seen is.fits) (HasNo-decimal 32 (omega arith) n (fits_of n small)) ids.1
 
+space_is_no_feed : ◌≡◌ {A = ℕ} 10 32 → ⊥
+space_is_no_feed e = omega arith
+
+-- a row has three fields, the line of an intent four
+row_no_intent : (row : Row) (intent : Intent) (x y : List ℕ) → IsRow row → IsIntent intent → line_of row ++ x ≡ intent_line intent ++ y → ⊥
+row_no_intent row intent x y is is_one e =
+    let ids = cut_unique 32 row.uid (33 ∷ []) _ _ (HasNo-uid 32 (omega arith) row is) ((λ same. absurd (omega (arith, same))), tt) (sym (line_split row x) ∙ e ∙ intent_split intent y) in
+    let numbers = cut_unique 32 (decimal row.first_seen) intent.uid _ _ (HasNo-decimal 32 (omega arith) row.first_seen is.fits) (HasNo-id 32 (omega arith) intent.uid is_one.legal) ids.1 in
+    by row.delivered numbers.1
+  where
+    by : (d : Bool) → state_of d ++ x ≡ decimal intent.start ++ 32 ∷ (decimal intent.len ++ 10 ∷ y) → ⊥
+    by true e' = ends_clash 10 32 (49 ∷ []) (decimal intent.start) x _ space_is_no_feed ((λ same. absurd (omega (arith, same))), tt) (HasNo-decimal 10 (omega arith) intent.start is_one.start) e'
+    by false e' = ends_clash 10 32 (48 ∷ []) (decimal intent.start) x _ space_is_no_feed ((λ same. absurd (omega (arith, same))), tt) (HasNo-decimal 10 (omega arith) intent.start is_one.start) e'
+
+signs_differ : ◌≡◌ {A = ℕ} 43 33 → ⊥
+signs_differ e = omega arith
+
+group_no_intent : (n : ℕ) (intent : Intent) (x y : List ℕ) → group_line n ++ x ≡ intent_line intent ++ y → ⊥
+group_no_intent n intent x y e = signs_differ (same_cons 43 33 _ _ (sym (group_split n x) ∙ e ∙ intent_split intent y)).0
+
+pub intent_unique : (a b : Intent) (x y : List ℕ) → IsIntent a → IsIntent b → intent_line a ++ x ≡ intent_line b ++ y → (a ≡ b) × (x ≡ y)
+intent_unique a b x y is_a is_b e =
+    let plain = (same_cons 32 32 _ _ (same_cons 33 33 _ _ (sym (intent_split a x) ∙ e ∙ intent_split b y)).1).1 in
+    let ids = cut_unique 32 a.uid b.uid _ _ (HasNo-id 32 (omega arith) a.uid is_a.legal) (HasNo-id 32 (omega arith) b.uid is_b.legal) plain in
+    let starts = cut_unique 32 (decimal a.start) (decimal b.start) _ _ (HasNo-decimal 32 (omega arith) a.start is_a.start) (HasNo-decimal 32 (omega arith) b.start is_b.start) ids.1 in
+    let lens = cut_unique 10 (decimal a.len) (decimal b.len) x y (HasNo-decimal 10 (omega arith) a.len is_a.len) (HasNo-decimal 10 (omega arith) b.len is_b.len) starts.1 in (
+      ap (λ (uid : List ℕ). record a { uid = uid }) ids.0
+          ∙ ap (λ (n : ℕ). record { uid = b.uid; start = n; len = a.len }) (decimal_injective a.start b.start is_a.start is_b.start starts.0)
+          ∙ ap (λ (n : ℕ). record { uid = b.uid; start = b.start; len = n }) (decimal_injective a.len b.len is_a.len is_b.len lens.0),
+      lens.1,
+    )
+
 pub text_unique : (a b : Line) (x y : List ℕ) → IsLine a → IsLine b → text_of a ++ x ≡ text_of b ++ y → (a ≡ b) × (x ≡ y)
 text_unique (RowLine a) (RowLine b) x y is_a is_b e = let same = line_unique a b x y is_a is_b e in (ap RowLine same.0, same.1)
 text_unique (RowLine a) (GroupLine n) x y is_a is_n e = absurd (row_no_group a n x y is_a is_n.1 e)
 text_unique (GroupLine n) (RowLine b) x y is_n is_b e = absurd (row_no_group b n y x is_b is_n.1 (sym e))
+text_unique (RowLine a) (IntentLine i) x y is_a is_i e = absurd (row_no_intent a i x y is_a is_i e)
+text_unique (IntentLine i) (RowLine b) x y is_i is_b e = absurd (row_no_intent b i y x is_b is_i (sym e))
+text_unique (GroupLine n) (IntentLine i) x y is_n is_i e = absurd (group_no_intent n i x y e)
+text_unique (IntentLine i) (GroupLine n) x y is_i is_n e = absurd (group_no_intent n i y x (sym e))
+text_unique (IntentLine i) (IntentLine j) x y is_i is_j e = let same = intent_unique i j x y is_i is_j e in (ap IntentLine same.0, same.1)
 text_unique (GroupLine m) (GroupLine n) x y is_m is_n e =
     let plain = sym (group_split m x) ∙ e ∙ group_split n y in
     let same = cut_unique 10 (decimal m) (decimal n) x y (HasNo-decimal 10 (omega arith) m (fits_of m is_m.1)) (HasNo-decimal 10 (omega arith) n (fits_of n is_n.1))
@@ -126,6 +174,23 @@ body_of (GroupLine n) is = record {
   body = 43 ∷ 32 ∷ decimal n;
   plain = ((λ same. absurd (omega (arith, same))), ((λ same. absurd (omega (arith, same))), HasNo-decimal 10 (omega arith) n (fits_of n is.1)));
   text_is = λ behind. group_split n behind;
+}
+body_of (IntentLine i) is = record {
+  body = 33 ∷ 32 ∷ (i.uid ++ 32 ∷ (decimal i.start ++ 32 ∷ decimal i.len));
+  plain = (
+    (λ same. absurd (omega (arith, same))),
+    (
+      (λ same. absurd (omega (arith, same))),
+      HasNo-append 10 i.uid _ (HasNo-id 10 (omega arith) i.uid is.legal) (
+        (λ same. absurd (omega (arith, same))),
+        HasNo-append 10 (decimal i.start) _ (HasNo-decimal 10 (omega arith) i.start is.start)
+            ((λ same. absurd (omega (arith, same))), HasNo-decimal 10 (omega arith) i.len is.len),
+      ),
+    ),
+  );
+  text_is = λ behind. intent_split i behind
+      ∙ sym (ap (λ (xs : List ℕ). 33 ∷ 32 ∷ xs) (append_assoc i.uid (32 ∷ (decimal i.start ++ 32 ∷ decimal i.len)) (10 ∷ behind)
+      ∙ ap (λ (xs : List ℕ). i.uid ++ 32 ∷ xs) (append_assoc (decimal i.start) (32 ∷ decimal i.len) (10 ∷ behind))));
 }
 
 -- what has no LF holds no line
@@ -179,16 +244,45 @@ pub group_whole_line : (bytes line number rest : List ℕ) (count : ℕ) → byt
 group_whole_line bytes line number rest count bytes_are cut is =
     bytes_are ∙ ap (λ (xs : List ℕ). 43 ∷ 32 ∷ xs) (cut ∙ ap (λ (xs : List ℕ). xs ++ 10 ∷ rest) is) ∙ sym (group_split count rest)
 
--- neither kind
+-- no kind
 pub neither_line : (bytes : List ℕ) → ((row : Row) (behind : List ℕ) → IsRow row → bytes ≡ line_of row ++ behind → ⊥)
     → ((count : ℕ) (behind : List ℕ) → 1 ≤ count → count ≤ 100000 → bytes ≡ group_line count ++ behind → ⊥)
+    → ((intent : Intent) (behind : List ℕ) → IsIntent intent → bytes ≡ intent_line intent ++ behind → ⊥)
     → (line : Line) (behind : List ℕ) → IsLine line → bytes ≡ text_of line ++ behind → ⊥
-neither_line bytes rows groups (RowLine row) behind is e = rows row behind is e
-neither_line bytes rows groups (GroupLine count) behind is e = groups count behind is.0 is.1 e
+neither_line bytes rows groups intents (RowLine row) behind is e = rows row behind is e
+neither_line bytes rows groups intents (GroupLine count) behind is e = groups count behind is.0 is.1 e
+neither_line bytes rows groups intents (IntentLine intent) behind is e = intents intent behind is e
 
 -- what was stripped
 pub signed : (bytes : List ℕ) (line : Bor (List ℕ)) → MatchOption (Some line) (pointwise nat_eq (take 2 bytes) (43 ∷ 32 ∷ []) ≡ false) (λ x. (pointwise nat_eq (take 2 bytes) (43 ∷ 32 ∷ []) ≡ true) × (x.now ≡ drop 2 bytes) × (length x.now + 2 ≡ length bytes)) → bytes ≡ 43 ∷ 32 ∷ line.now
 signed bytes line cases = strip_prefix_is Decides-eqb bytes (43 ∷ 32 ∷ []) (Some line) cases
 
-pub stripped : (bytes : List ℕ) (lines : Bor (List ℕ)) → MatchOption (Some lines) (pointwise nat_eq (take (length header) bytes) header ≡ false) (λ x. (pointwise nat_eq (take (length header) bytes) header ≡ true) × (x.now ≡ drop (length header) bytes) × (length x.now + length header ≡ length bytes)) → bytes ≡ header ++ lines.now
-stripped bytes lines cases = strip_prefix_is Decides-eqb bytes header (Some lines) cases
+pub stripped : (version : Version) (bytes : List ℕ) (lines : Bor (List ℕ)) → MatchOption (Some lines) (pointwise nat_eq (take (length (header version)) bytes) (header version) ≡ false) (λ x. (pointwise nat_eq (take (length (header version)) bytes) (header version) ≡ true) × (x.now ≡ drop (length (header version)) bytes) × (length x.now + length (header version) ≡ length bytes)) → bytes ≡ header version ++ lines.now
+stripped version bytes lines cases = strip_prefix_is Decides-eqb bytes (header version) (Some lines) cases
+
+-- the fields of an intent's line
+pub signed_intent : (bytes : List ℕ) (line : Bor (List ℕ)) → MatchOption (Some line) (pointwise nat_eq (take 2 bytes) (33 ∷ 32 ∷ []) ≡ false) (λ x. (pointwise nat_eq (take 2 bytes) (33 ∷ 32 ∷ []) ≡ true) × (x.now ≡ drop 2 bytes) × (length x.now + 2 ≡ length bytes)) → bytes ≡ 33 ∷ 32 ∷ line.now
+signed_intent bytes line cases = strip_prefix_is Decides-eqb bytes (33 ∷ 32 ∷ []) (Some line) cases
+
+pub behind_intent_sign : (bytes line : List ℕ) (intent : Intent) (behind : List ℕ) → bytes ≡ 33 ∷ 32 ∷ line → bytes ≡ intent_line intent ++ behind
+    → line ≡ intent.uid ++ 32 ∷ (decimal intent.start ++ 32 ∷ (decimal intent.len ++ 10 ∷ behind))
+behind_intent_sign bytes line intent behind bytes_are is =
+    (same_cons 32 32 _ _ (same_cons 33 33 _ _ (sym bytes_are ∙ is ∙ intent_split intent behind)).1).1
+
+pub field_uid : (line uid rest : List ℕ) (intent : Intent) (tail : List ℕ) → line ≡ uid ++ 32 ∷ rest → All (λ byte. byte ≢ 32) uid → IsIntent intent → line ≡ intent.uid ++ 32 ∷ tail → (uid ≡ intent.uid) × (rest ≡ tail)
+field_uid line uid rest intent tail cut none is e = cut_unique 32 uid intent.uid rest tail (recursion_from_All _ uid none) (HasNo-id 32 (omega arith) intent.uid is.legal) (sym cut ∙ e)
+
+pub field_number : (s : ℕ) (line number rest : List ℕ) (n : ℕ) (tail : List ℕ) → s < 48 → n < 2 ^ 64 → line ≡ number ++ s ∷ rest → All (λ byte. byte ≢ s) number → line ≡ decimal n ++ s ∷ tail → (number ≡ decimal n) × (rest ≡ tail)
+field_number s line number rest n tail small fits cut none e = cut_unique s number (decimal n) rest tail (recursion_from_All _ number none) (HasNo-decimal s small n fits) (sym cut ∙ e)
+
+pub no_field : (s : ℕ) (line expected tail : List ℕ) → All (λ byte. byte ≢ s) line → line ≡ expected ++ s ∷ tail → ⊥
+no_field s line expected tail none e = uncut s expected tail line (recursion_from_All _ line none) e
+
+pub intent_whole_line : (bytes line uid rest first rest' second rest'' : List ℕ) (intent : Intent) → bytes ≡ 33 ∷ 32 ∷ line → line ≡ uid ++ 32 ∷ rest → rest ≡ first ++ 32 ∷ rest' → rest' ≡ second ++ 10 ∷ rest''
+    → uid ≡ intent.uid → first ≡ decimal intent.start → second ≡ decimal intent.len → bytes ≡ intent_line intent ++ rest''
+intent_whole_line bytes line uid rest first rest' second rest'' intent b l r r' u f s =
+    b ∙ ap (λ (xs : List ℕ). 33 ∷ 32 ∷ xs) (l ∙ ap (λ (xs : List ℕ). uid ++ 32 ∷ xs) (r ∙ ap (λ (xs : List ℕ). first ++ 32 ∷ xs) r')
+    ∙ ap (λ (xs : List ℕ). xs ++ 32 ∷ (first ++ 32 ∷ (second ++ 10 ∷ rest''))) u
+    ∙ ap (λ (xs : List ℕ). intent.uid ++ 32 ∷ (xs ++ 32 ∷ (second ++ 10 ∷ rest''))) f
+    ∙ ap (λ (xs : List ℕ). intent.uid ++ 32 ∷ (decimal intent.start ++ 32 ∷ (xs ++ 10 ∷ rest''))) s)
+    ∙ sym (intent_split intent rest'')

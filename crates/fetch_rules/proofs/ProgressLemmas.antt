@@ -1,89 +1,133 @@
 -- A loop over the lines of a record's file.
 use Rattle.std.proofs.Common.{◌≡◌, ℕ, zero, suc, ◌+◌, ◌-◌, ◌<◌, ◌≤◌, List, [], ◌∷◌, ◌++◌, take, Bool, true, false, ◌||◌, cond, length, refl, sym, ◌∙◌, ap, subst, append_assoc, inr, arith, length-append}
-use Rattle.std.specs.Prelude.{min, flat_map}
+use Rattle.std.specs.Prelude.{min, flat_map, Option, Some, None}
 use Rattle.std.proofs.Math.Seq.{take-append_seam}
 use Rattle.std.proofs.lemmas.Bool.{true≢false}
 use Rattle.std.proofs.lemmas.List.{append-nil}
-use Rattle.fetch_rules.specs.Record.{Row, IsRow, IsRecord, has_row}
-use Rattle.fetch_rules.specs.RecordFile.{header, Line, RowLine, GroupLine, text_of, IsLine}
-use Rattle.fetch_rules.specs.RecordMeaning.{Progress, InBase, InGroup, Judged, Stands, Fails, after_line, line_after, counted, is_open, has_line_feed, has_bytes, Rows, Fault, Means, BeginsWithNoLine, Ends}
-use Rattle.fetch_rules.specs.Lines.{progress_of, is_within, TakesRow, RefusesRow, EndsAt}
+use Rattle.fetch_rules.specs.Record.{Row, Intent, IsRow, IsIntent, IsRecord, has_row}
+use Rattle.fetch_rules.specs.RecordFile.{Version, header, Line, RowLine, GroupLine, IntentLine, text_of, IsLine}
+use Rattle.fetch_rules.specs.RecordMeaning.{Progress, InBase, BetweenGroups, InGroup, left_open, may_take, taken, Judged, Stands, Fails, after_line, line_after, counted, is_open, has_line_feed, has_bytes, Meaning, Rows, Fault, Means, BeginsWithNoLine, Ends}
+use Rattle.fetch_rules.specs.Lines.{version_of, open_seen, progress_of, IsPlaced, open_behind, is_within, TakesRow, RefusesRow, TakesIntent, RefusesIntent, EndsAt}
 use Rattle.fetch_rules.specs.declared.seen.SeenFault.{SeenFault}
+use Rattle.fetch_rules.specs.declared.seen.line.Intent.{Intent as ReadIntent}
 use Rattle.fetch_rules.specs.declared.seen.SeenFault.TheVariants.{BadRow, RepeatedId}
 use Rattle.fetch_rules.specs.declared.seen.reading.Part.{Part}
 use Rattle.fetch_rules.specs.declared.seen.reading.Part.TheVariants.{Base, Between, Within}
 use Rattle.fetch_rules.specs.declared.seen.reading.End.{End}
 use Rattle.fetch_rules.specs.declared.seen.reading.End.TheVariants.{Counted, Open}
 use Rattle.fetch_rules.proofs.LineLemmas.{body_of, no_line}
-use Rattle.fetch_rules.proofs.CutLemmas.{one_meaning, same_rows}
+use Rattle.fetch_rules.proofs.CutLemmas.{one_meaning}
 use Rattle.fetch_rules.proofs.ReadLemmas.{IsBehind, behind_header, behind_more, behind_fails, behind_end}
 
-pub record Reads (bytes : List ℕ) (part : Part) (rows : List Row) (rest : List ℕ) (number front : ℕ) : Type 0 where
+pub record Reads (bytes : List ℕ) (older : Bool) (part : Part) (intent : Option Intent) (rows : List Row) (rest : List ℕ) (number front : ℕ) : Type 0 where
   pub n : ℕ
   pub before : List Row
-  pub behind : IsBehind bytes n (progress_of part before rows) rest
+  pub behind : IsBehind (version_of older) bytes n (progress_of part intent before rows) rest
   pub number_is : number ≡ line_after n
-  pub opened : is_within part ≡ true → (front ≤ length bytes) × Means (take front bytes) (Rows before false)
+  pub opened : is_within part ≡ true → (front ≤ length bytes) × Means (take front bytes) (Rows (version_of older) before intent false)
+  pub placed : IsPlaced part intent
   pub good : IsRecord rows
 
-pub Reads-none : (bytes rest : List ℕ) → bytes ≡ header ++ rest → (rows : List Row) → rows ≡ [] → IsRecord rows → Reads bytes Base rows rest 2 0
-Reads-none bytes rest is rows none good = record {
+pub Reads-none : (older : Bool) (bytes rest : List ℕ) → bytes ≡ header (version_of older) ++ rest → (rows : List Row) → rows ≡ [] → IsRecord rows → Reads bytes older Base None rows rest 2 0
+Reads-none older bytes rest is rows none good = record {
   n = 0;
   before = [];
-  behind = subst (λ (xs : List Row). IsBehind bytes 0 (InBase xs) rest) (sym none) (behind_header bytes rest is);
+  behind = subst (λ (xs : List Row). IsBehind (version_of older) bytes 0 (InBase xs) rest) (sym none) (behind_header (version_of older) bytes rest is);
   number_is = refl;
   opened = λ within. absurd (true≢false (sym within));
+  placed = refl;
   good = good;
 }
 
 next_number : (n number : ℕ) → number ≡ line_after n → min (number + 1) 4294967295 ≡ line_after (n + 1)
 next_number n number is = omega (arith, is)
 
--- a row doesn't lead into a group
-stays_out : (part next : Part) (n : ℕ) (before rows new : List Row) (row : Row) → after_line n (progress_of part before rows) (RowLine row) ≡ Stands (progress_of next before new) → is_within next ≡ true → is_within part ≡ true
-stays_out (Within more) next n before rows new row leads within = refl
-stays_out Between next n before rows new row leads within = absurd (apart leads)
+-- a row doesn't lead into a group, nor back behind the header
+stays_out : (version : Version) (part next : Part) (n : ℕ) (intent after : Option Intent) (before rows new : List Row) (row : Row)
+    → after_line version n (progress_of part intent before rows) (RowLine row) ≡ Stands (progress_of next after before new) → is_within next ≡ true → is_within part ≡ true
+stays_out version (Within more) next n intent after before rows new row leads within = refl
+stays_out version Between next n intent after before rows new row leads within = absurd (apart leads)
   where
-    apart : Fails (BadRow (line_after n)) ≡ Stands (progress_of next before new) → ⊥
+    apart : Fails (BadRow (line_after n)) ≡ Stands (progress_of next after before new) → ⊥
     apart e = cc
-stays_out Base Base n before rows new row leads within = absurd (true≢false (sym within))
-stays_out Base Between n before rows new row leads within = absurd (true≢false (sym within))
-stays_out Base (Within more) n before rows new row leads within = absurd (by (has_row rows row.uid) leads)
+stays_out version Base Base n intent after before rows new row leads within = absurd (true≢false (sym within))
+stays_out version Base Between n intent after before rows new row leads within = absurd (true≢false (sym within))
+stays_out version Base (Within more) n intent after before rows new row leads within = absurd (by (has_row rows row.uid) leads)
   where
-    by : (b : Bool) → cond b (Fails (RepeatedId (line_after n))) (Stands (InBase (rows ++ row ∷ []))) ≡ Stands (InGroup before new more) → ⊥
+    by : (b : Bool) → cond b (Fails (RepeatedId (line_after n))) (Stands (InBase (rows ++ row ∷ []))) ≡ Stands (InGroup before after new more) → ⊥
     by true e = cc
     by false e = cc
 
-pub Reads-row : (bytes : List ℕ) (part next : Part) (rows : List Row) (rest : List ℕ) (number front : ℕ) (row : Row) (behind : List ℕ) (new : List Row) → Reads bytes part rows rest number front
-    → IsRow row → rest ≡ text_of (RowLine row) ++ behind → TakesRow part rows row next new → IsRecord new → Reads bytes next new behind (min (number + 1) 4294967295) front
-Reads-row bytes part next rows rest number front row behind new were is line takes good = record {
+fault_no_base : (fault : SeenFault) (rows : List Row) → Fails fault ≡ Stands (InBase rows) → ⊥
+fault_no_base fault rows e = cc
+
+between_no_base : (rows new : List Row) (intent : Option Intent) → Stands (BetweenGroups rows intent) ≡ Stands (InBase new) → ⊥
+between_no_base rows new intent e = cc
+
+group_no_base : (old rows new : List Row) (intent : Option Intent) (more : ℕ) → Stands (InGroup old intent rows more) ≡ Stands (InBase new) → ⊥
+group_no_base old rows new intent more e = cc
+
+placed_behind : (version : Version) (part next : Part) (n : ℕ) (intent : Option Intent) (before rows new : List Row) (row : Row)
+    → after_line version n (progress_of part intent before rows) (RowLine row) ≡ Stands (progress_of next (open_behind next intent) before new) → IsPlaced part intent → IsPlaced next (open_behind next intent)
+placed_behind version part Between n intent before rows new row leads placed = tt
+placed_behind version part (Within more) n intent before rows new row leads placed = tt
+placed_behind version Base Base n intent before rows new row leads placed = placed
+placed_behind version Between Base n intent before rows new row leads placed = absurd (fault_no_base (BadRow (line_after n)) new leads)
+placed_behind version (Within zero) Base n intent before rows new row leads placed = absurd (by (may_take version rows row) leads)
+  where
+    by : (b : Bool) → cond b (Stands (BetweenGroups (taken rows row) None)) (Fails (RepeatedId (line_after n))) ≡ Stands (InBase new) → ⊥
+    by true e = between_no_base (taken rows row) new None e
+    by false e = fault_no_base (RepeatedId (line_after n)) new e
+placed_behind version (Within (suc more)) Base n intent before rows new row leads placed = absurd (by (may_take version rows row) leads)
+  where
+    by : (b : Bool) → cond b (Stands (InGroup before intent (taken rows row) more)) (Fails (RepeatedId (line_after n))) ≡ Stands (InBase new) → ⊥
+    by true e = group_no_base before (taken rows row) new intent more e
+    by false e = fault_no_base (RepeatedId (line_after n)) new e
+
+open_within : (next : Part) (intent : Option Intent) → is_within next ≡ true → open_behind next intent ≡ intent
+open_within Base intent within = refl
+open_within Between intent within = absurd (true≢false (sym within))
+open_within (Within more) intent within = refl
+
+pub seen_behind : (part : Part) (intent : Option ReadIntent) → open_seen (open_behind part intent) ≡ open_behind part (open_seen intent)
+seen_behind Base intent = refl
+seen_behind Between intent = refl
+seen_behind (Within more) intent = refl
+
+pub Reads-row : (bytes : List ℕ) (older : Bool) (part next : Part) (intent : Option Intent) (rows : List Row) (rest : List ℕ) (number front : ℕ) (row : Row) (behind : List ℕ) (new : List Row) → Reads bytes older part intent rows rest number front
+    → IsRow row → rest ≡ text_of (RowLine row) ++ behind → TakesRow older part rows row next new → IsRecord new → Reads bytes older next (open_behind next intent) new behind (min (number + 1) 4294967295) front
+Reads-row bytes older part next intent rows rest number front row behind new were is line takes good = record {
   n = were.n + 1;
   before = were.before;
-  behind = behind_more bytes were.n (progress_of part were.before rows) rest (RowLine row) behind (progress_of next were.before new) were.behind is line (takes were.n were.before);
+  behind = behind_more (version_of older) bytes were.n (progress_of part intent were.before rows) rest (RowLine row) behind (progress_of next (open_behind next intent) were.before new) were.behind is line (takes were.n were.before intent);
   number_is = next_number were.n number were.number_is;
-  opened = λ within. were.opened (stays_out part next were.n were.before rows new row (takes were.n were.before) within);
+  opened = λ within. subst (λ (i : Option Intent). (front ≤ length bytes) × Means (take front bytes) (Rows (version_of older) were.before i false)) (sym (open_within next intent within))
+      (were.opened (stays_out (version_of older) part next were.n intent (open_behind next intent) were.before rows new row (takes were.n were.before intent) within));
+  placed = placed_behind (version_of older) part next were.n intent were.before rows new row (takes were.n were.before intent) were.placed;
   good = good;
 }
 
 -- what stands before a group
-front_means : (bytes : List ℕ) (n : ℕ) (progress : Progress) (rest : List ℕ) → IsBehind bytes n progress rest → is_open progress ≡ false → (length rest ≤ length bytes) × Means (take (length bytes - length rest) bytes) (Rows (counted progress) false)
-front_means bytes n progress rest was free = (
+front_means : (bytes : List ℕ) (older : Bool) (n : ℕ) (progress : Progress) (rest : List ℕ) → IsBehind (version_of older) bytes n progress rest → is_open progress ≡ false
+    → (length rest ≤ length bytes) × Means (take (length bytes - length rest) bytes) (Rows (version_of older) (counted progress) (left_open progress) false)
+front_means bytes older n progress rest was free = (
   omega (arith, long),
-  subst (λ (xs : List ℕ). Means xs (Rows (counted progress) false)) (sym front_is)
+  subst (λ (xs : List ℕ). Means xs (Rows (version_of older) (counted progress) (left_open progress) false)) (sym front_is)
       (inr (inr (record {
+        version = version_of older;
         lines = was.lines;
         rest = [];
-        cut = record { each = was.cut.each; whole = sym (ap (λ (xs : List ℕ). header ++ xs) (append-nil (flat_map text_of was.lines))) };
-        ends = subst (λ (j : Judged). Ends (length was.lines) j [] (Rows (counted progress) false)) (sym was.stands)
-            (no_line [] tt, sym (ap (λ (b : Bool). Rows (counted progress) (b || false)) free));
+        cut = record { each = was.cut.each; whole = sym (ap (λ (xs : List ℕ). header (version_of older) ++ xs) (append-nil (flat_map text_of was.lines))) };
+        ends = subst (λ (j : Judged). Ends (version_of older) (length was.lines) j [] (Rows (version_of older) (counted progress) (left_open progress) false)) (sym was.stands)
+            (no_line [] tt, sym (ap (λ (b : Bool). Rows (version_of older) (counted progress) (left_open progress) (b || false)) free));
       }))),
 )
   where
     texts : List ℕ
-    texts = header ++ flat_map text_of was.lines
+    texts = header (version_of older) ++ flat_map text_of was.lines
 
     whole : bytes ≡ texts ++ rest
-    whole = was.cut.whole ∙ sym (append_assoc header (flat_map text_of was.lines) rest)
+    whole = was.cut.whole ∙ sym (append_assoc (header (version_of older)) (flat_map text_of was.lines) rest)
 
     long : length bytes ≡ length texts + length rest
     long = ap length whole ∙ length-append texts rest
@@ -94,71 +138,106 @@ front_means bytes n progress rest was free = (
     front_is : take (length bytes - length rest) bytes ≡ texts
     front_is = ap (λ (k : ℕ). take k bytes) count_is ∙ ap (take (length texts)) whole ∙ take-append_seam texts rest
 
-opens : (part : Part) (n : ℕ) (before rows : List Row) (count : ℕ) → is_within part ≡ false → after_line n (progress_of part before rows) (GroupLine count) ≡ Stands (InGroup rows rows (count - 1))
-opens Base n before rows count free = refl
-opens Between n before rows count free = refl
-opens (Within more) n before rows count free = absurd (true≢false free)
+opens : (version : Version) (part : Part) (n : ℕ) (intent : Option Intent) (before rows : List Row) (count : ℕ) → IsPlaced part intent → is_within part ≡ false
+    → after_line version n (progress_of part intent before rows) (GroupLine count) ≡ Stands (InGroup rows intent rows (count - 1))
+opens version Base n intent before rows count placed free = ap (λ (i : Option Intent). Stands (InGroup rows i rows (count - 1))) (sym placed)
+opens version Between n intent before rows count placed free = refl
+opens version (Within more) n intent before rows count placed free = absurd (true≢false free)
 
-free_progress : (part : Part) (before rows : List Row) → is_within part ≡ false → (is_open (progress_of part before rows) ≡ false) × (counted (progress_of part before rows) ≡ rows)
-free_progress Base before rows free = (refl, refl)
-free_progress Between before rows free = (refl, refl)
-free_progress (Within more) before rows free = absurd (true≢false free)
+pub record IsFree (progress : Progress) (intent : Option Intent) (rows : List Row) : Type 0 where
+  pub free : is_open progress ≡ false
+  pub rows_are : counted progress ≡ rows
+  pub intent_is : left_open progress ≡ intent
 
-pub Reads-group : (bytes : List ℕ) (part : Part) (rows : List Row) (rest : List ℕ) (number front : ℕ) (count : ℕ) (behind : List ℕ) → Reads bytes part rows rest number front
-    → IsLine (GroupLine count) → rest ≡ text_of (GroupLine count) ++ behind → is_within part ≡ false → Reads bytes (Within (count - 1)) rows behind (min (number + 1) 4294967295) (length bytes - length rest)
-Reads-group bytes part rows rest number front count behind were is line free =
-    let there = front_means bytes were.n (progress_of part were.before rows) rest were.behind (free_progress part were.before rows free).0 in
+free_progress : (part : Part) (intent : Option Intent) (before rows : List Row) → IsPlaced part intent → is_within part ≡ false → IsFree (progress_of part intent before rows) intent rows
+free_progress Base intent before rows placed free = record { free = refl; rows_are = refl; intent_is = sym placed }
+free_progress Between intent before rows placed free = record { free = refl; rows_are = refl; intent_is = refl }
+free_progress (Within more) intent before rows placed free = absurd (true≢false free)
+
+pub Reads-group : (bytes : List ℕ) (older : Bool) (part : Part) (intent : Option Intent) (rows : List Row) (rest : List ℕ) (number front : ℕ) (count : ℕ) (behind : List ℕ) → Reads bytes older part intent rows rest number front
+    → IsLine (GroupLine count) → rest ≡ text_of (GroupLine count) ++ behind → is_within part ≡ false → Reads bytes older (Within (count - 1)) intent rows behind (min (number + 1) 4294967295) (length bytes - length rest)
+Reads-group bytes older part intent rows rest number front count behind were is line free =
+    let at = free_progress part intent were.before rows were.placed free in
+    let there = front_means bytes older were.n (progress_of part intent were.before rows) rest were.behind at.free in
     record {
       n = were.n + 1;
       before = rows;
-      behind = behind_more bytes were.n (progress_of part were.before rows) rest (GroupLine count) behind (InGroup rows rows (count - 1)) were.behind is line (opens part were.n were.before rows count free);
+      behind = behind_more (version_of older) bytes were.n (progress_of part intent were.before rows) rest (GroupLine count) behind (InGroup rows intent rows (count - 1)) were.behind is line
+          (opens (version_of older) part were.n intent were.before rows count were.placed free);
       number_is = next_number were.n number were.number_is;
-      opened = λ within. (omega (arith, there.0), subst (λ (xs : List Row). Means (take (length bytes - length rest) bytes) (Rows xs false)) (free_progress part were.before rows free).1 there.1);
+      opened = λ within. (
+        omega (arith, there.0),
+        subst (λ (i : Option Intent). Means (take (length bytes - length rest) bytes) (Rows (version_of older) rows i false)) at.intent_is
+            (subst (λ (xs : List Row). Means (take (length bytes - length rest) bytes) (Rows (version_of older) xs (left_open (progress_of part intent were.before rows)) false)) at.rows_are there.1),
+      );
+      placed = tt;
       good = were.good;
     }
 
-pub Reads-within : (bytes : List ℕ) (part : Part) (rows : List Row) (rest : List ℕ) (number front : ℕ) → Reads bytes part rows rest number front → length rest ≤ length bytes
-Reads-within bytes part rows rest number front were =
-    omega (arith, ap length were.behind.cut.whole, length-append header (flat_map text_of were.behind.lines ++ rest), length-append (flat_map text_of were.behind.lines) rest)
+pub Reads-intent : (bytes : List ℕ) (older : Bool) (part : Part) (open' : Option Intent) (rows : List Row) (rest : List ℕ) (number front : ℕ) (intent : Intent) (behind : List ℕ) → Reads bytes older part open' rows rest number front
+    → IsIntent intent → rest ≡ text_of (IntentLine intent) ++ behind → TakesIntent older part open' rows intent → Reads bytes older Between (Some intent) rows behind (min (number + 1) 4294967295) front
+Reads-intent bytes older part open' rows rest number front intent behind were is line takes = record {
+  n = were.n + 1;
+  before = were.before;
+  behind = behind_more (version_of older) bytes were.n (progress_of part open' were.before rows) rest (IntentLine intent) behind (BetweenGroups rows (Some intent)) were.behind is line (takes were.n were.before);
+  number_is = next_number were.n number were.number_is;
+  opened = λ within. absurd (true≢false (sym within));
+  placed = tt;
+  good = were.good;
+}
 
-pub Reads-fails : (bytes : List ℕ) (part : Part) (rows : List Row) (rest : List ℕ) (number front : ℕ) (row : Row) (behind : List ℕ) (fault : SeenFault) → Reads bytes part rows rest number front
-    → IsRow row → rest ≡ text_of (RowLine row) ++ behind → RefusesRow part rows row number fault → Means bytes (Fault fault)
-Reads-fails bytes part rows rest number front row behind fault were is line refuses =
-    behind_fails bytes were.n (progress_of part were.before rows) rest (RowLine row) behind fault were.behind is line (refuses were.n were.before were.number_is)
+pub Reads-within : (bytes : List ℕ) (older : Bool) (part : Part) (intent : Option Intent) (rows : List Row) (rest : List ℕ) (number front : ℕ) → Reads bytes older part intent rows rest number front → length rest ≤ length bytes
+Reads-within bytes older part intent rows rest number front were =
+    omega (arith, ap length were.behind.cut.whole, length-append (header (version_of older)) (flat_map text_of were.behind.lines ++ rest), length-append (flat_map text_of were.behind.lines) rest)
 
-refused : (part : Part) (n : ℕ) (before rows : List Row) (count : ℕ) → is_within part ≡ true → after_line n (progress_of part before rows) (GroupLine count) ≡ Fails (BadRow (line_after n))
-refused Base n before rows count within = absurd (true≢false (sym within))
-refused Between n before rows count within = absurd (true≢false (sym within))
-refused (Within zero) n before rows count within = refl
-refused (Within (suc more)) n before rows count within = refl
+pub Reads-fails : (bytes : List ℕ) (older : Bool) (part : Part) (intent : Option Intent) (rows : List Row) (rest : List ℕ) (number front : ℕ) (row : Row) (behind : List ℕ) (fault : SeenFault) → Reads bytes older part intent rows rest number front
+    → IsRow row → rest ≡ text_of (RowLine row) ++ behind → RefusesRow older part rows row number fault → Means bytes (Fault fault)
+Reads-fails bytes older part intent rows rest number front row behind fault were is line refuses =
+    behind_fails (version_of older) bytes were.n (progress_of part intent were.before rows) rest (RowLine row) behind fault were.behind is line (refuses were.n were.before intent were.number_is)
 
-pub Reads-group_fails : (bytes : List ℕ) (part : Part) (rows : List Row) (rest : List ℕ) (number front : ℕ) (count : ℕ) (behind : List ℕ) → Reads bytes part rows rest number front
+pub Reads-intent_fails : (bytes : List ℕ) (older : Bool) (part : Part) (open' : Option Intent) (rows : List Row) (rest : List ℕ) (number front : ℕ) (intent : Intent) (behind : List ℕ) (fault : SeenFault) → Reads bytes older part open' rows rest number front
+    → IsIntent intent → rest ≡ text_of (IntentLine intent) ++ behind → RefusesIntent older part open' rows intent number fault → Means bytes (Fault fault)
+Reads-intent_fails bytes older part open' rows rest number front intent behind fault were is line refuses =
+    behind_fails (version_of older) bytes were.n (progress_of part open' were.before rows) rest (IntentLine intent) behind fault were.behind is line (refuses were.n were.before were.number_is)
+
+refused : (version : Version) (part : Part) (n : ℕ) (intent : Option Intent) (before rows : List Row) (count : ℕ) → is_within part ≡ true → after_line version n (progress_of part intent before rows) (GroupLine count) ≡ Fails (BadRow (line_after n))
+refused version Base n intent before rows count within = absurd (true≢false (sym within))
+refused version Between n intent before rows count within = absurd (true≢false (sym within))
+refused version (Within zero) n intent before rows count within = refl
+refused version (Within (suc more)) n intent before rows count within = refl
+
+pub Reads-group_fails : (bytes : List ℕ) (older : Bool) (part : Part) (intent : Option Intent) (rows : List Row) (rest : List ℕ) (number front : ℕ) (count : ℕ) (behind : List ℕ) → Reads bytes older part intent rows rest number front
     → IsLine (GroupLine count) → rest ≡ text_of (GroupLine count) ++ behind → is_within part ≡ true → Means bytes (Fault (BadRow number))
-Reads-group_fails bytes part rows rest number front count behind were is line within =
-    behind_fails bytes were.n (progress_of part were.before rows) rest (GroupLine count) behind (BadRow number) were.behind is line
-    (refused part were.n were.before rows count within ∙ ap (λ (k : ℕ). Fails (BadRow k)) (sym were.number_is))
+Reads-group_fails bytes older part intent rows rest number front count behind were is line within =
+    behind_fails (version_of older) bytes were.n (progress_of part intent were.before rows) rest (GroupLine count) behind (BadRow number) were.behind is line
+    (refused (version_of older) part were.n intent were.before rows count within ∙ ap (λ (k : ℕ). Fails (BadRow k)) (sym were.number_is))
 
-pub Reads-feed : (bytes : List ℕ) (part : Part) (rows : List Row) (rest : List ℕ) (number front : ℕ) → Reads bytes part rows rest number front → BeginsWithNoLine rest → has_line_feed rest ≡ true → Means bytes (Fault (BadRow number))
-Reads-feed bytes part rows rest number front were none feed =
-    subst (Means bytes) (ap (λ (b : Bool). cond b (Fault (BadRow (line_after were.n))) (Rows (counted (progress_of part were.before rows)) (is_open (progress_of part were.before rows) || has_bytes rest))) feed
-    ∙ ap (λ (k : ℕ). Fault (BadRow k)) (sym were.number_is))
-    (behind_end bytes were.n (progress_of part were.before rows) rest were.behind none)
+abbrev EndMeans : Bool → ℕ → Progress → List ℕ → Bool → Meaning
+EndMeans older n progress rest feed = cond feed (Fault (BadRow (line_after n))) (Rows (version_of older) (counted progress) (left_open progress) (is_open progress || has_bytes rest))
 
-pub Reads-end : (bytes : List ℕ) (part : Part) (rows : List Row) (rest : List ℕ) (number front : ℕ) (end : End) → Reads bytes part rows rest number front → BeginsWithNoLine rest → has_line_feed rest ≡ false
-    → (is_within part ≡ true → end ≡ Open front) → (is_within part ≡ false → end ≡ Counted (has_bytes rest)) → EndsAt bytes end rows
-Reads-end bytes part rows rest number front end were none plain within between = by part refl within between
+pub Reads-feed : (bytes : List ℕ) (older : Bool) (part : Part) (intent : Option Intent) (rows : List Row) (rest : List ℕ) (number front : ℕ) → Reads bytes older part intent rows rest number front → BeginsWithNoLine rest → has_line_feed rest ≡ true → Means bytes (Fault (BadRow number))
+Reads-feed bytes older part intent rows rest number front were none feed =
+    subst (Means bytes) (ap (EndMeans older were.n (progress_of part intent were.before rows) rest) feed ∙ ap (λ (k : ℕ). Fault (BadRow k)) (sym were.number_is))
+    (behind_end (version_of older) bytes were.n (progress_of part intent were.before rows) rest were.behind none)
+
+pub Reads-end : (bytes : List ℕ) (older : Bool) (part : Part) (intent : Option Intent) (rows : List Row) (rest : List ℕ) (number front : ℕ) (end : End) → Reads bytes older part intent rows rest number front → BeginsWithNoLine rest → has_line_feed rest ≡ false
+    → (is_within part ≡ true → end ≡ Open front) → (is_within part ≡ false → end ≡ Counted (has_bytes rest)) → EndsAt bytes older end intent rows
+Reads-end bytes older part intent rows rest number front end were none plain within between = by part refl were.placed within between
   where
-    means : Means bytes (Rows (counted (progress_of part were.before rows)) (is_open (progress_of part were.before rows) || has_bytes rest))
-    means = subst (Means bytes) (ap (λ (b : Bool). cond b (Fault (BadRow (line_after were.n))) (Rows (counted (progress_of part were.before rows)) (is_open (progress_of part were.before rows) || has_bytes rest))) plain)
-        (behind_end bytes were.n (progress_of part were.before rows) rest were.behind none)
+    means : Means bytes (Rows (version_of older) (counted (progress_of part intent were.before rows)) (left_open (progress_of part intent were.before rows)) (is_open (progress_of part intent were.before rows) || has_bytes rest))
+    means = subst (Means bytes) (ap (EndMeans older were.n (progress_of part intent were.before rows) rest) plain)
+        (behind_end (version_of older) bytes were.n (progress_of part intent were.before rows) rest were.behind none)
 
-    by : (p : Part) → part ≡ p → (is_within part ≡ true → end ≡ Open front) → (is_within part ≡ false → end ≡ Counted (has_bytes rest)) → EndsAt bytes end rows
-    by Base is w b = subst (λ (e : End). EndsAt bytes e rows) (sym (b (ap is_within is))) (subst (λ (q : Part). Means bytes (Rows (counted (progress_of q were.before rows)) (is_open (progress_of q were.before rows) || has_bytes rest))) is means)
-    by Between is w b = subst (λ (e : End). EndsAt bytes e rows) (sym (b (ap is_within is))) (subst (λ (q : Part). Means bytes (Rows (counted (progress_of q were.before rows)) (is_open (progress_of q were.before rows) || has_bytes rest))) is means)
-    by (Within more) is w b =
+    by : (p : Part) → part ≡ p → IsPlaced part intent → (is_within part ≡ true → end ≡ Open front) → (is_within part ≡ false → end ≡ Counted (has_bytes rest)) → EndsAt bytes older end intent rows
+    by Base is placed w b = subst (λ (e : End). EndsAt bytes older e intent rows) (sym (b (ap is_within is)))
+        (subst (λ (i : Option Intent). Means bytes (Rows (version_of older) rows i (has_bytes rest))) (sym (subst (λ (q : Part). IsPlaced q intent) is placed))
+        (subst (λ (q : Part). Means bytes (Rows (version_of older) (counted (progress_of q intent were.before rows)) (left_open (progress_of q intent were.before rows)) (is_open (progress_of q intent were.before rows) || has_bytes rest))) is means))
+    by Between is placed w b = subst (λ (e : End). EndsAt bytes older e intent rows) (sym (b (ap is_within is)))
+        (subst (λ (q : Part). Means bytes (Rows (version_of older) (counted (progress_of q intent were.before rows)) (left_open (progress_of q intent were.before rows)) (is_open (progress_of q intent were.before rows) || has_bytes rest))) is means)
+    by (Within more) is placed w b =
         let opened = were.opened (ap is_within is) in
-        subst (λ (e : End). EndsAt bytes e rows) (sym (w (ap is_within is)))
-        (opened.0, (were.before, subst (λ (q : Part). Means bytes (Rows (counted (progress_of q were.before rows)) (is_open (progress_of q were.before rows) || has_bytes rest))) is means, opened.1))
+        subst (λ (e : End). EndsAt bytes older e intent rows) (sym (w (ap is_within is)))
+        (opened.0, (were.before, subst (λ (q : Part). Means bytes (Rows (version_of older) (counted (progress_of q intent were.before rows)) (left_open (progress_of q intent were.before rows)) (is_open (progress_of q intent were.before rows) || has_bytes rest))) is means, opened.1))
 
 -- a line has bytes
 pub shorter : (rest : List ℕ) (line : Line) (behind : List ℕ) → IsLine line → rest ≡ text_of line ++ behind → length behind < length rest
@@ -166,26 +245,33 @@ shorter rest line behind is line_is =
     let b = body_of line is in
     omega (arith, ap length (line_is ∙ b.text_is behind), length-append b.body (10 ∷ behind))
 
-torn_differs : (a b : List Row) → Rows a false ≡ Rows b true → ⊥
-torn_differs a b e = cc
+same_parts : (v w : Version) (a b : List Row) (i j : Option Intent) (s t : Bool) → Rows v a i s ≡ Rows w b j t → (a ≡ b) × (i ≡ j) × (s ≡ t)
+same_parts v w a b i j s t e = (cc, cc, cc)
 
-rows_no_fault : (a : List Row) (t : Bool) (fault : SeenFault) → Rows a t ≡ Fault fault → ⊥
-rows_no_fault a t fault e = cc
+rows_no_fault : (v : Version) (a : List Row) (i : Option Intent) (t : Bool) (fault : SeenFault) → Rows v a i t ≡ Fault fault → ⊥
+rows_no_fault v a i t fault e = cc
 
 -- where a group lacks rows, what stands before it is read again
-open_ends : (bytes : List ℕ) (front : ℕ) (rows : List Row) → EndsAt bytes (Open front) rows → (before : List Row) × Means bytes (Rows before true) × Means (take front bytes) (Rows before false)
-open_ends bytes front rows ends = ends.1
+pub record StoodOpen (bytes : List ℕ) (older : Bool) (front : ℕ) (intent : Option Intent) : Type 0 where
+  pub before : List Row
+  pub torn : Means bytes (Rows (version_of older) before intent true)
+  pub whole : Means (take front bytes) (Rows (version_of older) before intent false)
 
-pub rows_again : (bytes piece : List ℕ) (front : ℕ) (rows : List Row) (end : End) (new : List Row) → EndsAt bytes (Open front) rows → piece ≡ take front bytes → EndsAt piece end new → Means bytes (Rows new true)
-rows_again bytes piece front rows (Counted torn) new ends is again =
-    let at = open_ends bytes front rows ends in
-    subst (λ (xs : List Row). Means bytes (Rows xs true)) (same_rows at.0 new false torn (one_meaning piece (Rows at.0 false) (Rows new torn) (subst (λ (xs : List ℕ). Means xs (Rows at.0 false)) (sym is) at.2) again)) at.1
-rows_again bytes piece front rows (Open further) new ends is again =
-    let at = open_ends bytes front rows ends in
-    let then = open_ends piece further new again in
-    absurd (torn_differs at.0 then.0 (one_meaning piece (Rows at.0 false) (Rows then.0 true) (subst (λ (xs : List ℕ). Means xs (Rows at.0 false)) (sym is) at.2) then.1))
+open_ends : (bytes : List ℕ) (older : Bool) (front : ℕ) (intent : Option Intent) (rows : List Row) → EndsAt bytes older (Open front) intent rows → StoodOpen bytes older front intent
+open_ends bytes older front intent rows ends = record { before = ends.1.0; torn = ends.1.1; whole = ends.1.2 }
 
-pub no_fault_again : (bytes piece : List ℕ) (front : ℕ) (rows : List Row) (fault : SeenFault) → EndsAt bytes (Open front) rows → piece ≡ take front bytes → Means piece (Fault fault) → ⊥
-no_fault_again bytes piece front rows fault ends is again =
-    let at = open_ends bytes front rows ends in
-    rows_no_fault at.0 false fault (one_meaning piece (Rows at.0 false) (Fault fault) (subst (λ (xs : List ℕ). Means xs (Rows at.0 false)) (sym is) at.2) again)
+pub rows_again : (bytes piece : List ℕ) (older anew : Bool) (front : ℕ) (intent then : Option Intent) (rows : List Row) (end : End) (new : List Row) → EndsAt bytes older (Open front) intent rows → piece ≡ take front bytes
+    → EndsAt piece anew end then new → Means bytes (Rows (version_of older) new intent true)
+rows_again bytes piece older anew front intent then rows (Counted torn) new ends is again =
+    let at = open_ends bytes older front intent rows ends in
+    let same = same_parts (version_of older) (version_of anew) at.before new intent then false torn (one_meaning piece (Rows (version_of older) at.before intent false) (Rows (version_of anew) new then torn) (subst (λ (xs : List ℕ). Means xs (Rows (version_of older) at.before intent false)) (sym is) at.whole) again) in
+    subst (λ (xs : List Row). Means bytes (Rows (version_of older) xs intent true)) same.0 at.torn
+rows_again bytes piece older anew front intent then rows (Open further) new ends is again =
+    let at = open_ends bytes older front intent rows ends in
+    let later = open_ends piece anew further then new again in
+    absurd (true≢false (sym (same_parts (version_of older) (version_of anew) at.before later.before intent then false true (one_meaning piece (Rows (version_of older) at.before intent false) (Rows (version_of anew) later.before then true) (subst (λ (xs : List ℕ). Means xs (Rows (version_of older) at.before intent false)) (sym is) at.whole) later.torn)).2))
+
+pub no_fault_again : (bytes piece : List ℕ) (older : Bool) (front : ℕ) (intent : Option Intent) (rows : List Row) (fault : SeenFault) → EndsAt bytes older (Open front) intent rows → piece ≡ take front bytes → Means piece (Fault fault) → ⊥
+no_fault_again bytes piece older front intent rows fault ends is again =
+    let at = open_ends bytes older front intent rows ends in
+    rows_no_fault (version_of older) at.before intent false fault (one_meaning piece (Rows (version_of older) at.before intent false) (Fault fault) (subst (λ (xs : List ℕ). Means xs (Rows (version_of older) at.before intent false)) (sym is) at.whole) again)

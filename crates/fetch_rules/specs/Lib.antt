@@ -1,5 +1,6 @@
 pub mod Due
 pub mod Laws
+pub mod Intents
 pub mod Lines
 pub mod Plan
 pub mod Record

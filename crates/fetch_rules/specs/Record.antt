@@ -1,6 +1,6 @@
 -- The record: which messages of a maildrop were seen, since when, and whether they were delivered.
 -- A message is known by its unique-id (RFC 1939, section 7, UIDL).
-use Rattle.std.specs.Prelude.{ℕ, ◌<◌, ◌^◌, Bool, false, ◌&&◌, ◌||◌, not, List, [], ◌∷◌, ◌++◌, Option, map, filter, find, zip, All, bytes_eq, option_map}
+use Rattle.std.specs.Prelude.{ℕ, ◌<◌, ◌^◌, Bool, false, ◌&&◌, ◌||◌, not, List, [], ◌∷◌, ◌++◌, Option, Some, None, map, filter, find, All, bytes_eq, option_map, IsTrue}
 use Rattle.std.specs.List.{list_any}
 use Rattle.mail_terms.specs.UniqueId.{IsLegalId}
 use Rattle.mail_terms.specs.Distinct.{AreDistinct}
@@ -23,13 +23,35 @@ pub record IsRecord (rows : List Row) : Type 0 where
   pub each : All IsRow rows
   pub distinct : AreDistinct (map (λ row. row.uid) rows)
 
--- a record in memory: its rows, and whether the bytes that it was last read from had a torn end
+-- of which message an entry is to be appended to a mailbox file, at which size of the file, and how long the entry is
+pub record Intent : Type 0 where
+  pub uid : List ℕ
+  pub start : ℕ
+  pub len : ℕ
+
+-- the id is legal, and both numbers are of 64 bits
+pub record IsIntent (intent : Intent) : Type 0 where
+  pub legal : IsLegalId intent.uid
+  pub start : intent.start < 2 ^ 64
+  pub len : intent.len < 2 ^ 64
+
+-- rows, and an intent that may be open
+pub record Held : Type 0 where
+  pub rows : List Row
+  pub intent : Option Intent
+
+abbrev pub none_open : List Row → Held
+none_open rows = record { rows = rows; intent = None }
+
+-- a record in memory: its rows, the intent that is open, and whether its file must be written anew before something may be
+-- appended to it
 pub record Loaded : Type 0 where
   pub rows : List Row
-  pub torn : Bool
+  pub intent : Option Intent
+  pub stale : Bool
 
 abbrev pub empty : Loaded
-empty = record { rows = []; torn = false }
+empty = record { rows = []; intent = None; stale = false }
 
 -- whether a row is this id's
 abbrev pub is_of : List ℕ → Row → Bool
@@ -83,3 +105,8 @@ abbrev pub merged : List Row → List Item → List Bool → ℕ → List Row
 merged rows listing held now =
     with_held listing held rows
     ++ map (λ uid. record { uid = uid; first_seen = now; delivered = is_flagged listing held uid }) (new_ids rows listing)
+
+-- an intent that is open is one, and its id has a row
+abbrev pub IntentHasRow : List Row → Option Intent → Type 0
+IntentHasRow rows None = Unit {0}
+IntentHasRow rows (Some intent) = IsIntent intent × IsTrue (has_row rows intent.uid)

@@ -1,12 +1,18 @@
--- The file of the record, version 1, as text: the header's line, a line for each row, then groups. A
--- row's line has the id, the second at which it was first seen, and 1 where it was delivered, else 0.
--- A group is the line `+ N` and N rows, which have come into the record, or were delivered, since.
-use Rattle.std.specs.Prelude.{ℕ, ◌≤◌, List, [], ◌∷◌, ◌++◌, Bool, true, false, not, ◌&&◌, if◌then◌else◌, length, flat_map, codes}
+-- The file of the record as text: the header's line, a line for each row, then groups. A row's line has
+-- the id, the second at which it was first seen, and 1 where it was delivered, else 0. A group is the
+-- line `+ N` and N rows, which have come into the record, or were delivered, since. In version 2 an
+-- intent's line may stand behind the rows and between groups: `!`, the id, and two numbers.
+use Rattle.std.specs.Prelude.{ℕ, ◌≤◌, List, [], ◌∷◌, ◌++◌, Bool, true, false, not, ◌&&◌, if◌then◌else◌, length, flat_map, codes, Option, Some, None}
 use Rattle.std.specs.Fmt.{decimal}
-use Rattle.fetch_rules.specs.Record.{Row, IsRow}
+use Rattle.fetch_rules.specs.Record.{Row, IsRow, Intent, IsIntent}
 
-abbrev pub header : List ℕ
-header = codes "getmail-seen 1\n"
+pub data Version : Type 0 where
+  One : Version
+  Two : Version
+
+abbrev pub header : Version → List ℕ
+header One = codes "getmail-seen 1\n"
+header Two = codes "getmail-seen 2\n"
 
 abbrev pub state_of : Bool → List ℕ
 state_of true = codes "1\n"
@@ -20,9 +26,17 @@ line_of row = row.uid ++ (codes " " ++ (decimal row.first_seen ++ (codes " " ++ 
 abbrev pub group_line : ℕ → List ℕ
 group_line count = codes "+ " ++ (decimal count ++ codes "\n")
 
+-- the line of an intent
+abbrev pub intent_line : Intent → List ℕ
+intent_line intent = codes "! " ++ (intent.uid ++ (codes " " ++ (decimal intent.start ++ (codes " " ++ (decimal intent.len ++ codes "\n")))))
+
+abbrev pub last_line : Option Intent → List ℕ
+last_line None = []
+last_line (Some intent) = intent_line intent
+
 -- the file without groups
-abbrev pub file_of : List Row → List ℕ
-file_of rows = header ++ flat_map line_of rows
+abbrev pub file_of : List Row → Option Intent → List ℕ
+file_of rows intent = header Two ++ (flat_map line_of rows ++ last_line intent)
 
 -- a group of rows
 abbrev pub group_of : List Row → List ℕ
@@ -39,15 +53,18 @@ abbrev pub written : List Row → List ℕ
 written [] = []
 written (row ∷ rows) = group_of (row ∷ rows)
 
--- a line that may stand behind the header: a row's, or one that begins a group
+-- a line that may stand behind the header: a row's, one that begins a group, or an intent's
 pub data Line : Type 0 where
   RowLine : (row : Row) → Line
   GroupLine : (count : ℕ) → Line
+  IntentLine : (intent : Intent) → Line
 
 abbrev pub text_of : Line → List ℕ
 text_of (RowLine row) = line_of row
 text_of (GroupLine count) = group_line count
+text_of (IntentLine intent) = intent_line intent
 
 abbrev pub IsLine : Line → Type 0
 IsLine (RowLine row) = IsRow row
 IsLine (GroupLine count) = (1 ≤ count) × (count ≤ 100000)
+IsLine (IntentLine intent) = IsIntent intent

@@ -1,7 +1,7 @@
 -- How a record's file grows by appended groups, and what is kept where an append is cut.
-use Rattle.std.specs.Prelude.{◌≡◌, ◌≢◌, ◌⊎◌, ℕ, ◌≤◌, List, [], ◌∷◌, ◌++◌, false, Option, length, All, IsTrue}
-use Rattle.fetch_rules.specs.Record.{Row, IsRow, IsRecord}
-use Rattle.fetch_rules.specs.RecordFile.{file_of, group_of}
+use Rattle.std.specs.Prelude.{◌≡◌, ◌≢◌, ◌⊎◌, ℕ, ◌≤◌, List, [], ◌∷◌, ◌++◌, false, Bool, Option, Some, None, length, All, IsTrue}
+use Rattle.fetch_rules.specs.Record.{Row, Intent, IsRow, IsIntent, IsRecord, IntentHasRow, has_row}
+use Rattle.fetch_rules.specs.RecordFile.{Version, One, Two, header, file_of, group_of, intent_line}
 use Rattle.fetch_rules.specs.RecordMeaning.{Meaning, Rows, Means, FileStandsFor, may_take, taken, has_bytes}
 
 -- the rows after a whole group
@@ -12,7 +12,7 @@ taken_all rows (row ∷ more) = taken_all (taken rows row) more
 -- each row of a group may stand behind those before it
 abbrev pub MayFollow : List Row → List Row → Type 0
 MayFollow rows [] = Unit {0}
-MayFollow rows (row ∷ more) = IsTrue (may_take rows row) × MayFollow (taken rows row) more
+MayFollow rows (row ∷ more) = IsTrue (may_take Two rows row) × MayFollow (taken rows row) more
 
 -- a group that may follow these rows
 pub record IsGroup (rows group : List Row) : Type 0 where
@@ -20,11 +20,24 @@ pub record IsGroup (rows group : List Row) : Type 0 where
   pub count : (1 ≤ length group) × (length group ≤ 100000)
   pub follows : MayFollow rows group
 
--- what is appended to a file where its rows become others: nothing where they stay, else one group
-abbrev pub Updates : List Row → List ℕ → List Row → Type 0
-Updates old bytes new =
-    ((bytes ≡ []) × (new ≡ old))
-    ⊎ ((group : List Row) × IsGroup old group × (bytes ≡ group_of group) × (new ≡ taken_all old group))
+-- what is appended to a file where its rows become others: nothing where they stay, else one group, which ends an open intent
+abbrev pub Updates : List Row → Option Intent → List ℕ → List Row → Option Intent → Type 0
+Updates old before bytes new after =
+    ((bytes ≡ []) × (new ≡ old) × (after ≡ before))
+    ⊎ ((group : List Row) × IsGroup old group × (bytes ≡ group_of group) × (new ≡ taken_all old group) × (after ≡ None))
+
+-- what is appended where an intent is opened: its line
+pub record Opens (old : List Row) (before : Option Intent) (bytes : List ℕ) (new : List Row) (after : Option Intent) : Type 0 where
+  pub intent : Intent
+  pub is_one : IsIntent intent
+  pub row : IsTrue (has_row old intent.uid)
+  pub closed : before ≡ None
+  pub bytes_are : bytes ≡ intent_line intent
+  pub same : new ≡ old
+  pub opened : after ≡ Some intent
+
+abbrev pub Grows : List Row → Option Intent → List ℕ → List Row → Option Intent → Type 0
+Grows old before bytes new after = Updates old before bytes new after ⊎ Opens old before bytes new after
 
 -- a law: bytes have one meaning
 abbrev pub OneMeaning : Type 0
@@ -32,18 +45,27 @@ OneMeaning = (bytes : List ℕ) (a b : Meaning) → Means bytes a → Means byte
 
 -- a law: a file stands for one record
 abbrev pub OneRecord : Type 0
-OneRecord = (file : Option (List ℕ)) (a b : List Row) → FileStandsFor file a → FileStandsFor file b → a ≡ b
+OneRecord = (file : Option (List ℕ)) (a b : List Row) (i j : Option Intent) → FileStandsFor file a i → FileStandsFor file b j → (a ≡ b) × (i ≡ j)
 
--- a law: the file without groups stands for its rows, and isn't torn
+-- a law: the file without groups stands for its rows and its intent, and isn't torn
 abbrev pub BytesStand : Type 0
-BytesStand = (rows : List Row) → IsRecord rows → Means (file_of rows) (Rows rows false)
+BytesStand = (rows : List Row) (intent : Option Intent) → IsRecord rows → IntentHasRow rows intent → Means (file_of rows intent) (Rows Two rows intent false)
 
 -- a law: behind a file that isn't empty and isn't torn, what was appended whole counts
 abbrev pub AppendedCounts : Type 0
-AppendedCounts = (bytes added : List ℕ) (old new : List Row) → bytes ≢ [] → Means bytes (Rows old false) → Updates old added new
-    → Means (bytes ++ added) (Rows new false)
+AppendedCounts = (bytes added : List ℕ) (old new : List Row) (before after : Option Intent) → bytes ≢ [] → Means bytes (Rows Two old before false) → Grows old before added new after
+    → Means (bytes ++ added) (Rows Two new after false)
 
 -- a law: there, a front of what was to be appended counts for nothing, and is a torn end
 abbrev pub CutIsIgnored : Type 0
-CutIsIgnored = (bytes added front behind : List ℕ) (old new : List Row) → bytes ≢ [] → Means bytes (Rows old false) → Updates old added new
-    → added ≡ front ++ behind → behind ≢ [] → Means (bytes ++ front) (Rows old (has_bytes front))
+CutIsIgnored = (bytes added front behind : List ℕ) (old new : List Row) (before after : Option Intent) → bytes ≢ [] → Means bytes (Rows Two old before false) → Grows old before added new after
+    → added ≡ front ++ behind → behind ≢ [] → Means (bytes ++ front) (Rows Two old before (has_bytes front))
+
+-- a law: a file of version 1 has no open intent, and its lines stand for the same rows behind the header of version 2
+abbrev pub OneIsRead : Type 0
+OneIsRead = (rest : List ℕ) (version : Version) (rows : List Row) (intent : Option Intent) (torn : Bool) → Means (header One ++ rest) (Rows version rows intent torn)
+    → (version ≡ One) × (intent ≡ None) × Means (header Two ++ rest) (Rows Two rows None torn)
+
+-- a law: an open intent is one, and its id has a row
+abbrev pub OpenHasRow : Type 0
+OpenHasRow = (bytes : List ℕ) (version : Version) (rows : List Row) (intent : Option Intent) (torn : Bool) → Means bytes (Rows version rows intent torn) → IntentHasRow rows intent

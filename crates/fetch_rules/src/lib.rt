@@ -23,7 +23,7 @@ pub use rc_file::{
     read_rc, warning_text,
 };
 pub use seen::{
-    Seen, SeenFault, appended_counts, bytes_have_one_meaning, bytes_stand, cut_is_ignored,
-    files_stand_for_one_record,
+    Intent, Seen, SeenFault, appended_counts, bytes_have_one_meaning, bytes_stand, cut_is_ignored,
+    files_stand_for_one_record, older_files_are_read, open_intents_have_rows,
 };
 pub use steps::{Step, distinct_messages_are_filtered, plan};

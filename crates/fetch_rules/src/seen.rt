@@ -1,11 +1,13 @@
 //! The record: which messages of a maildrop were seen, since when, and whether they were delivered.
 
-ghost use Rattle.std.specs.Prelude.{◌≡◌, ◌≢◌, length, OnErr, OnOk, IfOk, IfErr};
+ghost use Rattle.std.specs.Prelude.{◌≡◌, ◌≢◌, ◌||◌, true, Some, None, length, OnErr, OnOk, IfOk, IfErr};
 ghost use Rattle.std.specs.Bool.{OnTrue, OnFalse};
-ghost use Rattle.fetch_rules.specs.Record.{IsRecord, empty, is_delivered, first_seen_of, marked, merged};
-ghost use Rattle.fetch_rules.specs.RecordFile.{changed, written, file_of};
-ghost use Rattle.fetch_rules.specs.RecordMeaning.{Means, Rows, Fault};
-ghost use Rattle.fetch_rules.specs.RecordGrowth.{Updates, OneMeaning, OneRecord, BytesStand, AppendedCounts, CutIsIgnored};
+ghost use Rattle.fetch_rules.specs.Record.{IsRecord, empty, has_row, is_delivered, first_seen_of, marked, merged};
+ghost use Rattle.fetch_rules.specs.Intents.{ReadAs, IsNoneOrOf, intent_of, intent_in, has_intent, is_older, closed_rows};
+ghost use Rattle.fetch_rules.specs.Lines.{open_seen, intent_seen, version_of};
+ghost use Rattle.fetch_rules.specs.RecordFile.{changed, written, file_of, intent_line};
+ghost use Rattle.fetch_rules.specs.RecordMeaning.{Means, Fault};
+ghost use Rattle.fetch_rules.specs.RecordGrowth.{Updates, OneMeaning, OneRecord, BytesStand, AppendedCounts, CutIsIgnored, OneIsRead, OpenHasRow};
 
 mod change;
 mod field;
@@ -13,7 +15,8 @@ mod line;
 mod reading;
 mod row_map;
 
-use crate::seen::line::{HEADER, group, write_line};
+pub use crate::seen::line::Intent;
+use crate::seen::line::{HEADER, group, write_intent, write_line};
 use crate::seen::row_map::{RowMap, State};
 use mail_terms::Listing;
 use std::alloc::{AllocError, AllocFailed, Global};
@@ -54,17 +57,63 @@ impl From<AllocError> for SeenFault {
 pub struct Seen<H: BuildHasher> {
     alloc: Global,
     rows: RowMap<H>,
-    torn: bool,
+    intent: Option<OwnedIntent>,
+    stale: bool,
+}
+
+/// An intent that a record keeps.
+#[derive(Drop)]
+pub(crate) struct OwnedIntent {
+    pub(crate) uid: Vec<u8>,
+    pub(crate) start: u64,
+    pub(crate) len: u64,
+}
+
+impl OwnedIntent {
+    fn as_intent(&self) -> Intent<'_>
+        ensures { intent_seen result ≡ intent_of self.now }
+    {
+        Intent {
+            uid: &self.uid,
+            start: self.start,
+            len: self.len,
+        }
+    }
+}
+
+/// Whether nothing may be appended to a file.
+fn is_stale(older: bool, torn: bool, intent: &Option<OwnedIntent>) -> bool
+    ensures { result ≡ (is_older (version_of older) || (torn || has_intent (intent_in intent.now))) }
+{
+    older || torn || intent.is_some()
+}
+
+/// A copy of an intent that was read.
+fn keep(alloc: Global, found: Option<Intent<'_>>) -> Result<Option<OwnedIntent>, AllocError>
+    ensures { IfOk result (λ kept. intent_in kept ≡ open_seen found.entry) }
+{
+    match found {
+        None => Ok(None),
+        Some(intent) => {
+            let uid = Vec::from_slice(alloc, intent.uid)?;
+            Ok(Some(OwnedIntent {
+                uid,
+                start: intent.start,
+                len: intent.len,
+            }))
+        }
+    }
 }
 
 impl<H: BuildHasher> Model for Seen<H> {
-    ghost use Rattle.fetch_rules.specs.Record.{Loaded, IsRecord};
+    ghost use Rattle.fetch_rules.specs.Record.{Loaded, IsRecord, IntentHasRow};
+    ghost use Rattle.fetch_rules.specs.Intents.{intent_in};
 
     ghost Value = { Loaded };
 
-    ghost view = { λ seen. record { rows = seen.rows; torn = seen.torn } };
+    ghost view = { λ seen. record { rows = seen.rows; intent = intent_in seen.intent; stale = seen.stale } };
 
-    ghost invariant = { λ seen. IsRecord seen.rows };
+    ghost invariant = { λ seen. IsRecord seen.rows × IntentHasRow seen.rows (intent_in seen.intent) };
 }
 
 impl<H: BuildHasher> Seen<H> {
@@ -75,19 +124,20 @@ impl<H: BuildHasher> Seen<H> {
         Seen {
             alloc,
             rows: RowMap::new(alloc, hasher),
-            torn: false,
+            intent: None,
+            stale: false,
         }
     }
 
-    /// The record that a file's bytes stand for. They are what `bytes` wrote and groups that were
-    /// appended since; no bytes at all stand for the empty record. A torn end counts for nothing: a
+    /// The record that a file's bytes stand for. They are what `bytes` wrote and groups and intents that
+    /// were appended since; no bytes at all stand for the empty record. A file of version 1 is read too. A torn end counts for nothing: a
     /// last piece without LF, and a last group that lacks rows, as an append that was cut leaves
     /// them. Anything else is refused with its first faulty line: BadHeader where the bytes don't
     /// begin with the header's line, BadRow and RepeatedId as they say.
     pub fn read(alloc: Global, bytes: &[u8], hasher: H) -> Result<Seen<H>, SeenFault>
     where
         H: Drop,
-        ensures rows { IfOk result (λ seen. Means bytes.now (Rows seen.rows seen.torn)) }
+        ensures rows { IfOk result (λ seen. ReadAs bytes.now seen) }
         ensures is_record { IfOk result (λ seen. IsRecord seen.rows) }
         ensures fault { IfErr result (λ fault. fault ≢ SeenFault.NoMemory → Means bytes.now (Fault fault)) }
     {
@@ -99,35 +149,40 @@ impl<H: BuildHasher> Seen<H> {
     /// Takes the record that a file's bytes stand for in place of this one, as `read` does. After a
     /// fault, want of memory too, there is no row.
     pub fn reread(&mut self, bytes: &[u8]) -> Result<(), SeenFault>
-        ensures rows { OnOk result (Means bytes.now (Rows self.new.rows self.new.torn)) }
+        ensures rows { OnOk result (ReadAs bytes.now self.new) }
         ensures fault { IfErr result (λ fault. fault ≢ SeenFault.NoMemory → Means bytes.now (Fault fault)) }
         ensures none { OnErr result (self.new ≡ empty) }
         ensures is_record { IsRecord self.new.rows }
     {
-        self.torn = false;
-        match self.rows.read(bytes) {
-            Ok(torn) => {
-                self.torn = torn;
-                Ok(())
-            }
+        self.intent = None;
+        self.stale = false;
+        let found = match self.rows.read(bytes) {
+            Ok(found) => found,
             Err(fault) => {
                 self.rows.clear();
-                Err(fault)
+                return Err(fault);
             }
-        }
+        };
+        let Ok(kept) = keep(self.alloc, found.intent) else {
+            self.rows.clear();
+            return Err(SeenFault::NoMemory);
+        };
+        self.stale = is_stale(found.older, found.torn, &kept);
+        self.intent = kept;
+        Ok(())
     }
 
-    /// Whether the bytes that were last read had a torn end: nothing may be appended to their file
-    /// before it is written anew.
+    /// Whether the bytes that were last read were of version 1, had a torn end or an open intent:
+    /// nothing may be appended to their file before it is written anew.
     pub fn needs_rewrite(&self) -> bool
-        ensures { result ≡ self.now.torn }
+        ensures { result ≡ self.now.stale }
     {
-        self.torn
+        self.stale
     }
 
-    /// The record as a file, without groups.
+    /// The record as a file of version 2, without groups. An open intent is its last line.
     pub fn bytes(&self) -> Result<Vec<u8>, AllocError>
-        ensures file { IfOk result (λ bytes. bytes.items ≡ file_of self.now.rows) }
+        ensures file { IfOk result (λ bytes. bytes.items ≡ file_of self.now.rows self.now.intent) }
         ensures is_record { IsRecord self.now.rows }
     {
         let mut bytes = Vec::from_slice(self.alloc, HEADER)?;
@@ -135,7 +190,60 @@ impl<H: BuildHasher> Seen<H> {
             let (uid, state) = self.rows.at(place);
             write_line(self.alloc, &mut bytes, uid, state)?;
         }
+        if let Some(intent) = &self.intent {
+            let line = write_intent(self.alloc, intent.as_intent())?;
+            bytes.extend_from_slice(&line)?;
+        }
         Ok(bytes)
+    }
+
+    /// Opens an intent for an id that has a row, and gives its line, to be appended to the record's
+    /// file. None may be open before. If memory runs out nothing has changed.
+    pub fn intend(&mut self, uid: &[u8], start: u64, len: u64) -> Result<Vec<u8>, AllocError>
+        requires row { has_row self.old.rows uid.now ≡ true }
+        requires closed { self.old.intent ≡ None }
+        ensures rows { self.new.rows ≡ self.old.rows }
+        ensures stale { self.new.stale ≡ self.old.stale }
+        ensures intent { OnOk result (self.new.intent ≡ Some (record { uid = uid.now; start = start; len = len })) }
+        ensures line { IfOk result (λ bytes. bytes.items ≡ intent_line (record { uid = uid.now; start = start; len = len })) }
+        ensures err { OnErr result (self.new ≡ self.old) }
+    {
+        let _ = self.rows.state(uid);
+        let line = write_intent(self.alloc, Intent { uid, start, len })?;
+        let id = Vec::from_slice(self.alloc, uid)?;
+        self.intent = Some(OwnedIntent {
+            uid: id,
+            start,
+            len,
+        });
+        Ok(line)
+    }
+
+    /// The intent that is open, if one is.
+    pub fn intent(&self) -> Option<Intent<'_>>
+        ensures { open_seen result ≡ self.now.intent }
+    {
+        match &self.intent {
+            Some(intent) => Some(intent.as_intent()),
+            None => None,
+        }
+    }
+
+    /// Ends the open intent, if any, and records its id as delivered if the entry is whole. The file is
+    /// to be written anew as before: `needs_rewrite` doesn't change.
+    pub fn close(&mut self, whole: bool)
+        ensures rows { self.new.rows ≡ closed_rows whole self.old.rows self.old.intent }
+        ensures intent { self.new.intent ≡ None }
+        ensures stale { self.new.stale ≡ self.old.stale }
+        ensures is_record { IsRecord self.new.rows }
+    {
+        let _ = self.rows.len();
+        if let Some(intent) = &self.intent
+            && whole
+        {
+            self.rows.set_delivered(&intent.uid);
+        }
+        self.intent = None;
     }
 
     /// Whether the id is recorded as delivered.
@@ -157,8 +265,10 @@ impl<H: BuildHasher> Seen<H> {
 
     /// Records the id as delivered, if it has a row. Says whether this changed the row.
     pub fn mark(&mut self, uid: &[u8]) -> bool
+        requires { self.old.intent ≡ None }
         ensures rows { self.new.rows ≡ marked self.old.rows uid.now }
-        ensures torn { self.new.torn ≡ self.old.torn }
+        ensures intent { self.new.intent ≡ self.old.intent }
+        ensures stale { self.new.stale ≡ self.old.stale }
         ensures changed { OnTrue result (self.new ≢ self.old) }
         ensures unchanged { OnFalse result (self.new ≡ self.old) }
         ensures is_record { IsRecord self.new.rows }
@@ -167,20 +277,21 @@ impl<H: BuildHasher> Seen<H> {
     }
 
     /// Records the id as delivered, if it has a row, and gives the group of the changed row, to be
-    /// appended to the record's file: nothing where none changed. After want of memory nothing has
-    /// changed.
+    /// appended to the record's file: nothing if none changed. An open intent, which must be this id's,
+    /// is ended, and the group then always has the id's row. If memory runs out nothing has changed.
     pub fn mark_rows(&mut self, uid: &[u8]) -> Result<Vec<u8>, AllocError>
+        requires { IsNoneOrOf uid.now self.old.intent }
         ensures rows { OnOk result (self.new.rows ≡ marked self.old.rows uid.now) }
-        ensures torn { self.new.torn ≡ self.old.torn }
-        ensures group { IfOk result (λ bytes. bytes.items ≡ written (changed self.old.rows self.new.rows)) }
-        ensures updates { IfOk result (λ bytes. Updates self.old.rows bytes.items self.new.rows) }
+        ensures intent { OnOk result (self.new.intent ≡ None) }
+        ensures stale { self.new.stale ≡ self.old.stale }
+        ensures updates { IfOk result (λ bytes. Updates self.old.rows self.old.intent bytes.items self.new.rows self.new.intent) }
         ensures err { OnErr result (self.new ≡ self.old) }
         ensures is_record { IsRecord self.new.rows }
     {
         let Some(state) = self.rows.state(uid) else {
             return Ok(Vec::new(self.alloc));
         };
-        if state.delivered {
+        if state.delivered && self.intent.is_none() {
             return Ok(Vec::new(self.alloc));
         }
         let mut line = Vec::new(self.alloc);
@@ -191,6 +302,7 @@ impl<H: BuildHasher> Seen<H> {
         write_line(self.alloc, &mut line, uid, delivered)?;
         let group = group(self.alloc, 1, &line)?;
         self.rows.set_delivered(uid);
+        self.intent = None;
         Ok(group)
     }
 
@@ -198,9 +310,11 @@ impl<H: BuildHasher> Seen<H> {
     /// and adds a row, first seen at `now` seconds since 1970, for each id that has none. Says
     /// whether a row was added or changed. After want of memory nothing has changed.
     pub fn merge(&mut self, listing: &Listing, held: &[bool], now: u64) -> Result<bool, AllocError>
-        requires { length held.now ≡ length listing.now }
+        requires lengths { length held.now ≡ length listing.now }
+        requires closed { self.old.intent ≡ None }
         ensures rows { OnOk result (self.new.rows ≡ merged self.old.rows listing.now held.now now) }
-        ensures torn { self.new.torn ≡ self.old.torn }
+        ensures intent { self.new.intent ≡ self.old.intent }
+        ensures stale { self.new.stale ≡ self.old.stale }
         ensures changed { IfOk result (λ changed. OnTrue changed (self.new ≢ self.old)) }
         ensures unchanged { IfOk result (λ changed. OnFalse changed (self.new ≡ self.old)) }
         ensures err { OnErr result (self.new ≡ self.old) }
@@ -222,11 +336,13 @@ impl<H: BuildHasher> Seen<H> {
         held: &[bool],
         now: u64,
     ) -> Result<Vec<u8>, AllocError>
-        requires { length held.now ≡ length listing.now }
+        requires lengths { length held.now ≡ length listing.now }
+        requires closed { self.old.intent ≡ None }
         ensures rows { OnOk result (self.new.rows ≡ merged self.old.rows listing.now held.now now) }
-        ensures torn { self.new.torn ≡ self.old.torn }
+        ensures intent { self.new.intent ≡ self.old.intent }
+        ensures stale { self.new.stale ≡ self.old.stale }
         ensures group { IfOk result (λ bytes. bytes.items ≡ written (changed self.old.rows self.new.rows)) }
-        ensures updates { IfOk result (λ bytes. Updates self.old.rows bytes.items self.new.rows) }
+        ensures updates { IfOk result (λ bytes. Updates self.old.rows None bytes.items self.new.rows None) }
         ensures err { OnErr result (self.new ≡ self.old) }
         ensures is_record { IsRecord self.new.rows }
     {
@@ -260,8 +376,8 @@ pub fn bytes_stand()
     ensures { BytesStand }
 {}
 
-/// A law: what `merge_rows` or `mark_rows` gave, appended whole to a file that isn't torn, makes it
-/// stand for the new record.
+/// A law: what `merge_rows`, `mark_rows` or `intend` gave, appended whole to a file that isn't torn,
+/// makes it stand for the new record.
 pub fn appended_counts()
     ensures { AppendedCounts }
 {}
@@ -269,4 +385,14 @@ pub fn appended_counts()
 /// A law: appended in part it counts for nothing, and is a torn end.
 pub fn cut_is_ignored()
     ensures { CutIsIgnored }
+{}
+
+/// A law: a file of version 1 is read as one of version 2 with the same rows, and no intent is open.
+pub fn older_files_are_read()
+    ensures { OneIsRead }
+{}
+
+/// A law: the id of an open intent has a row.
+pub fn open_intents_have_rows()
+    ensures { OpenHasRow }
 {}

@@ -1,15 +1,17 @@
-//! The lines of the record's file, version 1. Behind the header's line `getmail-seen 1` stand rows
-//! and groups. A row is the id, the second since 1970 at which it was first seen, in decimal without
-//! leading zeros, and 1 where it was delivered, else 0; single spaces stand between these fields. A
-//! group is the line `+ N`, N from 1 to 100,000 without leading zeros, and N rows. LF ends each line.
+//! The lines of the record's file. After the header's line `getmail-seen 2` come rows, then groups
+//! and intents. A row is the id, the second since 1970 at which it was first seen, and 1 if it was
+//! delivered, else 0. A group is the line `+ N`, N from 1 to 100,000, and N rows. An intent is `!`, the
+//! id, the size of the mailbox file before the entry and the entry's length. Numbers are decimal, without
+//! leading zeros; single spaces separate the fields, and LF ends each line. The header of version 1 is
+//! `getmail-seen 1`; it has no intents.
 
 ghost use Rattle.std.specs.Prelude.{◌≡◌, ◌≢◌, ℕ, ◌≤◌, ◌++◌, Bool, List, length, flat_map, OnOk, IfOk, IfSome, IfNone};
 ghost use Rattle.mail_terms.specs.Listing.{message_limit};
-ghost use Rattle.fetch_rules.specs.Record.{Row, IsRow};
-ghost use Rattle.fetch_rules.specs.RecordFile.{header, state_of, line_of, group_line, written, text_of, IsLine, Line as FileLine};
+ghost use Rattle.fetch_rules.specs.Record.{Row, Intent as TheIntent, IsRow, IsIntent};
+ghost use Rattle.fetch_rules.specs.RecordFile.{header, state_of, line_of, group_line, intent_line, written, text_of, IsLine, Line as FileLine};
 ghost use Rattle.fetch_rules.specs.RecordMeaning.{BeginsWithNoLine};
 ghost use Rattle.fetch_rules.specs.Rows.{row_from};
-ghost use Rattle.fetch_rules.specs.Lines.{line_seen};
+ghost use Rattle.fetch_rules.specs.Lines.{line_seen, intent_seen};
 
 use crate::seen::field::{cut_at, read_number};
 use crate::seen::row_map::State;
@@ -17,7 +19,13 @@ use mail_terms::{MESSAGE_LIMIT, is_legal_id};
 use std::alloc::{AllocError, Global};
 
 /// The line of the header.
-pub(crate) const HEADER: &[u8] = b"getmail-seen 1\n";
+pub(crate) const HEADER: &[u8] = b"getmail-seen 2\n";
+
+/// The line of the header of version 1.
+pub(crate) const OLDER_HEADER: &[u8] = b"getmail-seen 1\n";
+
+/// What begins an intent's line.
+const INTENT_SIGN: &[u8] = b"! ";
 
 /// What begins the line that begins a group.
 const SIGN: &[u8] = b"+ ";
@@ -29,12 +37,25 @@ pub(crate) struct ReadRow<'a> {
     pub(crate) state: State,
 }
 
+/// An entry that is about to be appended to a mailbox file.
+#[derive(Clone, Copy)]
+pub struct Intent<'a> {
+    /// The id of the entry's message.
+    pub uid: &'a [u8],
+    /// The file's size before the entry, in octets.
+    pub start: u64,
+    /// The entry's length, in octets.
+    pub len: u64,
+}
+
 /// A line behind the header.
 #[derive(Clone, Copy)]
 pub(crate) enum Line<'a> {
     Row(ReadRow<'a>),
     /// The line that begins a group of so many rows.
     Group(u64),
+    /// The line of an intent.
+    Opening(Intent<'a>),
 }
 
 /// The state that ends a line, and what follows that line.
@@ -87,6 +108,26 @@ fn read_group_line(bytes: &[u8]) -> Option<(u64, &[u8])>
     Some((count, rest))
 }
 
+/// The intent whose line the bytes begin with, if they do, and what follows that line.
+fn read_intent_line(bytes: &[u8]) -> Option<(Intent<'_>, &[u8])>
+    ensures is_intent { IfSome result (λ parts. IsIntent (intent_seen parts.0)) }
+    ensures found { IfSome result (λ parts. bytes.now ≡ intent_line (intent_seen parts.0) ++ parts.1.now) }
+    ensures none { IfNone result ((intent : TheIntent) (behind : List ℕ) → IsIntent intent → bytes.now ≢ intent_line intent ++ behind) }
+{
+    let Some(line) = bytes.strip_prefix(INTENT_SIGN) else {
+        return None;
+    };
+    let (uid, rest) = cut_at(line, b' ')?;
+    if !is_legal_id(uid) {
+        return None;
+    }
+    let (first, rest) = cut_at(rest, b' ')?;
+    let start = read_number(first)?;
+    let (second, rest) = cut_at(rest, b'\n')?;
+    let len = read_number(second)?;
+    Some((Intent { uid, start, len }, rest))
+}
+
 /// The line that the bytes begin with, if they do, and what follows it.
 pub(crate) fn read_line(bytes: &[u8]) -> Option<(Line<'_>, &[u8])>
     ensures is_line { IfSome result (λ parts. IsLine (line_seen parts.0)) }
@@ -95,6 +136,9 @@ pub(crate) fn read_line(bytes: &[u8]) -> Option<(Line<'_>, &[u8])>
 {
     if let Some((count, rest)) = read_group_line(bytes) {
         return Some((Line::Group(count), rest));
+    }
+    if let Some((intent, rest)) = read_intent_line(bytes) {
+        return Some((Line::Opening(intent), rest));
     }
     let (row, rest) = read_row(bytes)?;
     Some((Line::Row(row), rest))
@@ -114,6 +158,17 @@ pub(crate) fn write_line(
     bytes.extend_from_slice(uid)?;
     bytes.extend_from_slice(number.as_bytes())?;
     bytes.extend_from_slice(end)
+}
+
+/// The line of an intent.
+pub(crate) fn write_intent(alloc: Global, intent: Intent<'_>) -> Result<Vec<u8>, AllocError>
+    ensures { IfOk result (λ bytes. bytes.items ≡ intent_line (intent_seen intent.entry)) }
+{
+    let numbers = format!(in alloc; " {} {}\n", intent.start, intent.len)?;
+    let mut bytes = Vec::from_slice(alloc, INTENT_SIGN)?;
+    bytes.extend_from_slice(intent.uid)?;
+    bytes.extend_from_slice(numbers.as_bytes())?;
+    Ok(bytes)
 }
 
 /// The group of so many lines, or nothing where there is none.

@@ -1,14 +1,14 @@
 //! Reads the record's file, line after line.
 
-ghost use Rattle.std.specs.Prelude.{◌≡◌, ◌≢◌, ◌≤◌, ◌-◌, ◌++◌, ◌==◌, ◌&&◌, not, true, false, ℕ, List, [], IfOk, IfErr};
-ghost use Rattle.fetch_rules.specs.Record.{IsRow, IsRecord};
-ghost use Rattle.fetch_rules.specs.RecordFile.{header};
+ghost use Rattle.std.specs.Prelude.{◌≡◌, ◌≢◌, ◌≤◌, ◌-◌, ◌++◌, ◌==◌, ◌&&◌, not, true, false, ℕ, List, [], IfOk, IfErr, IfSome, IfNone, OnOk};
+ghost use Rattle.fetch_rules.specs.Record.{IsRow, IsIntent, IsRecord, has_row};
+ghost use Rattle.fetch_rules.specs.RecordFile.{Version, One, Two, header};
 ghost use Rattle.fetch_rules.specs.RecordMeaning.{Means, Rows, Fault, has_bytes};
 ghost use Rattle.fetch_rules.specs.Rows.{row_from};
-ghost use Rattle.fetch_rules.specs.Lines.{is_within, after_row, TakesRow, RefusesRow, EndsAt};
+ghost use Rattle.fetch_rules.specs.Lines.{version_of, intent_seen, open_seen, open_behind, IsPlaced, is_within, after_row, TakesRow, RefusesRow, TakesIntent, RefusesIntent, EndsAt};
 
 use crate::seen::SeenFault;
-use crate::seen::line::{HEADER, Line, ReadRow, read_line};
+use crate::seen::line::{HEADER, Intent, Line, OLDER_HEADER, ReadRow, read_line};
 use crate::seen::row_map::{RowMap, State};
 use std::hash::BuildHasher;
 
@@ -63,6 +63,16 @@ impl Part {
         }
     }
 
+    /// The intent that is open behind a row that leads into this part.
+    fn open_behind(self, intent: Option<Intent<'_>>) -> Option<Intent<'_>>
+        ensures { result ≡ open_behind self intent.entry }
+    {
+        match self {
+            Part::Between => None,
+            _ => intent,
+        }
+    }
+
     /// The end of the file, where the rest holds no LF and this many bytes stand before the last
     /// group.
     fn end(self, front: usize, rest: &[u8]) -> End
@@ -78,9 +88,19 @@ impl Part {
     }
 }
 
-/// The end of a file that doesn't begin with the header's line.
+/// What a file holds but for its rows.
+#[derive(Clone, Copy)]
+pub(crate) struct Shape<'a> {
+    /// Whether it is of version 1.
+    pub(crate) older: bool,
+    /// The intent that is open.
+    pub(crate) intent: Option<Intent<'a>>,
+    pub(crate) end: End,
+}
+
+/// The end of a file that doesn't begin with a header's line.
 fn end_without_header(bytes: &[u8]) -> Result<End, SeenFault>
-    requires { (rest : List ℕ) → bytes.now ≢ header ++ rest }
+    requires { (version : Version) (rest : List ℕ) → bytes.now ≢ header version ++ rest }
     ensures ok { IfOk result (λ end. (bytes.now ≡ []) × (end ≡ End.Counted false)) }
     ensures err { IfErr result (λ fault. (bytes.now ≢ []) × (fault ≡ SeenFault.BadHeader)) }
 {
@@ -91,19 +111,40 @@ fn end_without_header(bytes: &[u8]) -> Result<End, SeenFault>
     }
 }
 
-/// Whether a group's row may stand behind the row of its id: it delivers what wasn't delivered.
-fn delivers(old: State, new: State) -> bool
-    ensures { result ≡ (new.delivered && (not old.delivered && (old.first_seen == new.first_seen))) }
+/// Whether a group's row may stand behind the row of its id: it delivers it, in version 1 only what
+/// wasn't delivered.
+fn delivers(older: bool, old: State, new: State) -> bool
+    ensures { result ≡ (new.delivered && (not (older && old.delivered) && (old.first_seen == new.first_seen))) }
 {
-    new.delivered && !old.delivered && old.first_seen == new.first_seen
+    new.delivered && !(older && old.delivered) && old.first_seen == new.first_seen
+}
+
+/// Where a file's lines begin, and whether it is of version 1, if it begins with a header's line.
+fn behind_header(bytes: &[u8]) -> Option<(bool, &[u8])>
+    ensures found { IfSome result (λ parts. bytes.now ≡ header (version_of parts.0) ++ parts.1.now) }
+    ensures none { IfNone result ((version : Version) (rest : List ℕ) → bytes.now ≢ header version ++ rest) }
+{
+    if let Some(rest) = bytes.strip_prefix(HEADER) {
+        return Some((false, rest));
+    }
+    match bytes.strip_prefix(OLDER_HEADER) {
+        Some(rest) => Some((true, rest)),
+        None => None,
+    }
 }
 
 impl<H: BuildHasher> RowMap<H> {
     /// Takes a row that stands in this part of the file on the line of this number.
-    fn take_row(&mut self, part: Part, row: &ReadRow<'_>, number: u32) -> Result<Part, SeenFault>
+    fn take_row(
+        &mut self,
+        older: bool,
+        part: Part,
+        row: &ReadRow<'_>,
+        number: u32,
+    ) -> Result<Part, SeenFault>
         requires { IsRow (row_from row.now.uid.now row.now.state) }
-        ensures ok { IfOk result (λ next. TakesRow part self.old (row_from row.now.uid.now row.now.state) next self.new) }
-        ensures err { IfErr result (λ fault. fault ≢ SeenFault.NoMemory → RefusesRow part self.old (row_from row.now.uid.now row.now.state) number fault) }
+        ensures ok { IfOk result (λ next. TakesRow older part self.old (row_from row.now.uid.now row.now.state) next self.new) }
+        ensures err { IfErr result (λ fault. fault ≢ SeenFault.NoMemory → RefusesRow older part self.old (row_from row.now.uid.now row.now.state) number fault) }
         ensures is_record { IsRecord self.new }
     {
         let known = self.state(row.uid);
@@ -114,33 +155,68 @@ impl<H: BuildHasher> RowMap<H> {
             self.add(row.uid, row.state)?;
             return Ok(part.after_row());
         };
-        if !part.is_within() || !delivers(old, row.state) {
+        if !part.is_within() || !delivers(older, old, row.state) {
             return Err(SeenFault::RepeatedId(number));
         }
         self.set_delivered(row.uid);
         Ok(part.after_row())
     }
 
+    /// Takes an intent whose line stands in this part of the file on the line of this number. BadRow in
+    /// version 1, within a group, where one is open, and where its id has no row.
+    fn take_intent(
+        &self,
+        older: bool,
+        part: Part,
+        before: Option<Intent<'_>>,
+        intent: &Intent<'_>,
+        number: u32,
+    ) -> Result<(), SeenFault>
+        requires { IsPlaced part (open_seen before) }
+        ensures ok { OnOk result (TakesIntent older part (open_seen before.entry) self.now (intent_seen intent.now)) }
+        ensures err { IfErr result (λ fault. RefusesIntent older part (open_seen before.entry) self.now (intent_seen intent.now) number fault) }
+    {
+        if older || part.is_within() || before.is_some() || !self.has(intent.uid) {
+            return Err(SeenFault::BadRow(number));
+        }
+        Ok(())
+    }
+
     /// Takes the lines of a file into the rows, which are empty.
-    fn read_lines(&mut self, bytes: &[u8]) -> Result<End, SeenFault>
+    fn read_lines<'a>(&mut self, bytes: &'a [u8]) -> Result<Shape<'a>, SeenFault>
         requires empty { self.old ≡ [] }
         requires is_record { IsRecord self.old }
-        ensures ok { IfOk result (λ end. EndsAt bytes.now end self.new) }
+        ensures ok { IfOk result (λ shape. EndsAt bytes.now shape.older shape.end (open_seen shape.intent) self.new) }
         ensures err { IfErr result (λ fault. fault ≢ SeenFault.NoMemory → Means bytes.now (Fault fault)) }
         ensures is_record { IsRecord self.new }
     {
-        let Some(mut rest) = bytes.strip_prefix(HEADER) else {
-            return end_without_header(bytes);
+        let Some((older, lines)) = behind_header(bytes) else {
+            let end = end_without_header(bytes)?;
+            return Ok(Shape {
+                older: false,
+                intent: None,
+                end,
+            });
         };
+        let mut rest = lines;
         let mut number: u32 = 2;
         let mut part = Part::Base;
+        let mut intent: Option<Intent<'a>> = None;
         let mut front = 0;
         while let Some((line, behind)) = read_line(rest) {
             match line {
-                Line::Row(row) => part = self.take_row(part, &row, number)?,
+                Line::Row(row) => {
+                    part = self.take_row(older, part, &row, number)?;
+                    intent = part.open_behind(intent);
+                }
                 Line::Group(count) => {
                     part = part.after_group_line(count, number)?;
                     front = bytes.len() - rest.len();
+                }
+                Line::Opening(opened) => {
+                    self.take_intent(older, part, intent, &opened, number)?;
+                    part = Part::Between;
+                    intent = Some(opened);
                 }
             }
             rest = behind;
@@ -149,25 +225,47 @@ impl<H: BuildHasher> RowMap<H> {
         if rest.contains(&b'\n') {
             return Err(SeenFault::BadRow(number));
         }
-        Ok(part.end(front, rest))
+        let end = part.end(front, rest);
+        Ok(Shape { older, intent, end })
     }
 
-    /// Takes the record that a file's bytes stand for in place of the rows. Says whether something
-    /// torn follows it. After a fault there are some rows or none.
-    pub(crate) fn read(&mut self, bytes: &[u8]) -> Result<bool, SeenFault>
-        ensures ok { IfOk result (λ torn. Means bytes.now (Rows self.new torn)) }
+    /// Takes the record that a file's bytes stand for in place of the rows. Gives the file's shape, its end
+    /// always Counted. After a fault there are some rows or none.
+    pub(crate) fn read<'a>(&mut self, bytes: &'a [u8]) -> Result<Found<'a>, SeenFault>
+        ensures ok { IfOk result (λ found. Means bytes.now (Rows (version_of found.older) self.new (open_seen found.intent) found.torn)) }
         ensures err { IfErr result (λ fault. fault ≢ SeenFault.NoMemory → Means bytes.now (Fault fault)) }
         ensures is_record { IsRecord self.new }
     {
         self.clear();
-        match self.read_lines(bytes)? {
-            End::Counted { torn } => Ok(torn),
+        let shape = self.read_lines(bytes)?;
+        let Shape { older, intent, end } = shape;
+        match end {
+            End::Counted { torn } => Ok(Found {
+                older,
+                intent,
+                torn,
+            }),
             End::Open { front } => {
                 // The group's rows don't count: what stands before it is read again.
                 self.clear();
                 self.read_lines(&bytes[..front])?;
-                Ok(true)
+                Ok(Found {
+                    older,
+                    intent,
+                    torn: true,
+                })
             }
         }
     }
+}
+
+/// What was read of a file but its rows.
+#[derive(Clone, Copy)]
+pub(crate) struct Found<'a> {
+    /// Whether it is of version 1.
+    pub(crate) older: bool,
+    /// The intent that is open.
+    pub(crate) intent: Option<Intent<'a>>,
+    /// Whether something torn follows what counts.
+    pub(crate) torn: bool,
 }

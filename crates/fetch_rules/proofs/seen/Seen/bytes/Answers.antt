@@ -1,6 +1,6 @@
 use Rattle.std.proofs.Common.{◌≡◌, ◌∙◌, ◌++◌, List, ℕ, ap, subst, length, get_or, arith}
 use Rattle.fetch_rules.specs.Record.{Loaded}
-use Rattle.fetch_rules.specs.RecordFile.{header, line_of}
+use Rattle.fetch_rules.specs.RecordFile.{Two, header, line_of}
 use Rattle.fetch_rules.specs.Rows.{row_from}
 use Rattle.fetch_rules.proofs.GrowthLemmas.{lines_more}
 use Rattle.fetch_rules.proofs.seen.Seen.bytes.Goals as goal
@@ -9,6 +9,6 @@ pub loop-place-preserved : goal.loop-place-preserved
 loop-place-preserved g c =
     c.in_ok-write_line.ensures
     ∙ ap (λ (bytes : List ℕ). bytes ++ line_of (row_from c.at.result.0.now c.at.result.1)) c.loop-place.invariant
-    ∙ lines_more header c.args.self.now.rows c.loop-place.place (row_from c.at.result.0.now c.at.result.1)
+    ∙ lines_more (header Two) c.args.self.now.rows c.loop-place.place (row_from c.at.result.0.now c.at.result.1)
     (omega (arith, ap (λ (loaded : Loaded). length loaded.rows) c.self.view_is))
     (subst (λ (loaded : Loaded). get_or loaded.rows c.loop-place.place (row_from c.at.result.0.now c.at.result.1) ≡ row_from c.at.result.0.now c.at.result.1) c.self.view_is (c.at.ensures _))

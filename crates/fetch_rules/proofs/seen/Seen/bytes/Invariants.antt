@@ -1,7 +1,7 @@
 use Rattle.std.proofs.Common.{◌≡◌, ◌++◌, take}
 use Rattle.std.specs.Prelude.{flat_map}
-use Rattle.fetch_rules.specs.RecordFile.{header, line_of}
+use Rattle.fetch_rules.specs.RecordFile.{Two, header, line_of}
 use Rattle.fetch_rules.proofs.seen.Seen.bytes.Given as goal
 
 abbrev pub invariant-loop-place : goal.invariant-loop-place
-invariant-loop-place g l = l.bytes.items ≡ header ++ flat_map line_of (take l.place l.self.rows)
+invariant-loop-place g l = l.bytes.items ≡ header Two ++ flat_map line_of (take l.place l.self.rows)

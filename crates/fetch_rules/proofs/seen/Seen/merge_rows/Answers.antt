@@ -1,4 +1,4 @@
-use Rattle.std.proofs.Common.{◌≡◌, ◌∙◌, ◌++◌, List, ℕ, map, take, refl, sym, ap, subst}
+use Rattle.std.proofs.Common.{◌≡◌, ◌∙◌, ◌++◌, List, ℕ, map, take, None, refl, sym, ap, subst}
 use Rattle.std.proofs.Math.Seq.{take-append_seam}
 use Rattle.fetch_rules.specs.Record.{Row, Loaded, merged, with_held, new_ids, undelivered}
 use Rattle.fetch_rules.specs.RecordFile.{changed, written}
@@ -19,8 +19,8 @@ returns-in-Ok-clause-updates g c =
     ap (λ (xs : List Row). take c.len-count.result xs) c.in_ok-add_listed.ensures.rows
     ∙ ap (λ (k : ℕ). take k (c.self.inside.rows ++ map (undelivered c.args.now) (new_ids c.self.inside.rows c.args.listing.now))) c.len-count.ensures.count
     ∙ take-append_seam c.self.inside.rows _ in
-    subst (λ (loaded : Loaded). Updates loaded.rows c.in-Ok.group.items c.mark_held.new.self) c.self.view_is
-    (subst (λ (bytes : List ℕ). Updates rows bytes c.mark_held.new.self)
+    subst (λ (loaded : Loaded). Updates loaded.rows None c.in-Ok.group.items c.mark_held.new.self None) c.self.view_is
+    (subst (λ (bytes : List ℕ). Updates rows None bytes c.mark_held.new.self None)
     (sym (c.in-Ok.ensures
     ∙ ap (λ (xs : List Row). written (changed xs (with_held c.args.listing.now c.args.held.now c.add_listed.new.self))) front
     ∙ ap (λ (xs : List Row). written (changed rows xs)) (sym c.mark_held.ensures.rows)))

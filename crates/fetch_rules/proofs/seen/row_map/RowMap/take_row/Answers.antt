@@ -3,7 +3,7 @@ use Rattle.std.proofs.lemmas.Bool.{true≢false}
 use Rattle.fetch_rules.specs.Record.{Row, IsRecord}
 use Rattle.fetch_rules.specs.RecordMeaning.{delivers}
 use Rattle.fetch_rules.specs.Rows.{row_from}
-use Rattle.fetch_rules.specs.Lines.{is_within}
+use Rattle.fetch_rules.specs.Lines.{version_of, is_within}
 use Rattle.fetch_rules.proofs.TakeLemmas.{has_row-some, has_row-none, delivers-known, takes_new, takes_old, refuses_old}
 use Rattle.fetch_rules.proofs.seen.row_map.RowMap.take_row.Goals as goal
 use Rattle.fetch_rules.proofs.seen.row_map.RowMap.take_row.Goals.{then-not-is_within-via-then-not-is_within, then-not-is_within-via-else-not-is_within+then-not-delivers}
@@ -18,7 +18,7 @@ pub returns-in_default-known : goal.returns-in_default-known
 returns-in_default-known g c =
     let row : Row = row_from c.args.row.now.uid.now c.args.row.now.state in
     rw (c.after_row.ensures, c.in_ok-add.ensures.ok) (record {
-      ok = takes_new c.args.part c.args.self.now row c.in_default.not-Between (has_row-none row.uid c.args.self.now (sym c.state-known.ensures.value ∙ c.in_default-known.is));
+      ok = takes_new c.args.older c.args.part c.args.self.now row c.in_default.not-Between (has_row-none row.uid c.args.self.now (sym c.state-known.ensures.value ∙ c.in_default-known.is));
       err = tt;
       is_record = subst IsRecord c.in_ok-add.ensures.ok c.in_ok-add.ensures.is_record;
     })
@@ -27,13 +27,13 @@ pub returns-then-not-is_within : goal.returns-then-not-is_within
 returns-then-not-is_within g c =
     let row : Row = row_from c.args.row.now.uid.now c.args.row.now.state in
     let known = sym c.state-known.ensures.value ∙ c.in-Some.is in
-    let later : is_within c.args.part ≡ true → delivers c.args.self.now row ≡ false = elim c.then-not-is_within.branch [
+    let later : is_within c.args.part ≡ true → delivers (version_of c.args.older) c.args.self.now row ≡ false = elim c.then-not-is_within.branch [
       | then-not-is_within-via-then-not-is_within w ↦ λ within. absurd (true≢false (sym within ∙ sym c.is_within.ensures ∙ w.if-not-is_within.true))
-      | then-not-is_within-via-else-not-is_within+then-not-delivers w ↦ λ within. delivers-known c.args.self.now row c.in-Some.old c.state-known.ensures.is_record known ∙ sym w.delivers.ensures ∙ w.if-not-delivers.true
+      | then-not-is_within-via-else-not-is_within+then-not-delivers w ↦ λ within. delivers-known c.args.older c.args.self.now row c.in-Some.old c.state-known.ensures.is_record known ∙ sym w.delivers.ensures ∙ w.if-not-delivers.true
     ] in
     record {
       ok = tt;
-      err = λ differs. refuses_old c.args.part c.args.self.now row c.args.number c.in_default.not-Between (has_row-some row.uid c.args.self.now c.in-Some.old known) later;
+      err = λ differs. refuses_old c.args.older c.args.part c.args.self.now row c.args.number c.in_default.not-Between (has_row-some row.uid c.args.self.now c.in-Some.old known) later;
       is_record = c.state-known.ensures.is_record;
     }
 
@@ -42,8 +42,8 @@ returns g c =
     let row : Row = row_from c.args.row.now.uid.now c.args.row.now.state in
     let known = sym c.state-known.ensures.value ∙ c.in-Some.is in
     rw (c.after_row-2.ensures, c.set_delivered.ensures.rows) (record {
-      ok = takes_old c.args.part c.args.self.now row (sym c.is_within.ensures ∙ c.if-not-is_within.false) (has_row-some row.uid c.args.self.now c.in-Some.old known)
-          (delivers-known c.args.self.now row c.in-Some.old c.state-known.ensures.is_record known ∙ sym c.delivers.ensures ∙ c.if-not-delivers.false);
+      ok = takes_old c.args.older c.args.part c.args.self.now row (sym c.is_within.ensures ∙ c.if-not-is_within.false) (has_row-some row.uid c.args.self.now c.in-Some.old known)
+          (delivers-known c.args.older c.args.self.now row c.in-Some.old c.state-known.ensures.is_record known ∙ sym c.delivers.ensures ∙ c.if-not-delivers.false);
       err = tt;
       is_record = subst IsRecord c.set_delivered.ensures.rows c.set_delivered.ensures.is_record;
     })

@@ -1,0 +1,16 @@
+-- Lines behind lines.
+use Rattle.std.proofs.Common.{◌≡◌, ℕ, ◌+◌, List, [], ◌∷◌, ◌++◌, length, refl, sym, ◌∙◌, ap, arith}
+use Rattle.fetch_rules.specs.RecordFile.{Version, Line}
+use Rattle.fetch_rules.specs.RecordMeaning.{Judged, judged, after_line, Stands, Fails}
+use Rattle.fetch_rules.specs.declared.seen.SeenFault.{SeenFault}
+
+judged_fails : (version : Version) (n : ℕ) (fault : SeenFault) (lines : List Line) → judged version n (Fails fault) lines ≡ Fails fault
+judged_fails version n fault [] = refl
+judged_fails version n fault (line ∷ lines) = refl
+
+pub judged_append : (version : Version) (n : ℕ) (so_far : Judged) (xs ys : List Line) → judged version n so_far (xs ++ ys) ≡ judged version (n + length xs) (judged version n so_far xs) ys
+judged_append version n so_far [] ys = ap (λ (k : ℕ). judged version k so_far ys) (omega arith)
+judged_append version n (Fails fault) (x ∷ xs) ys = sym (judged_fails version (n + length (x ∷ xs)) fault ys)
+judged_append version n (Stands progress) (x ∷ xs) ys =
+    judged_append version (n + 1) (after_line version n progress x) xs ys
+    ∙ ap (λ (k : ℕ). judged version k (judged version (n + 1) (after_line version n progress x) xs) ys) (omega arith)

@@ -1,0 +1,21 @@
+use Rattle.std.proofs.Common.{sym, subst}
+use Rattle.fetch_rules.specs.RecordMeaning.{Means, Rows}
+use Rattle.fetch_rules.specs.Lines.{version_of, open_seen}
+use Rattle.fetch_rules.specs.Record.{IntentHasRow}
+use Rattle.fetch_rules.proofs.HeldLemmas.{open_has_row}
+use Rattle.fetch_rules.proofs.seen.Seen.reread.Goals as goal
+
+pub returns-clause-rows : goal.returns-clause-rows
+returns-clause-rows g c = record {
+  version = version_of c.in-Ok.found.older;
+  torn = c.in-Ok.found.torn;
+  means = subst (λ i. Means c.args.bytes.now (Rows (version_of c.in-Ok.found.older) c.read.new.self i c.in-Ok.found.torn)) (sym (c.in-Ok-keep.ensures)) c.in-Ok.ensures.ok;
+  stale = c.is_stale-self-inside.ensures;
+}
+
+pub invariant_of-self-2 : goal.invariant_of-self-2
+invariant_of-self-2 g c = (
+  c.in-Ok.ensures.is_record,
+  subst (IntentHasRow c.read.new.self) (sym (c.in-Ok-keep.ensures))
+      (open_has_row c.args.bytes.now (version_of c.in-Ok.found.older) c.read.new.self (open_seen c.in-Ok.found.intent) c.in-Ok.found.torn c.in-Ok.ensures.ok),
+)

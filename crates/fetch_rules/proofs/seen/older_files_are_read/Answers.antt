@@ -1,0 +1,5 @@
+use Rattle.fetch_rules.proofs.OlderLemmas.{one_is_read}
+use Rattle.fetch_rules.proofs.seen.older_files_are_read.Goals as goal
+
+pub returns : goal.returns
+returns c = one_is_read

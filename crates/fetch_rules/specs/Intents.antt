@@ -1,0 +1,58 @@
+-- An intent: what was about to be appended to a mailbox file when the record's file was last saved, and what
+-- becomes of it by the file's size.
+use Rattle.std.specs.Prelude.{◌≡◌, ◌||◌, true, false, option_map, ℕ, ◌-◌, ◌==◌, ◌&&◌, nat_le, nat_lt, Bool, List, Option, Some, None, length, take, if◌then◌else◌}
+use Rattle.fetch_rules.specs.Record.{Row, Intent, Loaded, marked}
+use Rattle.fetch_rules.specs.RecordFile.{Version, One, Two}
+use Rattle.fetch_rules.specs.RecordMeaning.{Means, Rows}
+use Rattle.fetch_rules.specs.declared.seen.OwnedIntent.{OwnedIntent}
+
+-- whether a file of this size ends where the entry would
+abbrev pub ends_at : Intent → ℕ → Bool
+ends_at intent size = nat_le intent.start size && size - intent.start == intent.len
+
+-- whether a file of this size holds a part of the entry, neither nothing of it nor all
+abbrev pub is_part_at : Intent → ℕ → Bool
+is_part_at intent size = nat_lt intent.start size && nat_lt (size - intent.start) intent.len
+
+-- the rows once the intent is closed, by the file's size
+abbrev pub settled_rows : List Row → Option Intent → ℕ → List Row
+settled_rows rows None size = rows
+settled_rows rows (Some intent) size = if ends_at intent size then marked rows intent.uid else rows
+
+-- the file once the intent is closed
+abbrev pub settled_file : Option Intent → List ℕ → List ℕ
+settled_file None file = file
+settled_file (Some intent) file = if is_part_at intent (length file) then take intent.start file else file
+
+-- ---- the intent of a record in memory
+
+abbrev pub intent_of : OwnedIntent → Intent
+intent_of open' = record { uid = open'.uid.items; start = open'.start; len = open'.len }
+
+abbrev pub intent_in : Option OwnedIntent → Option Intent
+intent_in open' = option_map intent_of open'
+
+abbrev pub has_intent : {X : Type 0} → Option X → Bool
+has_intent None = false
+has_intent (Some intent) = true
+
+abbrev pub is_older : Version → Bool
+is_older One = true
+is_older Two = false
+
+-- the record that bytes stand for was read; its file must be written anew where it is of version 1, torn, or has an open intent
+pub record ReadAs (bytes : List ℕ) (loaded : Loaded) : Type 0 where
+  pub version : Version
+  pub torn : Bool
+  pub means : Means bytes (Rows version loaded.rows loaded.intent torn)
+  pub stale : loaded.stale ≡ (is_older version || (torn || has_intent loaded.intent))
+
+-- the rows once the open intent is ended, whole or not
+abbrev pub closed_rows : Bool → List Row → Option Intent → List Row
+closed_rows whole rows None = rows
+closed_rows whole rows (Some intent) = if whole then marked rows intent.uid else rows
+
+-- no intent is open, or that of this id
+abbrev pub IsNoneOrOf : List ℕ → Option Intent → Type 0
+IsNoneOrOf uid None = Unit {0}
+IsNoneOrOf uid (Some intent) = intent.uid ≡ uid
