@@ -1,80 +1,125 @@
 -- What saving the record leaves.
-use Rattle.std.proofs.Common.{◌≡◌, ◌≢◌, ◌⊎◌, inl, inr, ℕ, Bool, false, List, [], ◌∷◌, ◌++◌, Option, None, Some, Result, Ok, Err, refl, sym, ap, subst, ◌∙◌}
-use Rattle.std.specs.Prelude.{OnOk, ◌==◌, length}
+use Rattle.std.proofs.Common.{◌≡◌, ◌≢◌, ◌⊎◌, inl, inr, ℕ, Bool, false, List, [], ◌∷◌, ◌++◌, Option, None, Some, Result, Ok, Err, ◌≤◌, refl, sym, ap, subst, arith, ◌∙◌}
+use Rattle.std.specs.Prelude.{OnOk, ◌==◌, ◌||◌, true, if◌then◌else◌, map, length}
 use Rattle.std.proofs.lemmas.Bool.{true≢false}
 use Rattle.std.proofs.lemmas.List.{append-nil}
-use Rattle.fetch_rules.specs.Record.{Row, Loaded, marked}
-use Rattle.fetch_rules.specs.RecordFile.{file_of, changed, written}
-use Rattle.fetch_rules.specs.RecordMeaning.{Meaning, Rows, Fault as Faulty, Means, has_bytes}
-use Rattle.fetch_rules.specs.RecordGrowth.{Updates, AppendedCounts, CutIsIgnored}
+use Rattle.fetch_rules.specs.Record.{Row, Intent, Held, Loaded, none_open, IntentHasRow, has_row, marked, merged}
+use Rattle.fetch_rules.specs.RecordFile.{Version, One, Two, header, file_of}
+use Rattle.fetch_rules.specs.RecordMeaning.{Meaning, Rows, Fault as Faulty, Means, has_bytes, taken}
+use Rattle.fetch_rules.specs.RecordGrowth.{Updates, Opens, Grows, AppendedCounts, CutIsIgnored, taken_all}
+use Rattle.fetch_rules.specs.Intents.{has_intent, is_older, closed_rows, IsNoneOrOf}
 use Rattle.mail_store.specs.FlatFile.{Stored, holding, counted, Appends}
 use Rattle.mail_store.specs.declared.fault.StoreFault.{StoreFault}
 use Rattle.fetch_session.specs.declared.fault.Fault.{Fault}
 use Rattle.fetch_session.specs.declared.fault.Fault.TheVariants.{ConnectionEnded, ReadFailed, WriteFailed, ReplyTooLong, BadReply, Refused, BadListing, ListingsDisagree, TooMany, TextTooLong, StoreRefused, SeenRefused, NoMemory, BadSeen}
-use Rattle.fetch_session.specs.Record.{bytes_in, Keeps, Steady, ReadAs, Writes, Saves, Merges}
+use Rattle.fetch_session.specs.Record.{bytes_in, Keeps, Steady, ReadAs, Writes, Saves, Merges, held_in}
 
 abbrev rows_of : Meaning → List Row
-rows_of (Rows rows torn) = rows
+rows_of (Rows version rows intent torn) = rows
 rows_of (Faulty fault) = []
 
--- no bytes stand for no row
-empty_means : (rows : List Row) (torn : Bool) → Means [] (Rows rows torn) → rows ≡ []
-empty_means rows torn (inl is) = ap rows_of is.1
-empty_means rows torn (inr (inl other)) = absurd (other.0 refl)
-empty_means rows torn (inr (inr lines)) = absurd (true≢false (sym (ap has_bytes lines.cut.whole)))
+abbrev intent_of : Meaning → Option Intent
+intent_of (Rows version rows intent torn) = intent
+intent_of (Faulty fault) = None
 
-pub keeps_at : (old new : Stored) (content : Option (List ℕ)) (rows : List Row) → new.content ≡ content → Keeps content rows → Keeps new.content rows
-keeps_at old new content rows is kept = subst (λ (c : Option (List ℕ)). Keeps c rows) (sym is) kept
+bytes_begin : (version : Version) (rest : List ℕ) → [] ≢ header version ++ rest
+bytes_begin One rest is = true≢false (sym (ap has_bytes is))
+bytes_begin Two rest is = true≢false (sym (ap has_bytes is))
 
-pub read_keeps : (content : Option (List ℕ)) (rows : List Row) (torn : Bool) → Means (bytes_in content) (Rows rows torn) → Keeps content rows
-read_keeps None rows torn means = empty_means rows torn means
-read_keeps (Some bytes) rows torn means = (torn, means)
+-- no bytes stand for no row and no intent
+empty_means : (version : Version) (rows : List Row) (intent : Option Intent) (torn : Bool) → Means [] (Rows version rows intent torn) → (rows ≡ []) × (intent ≡ None)
+empty_means version rows intent torn (inl is) = (ap rows_of is.1, ap intent_of is.1)
+empty_means version rows intent torn (inr (inl other)) = absurd (other.0 refl)
+empty_means version rows intent torn (inr (inr lines)) = absurd (bytes_begin lines.version _ lines.cut.whole)
 
-pub steady_keeps : (content : Option (List ℕ)) (rows : List Row) → Steady content rows → Keeps content rows
-steady_keeps content rows steady = read_keeps content rows false steady
+pub keeps_at : (old new : Stored) (content : Option (List ℕ)) (held : Held) → new.content ≡ content → Keeps content held → Keeps new.content held
+keeps_at old new content held is kept = subst (λ (c : Option (List ℕ)). Keeps c held) (sym is) kept
 
-pub read_steady : (content : Option (List ℕ)) (loaded : Loaded) → ReadAs content loaded → loaded.torn ≡ false → Steady content loaded.rows
-read_steady content loaded is whole = subst (λ (t : Bool). Means (bytes_in content) (Rows loaded.rows t)) whole is
+means_keeps : (content : Option (List ℕ)) (version : Version) (held : Held) (torn : Bool) → Means (bytes_in content) (Rows version held.rows held.intent torn) → Keeps content held
+means_keeps None version held torn means = empty_means version held.rows held.intent torn means
+means_keeps (Some bytes) version held torn means = (version, torn, means)
+
+pub read_keeps : (content : Option (List ℕ)) (loaded : Loaded) → ReadAs content loaded → Keeps content (held_in loaded)
+read_keeps content loaded is = means_keeps content is.version (held_in loaded) is.torn is.means
+
+pub steady_keeps : (content : Option (List ℕ)) (held : Held) → Steady content held → Keeps content held
+steady_keeps content held steady = means_keeps content Two held false steady
+
+-- what isn't stale is of version 2, isn't torn, and has no open intent
+parts_false : (a b c : Bool) → (a || (b || c)) ≡ false → (a ≡ false) × (b ≡ false) × (c ≡ false)
+parts_false true b c is = absurd (true≢false is)
+parts_false false true c is = absurd (true≢false is)
+parts_false false false true is = absurd (true≢false is)
+parts_false false false false is = (refl, refl, refl)
+
+not_older : (version : Version) → is_older version ≡ false → version ≡ Two
+not_older One is = absurd (true≢false is)
+not_older Two is = refl
+
+no_intent : (intent : Option Intent) → has_intent intent ≡ false → intent ≡ None
+no_intent None is = refl
+no_intent (Some intent) is = absurd (true≢false is)
+
+pub read_steady : (content : Option (List ℕ)) (loaded : Loaded) → ReadAs content loaded → loaded.stale ≡ false → Steady content (none_open loaded.rows) × (loaded.intent ≡ None)
+read_steady content loaded is fresh =
+    let parts = parts_false (is_older is.version) is.torn (has_intent loaded.intent) (sym is.stale ∙ fresh) in
+    let closed : loaded.intent ≡ None = no_intent loaded.intent parts.2 in (
+      subst (λ (i : Option Intent). Means (bytes_in content) (Rows Two loaded.rows i false)) closed
+          (subst (λ (t : Bool). Means (bytes_in content) (Rows Two loaded.rows loaded.intent t)) parts.1
+          (subst (λ (v : Version). Means (bytes_in content) (Rows v loaded.rows loaded.intent is.torn)) (not_older is.version parts.0) is.means)),
+      closed,
+    )
+
+abbrev held : List Row → Option Intent → Held
+held rows intent = record { rows = rows; intent = intent }
+
+pub held_is : (loaded : Loaded) → loaded.intent ≡ None → none_open loaded.rows ≡ held_in loaded
+held_is loaded closed = ap (held loaded.rows) (sym closed)
+
+-- an intent that is ended with no entry leaves the rows
+pub not_whole : (rows : List Row) (intent : Option Intent) → closed_rows false rows intent ≡ rows
+not_whole rows None = refl
+not_whole rows (Some intent) = refl
 
 -- ---- the whole record written
 
-pub writes_merges : (old new : Stored) (was rows : List Row) (r : Result (Unit {0}) Fault) → Keeps old.content was → Means (file_of rows) (Rows rows false) → Writes old rows r new → Merges old was rows r new
-writes_merges old new was rows (Ok done) kept stands is = (ap (λ (s : Stored). s.failures) is, subst (λ (s : Stored). Steady s.content rows) (sym is) stands)
-writes_merges old new was rows (Err SeenRefused) kept stands (inl is) = (ap (λ (s : Stored). s.failures) is, inl (keeps_at old new old.content was (ap (λ (s : Stored). s.content) is) kept))
-writes_merges old new was rows (Err SeenRefused) kept stands (inr is) =
-    (ap (λ (s : Stored). s.failures) is, inr (keeps_at old new (Some (file_of rows)) rows (ap (λ (s : Stored). s.content) is) (false, stands)))
-writes_merges old new was rows (Err NoMemory) kept stands is = is
-writes_merges old new was rows (Err ConnectionEnded) kept stands never = absurd never
-writes_merges old new was rows (Err ReadFailed) kept stands never = absurd never
-writes_merges old new was rows (Err WriteFailed) kept stands never = absurd never
-writes_merges old new was rows (Err ReplyTooLong) kept stands never = absurd never
-writes_merges old new was rows (Err BadReply) kept stands never = absurd never
-writes_merges old new was rows (Err (Refused to)) kept stands never = absurd never
-writes_merges old new was rows (Err BadListing) kept stands never = absurd never
-writes_merges old new was rows (Err ListingsDisagree) kept stands never = absurd never
-writes_merges old new was rows (Err TooMany) kept stands never = absurd never
-writes_merges old new was rows (Err TextTooLong) kept stands never = absurd never
-writes_merges old new was rows (Err (StoreRefused why)) kept stands never = absurd never
-writes_merges old new was rows (Err (BadSeen line)) kept stands never = absurd never
+pub writes_merges : (old new : Stored) (was now : Held) (r : Result (Unit {0}) Fault) → Keeps old.content was → Means (file_of now.rows now.intent) (Rows Two now.rows now.intent false) → Writes old now r new → Merges old was now r new
+writes_merges old new was now (Ok done) kept stands is = (ap (λ (s : Stored). s.failures) is, subst (λ (s : Stored). Steady s.content now) (sym is) stands)
+writes_merges old new was now (Err SeenRefused) kept stands (inl is) = (ap (λ (s : Stored). s.failures) is, inl (keeps_at old new old.content was (ap (λ (s : Stored). s.content) is) kept))
+writes_merges old new was now (Err SeenRefused) kept stands (inr is) =
+    (ap (λ (s : Stored). s.failures) is, inr (keeps_at old new (Some (file_of now.rows now.intent)) now (ap (λ (s : Stored). s.content) is) (Two, false, stands)))
+writes_merges old new was now (Err NoMemory) kept stands is = is
+writes_merges old new was now (Err ConnectionEnded) kept stands never = absurd never
+writes_merges old new was now (Err ReadFailed) kept stands never = absurd never
+writes_merges old new was now (Err WriteFailed) kept stands never = absurd never
+writes_merges old new was now (Err ReplyTooLong) kept stands never = absurd never
+writes_merges old new was now (Err BadReply) kept stands never = absurd never
+writes_merges old new was now (Err (Refused to)) kept stands never = absurd never
+writes_merges old new was now (Err BadListing) kept stands never = absurd never
+writes_merges old new was now (Err ListingsDisagree) kept stands never = absurd never
+writes_merges old new was now (Err TooMany) kept stands never = absurd never
+writes_merges old new was now (Err TextTooLong) kept stands never = absurd never
+writes_merges old new was now (Err (StoreRefused why)) kept stands never = absurd never
+writes_merges old new was now (Err (BadSeen line)) kept stands never = absurd never
 
-pub saves_merges : (old new : Stored) (was rows : List Row) (r : Result (Unit {0}) Fault) → Steady old.content was → Saves old was rows r new → Merges old was rows r new
-saves_merges old new was rows (Ok done) stood is = (is.0, is.1 stood)
-saves_merges old new was rows (Err SeenRefused) stood is = (is.0, is.1 stood)
-saves_merges old new was rows (Err NoMemory) stood is = is
-saves_merges old new was rows (Err ConnectionEnded) stood never = absurd never
-saves_merges old new was rows (Err ReadFailed) stood never = absurd never
-saves_merges old new was rows (Err WriteFailed) stood never = absurd never
-saves_merges old new was rows (Err ReplyTooLong) stood never = absurd never
-saves_merges old new was rows (Err BadReply) stood never = absurd never
-saves_merges old new was rows (Err (Refused to)) stood never = absurd never
-saves_merges old new was rows (Err BadListing) stood never = absurd never
-saves_merges old new was rows (Err ListingsDisagree) stood never = absurd never
-saves_merges old new was rows (Err TooMany) stood never = absurd never
-saves_merges old new was rows (Err TextTooLong) stood never = absurd never
-saves_merges old new was rows (Err (StoreRefused why)) stood never = absurd never
-saves_merges old new was rows (Err (BadSeen line)) stood never = absurd never
+pub saves_merges : (old new : Stored) (was now : Held) (r : Result (Unit {0}) Fault) → Steady old.content was → Saves old was now r new → Merges old was now r new
+saves_merges old new was now (Ok done) stood is = (is.0, is.1 stood)
+saves_merges old new was now (Err SeenRefused) stood is = (is.0, is.1 stood)
+saves_merges old new was now (Err NoMemory) stood is = is
+saves_merges old new was now (Err ConnectionEnded) stood never = absurd never
+saves_merges old new was now (Err ReadFailed) stood never = absurd never
+saves_merges old new was now (Err WriteFailed) stood never = absurd never
+saves_merges old new was now (Err ReplyTooLong) stood never = absurd never
+saves_merges old new was now (Err BadReply) stood never = absurd never
+saves_merges old new was now (Err (Refused to)) stood never = absurd never
+saves_merges old new was now (Err BadListing) stood never = absurd never
+saves_merges old new was now (Err ListingsDisagree) stood never = absurd never
+saves_merges old new was now (Err TooMany) stood never = absurd never
+saves_merges old new was now (Err TextTooLong) stood never = absurd never
+saves_merges old new was now (Err (StoreRefused why)) stood never = absurd never
+saves_merges old new was now (Err (BadSeen line)) stood never = absurd never
 
--- ---- a group appended
+-- ---- a group or an intent's line appended
 
 pub not_empty : (bytes : List ℕ) (b : Bool) → b ≡ false → b ≡ (length bytes == 0) → bytes ≢ []
 not_empty bytes b isnt is none = true≢false (sym (ap (λ (l : List ℕ). length l == 0) none) ∙ sym is ∙ isnt)
@@ -83,41 +128,79 @@ is_there : (content : Option (List ℕ)) → bytes_in content ≢ [] → content
 is_there None some = absurd (some refl)
 is_there (Some bytes) some = refl
 
-pub nothing_grows : (old : Stored) (was rows : List Row) (added : List ℕ) → added ≡ [] → Updates was added rows → Saves old was rows (Ok tt) old
-nothing_grows old was rows added none (inl same) = (refl, λ stood. subst (λ (r : List Row). Steady old.content r) (sym same.1) stood)
-nothing_grows old was rows added none (inr more) = absurd (true≢false (ap has_bytes (sym more.2 ∙ none)))
+-- the record becomes another by what is appended
+abbrev pub GrowsBy : List ℕ → Held → Held → Type 0
+GrowsBy added was now = Grows was.rows was.intent added now.rows now.intent
 
-pub grown : AppendedCounts → (old new : Stored) (added : List ℕ) (was rows : List Row) → bytes_in old.content ≢ [] → Updates was added rows
-    → Appends {T = Unit {0}} old added (Ok tt) new → Saves old was rows (Ok tt) new
-grown counts old new added was rows some updates appends =
+pub nothing_grows : (old : Stored) (was now : Held) (added : List ℕ) → added ≡ [] → GrowsBy added was now → Saves old was now (Ok tt) old
+nothing_grows old was now added none (inl (inl same)) = (
+  refl,
+  λ stood. subst (λ (r : List Row). Means (bytes_in old.content) (Rows Two r now.intent false)) (sym same.1)
+      (subst (λ (i : Option Intent). Means (bytes_in old.content) (Rows Two was.rows i false)) (sym same.2) stood),
+)
+nothing_grows old was now added none (inl (inr more)) = absurd (true≢false (ap has_bytes (sym more.2 ∙ none)))
+nothing_grows old was now added none (inr opens) = absurd (true≢false (ap has_bytes (sym opens.bytes_are ∙ none)))
+
+pub grown : AppendedCounts → (old new : Stored) (added : List ℕ) (was now : Held) → bytes_in old.content ≢ [] → GrowsBy added was now
+    → Appends {T = Unit {0}} old added (Ok tt) new → Saves old was now (Ok tt) new
+grown counts old new added was now some grows appends =
     let is : new ≡ holding old (bytes_in old.content ++ added) = appends (bytes_in old.content) (is_there old.content some) in
-    (ap (λ (s : Stored). s.failures) is, λ stood. subst (λ (s : Stored). Steady s.content rows) (sym is) (counts (bytes_in old.content) added was rows some stood updates))
+    (ap (λ (s : Stored). s.failures) is, λ stood. subst (λ (s : Stored). Steady s.content now) (sym is) (counts (bytes_in old.content) added was.rows now.rows was.intent now.intent some stood grows))
 
-kept_front : AppendedCounts → CutIsIgnored → (bytes added front rest : List ℕ) (was rows : List Row) → bytes ≢ [] → Updates was added rows → Means bytes (Rows was false) → added ≡ front ++ rest
-    → Keeps (Some (bytes ++ front)) was ⊎ Keeps (Some (bytes ++ front)) rows
-kept_front counts ignored bytes added front [] was rows some updates stood split =
-    inr (false, subst (λ (f : List ℕ). Means (bytes ++ f) (Rows rows false)) (split ∙ append-nil front) (counts bytes added was rows some stood updates))
-kept_front counts ignored bytes added front (byte ∷ rest) was rows some updates stood split =
-    inl (has_bytes front, ignored bytes added front (byte ∷ rest) was rows some stood updates split (λ none. true≢false (ap has_bytes none)))
+kept_front : AppendedCounts → CutIsIgnored → (bytes added front rest : List ℕ) (was now : Held) → bytes ≢ [] → GrowsBy added was now → Means bytes (Rows Two was.rows was.intent false) → added ≡ front ++ rest
+    → Keeps (Some (bytes ++ front)) was ⊎ Keeps (Some (bytes ++ front)) now
+kept_front counts ignored bytes added front [] was now some grows stood split =
+    inr (Two, false, subst (λ (f : List ℕ). Means (bytes ++ f) (Rows Two now.rows now.intent false)) (split ∙ append-nil front) (counts bytes added was.rows now.rows was.intent now.intent some stood grows))
+kept_front counts ignored bytes added front (byte ∷ rest) was now some grows stood split =
+    inl (Two, has_bytes front, ignored bytes added front (byte ∷ rest) was.rows now.rows was.intent now.intent some stood grows split (λ none. true≢false (ap has_bytes none)))
 
-pub cut_short : AppendedCounts → CutIsIgnored → (old new : Stored) (added : List ℕ) (was rows : List Row) (fault : StoreFault) → bytes_in old.content ≢ [] → Updates was added rows
-    → Appends {T = Unit {0}} old added (Err fault) new → Saves old was rows (Err SeenRefused) new
-cut_short counts ignored old new added was rows fault some updates appends =
+pub cut_short : AppendedCounts → CutIsIgnored → (old new : Stored) (added : List ℕ) (was now : Held) (fault : StoreFault) → bytes_in old.content ≢ [] → GrowsBy added was now
+    → Appends {T = Unit {0}} old added (Err fault) new → Saves old was now (Err SeenRefused) new
+cut_short counts ignored old new added was now fault some grows appends =
     let cut = appends (bytes_in old.content) (is_there old.content some) in
     let is : new ≡ counted (holding old (bytes_in old.content ++ cut.0)) = cut.3 in (
       ap (λ (s : Stored). s.failures) is,
-      λ stood. subst (λ (s : Stored). Keeps s.content was ⊎ Keeps s.content rows) (sym is)
-          (kept_front counts ignored (bytes_in old.content) added cut.0 cut.1 was rows some updates stood cut.2),
+      λ stood. subst (λ (s : Stored). Keeps s.content was ⊎ Keeps s.content now) (sym is)
+          (kept_front counts ignored (bytes_in old.content) added cut.0 cut.1 was now some grows stood cut.2),
     )
 
 -- ---- a mark, and a listing
 
--- where a mark changed a row, its file has bytes
-pub mark_begun : (content : Option (List ℕ)) (was rows : List Row) (uid group : List ℕ) → Steady content was → rows ≡ marked was uid → group ≡ written (changed was rows) → group ≢ [] → bytes_in content ≢ []
-mark_begun content was rows uid group steady marks is some none =
-    let no_row : was ≡ [] = empty_means was false (subst (λ (b : List ℕ). Means b (Rows was false)) none steady) in
-    some (is ∙ ap (λ (r : List Row). written (changed was r)) marks ∙ ap (λ (r : List Row). written (changed r (marked r uid))) no_row)
+no_cons : {row : Row} {rows : List Row} → row ∷ rows ≡ [] → ⊥
+no_cons is = omega (arith, ap length is)
 
-pub saves_steady : (old new : Stored) (was rows : List Row) (r : Result (Unit {0}) Fault) → Steady old.content was → Saves old was rows r new → OnOk r (Steady new.content rows)
-saves_steady old new was rows (Ok done) stood saves = saves.1 stood
-saves_steady old new was rows (Err fault) stood saves = tt
+pub marks_grow : (was now : List Row) (before after : Option Intent) (bytes : List ℕ) → before ≡ None → after ≡ None → Updates was before bytes now after → Updates was None bytes now None
+marks_grow was now before after bytes closed ended updates =
+    subst (λ (i : Option Intent). Updates was None bytes now i) ended (subst (λ (i : Option Intent). Updates was i bytes now after) closed updates)
+
+-- a group's row leaves no rows empty
+taken_by : (has : Bool) (rows : List Row) (row : Row) → rows ≢ [] → (if has then marked rows row.uid else (rows ++ row ∷ [])) ≢ []
+taken_by has [] row some = absurd (some refl)
+taken_by true (first ∷ rows) row some = λ none. no_cons none
+taken_by false (first ∷ rows) row some = λ none. no_cons none
+
+still_some : (rows group : List Row) → rows ≢ [] → taken_all rows group ≢ []
+still_some rows [] some = some
+still_some rows (row ∷ group) some = still_some (taken rows row) group (taken_by (has_row rows row.uid) rows row some)
+
+-- where an id's mark gives a group, the file has bytes
+pub mark_begun : (content : Option (List ℕ)) (was now : List Row) (after : Option Intent) (uid group : List ℕ) → Steady content (none_open was) → now ≡ marked was uid → Updates was None group now after → group ≢ [] → bytes_in content ≢ []
+mark_begun content was now after uid group steady marks (inl same) some none = some same.0
+mark_begun content was now after uid group steady marks (inr (rows, is, bytes, grown', closed)) some none =
+    let no_row : was ≡ [] = (empty_means Two was None false (subst (λ (b : List ℕ). Means b (Rows Two was None false)) none steady)).0 in
+    by_rows rows is.count.0 (sym grown' ∙ marks ∙ ap (λ (r : List Row). marked r uid) no_row) no_row
+  where
+    by_rows : (rows : List Row) → 1 ≤ length rows → taken_all was rows ≡ [] → was ≡ [] → ⊥
+    by_rows [] count nothing no_row = absurd (omega (arith, count))
+    by_rows (row ∷ more) count nothing no_row = still_some (row ∷ []) more (λ e. no_cons e) (subst (λ (r : List Row). taken_all (taken r row) more ≡ []) no_row nothing)
+
+pub has_row_where_none : (rows : List Row) (intent : Option Intent) → intent ≡ None → IntentHasRow rows intent
+has_row_where_none rows intent closed = subst (λ (i : Option Intent). IntentHasRow rows i) (sym closed) tt
+
+-- no intent is open, so it is of any id
+pub none_or_of : (uid : List ℕ) (intent : Option Intent) → intent ≡ None → IsNoneOrOf uid intent
+none_or_of uid intent closed = subst (λ (i : Option Intent). IsNoneOrOf uid i) (sym closed) tt
+
+pub saves_steady : (old new : Stored) (was now : Held) (r : Result (Unit {0}) Fault) → Steady old.content was → Saves old was now r new → OnOk r (Steady new.content now)
+saves_steady old new was now (Ok done) stood saves = saves.1 stood
+saves_steady old new was now (Err fault) stood saves = tt

@@ -4,7 +4,7 @@ use Rattle.std.proofs.lemmas.List.{append-nil, map-append}
 use Rattle.std.proofs.lemmas.Grind.{flat_map-append}
 use Rattle.std.specs.List.{flat_map}
 use Rattle.pop3_wire.specs.Place.{Place}
-use Rattle.fetch_rules.specs.Record.{Row, marked, marked_all}
+use Rattle.fetch_rules.specs.Record.{Row, Held, none_open, marked, marked_all}
 use Rattle.mail_store.specs.Maildir.{Maildir, File, file, dropped, counted}
 use Rattle.mail_store.specs.FlatFile.{Stored}
 use Rattle.pop3_client.specs.declared.fault.Fault.{Fault as TalkFault}
@@ -46,7 +46,7 @@ stand turns replies old mid new more none talked is = (
     heard = ap (λ (l : List ℕ). l ++ talked.gained) (sym none) ∙ talked.heard
 
 -- the conversation broke
-short_broken : (account : List ℕ) (tasks : List Task) (old new : Scene) (cut : Cut) (fell : Fell account tasks old cut new) → old.place.waiting ≡ [] → Steady old.file.content old.rows
+short_broken : (account : List ℕ) (tasks : List Task) (old new : Scene) (cut : Cut) (fell : Fell account tasks old cut new) → old.place.waiting ≡ [] → Steady old.file.content (none_open old.rows)
     → Broken fell.next fell.mid new cut → CutShort account tasks old cut.fault new
 short_broken account tasks old new cut fell none stood broken =
     let more = broke_got broken.turn fell.mid.place new.place broken.why broken.broke in
@@ -63,8 +63,8 @@ short_broken account tasks old new cut fell none stood broken =
       others = ap (λ (m : Maildir). m.in_cur) broken.maildir ∙ fell.went.stored.in_cur;
       extra_is = inl refl;
       marks_are = inl refl;
-      record_is = keeps_at fell.mid.file new.file fell.mid.file.content (marked_all old.rows (ids_of fell.dones)) (ap (λ (s : Stored). s.content) broken.file)
-          (subst (λ (r : List Row). Keeps fell.mid.file.content r) fell.went.rows (steady_keeps fell.mid.file.content fell.mid.rows (fell.went.saved stood)));
+      record_is = keeps_at fell.mid.file new.file fell.mid.file.content (none_open (marked_all old.rows (ids_of fell.dones))) (ap (λ (s : Stored). s.content) broken.file)
+          (subst (λ (r : List Row). Keeps fell.mid.file.content (none_open r)) fell.went.rows (steady_keeps fell.mid.file.content (none_open fell.mid.rows) (fell.went.saved stood)));
     }
 
 -- the store refused: which files are there more
@@ -79,7 +79,7 @@ fetching_got : (n : ℕ) (start now : Place) (rest : Rest) (text : List ℕ) →
 fetching_got n start now rest text is =
     (is.opened.gained ++ is.under.gained, is.under.drew.got ∙ ap (λ (l : List ℕ). l ++ is.under.gained) is.opened.got ∙ append_assoc start.link.got is.opened.gained is.under.gained)
 
-short_not_stored : (account : List ℕ) (tasks : List Task) (old new : Scene) (cut : Cut) (fell : Fell account tasks old cut new) → old.place.waiting ≡ [] → Steady old.file.content old.rows
+short_not_stored : (account : List ℕ) (tasks : List Task) (old new : Scene) (cut : Cut) (fell : Fell account tasks old cut new) → old.place.waiting ≡ [] → Steady old.file.content (none_open old.rows)
     → NotStored account fell.next fell.mid new cut → CutShort account tasks old cut.fault new
 short_not_stored account tasks old new cut fell none stood refused = record {
   taken = fell.dones;
@@ -94,8 +94,8 @@ short_not_stored account tasks old new cut fell none stood refused = record {
   others = kept.in_cur ∙ fell.went.stored.in_cur;
   extra_is = kept.extra_is;
   marks_are = inl refl;
-  record_is = keeps_at fell.mid.file new.file fell.mid.file.content (marked_all old.rows (ids_of fell.dones)) (ap (λ (s : Stored). s.content) refused.file)
-      (subst (λ (r : List Row). Keeps fell.mid.file.content r) fell.went.rows (steady_keeps fell.mid.file.content fell.mid.rows (fell.went.saved stood)));
+  record_is = keeps_at fell.mid.file new.file fell.mid.file.content (none_open (marked_all old.rows (ids_of fell.dones))) (ap (λ (s : Stored). s.content) refused.file)
+      (subst (λ (r : List Row). Keeps fell.mid.file.content (none_open r)) fell.went.rows (steady_keeps fell.mid.file.content (none_open fell.mid.rows) (fell.went.saved stood)));
 }
   where
     more : (more : List ℕ) × (new.place.link.got ≡ fell.mid.place.link.got ++ more)
@@ -141,35 +141,35 @@ short_not_stored account tasks old new cut fell none stood refused = record {
     ]
 
 -- the record wasn't saved: why, and which record its file stands for
-pub record Unsaved (old : Stored) (was rows : List Row) (fault : Fault) (new : Stored) : Type 0 where
+pub record Unsaved (old : Stored) (was now : Held) (fault : Fault) (new : Stored) : Type 0 where
   pub why : (fault ≡ SeenRefused) ⊎ (fault ≡ NoMemory)
-  pub content : Steady old.content was → Keeps new.content was ⊎ Keeps new.content rows
+  pub content : Steady old.content was → Keeps new.content was ⊎ Keeps new.content now
 
-unsaved : (old : Stored) (was rows : List Row) (fault : Fault) (new : Stored) → Saves old was rows (Err fault) new → Unsaved old was rows fault new
-unsaved old was rows SeenRefused new is = record { why = inl refl; content = is.1 }
-unsaved old was rows NoMemory new is = record { why = inr refl; content = λ stood. inl (keeps_at old new old.content was (ap (λ (s : Stored). s.content) is) (steady_keeps old.content was stood)) }
-unsaved old was rows ConnectionEnded new never = absurd never
-unsaved old was rows ReadFailed new never = absurd never
-unsaved old was rows WriteFailed new never = absurd never
-unsaved old was rows ReplyTooLong new never = absurd never
-unsaved old was rows BadReply new never = absurd never
-unsaved old was rows (Refused to) new never = absurd never
-unsaved old was rows BadListing new never = absurd never
-unsaved old was rows ListingsDisagree new never = absurd never
-unsaved old was rows TooMany new never = absurd never
-unsaved old was rows TextTooLong new never = absurd never
-unsaved old was rows (StoreRefused why) new never = absurd never
-unsaved old was rows (BadSeen line) new never = absurd never
+unsaved : (old : Stored) (was now : Held) (fault : Fault) (new : Stored) → Saves old was now (Err fault) new → Unsaved old was now fault new
+unsaved old was now SeenRefused new is = record { why = inl refl; content = is.1 }
+unsaved old was now NoMemory new is = record { why = inr refl; content = λ stood. inl (keeps_at old new old.content was (ap (λ (s : Stored). s.content) is) (steady_keeps old.content was stood)) }
+unsaved old was now ConnectionEnded new never = absurd never
+unsaved old was now ReadFailed new never = absurd never
+unsaved old was now WriteFailed new never = absurd never
+unsaved old was now ReplyTooLong new never = absurd never
+unsaved old was now BadReply new never = absurd never
+unsaved old was now (Refused to) new never = absurd never
+unsaved old was now BadListing new never = absurd never
+unsaved old was now ListingsDisagree new never = absurd never
+unsaved old was now TooMany new never = absurd never
+unsaved old was now TextTooLong new never = absurd never
+unsaved old was now (StoreRefused why) new never = absurd never
+unsaved old was now (BadSeen line) new never = absurd never
 
-pub unsaved_keeps : (old : Stored) (was rows : List Row) (fault : Fault) (new : Stored) → Saves old was rows (Err fault) new → Steady old.content was → Keeps new.content was ⊎ Keeps new.content rows
-unsaved_keeps old was rows fault new saves = (unsaved old was rows fault new saves).content
+pub unsaved_keeps : (old : Stored) (was now : Held) (fault : Fault) (new : Stored) → Saves old was now (Err fault) new → Steady old.content was → Keeps new.content was ⊎ Keeps new.content now
+unsaved_keeps old was now fault new saves = (unsaved old was now fault new saves).content
 
-short_not_saved : (account : List ℕ) (tasks : List Task) (old new : Scene) (cut : Cut) (fell : Fell account tasks old cut new) → old.place.waiting ≡ [] → Steady old.file.content old.rows
+short_not_saved : (account : List ℕ) (tasks : List Task) (old new : Scene) (cut : Cut) (fell : Fell account tasks old cut new) → old.place.waiting ≡ [] → Steady old.file.content (none_open old.rows)
     → NotSaved account fell.next fell.mid new cut → CutShort account tasks old cut.fault new
 short_not_saved account tasks old new cut fell none stood refused =
     elim (missed.content (fell.went.saved stood)) [
-      | inl was ↦ with_marks (ids_of fell.dones) (inr (missed.why, (refused.uid, ids))) (subst (λ (r : List Row). Keeps new.file.content r) fell.went.rows was)
-      | inr is ↦ with_marks (ids_of taken) (inl refl) (subst (λ (r : List Row). Keeps new.file.content r) rows is)
+      | inl was ↦ with_marks (ids_of fell.dones) (inr (missed.why, (refused.uid, ids))) (subst (λ (r : List Row). Keeps new.file.content (none_open r)) fell.went.rows was)
+      | inr is ↦ with_marks (ids_of taken) (inl refl) (subst (λ (r : List Row). Keeps new.file.content (none_open r)) rows is)
     ]
   where
     last : Done
@@ -178,8 +178,8 @@ short_not_saved account tasks old new cut fell none stood refused =
     taken : List Done
     taken = fell.dones ++ last ∷ []
 
-    missed : Unsaved fell.mid.file fell.mid.rows (marked fell.mid.rows refused.uid) cut.fault new.file
-    missed = unsaved fell.mid.file fell.mid.rows (marked fell.mid.rows refused.uid) cut.fault new.file refused.saves
+    missed : Unsaved fell.mid.file (none_open fell.mid.rows) (none_open (marked fell.mid.rows refused.uid)) cut.fault new.file
+    missed = unsaved fell.mid.file (none_open fell.mid.rows) (none_open (marked fell.mid.rows refused.uid)) cut.fault new.file refused.saves
 
     ids : ids_of (fell.dones ++ last ∷ []) ≡ ids_of fell.dones ++ refused.uid ∷ []
     ids = flat_map-append (λ (d : Done). ids_in d.task) fell.dones (last ∷ [])
@@ -199,7 +199,7 @@ short_not_saved account tasks old new cut fell none stood refused =
         (subst (λ (rs : List WholeReply). Talked (turns_of fell.dones ++ retr refused.number ∷ []) rs old.place new.place) (sym replies)
         (talked_on (turns_of fell.dones) (retr refused.number ∷ []) (replies_of fell.dones) (refused.reply ∷ []) old.place fell.mid.place new.place fell.went.talked refused.talked))
 
-    with_marks : (marks : List (List ℕ)) → MarksAre (ids_of (fell.dones ++ last ∷ [])) cut.fault marks → Keeps new.file.content (marked_all old.rows marks)
+    with_marks : (marks : List (List ℕ)) → MarksAre (ids_of (fell.dones ++ last ∷ [])) cut.fault marks → Keeps new.file.content (none_open (marked_all old.rows marks))
         → CutShort account tasks old cut.fault new
     with_marks marks are stands = record {
       taken = fell.dones ++ last ∷ [];
@@ -224,7 +224,7 @@ short_not_saved account tasks old new cut fell none stood refused =
       record_is = stands;
     }
 
-pub stopping_cuts_short : (account : List ℕ) (tasks : List Task) (old new : Scene) (cut : Cut) → Fell account tasks old cut new → old.place.waiting ≡ [] → Steady old.file.content old.rows → CutShort account tasks old cut.fault new
+pub stopping_cuts_short : (account : List ℕ) (tasks : List Task) (old new : Scene) (cut : Cut) → Fell account tasks old cut new → old.place.waiting ≡ [] → Steady old.file.content (none_open old.rows) → CutShort account tasks old cut.fault new
 stopping_cuts_short account tasks old new cut fell none stood =
     elim fell.stops [
       | inl broken ↦ short_broken account tasks old new cut fell none stood broken

@@ -1,7 +1,7 @@
 -- How one text is taken.
 use Rattle.std.proofs.Common.{◌≡◌, inl, inr, ℕ, Bool, true, false, List, [], ◌∷◌, ◌++◌, length, None, Some, Option, Ok, Err, refl, sym, ap, subst, ◌∙◌, arith}
 use Rattle.pop3_wire.specs.Place.{Place}
-use Rattle.fetch_rules.specs.Record.{Row, marked}
+use Rattle.fetch_rules.specs.Record.{Row, none_open, marked}
 use Rattle.mail_store.specs.Maildir.{Maildir, File, file, with_file}
 use Rattle.mail_store.specs.FlatFile.{Stored}
 use Rattle.mail_store.specs.FileName.{name_of}
@@ -86,7 +86,7 @@ same_file account uid name text reply named is = ap (λ (k : List ℕ). file k t
 
 -- it was stored, and marked
 pub text_stored : (account : List ℕ) (n octets : ℕ) (uid text name : List ℕ) (a b : Place) (maildir maildir' : Maildir) (file' file'' : Stored) (rows rows' : List Row) (lines lines' : List ReportLine)
-    → name ≡ name_of account uid → StoresText name maildir text (Ok octets) maildir' → ReadsText n a text (Ok octets) b → rows' ≡ marked rows uid → Saves file' rows (marked rows uid) (Ok tt) file''
+    → name ≡ name_of account uid → StoresText name maildir text (Ok octets) maildir' → ReadsText n a text (Ok octets) b → rows' ≡ marked rows uid → Saves file' (none_open rows) (none_open (marked rows uid)) (Ok tt) file''
     → lines' ≡ lines ++ Delivered n octets ∷ []
     → TakesTask account (stores n uid) (scene a maildir file' rows lines) (Ok tt) (scene b maildir' file'' rows' lines')
 text_stored account n octets uid text name a b maildir maildir' file' file'' rows rows' lines lines' named stored reads mark saves told = (
@@ -96,7 +96,7 @@ text_stored account n octets uid text name a b maildir maildir' file' file'' row
     each = (reads.1.good, tt);
     stored = gained_file maildir maildir' (file_from account uid reads.0) (stored.0 ∙ ap (λ (f : File). with_file maildir f) (same_file account uid name text reads.0 named reads.2));
     rows = mark;
-    saved = λ stood. subst (λ (r : List Row). Steady file''.content r) (sym mark) (saves.1 stood);
+    saved = λ stood. subst (λ (r : List Row). Steady file''.content (none_open r)) (sym mark) (saves.1 stood);
     file_count = let same : file''.failures ≡ file'.failures = saves.0 in omega arith;
     lines = told ∙ ap (λ (l : ReportLine). lines ++ l ∷ []) (same_line n octets text reads.0 stored.1 reads.2);
   },
@@ -104,7 +104,7 @@ text_stored account n octets uid text name a b maildir maildir' file' file'' row
 
 -- it was stored, and the record wasn't saved
 pub text_not_saved : (account : List ℕ) (n octets : ℕ) (uid text name : List ℕ) (a b : Place) (maildir maildir' : Maildir) (file' file'' : Stored) (rows rows' : List Row) (lines lines' : List ReportLine) (fault : Fault) (cut : Cut)
-    → name ≡ name_of account uid → StoresText name maildir text (Ok octets) maildir' → ReadsText n a text (Ok octets) b → Saves file' rows (marked rows uid) (Err fault) file''
+    → name ≡ name_of account uid → StoresText name maildir text (Ok octets) maildir' → ReadsText n a text (Ok octets) b → Saves file' (none_open rows) (none_open (marked rows uid)) (Err fault) file''
     → cut ≡ cut_of fault None → lines' ≡ lines ++ Delivered n octets ∷ []
     → Stops account (stores n uid) (scene a maildir file' rows lines) cut (scene b maildir' file'' rows' lines')
 text_not_saved account n octets uid text name a b maildir maildir' file' file'' rows rows' lines lines' fault cut named stored reads saves plain told =
@@ -116,7 +116,7 @@ text_not_saved account n octets uid text name a b maildir maildir' file' file'' 
       is = refl;
       talked = reads.1;
       stored = gained_file maildir maildir' (file_from account uid reads.0) (stored.0 ∙ ap (λ (f : File). with_file maildir f) (same_file account uid name text reads.0 named reads.2));
-      saves = subst (λ (c : Cut). Saves file' rows (marked rows uid) (Err c.fault) file'') (sym plain) saves;
+      saves = subst (λ (c : Cut). Saves file' (none_open rows) (none_open (marked rows uid)) (Err c.fault) file'') (sym plain) saves;
       lines = told ∙ ap (λ (l : ReportLine). lines ++ l ∷ []) (same_line n octets text reads.0 stored.1 reads.2);
     }))
 

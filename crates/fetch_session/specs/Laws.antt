@@ -1,7 +1,7 @@
 -- What a list of tasks that stopped leaves, told by the tasks that were brought to their end.
 use Rattle.std.specs.Prelude.{◌≡◌, ◌⊎◌, ℕ, List, [], ◌∷◌, ◌++◌, Option, Err}
 use Rattle.std.specs.List.{flat_map, AllZip}
-use Rattle.fetch_rules.specs.Record.{Row, marked_all}
+use Rattle.fetch_rules.specs.Record.{Held, none_open, marked_all}
 use Rattle.mail_store.specs.FlatFile.{Stored}
 use Rattle.mail_store.specs.Maildir.{File}
 use Rattle.pop3_wire.specs.Reading.{WholeReply, reply_bytes}
@@ -44,20 +44,20 @@ pub record CutShort (account : List ℕ) (tasks : List Task) (old : Scene) (faul
   pub others : new.maildir.in_cur ≡ old.maildir.in_cur
   pub extra_is : ExtraIs account taken next old fault new extra
   pub marks_are : MarksAre (ids_of taken) fault marks
-  pub record_is : Keeps new.file.content (marked_all old.rows marks)
+  pub record_is : Keeps new.file.content (none_open (marked_all old.rows marks))
 
 -- where a list of tasks stopped, it leaves what tasks that were cut short leave
 abbrev pub StoppingCutsShort : Type 0
-StoppingCutsShort = (account : List ℕ) (tasks : List Task) (old new : Scene) (cut : Cut) → Fell account tasks old cut new → old.place.waiting ≡ [] → Steady old.file.content old.rows → CutShort account tasks old cut.fault new
+StoppingCutsShort = (account : List ℕ) (tasks : List Task) (old new : Scene) (cut : Cut) → Fell account tasks old cut new → old.place.waiting ≡ [] → Steady old.file.content (none_open old.rows) → CutShort account tasks old cut.fault new
 
 -- a file that stands for a record without a torn end stands for it
 abbrev pub SteadyFilesKeep : Type 0
-SteadyFilesKeep = (content : Option (List ℕ)) (rows : List Row) → Steady content rows → Keeps content rows
+SteadyFilesKeep = (content : Option (List ℕ)) (held : Held) → Steady content held → Keeps content held
 
 -- a record that wasn't saved left its file standing for the one before or for this one
 abbrev pub UnsavedFilesKeep : Type 0
-UnsavedFilesKeep = (old : Stored) (was rows : List Row) (fault : Fault) (new : Stored) → Saves old was rows (Err fault) new → Steady old.content was
-    → Keeps new.content was ⊎ Keeps new.content rows
+UnsavedFilesKeep = (old : Stored) (was now : Held) (fault : Fault) (new : Stored) → Saves old was now (Err fault) new → Steady old.content was
+    → Keeps new.content was ⊎ Keeps new.content now
 
 -- of no turns there is a conversation in which nothing happens, and turns behind turns make one conversation
 pub record TurnsJoin : Type 0 where

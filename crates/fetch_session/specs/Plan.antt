@@ -2,7 +2,7 @@
 use Rattle.std.specs.Prelude.{◌≡◌, ◌⊎◌, ℕ, List, [], ◌∷◌, ◌++◌, None, Result, Ok, Err}
 use Rattle.pop3_wire.specs.Place.{Place}
 use Rattle.mail_terms.specs.Listing.{Item}
-use Rattle.fetch_rules.specs.Record.{Row, merged}
+use Rattle.fetch_rules.specs.Record.{Row, Held, none_open, merged}
 use Rattle.fetch_rules.specs.Plan.{planned}
 use Rattle.rc_file.specs.declared.settings.Settings.{Settings}
 use Rattle.mail_store.specs.Maildir.{Maildir}
@@ -22,10 +22,10 @@ tasks_ahead settings account items now maildir rows = tasks_planned (planned set
 
 -- the record was read, merged with the listing and saved
 pub record Prepared (account : List ℕ) (items : List Item) (now : ℕ) (place : Place) (maildir : Maildir) (file : Stored) (lines : List ReportLine) (mid : Scene) : Type 0 where
-  pub was : List Row
+  pub was : Held
   pub stood : Keeps file.content was
-  pub rows : mid.rows ≡ merged was items (flags_of account maildir items) now
-  pub saved : Steady mid.file.content mid.rows
+  pub rows : mid.rows ≡ merged was.rows items (flags_of account maildir items) now
+  pub saved : Steady mid.file.content (none_open mid.rows)
   pub file_count : mid.file.failures ≡ file.failures
   pub place_is : mid.place ≡ place
   pub maildir_is : mid.maildir ≡ maildir

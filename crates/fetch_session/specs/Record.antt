@@ -1,9 +1,10 @@
 -- What is done to the record and its file.
 use Rattle.std.specs.Prelude.{◌≡◌, ◌≢◌, ◌⊎◌, ◌<◌, ◌+◌, ℕ, Bool, false, List, [], Option, None, Some, Result, Ok, Err, Vec}
 use Rattle.mail_terms.specs.Listing.{Item}
-use Rattle.fetch_rules.specs.Record.{Row, Loaded, merged}
-use Rattle.fetch_rules.specs.RecordFile.{file_of}
+use Rattle.fetch_rules.specs.Record.{Row, Intent, Held, Loaded, none_open, merged}
+use Rattle.fetch_rules.specs.RecordFile.{Two, file_of}
 use Rattle.fetch_rules.specs.RecordMeaning.{Means, Rows, Fault as Faulty, FileStandsFor}
+use Rattle.fetch_rules.specs.Intents.{ReadAs as BytesReadAs}
 use Rattle.fetch_rules.specs.Plan.{planned}
 use Rattle.fetch_rules.specs.declared.seen.SeenFault.{SeenFault}
 use Rattle.fetch_rules.specs.declared.seen.SeenFault.TheVariants.{BadHeader, BadRow, RepeatedId, NoMemory as WantsMemory}
@@ -21,39 +22,47 @@ abbrev pub bytes_in : Option (List ℕ) → List ℕ
 bytes_in None = []
 bytes_in (Some bytes) = bytes
 
--- a file stands for a record, torn end or not
-abbrev pub Keeps : Option (List ℕ) → List Row → Type 0
-Keeps content rows = FileStandsFor content rows
+-- a file stands for a record, of whatever version, torn end or not
+abbrev pub Keeps : Option (List ℕ) → Held → Type 0
+Keeps content held = FileStandsFor content held.rows held.intent
 
--- the same without a torn end, so that what is appended counts
-abbrev pub Steady : Option (List ℕ) → List Row → Type 0
-Steady content rows = Means (bytes_in content) (Rows rows false)
+-- a file stands for these rows, whether an intent is open or not
+abbrev pub KeepsRows : Option (List ℕ) → List Row → Type 0
+KeepsRows content rows = (intent : Option Intent) × FileStandsFor content rows intent
+
+-- the file is of version 2 and has no torn end, so that what is appended counts
+abbrev pub Steady : Option (List ℕ) → Held → Type 0
+Steady content held = Means (bytes_in content) (Rows Two held.rows held.intent false)
 
 -- a file was read as this record
 abbrev pub ReadAs : Option (List ℕ) → Loaded → Type 0
-ReadAs content loaded = Means (bytes_in content) (Rows loaded.rows loaded.torn)
+ReadAs content loaded = BytesReadAs (bytes_in content) loaded
+
+-- what is kept of a record in memory
+abbrev pub held_in : Loaded → Held
+held_in loaded = record { rows = loaded.rows; intent = loaded.intent }
 
 -- the record was written whole; or, refused, the file is as it was or has the record; or memory was wanting
-abbrev pub Writes : Stored → List Row → Result (Unit {0}) Fault → Stored → Type 0
-Writes old rows (Ok done) new = new ≡ holding old (file_of rows)
-Writes old rows (Err SeenRefused) new = (new ≡ counted old) ⊎ (new ≡ counted (holding old (file_of rows)))
-Writes old rows (Err NoMemory) new = new ≡ old
-Writes old rows (Err _) new = ⊥
+abbrev pub Writes : Stored → Held → Result (Unit {0}) Fault → Stored → Type 0
+Writes old held (Ok done) new = new ≡ holding old (file_of held.rows held.intent)
+Writes old held (Err SeenRefused) new = (new ≡ counted old) ⊎ (new ≡ counted (holding old (file_of held.rows held.intent)))
+Writes old held (Err NoMemory) new = new ≡ old
+Writes old held (Err _) new = ⊥
 
 -- a changed record was saved; or, refused, the file stands for the one or the other; or nothing was done for want of memory
-abbrev pub Saves : Stored → List Row → List Row → Result (Unit {0}) Fault → Stored → Type 0
-Saves old was rows (Ok done) new = (new.failures ≡ old.failures) × (Steady old.content was → Steady new.content rows)
-Saves old was rows (Err SeenRefused) new = (new.failures ≡ old.failures + 1) × (Steady old.content was → Keeps new.content was ⊎ Keeps new.content rows)
-Saves old was rows (Err NoMemory) new = new ≡ old
-Saves old was rows (Err _) new = ⊥
+abbrev pub Saves : Stored → Held → Held → Result (Unit {0}) Fault → Stored → Type 0
+Saves old was now (Ok done) new = (new.failures ≡ old.failures) × (Steady old.content was → Steady new.content now)
+Saves old was now (Err SeenRefused) new = (new.failures ≡ old.failures + 1) × (Steady old.content was → Keeps new.content was ⊎ Keeps new.content now)
+Saves old was now (Err NoMemory) new = new ≡ old
+Saves old was now (Err _) new = ⊥
 
 -- a record read from the file was merged and saved; or, refused, the file stands for the one or the
 -- other; or nothing was done for want of memory
-abbrev pub Merges : Stored → List Row → List Row → Result (Unit {0}) Fault → Stored → Type 0
-Merges old was rows (Ok done) new = (new.failures ≡ old.failures) × Steady new.content rows
-Merges old was rows (Err SeenRefused) new = (new.failures ≡ old.failures + 1) × (Keeps new.content was ⊎ Keeps new.content rows)
-Merges old was rows (Err NoMemory) new = new ≡ old
-Merges old was rows (Err _) new = ⊥
+abbrev pub Merges : Stored → Held → Held → Result (Unit {0}) Fault → Stored → Type 0
+Merges old was now (Ok done) new = (new.failures ≡ old.failures) × Steady new.content now
+Merges old was now (Err SeenRefused) new = (new.failures ≡ old.failures + 1) × (Keeps new.content was ⊎ Keeps new.content now)
+Merges old was now (Err NoMemory) new = new ≡ old
+Merges old was now (Err _) new = ⊥
 
 -- the line of a record's fault
 abbrev pub LineOf : SeenFault → ℕ → Type 0
@@ -95,14 +104,14 @@ FindsHeld account old items (Err (StoreRefused Refused)) new = new ≡ Rattle.ma
 FindsHeld account old items (Err NoMemory) new = new ≡ old
 FindsHeld account old items (Err _) new = ⊥
 
--- the record was read, merged and saved, and the plan made
+-- the record was read, merged and saved, and the plan made; no intent is open any more
 pub record IsReady (settings : Settings) (account : List ℕ) (items : List Item) (now : ℕ) (maildir : Maildir) (file : Stored) (ready : Ready) (after : List Row) (maildir' : Maildir) (file' : Stored) : Type 0 where
-  pub was : List Row
+  pub was : Held
   pub stood : Keeps file.content was
   pub held : ready.held.items ≡ flags_of account maildir items
-  pub rows : after ≡ merged was items (flags_of account maildir items) now
+  pub rows : after ≡ merged was.rows items (flags_of account maildir items) now
   pub steps : ready.steps.items ≡ planned settings after items now
-  pub saved : Steady file'.content after
+  pub saved : Steady file'.content (none_open after)
   pub file_count : file'.failures ≡ file.failures
   pub maildir_is : maildir' ≡ maildir
 
@@ -118,7 +127,7 @@ UnreadyCause _ maildir file maildir' file' = ⊥
 -- the file is as it was, or stands for the merged record
 abbrev pub IsMergedAtMost : List ℕ → List Item → ℕ → Maildir → Stored → Stored → Type 0
 IsMergedAtMost account items now maildir file file' = (file'.content ≡ file.content)
-    ⊎ ((was : List Row) × Keeps file.content was × (Keeps file'.content was ⊎ Keeps file'.content (merged was items (flags_of account maildir items) now)))
+    ⊎ ((was : Held) × Keeps file.content was × (Keeps file'.content was ⊎ Keeps file'.content (none_open (merged was.rows items (flags_of account maildir items) now))))
 
 pub record Unready (account : List ℕ) (items : List Item) (now : ℕ) (maildir : Maildir) (file : Stored) (fault : Fault) (maildir' : Maildir) (file' : Stored) : Type 0 where
   pub cause : UnreadyCause fault maildir file maildir' file'

@@ -2,7 +2,7 @@
 use Rattle.std.specs.Prelude.{◌≡◌, ◌⊎◌, ◌≤◌, ℕ, List, [], ◌∷◌, ◌++◌, None, Some, Result, Ok, Err}
 use Rattle.pop3_wire.specs.Place.{Place}
 use Rattle.std.specs.List.{AllByRecursion}
-use Rattle.fetch_rules.specs.Record.{Row, marked, marked_all}
+use Rattle.fetch_rules.specs.Record.{Row, none_open, marked, marked_all}
 use Rattle.mail_store.specs.Maildir.{Maildir}
 use Rattle.mail_store.specs.FlatFile.{Stored}
 use Rattle.pop3_client.specs.declared.fault.Fault.{Fault as TalkFault}
@@ -37,7 +37,7 @@ pub record Went (account : List ℕ) (dones : List Done) (old new : Scene) : Typ
   pub each : AllByRecursion IsAnswered dones
   pub stored : Gained old.maildir new.maildir (files_of account dones)
   pub rows : new.rows ≡ marked_all old.rows (ids_of dones)
-  pub saved : Steady old.file.content old.rows → Steady new.file.content new.rows
+  pub saved : Steady old.file.content (none_open old.rows) → Steady new.file.content (none_open new.rows)
   pub file_count : old.file.failures ≤ new.file.failures
   pub lines : new.lines ≡ old.lines ++ lines_of dones
 
@@ -78,7 +78,7 @@ pub record NotSaved (account : List ℕ) (next : Task) (old new : Scene) (cut : 
   pub is : next ≡ stores number uid
   pub talked : Talked (retr number ∷ []) (reply ∷ []) old.place new.place
   pub stored : Gained old.maildir new.maildir (file_from account uid reply ∷ [])
-  pub saves : Saves old.file old.rows (marked old.rows uid) (Err cut.fault) new.file
+  pub saves : Saves old.file (none_open old.rows) (none_open (marked old.rows uid)) (Err cut.fault) new.file
   pub lines : new.lines ≡ old.lines ++ delivered number reply ∷ []
 
 -- a task was begun, and not brought to its end

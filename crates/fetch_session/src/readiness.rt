@@ -1,9 +1,9 @@
 //! What a session knows before its plan is carried out: the record, and what the Maildir holds.
-ghost use Rattle.std.specs.Prelude.{◌≡◌, ◌≢◌, ℕ, List, [], false, length, OnOk, IfOk};
-ghost use Rattle.fetch_rules.specs.Record.{merged};
+ghost use Rattle.std.specs.Prelude.{◌≡◌, ◌≢◌, ℕ, List, [], false, None, length, OnOk, IfOk};
+ghost use Rattle.fetch_rules.specs.Record.{none_open, merged};
 ghost use Rattle.fetch_rules.specs.Plan.{planned};
 ghost use Rattle.mail_store.specs.Held.{flags_of};
-ghost use Rattle.fetch_session.specs.Record.{Gets, Reads, ReadAs, Merges, Readies, IsLineFault, FindsHeld, Steady, bytes_in};
+ghost use Rattle.fetch_session.specs.Record.{Gets, Reads, ReadAs, Merges, Readies, IsLineFault, FindsHeld, Steady, bytes_in, held_in};
 
 use crate::fault::{Fault, Why};
 use crate::record::{grow, save};
@@ -85,8 +85,9 @@ fn ask_held<D: MaildirDisk>(
     }
 }
 
-/// Takes in a listing and what is held of it, and saves what that changed: the whole record where
-/// the file is missing, empty or torn, else what is appended.
+/// Takes in a listing and what is held of it, and saves what that changed: the whole record if the
+/// file is missing, empty or must be written anew, else what is appended. An open intent is ended: it
+/// is of an mboxrd, and of that nothing is asked here.
 fn take_in<F: FlatFile, H: BuildHasher>(
     file: &mut F,
     seen: &mut Seen<H>,
@@ -99,9 +100,11 @@ fn take_in<F: FlatFile, H: BuildHasher>(
     requires stands { F.sound file.old → ReadAs (F.stored file.old).content seen.old }
     requires begun { F.sound file.old → is_new ≡ false → bytes_in (F.stored file.old).content ≢ [] }
     ensures rows { OnOk result (seen.new.rows ≡ merged seen.old.rows listing.now held.now now) }
+    ensures closed { OnOk result (seen.new.intent ≡ None) }
     ensures merges { F.sound file.new → F.sound file.old
-        × Merges (F.stored file.old) seen.old.rows (merged seen.old.rows listing.now held.now now) result (F.stored file.new) }
+        × Merges (F.stored file.old) (held_in seen.old) (none_open (merged seen.old.rows listing.now held.now now)) result (F.stored file.new) }
 {
+    seen.close(false);
     let Ok(group) = seen.merge_rows(listing, held, now) else {
         return Err(Fault::NoMemory);
     };
@@ -131,7 +134,8 @@ pub fn prepare<D: MaildirDisk, F: FlatFile, H: BuildHasher>(
     ensures stays { D.sound disk.new → D.sound disk.old
         × ((D.maildir disk.new).begun ≡ (D.maildir disk.old).begun)
         × IfOk result (λ ready. ready.held.items ≡ flags_of account.now (D.maildir disk.new) listing.now) }
-    ensures steady { F.sound file.new → F.sound file.old × OnOk result (Steady (F.stored file.new).content seen.new.rows) }
+    ensures steady { F.sound file.new → F.sound file.old × OnOk result (Steady (F.stored file.new).content (none_open seen.new.rows)) }
+    ensures closed { OnOk result (seen.new.intent ≡ None) }
     ensures readies { D.sound disk.new → F.sound file.new → D.sound disk.old × F.sound file.old
         × Readies settings.now account.now listing.now now (D.maildir disk.old) (F.stored file.old) result seen.new.rows (D.maildir disk.new) (F.stored file.new) }
 {

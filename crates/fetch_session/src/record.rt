@@ -1,21 +1,22 @@
 //! The record and its file.
-ghost use Rattle.std.specs.Prelude.{◌≡◌, ◌≢◌, List, [], false, OnOk};
-ghost use Rattle.fetch_rules.specs.Record.{Row, marked};
-ghost use Rattle.fetch_rules.specs.RecordFile.{file_of};
+ghost use Rattle.std.specs.Prelude.{◌≡◌, ◌≢◌, [], false, None, OnOk};
+ghost use Rattle.fetch_rules.specs.Record.{Held, none_open, marked};
+ghost use Rattle.fetch_rules.specs.RecordFile.{Two, file_of};
 ghost use Rattle.fetch_rules.specs.RecordMeaning.{Means, Rows};
-ghost use Rattle.fetch_rules.specs.RecordGrowth.{Updates};
-ghost use Rattle.fetch_session.specs.Record.{Writes, Saves, Steady, bytes_in};
+ghost use Rattle.fetch_rules.specs.RecordGrowth.{Grows};
+ghost use Rattle.fetch_session.specs.Record.{Writes, Saves, Steady, bytes_in, held_in};
 
 use crate::fault::Fault;
 use fetch_rules::{Seen, appended_counts, bytes_stand, cut_is_ignored};
 use mail_store::FlatFile;
 use std::hash::BuildHasher;
 
-/// Makes the whole record the file's.
+/// Makes the whole record the file's. No intent is open.
 pub(crate) fn save<F: FlatFile, H: BuildHasher>(file: &mut F, seen: &Seen<H>) -> Result<(), Fault>
-    ensures stands { Means (file_of seen.now.rows) (Rows seen.now.rows false) }
+    requires closed { seen.now.intent ≡ None }
+    ensures stands { Means (file_of seen.now.rows seen.now.intent) (Rows Two seen.now.rows seen.now.intent false) }
     ensures saves { F.sound file.new → F.sound file.old
-        × Writes (F.stored file.old) seen.now.rows result (F.stored file.new) }
+        × Writes (F.stored file.old) (held_in seen.now) result (F.stored file.new) }
 {
     bytes_stand();
     let Ok(bytes) = seen.bytes() else {
@@ -27,11 +28,11 @@ pub(crate) fn save<F: FlatFile, H: BuildHasher>(file: &mut F, seen: &Seen<H>) ->
     }
 }
 
-/// Appends to the file what made other rows of the record's, where there is anything.
+/// Appends to the file what made another record of it, if there is anything.
 pub(crate) fn grow<F: FlatFile>(file: &mut F, group: &[u8]) -> Result<(), Fault>
     requires begun { F.sound file.old → group.now ≢ [] → bytes_in (F.stored file.old).content ≢ [] }
     ensures saves { F.sound file.new → F.sound file.old
-        × ((was rows : List Row) → Updates was group.now rows → Saves (F.stored file.old) was rows result (F.stored file.new)) }
+        × ((was now : Held) → Grows was.rows was.intent group.now now.rows now.intent → Saves (F.stored file.old) was now result (F.stored file.new)) }
 {
     appended_counts();
     cut_is_ignored();
@@ -50,11 +51,13 @@ pub(crate) fn remember<F: FlatFile, H: BuildHasher>(
     seen: &mut Seen<H>,
     uid: &[u8],
 ) -> Result<(), Fault>
-    requires steady { F.sound file.old → Steady (F.stored file.old).content seen.old.rows }
+    requires steady { F.sound file.old → Steady (F.stored file.old).content (none_open seen.old.rows) }
+    requires closed { seen.old.intent ≡ None }
     ensures rows { OnOk result (seen.new.rows ≡ marked seen.old.rows uid.now) }
-    ensures steady { F.sound file.new → F.sound file.old × OnOk result (Steady (F.stored file.new).content seen.new.rows) }
+    ensures steady { F.sound file.new → F.sound file.old × OnOk result (Steady (F.stored file.new).content (none_open seen.new.rows)) }
+    ensures closed { OnOk result (seen.new.intent ≡ None) }
     ensures saves { F.sound file.new → F.sound file.old
-        × Saves (F.stored file.old) seen.old.rows (marked seen.old.rows uid.now) result (F.stored file.new) }
+        × Saves (F.stored file.old) (none_open seen.old.rows) (none_open (marked seen.old.rows uid.now)) result (F.stored file.new) }
 {
     let Ok(group) = seen.mark_rows(uid) else {
         return Err(Fault::NoMemory);

@@ -5,7 +5,7 @@ ghost use Rattle.pop3_wire.specs.Place.{at};
 ghost use Rattle.pop3_client.specs.Turns.{most, retr, dele};
 ghost use Rattle.mail_terms.specs.UniqueId.{IsLegalId};
 ghost use Rattle.mail_store.specs.FileName.{is_held, name_of, IsAccountText};
-ghost use Rattle.fetch_rules.specs.Record.{Row};
+ghost use Rattle.fetch_rules.specs.Record.{Row, none_open};
 ghost use Rattle.mail_store.specs.Maildir.{Maildir};
 ghost use Rattle.mail_store.specs.FlatFile.{Stored};
 ghost use Rattle.fetch_session.specs.Store.{Grows, GrowsBy};
@@ -46,12 +46,14 @@ pub fn take<W: Wire, D: MaildirDisk, F: FlatFile, H: BuildHasher>(
     requires digits { IsAccountText account.now }
     requires legal { IsLegalId uid.now }
     requires room { HasRoom lines.old 1 }
-    requires steady { F.sound file.old → Steady (F.stored file.old).content seen.old.rows }
+    requires steady { F.sound file.old → Steady (F.stored file.old).content (none_open seen.old.rows) }
+    requires closed { seen.old.intent ≡ None }
     requires calm { D.sound disk.old → (D.maildir disk.old).begun ≡ None }
     requires free { D.sound disk.old → is_held account.now (D.maildir disk.old) uid.now ≡ false }
     ensures counted { RefusesTillCut (W.seen wire.old) result (W.seen wire.new) }
     ensures few { Adds lines.old 1 lines.new }
-    ensures steady { F.sound file.new → F.sound file.old × OnOk result (Steady (F.stored file.new).content seen.new.rows) }
+    ensures steady { F.sound file.new → F.sound file.old × OnOk result (Steady (F.stored file.new).content (none_open seen.new.rows)) }
+    ensures closed { OnOk result (seen.new.intent ≡ None) }
     ensures grows { D.sound disk.new → D.sound disk.old
         × Grows (name_of account.now uid.now) (D.maildir disk.old) (D.maildir disk.new) }
     ensures takes { WhereAllSound W.sound W.leads_to D.sound F.sound wire.old wire.new disk.old disk.new file.old file.new
@@ -166,12 +168,14 @@ fn fetch_if<W: Wire, D: MaildirDisk, F: FlatFile, H: BuildHasher>(
     requires digits { IsAccountText account.now }
     requires legal { IsLegalId uid.now }
     requires room { HasRoom lines.old 1 }
-    requires steady { F.sound file.old → Steady (F.stored file.old).content seen.old.rows }
+    requires steady { F.sound file.old → Steady (F.stored file.old).content (none_open seen.old.rows) }
+    requires closed { seen.old.intent ≡ None }
     requires calm { D.sound disk.old → (D.maildir disk.old).begun ≡ None }
     requires free { D.sound disk.old → AreFresh account.now (D.maildir disk.old) (ids_ahead (fetching step.retrieve held step.number uid.now size)) }
     ensures counted { RefusesTillCut (W.seen wire.old) result (W.seen wire.new) }
     ensures few { Adds lines.old 1 lines.new }
-    ensures steady { F.sound file.new → F.sound file.old × OnOk result (Steady (F.stored file.new).content seen.new.rows) }
+    ensures steady { F.sound file.new → F.sound file.old × OnOk result (Steady (F.stored file.new).content (none_open seen.new.rows)) }
+    ensures closed { OnOk result (seen.new.intent ≡ None) }
     ensures grows { D.sound disk.new → D.sound disk.old
         × GrowsBy account.now (ids_ahead (fetching step.retrieve held step.number uid.now size)) (D.maildir disk.old) (D.maildir disk.new) }
     ensures does { WhereAllSound W.sound W.leads_to D.sound F.sound wire.old wire.new disk.old disk.new file.old file.new
@@ -212,12 +216,14 @@ fn do_step<W: Wire, D: MaildirDisk, F: FlatFile, H: BuildHasher>(
     requires digits { IsAccountText account.now }
     requires legal { IsLegalId uid.now }
     requires room { HasRoom lines.old 2 }
-    requires steady { F.sound file.old → Steady (F.stored file.old).content seen.old.rows }
+    requires steady { F.sound file.old → Steady (F.stored file.old).content (none_open seen.old.rows) }
+    requires closed { seen.old.intent ≡ None }
     requires calm { D.sound disk.old → (D.maildir disk.old).begun ≡ None }
     requires free { D.sound disk.old → AreFresh account.now (D.maildir disk.old) (ids_ahead (fetching step.retrieve held step.number uid.now size)) }
     ensures counted { RefusesTillCut (W.seen wire.old) result (W.seen wire.new) }
     ensures few { Adds lines.old 2 lines.new }
-    ensures steady { F.sound file.new → F.sound file.old × OnOk result (Steady (F.stored file.new).content seen.new.rows) }
+    ensures steady { F.sound file.new → F.sound file.old × OnOk result (Steady (F.stored file.new).content (none_open seen.new.rows)) }
+    ensures closed { OnOk result (seen.new.intent ≡ None) }
     ensures grows { D.sound disk.new → D.sound disk.old
         × GrowsBy account.now (ids_ahead (fetching step.retrieve held step.number uid.now size)) (D.maildir disk.old) (D.maildir disk.new) }
     ensures does { WhereAllSound W.sound W.leads_to D.sound F.sound wire.old wire.new disk.old disk.new file.old file.new
@@ -253,7 +259,8 @@ pub fn do_steps<W: Wire, D: MaildirDisk, F: FlatFile, H: BuildHasher>(
     requires room { HasRoom lines.old (2 * length listing.now) }
     requires all_steps { length steps.now ≡ length listing.now }
     requires all_flags { length held.now ≡ length listing.now }
-    requires steady { F.sound file.old → Steady (F.stored file.old).content seen.old.rows }
+    requires steady { F.sound file.old → Steady (F.stored file.old).content (none_open seen.old.rows) }
+    requires closed { seen.old.intent ≡ None }
     requires calm { D.sound disk.old → (D.maildir disk.old).begun ≡ None }
     requires free { D.sound disk.old → AreFresh account.now (D.maildir disk.old) (ids_ahead (tasks_planned steps.now listing.now held.now)) }
     ensures counted { RefusesTillCut (W.seen wire.old) result (W.seen wire.new) }

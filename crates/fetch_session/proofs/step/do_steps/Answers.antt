@@ -62,6 +62,7 @@ loop-i-init g c = (
   λ w d f. (w, d, f, g.met.W.Wire.leads_same c.args.wire.now, leads_start _ _ _),
   λ w. (w, took_nothing _),
   refl,
+  c.requires.closed,
 )
 
 pub loop-i-preserved : goal.loop-i-preserved
@@ -107,6 +108,7 @@ loop-i-preserved g c =
           let new = at (g.W.Wire.seen c.do_step.new.wire) c.do_step.new.reader in
           (inv.0, took_less (i * 268439552 + 268439552) ((i + 1) * 268439552) old new (omega arith) (took_on (i * 268439552) 268439552 old (at (g.W.Wire.seen c.loop-i.wire) c.loop-i.reader) new inv.1 done.1)),
       c.in_default.ensures.counted ∙ c.loop-i.invariant.5,
+      c.in_default.ensures.closed,
     )
 
 pub returns-clause-does : goal.returns-clause-does

@@ -1,5 +1,6 @@
 use Rattle.std.proofs.Common.{◌≡◌, ◌*◌, drop, None}
 use Rattle.pop3_wire.specs.Place.{at}
+use Rattle.fetch_rules.specs.Record.{none_open}
 use Rattle.fetch_session.specs.Task.{tasks_planned, ids_ahead, AreFresh}
 use Rattle.fetch_session.specs.Record.{Steady}
 use Rattle.fetch_session.specs.Report.{Adds}
@@ -11,7 +12,7 @@ use Rattle.fetch_session.proofs.step.do_steps.Given as goal
 abbrev pub invariant-loop-i : goal.invariant-loop-i
 invariant-loop-i g l =
     Adds l.fn.lines (2 * l.i) l.lines
-    × (g.F.FlatFile.sound l.file → g.F.FlatFile.sound l.fn.file × Steady (g.F.FlatFile.stored l.file).content l.seen.rows)
+    × (g.F.FlatFile.sound l.file → g.F.FlatFile.sound l.fn.file × Steady (g.F.FlatFile.stored l.file).content (none_open l.seen.rows))
     × (g.D.MaildirDisk.sound l.disk
     → g.D.MaildirDisk.sound l.fn.disk × ((g.D.MaildirDisk.maildir l.disk).begun ≡ None)
     × AreFresh l.fn.account (g.D.MaildirDisk.maildir l.disk) (ids_ahead (tasks_planned (drop l.i l.fn.steps) (drop l.i l.fn.listing) (drop l.i l.fn.held))))
@@ -23,3 +24,4 @@ invariant-loop-i g l =
     (scene (at (g.W.Wire.seen l.wire) l.reader) (g.D.MaildirDisk.maildir l.disk) (g.F.FlatFile.stored l.file) l.seen.rows l.lines.items))
     × (g.W.Wire.sound l.wire → g.W.Wire.sound l.fn.wire × Took (l.i * 268439552) (at (g.W.Wire.seen l.fn.wire) l.fn.reader) (at (g.W.Wire.seen l.wire) l.reader))
     × ((g.W.Wire.seen l.wire).failures ≡ (g.W.Wire.seen l.fn.wire).failures)
+    × (l.seen.intent ≡ None)
