@@ -30,7 +30,7 @@ use Rattle.fetch_session.specs.declared.report.ReportLine.{ReportLine}
 use Rattle.fetch_session.specs.Laws.{TurnsJoin}
 use Rattle.fetch_session.specs.Report.{retrieved_in}
 use Rattle.fetch_session.specs.Task.{Task, deletes}
-use Rattle.fetch_session.specs.Record.{Keeps}
+use Rattle.fetch_session.specs.Record.{KeepsRows}
 use Rattle.fetch_session.specs.Session.{Kept, outcome_of}
 use Rattle.fetch_runs.specs.Steps.{holds, AsksForNoMessage, IsStep, SessionIsAStep}
 use Rattle.fetch_runs.proofs.Courses.{Way, Idle, Deals, way_of, begun_of, found_of, IsOfTask}
@@ -126,7 +126,7 @@ unsaved_is (Err cut) outcome is (inl fault) = inl (is ∙ ap WasCut fault)
 unsaved_is (Err cut) outcome is (inr fault) = inr (is ∙ ap WasCut fault)
 
 module _ (stores : ToldStores) (settings : Settings) (account : List ℕ) (now : ℕ) (link : Link) (before : Kept) (rows : List Row) (report : Report) (link' : Link) (after : Kept) (result : Result (Unit {0}) Cut)
-    (outcome_is : report.outcome ≡ outcome_of result) (lines : List ReportLine) (counts : report.retrieved ≡ retrieved_in lines) (keeps : Keeps before.file.content rows) where
+    (outcome_is : report.outcome ≡ outcome_of result) (lines : List ReportLine) (counts : report.retrieved ≡ retrieved_in lines) (keeps : KeepsRows before.file.content rows) where
   joined : (way : Way) → WayLeads settings account now result way rows before after lines → Gained way link link' → IsStep settings account now link before rows report link' after
   joined Idle left said = record {
     sent = said.sent;
@@ -137,7 +137,7 @@ module _ (stores : ToldStores) (settings : Settings) (account : List ℕ) (now :
     got_is = said.got_is;
     now_is = refl;
     ended_is = subst (λ (e : Bool). (e ≡ true) ↔ (report.outcome ≡ Ended)) left.0 (ended_if result report.outcome outcome_is);
-    keeps = subst (λ (k : Kept). Keeps k.file.content rows) (sym left.1) keeps;
+    keeps = subst (λ (k : Kept). KeepsRows k.file.content rows) (sym left.1) keeps;
     left = inl (unchanged, counts ∙ ap retrieved_in left.2);
     stepped = record {
       commands = said.tells.0;

@@ -16,7 +16,7 @@ use Rattle.mail_store.specs.Maildir.{Maildir}
 use Rattle.fetch_rules.specs.Record.{Row, merged}
 use Rattle.fetch_rules.specs.Wanted.{candidates}
 use Rattle.fetch_session.specs.Account.{digits_of}
-use Rattle.fetch_session.specs.Record.{Keeps}
+use Rattle.fetch_session.specs.Record.{KeepsRows}
 use Rattle.mail_terms.specs.UniqueId.{has_id}
 use Rattle.run_law.specs.Mails.{item_of, listing_of, is_selected}
 use Rattle.run_law.specs.Accounts.{Moves, KeepsOthers}
@@ -69,7 +69,7 @@ held_in account maildir (x ∷ ids) id all is = elim (or_cases (bytes_eq id x) (
   | inr more ↦ held_in account maildir ids id all.1 more
 ]
 
-module _ (laws : Laws) (world : World) (state : State) (occasion : Occasion) (sound : IsSound world) (rows : List Row) (keeps : Keeps state.kept.file.content rows)
+module _ (laws : Laws) (world : World) (state : State) (occasion : Occasion) (sound : IsSound world) (rows : List Row) (keeps : KeepsRows state.kept.file.content rows)
     (is_kept : Kept (frame_of world) (situation rows state)) (is : IsSession world state occasion) where
   abbrev drop : List Message
   drop = maildrop_at world state occasion

@@ -13,7 +13,7 @@ use Rattle.mail_store.specs.Held.{flags_of}
 use Rattle.pop3_wire.specs.Reading.{WholeReply}
 use Rattle.fetch_session.specs.Laws.{SteadyFilesKeep, UnsavedFilesKeep}
 use Rattle.fetch_session.specs.Task.{Task, Done, IsAnswered, tasks_of, ids_of, ids_ahead, files_of}
-use Rattle.fetch_session.specs.Record.{Keeps}
+use Rattle.fetch_session.specs.Record.{KeepsRows}
 use Rattle.fetch_session.specs.Plan.{tasks_ahead}
 use Rattle.fetch_session.specs.Report.{retrieved_in}
 use Rattle.fetch_session.specs.declared.report.ReportLine.{ReportLine}
@@ -53,7 +53,7 @@ effect_of now ended course = record {
 -- the account that a session left, and what it found
 pub record Leads (settings : Settings) (account : List ℕ) (now : ℕ) (ended : Bool) (course : Course) (rows : List Row) (maildir maildir' : Maildir) (content' : Option (List ℕ)) (lines : List ReportLine) (refused unsaved : Type 0) : Type 0 where
   pub rows' : List Row
-  pub keeps : Keeps content' rows'
+  pub keeps : KeepsRows content' rows'
   pub told : Told settings account (holds rows maildir) (effect_of now ended course) (holds rows' maildir')
   pub numbers : map number_found (found_of course) ≡ map number_of (take (length (found_of course)) (wanted_at settings account (holds rows maildir) (effect_of now ended course)))
   pub right : AllByRecursion (IsRight account maildir course.items) (begun_of course)
@@ -133,7 +133,7 @@ module _ (laws : Laws) (settings : Settings) (account : List ℕ) (items : List 
   pub lead : (ended : Bool) (taken : List Done) (spare : List WholeReply) (under : List Task) (full noted : List Done) (maildir' : Maildir) (content' : Option (List ℕ)) (k : ℕ)
       → found_of (course items taken spare under) ≡ found_by full → Part tasks full → Part tasks noted
       → (k ≡ length (found_by full)) ⊎ (k + 1 ≡ length (found_by full)) → (length (found_by noted) ≡ k) ⊎ (length (found_by noted) + 1 ≡ k)
-      → maildir'.in_new ≡ maildir.in_new ++ files_of account full → maildir'.in_cur ≡ maildir.in_cur → Keeps content' (marked_all all_rows (ids_of noted))
+      → maildir'.in_new ≡ maildir.in_new ++ files_of account full → maildir'.in_cur ≡ maildir.in_cur → KeepsRows content' (marked_all all_rows (ids_of noted))
       → AllByRecursion (IsRecorded noted) (deleted_by items (tasks_of taken ++ under)) → (more : List Task) → tasks ≡ (tasks_of taken ++ under) ++ more → (ended ≡ true → k ≡ length messages)
       → (lines : List ReportLine) (refused unsaved : Type 0) → retrieved_in lines ≡ k → (k + 1 ≡ length (found_by full) → refused) → (length (found_by noted) + 1 ≡ k → unsaved)
       → Leads settings account now ended (course items taken spare under) rows maildir maildir' content' lines refused unsaved
@@ -170,7 +170,7 @@ module _ (laws : Laws) (settings : Settings) (account : List ℕ) (items : List 
       same_count = ap (λ (l : List (ℕ × List ℕ)). length l) (sym found) ∙ sym (length-map (found_of (course items taken spare under)) text_found)
 
   -- nothing was retrieved, and the record is as it was
-  pub lead_nothing : (maildir' : Maildir) (content' : Option (List ℕ)) → maildir'.in_new ≡ maildir.in_new → maildir'.in_cur ≡ maildir.in_cur → Keeps content' rows
+  pub lead_nothing : (maildir' : Maildir) (content' : Option (List ℕ)) → maildir'.in_new ≡ maildir.in_new → maildir'.in_cur ≡ maildir.in_cur → KeepsRows content' rows
       → (lines : List ReportLine) (refused unsaved : Type 0) → retrieved_in lines ≡ 0
       → Leads settings account now false (course items [] [] []) rows maildir maildir' content' lines refused unsaved
   lead_nothing maildir' content' in_new in_cur keeps lines refused unsaved counts = record {

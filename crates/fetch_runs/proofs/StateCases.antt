@@ -1,12 +1,12 @@
 -- What each way that a session can take leaves of its account.
-use Rattle.std.proofs.Common.{arith, ◌+◌, ◌≡◌, ◌⊎◌, inl, inr, ◌+◌, ℕ, Bool, true, false, List, [], ◌∷◌, ◌++◌, length, Result, Ok, Err, refl, sym, ap, subst, ◌∙◌, append_assoc, length-append}
+use Rattle.std.proofs.Common.{arith, ◌+◌, ◌≡◌, ◌⊎◌, inl, inr, ◌+◌, ℕ, Bool, true, false, List, [], ◌∷◌, ◌++◌, length, Option, None, Result, Ok, Err, refl, sym, ap, subst, ◌∙◌, append_assoc, length-append}
 use Rattle.std.specs.List.{AllByRecursion, AllZip}
 use Rattle.std.proofs.lemmas.Bool.{true≢false}
 use Rattle.std.proofs.lemmas.List.{append-nil, map-append}
 use Rattle.std.proofs.lemmas.List.Concat.{flat_map-append}
 use Rattle.mail_terms.specs.Listing.{Item}
 use Rattle.rc_file.specs.declared.settings.Settings.{Settings}
-use Rattle.fetch_rules.specs.Record.{Row, is_delivered, merged, marked, marked_all}
+use Rattle.fetch_rules.specs.Record.{Row, Held, none_open, is_delivered, merged, marked, marked_all}
 use Rattle.mail_store.specs.Maildir.{Maildir, File, file}
 use Rattle.mail_store.specs.FlatFile.{Stored}
 use Rattle.mail_store.specs.FileName.{name_of}
@@ -17,7 +17,7 @@ use Rattle.pop3_client.specs.Texts.{body_text}
 use Rattle.fetch_session.specs.declared.fault.Cut.{Cut}
 use Rattle.fetch_session.specs.Task.{Task, says, skips, rereads, deletes, Done, IsAnswered, stores, task_in, tasks_of, ids_in, ids_of, ids_ahead, files_in, files_of, file_from, lines_in, lines_of, delivered}
 use Rattle.fetch_session.specs.Store.{RefusesText, Gained}
-use Rattle.fetch_session.specs.Record.{Keeps, Steady, Saves}
+use Rattle.fetch_session.specs.Record.{Keeps, KeepsRows, Steady, Saves}
 use Rattle.fetch_session.specs.Scene.{Scene, Went, AllWent, Fell, Broken, NotStored, Stops, Does}
 use Rattle.fetch_session.specs.Plan.{tasks_ahead}
 use Rattle.fetch_runs.proofs.Courses.{course, stored_done, spare_in, spare_of, course_stopped, course_does, found_in, found_by, found_of}
@@ -55,24 +55,28 @@ abbrev pub UnsavedIn : Result (Unit {0}) Cut → Type 0
 UnsavedIn (Ok done) = ⊥
 UnsavedIn (Err cut) = (cut.fault ≡ SeenRefused) ⊎ (cut.fault ≡ NoMemory)
 
-unsaved_why : (old : Stored) (was rows : List Row) (fault : Fault) (new : Stored) → Saves old was rows (Err fault) new → (fault ≡ SeenRefused) ⊎ (fault ≡ NoMemory)
-unsaved_why old was rows SeenRefused new is = inl refl
-unsaved_why old was rows NoMemory new is = inr refl
-unsaved_why old was rows ConnectionEnded new never = absurd never
-unsaved_why old was rows ReadFailed new never = absurd never
-unsaved_why old was rows WriteFailed new never = absurd never
-unsaved_why old was rows ReplyTooLong new never = absurd never
-unsaved_why old was rows BadReply new never = absurd never
-unsaved_why old was rows (Refused to) new never = absurd never
-unsaved_why old was rows BadListing new never = absurd never
-unsaved_why old was rows ListingsDisagree new never = absurd never
-unsaved_why old was rows TooMany new never = absurd never
-unsaved_why old was rows TextTooLong new never = absurd never
-unsaved_why old was rows (StoreRefused why) new never = absurd never
-unsaved_why old was rows (BadSeen line) new never = absurd never
+-- a file that stands for rows with no open intent stands for these rows
+none_is_open : (content : Option (List ℕ)) (rows : List Row) → Keeps content (none_open rows) → KeepsRows content rows
+none_is_open content rows is = (None, is)
+
+unsaved_why : (old : Stored) (was now : Held) (fault : Fault) (new : Stored) → Saves old was now (Err fault) new → (fault ≡ SeenRefused) ⊎ (fault ≡ NoMemory)
+unsaved_why old was now SeenRefused new is = inl refl
+unsaved_why old was now NoMemory new is = inr refl
+unsaved_why old was now ConnectionEnded new never = absurd never
+unsaved_why old was now ReadFailed new never = absurd never
+unsaved_why old was now WriteFailed new never = absurd never
+unsaved_why old was now ReplyTooLong new never = absurd never
+unsaved_why old was now BadReply new never = absurd never
+unsaved_why old was now (Refused to) new never = absurd never
+unsaved_why old was now BadListing new never = absurd never
+unsaved_why old was now ListingsDisagree new never = absurd never
+unsaved_why old was now TooMany new never = absurd never
+unsaved_why old was now TextTooLong new never = absurd never
+unsaved_why old was now (StoreRefused why) new never = absurd never
+unsaved_why old was now (BadSeen line) new never = absurd never
 
 module _ (laws : Laws) (settings : Settings) (account : List ℕ) (items : List Item) (now : ℕ) (maildir : Maildir) (rows : List Row) (old : Scene)
-    (same_maildir : old.maildir ≡ maildir) (same_rows : old.rows ≡ merged rows items (flags_of account maildir items) now) (same_lines : old.lines ≡ []) (steady : Steady old.file.content old.rows) where
+    (same_maildir : old.maildir ≡ maildir) (same_rows : old.rows ≡ merged rows items (flags_of account maildir items) now) (same_lines : old.lines ≡ []) (steady : Steady old.file.content (none_open old.rows)) where
   abbrev all_rows : List Row
   all_rows = merged rows items (flags_of account maildir items) now
 
@@ -92,8 +96,8 @@ module _ (laws : Laws) (settings : Settings) (account : List ℕ) (items : List 
   mid_rows : (dones : List Done) (mid : Scene) → Went account dones old mid → mid.rows ≡ marked_all all_rows (ids_of dones)
   mid_rows dones mid went = went.rows ∙ ap (λ (r : List Row). marked_all r (ids_of dones)) same_rows
 
-  mid_keeps : (dones : List Done) (mid : Scene) → Went account dones old mid → Keeps mid.file.content (marked_all all_rows (ids_of dones))
-  mid_keeps dones mid went = subst (λ (r : List Row). Keeps mid.file.content r) (mid_rows dones mid went) (laws.steady mid.file.content mid.rows (went.saved steady))
+  mid_keeps : (dones : List Done) (mid : Scene) → Went account dones old mid → KeepsRows mid.file.content (marked_all all_rows (ids_of dones))
+  mid_keeps dones mid went = subst (λ (r : List Row). KeepsRows mid.file.content r) (mid_rows dones mid went) (none_is_open mid.file.content mid.rows (laws.steady mid.file.content (none_open mid.rows) (went.saved steady)))
 
   mid_count : (dones : List Done) (mid : Scene) → Went account dones old mid → retrieved_in mid.lines ≡ length (found_by dones)
   mid_count dones mid went = ap retrieved_in (went.lines ∙ ap (λ (l : List ReportLine). l ++ lines_of dones) same_lines) ∙ counted_by dones went.each
@@ -146,7 +150,7 @@ module _ (laws : Laws) (settings : Settings) (account : List ℕ) (items : List 
         lead laws settings account items now maildir rows false fell.dones [] (fell.next ∷ []) fell.dones fell.dones new.maildir new.file.content (length (found_by fell.dones))
         (found_under items fell.dones fell.next) dones_part dones_part (inl refl) (inl refl)
         (in_new ∙ new_files fell.dones fell.mid fell.went) (in_cur ∙ cur_files fell.dones fell.mid fell.went)
-        (subst (λ (s : Stored). Keeps s.content (marked_all all_rows (ids_of fell.dones))) (sym file) (mid_keeps fell.dones fell.mid fell.went))
+        (subst (λ (s : Stored). KeepsRows s.content (marked_all all_rows (ids_of fell.dones))) (sym file) (mid_keeps fell.dones fell.mid fell.went))
         (begun_next fell.dones dones_recorded) fell.later next_front not_ended
         new.lines (RefusedIn (Err cut)) (UnsavedIn (Err cut)) (ap retrieved_in told ∙ mid_count fell.dones fell.mid fell.went) (λ is. absurd (omega (arith, is))) (λ is. absurd (omega (arith, is)))
 
@@ -194,7 +198,7 @@ module _ (laws : Laws) (settings : Settings) (account : List ℕ) (items : List 
           (length (found_by fell.dones))
           (ap (λ (t : Task). found_by fell.dones ++ (found_in t (reply ∷ []) ++ [])) is ∙ sym full_found) full_part dones_part (inr one_more) (inl refl)
           (full_files in_new) (in_cur ∙ cur_files fell.dones fell.mid fell.went)
-          (subst (λ (s : Stored). Keeps s.content (marked_all all_rows (ids_of fell.dones))) (sym file) (mid_keeps fell.dones fell.mid fell.went))
+          (subst (λ (s : Stored). KeepsRows s.content (marked_all all_rows (ids_of fell.dones))) (sym file) (mid_keeps fell.dones fell.mid fell.went))
           (begun_next fell.dones dones_recorded) fell.later next_front not_ended
           new.lines (RefusedIn (Err cut)) (UnsavedIn (Err cut)) (ap retrieved_in told ∙ mid_count fell.dones fell.mid fell.went) (λ is. refuses) (λ is. absurd (omega (arith, is)))
 
@@ -202,7 +206,7 @@ module _ (laws : Laws) (settings : Settings) (account : List ℕ) (items : List 
       unsaved_leads : (noted : List Done) → Part (tasks_ahead settings account items now maildir (merged rows items (flags_of account maildir items) now)) noted
           → (length (found_by noted) ≡ length (found_by (fell.dones ++ stored_done number uid reply ∷ []))) ⊎ (length (found_by noted) + 1 ≡ length (found_by (fell.dones ++ stored_done number uid reply ∷ [])))
           → new.maildir.in_new ≡ fell.mid.maildir.in_new ++ file_from account uid reply ∷ [] → new.maildir.in_cur ≡ fell.mid.maildir.in_cur
-          → Keeps new.file.content (marked_all all_rows (ids_of noted)) → AllByRecursion (λ (id : List ℕ). is_delivered (marked_all all_rows (ids_of noted)) id ≡ true) (ids_ahead (tasks_of fell.dones))
+          → KeepsRows new.file.content (marked_all all_rows (ids_of noted)) → AllByRecursion (λ (id : List ℕ). is_delivered (marked_all all_rows (ids_of noted)) id ≡ true) (ids_ahead (tasks_of fell.dones))
           → new.lines ≡ fell.mid.lines ++ delivered number reply ∷ [] → (length (found_by noted) + 1 ≡ length (found_by (fell.dones ++ stored_done number uid reply ∷ [])) → UnsavedIn (Err cut))
           → Leads settings account now false (course items (fell.dones ++ stored_done number uid reply ∷ []) [] []) rows maildir new.maildir new.file.content new.lines (RefusedIn (Err cut)) (UnsavedIn (Err cut))
       unsaved_leads noted part marks in_new in_cur keeps recorded told less =
@@ -224,16 +228,16 @@ module _ (laws : Laws) (settings : Settings) (account : List ℕ) (items : List 
       last_mark r [] = refl
       last_mark r (id ∷ ids) = last_mark (marked r id) ids
 
-      not_saved_leads : Saves fell.mid.file fell.mid.rows (marked fell.mid.rows uid) (Err cut.fault) new.file → Gained fell.mid.maildir new.maildir (file_from account uid reply ∷ []) → new.lines ≡ fell.mid.lines ++ delivered number reply ∷ []
+      not_saved_leads : Saves fell.mid.file (none_open fell.mid.rows) (none_open (marked fell.mid.rows uid)) (Err cut.fault) new.file → Gained fell.mid.maildir new.maildir (file_from account uid reply ∷ []) → new.lines ≡ fell.mid.lines ++ delivered number reply ∷ []
           → Leads settings account now false (course items (fell.dones ++ stored_done number uid reply ∷ []) [] []) rows maildir new.maildir new.file.content new.lines (RefusedIn (Err cut)) (UnsavedIn (Err cut))
       not_saved_leads saves stored told =
-          elim (laws.unsaved fell.mid.file fell.mid.rows (marked fell.mid.rows uid) cut.fault new.file saves (fell.went.saved steady)) [
+          elim (laws.unsaved fell.mid.file (none_open fell.mid.rows) (none_open (marked fell.mid.rows uid)) cut.fault new.file saves (fell.went.saved steady)) [
             | inl was ↦ unsaved_leads fell.dones dones_part (inr one_more) stored.in_new stored.in_cur
-                (subst (λ (r : List Row). Keeps new.file.content r) (mid_rows fell.dones fell.mid fell.went) was) dones_recorded told
-                (λ is. unsaved_why fell.mid.file fell.mid.rows (marked fell.mid.rows uid) cut.fault new.file saves)
+                (subst (λ (r : List Row). KeepsRows new.file.content r) (mid_rows fell.dones fell.mid fell.went) (none_is_open new.file.content fell.mid.rows was)) dones_recorded told
+                (λ is. unsaved_why fell.mid.file (none_open fell.mid.rows) (none_open (marked fell.mid.rows uid)) cut.fault new.file saves)
             | inr more ↦ unsaved_leads (fell.dones ++ stored_done number uid reply ∷ []) full_part (inl refl) stored.in_new stored.in_cur
-                (subst (λ (r : List Row). Keeps new.file.content r)
-                (ap (λ (r : List Row). marked r uid) (mid_rows fell.dones fell.mid fell.went) ∙ last_mark all_rows (ids_of fell.dones) ∙ ap (λ (ids : List (List ℕ)). marked_all all_rows ids) (sym full_ids)) more)
+                (subst (λ (r : List Row). KeepsRows new.file.content r)
+                (ap (λ (r : List Row). marked r uid) (mid_rows fell.dones fell.mid fell.went) ∙ last_mark all_rows (ids_of fell.dones) ∙ ap (λ (ids : List (List ℕ)). marked_all all_rows ids) (sym full_ids)) (none_is_open new.file.content (marked fell.mid.rows uid) more))
                 (all_front (λ (id : List ℕ). is_delivered (marked_all all_rows (ids_of (fell.dones ++ stored_done number uid reply ∷ []))) id ≡ true) (ids_ahead (tasks_of fell.dones)) (ids_ahead (fell.next ∷ []))
                 (subst (λ (ids : List (List ℕ)). AllByRecursion (λ (id : List ℕ). is_delivered (marked_all all_rows (ids_of (fell.dones ++ stored_done number uid reply ∷ []))) id ≡ true) ids)
                 (ap ids_ahead full_tasks ∙ flat_map-append ids_in (tasks_of fell.dones) (fell.next ∷ []))

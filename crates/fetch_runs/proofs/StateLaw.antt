@@ -1,10 +1,11 @@
 -- What a session leaves of its account.
-use Rattle.std.proofs.Common.{◌≡◌, ◌⊎◌, inl, inr, ℕ, false, List, [], Option, Result, Ok, Err, refl, sym, ap, subst, ◌∙◌, arith}
+use Rattle.std.proofs.Common.{◌≡◌, ◌⊎◌, inl, inr, ℕ, false, List, [], Option, None, Result, Ok, Err, refl, sym, ap, subst, ◌∙◌, arith}
 use Rattle.std.proofs.lemmas.Bool.{true≢false}
 use Rattle.std.proofs.lemmas.List.{append-nil}
 use Rattle.mail_terms.specs.Listing.{Item}
 use Rattle.rc_file.specs.declared.settings.Settings.{Settings}
-use Rattle.fetch_rules.specs.Record.{Row, merged}
+use Rattle.fetch_rules.specs.Record.{Row, Held, merged}
+use Rattle.fetch_rules.specs.RecordMeaning.{FileStandsFor}
 use Rattle.mail_store.specs.Maildir.{Maildir, counted}
 use Rattle.mail_store.specs.FlatFile.{Stored}
 use Rattle.mail_store.specs.Held.{flags_of}
@@ -16,7 +17,7 @@ use Rattle.fetch_session.specs.declared.fault.Fault.TheVariants.{ConnectionEnded
 use Rattle.fetch_session.specs.declared.fault.Why.TheVariants as why
 use Rattle.fetch_session.specs.declared.report.Report.{Report}
 use Rattle.fetch_session.specs.declared.report.ReportLine.{ReportLine}
-use Rattle.fetch_session.specs.Record.{Keeps, UnreadyCause, IsMergedAtMost}
+use Rattle.fetch_session.specs.Record.{Keeps, KeepsRows, UnreadyCause, IsMergedAtMost}
 use Rattle.fetch_session.specs.Report.{retrieved_in}
 use Rattle.fetch_session.specs.Scene.{Scene, scene}
 use Rattle.fetch_session.specs.Plan.{tasks_ahead, Unprepared, Carried, Carries}
@@ -54,7 +55,11 @@ unready_files TooMany old file new file' never = absurd never
 unready_files TextTooLong old file new file' never = absurd never
 
 module _ (laws : Laws) (settings : Settings) (account : List ℕ) (items : List Item) (now : ℕ) (place : Place) (maildir : Maildir) (file : Stored) (lines : List ReportLine) (rows : List Row)
-    (keeps : Keeps file.content rows) (no_lines : lines ≡ []) where
+    (keeps : KeepsRows file.content rows) (no_lines : lines ≡ []) where
+  -- the record that was read has these rows
+  same_rows : (was : Held) → Keeps file.content was → was.rows ≡ rows
+  same_rows was stood = (laws.one file.content was.rows rows was.intent keeps.0 stood keeps.1).0
+
   -- nothing was planned
   unprepared_leads : (cut : Cut) (new : Scene) → Unprepared account items now place maildir file lines cut new
       → Leads settings account now false (course items [] [] []) rows maildir new.maildir new.file.content new.lines (RefusedIn (Err cut)) (UnsavedIn (Err cut))
@@ -70,23 +75,23 @@ module _ (laws : Laws) (settings : Settings) (account : List ℕ) (items : List 
       told = ap retrieved_in (is.lines_are ∙ no_lines)
 
       by : IsMergedAtMost account items now maildir file new.file → Leads settings account now false (course items [] [] []) rows maildir new.maildir new.file.content new.lines (RefusedIn (Err cut)) (UnsavedIn (Err cut))
-      by (inl content) = lead_nothing laws settings account items now maildir rows new.maildir new.file.content same.0 same.1 (subst (λ (c : Option (List ℕ)). Keeps c rows) (sym content) keeps)
+      by (inl content) = lead_nothing laws settings account items now maildir rows new.maildir new.file.content same.0 same.1 (subst (λ (c : Option (List ℕ)). KeepsRows c rows) (sym content) keeps)
           new.lines (RefusedIn (Err cut)) (UnsavedIn (Err cut)) told
       by (inr (was, stood, inl stays)) =
           lead_nothing laws settings account items now maildir rows new.maildir new.file.content same.0 same.1
-          (subst (λ (r : List Row). Keeps new.file.content r) (laws.one file.content was rows stood keeps) stays)
+          (was.intent, subst (λ (r : List Row). FileStandsFor new.file.content r was.intent) (same_rows was stood) stays)
           new.lines (RefusedIn (Err cut)) (UnsavedIn (Err cut)) told
       by (inr (was, stood, inr merges)) =
           lead laws settings account items now maildir rows false [] [] [] [] [] new.maildir new.file.content 0 refl nothing nothing (inl refl) (inl refl)
           (same.0 ∙ sym (append-nil maildir.in_new)) same.1
-          (subst (λ (r : List Row). Keeps new.file.content (merged r items (flags_of account maildir items) now)) (laws.one file.content was rows stood keeps) merges) tt (tasks_ahead settings account items now maildir (merged rows items (flags_of account maildir items) now)) refl
+          (None, subst (λ (r : List Row). FileStandsFor new.file.content (merged r items (flags_of account maildir items) now) None) (same_rows was stood) merges) tt (tasks_ahead settings account items now maildir (merged rows items (flags_of account maildir items) now)) refl
           (λ never. absurd (true≢false (sym never))) new.lines (RefusedIn (Err cut)) (UnsavedIn (Err cut)) told (λ never. absurd (omega (arith, never))) (λ never. absurd (omega (arith, never)))
 
   carried_leads : (result : Result (Unit {0}) Cut) (new : Scene) (skipped : ℕ) (is : Carried settings account items now place maildir file lines result new skipped)
       → Leads settings account now (is_ended result) (course_carried settings account items now place maildir file lines result new skipped is) rows maildir new.maildir new.file.content new.lines (RefusedIn result) (UnsavedIn result)
   carried_leads result new skipped is =
       does_leads laws settings account items now maildir rows is.mid is.prepared.maildir_is
-      (is.prepared.rows ∙ ap (λ (r : List Row). merged r items (flags_of account maildir items) now) (laws.one file.content is.prepared.was rows is.prepared.stood keeps)) (is.prepared.lines_are ∙ no_lines) is.prepared.saved result new is.does
+      (is.prepared.rows ∙ ap (λ (r : List Row). merged r items (flags_of account maildir items) now) (same_rows is.prepared.was is.prepared.stood)) (is.prepared.lines_are ∙ no_lines) is.prepared.saved result new is.does
 
   cut_leads : (cut : Cut) (new : Scene) (skipped : ℕ)
       (is : ((skipped ≡ 0) × Unprepared account items now place maildir file lines cut new) ⊎ Carried settings account items now place maildir file lines (Err cut) new skipped)
@@ -107,7 +112,7 @@ WayLeads settings account now result (Deals course) rows before after lines =
     Leads settings account now (is_ended result) course rows before.maildir after.maildir after.file.content lines (RefusedIn result) (UnsavedIn result)
 
 way_leads : (laws : Laws) (settings : Settings) (account : List ℕ) (now : ℕ) (old : Place) (before : Kept) (result : Result (Unit {0}) Cut) (new : Place) (after : Kept) (notes : Noted) (rows : List Row)
-    → Keeps before.file.content rows → (is : Proceeds settings account now old before result new after notes)
+    → KeepsRows before.file.content rows → (is : Proceeds settings account now old before result new after notes)
     → WayLeads settings account now result (way_proceeded settings account now old before result new after notes is) rows before after notes.lines
 way_leads laws settings account now old before (Ok done) new after notes rows keeps dealt =
     carries_leads laws settings account dealt.items now dealt.mid before.maildir before.file [] rows keeps refl (Ok done) new after.maildir after.file notes.lines notes.skipped dealt.carries
@@ -117,6 +122,6 @@ way_leads laws settings account now old before (Err cut) new after notes rows ke
     carries_leads laws settings account dealt.items now dealt.mid before.maildir before.file [] rows keeps refl (Err cut) new after.maildir after.file notes.lines notes.skipped dealt.carries
 
 pub session_leads : (laws : Laws) (settings : Settings) (account : List ℕ) (now : ℕ) (link : Link) (before : Kept) (report : Report) (link' : Link) (after : Kept) (rows : List Row)
-    → Keeps before.file.content rows → (is : Session settings account now link before report link' after)
+    → KeepsRows before.file.content rows → (is : Session settings account now link before report link' after)
     → WayLeads settings account now is.result (way_of settings account now link before report link' after is) rows before after is.notes.lines
 session_leads laws settings account now link before report link' after rows keeps is = way_leads laws settings account now (at link []) before is.result is.mid after is.notes rows keeps is.proceeds

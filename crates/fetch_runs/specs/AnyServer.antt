@@ -5,7 +5,7 @@ use Rattle.fetch_rules.specs.Record.{Row}
 use Rattle.rc_file.specs.Settings.{IsValid}
 use Rattle.rc_file.specs.declared.settings.Settings.{Settings}
 use Rattle.fetch_session.specs.declared.report.Report.{Report}
-use Rattle.fetch_session.specs.Record.{Keeps}
+use Rattle.fetch_session.specs.Record.{KeepsRows}
 use Rattle.fetch_session.specs.Session.{Kept, Session}
 use Rattle.run_law.specs.Safety.{IsSafe}
 use Rattle.fetch_runs.specs.Steps.{holds, IsStep}
@@ -14,5 +14,5 @@ use Rattle.fetch_runs.specs.Steps.{holds, IsStep}
 -- `cur`, and each DELE that it sent is for a message that was recorded as delivered, or was held, or whose text it stored
 abbrev pub AnyServer : Type 0
 AnyServer = (settings : Settings) (account : List ℕ) (now : ℕ) (link : Link) (before : Kept) (rows : List Row) (report : Report) (link' : Link) (after : Kept)
-    → IsValid settings → Keeps before.file.content rows → Session settings account now link before report link' after
+    → IsValid settings → KeepsRows before.file.content rows → Session settings account now link before report link' after
     → (step : IsStep settings account now link before rows report link' after) × IsSafe settings account (holds rows before.maildir) step.sent step.effect (holds step.rows' after.maildir)

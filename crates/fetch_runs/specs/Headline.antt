@@ -18,7 +18,7 @@ use Rattle.mail_store.specs.FileName.{name_of, is_held}
 use Rattle.mail_store.specs.Held.{flags_of}
 use Rattle.mail_store.specs.Maildir.{Maildir, File}
 use Rattle.fetch_session.specs.Account.{digits_of}
-use Rattle.fetch_session.specs.Record.{Keeps}
+use Rattle.fetch_session.specs.Record.{KeepsRows}
 use Rattle.fetch_session.specs.Session.{Kept, kept, Session}
 use Rattle.fetch_session.specs.declared.report.Outcome.TheVariants.{Ended}
 use Rattle.fetch_session.specs.declared.report.Report.{Report}
@@ -100,7 +100,7 @@ abbrev pub IsPastCount : World → State → Occasion → Message → Type 0
 IsPastCount world state occasion message =
     let listing = listing_of (maildrop_at world state occasion) in
     let account = digits_of world.settings in
-    (rows : List Row) × Keeps state.kept.file.content rows
+    (rows : List Row) × KeepsRows state.kept.file.content rows
     × (has_id (ids_wanted (past_limit world.settings.max_count
     (candidates world.settings (merged rows listing (flags_of account state.kept.maildir listing) occasion.now) listing))) message.uid ≡ true)
 
@@ -152,7 +152,7 @@ Promises world state (event ∷ events) = HoldsAPrefix world state × Promised w
 
 -- the record's file stands for a record that speaks only of messages that are held, and so do the ids that are gone
 abbrev pub IsKept : World → State → Type 0
-IsKept world state = (rows : List Row) × Keeps state.kept.file.content rows
+IsKept world state = (rows : List Row) × KeepsRows state.kept.file.content rows
     × IsKeptIn (frame_of world) (let situation : Situation = record { account = holds rows state.kept.maildir; gone = state.gone } in situation)
 
 abbrev pub state_after : State → List Event → State
@@ -166,7 +166,7 @@ Headline = (world : World) (start : State) (events : List Event) → IsSound wor
 
 -- the record's file isn't there or holds an empty record, no file is the account's own, and nothing is gone
 pub record IsEmpty (world : World) (state : State) : Type 0 where
-  pub record_is : Keeps state.kept.file.content []
+  pub record_is : KeepsRows state.kept.file.content []
   pub no_file : (id : List ℕ) → is_legal_id id ≡ true → copies (files (holds [] state.kept.maildir)) (name_of (digits_of world.settings) id) ≡ []
   pub none_gone : state.gone ≡ []
 

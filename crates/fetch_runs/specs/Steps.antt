@@ -12,7 +12,7 @@ use Rattle.fetch_session.specs.declared.report.Outcome.TheVariants.{Ended, Cut}
 use Rattle.fetch_session.specs.declared.fault.Fault.TheVariants.{StoreRefused, SeenRefused, NoMemory}
 use Rattle.fetch_session.specs.declared.fault.Why.TheVariants.{Refused}
 use Rattle.fetch_session.specs.declared.report.Report.{Report}
-use Rattle.fetch_session.specs.Record.{Keeps}
+use Rattle.fetch_session.specs.Record.{KeepsRows}
 use Rattle.fetch_session.specs.Session.{Kept, Session}
 use Rattle.run_law.specs.Accounts.{Account}
 use Rattle.run_law.specs.Steps.{Effect, Leaves}
@@ -51,7 +51,7 @@ pub record IsStep (settings : Settings) (account : List ℕ) (now : ℕ) (link :
   pub got_is : link'.got ≡ link.got ++ got
   pub now_is : effect.now ≡ now
   pub ended_is : (effect.ended ≡ true) ↔ (report.outcome ≡ Ended)
-  pub keeps : Keeps after.file.content rows'
+  pub keeps : KeepsRows after.file.content rows'
   pub stepped : Stepped settings account (holds rows before.maildir) sent got effect (holds rows' after.maildir)
   pub left : (Leaves (holds rows before.maildir) effect (holds rows' after.maildir) × (report.retrieved ≡ 0))
       ⊎ IsTold settings account (holds rows before.maildir) effect (holds rows' after.maildir) report stepped.commands stepped.asked.part
@@ -59,5 +59,5 @@ pub record IsStep (settings : Settings) (account : List ℕ) (now : ℕ) (link :
 -- a law: where the record's file stood for these rows, a session is a step
 abbrev pub SessionIsAStep : Type 0
 SessionIsAStep = (settings : Settings) (account : List ℕ) (now : ℕ) (link : Link) (before : Kept) (rows : List Row) (report : Report) (link' : Link) (after : Kept)
-    → IsValid settings → Keeps before.file.content rows → Session settings account now link before report link' after
+    → IsValid settings → KeepsRows before.file.content rows → Session settings account now link before report link' after
     → IsStep settings account now link before rows report link' after
