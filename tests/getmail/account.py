@@ -28,9 +28,9 @@ read_all = false
 
 
 class Account:
-    """The account of user `u` at a port of this machine; removed with the `with` block."""
+    """The account of a user at a port of this machine, `u` in its rc file; removed with the `with` block."""
 
-    def __init__(self, port, options="", above=None):
+    def __init__(self, port, options="", user="u", above=None):
         """With `above` the home is a folder in that one."""
         self.holder = tempfile.TemporaryDirectory(dir=above)
         self.home = Path(self.holder.name)
@@ -39,7 +39,7 @@ class Account:
         self.folder.mkdir()
         self.rcfile = self.folder / "getmailrc"
         self.rcfile.write_text(RC.format(server=LOOPBACK, port=port) + options)
-        self.digest = hashlib.sha256(f"{LOOPBACK}\0{port}\0u".encode()).hexdigest()
+        self.digest = hashlib.sha256(f"{LOOPBACK}\0{port}\0{user}".encode()).hexdigest()
         self.record = self.folder / f"seen-{self.digest}"
 
     def __enter__(self):
@@ -50,13 +50,13 @@ class Account:
 
     def run(self, *words, **changes):
         """Runs `getmail` in this home and answers what it left."""
-        return programs.run("getmail", *words, HOME=str(self.home), **changes)
+        return programs.run("getmail", *words, **{"HOME": str(self.home), **changes})
 
-    def start(self, *words):
+    def start(self, *words, restore_signals=True, **changes):
         """Starts `getmail` in this home."""
         return subprocess.Popen([programs.path_of("getmail"), *words], stdin=subprocess.DEVNULL,
-                                stdout=subprocess.PIPE, stderr=subprocess.PIPE,
-                                env=programs.environment(HOME=str(self.home)))
+                                stdout=subprocess.PIPE, stderr=subprocess.PIPE, restore_signals=restore_signals,
+                                env=programs.environment(HOME=str(self.home), **changes))
 
     def name(self, uid):
         """The name of a unique-id's file."""

@@ -1,0 +1,64 @@
+/* Refuses a program one kind of call of the system.
+
+       cc -O1 -shared -fPIC -o refuse_call.so refuse_call.c -ldl
+       REFUSED_CALL=read-timeout LD_PRELOAD=./refuse_call.so PROGRAM ..
+
+   The kinds: `read-timeout` and `write-timeout`, a bound on the waits of a socket; `random`, octets of random; `look`, a
+   look at a file of a folder `new`, which fails by a fault of the device. */
+
+#define _GNU_SOURCE
+#include <dlfcn.h>
+#include <errno.h>
+#include <stdlib.h>
+#include <string.h>
+#include <sys/socket.h>
+#include <sys/stat.h>
+#include <unistd.h>
+
+static int refuses(const char *kind)
+{
+    const char *refused = getenv("REFUSED_CALL");
+
+    return refused && !strcmp(refused, kind);
+}
+
+static int is_in_new(const char *path)
+{
+    const char *folder = strstr(path, "/new/");
+
+    return folder && folder[5];
+}
+
+int setsockopt(int socket, int level, int name, const void *value, socklen_t size)
+{
+    int (*next)(int, int, int, const void *, socklen_t) = dlsym(RTLD_NEXT, "setsockopt");
+
+    if (level == SOL_SOCKET && ((name == SO_RCVTIMEO && refuses("read-timeout"))
+                                || (name == SO_SNDTIMEO && refuses("write-timeout")))) {
+        errno = ENOPROTOOPT;
+        return -1;
+    }
+    return next(socket, level, name, value, size);
+}
+
+int getentropy(void *buffer, size_t length)
+{
+    int (*next)(void *, size_t) = dlsym(RTLD_NEXT, "getentropy");
+
+    if (refuses("random")) {
+        errno = ENOSYS;
+        return -1;
+    }
+    return next(buffer, length);
+}
+
+int statx(int folder, const char *path, int flags, unsigned int mask, struct statx *found)
+{
+    int (*next)(int, const char *, int, unsigned int, struct statx *) = dlsym(RTLD_NEXT, "statx");
+
+    if (refuses("look") && is_in_new(path)) {
+        errno = EIO;
+        return -1;
+    }
+    return next(folder, path, flags, mask, found);
+}
