@@ -60,12 +60,13 @@ class Input:
 
     def text(self):
         """The text of a message."""
-        body = self.given[self.place:self.place + known.BODY_LIMIT]
-        mark = (b"\r\n" + body).find(b"\r\n.\r\n")
+        last = self.place + known.BODY_LIMIT
+        # A first line stands before the body, so that the CR LF before its mark is there for an empty one too.
+        mark = self.given.find(b"\r\n.\r\n", self.place - 2, last)
         if mark < 0:
-            raise Cut(known.TEXT_TOO_LONG if len(body) == known.BODY_LIMIT else known.ENDED_EARLY)
-        self.place += mark + 3
-        lines = body[:mark].split(b"\r\n")[:-1]
+            raise Cut(known.TEXT_TOO_LONG if len(self.given) >= last else known.ENDED_EARLY)
+        lines = self.given[self.place:mark + 2].split(b"\r\n")[:-1]
+        self.place = mark + 5
         return b"".join((line[1:] if line.startswith(b".") else line) + b"\n" for line in lines)
 
 
@@ -111,9 +112,11 @@ def fetch(server, sent, stored):
     server.first_line()
     sizes = server.rows(size_row)
     uids, _ = items_of(count, uids), items_of(count, sizes)
+    held = set()
     for number, uid in enumerate(uids, 1):
-        if uid in uids[:number - 1]:
+        if uid in held:
             continue
+        held.add(uid)
         sent.append(f"RETR {number}")
         server.first_line()
         stored.append((uid, server.text()))

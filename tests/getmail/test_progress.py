@@ -1,35 +1,17 @@
 """The line that tells how far a fetch is: on a terminal alone, rewritten in place, and gone at the end."""
 
-import contextlib
-import os
-import pty
-import re
 import subprocess
 import unittest
 
+from getmail import terminal
 from getmail.account import Account
 from getmail.server import Server, lines_of
+from getmail.terminal import TEXT, screen_of
 from harness import programs
 
 THREE = [(b"a", b"one\n"), (b"b", b"a line of a longer message\n" * 20_000), (b"c", b"three\n")]
-TEXT = re.compile(rb"message (\d+) of (\d+), (\d+) octets")
 STEP = 65_536
 WIDTH = 48
-
-
-def screen_of(octets):
-    """What stands on a terminal's lines after these octets."""
-    lines, column = [b""], 0
-    for octet in octets:
-        if octet == ord("\r"):
-            column = 0
-        elif octet == ord("\n"):
-            lines.append(b"")
-        else:
-            line = lines[-1].ljust(column)
-            lines[-1] = line[:column] + bytes([octet]) + line[column + 1:]
-            column += 1
-    return [line.rstrip() for line in lines]
 
 
 class Progress(unittest.TestCase):
@@ -42,20 +24,9 @@ class Progress(unittest.TestCase):
     def run_on_terminal(self, *words, octets=None, both=False):
         """A run whose standard error, or both outputs, are a terminal: the status, standard output, the terminal's octets."""
         thread = self.server.begin_session(octets)
-        ours, theirs = pty.openpty()
-        with open(ours, "rb", buffering=0) as terminal:
-            process = subprocess.Popen([programs.path_of("getmail"), *words], stdin=subprocess.DEVNULL,
-                                       stdout=theirs if both else subprocess.PIPE, stderr=theirs,
-                                       env=programs.environment(HOME=str(self.account.home)))
-            os.close(theirs)
-            shown = b""
-            # Once nobody has the other end any more, reading is refused.
-            with contextlib.suppress(OSError):
-                while piece := terminal.read(65536):
-                    shown += piece
-        out, _ = process.communicate(timeout=programs.SECONDS)
+        answer = terminal.run(self.account, *words, both=both)
         thread.join(programs.SECONDS)
-        return process.returncode, out or b"", shown
+        return answer
 
     def told(self, shown):
         """The message, the total and the octets of each line that was shown, in order."""

@@ -51,14 +51,14 @@ def environment(**changes):
     return {**kept, **changes}
 
 
-def run(name, *words, given=b"", out=subprocess.PIPE, err=subprocess.PIPE, **changes):
+def run(name, *words, given=b"", out=subprocess.PIPE, err=subprocess.PIPE, seconds=SECONDS, **changes):
     """Runs the program with the words given and answers what it left.
 
     `given` is its whole standard input, as bytes or as an open file; `out` and `err` are where standard output and
-    standard error go, and `changes` is put into its environment. A run that takes too long is killed and fails the
-    test.
+    standard error go, and `changes` is put into its environment. A run that takes more than `seconds` is killed and
+    fails the test.
     """
     source = {"input": given} if isinstance(given, bytes) else {"stdin": given}
     done = subprocess.run([path_of(name), *words], **source, stdout=out, stderr=err,
-                          env=environment(**changes), timeout=SECONDS)
+                          env=environment(**changes), timeout=seconds)
     return Run(done.returncode, done.stdout or b"", done.stderr or b"")

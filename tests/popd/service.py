@@ -111,21 +111,22 @@ class Client:
 
 
 class Service:
-    """`popd --listen` over a Maildir, with user `u`; killed with the `with` block where it still runs.
+    """`popd --listen` over a Maildir, for one user; killed with the `with` block where it still runs.
 
     No connection is spent on finding out whether the server listens: the kernel's table of sockets tells.
     """
 
-    def __init__(self, maildir, *words, **environment):
+    def __init__(self, maildir, *words, user="u", **environment):
         self.maildir = maildir
         self.words = words
+        self.user = user
         self.environment = environment
 
     def __enter__(self):
         for _ in range(PORT_TRIES):
             self.port = kernel.free_port()
             self.process = subprocess.Popen(
-                [programs.path_of("popd"), "--listen", f"{LOOPBACK}:{self.port}", *self.words, "u",
+                [programs.path_of("popd"), "--listen", f"{LOOPBACK}:{self.port}", *self.words, self.user,
                  self.maildir.passfile,
                  self.maildir.folder], env=programs.environment(**self.environment), stdin=subprocess.DEVNULL,
                 stdout=subprocess.DEVNULL, stderr=subprocess.PIPE)

@@ -1,0 +1,44 @@
+"""Runs of `getmail` on a terminal, and what stands on it then."""
+
+import contextlib
+import os
+import pty
+import re
+import subprocess
+
+from harness import programs
+
+# What the line of progress says.
+TEXT = re.compile(rb"message (\d+) of (\d+), (\d+) octets")
+
+
+def screen_of(octets):
+    """What stands on a terminal's lines after these octets."""
+    lines, column = [b""], 0
+    for octet in octets:
+        if octet == ord("\r"):
+            column = 0
+        elif octet == ord("\n"):
+            lines.append(b"")
+        else:
+            line = lines[-1].ljust(column)
+            lines[-1] = line[:column] + bytes([octet]) + line[column + 1:]
+            column += 1
+    return [line.rstrip() for line in lines]
+
+
+def run(account, *words, both=False):
+    """A run whose standard error, or both outputs, are a terminal: the status, standard output, the terminal's octets."""
+    ours, theirs = pty.openpty()
+    with open(ours, "rb", buffering=0) as terminal:
+        process = subprocess.Popen([programs.path_of("getmail"), *words], stdin=subprocess.DEVNULL,
+                                   stdout=theirs if both else subprocess.PIPE, stderr=theirs,
+                                   env=programs.environment(HOME=str(account.home)))
+        os.close(theirs)
+        shown = b""
+        # Once nobody has the other end any more, reading is refused.
+        with contextlib.suppress(OSError):
+            while piece := terminal.read(65536):
+                shown += piece
+    out, _ = process.communicate(timeout=programs.SECONDS)
+    return process.returncode, out or b"", shown
