@@ -36,6 +36,8 @@ pub fn put_text<D: Maildrop>(drop: &mut D, i: usize, reply: &mut Vec<u8>) -> Res
         stuffer.put(reply, &part[..n])?;
         match start.checked_add(n) {
             Some(next) => start = next,
+            // This can't come: the reply has at least so many octets by now, and no vector holds half as
+            // many as `usize` counts, so a growth was refused before.
             None => return Err(DropFault::NoMemory),
         }
     }
@@ -69,6 +71,7 @@ pub fn put_top<D: Maildrop>(
         stuffer.put(reply, top.take(&part[..n]))?;
         match start.checked_add(n) {
             Some(next) => start = next,
+            // Nor can this, for the same reason.
             None => return Err(DropFault::NoMemory),
         }
     }
