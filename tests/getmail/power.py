@@ -116,7 +116,7 @@ class Stage:
         self.scene = scene
         self.libraries = libraries
         self.server = SharedServer(scene.messages_before())
-        self.account = Account(self.server.port, LIMIT, MEMORY if os.access(MEMORY, os.W_OK) else None)
+        self.account = Account(self.server.port, LIMIT, above=MEMORY if os.access(MEMORY, os.W_OK) else None)
         self.note = self.account.home / "note"
         if not scene.is_first:
             self.check_good(self.run())
