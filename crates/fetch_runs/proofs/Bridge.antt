@@ -32,9 +32,13 @@ use Rattle.fetch_session.specs.Report.{retrieved_in}
 use Rattle.fetch_session.specs.Task.{Task, deletes}
 use Rattle.fetch_session.specs.Record.{KeepsRows}
 use Rattle.fetch_session.specs.Session.{Kept, outcome_of}
-use Rattle.fetch_runs.specs.Steps.{holds, AsksForNoMessage, IsStep, SessionIsAStep}
+use Rattle.fetch_runs.specs.Conversations.{tail_behind}
+use Rattle.fetch_runs.specs.Steps.{holds, SaysOnly, IsStep, SessionIsAStep}
+use Rattle.fetch_runs.proofs.TalkConversation.{tail_is}
+use Rattle.fetch_runs.proofs.TalkSessions.{tail_for}
+use Rattle.pop3_client.specs.Turns.{Turn}
 use Rattle.fetch_runs.proofs.Courses.{Way, Idle, Deals, way_of, begun_of, found_of, IsOfTask}
-use Rattle.fetch_runs.proofs.StatePlan.{IsRight, deleted_in, deleted_by, uids_in, all_weaker}
+use Rattle.fetch_runs.proofs.StatePlan.{IsRight, deleted_in, deleted_by, uids_in}
 use Rattle.fetch_runs.proofs.StateDone.{text_found}
 use Rattle.fetch_runs.proofs.StateBuilt.{Laws, effect_of}
 use Rattle.fetch_runs.proofs.StateCases.{is_ended, RefusedIn, UnsavedIn}
@@ -61,10 +65,6 @@ id_there items front behind number item at =
     ∙ ap (λ (b : Bool). b || list_any (bytes_eq item.uid) (deleted_by items behind)) ((bytes_eq-Decides item.uid item.uid).1 refl))
     ∙ or_true (list_any (bytes_eq item.uid) (deleted_by items front))
 
-no_task : (front : List Task) (task : Task) (behind : List Task) → front ++ task ∷ behind ≡ [] → ⊥
-no_task [] task behind e = cc
-no_task (x ∷ front) task behind e = cc
-
 begun_one : (account : List ℕ) (maildir : Maildir) (items : List Item) (tasks : List Task) → AllByRecursion (IsRight account maildir items) tasks → (command : Command)
     → IsOfTask tasks command → IsBegun items (deleted_by items tasks) command
 begun_one account maildir items tasks right (Dele number) is =
@@ -87,22 +87,6 @@ begun_all : (account : List ℕ) (maildir : Maildir) (items : List Item) (tasks 
     → AllByRecursion (IsOfTask tasks) commands → AllByRecursion (IsBegun items (deleted_by items tasks)) commands
 begun_all account maildir items tasks right [] all = tt
 begun_all account maildir items tasks right (command ∷ commands) all = (begun_one account maildir items tasks right command all.0, begun_all account maildir items tasks right commands all.1)
-
--- where no task was begun, no RETR or DELE was sent
-nothing_asked : (tasks : List Task) → tasks ≡ [] → (command : Command) → IsOfTask tasks command → AsksForNoMessage command
-nothing_asked tasks none (Dele number) is = no_task is.0 (deletes number) is.1 (sym is.2 ∙ none)
-nothing_asked tasks none (Retr number) is = no_task is.0 is.1 is.2 (sym is.3 ∙ none)
-nothing_asked tasks none (User name) is = tt
-nothing_asked tasks none (Pass word) is = tt
-nothing_asked tasks none Stat is = tt
-nothing_asked tasks none UidlAll is = tt
-nothing_asked tasks none (UidlOne n) is = tt
-nothing_asked tasks none ListAll is = tt
-nothing_asked tasks none (ListOne n) is = tt
-nothing_asked tasks none Rset is = tt
-nothing_asked tasks none Noop is = tt
-nothing_asked tasks none (Top n k) is = tt
-nothing_asked tasks none Quit is = tt
 
 -- ---- the outcome
 
@@ -127,7 +111,7 @@ unsaved_is (Err cut) outcome is (inr fault) = inr (is ∙ ap WasCut fault)
 
 module _ (stores : ToldStores) (settings : Settings) (account : List ℕ) (now : ℕ) (link : Link) (before : Kept) (rows : List Row) (report : Report) (link' : Link) (after : Kept) (result : Result (Unit {0}) Cut)
     (outcome_is : report.outcome ≡ outcome_of result) (lines : List ReportLine) (counts : report.retrieved ≡ retrieved_in lines) (keeps : KeepsRows before.file.content rows) where
-  joined : (way : Way) → WayLeads settings account now result way rows before after lines → Gained way link link' → IsStep settings account now link before rows report link' after
+  joined : (way : Way) → WayLeads settings account now result way rows before after lines → Gained way (tail_for result) link link' → IsStep settings account now link before rows report link' after
   joined Idle left said = record {
     sent = said.sent;
     got = said.got;
@@ -172,8 +156,13 @@ module _ (stores : ToldStores) (settings : Settings) (account : List ℕ) (now :
           ap (map text_found) none.1,
           ap (deleted_by c.items) none.2,
           none.3,
-          all_weaker (IsOfTask (begun_of c)) AsksForNoMessage (User said.tells.name ∷ Pass said.tells.word ∷ Stat ∷ UidlAll ∷ ListAll ∷ said.tells.more) (nothing_asked (begun_of c) none.2) said.tells.deletes,
-          begins_of (IsOfTask (begun_of c)) AsksForNoMessage (nothing_asked (begun_of c) none.2) said.tells.talked.asked.part said.tells.next,
+          record {
+            name = said.tells.name;
+            word = said.tells.word;
+            more = said.tells.more;
+            commands_are = refl;
+            only = subst (λ (turns : List Turn). SaysOnly turns said.tells.more said.tells.talked.asked.part) (tail_is result ∙ ap tail_behind (sym outcome_is)) (said.tells.stops none.2);
+          },
         )
       ];
     });

@@ -1,5 +1,6 @@
 mod Bridge
 mod Courses
+mod EventLemmas
 mod HeadlineLemmas
 mod RunLemmas
 mod StateBuilt

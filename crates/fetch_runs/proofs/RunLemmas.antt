@@ -9,7 +9,7 @@ use Rattle.fetch_session.specs.declared.report.Report.{Report}
 use Rattle.fetch_session.specs.Session.{Kept, Session}
 use Rattle.fetch_runs.specs.declared.run.Visit.{Visit}
 use Rattle.run_law.specs.Chains.{Fact}
-use Rattle.fetch_runs.specs.Headline.{World, IsSound, State, Fetched, after_event, IsKept, Headline}
+use Rattle.fetch_runs.specs.Headline.{AreSettings, World, IsSound, State, Fetched, after_event, IsKept, Headline}
 use Rattle.fetch_runs.specs.Runs.{AreSound, Runs, AreServed, ArePromised, occasion_of}
 
 -- the first of the visits were made
@@ -87,17 +87,17 @@ ran_all {W} sound seen settings olds news i start at_start reports last at_last 
 
 -- ---- what is promised of them
 
-pub runs_promised : {W : Type 0} → Headline → (seen : W → Link) (world : World) (olds : List (Visit W)) (state : State) (reports : List Report) (news : List (Visit W)) (facts : List Fact) (last : Kept) → IsSound world
-    → IsKept world state → AreServed seen world.all state.gone olds news facts → Runs seen world.settings (digits_of world.settings) olds state.kept reports news last
-    → ArePromised seen world state olds reports news facts last
-runs_promised law seen world [] state [] [] [] last sound is served runs = ((law world state [] sound is tt).0, is, sym runs)
-runs_promised law seen world [] state [] [] (fact ∷ facts) last sound is served runs = absurd served
-runs_promised law seen world [] state [] (new ∷ news) facts last sound is served runs = absurd runs
-runs_promised law seen world [] state (report ∷ reports) news facts last sound is served runs = absurd runs
-runs_promised law seen world (old ∷ olds) state [] news facts last sound is served runs = absurd runs
-runs_promised law seen world (old ∷ olds) state (report ∷ reports) [] facts last sound is served runs = absurd runs
-runs_promised law seen world (old ∷ olds) state (report ∷ reports) (new ∷ news) [] last sound is served runs = absurd served
-runs_promised law seen world (old ∷ olds) state (report ∷ reports) (new ∷ news) (fact ∷ facts) last sound is served runs =
-    let occasion = occasion_of seen old report new fact runs.0 in
-    let one = law world state (Fetched occasion ∷ []) sound is (record { session = runs.1; served = served.0 }, tt) in
-    (runs.0, runs.1, one.0.0, one.0.1, runs_promised law seen world olds (after_event state (Fetched occasion)) reports news facts last sound one.1 served.1 runs.3)
+pub runs_promised : {W : Type 0} → Headline → (seen : W → Link) (settings : Settings) (world : World) (olds : List (Visit W)) (state : State) (reports : List Report) (news : List (Visit W)) (facts : List Fact) (last : Kept)
+    → IsSound world → AreSettings world settings → IsKept world state → AreServed seen world.all state.gone olds news facts
+    → Runs seen settings (digits_of settings) olds state.kept reports news last → ArePromised seen settings world state olds reports news facts last
+runs_promised law seen settings world [] state [] [] [] last sound are is served runs = ((law world state [] sound is tt).0, is, sym runs)
+runs_promised law seen settings world [] state [] [] (fact ∷ facts) last sound are is served runs = absurd served
+runs_promised law seen settings world [] state [] (new ∷ news) facts last sound are is served runs = absurd runs
+runs_promised law seen settings world [] state (report ∷ reports) news facts last sound are is served runs = absurd runs
+runs_promised law seen settings world (old ∷ olds) state [] news facts last sound are is served runs = absurd runs
+runs_promised law seen settings world (old ∷ olds) state (report ∷ reports) [] facts last sound are is served runs = absurd runs
+runs_promised law seen settings world (old ∷ olds) state (report ∷ reports) (new ∷ news) [] last sound are is served runs = absurd served
+runs_promised law seen settings world (old ∷ olds) state (report ∷ reports) (new ∷ news) (fact ∷ facts) last sound are is served runs =
+    let occasion = occasion_of seen settings old report new fact runs.0 in
+    let one = law world state (Fetched occasion ∷ []) sound is (record { settings = are; session = runs.1; served = served.0 }, tt) in
+    (runs.0, runs.1, one.0.0, one.0.1, runs_promised law seen settings world olds (after_event state (Fetched occasion)) reports news facts last sound are one.1 served.1 runs.3)

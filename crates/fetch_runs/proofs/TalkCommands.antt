@@ -38,6 +38,19 @@ pub all_back : {A : Type 0} (P : A → Type 0) (xs ys : List A) → AllByRecursi
 all_back P [] ys all = all
 all_back P (x ∷ xs) ys all = all_back P xs ys all.1
 
+-- two lists that are nothing together
+pub both_none : {A : Type 0} (xs ys : List A) → xs ++ ys ≡ [] → (xs ≡ []) × (ys ≡ [])
+both_none [] ys e = (refl, e)
+both_none {A} (x ∷ xs) ys e = absurd (never x (xs ++ ys) e)
+  where
+    never : (a : A) (as' : List A) → a ∷ as' ≡ [] → ⊥
+    never a as' is = cc
+
+-- of no octets, those of any commands may be begun
+pub begins_any : (next : List Command) (part : List ℕ) → part ≡ [] → BeginsNext next part
+begins_any [] part e = e
+begins_any (command ∷ next) part e = (ended (line_of command), ap (λ (l : List ℕ). l ++ ended (line_of command)) (sym e))
+
 octets_same : (turns : List Turn) → asking turns ≡ octets_of (commands_in turns)
 octets_same [] = refl
 octets_same (None ∷ turns) = octets_same turns

@@ -2,6 +2,7 @@
 use Rattle.std.proofs.Common.{◌≡◌, ◌≤◌, ◌+◌, inl, inr, ◌⊎◌, ℕ, List, [], ◌∷◌, ◌++◌, map, length, Some, Result, Ok, Err, refl, sym, ap, subst, ◌∙◌, arith, append_assoc}
 use Rattle.std.specs.String.{string_bytes}
 use Rattle.std.specs.List.{flat_map, count_by, AllByRecursion}
+use Rattle.std.proofs.lemmas.List.{append-nil}
 use Rattle.std.proofs.lemmas.List.Concat.{flat_map-append}
 use Rattle.pop3_wire.specs.Bodies.{Rest}
 use Rattle.pop3_wire.specs.declared.unstuffer.Spot.TheVariants.{Done as AtEnd}
@@ -44,7 +45,7 @@ use Rattle.fetch_session.specs.Plan.{tasks_ahead, Carried, Carries}
 use Rattle.fetch_session.specs.Session.{Kept, Noted, Dealt, Proceeds, LeavesLink, outcome_of}
 use Rattle.fetch_runs.specs.Conversations.{Conversation, Converses, plan_turns, tail_behind, retrieved_by, CountsTexts, Opens, SpeaksByPlan, SessionsAreConversations}
 use Rattle.fetch_runs.proofs.Courses.{Course, stored_done, spare_in, course_stopped, course_does, course_carried, course_carries, course_dealt, begun_of}
-use Rattle.fetch_runs.proofs.TalkCommands.{commands_in, CanBeSaid, Commanded, commanded, all_append, all_front, all_back}
+use Rattle.fetch_runs.proofs.TalkCommands.{commands_in, CanBeSaid, Commanded, commanded, both_none, all_append, all_front, all_back}
 use Rattle.fetch_runs.proofs.TalkReplies.{IsPlain}
 use Rattle.fetch_runs.proofs.TalkTasks.{plain_ahead, said_tasks}
 use Rattle.fetch_runs.proofs.TalkFronts.{front_of_plan}
@@ -152,7 +153,7 @@ counts name word taken spare done begun count outcome is refused (inr (number, s
       ),
     )
 
-tail_is : (result : Result (Unit {0}) Cut) → tail_for result ≡ tail_behind (outcome_of result)
+pub tail_is : (result : Result (Unit {0}) Cut) → tail_for result ≡ tail_behind (outcome_of result)
 tail_is (Ok done) = refl
 tail_is (Err cut) = refl
 
@@ -175,10 +176,10 @@ module _ (joining : TurnsJoin) (paced : ConversationsArePaced) (law : FrontsAreA
 
   -- the listing was joined, and this came of it
   by_plan : (c : Course) (items : List Item) (count : ℕ) (uids : List UidRow) (sizes : List ScanRow) (mid : Place) (turns : List Turn) → (opened : Opened name word (at link []) mid count uids sizes)
-      → Joins count uids sizes items → length items ≤ 100000 → (by : Dealing settings account items now before.maildir c mid turns link') → IsTail turns → turns ≡ tail_behind report.outcome
+      → Joins count uids sizes items → length items ≤ 100000 → (by : Dealing settings account items now before.maildir before.file c mid turns link') → IsTail turns → turns ≡ tail_behind report.outcome
       → report.retrieved ≡ count_by is_taken notes.lines → notes.lines ≡ lines_of c.taken → (report.outcome ≡ Ended → (c.under ≡ []) × (by.ahead.0 ≡ []))
       → ((reply : WholeReply) → c.spare ≡ reply ∷ [] → report.outcome ≡ WasCut (StoreRefused Refused))
-      → (sent got : List ℕ) × (link'.sent ≡ link.sent ++ sent) × (link'.got ≡ link.got ++ got) × SpeaksByPlan settings now report sent got
+      → (sent got : List ℕ) × (link'.sent ≡ link.sent ++ sent) × (link'.got ≡ link.got ++ got) × SpeaksByPlan settings account now before report sent got
   by_plan c items count uids sizes mid turns opened joins few by kind behind retrieved noted ended refused = (
     all.0,
     all.1,
@@ -196,6 +197,12 @@ module _ (joining : TurnsJoin) (paced : ConversationsArePaced) (law : FrontsAreA
         one = by.took.one;
         is = subst (λ (ts : List Turn). Conversation (opening name word ++ by.took.done) ((opened.welcome ++ opened.counted ∷ opened.named ∷ opened.sized ∷ []) ++ by.took.replies) by.took.begun ts all.0 all.1) behind all.5;
       };
+      found = elim by.found [
+        | inl found ↦ inl found
+        | inr none ↦
+            let both = both_none by.took.done by.took.begun (sym by.took.all ∙ ap (λ (ts : List Task). flat_map turns_in ts) none) in
+            inr (ap (λ (ts : List Turn). opening name word ++ ts) both.0 ∙ append-nil (opening name word), both.1)
+      ];
       commands = commands_in (opening name word ++ by.took.done) ++ (whole.ahead ++ whole.ends);
       asked = whole.asked;
       front = front_of_plan name word (planned settings by.rows items now) (opening name word ++ by.took.done) by.took.begun (flat_map turns_in by.ahead.0) turns all.0 split kind whole;
@@ -219,7 +226,7 @@ module _ (joining : TurnsJoin) (paced : ConversationsArePaced) (law : FrontsAreA
       plain : AllByRecursion IsPlain (begun_of c)
       plain = all_front IsPlain (begun_of c) by.ahead.0 (subst (AllByRecursion IsPlain) by.ahead.2 (plain_ahead settings account items now before.maildir by.rows few))
 
-      all : (sent got : List ℕ) × (link'.sent ≡ link.sent ++ sent) × (link'.got ≡ link.got ++ got) × Speaks c sent got
+      all : (sent got : List ℕ) × (link'.sent ≡ link.sent ++ sent) × (link'.got ≡ link.got ++ got) × Speaks c turns sent got
           × Conversation (opening name word ++ by.took.done) ((opened.welcome ++ opened.counted ∷ opened.named ∷ opened.sized ∷ []) ++ by.took.replies) by.took.begun turns sent got
       all = spoken joining law name word valid.valid_username valid.valid_password c count uids sizes (at link []) mid turns kind link' refl opened (subst (Joins count uids sizes) (sym by.ahead.1) joins) plain by.took
 
@@ -243,7 +250,7 @@ module _ (joining : TurnsJoin) (paced : ConversationsArePaced) (law : FrontsAreA
       number = sym (taken_same c.taken (all_front IsPlain (tasks_of c.taken) c.under plain) by.took.each) ∙ ap (λ (l : List ReportLine). count_by is_taken l) (sym noted) ∙ sym retrieved
 
   dealt : (result : Result (Unit {0}) Cut) → Reports (outcome_of result) notes.total notes.skipped notes.lines report → (is : Dealt settings account now (at link []) before result new after notes)
-      → LeavesLink result new link' → (sent got : List ℕ) × (link'.sent ≡ link.sent ++ sent) × (link'.got ≡ link.got ++ got) × SpeaksByPlan settings now report sent got
+      → LeavesLink result new link' → (sent got : List ℕ) × (link'.sent ≡ link.sent ++ sent) × (link'.got ≡ link.got ++ got) × SpeaksByPlan settings account now before report sent got
   dealt (Ok done) tells is leaves =
       let opened = is.enters.3 in
       let few = few_items opened.counted is.enters.0 is.enters.1 is.enters.2 is.items (replied name word opened.welcome opened.counted opened.named opened.sized opened.talked.good).good.1.1.1.0 opened.tells is.enters.4 in
@@ -266,7 +273,7 @@ module _ (joining : TurnsJoin) (paced : ConversationsArePaced) (law : FrontsAreA
   -- it wasn't, or nothing was done with it
   abbrev Said : Type 0
   Said = (sent got : List ℕ) × (link'.sent ≡ link.sent ++ sent) × (link'.got ≡ link.got ++ got)
-      × (Opens settings report sent got ⊎ SpeaksByPlan settings now report sent got)
+      × (Opens settings report sent got ⊎ SpeaksByPlan settings account now before report sent got)
 
   opens : (fault : Fault) (last : Place) → report.outcome ≡ WasCut fault → link' ≡ last.link → Opening name word (tail_turns (tail fault)) link last.link → Said
   opens fault last came is it = (

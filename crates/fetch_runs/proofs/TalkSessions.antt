@@ -1,5 +1,5 @@
 -- What each session said and read, as the law over runs takes it.
-use Rattle.std.proofs.Common.{◌≡◌, ◌≤◌, inl, inr, ℕ, List, [], ◌∷◌, ◌++◌, length, Result, Ok, Err, refl, sym, ap, subst, ◌∙◌, append_assoc}
+use Rattle.std.proofs.Common.{◌≡◌, ◌≤◌, ◌⊎◌, inl, inr, ℕ, List, [], ◌∷◌, ◌++◌, length, Result, Ok, Err, refl, sym, ap, subst, ◌∙◌, append_assoc}
 use Rattle.std.specs.List.{AllByRecursion}
 use Rattle.std.proofs.lemmas.List.{append-nil, map-append}
 use Rattle.pop3_wire.specs.Link.{Link}
@@ -18,6 +18,7 @@ use Rattle.fetch_session.specs.Tail.{tail, Left, turns_in as tail_turns}
 use Rattle.fetch_session.specs.Scene.{Scene, scene, Stops, Does}
 use Rattle.fetch_session.specs.Plan.{tasks_ahead, Unprepared, Carried, Carries}
 use Rattle.fetch_session.specs.Session.{LeavesLink}
+use Rattle.fetch_runs.specs.Conversations.{AreFound}
 use Rattle.fetch_runs.proofs.Courses.{Course, course, stored_done, course_stopped, course_does, course_carried, course_carries, begun_of}
 use Rattle.fetch_runs.proofs.TalkCommands.{all_front}
 use Rattle.fetch_runs.proofs.TalkReplies.{IsPlain}
@@ -56,10 +57,11 @@ ahead_does account items tasks old new (Ok done) went = ([], refl, went.all ∙ 
 ahead_does account items tasks old new (Err cut) fell = ahead_stopped account items tasks fell.later fell.dones fell.next fell.mid new cut fell.split fell.stops
 
 -- what the link gained by a course that is a front of the planned tasks
-pub record Dealing (settings : Settings) (account : List ℕ) (items : List Item) (now : ℕ) (maildir : Maildir) (c : Course) (start : Place) (turns : List Turn) (link : Link) : Type 0 where
+pub record Dealing (settings : Settings) (account : List ℕ) (items : List Item) (now : ℕ) (maildir : Maildir) (file : Stored) (c : Course) (start : Place) (turns : List Turn) (link : Link) : Type 0 where
   pub rows : List Row
   pub ahead : Ahead items (tasks_ahead settings account items now maildir rows) c
   pub took : Took c start turns link
+  pub found : AreFound account now maildir file items rows ⊎ (begun_of c ≡ [])
 
 module _ (joining : TurnsJoin) (paced : ConversationsArePaced) where
   took_does : (account : List ℕ) (items : List Item) (tasks : List Task) (old new : Scene) (result : Result (Unit {0}) Cut) (link : Link) → (does : Does account tasks old result new)
@@ -75,26 +77,28 @@ module _ (joining : TurnsJoin) (paced : ConversationsArePaced) where
 
   module _ (settings : Settings) (account : List ℕ) (items : List Item) (now : ℕ) (place : Place) (maildir : Maildir) (file : Stored) (lines : List ReportLine) (few : length items ≤ 100000) where
     dealing_carried : (result : Result (Unit {0}) Cut) (new : Scene) (skipped : ℕ) (link : Link) → (is : Carried settings account items now place maildir file lines result new skipped)
-        → LeavesLink result new.place link → Dealing settings account items now maildir (course_carried settings account items now place maildir file lines result new skipped is) place (tail_for result) link
+        → LeavesLink result new.place link → Dealing settings account items now maildir file (course_carried settings account items now place maildir file lines result new skipped is) place (tail_for result) link
     dealing_carried result new skipped link is leaves = record {
       rows = is.mid.rows;
       ahead = ahead_does account items (tasks_ahead settings account items now maildir is.mid.rows) is.mid new result is.does;
       took = subst (λ (p : Place). Took (course_carried settings account items now place maildir file lines result new skipped is) p (tail_for result) link) is.prepared.place_is
           (took_does account items (tasks_ahead settings account items now maildir is.mid.rows) is.mid new result link is.does (plain_ahead settings account items now maildir is.mid.rows few) leaves);
+      found = inl (record { was = is.prepared.was.rows; stood = (is.prepared.was.intent, is.prepared.stood); merged_is = is.prepared.rows });
     }
 
     dealing_unprepared : (cut : Cut) (new : Scene) (link : Link) → Unprepared account items now place maildir file lines cut new → LeavesLink (Err cut) new.place link
-        → Dealing settings account items now maildir (course items [] [] []) place (tail_turns (tail cut.fault)) link
+        → Dealing settings account items now maildir file (course items [] [] []) place (tail_turns (tail cut.fault)) link
     dealing_unprepared cut new link is leaves = record {
       rows = [];
       ahead = (tasks_ahead settings account items now maildir [], refl, refl);
       took = subst (λ (l : Link). Took (course items [] [] []) place (tail_turns (tail cut.fault)) l) (sym leaves.2)
           (took_nothing joining paced items cut place leaves.0 is.none (subst (λ (p : Place). Left cut p leaves.0) is.place_is leaves.1));
+      found = inr refl;
     }
 
     pub dealing : (result : Result (Unit {0}) Cut) (place' : Place) (maildir' : Maildir) (file' : Stored) (lines' : List ReportLine) (skipped : ℕ) (link : Link)
         → (is : Carries settings account items now place maildir file lines result place' maildir' file' lines' skipped) → LeavesLink result place' link
-        → Dealing settings account items now maildir (course_carries settings account items now place maildir file lines result place' maildir' file' lines' skipped is) place (tail_for result) link
+        → Dealing settings account items now maildir file (course_carries settings account items now place maildir file lines result place' maildir' file' lines' skipped is) place (tail_for result) link
     dealing (Ok done) place' maildir' file' lines' skipped link is leaves = dealing_carried (Ok done) (scene place' maildir' file' is.0 lines') skipped link is.1 leaves
     dealing (Err cut) place' maildir' file' lines' skipped link (rows, inl (none, unprepared)) leaves = dealing_unprepared cut (scene place' maildir' file' rows lines') link unprepared leaves
     dealing (Err cut) place' maildir' file' lines' skipped link (rows, inr is) leaves = dealing_carried (Err cut) (scene place' maildir' file' rows lines') skipped link is leaves

@@ -1,5 +1,5 @@
 -- What a session with a joined listing said and read, as the law over runs takes it.
-use Rattle.std.proofs.Common.{◌≡◌, inl, inr, ℕ, List, [], ◌∷◌, ◌++◌, true, Option, refl, sym, ap, subst, ◌∙◌, append_assoc}
+use Rattle.std.proofs.Common.{◌≡◌, inl, inr, ℕ, List, [], ◌∷◌, ◌++◌, map, true, Option, Some, refl, sym, ap, subst, ◌∙◌, append_assoc}
 use Rattle.std.specs.List.{flat_map, AllByRecursion}
 use Rattle.std.proofs.lemmas.List.{append-nil}
 use Rattle.pop3_wire.specs.declared.command.Command.{Command}
@@ -13,26 +13,27 @@ use Rattle.mail_terms.specs.Listing.{Joins}
 use Rattle.mail_terms.specs.declared.listing.UidRow.{UidRow}
 use Rattle.mail_terms.specs.declared.listing.ScanRow.{ScanRow}
 use Rattle.pop3_client.specs.Turns.{Turn, quit, rset}
-use Rattle.pop3_wire.specs.Honest.{FrontsAreAsked}
+use Rattle.pop3_wire.specs.Honest.{BeginsNext, FrontsAreAsked}
 use Rattle.run_law.specs.Readings.{AreGood, Talked as IsTalked, IsListed, Retrieves}
 use Rattle.run_law.specs.Sessions.{BeginsOne}
 use Rattle.fetch_session.specs.Opening.{opening, Opened}
-use Rattle.fetch_session.specs.Task.{Task}
+use Rattle.fetch_session.specs.Task.{Task, turns_in}
 use Rattle.pop3_client.specs.declared.fault.Asked.TheVariants.{Greeting as ByGreeting, User as ByUser, Pass as ByPass, Stat as ByStat, Uidl as ByUidl, List as ByList, Retr as ByRetr, Dele as ByDele, Quit as ByQuit}
 use Rattle.fetch_session.specs.declared.fault.Fault.{Fault}
 use Rattle.fetch_session.specs.declared.fault.Fault.TheVariants.{ConnectionEnded, ReadFailed, WriteFailed, ReplyTooLong, BadReply, Refused, BadListing, ListingsDisagree, TooMany, TextTooLong, StoreRefused, SeenRefused, NoMemory, BadSeen}
 use Rattle.fetch_session.specs.Tail.{tail, turns_in as tail_turns}
 use Rattle.fetch_session.specs.Laws.{TurnsJoin}
 use Rattle.fetch_runs.specs.Conversations.{Conversation}
+use Rattle.fetch_runs.specs.Steps.{SaysOnly}
 use Rattle.fetch_runs.proofs.Courses.{Course, found_of, begun_of, IsOfTask}
 use Rattle.fetch_runs.proofs.TalkParts.{conversation}
-use Rattle.fetch_runs.proofs.TalkCommands.{commands_in, CanBeSaid, Commanded, commanded, begins_one, all_append, all_front, all_back}
+use Rattle.fetch_runs.proofs.TalkCommands.{commands_in, CanBeSaid, Commanded, commanded, both_none, begins_any, begins_one, all_append, all_front, all_back}
 use Rattle.fetch_runs.proofs.TalkReplies.{IsCommand, IsPlain, reply_read, replies_read}
 use Rattle.fetch_runs.proofs.TalkTasks.{said_tasks, commands_tasks, commands_split, of_tasks}
 use Rattle.fetch_runs.proofs.TalkCourses.{Took}
 use Rattle.fetch_runs.proofs.TalkOpenings.{Replied, replied, no_body, said_opening, listed}
 
-pub record Speaks (c : Course) (sent got : List ℕ) : Type 0 where
+pub record Speaks (c : Course) (turns : List Turn) (sent got : List ℕ) : Type 0 where
   pub name : List ℕ
   pub word : List ℕ
   pub more : List Command
@@ -47,6 +48,8 @@ pub record Speaks (c : Course) (sent got : List ℕ) : Type 0 where
   pub retrieves : Retrieves (User name ∷ Pass word ∷ Stat ∷ UidlAll ∷ ListAll ∷ more) (user ∷ pass ∷ stat ∷ uidl ∷ list ∷ replies) (found_of c)
   pub deletes : AllByRecursion (IsOfTask (begun_of c)) (User name ∷ Pass word ∷ Stat ∷ UidlAll ∷ ListAll ∷ more)
   pub next : BeginsOne (IsOfTask (begun_of c)) talked.asked.part
+  -- where no task was begun, no more was said than the tail
+  pub stops : begun_of c ≡ [] → SaysOnly turns more talked.asked.part
 
 -- the turns behind a fault
 pub data IsTail : List Turn → Type 0 where
@@ -83,6 +86,11 @@ said_tail turns silent = tt
 said_tail turns leaves = ((refl, tt), tt)
 said_tail turns undoes = ((refl, tt), ((refl, tt), tt))
 
+tail_back : (turns : List Turn) → IsTail turns → turns ≡ map Some (commands_in turns)
+tail_back turns silent = refl
+tail_back turns leaves = refl
+tail_back turns undoes = refl
+
 pub of_tail_tasks : (tasks : List Task) (turns : List Turn) → IsTail turns → AllByRecursion (IsOfTask tasks) (commands_in turns)
 of_tail_tasks tasks turns silent = tt
 of_tail_tasks tasks turns leaves = (tt, tt)
@@ -116,7 +124,7 @@ module _ (joining : TurnsJoin) (law : FrontsAreAsked) (name word : List ℕ) (na
   speaks : (c : Course) (count : ℕ) (uids : List UidRow) (sizes : List ScanRow) (start mid : Place) (turns : List Turn) (kind : IsTail turns) (link : Link) (opened : Opened name word start mid count uids sizes)
       → Joins count uids sizes c.items → AllByRecursion IsPlain (begun_of c) → (took : Took c mid turns link) → (r : Replied name word opened.welcome opened.counted opened.named opened.sized)
       → (sent got : List ℕ) → Conversation (opening name word ++ took.done) ((opened.welcome ++ opened.counted ∷ opened.named ∷ opened.sized ∷ []) ++ took.replies) took.begun turns sent got
-      → Speaks c sent got
+      → Speaks c turns sent got
   speaks c count uids sizes start mid turns kind link opened joins plain took r sent got said = record {
     name = name;
     word = word;
@@ -150,6 +158,7 @@ module _ (joining : TurnsJoin) (law : FrontsAreAsked) (name word : List ℕ) (na
     retrieves = took.read (whole.ahead ++ whole.ends);
     deletes = (tt, (tt, (tt, (tt, (tt, all_of_tasks)))));
     next = next_of_tasks (begun_of c) (opening name word ++ took.done) took.begun turns sent kind whole (tt, (tt, (tt, (tt, (tt, tasked)))));
+    stops = says_only;
   }
     where
       behind : List WholeReply
@@ -172,13 +181,28 @@ module _ (joining : TurnsJoin) (law : FrontsAreAsked) (name word : List ℕ) (na
       later : AreGood (commands_in took.done ++ (whole.ahead ++ whole.ends)) took.replies
       later = replies_read took.done took.replies (whole.ahead ++ whole.ends) (all_front IsCommand took.done took.begun (subst (AllByRecursion IsCommand) took.all (commands_tasks (begun_of c) plain))) took.talked.good
 
+      says_only : begun_of c ≡ [] → SaysOnly turns (commands_in took.done ++ (whole.ahead ++ whole.ends)) whole.asked.part
+      says_only none =
+          let turns' = both_none took.done took.begun (sym took.all ∙ ap (λ (ts : List Task). flat_map turns_in ts) none) in
+          let none' = both_none whole.ahead whole.unsaid (sym whole.of_begun ∙ ap commands_in turns'.1) in
+          let said_is : commands_in took.done ++ (whole.ahead ++ whole.ends) ≡ whole.ends =
+          ap (λ (ts : List Turn). commands_in ts ++ (whole.ahead ++ whole.ends)) turns'.0 ∙ ap (λ (cs : List Command). cs ++ whole.ends) none'.0 in
+          record {
+            later = whole.unended;
+            split = tail_back turns kind ∙ ap (map Some) whole.of_tail ∙ ap (λ (cs : List Command). map Some (cs ++ whole.unended)) (sym said_is);
+            begins = elim whole.next_is [
+              | inl is ↦ begins_any whole.unended whole.asked.part (subst (λ (cs : List Command). BeginsNext cs whole.asked.part) (is ∙ none'.1) whole.begins)
+              | inr is ↦ subst (λ (cs : List Command). BeginsNext cs whole.asked.part) is whole.begins
+            ];
+          }
+
       all_of_tasks : AllByRecursion (IsOfTask (begun_of c)) (commands_in took.done ++ (whole.ahead ++ whole.ends))
       all_of_tasks = (said_of_tasks (begun_of c) (opening name word ++ took.done) took.begun turns sent kind whole (tt, (tt, (tt, (tt, (tt, tasked)))))).1.1.1.1.1
 
   -- a session that joined its listing
   pub spoken : (c : Course) (count : ℕ) (uids : List UidRow) (sizes : List ScanRow) (start mid : Place) (turns : List Turn) (kind : IsTail turns) (link : Link) → start.waiting ≡ []
       → (opened : Opened name word start mid count uids sizes) → Joins count uids sizes c.items → AllByRecursion IsPlain (begun_of c) → (took : Took c mid turns link)
-      → (sent got : List ℕ) × (link.sent ≡ start.link.sent ++ sent) × (link.got ≡ start.link.got ++ got) × Speaks c sent got
+      → (sent got : List ℕ) × (link.sent ≡ start.link.sent ++ sent) × (link.got ≡ start.link.got ++ got) × Speaks c turns sent got
       × Conversation (opening name word ++ took.done) ((opened.welcome ++ opened.counted ∷ opened.named ∷ opened.sized ∷ []) ++ took.replies) took.begun turns sent got
   spoken c count uids sizes start mid turns kind link none opened joins plain took =
       let first = opened.welcome ++ opened.counted ∷ opened.named ∷ opened.sized ∷ [] in

@@ -9,7 +9,11 @@ use Rattle.pop3_wire.specs.Link.{Link}
 use Rattle.pop3_wire.specs.Reading.{WholeReply, reply_bytes}
 use Rattle.pop3_client.specs.Turns.{Turn, asking, greeting, retr, IsGood}
 use Rattle.mail_terms.specs.Listing.{Item}
-use Rattle.fetch_rules.specs.Record.{Row}
+use Rattle.fetch_rules.specs.Record.{Row, merged}
+use Rattle.mail_store.specs.FlatFile.{Stored}
+use Rattle.mail_store.specs.Held.{flags_of}
+use Rattle.mail_store.specs.Maildir.{Maildir}
+use Rattle.fetch_session.specs.Record.{KeepsRows}
 use Rattle.fetch_rules.specs.Plan.{planned}
 use Rattle.fetch_rules.specs.declared.steps.Step.{Step}
 use Rattle.rc_file.specs.Settings.{IsValid}
@@ -82,11 +86,20 @@ pub record Opens (settings : Settings) (report : Report) (sent got : List ℕ) :
   pub asked : Asked commands sent
   pub front : IsFrontOfPlan (string_bytes settings.username) (string_bytes settings.password) [] commands
 
--- a session whose listing was joined spoke by the plan for it
-pub record SpeaksByPlan (settings : Settings) (now : ℕ) (report : Report) (sent got : List ℕ) : Type 0 where
+-- the rows are those that the record's file stood for, with the listing and what was found held merged into them
+pub record AreFound (account : List ℕ) (now : ℕ) (maildir : Maildir) (file : Stored) (items : List Item) (rows : List Row) : Type 0 where
+  pub was : List Row
+  pub stood : KeepsRows file.content was
+  pub merged_is : rows ≡ merged was items (flags_of account maildir items) now
+
+-- a session whose listing was joined spoke by the plan for it, the record and the Maildir that it found; or it didn't come to a plan, and
+-- nothing was begun behind the opening but the tail
+pub record SpeaksByPlan (settings : Settings) (account : List ℕ) (now : ℕ) (before : Kept) (report : Report) (sent got : List ℕ) : Type 0 where
   pub items : List Item
   pub rows : List Row
   pub said : Converses (plan_turns (string_bytes settings.username) (string_bytes settings.password) (planned settings rows items now)) (tail_behind report.outcome) sent got
+  pub found : AreFound account now before.maildir before.file items rows
+      ⊎ ((said.done ≡ opening (string_bytes settings.username) (string_bytes settings.password)) × (said.begun ≡ []))
   pub commands : List Command
   pub asked : Asked commands sent
   pub front : IsFrontOfPlan (string_bytes settings.username) (string_bytes settings.password) (planned settings rows items now) commands
@@ -107,4 +120,4 @@ abbrev pub SessionsAreConversations : Type 0
 SessionsAreConversations = (settings : Settings) (account : List ℕ) (now : ℕ) (link : Link) (before : Kept) (report : Report) (link' : Link) (after : Kept)
     → IsValid settings → Session settings account now link before report link' after
     → (sent got : List ℕ) × (link'.sent ≡ link.sent ++ sent) × (link'.got ≡ link.got ++ got)
-    × (Opens settings report sent got ⊎ SpeaksByPlan settings now report sent got)
+    × (Opens settings report sent got ⊎ SpeaksByPlan settings account now before report sent got)

@@ -1,8 +1,9 @@
 -- Where a server's unique-ids are distinct and persistent and its mail unchanged, after any list of sessions, each cut at
 -- any reply or refused write, the Maildir holds exactly a prefix of the selected messages in maildrop order, each once,
 -- byte for byte with lines ended by LF; an uncut session leaves out only what its limits exclude; and DELE was sent only
--- for messages held.
-use Rattle.std.specs.Prelude.{◌≡◌, ◌⊎◌, ◌<◌, ◌-◌, ℕ, true, false, List, [], ◌∷◌, ◌++◌, Some, slice_get}
+-- for messages held. What a reader took away is no fault of ours: it counts as held here.
+use Rattle.std.specs.Prelude.{◌≡◌, ◌≢◌, ◌⊎◌, ◌<◌, ◌-◌, ℕ, true, false, List, [], ◌∷◌, ◌++◌, Some, slice_get, bytes_eq}
+use Rattle.std.specs.String.{string_bytes}
 use Rattle.std.specs.List.{AllByRecursion}
 use Rattle.pop3_wire.specs.declared.command.Command.{Command}
 use Rattle.pop3_wire.specs.declared.command.Command.TheVariants.{Dele}
@@ -12,9 +13,9 @@ use Rattle.pop3_wire.specs.World.{Message, IsWorld, maildrop_of}
 use Rattle.mail_terms.specs.UniqueId.{is_legal_id, has_id}
 use Rattle.rc_file.specs.Settings.{IsValid}
 use Rattle.rc_file.specs.declared.settings.Settings.{Settings}
-use Rattle.fetch_rules.specs.Record.{Row, merged}
+use Rattle.fetch_rules.specs.Record.{Row, is_delivered, merged}
 use Rattle.fetch_rules.specs.Wanted.{candidates}
-use Rattle.mail_store.specs.FileName.{name_of, is_held}
+use Rattle.mail_store.specs.FileName.{account_text, name_of, is_held}
 use Rattle.mail_store.specs.Held.{flags_of}
 use Rattle.mail_store.specs.Maildir.{Maildir, File}
 use Rattle.fetch_session.specs.Account.{digits_of}
@@ -25,32 +26,49 @@ use Rattle.fetch_session.specs.declared.report.Report.{Report}
 use Rattle.run_law.specs.Mails.{listing_of, is_selected}
 use Rattle.run_law.specs.Accounts.{Moves, KeepsOthers, copies, files}
 use Rattle.run_law.specs.Steps.{ids_wanted}
-use Rattle.run_law.specs.Runs.{Frame, Situation, Kept as IsKeptIn, HoldsExactly, past_limit}
+use Rattle.run_law.specs.Runs.{Frame, Situation, Kept as IsKeptIn, HoldsExactly, HoldsWhatIsLeft, past_limit}
 use Rattle.run_law.specs.Sessions.{BeginsOne, Served}
 use Rattle.fetch_runs.specs.Steps.{holds}
 
 -- ---- the world: unique-ids are distinct and persistent, and the mail unchanged
 
--- whose mail it is, and all of it that ever comes, in order of arrival
+-- whose mail it is: the server, the port and the user name, which make the account; the limit on sizes; and all mail that ever comes, in
+-- order of arrival
 pub record World : Type 0 where
-  pub settings : Settings
+  pub server : List ℕ
+  pub port : ℕ
+  pub username : List ℕ
+  pub max_size : ℕ
   pub all : List Message
 
--- the settings are such as an rc file gives, and no unique-id stands twice
-pub record IsSound (world : World) : Type 0 where
-  pub settings : IsValid world.settings
-  pub mail : IsWorld world.all
+-- no unique-id stands twice
+abbrev pub IsSound : World → Type 0
+IsSound world = IsWorld world.all
 
--- the Maildir and the record's file, and which ids are gone from the server
+-- the digits in the names of the account's files
+abbrev pub account_of : World → List ℕ
+account_of world = account_text world.server world.port world.username
+
+-- settings such as an rc file gives, for this account and with this limit on sizes: the others are a session's own
+pub record AreSettings (world : World) (settings : Settings) : Type 0 where
+  pub valid : IsValid settings
+  pub server : string_bytes settings.server ≡ world.server
+  pub port : settings.port ≡ world.port
+  pub username : string_bytes settings.username ≡ world.username
+  pub max_size : settings.max_size ≡ world.max_size
+
+-- the Maildir and the record's file, which ids are gone from the server, and which messages were ever taken away from the Maildir
 pub record State : Type 0 where
   pub kept : Kept
   pub gone : List (List ℕ)
+  pub taken : List (List ℕ)
 
 -- ---- any list of sessions
 
--- one session: when it was, what it told, its link before and after it, and what it left; how much mail had come by then,
+-- one session: its settings, when it was, what it told, its link before and after it, and what it left; how much mail had come by then,
 -- and which ids went with its QUIT
 pub record Occasion : Type 0 where
+  pub settings : Settings
   pub now : ℕ
   pub report : Report
   pub link : Link
@@ -59,10 +77,14 @@ pub record Occasion : Type 0 where
   pub come : ℕ
   pub vanished : List (List ℕ)
 
--- a session, or a move of a file by a reader
+-- a session; a move of a file by a reader; whatever else leaves the record and the account's messages as they are; messages that are
+-- gone from the server without a session; and a message that its reader throws away or files elsewhere
 pub data Event : Type 0 where
   Fetched : Occasion → Event
   Moved : Maildir → Event
+  Between : Kept → Event
+  Expired : List (List ℕ) → Event
+  TakenAway : List ℕ → Kept → Event
 
 -- the maildrop of an occasion
 abbrev pub maildrop_at : World → State → Occasion → List Message
@@ -70,17 +92,50 @@ maildrop_at world state occasion = maildrop_of world.all occasion.come state.gon
 
 -- it was a session, whatever cut it, and all that its link gained came from an honest server with this maildrop
 pub record IsSession (world : World) (state : State) (occasion : Occasion) : Type 0 where
-  pub session : Session world.settings (digits_of world.settings) occasion.now occasion.link state.kept occasion.report occasion.link' occasion.after
+  pub settings : AreSettings world occasion.settings
+  pub session : Session occasion.settings (digits_of occasion.settings) occasion.now occasion.link state.kept occasion.report occasion.link' occasion.after
   pub served : (sent got : List ℕ) → occasion.link'.sent ≡ occasion.link.sent ++ sent → occasion.link'.got ≡ occasion.link.got ++ got
       → Served (maildrop_at world state occasion) sent got occasion.vanished
 
+-- the record's file stands for the rows that it stood for
+abbrev pub KeepsRecord : Kept → Kept → Type 0
+KeepsRecord before after = (rows : List Row) → KeepsRows before.file.content rows → KeepsRows after.file.content rows
+
+-- what the files of an id's name hold, in `new` and `cur` together
+abbrev pub contents_of : World → Kept → List ℕ → List (List ℕ)
+contents_of world state id = copies (files (holds [] state.maildir)) (name_of (account_of world) id)
+
+-- and of each legal id the files hold what they held: the counts of refusals, the file that was begun, which folders are there, the
+-- suffixes that readers put behind names, and files of other names may all have changed
+pub record IsBetween (world : World) (before after : Kept) : Type 0 where
+  pub record_is : KeepsRecord before after
+  pub mail : (id : List ℕ) → is_legal_id id ≡ true → contents_of world after id ≡ contents_of world before id
+
+-- it was held, and is no more; and all else of the account is as it was
+pub record IsTakenAway (world : World) (before : Kept) (id : List ℕ) (after : Kept) : Type 0 where
+  pub legal : is_legal_id id ≡ true
+  pub held : is_held (account_of world) before.maildir id ≡ true
+  pub none : contents_of world after id ≡ []
+  pub record_is : KeepsRecord before after
+  pub others : (other : List ℕ) → is_legal_id other ≡ true → bytes_eq other id ≡ false → contents_of world after other ≡ contents_of world before other
+
+-- it was held, or was taken away before
+abbrev pub IsFetched : World → State → List ℕ → Type 0
+IsFetched world state id = (is_legal_id id ≡ true) × ((is_held (account_of world) state.kept.maildir id ≡ true) ⊎ (has_id state.taken id ≡ true))
+
 abbrev pub after_event : State → Event → State
-after_event state (Fetched occasion) = record { kept = occasion.after; gone = state.gone ++ occasion.vanished }
+after_event state (Fetched occasion) = record state { kept = occasion.after; gone = state.gone ++ occasion.vanished }
 after_event state (Moved maildir) = record state { kept = kept maildir state.kept.file }
+after_event state (Between after) = record state { kept = after }
+after_event state (Expired ids) = record state { gone = state.gone ++ ids }
+after_event state (TakenAway id after) = record state { kept = after; taken = id ∷ state.taken }
 
 abbrev pub Follows : World → State → Event → Type 0
 Follows world state (Fetched occasion) = IsSession world state occasion
 Follows world state (Moved maildir) = Moves (holds [] state.kept.maildir) (holds [] maildir)
+Follows world state (Between after) = IsBetween world state.kept after
+Follows world state (Expired ids) = AllByRecursion (IsFetched world state) ids
+Follows world state (TakenAway id after) = IsTakenAway world state.kept id after
 
 abbrev pub IsRun : World → State → List Event → Type 0
 IsRun world state [] = Unit {0}
@@ -89,33 +144,41 @@ IsRun world state (event ∷ events) = Follows world state event × IsRun world 
 -- ---- what is promised
 
 abbrev pub frame_of : World → Frame
-frame_of world = record { account = digits_of world.settings; max_size = world.settings.max_size; all = world.all }
+frame_of world = record { account = account_of world; max_size = world.max_size; all = world.all }
 
--- the Maildir holds exactly the first of the selected messages, each in one file with its text, and no other
+-- an account whose record has these rows, and what became of its messages
+abbrev pub situation : List Row → State → Situation
+situation rows state = record { account = holds rows state.kept.maildir; gone = state.gone; taken = state.taken }
+
+-- the Maildir holds exactly the first of the selected messages, each in one file with its text, but for those that were taken away, and no
+-- other
 abbrev pub HoldsAPrefix : World → State → Type 0
-HoldsAPrefix world state = HoldsExactly (frame_of world) (holds [] state.kept.maildir)
+HoldsAPrefix world state = HoldsWhatIsLeft (frame_of world) (situation [] state)
+
+-- a message is held when a session returns, or was taken away before it began
+abbrev pub IsHeldAfter : World → State → Occasion → List ℕ → Type 0
+IsHeldAfter world state occasion id = (is_held (account_of world) occasion.after.maildir id ≡ true) ⊎ (has_id state.taken id ≡ true)
 
 -- the message could be fetched, and others that could stand before it, as many as are fetched in one session
 abbrev pub IsPastCount : World → State → Occasion → Message → Type 0
 IsPastCount world state occasion message =
     let listing = listing_of (maildrop_at world state occasion) in
-    let account = digits_of world.settings in
     (rows : List Row) × KeepsRows state.kept.file.content rows
-    × (has_id (ids_wanted (past_limit world.settings.max_count
-    (candidates world.settings (merged rows listing (flags_of account state.kept.maildir listing) occasion.now) listing))) message.uid ≡ true)
+    × (has_id (ids_wanted (past_limit occasion.settings.max_count
+    (candidates occasion.settings (merged rows listing (flags_of (account_of world) state.kept.maildir listing) occasion.now) listing))) message.uid ≡ true)
 
--- each message of the maildrop is held after an uncut session, or is larger than the limit, or behind the first so many
+-- each message of the maildrop is held after an uncut session, or was taken away, or is larger than the limit, or behind the first so many
 abbrev pub LeavesOutOnlyBeyondLimits : World → State → Occasion → Type 0
 LeavesOutOnlyBeyondLimits world state occasion = occasion.report.outcome ≡ Ended → AllByRecursion (λ (message : Message).
-    (is_held (digits_of world.settings) occasion.after.maildir message.uid ≡ true)
-    ⊎ (is_selected world.settings.max_size message ≡ false)
+    IsHeldAfter world state occasion message.uid
+    ⊎ (is_selected world.max_size message ≡ false)
     ⊎ IsPastCount world state occasion message)
     (maildrop_at world state occasion)
 
--- a DELE is for a message of the maildrop, counted from 1, that is held when the session returns
+-- a DELE is for a message of the maildrop, counted from 1, that is held when the session returns, or was taken away
 abbrev pub IsForHeld : World → State → Occasion → Command → Type 0
 IsForHeld world state occasion (Dele number) = (0 < number) × (message : Message) × (slice_get (maildrop_at world state occasion) (number - 1) ≡ Some message)
-    × (is_held (digits_of world.settings) occasion.after.maildir message.uid ≡ true)
+    × IsHeldAfter world state occasion message.uid
 IsForHeld world state occasion _ = Unit {0}
 
 -- the commands that were sent, the last perhaps in part
@@ -129,7 +192,7 @@ pub record DeletesOnlyHeld (world : World) (state : State) (occasion : Occasion)
 
 -- files of other names stay
 abbrev pub OthersStay : World → State → State → Type 0
-OthersStay world before after = KeepsOthers (digits_of world.settings) (holds [] before.kept.maildir) (holds [] after.kept.maildir)
+OthersStay world before after = KeepsOthers (account_of world) (holds [] before.kept.maildir) (holds [] after.kept.maildir)
 
 -- every file of `new` and `cur` is there as before, and what came stands behind those of `new`: so a session loses none
 pub record FilesStay (before after : Maildir) : Type 0 where
@@ -137,11 +200,22 @@ pub record FilesStay (before after : Maildir) : Type 0 where
   pub in_new : after.in_new ≡ before.in_new ++ gained
   pub in_cur : after.in_cur ≡ before.in_cur
 
+-- the record's file stands for a record that has the id as delivered
+abbrev pub IsRecorded : Kept → List ℕ → Type 0
+IsRecorded state id = (rows : List Row) × KeepsRows state.file.content rows × (is_delivered rows id ≡ true)
+
+-- where messages that were delivered aren't read again, none that is recorded as delivered is stored, and it stays recorded
+abbrev pub StoresOnlyNew : World → State → Occasion → Type 0
+StoresOnlyNew world state occasion = occasion.settings.read_all ≡ false → (id : List ℕ) → is_legal_id id ≡ true → IsRecorded state.kept id
+    → (contents_of world occasion.after id ≡ contents_of world state.kept id) × IsRecorded occasion.after id
+
+-- of what others do nothing is promised, but that a reader's moves leave files of other names
 abbrev pub Promised : World → State → Event → Type 0
 Promised world state (Fetched occasion) =
     LeavesOutOnlyBeyondLimits world state occasion × DeletesOnlyHeld world state occasion × OthersStay world state (after_event state (Fetched occasion))
-    × FilesStay state.kept.maildir occasion.after.maildir
+    × FilesStay state.kept.maildir occasion.after.maildir × StoresOnlyNew world state occasion
 Promised world state (Moved maildir) = OthersStay world state (after_event state (Moved maildir))
+Promised world state _ = Unit {0}
 
 -- before and after each event a prefix is held, and each event keeps what is promised of it
 abbrev pub Promises : World → State → List Event → Type 0
@@ -150,25 +224,25 @@ Promises world state (event ∷ events) = HoldsAPrefix world state × Promised w
 
 -- ---- where it begins, and where it can go on
 
--- the record's file stands for a record that speaks only of messages that are held, and so do the ids that are gone
+-- the record's file stands for a record that speaks only of messages that are held or were taken away, and so do the ids that are gone
 abbrev pub IsKept : World → State → Type 0
-IsKept world state = (rows : List Row) × KeepsRows state.kept.file.content rows
-    × IsKeptIn (frame_of world) (let situation : Situation = record { account = holds rows state.kept.maildir; gone = state.gone } in situation)
+IsKept world state = (rows : List Row) × KeepsRows state.kept.file.content rows × IsKeptIn (frame_of world) (situation rows state)
 
 abbrev pub state_after : State → List Event → State
 state_after state [] = state
 state_after state (event ∷ events) = state_after (after_event state event) events
 
--- the sentence: from a kept state, over any list of sessions and moves
+-- the sentence: from a kept state, over any list of sessions, and of what happens between them
 abbrev pub Headline : Type 0
 Headline = (world : World) (start : State) (events : List Event) → IsSound world → IsKept world start → IsRun world start events
     → Promises world start events × IsKept world (state_after start events)
 
--- the record's file isn't there or holds an empty record, no file is the account's own, and nothing is gone
+-- the record's file isn't there or holds an empty record, no file is the account's own, nothing is gone, and nothing was taken away
 pub record IsEmpty (world : World) (state : State) : Type 0 where
   pub record_is : KeepsRows state.kept.file.content []
-  pub no_file : (id : List ℕ) → is_legal_id id ≡ true → copies (files (holds [] state.kept.maildir)) (name_of (digits_of world.settings) id) ≡ []
+  pub no_file : (id : List ℕ) → is_legal_id id ≡ true → contents_of world state.kept id ≡ []
   pub none_gone : state.gone ≡ []
+  pub none_taken : state.taken ≡ []
 
 -- the empty account is kept
 abbrev pub EmptyIsKept : Type 0
@@ -177,3 +251,83 @@ EmptyIsKept = (world : World) (start : State) → IsEmpty world start → IsKept
 -- so the sentence holds from the first session on
 abbrev pub HeadlineFromEmpty : Type 0
 HeadlineFromEmpty = (world : World) (start : State) (events : List Event) → IsSound world → IsEmpty world start → IsRun world start events → Promises world start events
+
+-- ---- where nothing is taken away
+
+abbrev pub TakesNoneAway : List Event → Type 0
+TakesNoneAway [] = Unit {0}
+TakesNoneAway (TakenAway id after ∷ events) = ⊥
+TakesNoneAway (_ ∷ events) = TakesNoneAway events
+
+-- the Maildir holds exactly the first of the selected messages, each in one file with its text, and no other
+abbrev pub HoldsExactlyAPrefix : World → State → Type 0
+HoldsExactlyAPrefix world state = HoldsExactly (frame_of world) (holds [] state.kept.maildir)
+
+-- each DELE is for a message that is held when the session returns
+abbrev pub IsForOneHeld : World → State → Occasion → Command → Type 0
+IsForOneHeld world state occasion (Dele number) = (0 < number) × (message : Message) × (slice_get (maildrop_at world state occasion) (number - 1) ≡ Some message)
+    × (is_held (account_of world) occasion.after.maildir message.uid ≡ true)
+IsForOneHeld world state occasion _ = Unit {0}
+
+-- a session as the sentence has it, word for word
+pub record IsWordForWord (world : World) (state : State) (occasion : Occasion) : Type 0 where
+  pub left_out : occasion.report.outcome ≡ Ended → AllByRecursion (λ (message : Message).
+      (is_held (account_of world) occasion.after.maildir message.uid ≡ true) ⊎ (is_selected world.max_size message ≡ false) ⊎ IsPastCount world state occasion message)
+      (maildrop_at world state occasion)
+  pub sent : List ℕ
+  pub sent_is : occasion.link'.sent ≡ occasion.link.sent ++ sent
+  pub commands : List Command
+  pub asked : Asked commands sent
+  pub each : AllByRecursion (IsForOneHeld world state occasion) commands
+  pub next : BeginsOne (IsForOneHeld world state occasion) asked.part
+
+abbrev pub SaysTheSentence : World → State → Event → Type 0
+SaysTheSentence world state (Fetched occasion) = IsWordForWord world state occasion
+SaysTheSentence world state _ = Unit {0}
+
+abbrev pub SayTheSentence : World → State → List Event → Type 0
+SayTheSentence world state [] = HoldsExactlyAPrefix world state
+SayTheSentence world state (event ∷ events) = HoldsExactlyAPrefix world state × SaysTheSentence world state event × SayTheSentence world (after_event state event) events
+
+-- then it is the sentence, word for word
+abbrev pub HeadlineWordForWord : Type 0
+HeadlineWordForWord = (world : World) (start : State) (events : List Event) → IsSound world → IsKept world start → IsRun world start events
+    → start.taken ≡ [] → TakesNoneAway events → SayTheSentence world start events
+
+-- ---- what is taken away stays away
+
+-- each session of these reads only what is new
+abbrev pub ReadOnlyNew : List Event → Type 0
+ReadOnlyNew [] = Unit {0}
+ReadOnlyNew (Fetched occasion ∷ events) = (occasion.settings.read_all ≡ false) × ReadOnlyNew events
+ReadOnlyNew (_ ∷ events) = ReadOnlyNew events
+
+-- then a message that is recorded as delivered, and isn't held, is never stored again
+abbrev pub StaysAway : Type 0
+StaysAway = (world : World) (start : State) (events : List Event) (id : List ℕ) → IsSound world → IsKept world start → IsRun world start events
+    → ReadOnlyNew events → is_legal_id id ≡ true → IsRecorded start.kept id → contents_of world start.kept id ≡ []
+    → contents_of world (state_after start events).kept id ≡ []
+
+-- ---- a program that starts anew, and one that is stopped
+
+-- the same files of `new` and `cur`, and the same bytes of the record's file: what else is known of them is another process's
+pub record HasTheSameFiles (before after : Kept) : Type 0 where
+  pub in_new : after.maildir.in_new ≡ before.maildir.in_new
+  pub in_cur : after.maildir.in_cur ≡ before.maildir.in_cur
+  pub content : after.file.content ≡ before.file.content
+
+-- a new process, whose counts begin at 0 and which has begun no file, and folders that were made, are between two sessions
+abbrev pub NewProcessesAreBetween : Type 0
+NewProcessesAreBetween = (world : World) (before after : Kept) → HasTheSameFiles before after → IsBetween world before after
+
+-- a program was stopped in a session: the files are as that session leaves them if every call is refused from that moment on, the first of
+-- them with or without effect. That is a session, which was cut
+pub record IsStopped (world : World) (state : State) (occasion : Occasion) (left : Kept) : Type 0 where
+  pub session : IsSession world state occasion
+  pub cut : occasion.report.outcome ≢ Ended
+  pub files : HasTheSameFiles occasion.after left
+
+-- so a stop is a run: the session, and then a new process
+abbrev pub StopsAreRuns : Type 0
+StopsAreRuns = (world : World) (state : State) (occasion : Occasion) (left : Kept) → IsStopped world state occasion left
+    → IsRun world state (Fetched occasion ∷ Between left ∷ [])

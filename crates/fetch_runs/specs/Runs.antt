@@ -1,6 +1,7 @@
 -- Sessions one after another, each over its own link.
 use Rattle.std.specs.Prelude.{◌≡◌, ℕ, List, [], ◌∷◌, ◌++◌}
 use Rattle.std.specs.List.{AllByRecursion}
+use Rattle.std.specs.String.{string_bytes}
 use Rattle.pop3_wire.specs.Link.{Link}
 use Rattle.pop3_wire.specs.World.{Message, maildrop_of}
 use Rattle.rc_file.specs.declared.settings.Settings.{Settings}
@@ -30,14 +31,21 @@ Runs seen settings account (old ∷ olds) first (report ∷ reports) [] last = �
 -- ---- what is promised of them
 
 abbrev pub world_of : Settings → List Message → World
-world_of settings all = record { settings = settings; all = all }
+world_of settings all = record {
+  server = string_bytes settings.server;
+  port = settings.port;
+  username = string_bytes settings.username;
+  max_size = settings.max_size;
+  all = all;
+}
 
-abbrev pub state_of : Kept → List (List ℕ) → State
-state_of kept gone = record { kept = kept; gone = gone }
+abbrev pub state_of : Kept → List (List ℕ) → List (List ℕ) → State
+state_of kept gone taken = record { kept = kept; gone = gone; taken = taken }
 
 -- a visit as an occasion of the headline
-abbrev pub occasion_of : {W : Type 0} → (W → Link) → Visit W → Report → Visit W → Fact → Kept → Occasion
-occasion_of seen old report new fact after = record {
+abbrev pub occasion_of : {W : Type 0} → (W → Link) → Settings → Visit W → Report → Visit W → Fact → Kept → Occasion
+occasion_of seen settings old report new fact after = record {
+  settings = settings;
   now = old.now;
   report = report;
   link = seen old.wire;
@@ -57,10 +65,10 @@ AreServed seen all gone (old ∷ olds) (new ∷ news) (fact ∷ facts) =
 AreServed seen all gone olds news facts = ⊥
 
 -- a prefix is held before and after each visit, each keeps what is promised of it, and the last state is kept
-abbrev pub ArePromised : {W : Type 0} → (W → Link) → World → State → List (Visit W) → List Report → List (Visit W) → List Fact → Kept → Type 0
-ArePromised seen world state [] [] [] [] last = HoldsAPrefix world state × IsKept world state × (state.kept ≡ last)
-ArePromised seen world state (old ∷ olds) (report ∷ reports) (new ∷ news) (fact ∷ facts) last =
-    (between : Kept) × Session world.settings (digits_of world.settings) old.now (seen old.wire) state.kept report (seen new.wire) between
-    × HoldsAPrefix world state × Promised world state (Fetched (occasion_of seen old report new fact between))
-    × ArePromised seen world (after_event state (Fetched (occasion_of seen old report new fact between))) olds reports news facts last
-ArePromised seen world state olds reports news facts last = ⊥
+abbrev pub ArePromised : {W : Type 0} → (W → Link) → Settings → World → State → List (Visit W) → List Report → List (Visit W) → List Fact → Kept → Type 0
+ArePromised seen settings world state [] [] [] [] last = HoldsAPrefix world state × IsKept world state × (state.kept ≡ last)
+ArePromised seen settings world state (old ∷ olds) (report ∷ reports) (new ∷ news) (fact ∷ facts) last =
+    (between : Kept) × Session settings (digits_of settings) old.now (seen old.wire) state.kept report (seen new.wire) between
+    × HoldsAPrefix world state × Promised world state (Fetched (occasion_of seen settings old report new fact between))
+    × ArePromised seen settings world (after_event state (Fetched (occasion_of seen settings old report new fact between))) olds reports news facts last
+ArePromised seen settings world state olds reports news facts last = ⊥

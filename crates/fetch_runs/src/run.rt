@@ -40,10 +40,10 @@ pub fn run_sessions<W: Wire, D: MaildirDisk, F: FlatFile, H: BuildHasher>(
         × Runs W.seen account.old.settings (digits_of account.old.settings) visits.old (kept (D.maildir account.old.disk) (F.stored account.old.file))
         reports.items visits.new (kept (D.maildir account.new.disk) (F.stored account.new.file))) }
     ensures promised { IfOk result (λ reports. AreSound W.sound visits.new → D.sound account.new.disk → F.sound account.new.file
-        → (all : List Message) (gone : List (List ℕ)) (facts : List Fact) → IsWorld all
-        → IsKept (world_of account.old.settings all) (state_of (kept (D.maildir account.old.disk) (F.stored account.old.file)) gone)
+        → (all : List Message) (gone taken : List (List ℕ)) (facts : List Fact) → IsWorld all
+        → IsKept (world_of account.old.settings all) (state_of (kept (D.maildir account.old.disk) (F.stored account.old.file)) gone taken)
         → AreServed W.seen all gone visits.old visits.new facts
-        → ArePromised W.seen (world_of account.old.settings all) (state_of (kept (D.maildir account.old.disk) (F.stored account.old.file)) gone)
+        → ArePromised W.seen account.old.settings (world_of account.old.settings all) (state_of (kept (D.maildir account.old.disk) (F.stored account.old.file)) gone taken)
         visits.old reports.items visits.new facts (kept (D.maildir account.new.disk) (F.stored account.new.file))) }
 {
     headline();

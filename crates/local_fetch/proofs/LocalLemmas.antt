@@ -141,9 +141,10 @@ record Sends (settings : Settings) (sent : List ℕ) : Type 0 where
   asked : Asked commands sent
   front : IsFrontOfPlan (string_bytes settings.username) (string_bytes settings.password) steps commands
 
-sends : (settings : Settings) (now : ℕ) (report : Report) (sent got : List ℕ) → Opens settings report sent got ⊎ SpeaksByPlan settings now report sent got → Sends settings sent
-sends settings now report sent got (inl said) = record { steps = []; commands = said.commands; asked = said.asked; front = said.front }
-sends settings now report sent got (inr said) = record { steps = planned settings said.rows said.items now; commands = said.commands; asked = said.asked; front = said.front }
+sends : (settings : Settings) (account : List ℕ) (now : ℕ) (before : Kept) (report : Report) (sent got : List ℕ) → Opens settings report sent got ⊎ SpeaksByPlan settings account now before report sent got
+    → Sends settings sent
+sends settings account now before report sent got (inl said) = record { steps = []; commands = said.commands; asked = said.asked; front = said.front }
+sends settings account now before report sent got (inr said) = record { steps = planned settings said.rows said.items now; commands = said.commands; asked = said.asked; front = said.front }
 
 module _ {M : Type 0} (sound : M → Type 0) (mail : M → Mail) (conversations : SessionsAreConversations) (honesty : GivesHonest sound mail) where
   from_new : (settings : Settings) (account : List ℕ) (now : ℕ) (server : Machine M) (loop : Loop M) (before : Kept) (report : Report) (after : Kept) → IsNew (loop_to server) → IsValid settings
@@ -151,7 +152,7 @@ module _ {M : Type 0} (sound : M → Type 0) (mail : M → Mail) (conversations 
       → AllByRecursion IsMessage (there (mail server.drop).slots) → FetchesFrom mail settings account now server loop.machine loop.link before report after
   from_new settings account now server loop before report after is_new valid serves session sound' messages =
       let said = conversations settings account now unused before report loop.link after valid session in
-      let s = sends settings now report said.0 said.1 said.4 in
+      let s = sends settings account now before report said.0 said.1 said.4 in
       let all = honesty (loop_to server) loop s.commands s.asked.part is_new serves
       (are_asked (string_bytes settings.username) (string_bytes settings.password) s.steps s.commands said.0 s.front s.asked) s.asked.no_line
       (said.2 ∙ s.asked.whole ∙ ap (λ (l : List ℕ). l ++ s.asked.part) (sym (lines_same s.commands))) sound' messages in
@@ -174,7 +175,8 @@ module _ {M : Type 0} (sound : M → Type 0) (mail : M → Mail) (conversations 
       (subst (λ (m : Machine M). sound m.drop) last sound') messages)
 
 pub are_sessions : {M : Type 0} (mail : M → Mail) → AreSessions mail
-are_sessions mail world state now come old new link report after local drop = record {
+are_sessions mail world state settings now come old new link report after are local drop = record {
+  settings = are;
   session = local.session;
   served = λ sent got sent_is got_is.
       subst (λ (ms : List Message). Served ms sent got local.vanished) drop

@@ -10,7 +10,7 @@ use Rattle.pop3_server.specs.LoopLink.{Loop}
 use Rattle.fetch_session.specs.Account.{digits_of}
 use Rattle.fetch_session.specs.declared.report.Report.{Report}
 use Rattle.fetch_session.specs.Session.{Kept, Session}
-use Rattle.fetch_runs.specs.Headline.{World, State, IsSession}
+use Rattle.fetch_runs.specs.Headline.{World, State, AreSettings, IsSession}
 
 -- a link that was used for nothing yet
 abbrev pub unused : Link
@@ -36,7 +36,8 @@ pub record FetchesFrom {M : Type 0} (mail : M → Mail) (settings : Settings) (a
 
 -- a law: over the maildrop of a world such a session is one of those that the headline speaks of
 abbrev pub AreSessions : {M : Type 0} → (M → Mail) → Type 0
-AreSessions {M} mail = (world : World) (state : State) (now come : ℕ) (old new : Machine M) (link : Link) (report : Report) (after : Kept)
-    → (local : FetchesFrom mail world.settings (digits_of world.settings) now old new link state.kept report after)
+AreSessions {M} mail = (world : World) (state : State) (settings : Settings) (now come : ℕ) (old new : Machine M) (link : Link) (report : Report) (after : Kept)
+    → AreSettings world settings
+    → (local : FetchesFrom mail settings (digits_of settings) now old new link state.kept report after)
     → there (mail old.drop).slots ≡ maildrop_of world.all come state.gone
-    → IsSession world state (record { now = now; report = report; link = unused; link' = link; after = after; come = come; vanished = local.vanished })
+    → IsSession world state (record { settings = settings; now = now; report = report; link = unused; link' = link; after = after; come = come; vanished = local.vanished })

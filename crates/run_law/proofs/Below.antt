@@ -30,3 +30,13 @@ pub record Below : Type 0 where
   pub marks : Marks
   pub filtered : DistinctAreFiltered
   pub records : Records
+
+-- of the rows of a record
+pub record RowLaws : Type 0 where
+  pub held : (rows : List Row) (listing : List Item) (held : List Bool) (now : ℕ) (uid : List ℕ)
+      → is_delivered (merged rows listing held now) uid ≡ (is_delivered rows uid || is_flagged listing held uid)
+  pub listed : (rows : List Row) (listing : List Item) (held : List Bool) (now : ℕ) (uid : List ℕ)
+      → has_row (merged rows listing held now) uid ≡ (has_row rows uid || has_item listing uid)
+  pub marks : (rows : List Row) (uid other : List ℕ)
+      → is_delivered (marked rows uid) other ≡ (is_delivered rows other || (has_row rows other && bytes_eq uid other))
+  pub keeps : (rows : List Row) (uid other : List ℕ) → has_row (marked rows uid) other ≡ has_row rows other

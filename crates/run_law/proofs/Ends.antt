@@ -16,7 +16,7 @@ use Rattle.run_law.specs.Runs.{Frame, IsFrame, Situation, Visit, Visits, CanEnd}
 use Rattle.run_law.proofs.Ids.{distinct_is, distinct_filter, distinct_take}
 use Rattle.run_law.proofs.Wants.{num_item, wants_by_number, wanted_are, wants_placed, Placed}
 
-are_texts : (drop : List Message) (qs : List (ℕ × Message)) → AllByRecursion (Placed drop) qs → AreTexts drop (map num_item qs) (map (λ (q : ℕ × Message). q.1.text) qs)
+pub are_texts : (drop : List Message) (qs : List (ℕ × Message)) → AllByRecursion (Placed drop) qs → AreTexts drop (map num_item qs) (map (λ (q : ℕ × Message). q.1.text) qs)
 are_texts drop [] h = tt
 are_texts drop (q ∷ qs) h = ((q.1, h.0, refl), are_texts drop qs h.1)
 
@@ -68,7 +68,7 @@ module _ (filtered : DistinctAreFiltered) (frame : Frame) (is : IsFrame frame) (
     ended = λ e. omega (arith, wanted_count);
   }
 
-  honest : IsHonest settings frame.account before.account drop effect
+  honest : IsHonest wanted' drop effect
   honest = record {
     listing = refl;
     texts = subst (λ w. AreTexts drop w effect.texts) (sym is_wanted) (are_texts drop qs (wants_placed settings (merged_rows frame.account before.account bare) drop));

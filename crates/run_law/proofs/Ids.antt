@@ -134,7 +134,7 @@ distinct_filter p (m ∷ ms) d = by (p m) (none_filter p ms m.uid d.0) (distinct
     by true o ih = (o, ih)
     by false o ih = ih
 
-no_texts : (ms : List Message) (id : List ℕ) → has_id (ids_of ms) id ≡ false → texts_of ms id ≡ []
+pub no_texts : (ms : List Message) (id : List ℕ) → has_id (ids_of ms) id ≡ false → texts_of ms id ≡ []
 no_texts [] id e = refl
 no_texts (m ∷ ms) id e = let parts = or_parts _ _ e in
     ap (λ b. map (λ (k : Message). k.text) (cond b (m ∷ filter (λ (k : Message). bytes_eq id k.uid) ms) (filter (λ (k : Message). bytes_eq id k.uid) ms))) parts.0
@@ -150,3 +150,76 @@ lone (m ∷ ms) id d = by (bytes_eq id m.uid) refl (lone ms id d.1)
         let none : texts_of ms id ≡ [] = no_texts ms id (ap (λ i. has_id (ids_of ms) i) (bytes_same id m.uid e) ∙ d.0) in
         omega (arith, ap length none)
     by false e ih = ih
+
+-- ---- the texts of an id in a part of a list
+
+texts_cond : (q : Bool) (m : Message) (f : List Message) (id : List ℕ)
+    → texts_of (cond q (m ∷ f) f) id ≡ cond q (cond (bytes_eq id m.uid) (m.text ∷ texts_of f id) (texts_of f id)) (texts_of f id)
+texts_cond false m f id = refl
+texts_cond true m f id = by (bytes_eq id m.uid)
+  where
+    by : (b : Bool) → map (λ (k : Message). k.text) (cond b (m ∷ filter (λ (k : Message). bytes_eq id k.uid) f) (filter (λ (k : Message). bytes_eq id k.uid) f))
+        ≡ cond b (m.text ∷ texts_of f id) (texts_of f id)
+    by true = refl
+    by false = refl
+
+texts_table : (q e p : Bool) (x : List ℕ) (f t : List (List ℕ)) → (e ≡ true → q ≡ p) → f ≡ cond p t [] → cond q (cond e (x ∷ f) f) f ≡ cond p (cond e (x ∷ t) t) []
+texts_table true true true x f t s i = ap (λ l. x ∷ l) i
+texts_table true true false x f t s i = absurd (both_ways false refl (sym (s refl)))
+texts_table false true true x f t s i = absurd (both_ways false refl (s refl))
+texts_table false true false x f t s i = i
+texts_table true false true x f t s i = i
+texts_table true false false x f t s i = i
+texts_table false false true x f t s i = i
+texts_table false false false x f t s i = i
+
+-- of messages picked by their ids an id has all its texts, or none
+pub texts_filtered : (p : List ℕ → Bool) (ms : List Message) (id : List ℕ) → texts_of (filter (λ (m : Message). p m.uid) ms) id ≡ cond (p id) (texts_of ms id) []
+texts_filtered p [] id = by (p id)
+  where
+    by : (b : Bool) → texts_of [] id ≡ cond b (texts_of [] id) []
+    by true = refl
+    by false = refl
+texts_filtered p (m ∷ ms) id =
+    texts_cond (p m.uid) m (filter (λ (k : Message). p k.uid) ms) id
+    ∙ texts_table (p m.uid) (bytes_eq id m.uid) (p id) m.text (texts_of (filter (λ (k : Message). p k.uid) ms) id) (texts_of ms id)
+    (λ e. ap p (sym (bytes_same id m.uid e))) (texts_filtered p ms id)
+    ∙ ap (λ l. cond (p id) l []) (sym (texts_cond true m ms id))
+
+-- an id of the part has there all the texts that it has in the whole
+abbrev pub HasTextsOf : List Message → List Message → List ℕ → Type 0
+HasTextsOf part ms id = has_id (ids_of part) id ≡ true → texts_of part id ≡ texts_of ms id
+
+pub through : (xs ys zs : List Message) (id : List ℕ) → HasTextsOf xs ys id → HasTextsOf ys zs id → HasTextsOf xs zs id
+through xs ys zs id f g h = let e = f h in e ∙ g (has_texts ys id ∙ ap is_some (sym e) ∙ sym (has_texts xs id) ∙ h)
+
+part_table : (q e h : Bool) (x : List ℕ) (f t : List (List ℕ)) → (e ≡ true → h ≡ false) → (e ≡ true → f ≡ t) → (h ≡ true → f ≡ t)
+    → cond q (e || h) h ≡ true → cond q (cond e (x ∷ f) f) f ≡ cond e (x ∷ t) t
+part_table true true h x f t none same ih is = ap (λ l. x ∷ l) (same refl)
+part_table true false h x f t none same ih is = ih is
+part_table false true h x f t none same ih is = absurd (both_ways h (none refl) is)
+part_table false false h x f t none same ih is = ih is
+
+ids_cond : (q : Bool) (m : Message) (f : List Message) (id : List ℕ) → has_id (ids_of (cond q (m ∷ f) f)) id ≡ cond q (bytes_eq id m.uid || has_id (ids_of f) id) (has_id (ids_of f) id)
+ids_cond true m f id = refl
+ids_cond false m f id = refl
+
+-- a part of the rest of a list, and perhaps its first message
+with_first : (q : Bool) (m : Message) (part ms : List Message) (id : List ℕ) → has_id (ids_of ms) m.uid ≡ false → has_id (ids_of part) m.uid ≡ false
+    → HasTextsOf part ms id → HasTextsOf (cond q (m ∷ part) part) (m ∷ ms) id
+with_first q m part ms id none none' ih is =
+    texts_cond q m part id
+    ∙ part_table q (bytes_eq id m.uid) (has_id (ids_of part) id) m.text (texts_of part id) (texts_of ms id)
+    (λ e. ap (has_id (ids_of part)) (bytes_same id m.uid e) ∙ none')
+    (λ e. no_texts part id (ap (has_id (ids_of part)) (bytes_same id m.uid e) ∙ none') ∙ sym (no_texts ms id (ap (has_id (ids_of ms)) (bytes_same id m.uid e) ∙ none)))
+    ih (sym (ids_cond q m part id) ∙ is)
+    ∙ sym (texts_cond true m ms id)
+
+pub whole_filter : (p : Message → Bool) (ms : List Message) (id : List ℕ) → Distinct (ids_of ms) → HasTextsOf (filter p ms) ms id
+whole_filter p [] id d h = refl
+whole_filter p (m ∷ ms) id d h = with_first (p m) m (filter p ms) ms id d.0 (none_filter p ms m.uid d.0) (whole_filter p ms id d.1) h
+
+pub whole_take : (n : ℕ) (ms : List Message) (id : List ℕ) → Distinct (ids_of ms) → HasTextsOf (take n ms) ms id
+whole_take zero ms id d h = absurd (both_ways false refl h)
+whole_take (suc n) [] id d h = refl
+whole_take (suc n) (m ∷ ms) id d h = with_first true m (take n ms) ms id d.0 (none_take n ms m.uid d.0) (whole_take n ms id d.1) h

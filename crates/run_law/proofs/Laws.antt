@@ -1,7 +1,8 @@
 -- The law over runs, by induction over the events.
-use Rattle.std.proofs.Common.{◌≡◌, ◌≤◌, inl, inr, ℕ, List, [], ◌∷◌, ◌++◌, true, false, length, take, refl, sym, ◌∙◌, ap, subst, arith, length-append}
+use Rattle.std.proofs.Common.{◌≡◌, ◌≤◌, ◌⊎◌, inl, inr, ℕ, List, [], ◌∷◌, ◌++◌, true, false, length, take, refl, sym, ◌∙◌, ap, subst, arith, length-append}
 use Rattle.std.specs.List.{AllByRecursion}
-use Rattle.std.proofs.lemmas.Bool.{both_ways, or_parts, or_from}
+use Rattle.std.proofs.lemmas.Bool.{both_ways, or_parts, or_from, cases_Bool}
+use Rattle.std.specs.Prelude.{bytes_eq}
 use Rattle.std.proofs.lemmas.List.{append-nil, take_at}
 use Rattle.mail_terms.specs.UniqueId.{is_legal_id, has_id}
 use Rattle.pop3_wire.specs.World.{Message}
@@ -10,11 +11,12 @@ use Rattle.mail_store.specs.FileName.{is_held, name_of}
 use Rattle.run_law.specs.Mails.{ids_of, is_selected, selected, texts_of}
 use Rattle.run_law.specs.Accounts.{Account, files, copies, count_files}
 use Rattle.run_law.specs.Steps.{Leaves}
-use Rattle.run_law.specs.Runs.{Frame, IsFrame, Situation, Visit, Event, Visited, Moved, Visits, Run, Kept, after_event, Promises, KeptStaysKept, KeptHoldsExactly}
-use Rattle.run_law.proofs.Below.{Below}
-use Rattle.run_law.proofs.Ids.{Distinct, distinct_is, distinct_filter, lone}
+use Rattle.run_law.specs.Runs.{Frame, IsFrame, Situation, Visit, Event, Visited, Moved, Between, Expired, TakenAway, Happens, Visits, Run, HoldsOf, Kept, LeavesMail, after_event, Promises, ReadOnlyNew, KeptStaysKept, KeptHoldsWhatIsLeft, NothingTakenHoldsExactly, TakenStaysAway, MovesLeaveMail}
+use Rattle.run_law.proofs.Below.{Below, Marks}
+use Rattle.run_law.proofs.Holds.{held_is_done, one_file, between_kept, expired_kept, taken_kept}
+use Rattle.run_law.proofs.Ids.{Distinct, distinct_is, distinct_filter, bytes_same}
 use Rattle.run_law.proofs.Files.{held_done, one_moves, OneMoves, copies_after, moves_keep}
-use Rattle.run_law.proofs.VisitKept.{visit_kept, deletes_held, keeps_others, leaves_out}
+use Rattle.run_law.proofs.VisitKept.{visit_kept, deletes_held, keeps_others, leaves_out, stores_only_new}
 
 -- ---- an account whose files and rows stay
 
@@ -34,16 +36,26 @@ left_kept frame before v kept h vanished = record {
   done = kept.done;
   rest = kept.rest;
   prefix = kept.prefix;
-  holds = λ id l. ap (λ f. copies f (name_of frame.account id)) (same_files before.account v.after (h.in_new, h.in_cur)) ∙ kept.holds id l;
+  holds = λ id l. let same : copies (files v.after) (name_of frame.account id) ≡ copies (files before.account) (name_of frame.account id) =
+      ap (λ f. copies f (name_of frame.account id)) (same_files before.account v.after (h.in_new, h.in_cur)) in
+      elim (kept.holds id l) [
+        | inl e ↦ inl (same ∙ e)
+        | inr taken ↦ inr (taken.0, same ∙ taken.1)
+      ];
   recorded = λ id e. kept.recorded id (ap (λ r. is_delivered r id) (sym h.rows) ∙ e);
   gone = subst (AllByRecursion (λ id. has_id (ids_of kept.done) id ≡ true)) (sym (append-nil before.gone) ∙ ap (λ l. before.gone ++ l) (sym (none_vanish v.vanished v.effect.begun h.begun vanished))) kept.gone;
+  taken = kept.taken;
 }
 
 left_promises : (frame : Frame) (before : Situation) (v : Visit) → Leaves before.account v.effect v.after → Promises frame before (Visited v)
 left_promises frame before v h = (
   (λ ended. absurd (both_ways v.effect.ended h.ended ended)),
-  subst (AllByRecursion (λ id. is_held frame.account v.after.maildir id ≡ true)) (sym h.begun) tt,
-  λ name content other. ap (λ fs. count_files fs name content) (same_files before.account v.after (h.in_new, h.in_cur)),
+  subst (AllByRecursion (λ id. (is_held frame.account v.after.maildir id ≡ true) ⊎ (has_id before.taken id ≡ true))) (sym h.begun) tt,
+  (λ name content other. ap (λ fs. count_files fs name content) (same_files before.account v.after (h.in_new, h.in_cur))),
+  λ only_new id l recorded. (
+    ap (λ f. copies f (name_of frame.account id)) (same_files before.account v.after (h.in_new, h.in_cur)),
+    ap (λ r. is_delivered r id) h.rows ∙ recorded,
+  ),
 )
 
 -- ---- each id has one copy at most
@@ -61,18 +73,19 @@ done_distinct frame is done rest e =
     front (x ∷ xs) ys d = (none xs ys x.uid d.0, front xs ys d.1)
 
 one_copy : (frame : Frame) (state : Situation) → IsFrame frame → (kept : Kept frame state) → (id : List ℕ) → is_legal_id id ≡ true → length (copies (files state.account) (name_of frame.account id)) ≤ 1
-one_copy frame state is kept id l =
-    subst (λ (c : List (List ℕ)). length c ≤ 1) (sym (kept.holds id l)) (lone kept.done id (done_distinct frame is kept.done kept.rest kept.prefix))
+one_copy frame state is kept id l = one_file frame state kept.done id (done_distinct frame is kept.done kept.rest kept.prefix) (kept.holds id l)
+
+move_leaves : (frame : Frame) (before : Situation) (after : Account) → IsFrame frame → Kept frame before → OneMoves before.account after → LeavesMail frame.account before.account after
+move_leaves frame before after is kept o = record {
+  rows = o.rows;
+  same = λ id l. copies_after before.account after o (name_of frame.account id) (one_copy frame before is kept id l);
+}
+
+pub moves_leave_mail : Marks → MovesLeaveMail
+moves_leave_mail marks frame before after is kept moves = move_leaves frame before after is kept (one_moves marks before.account after moves)
 
 moved_kept : (frame : Frame) (before : Situation) (after : Account) → IsFrame frame → Kept frame before → OneMoves before.account after → Kept frame (after_event before (Moved after))
-moved_kept frame before after is kept o = record {
-  done = kept.done;
-  rest = kept.rest;
-  prefix = kept.prefix;
-  holds = λ id l. copies_after before.account after o (name_of frame.account id) (one_copy frame before is kept id l) ∙ kept.holds id l;
-  recorded = λ id e. kept.recorded id (ap (λ r. is_delivered r id) (sym o.rows) ∙ e);
-  gone = kept.gone;
-}
+moved_kept frame before after is kept o = between_kept frame before after kept (move_leaves frame before after is kept o)
 
 -- ---- one event
 
@@ -86,6 +99,7 @@ visited laws frame before v is kept h = elim h.step [
       leaves_out laws frame is before v kept h.same stores honest,
       deletes_held laws frame is before v kept h.same stores honest,
       keeps_others laws frame is before v kept h.same stores honest,
+      stores_only_new laws frame is before v kept h.same stores honest,
     ),
   )
 ]
@@ -96,6 +110,9 @@ happened laws frame before (Visited v) is kept h = visited laws frame before v i
 happened laws frame before (Moved after) is kept h =
     let o = one_moves laws.marks before.account after h.0 in
     (moved_kept frame before after is kept o, moves_keep frame.account before.account after o)
+happened laws frame before (Between after) is kept h = (between_kept frame before after kept h.0, tt)
+happened laws frame before (Expired ids) is kept h = (expired_kept frame before ids kept h.0, tt)
+happened laws frame before (TakenAway id after) is kept h = (taken_kept frame before id after kept h.0, tt)
 
 pub kept_states : Below → KeptStaysKept
 kept_states laws frame start [] is kept run = (kept, tt)
@@ -106,14 +123,65 @@ kept_states laws frame start (event ∷ events) is kept run =
 
 -- ---- the headline's words
 
-pub holds_exactly : KeptHoldsExactly
-holds_exactly frame state is kept = record {
+pub holds_what_is_left : KeptHoldsWhatIsLeft
+holds_what_is_left frame state is kept = record {
   j = length kept.done;
   below = let e = ap length kept.prefix in omega (arith, e, length-append kept.done kept.rest);
-  contents = λ id l. kept.holds id l ∙ ap (λ (ms : List Message). texts_of ms id) (sym front);
-  ids = λ id l. held_done frame.account state.account kept.done id (kept.holds id l) ∙ ap (λ (ms : List Message). has_id (ids_of ms) id) (sym front);
+  contents = λ id l. subst (λ (ms : List Message). HoldsOf frame state ms id) (sym front) (kept.holds id l);
+  ids = λ id l h. ap (λ (ms : List Message). has_id (ids_of ms) id) front ∙ held_is_done frame state kept.done id (kept.holds id l) h;
   once = λ id l. one_copy frame state is kept id l;
 }
   where
     front : take (length kept.done) (selected frame.max_size frame.all) ≡ kept.done
     front = ap (take (length kept.done)) kept.prefix ∙ take_at kept.done kept.rest (length kept.done) refl
+
+pub holds_exactly : NothingTakenHoldsExactly
+holds_exactly frame state holds none = record {
+  j = holds.j;
+  below = holds.below;
+  contents = texts;
+  ids = λ id l. held_done frame.account state.account (take holds.j (selected frame.max_size frame.all)) id (texts id l);
+  once = holds.once;
+}
+  where
+    texts : (id : List ℕ) → is_legal_id id ≡ true → copies (files state.account) (name_of frame.account id) ≡ texts_of (take holds.j (selected frame.max_size frame.all)) id
+    texts id l = elim (holds.contents id l) [
+      | inl e ↦ e
+      | inr taken ↦ absurd (both_ways false refl (sym (ap (λ ids. has_id ids id) none) ∙ taken.0))
+    ]
+
+-- ---- what was taken away stays away
+
+-- what is recorded and not held is so after each event
+still_away : Below → (frame : Frame) (before : Situation) (event : Event) (id : List ℕ) → IsFrame frame → Kept frame before → Happens frame before event
+    → ReadOnlyNew (event ∷ []) → is_legal_id id ≡ true → is_delivered before.account.rows id ≡ true → copies (files before.account) (name_of frame.account id) ≡ []
+    → (is_delivered (after_event before event).account.rows id ≡ true) × (copies (files (after_event before event).account) (name_of frame.account id) ≡ [])
+still_away laws frame before (Visited v) id is kept h new l recorded none =
+    let promised = (visited laws frame before v is kept h).1.3 new.0 id l recorded in
+    (promised.1, promised.0 ∙ none)
+still_away laws frame before (Moved after) id is kept h new l recorded none =
+    let same = moves_leave_mail laws.marks frame before after is kept h in
+    (ap (λ r. is_delivered r id) same.rows ∙ recorded, same.same id l ∙ none)
+still_away laws frame before (Between after) id is kept h new l recorded none = (ap (λ r. is_delivered r id) h.rows ∙ recorded, h.same id l ∙ none)
+still_away laws frame before (Expired ids) id is kept h new l recorded none = (recorded, none)
+still_away laws frame before (TakenAway other after) id is kept h new l recorded none = (
+  ap (λ r. is_delivered r id) h.rows ∙ recorded,
+  elim (cases_Bool (bytes_eq id other)) [
+    | inl same ↦ ap (λ (x : List ℕ). copies (files after) (name_of frame.account x)) (bytes_same id other same) ∙ h.none
+    | inr apart ↦ h.others id l apart ∙ none
+  ],
+)
+
+one_new : (event : Event) (events : List Event) → ReadOnlyNew (event ∷ events) → ReadOnlyNew (event ∷ []) × ReadOnlyNew events
+one_new (Visited v) events h = ((h.0, tt), h.1)
+one_new (Moved after) events h = (tt, h)
+one_new (Between after) events h = (tt, h)
+one_new (Expired ids) events h = (tt, h)
+one_new (TakenAway id after) events h = (tt, h)
+
+pub taken_stays_away : Below → TakenStaysAway
+taken_stays_away laws frame start [] id is kept run new l recorded none = none
+taken_stays_away laws frame start (event ∷ events) id is kept run new l recorded none =
+    let split = one_new event events new in
+    let away = still_away laws frame start event id is kept run.0 split.0 l recorded none in
+    taken_stays_away laws frame (after_event start event) events id is (happened laws frame start event is kept (run.0, tt)).0 run.1 split.1 l away.0 away.1

@@ -1,8 +1,11 @@
 mod Below
 mod Bridge
 mod Chained
+mod Core
 mod Ends
 mod Files
+mod Holds
+mod HonestSession
 mod Ids
 mod Laws
 mod Linked

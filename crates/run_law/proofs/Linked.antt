@@ -5,16 +5,14 @@ use Rattle.std.proofs.lemmas.Bool.{both_ways}
 use Rattle.pop3_wire.specs.declared.command.Command.{Command}
 use Rattle.pop3_wire.specs.declared.command.Command.TheVariants.{User, Pass, Stat, UidlAll, UidlOne, ListAll, ListOne, Retr, Dele, Rset, Noop, Top, Quit}
 use Rattle.pop3_wire.specs.World.{Message, maildrop_of}
-use Rattle.pop3_wire.specs.Honest.{Grants, Replies, no_marks, OneListOfCommands}
+use Rattle.pop3_wire.specs.Honest.{Asked, Grants, Replies, no_marks, OneListOfCommands}
 use Rattle.mail_terms.specs.Listing.{Item}
-use Rattle.rc_file.specs.declared.settings.Settings.{Settings}
 use Rattle.mail_terms.specs.UniqueId.{has_id}
 use Rattle.run_law.specs.Mails.{item_of, listing_of}
-use Rattle.run_law.specs.Accounts.{Account}
 use Rattle.run_law.specs.Steps.{Effect, IsHonest, AreTexts, wanted_at}
 use Rattle.run_law.specs.Readings.{AreGranted, IsNumbered, HonestIsGranted, ListingIsMaildrop, MarksAreAsked, TextsAreMessages}
 use Rattle.run_law.specs.Runs.{Frame, IsFrame, Situation, Visit, Event, Visited, Moved, Run, Kept, after_event, Promises, KeptStaysKept}
-use Rattle.run_law.specs.Sessions.{IsBegun, Reads, Session, IsMarked, Served, Link, Linked, Shifted, after_link, LinksAreVisits, LinksKeep}
+use Rattle.run_law.specs.Sessions.{IsBegun, Reads, IsMarked, Served, Link, Linked, Shifted, after_link, LinksAreVisits, LinksKeep}
 
 -- ---- marks
 
@@ -84,12 +82,12 @@ begun_at : (listing : List Item) (begun : List (List ℕ)) (front behind : List 
 begun_at listing begun [] behind number h = (h.0.0, h.0.1, h.0.2)
 begun_at listing begun (command ∷ front) behind number h = begun_at listing begun front behind number h.1
 
-item_at : (drop : List Message) (place : ℕ) (m : Message) → slice_get drop place ≡ Some m → slice_get (listing_of drop) place ≡ Some (item_of m)
+pub item_at : (drop : List Message) (place : ℕ) (m : Message) → slice_get drop place ≡ Some m → slice_get (listing_of drop) place ≡ Some (item_of m)
 item_at [] place m e = absurd cc
 item_at (x ∷ drop) zero m e = let same : x ≡ m = cc in ap (λ (y : Message). Some (item_of y)) same
 item_at (x ∷ drop) (suc place) m e = item_at drop place m e
 
-same_item : (a b : Item) → Some a ≡ Some b → a ≡ b
+pub same_item : (a b : Item) → Some a ≡ Some b → a ≡ b
 same_item a b e = cc
 
 -- what is said of octets
@@ -99,16 +97,16 @@ pub record Readings : Type 0 where
   pub texts : TextsAreMessages
   pub listing : ListingIsMaildrop
 
-module _ (laws : Readings) (settings : Settings) (account : List ℕ) (before : Account) (sent got : List ℕ) (effect : Effect) (after : Account) (drop : List Message) (vanished : List (List ℕ))
-    (session : Session settings account before sent got effect after) (served : Served drop sent got vanished) where
-  same : served.honest.commands ≡ session.commands
-  same = laws.commands served.honest.commands session.commands sent served.honest.asked session.asked
+module _ (laws : Readings) (sent got : List ℕ) (effect : Effect) (drop : List Message) (vanished : List (List ℕ)) (commands : List Command) (sent_are : Asked commands sent)
+    (begun_are : AllByRecursion (IsBegun effect.listing effect.begun) commands) (served : Served drop sent got vanished) where
+  same : served.honest.commands ≡ commands
+  same = laws.commands served.honest.commands commands sent served.honest.asked sent_are
 
   -- where the listing is the maildrop's, or nothing was begun
   went_begun : (listing_is : (effect.begun ≡ []) ⊎ (effect.listing ≡ listing_of drop)) (id : List ℕ) → IsMarked drop served.marks id → has_id effect.begun id ≡ true
   went_begun listing_is id m =
       let asked = marks_are_asked drop sent got served.marks served.honest m.0 m.2 in
-      let begun = begun_at effect.listing effect.begun asked.0 asked.1 asked.2 (subst (AllByRecursion (IsBegun effect.listing effect.begun)) (sym same ∙ asked.3) session.begun) in
+      let begun = begun_at effect.listing effect.begun asked.0 asked.1 asked.2 (subst (AllByRecursion (IsBegun effect.listing effect.begun)) (sym same ∙ asked.3) begun_are) in
       elim listing_is [
         | inl none ↦ absurd (both_ways false refl (sym (ap (λ b. has_id b begun.0.uid) none) ∙ begun.2))
         | inr is ↦
@@ -123,8 +121,8 @@ module _ (laws : Readings) (settings : Settings) (account : List ℕ) (before : 
   pub vanished_begun : (effect.begun ≡ []) ⊎ (effect.listing ≡ listing_of drop) → AllByRecursion (λ id. has_id effect.begun id ≡ true) vanished
   vanished_begun listing_is = all_went (went_begun listing_is) vanished served.marked
 
-  pub session_honest : Reads settings account before session.commands sent got effect → IsHonest settings account before drop effect
-  session_honest r = record { listing = listing; texts = subst (AreTexts drop (wanted_at settings account before effect)) (sym r.texts) (texts r.found (wanted_at settings account before effect) r.numbers numbered) }
+  pub session_honest : (wanted : List (ℕ × Item)) → Reads wanted commands sent got effect → IsHonest wanted drop effect
+  session_honest wanted r = record { listing = listing; texts = subst (AreTexts drop wanted) (sym r.texts) (texts r.found wanted r.numbers numbered) }
     where
       granted : AreGranted drop (no_marks drop) (User r.name ∷ Pass r.word ∷ Stat ∷ UidlAll ∷ ListAll ∷ r.more) (r.user ∷ r.pass ∷ r.stat ∷ r.uidl ∷ r.list ∷ r.replies)
       granted = laws.granted drop sent got served.marks (User r.name ∷ Pass r.word ∷ Stat ∷ UidlAll ∷ ListAll ∷ r.more) (r.user ∷ r.pass ∷ r.stat ∷ r.uidl ∷ r.list ∷ r.replies) served.honest r.talked
@@ -151,14 +149,14 @@ visits laws frame before link l = elim l.session.step [
   | inl left ↦ record {
     same = l.same;
     step = inl left;
-    vanished = vanished_begun laws link.settings frame.account before.account link.sent link.got l.effect link.after (maildrop_of frame.all link.come before.gone) link.vanished l.session l.served (inl left.begun);
+    vanished = vanished_begun laws link.sent link.got l.effect (maildrop_of frame.all link.come before.gone) link.vanished l.session.commands l.session.asked l.session.begun l.served (inl left.begun);
   }
   | inr (stores, reads) ↦
-      let honest = session_honest laws link.settings frame.account before.account link.sent link.got l.effect link.after (maildrop_of frame.all link.come before.gone) link.vanished l.session l.served reads in
+      let honest = session_honest laws link.sent link.got l.effect (maildrop_of frame.all link.come before.gone) link.vanished l.session.commands l.session.asked l.session.begun l.served (wanted_at link.settings frame.account before.account l.effect) reads in
       record {
         same = l.same;
         step = inr (stores, honest);
-        vanished = vanished_begun laws link.settings frame.account before.account link.sent link.got l.effect link.after (maildrop_of frame.all link.come before.gone) link.vanished l.session l.served (inr honest.listing);
+        vanished = vanished_begun laws link.sent link.got l.effect (maildrop_of frame.all link.come before.gone) link.vanished l.session.commands l.session.asked l.session.begun l.served (inr honest.listing);
       }
 ]
 

@@ -1,8 +1,8 @@
 -- What is wanted in a kept state is the next of the selected messages that have come.
-use Rattle.std.proofs.Common.{◌≡◌, ℕ, zero, suc, List, [], ◌∷◌, ◌++◌, Bool, true, false, not, cond, ◌&&◌, ◌||◌, length, take, drop, map, refl, sym, ◌∙◌, ap, subst, take-append-drop}
+use Rattle.std.proofs.Common.{◌≡◌, inl, inr, ℕ, zero, suc, List, [], ◌∷◌, ◌++◌, Bool, true, false, not, cond, ◌&&◌, ◌||◌, length, take, drop, map, refl, sym, ◌∙◌, ap, subst, take-append-drop}
 use Rattle.std.specs.List.{filter, AllByRecursion}
 use Rattle.std.specs.Prelude.{bytes_eq}
-use Rattle.std.proofs.lemmas.Bool.{both_ways}
+use Rattle.std.proofs.lemmas.Bool.{both_ways, or_cases, and_parts}
 use Rattle.std.proofs.lemmas.List.Elements.{filter-append}
 use Rattle.mail_terms.specs.UniqueId.{is_legal_id, has_id}
 use Rattle.pop3_wire.specs.World.{Message, IsMessage, maildrop_of}
@@ -19,10 +19,10 @@ use Rattle.run_law.proofs.Lists.{filter-filter, any-map, map-map, all_map, all_b
 use Rattle.run_law.proofs.Ids.{Distinct, distinct_is, distinct_take, distinct_filter, all_ids_at, bytes_self}
 use Rattle.run_law.proofs.Below.{Records}
 use Rattle.run_law.proofs.Records.{delivered_merged}
-use Rattle.run_law.proofs.Files.{held_done}
+use Rattle.run_law.proofs.Holds.{held_is_done, done_is_held}
 use Rattle.run_law.proofs.Wants.{num_item, snd, asked, offered, wants_by_number, wanted_are, wants_snd}
-use Rattle.run_law.proofs.Bridge.{IsLeft, fewer, known_is}
-use Rattle.run_law.proofs.VisitKept.{passing_in}
+use Rattle.run_law.proofs.Bridge.{IsLeft, fewer}
+use Rattle.run_law.proofs.Core.{or_true, passing_in}
 
 abbrev nothing : (X : Type 0) → List X
 nothing X = []
@@ -71,7 +71,8 @@ new_is f false true k false e p q = absurd (both_ways false refl (p refl))
 new_is f false false k d e p q = ap (λ b. f && not b) (q refl)
 
 module _ (filtered : DistinctAreFiltered) (laws : Records) (frame : Frame) (before : Situation) (settings : Settings) (come now : ℕ) (kept : Kept frame before) (is : IsFrame frame)
-    (same : settings.max_size ≡ frame.max_size) (only_new : settings.read_all ≡ false) where
+    (same : settings.max_size ≡ frame.max_size) (only_new : settings.read_all ≡ false)
+    (taken_recorded : AllByRecursion (λ id. is_delivered before.account.rows id ≡ true) before.taken) where
   abbrev front : List Message
   front = take come frame.all
 
@@ -96,10 +97,26 @@ module _ (filtered : DistinctAreFiltered) (laws : Records) (frame : Frame) (befo
   listed_is : (id : List ℕ) → has_item (listing_of here) id ≡ has_id (ids_of here) id
   listed_is id = any-map (λ (i : Item). bytes_eq id i.uid) item_of here ∙ sym (any-map (bytes_eq id) (λ (m : Message). m.uid) here)
 
+  known_parts : (id : List ℕ) → known id ≡ (is_delivered before.account.rows id || (has_item (listing_of here) id && is_held frame.account before.account.maildir id))
+  known_parts id = delivered_merged laws frame.account before.account.maildir before.account.rows (listing_of here) now id
+
   known_is_done : (id : List ℕ) → is_legal_id id ≡ true → has_id (ids_of here) id ≡ true → known id ≡ is_done id
-  known_is_done id l e = delivered_merged laws frame.account before.account.maildir before.account.rows (listing_of here) now id
-      ∙ known_is (is_delivered before.account.rows id) (has_item (listing_of here) id) (is_held frame.account before.account.maildir id) (is_done id)
-      (listed_is id ∙ e) (held_done frame.account before.account kept.done id (kept.holds id l)) (kept.recorded id)
+  known_is_done id l e = both (known id) (is_done id)
+      (λ k. elim (or_cases (is_delivered before.account.rows id) (has_item (listing_of here) id && is_held frame.account before.account.maildir id) (sym (known_parts id) ∙ k)) [
+        | inl old ↦ kept.recorded id old
+        | inr listed ↦ held_is_done frame before kept.done id (kept.holds id l) (and_parts (has_item (listing_of here) id) (is_held frame.account before.account.maildir id) listed).1
+      ])
+      (λ d. known_parts id ∙ elim (done_is_held frame before kept.done id (kept.holds id l) d) [
+        | inl held ↦ ap (λ b. is_delivered before.account.rows id || (b && is_held frame.account before.account.maildir id)) (listed_is id ∙ e)
+            ∙ ap (λ b. is_delivered before.account.rows id || b) held ∙ or_true (is_delivered before.account.rows id)
+        | inr taken ↦ ap (λ b. b || (has_item (listing_of here) id && is_held frame.account before.account.maildir id))
+            (all_ids_at (λ x. is_delivered before.account.rows x ≡ true) before.taken id taken_recorded taken)
+      ])
+    where
+      both : (a b : Bool) → (a ≡ true → b ≡ true) → (b ≡ true → a ≡ true) → a ≡ b
+      both true b f g = sym (f refl)
+      both false true f g = g refl
+      both false false f g = refl
 
   abbrev fit : Message → Bool
   fit m = is_selected settings.max_size m
@@ -130,4 +147,4 @@ module _ (filtered : DistinctAreFiltered) (laws : Records) (frame : Frame) (befo
       ∙ ap listing_of (wants_snd settings rows here ∙ ap (at_most settings.max_count) offered_is)
 
 pub wants_next : DistinctAreFiltered → Records → WantsNext
-wants_next filtered laws frame before settings come now kept is same only_new = next_wanted filtered laws frame before settings come now kept is same only_new
+wants_next filtered laws frame before settings come now kept is same only_new recorded = next_wanted filtered laws frame before settings come now kept is same only_new recorded

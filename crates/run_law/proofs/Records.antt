@@ -32,3 +32,8 @@ pub delivered_merged : Records → (account : List ℕ) (maildir : Maildir) (row
     → is_delivered (merged rows items (flags_of account maildir items) now) id ≡ (is_delivered rows id || (has_item items id && is_held account maildir id))
 delivered_merged laws account maildir rows items now id =
     laws.held rows items (flags_of account maildir items) now id ∙ ap (λ b. is_delivered rows id || b) (laws.flags account maildir items id)
+
+-- what is recorded stays so after others were marked
+pub marks_stay : Records → (rows : List Row) (uids : List (List ℕ)) (id : List ℕ) → is_delivered rows id ≡ true → is_delivered (marked_all rows uids) id ≡ true
+marks_stay laws rows [] id e = e
+marks_stay laws rows (uid ∷ uids) id e = marks_stay laws (marked rows uid) uids id (laws.marks rows uid id ∙ ap (λ b. b || (has_row rows id && bytes_eq uid id)) e)

@@ -35,7 +35,7 @@ KeptBy settings account before effect gained id = (is_delivered before.rows id �
 -- ---- one message of an id
 
 -- a message stands at its number, and is the first with its id
-abbrev IsFirstAt : List Item → ℕ × Item → Type 0
+abbrev pub IsFirstAt : List Item → ℕ × Item → Type 0
 IsFirstAt listing message = (0 < message.0) × (slice_get listing (message.0 - 1) ≡ Some message.1) × (is_first listing message ≡ true)
 
 has_before : (listing : List Item) (k n : ℕ) (item : Item) → slice_get listing k ≡ Some item → k < n → has_item (take n listing) item.uid ≡ true
@@ -50,7 +50,7 @@ not_before : (listing : List Item) (m n : ℕ × Item) → IsFirstAt listing m �
 not_before listing m n (counted, at, first) (counted', at', first') same less =
     true≢false (sym (ap not (sym (ap (has_item (take (n.0 - 1) listing)) (sym same) ∙ has_before listing (m.0 - 1) (n.0 - 1) m.1 at (omega (arith, less, counted)))) ∙ first'))
 
-one_number : (listing : List Item) (m n : ℕ × Item) → IsFirstAt listing m → IsFirstAt listing n → m.1.uid ≡ n.1.uid → m.0 ≡ n.0
+pub one_number : (listing : List Item) (m n : ℕ × Item) → IsFirstAt listing m → IsFirstAt listing n → m.1.uid ≡ n.1.uid → m.0 ≡ n.0
 one_number listing m n at at' same = elim (cases_lt m.0 n.0) [
   | inl less ↦ absurd (not_before listing m n at at' same less)
   | inr more ↦ elim (cases_lt n.0 m.0) [
@@ -77,7 +77,7 @@ passing P p (x ∷ xs) h = by (p x) refl (passing P p xs h.1)
     by true e ih = ((h.0, e), ih)
     by false e ih = ih
 
-wanted_first : (settings : Settings) (rows : List Row) (listing : List Item) → AllByRecursion (IsFirstAt listing) (wanted settings rows listing)
+pub wanted_first : (settings : Settings) (rows : List Row) (listing : List Item) → AllByRecursion (IsFirstAt listing) (wanted settings rows listing)
 wanted_first settings rows listing = by (settings.max_count == 0)
   where
     all : AllByRecursion (IsFirstAt listing) (candidates settings rows listing)
@@ -89,7 +89,7 @@ wanted_first settings rows listing = by (settings.max_count == 0)
     by true = all
     by false = all_take (IsFirstAt listing) settings.max_count (candidates settings rows listing) all
 
-among_zip : {X Y : Type 0} (P : X → Type 0) (xs : List X) (ys : List Y) (x : X) (y : Y) → AllByRecursion P xs → IsAmong (x, y) (zip xs ys) → P x
+pub among_zip : {X Y : Type 0} (P : X → Type 0) (xs : List X) (ys : List Y) (x : X) (y : Y) → AllByRecursion P xs → IsAmong (x, y) (zip xs ys) → P x
 among_zip P [] ys x y h (front, behind, is) = by front is
   where
     by : (front : List _) → [] ≡ front ++ (x, y) ∷ behind → P x
@@ -110,7 +110,7 @@ pub record KeepsAll (settings : Settings) (account : List ℕ) (before : Account
   pub in_cur : after.maildir.in_cur ≡ before.maildir.in_cur
   pub begun : AllByRecursion (KeptBy settings account before effect gained) effect.begun
 
-behind_one : {X : Type 0} (x y : X) (xs : List X) → IsAmong x xs → IsAmong x (y ∷ xs)
+pub behind_one : {X : Type 0} (x y : X) (xs : List X) → IsAmong x xs → IsAmong x (y ∷ xs)
 behind_one x y xs (front, behind, is) = (y ∷ front, behind, ap (λ l. y ∷ l) is)
 
 -- fewer of these ids

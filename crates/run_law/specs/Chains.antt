@@ -35,22 +35,22 @@ abbrev pub gone_after : List (List ℕ) → List Fact → List (List ℕ)
 gone_after gone [] = gone
 gone_after gone (fact ∷ facts) = gone_after (gone ++ fact.vanished) facts
 
-abbrev pub state_of : Account → List (List ℕ) → Situation
-state_of account gone = record { account = account; gone = gone }
+abbrev pub state_of : Account → List (List ℕ) → List (List ℕ) → Situation
+state_of account gone taken = record { account = account; gone = gone; taken = taken }
 
 -- each session keeps its promises, between accounts that are kept
-abbrev pub ChainKept : Frame → Settings → Account → List (List ℕ) → List Gained → List Fact → Account → Type 0
-ChainKept frame settings first gone [] facts last = last ≡ first
-ChainKept frame settings first gone (link ∷ links) [] last = ⊥
-ChainKept frame settings first gone (link ∷ links) (fact ∷ facts) last =
+abbrev pub ChainKept : Frame → Settings → List (List ℕ) → Account → List (List ℕ) → List Gained → List Fact → Account → Type 0
+ChainKept frame settings taken first gone [] facts last = last ≡ first
+ChainKept frame settings taken first gone (link ∷ links) [] last = ⊥
+ChainKept frame settings taken first gone (link ∷ links) (fact ∷ facts) last =
     (effect : Effect) × (between : Account) × Session settings frame.account first link.sent link.got effect between
-    × Promises frame (state_of first gone) (Visited (record { settings = settings; come = fact.come; effect = effect; vanished = fact.vanished; after = between }))
-    × Kept frame (state_of between (gone ++ fact.vanished))
-    × ChainKept frame settings between (gone ++ fact.vanished) links facts last
+    × Promises frame (state_of first gone taken) (Visited (record { settings = settings; come = fact.come; effect = effect; vanished = fact.vanished; after = between }))
+    × Kept frame (state_of between (gone ++ fact.vanished) taken)
+    × ChainKept frame settings taken between (gone ++ fact.vanished) links facts last
 
 -- a law: from a kept account, over honest links, a list of sessions leaves a kept account and keeps the promises
 abbrev pub ChainsKeep : Type 0
-ChainsKeep = (frame : Frame) (settings : Settings) (first last : Account) (gone : List (List ℕ)) (links : List Gained) (facts : List Fact)
-    → IsFrame frame → settings.max_size ≡ frame.max_size → Kept frame (state_of first gone)
+ChainsKeep = (frame : Frame) (settings : Settings) (first last : Account) (gone taken : List (List ℕ)) (links : List Gained) (facts : List Fact)
+    → IsFrame frame → settings.max_size ≡ frame.max_size → Kept frame (state_of first gone taken)
     → Chain settings frame.account first links last → AllServed frame.all gone links facts
-    → Kept frame (state_of last (gone_after gone facts)) × ChainKept frame settings first gone links facts last
+    → Kept frame (state_of last (gone_after gone facts) taken) × ChainKept frame settings taken first gone links facts last

@@ -1,5 +1,6 @@
 pub mod Accounts
 pub mod Chains
+pub mod HonestSession
 pub mod Mails
 pub mod Plans
 pub mod Readings

@@ -1,5 +1,5 @@
--- Sessions and moves over one world, and the states that they keep.
-use Rattle.std.specs.Prelude.{◌≡◌, ◌⊎◌, ◌≤◌, ℕ, true, false, List, [], ◌∷◌, ◌++◌, map, take, drop, length, if◌then◌else◌, ◌==◌}
+-- Sessions over one world, what happens between them, and the states that they keep.
+use Rattle.std.specs.Prelude.{◌≡◌, ◌⊎◌, ◌≤◌, ℕ, true, false, List, [], ◌∷◌, ◌++◌, map, take, drop, length, if◌then◌else◌, ◌==◌, bytes_eq}
 use Rattle.std.specs.List.{AllByRecursion}
 use Rattle.fetch_rules.specs.Record.{is_delivered, merged}
 use Rattle.mail_terms.specs.Listing.{Item}
@@ -11,12 +11,13 @@ use Rattle.mail_terms.specs.UniqueId.{is_legal_id, has_id}
 use Rattle.pop3_wire.specs.World.{Message, IsWorld, maildrop_of}
 use Rattle.run_law.specs.Mails.{ids_of, listing_of, is_selected, selected, texts_of}
 use Rattle.run_law.specs.Accounts.{Account, files, copies, Moves, KeepsOthers}
-use Rattle.run_law.specs.Steps.{Effect, Leaves, Stores, IsHonest, merged_rows, ids_wanted}
+use Rattle.run_law.specs.Steps.{Effect, Leaves, Stores, IsHonest, merged_rows, wanted_at, ids_wanted}
 
--- an account, and the ids that are gone from the server
+-- an account, the ids that are gone from the server, and those of the messages that were ever taken away from the Maildir
 pub record Situation : Type 0 where
   pub account : Account
   pub gone : List (List ℕ)
+  pub taken : List (List ℕ)
 
 -- one session: its settings, how much mail had come, what it did, which ids went with its QUIT, and the account that it left
 pub record Visit : Type 0 where
@@ -26,13 +27,21 @@ pub record Visit : Type 0 where
   pub vanished : List (List ℕ)
   pub after : Account
 
+-- a session; a reader's move; anything else that leaves the record and the messages of the account as they are; messages that the
+-- server lets go by itself; and a message that its reader throws away or files elsewhere
 pub data Event : Type 0 where
   Visited : Visit → Event
   Moved : Account → Event
+  Between : Account → Event
+  Expired : List (List ℕ) → Event
+  TakenAway : List ℕ → Account → Event
 
 abbrev pub after_event : Situation → Event → Situation
-after_event before (Visited visit) = record { account = visit.after; gone = before.gone ++ visit.vanished }
+after_event before (Visited visit) = record before { account = visit.after; gone = before.gone ++ visit.vanished }
 after_event before (Moved after) = record before { account = after }
+after_event before (Between after) = record before { account = after }
+after_event before (Expired ids) = record before { gone = before.gone ++ ids }
+after_event before (TakenAway id after) = record before { account = after; taken = id ∷ before.taken }
 
 -- what stays throughout: the account's text, the limit on sizes, and all mail
 pub record Frame : Type 0 where
@@ -52,12 +61,33 @@ pub record Visits (frame : Frame) (before : Situation) (visit : Visit) : Type 0 
   pub same : visit.settings.max_size ≡ frame.max_size
   pub step : Leaves before.account visit.effect visit.after
       ⊎ (Stores visit.settings frame.account before.account visit.effect visit.after
-      × IsHonest visit.settings frame.account before.account (shown frame before visit) visit.effect)
+      × IsHonest (wanted_at visit.settings frame.account before.account visit.effect) (shown frame before visit) visit.effect)
   pub vanished : AllByRecursion (λ id. has_id visit.effect.begun id ≡ true) visit.vanished
+
+-- the record has the same rows, and for each legal id the files of its name hold what they held
+pub record LeavesMail (account : List ℕ) (before after : Account) : Type 0 where
+  pub rows : after.rows ≡ before.rows
+  pub same : (id : List ℕ) → is_legal_id id ≡ true → copies (files after) (name_of account id) ≡ copies (files before) (name_of account id)
+
+-- the message was held, or was taken away before
+abbrev pub IsHeldOrTaken : List ℕ → Situation → List ℕ → Type 0
+IsHeldOrTaken account state id = (is_legal_id id ≡ true) × ((is_held account state.account.maildir id ≡ true) ⊎ (has_id state.taken id ≡ true))
+
+-- the message was held and is no more; the record has the same rows, and for each other legal id the files hold what they held
+pub record TakesAway (account : List ℕ) (before : Account) (id : List ℕ) (after : Account) : Type 0 where
+  pub legal : is_legal_id id ≡ true
+  pub held : is_held account before.maildir id ≡ true
+  pub none : copies (files after) (name_of account id) ≡ []
+  pub rows : after.rows ≡ before.rows
+  pub others : (other : List ℕ) → is_legal_id other ≡ true → bytes_eq other id ≡ false
+      → copies (files after) (name_of account other) ≡ copies (files before) (name_of account other)
 
 abbrev pub Happens : Frame → Situation → Event → Type 0
 Happens frame before (Visited visit) = Visits frame before visit
 Happens frame before (Moved after) = Moves before.account after
+Happens frame before (Between after) = LeavesMail frame.account before.account after
+Happens frame before (Expired ids) = AllByRecursion (IsHeldOrTaken frame.account before) ids
+Happens frame before (TakenAway id after) = TakesAway frame.account before.account id after
 
 -- the events happen one after the other
 abbrev pub Run : Frame → Situation → List Event → Type 0
@@ -68,14 +98,21 @@ abbrev pub after_events : Situation → List Event → Situation
 after_events before [] = before
 after_events before (event ∷ events) = after_events (after_event before event) events
 
--- the Maildir holds exactly a prefix of the selected messages, and what is recorded or gone is among them
+-- the files of the id's name hold the texts of these messages that have the id; or such a message was taken away, and there is no file
+abbrev pub HoldsOf : Frame → Situation → List Message → List ℕ → Type 0
+HoldsOf frame state done id = (copies (files state.account) (name_of frame.account id) ≡ texts_of done id)
+    ⊎ ((has_id state.taken id ≡ true) × (copies (files state.account) (name_of frame.account id) ≡ []))
+
+-- the Maildir holds exactly a prefix of the selected messages, but for those that were taken away; and what is recorded, gone or was
+-- taken away is among them
 pub record Kept (frame : Frame) (state : Situation) : Type 0 where
   pub done : List Message
   pub rest : List Message
   pub prefix : selected frame.max_size frame.all ≡ done ++ rest
-  pub holds : (id : List ℕ) → is_legal_id id ≡ true → copies (files state.account) (name_of frame.account id) ≡ texts_of done id
+  pub holds : (id : List ℕ) → is_legal_id id ≡ true → HoldsOf frame state done id
   pub recorded : (id : List ℕ) → is_delivered state.account.rows id ≡ true → has_id (ids_of done) id ≡ true
   pub gone : AllByRecursion (λ id. has_id (ids_of done) id ≡ true) state.gone
+  pub taken : AllByRecursion (λ id. has_id (ids_of done) id ≡ true) state.taken
 
 -- an uncut session leaves out only what its limits exclude
 abbrev pub past_limit : {X : Type 0} → ℕ → List X → List X
@@ -83,18 +120,26 @@ past_limit limit xs = if limit == 0 then [] else drop limit xs
 
 abbrev pub LeavesOut : Frame → Situation → Visit → Type 0
 LeavesOut frame before visit = visit.effect.ended ≡ true → AllByRecursion (λ (m : Message).
-    (is_held frame.account visit.after.maildir m.uid ≡ true) ⊎ (is_selected frame.max_size m ≡ false)
+    (is_held frame.account visit.after.maildir m.uid ≡ true) ⊎ (has_id before.taken m.uid ≡ true) ⊎ (is_selected frame.max_size m ≡ false)
     ⊎ (has_id (ids_wanted (past_limit visit.settings.max_count
     (candidates visit.settings (merged_rows frame.account before.account visit.effect) visit.effect.listing))) m.uid ≡ true))
     (shown frame before visit)
 
--- each DELE begun is for a message that is held
-abbrev pub DeletesHeld : Frame → Visit → Type 0
-DeletesHeld frame visit = AllByRecursion (λ id. is_held frame.account visit.after.maildir id ≡ true) visit.effect.begun
+-- each DELE begun is for a message that is held, or was taken away
+abbrev pub DeletesHeld : Frame → Situation → Visit → Type 0
+DeletesHeld frame before visit = AllByRecursion (λ id. (is_held frame.account visit.after.maildir id ≡ true) ⊎ (has_id before.taken id ≡ true)) visit.effect.begun
 
+-- where messages that were delivered aren't read again, none that is recorded as delivered is stored, and it stays recorded
+abbrev pub StoresOnlyNew : Frame → Situation → Visit → Type 0
+StoresOnlyNew frame before visit = visit.settings.read_all ≡ false → (id : List ℕ) → is_legal_id id ≡ true → is_delivered before.account.rows id ≡ true
+    → (copies (files visit.after) (name_of frame.account id) ≡ copies (files before.account) (name_of frame.account id)) × (is_delivered visit.after.rows id ≡ true)
+
+-- nothing is promised of what others do, but that a reader's moves leave files of other names
 abbrev pub Promises : Frame → Situation → Event → Type 0
-Promises frame before (Visited visit) = LeavesOut frame before visit × DeletesHeld frame visit × KeepsOthers frame.account before.account visit.after
+Promises frame before (Visited visit) = LeavesOut frame before visit × DeletesHeld frame before visit × KeepsOthers frame.account before.account visit.after
+    × StoresOnlyNew frame before visit
 Promises frame before (Moved after) = KeepsOthers frame.account before.account after
+Promises frame before _ = Unit {0}
 
 -- each event keeps its promises, and each state is kept
 abbrev pub AllPromised : Frame → Situation → List Event → Type 0
@@ -115,24 +160,54 @@ pub record HoldsExactly (frame : Frame) (account : Account) : Type 0 where
   pub ids : (id : List ℕ) → is_legal_id id ≡ true → is_held frame.account account.maildir id ≡ has_id (ids_of (take j (selected frame.max_size frame.all))) id
   pub once : (id : List ℕ) → is_legal_id id ≡ true → length (copies (files account) (name_of frame.account id)) ≤ 1
 
-abbrev pub KeptHoldsExactly : Type 0
-KeptHoldsExactly = (frame : Frame) (state : Situation) → IsFrame frame → Kept frame state → HoldsExactly frame state.account
+-- of the first j of the selected messages each is in one file with its text, or was taken away and is in none; and nothing else is the
+-- account's
+pub record HoldsWhatIsLeft (frame : Frame) (state : Situation) : Type 0 where
+  pub j : ℕ
+  pub below : j ≤ length (selected frame.max_size frame.all)
+  pub contents : (id : List ℕ) → is_legal_id id ≡ true → HoldsOf frame state (take j (selected frame.max_size frame.all)) id
+  pub ids : (id : List ℕ) → is_legal_id id ≡ true → is_held frame.account state.account.maildir id ≡ true → has_id (ids_of (take j (selected frame.max_size frame.all))) id ≡ true
+  pub once : (id : List ℕ) → is_legal_id id ≡ true → length (copies (files state.account) (name_of frame.account id)) ≤ 1
+
+abbrev pub KeptHoldsWhatIsLeft : Type 0
+KeptHoldsWhatIsLeft = (frame : Frame) (state : Situation) → IsFrame frame → Kept frame state → HoldsWhatIsLeft frame state
+
+-- where nothing was taken away, the account holds exactly the first j
+abbrev pub NothingTakenHoldsExactly : Type 0
+NothingTakenHoldsExactly = (frame : Frame) (state : Situation) → HoldsWhatIsLeft frame state → state.taken ≡ [] → HoldsExactly frame state.account
+
+-- each session of these reads only what is new
+abbrev pub ReadOnlyNew : List Event → Type 0
+ReadOnlyNew [] = Unit {0}
+ReadOnlyNew (Visited visit ∷ events) = (visit.settings.read_all ≡ false) × ReadOnlyNew events
+ReadOnlyNew (_ ∷ events) = ReadOnlyNew events
+
+-- then what is recorded as delivered, and isn't held, is never stored again
+abbrev pub TakenStaysAway : Type 0
+TakenStaysAway = (frame : Frame) (start : Situation) (events : List Event) (id : List ℕ) → IsFrame frame → Kept frame start → Run frame start events
+    → ReadOnlyNew events → is_legal_id id ≡ true → is_delivered start.account.rows id ≡ true → copies (files start.account) (name_of frame.account id) ≡ []
+    → copies (files (after_events start events).account) (name_of frame.account id) ≡ []
+
+-- in a kept state a reader's move leaves the record and the messages of the account as they are
+abbrev pub MovesLeaveMail : Type 0
+MovesLeaveMail = (frame : Frame) (state : Situation) (after : Account) → IsFrame frame → Kept frame state → Moves state.account after → LeavesMail frame.account state.account after
 
 -- an account with an empty record and no file of its own is kept while nothing is gone
 abbrev pub StartsKept : Type 0
 StartsKept = (frame : Frame) (account : Account) → account.rows ≡ []
     → ((id : List ℕ) → is_legal_id id ≡ true → copies (files account) (name_of frame.account id) ≡ [])
-    → Kept frame (record { account = account; gone = [] })
+    → Kept frame (record { account = account; gone = []; taken = [] })
 
 -- in every situation a session can end
 abbrev pub CanEnd : Type 0
 CanEnd = (frame : Frame) (before : Situation) (settings : Settings) (come now : ℕ) → IsFrame frame → settings.max_size ≡ frame.max_size
     → (visit : Visit) × Visits frame before visit × (visit.effect.ended ≡ true) × (visit.come ≡ come)
 
--- a law: in a kept state what is wanted, where messages that were delivered aren't read again, is the next of the selected messages that have come
+-- a law: in a kept state, where what was taken away was recorded as delivered, and messages that were delivered aren't read again, what is
+-- wanted is the next of the selected messages that have come
 abbrev pub WantsNext : Type 0
 WantsNext = (frame : Frame) (before : Situation) (settings : Settings) (come now : ℕ) (kept : Kept frame before) → IsFrame frame
-    → settings.max_size ≡ frame.max_size → settings.read_all ≡ false
+    → settings.max_size ≡ frame.max_size → settings.read_all ≡ false → AllByRecursion (λ id. is_delivered before.account.rows id ≡ true) before.taken
     → let listing = listing_of (maildrop_of frame.all come before.gone) in
     map (λ (p : ℕ × Item). p.1) (wanted settings (merged before.account.rows listing (flags_of frame.account before.account.maildir listing) now) listing)
     ≡ listing_of (at_most settings.max_count (drop (length kept.done) (selected frame.max_size (take come frame.all))))

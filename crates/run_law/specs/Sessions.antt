@@ -23,7 +23,7 @@ IsBegun listing begun (Dele number) = (item : Item) × (slice_get listing (numbe
 IsBegun listing begun _ = Unit {0}
 
 -- what was read in the replies: the listing, and the texts of the first of the wanted messages
-pub record Reads (settings : Settings) (account : List ℕ) (before : Account) (commands : List Command) (sent got : List ℕ) (effect : Effect) : Type 0 where
+pub record Reads (wanted : List (ℕ × Item)) (commands : List Command) (sent got : List ℕ) (effect : Effect) : Type 0 where
   pub name : List ℕ
   pub word : List ℕ
   pub more : List Command
@@ -39,7 +39,7 @@ pub record Reads (settings : Settings) (account : List ℕ) (before : Account) (
   pub found : List (ℕ × List ℕ)
   pub retrieves : Retrieves (User name ∷ Pass word ∷ Stat ∷ UidlAll ∷ ListAll ∷ more) (user ∷ pass ∷ stat ∷ uidl ∷ list ∷ replies) found
   pub texts : effect.texts ≡ map (λ (p : ℕ × List ℕ). p.1) found
-  pub numbers : map (λ (p : ℕ × List ℕ). p.0) found ≡ map (λ (p : ℕ × Item). p.0) (take (length found) (wanted_at settings account before effect))
+  pub numbers : map (λ (p : ℕ × List ℕ). p.0) found ≡ map (λ (p : ℕ × Item). p.0) (take (length found) wanted)
 
 -- nothing was sent, or a beginning of the line of one command of this kind
 abbrev pub BeginsOne : (Command → Type 0) → List ℕ → Type 0
@@ -52,7 +52,7 @@ pub record Session (settings : Settings) (account : List ℕ) (before : Account)
   pub begun : AllByRecursion (IsBegun effect.listing effect.begun) commands
   -- what was sent behind these commands begins one more
   pub next : BeginsOne (IsBegun effect.listing effect.begun) asked.part
-  pub step : Leaves before effect after ⊎ (Stores settings account before effect after × Reads settings account before commands sent got effect)
+  pub step : Leaves before effect after ⊎ (Stores settings account before effect after × Reads (wanted_at settings account before effect) commands sent got effect)
 
 -- the id is that of a message that is marked
 abbrev pub IsMarked : List Message → List Bool → List ℕ → Type 0
@@ -79,7 +79,7 @@ pub data LinkEvent : Type 0 where
   Shifted : Account → LinkEvent
 
 abbrev pub after_link : Situation → LinkEvent → Situation
-after_link before (Linked link) = record { account = link.after; gone = before.gone ++ link.vanished }
+after_link before (Linked link) = record before { account = link.after; gone = before.gone ++ link.vanished }
 after_link before (Shifted after) = record before { account = after }
 
 -- a session that its code did, over an honest link

@@ -78,6 +78,6 @@ AreTexts drop [] (text ∷ texts) = ⊥
 AreTexts drop (first ∷ wanted) (text ∷ texts) = IsTextOf drop first text × AreTexts drop wanted texts
 
 -- the server was honest: the listing is the maildrop's, and the texts are those of the wanted messages
-pub record IsHonest (settings : Settings) (account : List ℕ) (before : Account) (drop : List Message) (effect : Effect) : Type 0 where
+pub record IsHonest (wanted : List (ℕ × Item)) (drop : List Message) (effect : Effect) : Type 0 where
   pub listing : effect.listing ≡ listing_of drop
-  pub texts : AreTexts drop (wanted_at settings account before effect) effect.texts
+  pub texts : AreTexts drop wanted effect.texts

@@ -1,9 +1,10 @@
 //! The law over runs of sessions: from a kept state every list of sessions and moves leads to a kept one.
 #![tactic(auto)]
 
-ghost use Rattle.run_law.specs.Runs.{CanEnd, KeptHoldsExactly, KeptStaysKept, StartsKept, WantsNext};
+ghost use Rattle.run_law.specs.Runs.{CanEnd, KeptHoldsWhatIsLeft, KeptStaysKept, MovesLeaveMail, NothingTakenHoldsExactly, StartsKept, TakenStaysAway, WantsNext};
 ghost use Rattle.run_law.specs.Readings.{HonestIsGranted, ListingIsMaildrop, MarksAreAsked, TextsAreMessages};
 ghost use Rattle.run_law.specs.Chains.{ChainsKeep};
+ghost use Rattle.run_law.specs.HonestSession.{HonestSession};
 ghost use Rattle.run_law.specs.Plans.{PlanGivesNumbers};
 ghost use Rattle.run_law.specs.Safety.{SessionsAreSafe};
 ghost use Rattle.run_law.specs.Sessions.{LinksAreVisits, LinksKeep};
@@ -16,7 +17,8 @@ use pop3_wire::{
     only_one_reading,
 };
 
-/// From a kept state every list of sessions and moves leads to a kept state, and each session keeps its promises.
+/// From a kept state every list of sessions, with whatever readers, other programs and the server do between them, leads to
+/// a kept state, and each session keeps its promises.
 pub fn kept_states()
     ensures { KeptStaysKept }
 {
@@ -29,10 +31,35 @@ pub fn kept_states()
     marked_is_delivered();
 }
 
-/// A kept state holds exactly the first of the selected messages, each once.
-pub fn holds_exactly()
-    ensures { KeptHoldsExactly }
+/// A kept state holds exactly the first of the selected messages, each once, but for those that were taken away.
+pub fn holds_what_is_left()
+    ensures { KeptHoldsWhatIsLeft }
 {}
+
+/// Where nothing was taken away it holds exactly the first of the selected messages, each once.
+pub fn holds_exactly()
+    ensures { NothingTakenHoldsExactly }
+{}
+
+/// Where each session reads only what is new, what is recorded as delivered and isn't held is never stored again.
+pub fn taken_stays_away()
+    ensures { TakenStaysAway }
+{
+    names_differ();
+    names_are_bases();
+    marks_keep_the_base();
+    distinct_messages_are_filtered();
+    held_is_delivered();
+    flags_tell_what_is_held();
+    marked_is_delivered();
+}
+
+/// In a kept state a reader's move leaves the record and the messages of the account as they are.
+pub fn moves_leave_mail()
+    ensures { MovesLeaveMail }
+{
+    marks_keep_the_base();
+}
 
 /// An account with an empty record and no file of its own is kept while nothing is gone.
 pub fn starts_kept()
@@ -87,6 +114,17 @@ pub fn links_are_visits()
     listing_is_maildrop();
 }
 
+/// Over an honest server, whatever its maildrop, a session leaves the account as it was, or its joined listing is the
+/// maildrop's, and each file that it brings is a message's of it, with the message's text.
+pub fn honest_sessions_bring_messages()
+    ensures { HonestSession }
+{
+    only_one_list_of_commands();
+    honest_is_granted();
+    texts_are_messages();
+    listing_is_maildrop();
+}
+
 /// In every situation a session can end.
 pub fn can_end()
     ensures { CanEnd }
@@ -94,7 +132,7 @@ pub fn can_end()
     distinct_messages_are_filtered();
 }
 
-/// In a kept state what is wanted is the next of the selected messages that have come.
+/// In a kept state, where what was taken away was recorded, what is wanted is the next of the selected messages that have come.
 pub fn wants_next()
     ensures { WantsNext }
 {

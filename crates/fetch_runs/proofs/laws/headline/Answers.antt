@@ -9,6 +9,7 @@ returns c = lemmas.headline laws
       steps = c.session_is_a_step.ensures;
       visits = c.links_are_visits.ensures;
       stays = c.kept_states.ensures;
-      holds_exactly = c.holds_exactly.ensures;
+      holds_what_is_left = c.holds_what_is_left.ensures;
       digits = c.account_texts_are_digits.ensures;
+      one = λ content a b x y. (c.files_stand_for_one_record.ensures content a b x.0 y.0 x.1 y.1).0;
     }

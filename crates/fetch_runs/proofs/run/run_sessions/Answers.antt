@@ -47,7 +47,7 @@ loop-i-preserved g c =
     )
 
 pub returns-clause-promised : goal.returns-clause-promised
-returns-clause-promised g c = λ sound disk file all gone facts mail is_kept served.
+returns-clause-promised g c = λ sound disk file all gone taken facts mail is_kept served.
     let inv = c.loop-i.invariant in
     let done : length c.args.visits.now ≤ c.loop-i.i = omega (arith, c.loop-i-test.false) in
     let same_length : length c.loop-i.visits ≡ length c.args.visits.now = inv.3 in
@@ -57,5 +57,5 @@ returns-clause-promised g c = λ sound disk file all gone facts mail is_kept ser
     let ran = ran_all g.W.Wire.sound g.W.Wire.seen c.args.account.now.settings c.args.visits.now c.loop-i.visits c.loop-i.i start
     (g.D.MaildirDisk.sound c.args.account.now.disk × g.F.FlatFile.sound c.args.account.now.file) c.loop-i.reports.items last
     (g.D.MaildirDisk.sound c.loop-i.account.disk × g.F.FlatFile.sound c.loop-i.account.file) inv.5 done behind in
-    runs_promised c.headline.ensures g.W.Wire.seen (world_of c.args.account.now.settings all) c.args.visits.now (state_of start gone) c.loop-i.reports.items c.loop-i.visits facts last
-    (record { settings = subst IsValid c.settings.ensures.value c.settings.ensures.valid; mail = mail }) is_kept served (ran.made sound (disk, file)).2
+    runs_promised c.headline.ensures g.W.Wire.seen c.args.account.now.settings (world_of c.args.account.now.settings all) c.args.visits.now (state_of start gone taken) c.loop-i.reports.items c.loop-i.visits facts last
+    mail (record { valid = subst IsValid c.settings.ensures.value c.settings.ensures.valid; server = refl; port = refl; username = refl; max_size = refl }) is_kept served (ran.made sound (disk, file)).2

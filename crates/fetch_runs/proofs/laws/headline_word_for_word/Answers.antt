@@ -1,0 +1,5 @@
+use Rattle.fetch_runs.proofs.EventLemmas as lemmas
+use Rattle.fetch_runs.proofs.laws.headline_word_for_word.Goals as goal
+
+pub returns : goal.returns
+returns c = lemmas.headline_word_for_word c.headline.ensures c.holds_exactly.ensures

@@ -1,0 +1,330 @@
+-- What a session fetches, where a prefix of the selected messages is done, is the next of them: this knows nothing of stores.
+use Rattle.std.proofs.Common.{◌≡◌, ◌≤◌, ◌⊎◌, inl, inr, ℕ, zero, suc, List, [], ◌∷◌, ◌++◌, Bool, true, false, not, cond, ◌&&◌, ◌||◌, ◌==◌, length, take, drop, map, refl, sym, ◌∙◌, ap, subst, arith, append_assoc, take-append-drop}
+use Rattle.std.specs.Prelude.{bytes_eq, zip}
+use Rattle.std.specs.List.{filter, AllByRecursion}
+use Rattle.std.proofs.lemmas.Bool.{both_ways, or_cases, cases_Bool, false_from_ne_true}
+use Rattle.std.proofs.lemmas.List.{take-map, take_all, take_at, length-map}
+use Rattle.std.proofs.lemmas.List.Elements.{filter-append}
+use Rattle.mail_terms.specs.UniqueId.{is_legal_id, has_id}
+use Rattle.pop3_wire.specs.World.{Message, IsMessage, IsWorld, maildrop_of}
+use Rattle.rc_file.specs.declared.settings.Settings.{Settings}
+use Rattle.fetch_rules.specs.Record.{Row, is_delivered}
+use Rattle.fetch_rules.specs.Wanted.{DistinctAreFiltered, at_most, wanted, candidates}
+use Rattle.run_law.specs.Mails.{ids_of, listing_of, is_selected, selected, texts_of}
+use Rattle.run_law.specs.Steps.{AreTexts, ids_wanted}
+use Rattle.run_law.specs.Runs.{past_limit}
+use Rattle.run_law.proofs.Lists.{filter-filter, all_map, all_both, all_filter, all_take}
+use Rattle.run_law.proofs.Ids.{Distinct, distinct_is, distinct_take, distinct_filter, ids_filtered, ids_both, all_at, all_ids_at, bytes_self, HasTextsOf, through, whole_take, whole_filter}
+use Rattle.run_law.proofs.Wants.{num_item, with_text, asked, offered, wants, offered_by_number, wants_by_number, wanted_are, candidates_are, wants_snd, offered_snd, wants_placed, zipped, ids_are, begins, both_parts, past-map, snd}
+use Rattle.run_law.proofs.Bridge.{IsLeft, BeginsWith, bridge, left_is}
+
+pub or_true : (b : Bool) → (b || true) ≡ true
+or_true true = refl
+or_true false = refl
+
+-- where a test passes, the id stays
+pub passing_in : (p : Message → Bool) (ms : List Message) → AllByRecursion (λ (m : Message). p m ≡ true → has_id (ids_of (filter p ms)) m.uid ≡ true) ms
+passing_in p [] = tt
+passing_in p (m ∷ ms) = (
+  (λ e. ap (λ b. has_id (ids_of (cond b (m ∷ filter p ms) (filter p ms))) m.uid) e ∙ ap (λ b. b || has_id (ids_of (filter p ms)) m.uid) (bytes_self m.uid)),
+  all_map (λ (x : Message). p x ≡ true → has_id (ids_of (filter p ms)) x.uid ≡ true) (λ (x : Message). p x ≡ true → has_id (ids_of (filter p (m ∷ ms))) x.uid ≡ true)
+      (λ x h e. by x (p m) (h e)) ms (passing_in p ms),
+)
+  where
+    by : (x : Message) (b : Bool) → has_id (ids_of (filter p ms)) x.uid ≡ true → has_id (ids_of (cond b (m ∷ filter p ms) (filter p ms))) x.uid ≡ true
+    by x true h = ap (λ b. bytes_eq x.uid m.uid || b) h ∙ or_true (bytes_eq x.uid m.uid)
+    by x false h = h
+
+-- what a filter keeps passes its test
+pub all_passing : {X : Type 0} (p : X → Bool) (xs : List X) → AllByRecursion (λ x. p x ≡ true) (filter p xs)
+all_passing p [] = tt
+all_passing p (x ∷ xs) = by (p x) refl (all_passing p xs)
+  where
+    by : (b : Bool) → p x ≡ b → AllByRecursion (λ y. p y ≡ true) (filter p xs) → AllByRecursion (λ y. p y ≡ true) (cond b (x ∷ filter p xs) (filter p xs))
+    by true e ih = (e, ih)
+    by false e ih = ih
+
+-- the id of each is among the ids of all
+pub members : (ms : List Message) → AllByRecursion (λ (m : Message). has_id (ids_of ms) m.uid ≡ true) ms
+members [] = tt
+members (m ∷ ms) = (
+  ap (λ b. b || has_id (ids_of ms) m.uid) (bytes_self m.uid),
+  all_map (λ (x : Message). has_id (ids_of ms) x.uid ≡ true) (λ (x : Message). has_id (ids_of (m ∷ ms)) x.uid ≡ true)
+      (λ x h. ap (λ b. bytes_eq x.uid m.uid || b) h ∙ or_true (bytes_eq x.uid m.uid)) ms (members ms),
+)
+
+pub filter_all : {X : Type 0} (p : X → Bool) (xs : List X) → AllByRecursion (λ x. p x ≡ true) xs → filter p xs ≡ xs
+filter_all p [] h = refl
+filter_all p (x ∷ xs) h = ap (λ b. cond b (x ∷ filter p xs) (filter p xs)) h.0 ∙ ap (λ l. x ∷ l) (filter_all p xs h.1)
+
+pub filter_same : {X : Type 0} (p q : X → Bool) (xs : List X) → AllByRecursion (λ x. p x ≡ q x) xs → filter p xs ≡ filter q xs
+filter_same p q [] h = refl
+filter_same p q (x ∷ xs) h = ap (λ b. cond b (x ∷ filter p xs) (filter p xs)) h.0 ∙ ap (λ l. cond (q x) (x ∷ l) l) (filter_same p q xs h.1)
+
+pub taken_more : (m n : ℕ) (ms : List Message) (id : List ℕ) → m ≤ n → has_id (ids_of (take m ms)) id ≡ true → has_id (ids_of (take n ms)) id ≡ true
+taken_more zero n ms id l e = absurd (both_ways false refl e)
+taken_more (suc m) zero ms id l e = absurd (omega (arith, l))
+taken_more (suc m) (suc n) [] id l e = e
+taken_more (suc m) (suc n) (x ∷ ms) id l e = elim (or_cases (bytes_eq id x.uid) (has_id (ids_of (take m ms)) id) e) [
+  | inl same ↦ ap (λ b. b || has_id (ids_of (take n ms)) id) same
+  | inr more ↦ ap (λ b. bytes_eq id x.uid || b) (taken_more m n ms id (omega (arith, l)) more) ∙ or_true (bytes_eq id x.uid)
+]
+
+pub all_front : {X : Type 0} (P : X → Type 0) (xs ys : List X) → AllByRecursion P (xs ++ ys) → AllByRecursion P xs
+all_front P [] ys h = tt
+all_front P (x ∷ xs) ys h = (h.0, all_front P xs ys h.1)
+
+-- all mail, what is gone and how much has come; the settings, and the record once it was merged; what is done of the selected
+-- messages, and what isn't
+pub record Scene : Type 0 where
+  pub all : List Message
+  pub gone : List (List ℕ)
+  pub come : ℕ
+  pub settings : Settings
+  pub rows : List Row
+  pub done : List Message
+  pub rest : List Message
+
+abbrev pub here : Scene → List Message
+here s = maildrop_of s.all s.come s.gone
+
+abbrev pub is_done : Scene → List ℕ → Bool
+is_done s id = has_id (ids_of s.done) id
+
+-- what is done is a prefix of the selected messages; and what is gone, or of the maildrop is recorded, is done
+pub record IsScene (s : Scene) : Type 0 where
+  pub world : IsWorld s.all
+  pub prefix : selected s.settings.max_size s.all ≡ s.done ++ s.rest
+  pub gone : AllByRecursion (λ id. is_done s id ≡ true) s.gone
+  pub known : (id : List ℕ) → is_legal_id id ≡ true → has_id (ids_of (here s)) id ≡ true → is_delivered s.rows id ≡ true → is_done s id ≡ true
+
+-- what is wanted
+abbrev pub fetched : Scene → List Message
+fetched s = wants s.settings s.rows (here s)
+
+-- the first n of them that aren't done yet
+abbrev pub added : Scene → ℕ → List Message
+added s n = filter (λ (m : Message). not (is_done s m.uid)) (take n (fetched s))
+
+abbrev pub is_done_after : Scene → ℕ → List ℕ → Bool
+is_done_after s n id = has_id (ids_of (s.done ++ added s n)) id
+
+abbrev pub IsLegal : Message → Type 0
+IsLegal m = is_legal_id m.uid ≡ true
+
+module _ (s : Scene) (is : IsScene s) where
+  abbrev drop' : List Message
+  drop' = here s
+
+  abbrev come : List Message
+  come = take s.come s.all
+
+  abbrev pub os : List Message
+  os = offered s.settings s.rows (here s)
+
+  abbrev ws : List Message
+  ws = fetched s
+
+  abbrev qs : List (ℕ × Message)
+  qs = wants_by_number s.settings s.rows (here s)
+
+  abbrev is_gone : List ℕ → Bool
+  is_gone id = has_id s.gone id
+
+  distinct_all : Distinct (ids_of s.all)
+  distinct_all = distinct_is s.all is.world.distinct
+
+  legal_all : AllByRecursion IsLegal s.all
+  legal_all = all_map IsMessage IsLegal (λ m h. h.legal) s.all is.world.messages
+
+  legal_come : AllByRecursion IsLegal come
+  legal_come = all_take IsLegal s.come s.all legal_all
+
+  pub legal_here : AllByRecursion IsLegal (here s)
+  legal_here = all_filter IsLegal (λ (m : Message). not (is_gone m.uid)) come legal_come
+
+  -- what holds of each message of the maildrop that is asked for holds of each that is wanted
+  of_wanted : (P : Message → Type 0) → AllByRecursion P os → AllByRecursion P ws
+  of_wanted P h = all_front P ws (past_limit s.settings.max_count os) (subst (AllByRecursion P) (sym (both_parts s.settings.max_count os)) h)
+
+  pub legal_fetched : AllByRecursion IsLegal ws
+  legal_fetched = of_wanted IsLegal (all_filter IsLegal (asked s.settings s.rows) (here s) legal_here)
+
+  pub fetched_here : AllByRecursion (λ (m : Message). has_id (ids_of (here s)) m.uid ≡ true) ws
+  fetched_here = of_wanted (λ (m : Message). has_id (ids_of (here s)) m.uid ≡ true)
+      (all_filter (λ (m : Message). has_id (ids_of (here s)) m.uid ≡ true) (asked s.settings s.rows) (here s) (members (here s)))
+
+  pub fetched_asked : AllByRecursion (λ (m : Message). asked s.settings s.rows m ≡ true) ws
+  fetched_asked = of_wanted (λ (m : Message). asked s.settings s.rows m ≡ true) (all_passing (asked s.settings s.rows) (here s))
+
+  pub legal_added : (n : ℕ) → AllByRecursion IsLegal (added s n)
+  legal_added n = all_filter IsLegal (λ (m : Message). not (is_done s m.uid)) (take n ws) (all_take IsLegal n ws legal_fetched)
+
+  distinct_here : Distinct (ids_of (here s))
+  distinct_here = distinct_filter (λ (m : Message). not (is_gone m.uid)) come (distinct_take s.come s.all distinct_all)
+
+  -- ---- numbers and texts
+
+  pub wanted_is : DistinctAreFiltered → wanted s.settings s.rows (listing_of (here s)) ≡ map num_item qs
+  wanted_is filtered = wanted_are filtered s.settings s.rows (here s) distinct_here
+
+  pub taken_is : (n : ℕ) → map snd (take n qs) ≡ take n ws
+  taken_is n = sym (take-map snd n qs) ∙ ap (take n) (wants_snd s.settings s.rows (here s))
+
+  pub zipped_is : (texts : List (List ℕ)) (n : ℕ) → AreTexts (here s) (map num_item qs) texts → n ≤ length texts
+      → zip (take n (map num_item qs)) texts ≡ map with_text (take n qs)
+  zipped_is texts n are l = zipped (here s) qs texts n (wants_placed s.settings s.rows (here s)) are l
+
+  pub wanted_ids : (n : ℕ) → ids_wanted (take n (map num_item qs)) ≡ ids_of (take n ws)
+  wanted_ids n = ap ids_wanted (take-map num_item n qs) ∙ ids_are (take n qs) ∙ ap ids_of (taken_is n)
+
+  pub wanted_length : length (map num_item qs) ≡ length ws
+  wanted_length = length-map qs num_item ∙ sym (length-map qs snd) ∙ ap length (wants_snd s.settings s.rows (here s))
+
+  pub past_ids : DistinctAreFiltered → ids_wanted (past_limit s.settings.max_count (candidates s.settings s.rows (listing_of (here s)))) ≡ ids_of (past_limit s.settings.max_count os)
+  past_ids filtered = ap (λ l. ids_wanted (past_limit s.settings.max_count l)) (candidates_are filtered s.settings s.rows (here s) distinct_here)
+      ∙ ap ids_wanted (past-map num_item s.settings.max_count (offered_by_number s.settings s.rows (here s)))
+      ∙ ids_are (past_limit s.settings.max_count (offered_by_number s.settings s.rows (here s)))
+      ∙ ap ids_of (sym (past-map snd s.settings.max_count (offered_by_number s.settings s.rows (here s))) ∙ ap (past_limit s.settings.max_count) (offered_snd s.settings s.rows (here s)))
+
+  -- ---- what is added is the next
+
+  abbrev fit : Message → Bool
+  fit m = is_selected s.settings.max_size m
+
+  abbrev is_left : Message → Bool
+  is_left m = (not (is_gone m.uid) && asked s.settings s.rows m) && not (is_done s m.uid)
+
+  each_left : AllByRecursion (IsLeft fit is_left s.done) come
+  each_left = all_both IsLegal (λ (m : Message). not (is_gone m.uid) ≡ true → has_id (ids_of (here s)) m.uid ≡ true) (IsLeft fit is_left s.done)
+      (λ m l e. left_is (fit m) s.settings.read_all (is_gone m.uid) (is_delivered s.rows m.uid) (is_done s m.uid)
+      (λ g. all_ids_at (λ id. is_done s id ≡ true) s.gone m.uid is.gone g)
+      (λ n. is.known m.uid l (e n)))
+      come legal_come (passing_in (λ (m : Message). not (is_gone m.uid)) come)
+
+  selected_parts : filter fit come ++ filter fit (drop s.come s.all) ≡ s.done ++ s.rest
+  selected_parts = sym (filter-append fit come (drop s.come s.all)) ∙ ap (filter fit) (take-append-drop s.come s.all) ∙ is.prefix
+
+  abbrev undone : Message → Bool
+  undone m = not (is_done s m.uid)
+
+  left_filters : filter is_left come ≡ filter undone os
+  left_filters = sym (ap (filter undone) (filter-filter (asked s.settings s.rows) (λ (m : Message). not (is_gone m.uid)) come)
+      ∙ filter-filter undone (λ (m : Message). not (is_gone m.uid) && asked s.settings s.rows m) come)
+
+  abbrev behind : ℕ → List Message
+  behind n = drop n ws ++ past_limit s.settings.max_count os
+
+  offered_parts : (n : ℕ) → filter undone os ≡ added s n ++ filter undone (behind n)
+  offered_parts n = ap (filter undone) (sym (begins n s.settings.max_count os)) ∙ filter-append undone (take n ws) (behind n)
+
+  pub added_begins : (n : ℕ) → BeginsWith (added s n) s.rest
+  added_begins n =
+      let r = bridge fit is_left s.done come (filter fit (drop s.come s.all)) s.rest (distinct_take s.come s.all distinct_all) selected_parts each_left in
+      (filter undone (behind n) ++ r.0, r.1 ∙ ap (λ l. l ++ r.0) (left_filters ∙ offered_parts n) ∙ append_assoc (added s n) (filter undone (behind n)) r.0)
+
+  pub prefix_after : (n : ℕ) → selected s.settings.max_size s.all ≡ (s.done ++ added s n) ++ (added_begins n).0
+  prefix_after n = is.prefix ∙ ap (λ l. s.done ++ l) (added_begins n).1 ∙ sym (append_assoc s.done (added s n) (added_begins n).0)
+
+  -- where only what is new is read, nothing of what is wanted is recorded
+  pub none_recorded : s.settings.read_all ≡ false → AllByRecursion (λ (m : Message). is_delivered s.rows m.uid ≡ false) ws
+  none_recorded only_new = all_map (λ (m : Message). asked s.settings s.rows m ≡ true) (λ (m : Message). is_delivered s.rows m.uid ≡ false)
+      (λ m a. new (fit m) s.settings.read_all (is_delivered s.rows m.uid) only_new a) ws fetched_asked
+    where
+      new : (f r k : Bool) → r ≡ false → (f && (r || not k)) ≡ true → k ≡ false
+      new f true k e a = absurd (both_ways true e refl)
+      new f false true e a = absurd (by f a)
+        where
+          by : (b : Bool) → (b && false) ≡ true → ⊥
+          by true h = both_ways false refl h
+          by false h = both_ways false refl h
+      new f false false e a = refl
+
+  -- and where all that is done is recorded, nothing of it is done
+  pub all_added : ((id : List ℕ) → is_done s id ≡ true → is_delivered s.rows id ≡ true) → s.settings.read_all ≡ false → (n : ℕ) → added s n ≡ take n ws
+  all_added exact only_new n = filter_all undone (take n ws) (all_take (λ (m : Message). undone m ≡ true) n ws
+      (all_map (λ (m : Message). is_delivered s.rows m.uid ≡ false) (λ (m : Message). undone m ≡ true)
+      (λ m k. ap not (false_from_ne_true (is_done s m.uid) (λ d. both_ways (is_delivered s.rows m.uid) k (exact m.uid d))))
+      ws (none_recorded only_new)))
+
+  -- ---- what is done afterwards
+
+  pub done_more : (n : ℕ) (id : List ℕ) → is_done s id ≡ true → is_done_after s n id ≡ true
+  done_more n id e = ids_both s.done (added s n) id ∙ ap (λ b. b || has_id (ids_of (added s n)) id) e
+
+  added_more : (n : ℕ) (id : List ℕ) → has_id (ids_of (added s n)) id ≡ true → is_done_after s n id ≡ true
+  added_more n id e = ids_both s.done (added s n) id ∙ ap (λ b. is_done s id || b) e ∙ or_true (is_done s id)
+
+  pub fetched_done : (n : ℕ) (id : List ℕ) → has_id (ids_of (take n ws)) id ≡ true → is_done_after s n id ≡ true
+  fetched_done n id e = elim (cases_Bool (is_done s id)) [
+    | inl h ↦ done_more n id h
+    | inr h ↦ added_more n id (ids_filtered (λ x. not (is_done s x)) (take n ws) id ∙ ap (λ b. b && not (is_done s id)) e ∙ ap not h)
+  ]
+
+  pub legal_after : (n : ℕ) (id : List ℕ) → is_done_after s n id ≡ true → is_legal_id id ≡ true
+  legal_after n id e = all_at (λ x. is_legal_id x ≡ true) (s.done ++ added s n) id
+      (all_front IsLegal (s.done ++ added s n) (added_begins n).0 (subst (AllByRecursion IsLegal) (prefix_after n) (all_filter IsLegal (is_selected s.settings.max_size) s.all legal_all))) e
+
+  -- ---- texts
+
+  distinct_offered : Distinct (ids_of os)
+  distinct_offered = distinct_filter (asked s.settings s.rows) (here s) distinct_here
+
+  most : (limit : ℕ) (ms : List Message) → Distinct (ids_of ms) → Distinct (ids_of (at_most limit ms)) × ((id : List ℕ) → HasTextsOf (at_most limit ms) ms id)
+  most limit ms d = by (limit == 0)
+    where
+      by : (b : Bool) → Distinct (ids_of (cond b ms (take limit ms))) × ((id : List ℕ) → HasTextsOf (cond b ms (take limit ms)) ms id)
+      by true = (d, λ id h. refl)
+      by false = (distinct_take limit ms d, λ id. whole_take limit ms id d)
+
+  -- the texts of an id that is among the first n of what is wanted are all its texts
+  pub texts_fetched : (n : ℕ) (id : List ℕ) → HasTextsOf (take n ws) s.all id
+  texts_fetched n id = through (take n ws) ws s.all id (whole_take n ws id (most s.settings.max_count os distinct_offered).0)
+      (through ws os s.all id ((most s.settings.max_count os distinct_offered).1 id)
+      (through os (here s) s.all id (whole_filter (asked s.settings s.rows) (here s) id distinct_here)
+      (through (here s) come s.all id (whole_filter (λ (m : Message). not (is_gone m.uid)) come id (distinct_take s.come s.all distinct_all))
+      (whole_take s.come s.all id distinct_all))))
+
+  -- and so are those of an id that is done
+  pub texts_done : (id : List ℕ) → HasTextsOf s.done s.all id
+  texts_done id = through s.done (selected s.settings.max_size s.all) s.all id
+      (subst (λ (l : List Message). HasTextsOf l (selected s.settings.max_size s.all) id) front
+      (whole_take (length s.done) (selected s.settings.max_size s.all) id (distinct_filter fit s.all distinct_all)))
+      (whole_filter fit s.all id distinct_all)
+    where
+      front : take (length s.done) (selected s.settings.max_size s.all) ≡ s.done
+      front = ap (take (length s.done)) is.prefix ∙ take_at s.done s.rest (length s.done) refl
+
+  -- ---- what an uncut session leaves out
+
+  abbrev pub IsOut : ℕ → Message → Type 0
+  IsOut n m = (is_done_after s n m.uid ≡ true) ⊎ (fit m ≡ false) ⊎ (has_id (ids_of (past_limit s.settings.max_count os)) m.uid ≡ true)
+
+  offered_out : (n : ℕ) → length ws ≤ n → (m : Message) → has_id (ids_of os) m.uid ≡ true → IsOut n m
+  offered_out n l m e =
+      elim (or_cases (has_id (ids_of ws) m.uid) (has_id (ids_of (past_limit s.settings.max_count os)) m.uid)
+      (sym (ids_both ws (past_limit s.settings.max_count os) m.uid) ∙ ap (λ l. has_id (ids_of l) m.uid) (both_parts s.settings.max_count os) ∙ e)) [
+        | inl in' ↦ inl (fetched_done n m.uid (ap (λ l. has_id (ids_of l) m.uid) (take_all n ws l) ∙ in'))
+        | inr past ↦ inr (inr past)
+      ]
+
+  out : (n : ℕ) → length ws ≤ n → (m : Message) → (is_legal_id m.uid ≡ true) × (has_id (ids_of (here s)) m.uid ≡ true)
+      → (asked s.settings s.rows m ≡ true → has_id (ids_of os) m.uid ≡ true) → IsOut n m
+  out n l m g h = elim (cases_Bool (fit m)) [
+    | inr not_fit ↦ inr (inl not_fit)
+    | inl fits ↦ elim (cases_Bool (s.settings.read_all || not (is_delivered s.rows m.uid))) [
+      | inl new ↦ offered_out n l m (h (ap (λ b. b && (s.settings.read_all || not (is_delivered s.rows m.uid))) fits ∙ new))
+      | inr old ↦ inl (done_more n m.uid (is.known m.uid g.0 g.1 (both_no s.settings.read_all (is_delivered s.rows m.uid) old)))
+    ]
+  ]
+    where
+      both_no : (a b : Bool) → (a || not b) ≡ false → b ≡ true
+      both_no a true e = refl
+      both_no true false e = absurd (both_ways true e refl)
+      both_no false false e = absurd (both_ways true e refl)
+
+  pub left_out : (n : ℕ) → length ws ≤ n → AllByRecursion (IsOut n) (here s)
+  left_out n l = all_both (λ (m : Message). (is_legal_id m.uid ≡ true) × (has_id (ids_of (here s)) m.uid ≡ true)) (λ (m : Message). asked s.settings s.rows m ≡ true → has_id (ids_of os) m.uid ≡ true) (IsOut n)
+      (out n l) (here s)
+      (all_both IsLegal (λ (m : Message). has_id (ids_of (here s)) m.uid ≡ true) (λ (m : Message). (is_legal_id m.uid ≡ true) × (has_id (ids_of (here s)) m.uid ≡ true)) (λ m l h. (l, h)) (here s) legal_here (members (here s)))
+      (passing_in (asked s.settings s.rows) (here s))

@@ -1,0 +1,111 @@
+-- What a kept state says of each id: what is held is done, and what is done is held or was taken away.
+use Rattle.std.proofs.Common.{◌≡◌, ◌≤◌, ◌⊎◌, inl, inr, ℕ, List, [], ◌∷◌, Bool, true, false, ◌||◌, length, refl, sym, ◌∙◌, ap, subst, arith}
+use Rattle.std.specs.Prelude.{bytes_eq}
+use Rattle.std.specs.List.{AllByRecursion}
+use Rattle.std.proofs.lemmas.Bool.{both_ways, or_cases, cases_Bool}
+use Rattle.mail_terms.specs.UniqueId.{is_legal_id, has_id}
+use Rattle.pop3_wire.specs.World.{Message}
+use Rattle.mail_store.specs.FileName.{is_held, name_of}
+use Rattle.fetch_rules.specs.Record.{is_delivered}
+use Rattle.run_law.specs.Mails.{ids_of, is_selected, selected, texts_of}
+use Rattle.run_law.specs.Accounts.{Account, files, copies}
+use Rattle.run_law.specs.Runs.{Frame, IsFrame, Situation, HoldsOf, IsHeldOrTaken, Kept, LeavesMail, TakesAway, Expired, Between, TakenAway, after_event, StartsKept}
+use Rattle.run_law.proofs.Lists.{is_some, all_map, all_append}
+use Rattle.run_law.proofs.Ids.{Distinct, distinct_take, distinct_filter, distinct_is, lone, bytes_same, bytes_self, all_ids_at}
+use Rattle.run_law.proofs.Files.{held_done, held_copies}
+
+module _ (frame : Frame) (state : Situation) where
+  abbrev held : List ℕ → Bool
+  held id = is_held frame.account state.account.maildir id
+
+  -- no file is there: it isn't held
+  pub unheld_if : (id : List ℕ) → copies (files state.account) (name_of frame.account id) ≡ [] → held id ≡ false
+  unheld_if id none = held_copies frame.account state.account id ∙ ap is_some none
+
+  pub held_is_done : (done : List Message) (id : List ℕ) → HoldsOf frame state done id → held id ≡ true → has_id (ids_of done) id ≡ true
+  held_is_done done id (inl e) h = sym (held_done frame.account state.account done id e) ∙ h
+  held_is_done done id (inr taken) h = absurd (both_ways (held id) (unheld_if id taken.1) h)
+
+  pub done_is_held : (done : List Message) (id : List ℕ) → HoldsOf frame state done id → has_id (ids_of done) id ≡ true
+      → (held id ≡ true) ⊎ (has_id state.taken id ≡ true)
+  done_is_held done id (inl e) h = inl (held_done frame.account state.account done id e ∙ h)
+  done_is_held done id (inr taken) h = inr taken.0
+
+  pub one_file : (done : List Message) (id : List ℕ) → Distinct (ids_of done) → HoldsOf frame state done id → length (copies (files state.account) (name_of frame.account id)) ≤ 1
+  one_file done id d (inl e) = subst (λ (c : List (List ℕ)). length c ≤ 1) (sym e) (lone done id d)
+  one_file done id d (inr taken) = subst (λ (c : List (List ℕ)). length c ≤ 1) (sym taken.1) (omega arith)
+
+-- ---- what others do
+
+pub between_kept : (frame : Frame) (before : Situation) (after : Account) → Kept frame before → LeavesMail frame.account before.account after
+    → Kept frame (after_event before (Between after))
+between_kept frame before after kept same = record {
+  done = kept.done;
+  rest = kept.rest;
+  prefix = kept.prefix;
+  holds = λ id l. elim (kept.holds id l) [
+    | inl e ↦ inl (same.same id l ∙ e)
+    | inr taken ↦ inr (taken.0, same.same id l ∙ taken.1)
+  ];
+  recorded = λ id e. kept.recorded id (ap (λ r. is_delivered r id) (sym same.rows) ∙ e);
+  gone = kept.gone;
+  taken = kept.taken;
+}
+
+pub expired_kept : (frame : Frame) (before : Situation) (ids : List (List ℕ)) → Kept frame before → AllByRecursion (IsHeldOrTaken frame.account before) ids
+    → Kept frame (after_event before (Expired ids))
+expired_kept frame before ids kept all = record {
+  done = kept.done;
+  rest = kept.rest;
+  prefix = kept.prefix;
+  holds = kept.holds;
+  recorded = kept.recorded;
+  gone = all_append (λ id. has_id (ids_of kept.done) id ≡ true) before.gone ids kept.gone
+      (all_map (IsHeldOrTaken frame.account before) (λ id. has_id (ids_of kept.done) id ≡ true)
+      (λ id h. elim h.1 [
+        | inl held' ↦ held_is_done frame before kept.done id (kept.holds id h.0) held'
+        | inr taken ↦ all_ids_at (λ x. has_id (ids_of kept.done) x ≡ true) before.taken id kept.taken taken
+      ]) ids all);
+  taken = kept.taken;
+}
+
+pub taken_kept : (frame : Frame) (before : Situation) (id : List ℕ) (after : Account) → Kept frame before → TakesAway frame.account before.account id after
+    → Kept frame (after_event before (TakenAway id after))
+taken_kept frame before id after kept takes = record {
+  done = kept.done;
+  rest = kept.rest;
+  prefix = kept.prefix;
+  holds = λ other l. by other l (cases_Bool (bytes_eq other id));
+  recorded = λ other e. kept.recorded other (ap (λ r. is_delivered r other) (sym takes.rows) ∙ e);
+  gone = kept.gone;
+  taken = (held_is_done frame before kept.done id (kept.holds id takes.legal) takes.held, kept.taken);
+}
+  where
+    state : Situation
+    state = after_event before (TakenAway id after)
+
+    by : (other : List ℕ) → is_legal_id other ≡ true → (bytes_eq other id ≡ true) ⊎ (bytes_eq other id ≡ false) → HoldsOf frame state kept.done other
+    by other l (inl same) = inr (
+      ap (λ b. b || has_id before.taken other) same,
+      ap (λ (x : List ℕ). copies (files after) (name_of frame.account x)) (bytes_same other id same) ∙ takes.none,
+    )
+    by other l (inr apart) = elim (kept.holds other l) [
+      | inl e ↦ inl (takes.others other l apart ∙ e)
+      | inr taken ↦ inr (
+        ap (λ b. b || has_id before.taken other) apart ∙ taken.0,
+        takes.others other l apart ∙ taken.1,
+      )
+    ]
+
+-- ---- where it begins
+
+pub starts_kept : StartsKept
+starts_kept frame account rows none = record {
+  done = [];
+  rest = selected frame.max_size frame.all;
+  prefix = refl;
+  holds = λ id l. inl (none id l);
+  recorded = λ id e. absurd (both_ways false refl (sym (ap (λ r. is_delivered r id) rows) ∙ e));
+  gone = tt;
+  taken = tt;
+}
