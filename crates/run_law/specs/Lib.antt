@@ -2,6 +2,11 @@ pub mod Accounts
 pub mod Chains
 pub mod HonestSession
 pub mod Mails
+pub mod MboxRuns
+pub mod MboxSafety
+pub mod MboxSessions
+pub mod MboxTold
+pub mod Mboxes
 pub mod Plans
 pub mod Readings
 pub mod Runs

@@ -9,9 +9,18 @@ ghost use Rattle.run_law.specs.Plans.{PlanGivesNumbers};
 ghost use Rattle.run_law.specs.Safety.{SessionsAreSafe};
 ghost use Rattle.run_law.specs.Sessions.{LinksAreVisits, LinksKeep};
 ghost use Rattle.run_law.specs.Told.{ToldStores};
+ghost use Rattle.run_law.specs.MboxRuns.{MboxCanEnd, MboxKeptStaysKept, MboxKeptHolds, MboxStartsKept};
+ghost use Rattle.run_law.specs.MboxSafety.{MboxSessionsAreSafe};
+ghost use Rattle.run_law.specs.MboxSessions.{MboxLinksKeep};
+ghost use Rattle.run_law.specs.MboxTold.{MboxToldStores};
 
-use fetch_rules::{distinct_messages_are_filtered, held_is_delivered, marked_is_delivered};
-use mail_store::{flags_tell_what_is_held, marks_keep_the_base, names_are_bases, names_differ};
+use fetch_rules::{
+    distinct_messages_are_filtered, held_is_delivered, listed_has_row, marked_is_delivered,
+    marked_keeps_rows,
+};
+use mail_store::{
+    entries_add_texts, flags_tell_what_is_held, marks_keep_the_base, names_are_bases, names_differ,
+};
 use pop3_wire::{
     only_one_body, only_one_line, only_one_list_of_commands, only_one_list_of_lines,
     only_one_reading,
@@ -168,4 +177,69 @@ pub fn sessions_are_safe()
     held_is_delivered();
     flags_tell_what_is_held();
     marked_is_delivered();
+}
+
+/// With an mboxrd: from a kept state every list of sessions that read only what is new, with whatever expires on the server between them, leads to a kept state, and each
+/// session keeps its promises.
+pub fn mbox_states_are_kept()
+    ensures { MboxKeptStaysKept }
+{
+    distinct_messages_are_filtered();
+    held_is_delivered();
+    listed_has_row();
+    marked_is_delivered();
+    marked_keeps_rows();
+}
+
+/// With an mboxrd: a kept state's file is the first one, followed by the entries of the first of the selected messages
+/// that weren't recorded before, each once, and by a front of the next entry at most.
+pub fn mbox_holds_exactly()
+    ensures { MboxKeptHolds }
+{
+    entries_add_texts();
+}
+
+/// With an mboxrd: an account with no open intent, whose record has just a prefix of the selected messages as delivered, is kept,
+/// whatever its file holds. So is one with an empty record, and one whose record an earlier version left.
+pub fn mbox_starts_kept()
+    ensures { MboxStartsKept }
+{}
+
+/// With an mboxrd: over honest links, from a kept state, every list of sessions that read only what is new leads through
+/// kept states, and a session that asks for a message has first cut away what was left of an entry, or counted it.
+pub fn mbox_links_keep()
+    ensures { MboxLinksKeep }
+{
+    mbox_states_are_kept();
+    only_one_list_of_commands();
+    honest_is_granted();
+    texts_are_messages();
+    listing_is_maildrop();
+    held_is_delivered();
+    listed_has_row();
+    marked_is_delivered();
+    marked_keeps_rows();
+}
+
+/// With an mboxrd: a session told with its numbers is one that the law over runs takes.
+pub fn mbox_told_stores()
+    ensures { MboxToldStores }
+{}
+
+/// With an mboxrd: in every situation a session can end.
+pub fn mbox_can_end()
+    ensures { MboxCanEnd }
+{
+    distinct_messages_are_filtered();
+}
+
+/// With an mboxrd: whatever its server says, a session keeps what the file holds, but for the rest of an entry that an intent
+/// had begun, and sends a DELE only for a message that was recorded as delivered, or whose entry it appended.
+pub fn mbox_sessions_are_safe()
+    ensures { MboxSessionsAreSafe }
+{
+    held_is_delivered();
+    listed_has_row();
+    marked_is_delivered();
+    marked_keeps_rows();
 }

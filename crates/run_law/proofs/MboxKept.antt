@@ -1,0 +1,506 @@
+-- Sessions with an mboxrd lead from kept states to kept ones.
+use Rattle.std.proofs.Common.{◌≡◌, ◌≤◌, ◌⊎◌, inl, inr, ℕ, zero, suc, List, [], ◌∷◌, ◌++◌, Bool, true, false, cond, ◌||◌, length, take, map, refl, sym, ◌∙◌, ap, subst, arith, append_assoc, length-append, Some, slice_get}
+use Rattle.std.specs.Prelude.{bytes_eq}
+use Rattle.std.specs.List.{AllByRecursion}
+use Rattle.std.proofs.lemmas.Bool.{both_ways, or_cases}
+use Rattle.std.proofs.lemmas.List.{append-nil, map-append, take_at}
+use Rattle.std.proofs.lemmas.Grind.{flat_map-append}
+use Rattle.mail_terms.specs.UniqueId.{has_id}
+use Rattle.mail_terms.specs.Text.{IsWhole}
+use Rattle.pop3_wire.specs.World.{Message, IsMessage, IsWorld}
+use Rattle.fetch_rules.specs.Record.{Row, is_delivered, has_row, marked, marked_all}
+use Rattle.fetch_rules.specs.Record.{Intent}
+use Rattle.fetch_rules.specs.Intents.{ends_at, settled_rows, settled_file}
+use Rattle.fetch_rules.specs.Wanted.{DistinctAreFiltered, wanted, candidates}
+use Rattle.mail_terms.specs.Listing.{Item, has_item}
+use Rattle.mail_store.specs.Mboxrd.{entry_of, MboxFile, EntryAddsText}
+use Rattle.run_law.specs.Mails.{ids_of, item_of, is_selected, selected}
+use Rattle.run_law.specs.Steps.{IsHonest, AreTexts, ids_wanted}
+use Rattle.run_law.specs.Runs.{past_limit}
+use Rattle.run_law.specs.Mboxes.{MboxAccount, settled, mbox_rows, mbox_wanted, none_held, entries, intent_of, IsClosed, IsOpen, IsBroken, MboxLeaves, MboxStores}
+use Rattle.run_law.specs.MboxRuns.{MboxSituation, MboxVisit, MboxFrame, MboxVisits, MboxKept, MboxEnds, MboxPromises, HasEntry, IsNextOpen, after_visit, mbox_shown, entries_of, MboxEvent, MboxVisited, MboxExpired, MboxHappens, MboxPromised, after_mbox_event, MboxKeptStaysKept, MboxKeptHolds, MboxStartsKept}
+use Rattle.run_law.proofs.Core as core
+use Rattle.run_law.proofs.Core.{Scene, IsScene, fetched}
+use Rattle.run_law.proofs.Lists.{any-map, all_map, all_append, all_take, all_filter}
+use Rattle.run_law.proofs.Ids.{ids_both, all_at, all_ids_at, bytes_same, bytes_self}
+use Rattle.run_law.proofs.Below.{RowLaws}
+use Rattle.run_law.proofs.MboxRows.{delivered_unheld, delivered_one, delivered_all, rows_marked}
+use Rattle.run_law.proofs.Settling.{settles}
+use Rattle.run_law.proofs.Wants.{num_item, snd, Placed, wants_by_number, wants_placed}
+
+-- ---- entries
+
+pub entries-append : (ms ns : List Message) → entries_of (ms ++ ns) ≡ entries_of ms ++ entries_of ns
+entries-append ms ns = ap entries (map-append (λ (m : Message). m.text) ms ns) ∙ flat_map-append entry_of (map (λ (m : Message). m.text) ms) (map (λ (m : Message). m.text) ns)
+
+one_entry : (m : Message) → entries_of (m ∷ []) ≡ entry_of m.text
+one_entry m = append-nil (entry_of m.text)
+
+-- ---- a state that is settled
+
+-- no intent is open: the file ends behind the entries of what is recorded
+pub record IsSettled (frame : MboxFrame) (account : MboxAccount) (old : List Message) : Type 0 where
+  pub done : List Message
+  pub rest : List Message
+  pub prefix : selected frame.max_size frame.all ≡ (frame.had ++ done) ++ rest
+  pub recorded : (id : List ℕ) → is_delivered (settled account).rows id ≡ has_id (ids_of (frame.had ++ done)) id
+  pub more : (id : List ℕ) → has_id (ids_of (frame.had ++ old)) id ≡ true → has_id (ids_of (frame.had ++ done)) id ≡ true
+  pub file : (settled account).file ≡ frame.start ++ entries_of done
+
+or_swap : (a b : Bool) → (a || (b || false)) ≡ (a || b)
+or_swap true b = refl
+or_swap false true = refl
+or_swap false false = refl
+
+-- the intent of appending the next entry behind those of what is done
+abbrev next_intent : MboxFrame → List Message → Message → Intent
+next_intent frame done m = intent_of (frame.start ++ entries_of done) m.uid m.text
+
+pub settle : RowLaws → (frame : MboxFrame) (state : MboxSituation) → (kept : MboxKept frame state) → IsSettled frame state.account kept.done
+settle laws frame state kept = elim kept.stands [
+  | inl closed ↦ record {
+    done = kept.done;
+    rest = kept.rest;
+    prefix = kept.prefix;
+    recorded = λ id. ap (λ i. is_delivered (settled_rows state.account.rows i (length state.account.file)) id) closed.intent ∙ kept.recorded id;
+    more = λ id e. e;
+    file = ap (λ i. settled_file i state.account.file) closed.intent ∙ closed.file;
+  }
+  | inr opened ↦ by opened (settles (frame.start ++ entries_of kept.done) opened.next.uid (entry_of opened.next.text) opened.opened.front opened.opened.behind opened.opened.entry)
+]
+  where
+    by : (o : IsNextOpen (frame.start ++ entries_of kept.done) kept.rest state.account)
+        → ((ends_at (next_intent frame kept.done o.next) (length ((frame.start ++ entries_of kept.done) ++ o.opened.front)) ≡ true)
+        × (settled_file (Some (next_intent frame kept.done o.next)) ((frame.start ++ entries_of kept.done) ++ o.opened.front) ≡ (frame.start ++ entries_of kept.done) ++ o.opened.front) × (o.opened.front ≡ entry_of o.next.text))
+        ⊎ ((ends_at (next_intent frame kept.done o.next) (length ((frame.start ++ entries_of kept.done) ++ o.opened.front)) ≡ false)
+        × (settled_file (Some (next_intent frame kept.done o.next)) ((frame.start ++ entries_of kept.done) ++ o.opened.front) ≡ frame.start ++ entries_of kept.done))
+        → IsSettled frame state.account kept.done
+    by o (inl whole) = record {
+      done = kept.done ++ o.next ∷ [];
+      rest = o.more;
+      prefix = kept.prefix ∙ ap (λ l. (frame.had ++ kept.done) ++ l) o.is_next ∙ sym (append_assoc (frame.had ++ kept.done) (o.next ∷ []) o.more)
+          ∙ ap (λ l. l ++ o.more) (append_assoc frame.had kept.done (o.next ∷ []));
+      recorded = λ id.
+          ap (λ i. is_delivered (settled_rows state.account.rows i (length state.account.file)) id) o.opened.intent
+          ∙ ap (λ (f : List ℕ). is_delivered (settled_rows state.account.rows (Some (next_intent frame kept.done o.next)) (length f)) id) o.opened.file
+          ∙ ap (λ b. is_delivered (cond b (marked state.account.rows o.next.uid) state.account.rows) id) whole.0
+          ∙ delivered_one laws state.account.rows o.next.uid id o.row
+          ∙ ap (λ b. b || bytes_eq id o.next.uid) (kept.recorded id)
+          ∙ sym (ids_both (frame.had ++ kept.done) (o.next ∷ []) id ∙ or_swap (has_id (ids_of (frame.had ++ kept.done)) id) (bytes_eq id o.next.uid))
+          ∙ ap (λ (ms : List Message). has_id (ids_of ms) id) (append_assoc frame.had kept.done (o.next ∷ []));
+      more = λ id e. ap (λ (ms : List Message). has_id (ids_of ms) id) (sym (append_assoc frame.had kept.done (o.next ∷ [])))
+          ∙ ids_both (frame.had ++ kept.done) (o.next ∷ []) id ∙ ap (λ b. b || has_id (ids_of (o.next ∷ [])) id) e;
+      file = ap (λ i. settled_file i state.account.file) o.opened.intent ∙ ap (settled_file (Some (next_intent frame kept.done o.next))) o.opened.file ∙ whole.1
+          ∙ ap (λ l. (frame.start ++ entries_of kept.done) ++ l) (whole.2 ∙ sym (one_entry o.next))
+          ∙ append_assoc frame.start (entries_of kept.done) (entries_of (o.next ∷ []))
+          ∙ ap (λ l. frame.start ++ l) (sym (entries-append kept.done (o.next ∷ [])));
+    }
+    by o (inr part) = record {
+      done = kept.done;
+      rest = kept.rest;
+      prefix = kept.prefix;
+      recorded = λ id.
+          ap (λ i. is_delivered (settled_rows state.account.rows i (length state.account.file)) id) o.opened.intent
+          ∙ ap (λ (f : List ℕ). is_delivered (settled_rows state.account.rows (Some (next_intent frame kept.done o.next)) (length f)) id) o.opened.file
+          ∙ ap (λ b. is_delivered (cond b (marked state.account.rows o.next.uid) state.account.rows) id) part.0
+          ∙ kept.recorded id;
+      more = λ id e. e;
+      file = ap (λ i. settled_file i state.account.file) o.opened.intent ∙ ap (settled_file (Some (next_intent frame kept.done o.next))) o.opened.file ∙ part.1;
+    }
+
+-- ---- an account that is left, its file perhaps cut back
+
+reopened : (bytes uid text : List ℕ) (before after : MboxAccount) → IsOpen bytes uid text before → after.intent ≡ before.intent → after.file ≡ (settled before).file → IsOpen bytes uid text after
+reopened bytes uid text before after o i f = elim (settles bytes uid (entry_of text) o.front o.behind o.entry) [
+  | inl whole ↦ record { intent = i ∙ o.intent; front = o.front; behind = o.behind; entry = o.entry; file = cut ∙ whole.1 }
+  | inr part ↦ record { intent = i ∙ o.intent; front = []; behind = entry_of text; entry = refl; file = cut ∙ part.1 ∙ sym (append-nil bytes) }
+]
+  where
+    cut : after.file ≡ settled_file (Some (intent_of bytes uid text)) (bytes ++ o.front)
+    cut = f ∙ ap (λ i. settled_file i before.file) o.intent ∙ ap (settled_file (Some (intent_of bytes uid text))) o.file
+
+none_vanish : (ids : List (List ℕ)) (begun : List (List ℕ)) → begun ≡ [] → AllByRecursion (λ id. has_id begun id ≡ true) ids → ids ≡ []
+none_vanish [] begun e h = refl
+none_vanish (id ∷ ids) begun e h = absurd (both_ways false refl (sym (ap (λ l. has_id l id) e) ∙ h.0))
+
+left_kept : (frame : MboxFrame) (before : MboxSituation) (v : MboxVisit) → MboxKept frame before → MboxLeaves before.account v.effect v.after
+    → AllByRecursion (λ id. has_id v.effect.begun id ≡ true) v.vanished → MboxKept frame (after_visit before v)
+left_kept frame before v kept h vanished = record {
+  done = kept.done;
+  rest = kept.rest;
+  prefix = kept.prefix;
+  recorded = λ id. ap (λ r. is_delivered r id) h.rows ∙ kept.recorded id;
+  gone = subst (AllByRecursion (λ id. has_id (ids_of (frame.had ++ kept.done)) id ≡ true)) (sym (append-nil before.gone) ∙ ap (λ l. before.gone ++ l) (sym (none_vanish v.vanished v.effect.begun h.begun vanished))) kept.gone;
+  stands = elim kept.stands [
+    | inl closed ↦ inl (record {
+      intent = h.intent ∙ closed.intent;
+      file = elim h.file [
+        | inl same ↦ same ∙ closed.file
+        | inr cut ↦ cut ∙ ap (λ i. settled_file i before.account.file) closed.intent ∙ closed.file
+      ];
+    })
+    | inr o ↦ inr (record {
+      next = o.next;
+      more = o.more;
+      is_next = o.is_next;
+      opened = elim h.file [
+        | inl same ↦ record { intent = h.intent ∙ o.opened.intent; front = o.opened.front; behind = o.opened.behind; entry = o.opened.entry; file = same ∙ o.opened.file }
+        | inr cut ↦ reopened (frame.start ++ entries_of kept.done) o.next.uid o.next.text before.account v.after o.opened h.intent cut
+      ];
+      row = ap (λ r. has_row r o.next.uid) h.rows ∙ o.row;
+    })
+  ];
+}
+
+-- ---- which entries stand
+
+split_at : (ms : List Message) (id : List ℕ) → has_id (ids_of ms) id ≡ true → (front : List Message) × (m : Message) × (back : List Message) × (ms ≡ front ++ m ∷ back) × (m.uid ≡ id)
+split_at [] id e = absurd (both_ways false refl e)
+split_at (m ∷ ms) id e = elim (or_cases (bytes_eq id m.uid) (has_id (ids_of ms) id) e) [
+  | inl same ↦ ([], m, ms, refl, sym (bytes_same id m.uid same))
+  | inr more ↦ let r = split_at ms id more in (m ∷ r.0, r.1, r.2, ap (λ l. m ∷ l) r.3, r.4)
+]
+
+-- what stands behind the entries of what is done
+pub rest_of : (frame : MboxFrame) (state : MboxSituation) → (kept : MboxKept frame state) → (rest : List ℕ) × (state.account.file ≡ (frame.start ++ entries_of kept.done) ++ rest)
+    × ((rest ≡ []) ⊎ ((next : Message) × (behind : List ℕ) × (more : List Message) × (kept.rest ≡ next ∷ more) × (entry_of next.text ≡ rest ++ behind)))
+rest_of frame state kept = elim kept.stands [
+  | inl closed ↦ ([], closed.file ∙ sym (append-nil (frame.start ++ entries_of kept.done)), inl refl)
+  | inr o ↦ (o.opened.front, o.opened.file, inr (o.next, o.opened.behind, o.more, o.is_next, o.opened.entry))
+]
+
+pub has_entry : (frame : MboxFrame) (state : MboxSituation) → MboxKept frame state → (id : List ℕ) → is_delivered state.account.rows id ≡ true
+    → (has_id (ids_of frame.had) id ≡ true) ⊎ HasEntry frame state.account.file id
+has_entry frame state kept id e = elim (or_cases (has_id (ids_of frame.had) id) (has_id (ids_of kept.done) id) (sym (ids_both frame.had kept.done id) ∙ sym (kept.recorded id) ∙ e)) [
+  | inl before ↦ inl before
+  | inr new ↦
+      let at = split_at kept.done id new in
+      let tail = rest_of frame state kept in
+      inr (record {
+        message = at.1;
+        id_is = at.4;
+        before = at.0;
+        after = at.2 ++ kept.rest;
+        selected_is = kept.prefix ∙ ap (λ l. (frame.had ++ l) ++ kept.rest) at.3
+            ∙ ap (λ l. l ++ kept.rest) (sym (append_assoc frame.had at.0 (at.1 ∷ at.2))) ∙ append_assoc (frame.had ++ at.0) (at.1 ∷ at.2) kept.rest;
+        behind = entries_of at.2 ++ tail.0;
+        file_is = tail.1 ∙ append_assoc frame.start (entries_of kept.done) tail.0
+            ∙ ap (λ l. frame.start ++ l) (ap (λ l. l ++ tail.0) (ap entries_of at.3 ∙ entries-append at.0 (at.1 ∷ at.2))
+            ∙ append_assoc (entries_of at.0) (entry_of at.1.text ++ entries_of at.2) tail.0
+            ∙ ap (λ l. entries_of at.0 ++ l) (append_assoc (entry_of at.1.text) (entries_of at.2) tail.0));
+      })
+]
+
+-- ---- texts by their places
+
+same_some : (a b : Message) → Some a ≡ Some b → a ≡ b
+same_some a b e = cc
+
+pub texts_taken : (drop' : List Message) (qs : List (ℕ × Message)) (texts : List (List ℕ)) (n : ℕ) → AllByRecursion (Placed drop') qs
+    → AreTexts drop' (map num_item qs) texts → n ≤ length texts → take n texts ≡ map (λ (m : Message). m.text) (map snd (take n qs))
+texts_taken drop' qs texts zero h t l = refl
+texts_taken drop' qs [] (suc n) h t l = absurd (omega (arith, l))
+texts_taken drop' [] (text ∷ texts) (suc n) h t l = absurd t
+texts_taken drop' (q ∷ qs) (text ∷ texts) (suc n) h t l =
+    let same : t.0.0 ≡ q.1 = same_some _ _ (sym t.0.1 ∙ h.0) in
+    let is : text ≡ q.1.text = t.0.2 ∙ ap (λ (m : Message). m.text) same in
+    ap (λ x. x ∷ take n texts) is ∙ ap (λ l. q.1.text ∷ l) (texts_taken drop' qs texts n h.1 t.1 (omega (arith, l)))
+
+same_item : (a b : ℕ × Item) → Some a ≡ Some b → b ≡ a
+same_item a b e = cc
+
+same_text : (a b : List ℕ) → Some a ≡ Some b → b ≡ a
+same_text a b e = cc
+
+-- the message and the text at one place
+pub at_place : (drop' : List Message) (qs : List (ℕ × Message)) (texts : List (List ℕ)) (n : ℕ) (message : ℕ × Item) (text : List ℕ) → AllByRecursion (Placed drop') qs
+    → AreTexts drop' (map num_item qs) texts → slice_get (map num_item qs) n ≡ Some message → slice_get texts n ≡ Some text
+    → (q : ℕ × Message) × (message ≡ num_item q) × (text ≡ q.1.text) × (take (suc n) qs ≡ take n qs ++ q ∷ [])
+at_place drop' qs [] n message text h t w g = absurd cc
+at_place drop' [] (x ∷ texts) n message text h t w g = absurd t
+at_place drop' (q ∷ qs) (x ∷ texts) zero message text h t w g =
+    let same : t.0.0 ≡ q.1 = same_some _ _ (sym t.0.1 ∙ h.0) in
+    (q, same_item _ _ w, same_text _ _ g ∙ t.0.2 ∙ ap (λ (m : Message). m.text) same, refl)
+at_place drop' (q ∷ qs) (x ∷ texts) (suc n) message text h t w g =
+    let r = at_place drop' qs texts n message text h.1 t.1 w g in (r.0, r.1, r.2, ap (λ l. q ∷ l) r.3)
+
+-- ---- one session that stored something
+
+module _ (laws : RowLaws) (filtered : DistinctAreFiltered) (frame : MboxFrame) (world : IsWorld frame.all) (before : MboxSituation) (v : MboxVisit) (kept : MboxKept frame before)
+    (same : v.settings.max_size ≡ frame.max_size) (only_new : v.settings.read_all ≡ false) (s : MboxStores v.settings before.account v.effect v.after)
+    (honest : IsHonest (mbox_wanted v.settings before.account v.effect) (mbox_shown frame before v) v.effect) where
+  abbrev rows : List Row
+  rows = mbox_rows before.account v.effect
+
+  abbrev here : List Message
+  here = mbox_shown frame before v
+
+  origin : IsSettled frame before.account kept.done
+  origin = settle laws frame before kept
+
+  abbrev scene : Scene
+  scene = record { all = frame.all; gone = before.gone; come = v.come; settings = v.settings; rows = rows; done = frame.had ++ origin.done; rest = origin.rest }
+
+  known : (id : List ℕ) → is_delivered rows id ≡ core.is_done scene id
+  known id = delivered_unheld laws (settled before.account).rows v.effect.listing v.effect.now id ∙ origin.recorded id
+
+  is_scene : IsScene scene
+  is_scene = record {
+    world = world;
+    prefix = ap (λ k. selected k frame.all) same ∙ origin.prefix;
+    gone = all_map (λ id. has_id (ids_of (frame.had ++ kept.done)) id ≡ true) (λ id. core.is_done scene id ≡ true) origin.more before.gone kept.gone;
+    known = λ id l e d. sym (known id) ∙ d;
+  }
+
+  abbrev ws : List Message
+  ws = fetched scene
+
+  abbrev qs : List (ℕ × Message)
+  qs = wants_by_number v.settings rows here
+
+  wanted_is : mbox_wanted v.settings before.account v.effect ≡ map num_item qs
+  wanted_is = ap (λ l. wanted v.settings rows l) honest.listing ∙ core.wanted_is scene is_scene filtered
+
+  texts_are : AreTexts here (map num_item qs) v.effect.texts
+  texts_are = subst (λ w. AreTexts here w v.effect.texts) wanted_is honest.texts
+
+  -- the first of what is wanted are the next of the selected messages
+  prefix_of : (n : ℕ) → selected frame.max_size frame.all ≡ (frame.had ++ (origin.done ++ take n ws)) ++ (core.added_begins scene is_scene n).0
+  prefix_of n = ap (λ k. selected k frame.all) (sym same) ∙ core.prefix_after scene is_scene n
+      ∙ ap (λ l. ((frame.had ++ origin.done) ++ l) ++ (core.added_begins scene is_scene n).0) (core.all_added scene is_scene (λ id d. known id ∙ d) only_new n)
+      ∙ ap (λ l. l ++ (core.added_begins scene is_scene n).0) (append_assoc frame.had origin.done (take n ws))
+
+  ids_after : (id : List ℕ) → has_id (ids_of (frame.had ++ (origin.done ++ take s.stored ws))) id ≡ (core.is_done scene id || has_id (ids_of (take s.stored ws)) id)
+  ids_after id = ap (λ (ms : List Message). has_id (ids_of ms) id) (sym (append_assoc frame.had origin.done (take s.stored ws))) ∙ ids_both (frame.had ++ origin.done) (take s.stored ws) id
+
+  -- ---- rows
+
+  has_rows : (n : ℕ) → AllByRecursion (λ (m : Message). has_row rows m.uid ≡ true) (take n ws)
+  has_rows n = all_take (λ (m : Message). has_row rows m.uid ≡ true) n ws
+      (all_map (λ (m : Message). has_id (ids_of here) m.uid ≡ true) (λ (m : Message). has_row rows m.uid ≡ true)
+      (λ m e. laws.listed (settled before.account).rows v.effect.listing (none_held v.effect.listing) v.effect.now m.uid
+      ∙ ap (λ b. has_row (settled before.account).rows m.uid || b) (listed m.uid ∙ e) ∙ core.or_true (has_row (settled before.account).rows m.uid))
+      ws (core.fetched_here scene is_scene))
+    where
+      listed : (id : List ℕ) → has_item v.effect.listing id ≡ has_id (ids_of here) id
+      listed id = ap (λ l. has_item l id) honest.listing ∙ any-map (λ (i : Item). bytes_eq id i.uid) item_of here ∙ sym (any-map (bytes_eq id) (λ (m : Message). m.uid) here)
+
+  ids_have_rows : (ms : List Message) → AllByRecursion (λ (m : Message). has_row rows m.uid ≡ true) ms → AllByRecursion (λ id. has_row rows id ≡ true) (ids_of ms)
+  ids_have_rows [] h = tt
+  ids_have_rows (m ∷ ms) h = (h.0, ids_have_rows ms h.1)
+
+  rows_are : v.after.rows ≡ marked_all rows (ids_of (take s.stored ws))
+  rows_are = s.rows ∙ ap (marked_all rows) (ap (λ w. ids_wanted (take s.stored w)) wanted_is ∙ core.wanted_ids scene is_scene s.stored)
+
+  recorded_after : (id : List ℕ) → is_delivered v.after.rows id ≡ has_id (ids_of (frame.had ++ (origin.done ++ take s.stored ws))) id
+  recorded_after id = ap (λ r. is_delivered r id) rows_are
+      ∙ delivered_all laws rows (ids_of (take s.stored ws)) id (ids_have_rows (take s.stored ws) (has_rows s.stored))
+      ∙ ap (λ b. b || has_id (ids_of (take s.stored ws)) id) (known id)
+      ∙ sym (ids_after id)
+
+  -- ---- the file
+
+  appended : entries (take s.stored v.effect.texts) ≡ entries_of (take s.stored ws)
+  appended = ap entries (texts_taken here qs v.effect.texts s.stored (wants_placed v.settings rows here) texts_are s.fetched
+      ∙ ap (map (λ (m : Message). m.text)) (core.taken_is scene is_scene s.stored))
+
+  bytes_are : (settled before.account).file ++ entries (take s.stored v.effect.texts) ≡ frame.start ++ entries_of (origin.done ++ take s.stored ws)
+  bytes_are = ap (λ l. l ++ entries (take s.stored v.effect.texts)) origin.file ∙ ap (λ l. (frame.start ++ entries_of origin.done) ++ l) appended
+      ∙ append_assoc frame.start (entries_of origin.done) (entries_of (take s.stored ws))
+      ∙ ap (λ l. frame.start ++ l) (sym (entries-append origin.done (take s.stored ws)))
+
+  -- ---- the next state
+
+  gone_after : AllByRecursion (λ id. has_id v.effect.begun id ≡ true) v.vanished
+      → AllByRecursion (λ id. has_id (ids_of (frame.had ++ (origin.done ++ take s.stored ws))) id ≡ true) (before.gone ++ v.vanished)
+  gone_after vanished = all_append (λ id. has_id (ids_of (frame.had ++ (origin.done ++ take s.stored ws))) id ≡ true) before.gone v.vanished
+      (all_map (λ id. has_id (ids_of (frame.had ++ kept.done)) id ≡ true) (λ id. has_id (ids_of (frame.had ++ (origin.done ++ take s.stored ws))) id ≡ true)
+      (λ id e. ids_after id ∙ ap (λ b. b || has_id (ids_of (take s.stored ws)) id) (origin.more id e)) before.gone kept.gone)
+      (all_map (λ id. has_id v.effect.begun id ≡ true) (λ id. has_id (ids_of (frame.had ++ (origin.done ++ take s.stored ws))) id ≡ true)
+      (λ id e. sym (recorded_after id) ∙ all_ids_at (λ x. is_delivered v.after.rows x ≡ true) v.effect.begun id s.begun e) v.vanished vanished)
+
+  closed_kept : IsClosed ((settled before.account).file ++ entries (take s.stored v.effect.texts)) v.after → AllByRecursion (λ id. has_id v.effect.begun id ≡ true) v.vanished
+      → MboxKept frame (after_visit before v)
+  closed_kept c vanished = record {
+    done = origin.done ++ take s.stored ws;
+    rest = (core.added_begins scene is_scene s.stored).0;
+    prefix = prefix_of s.stored;
+    recorded = recorded_after;
+    gone = gone_after vanished;
+    stands = inl (record { intent = c.intent; file = c.file ∙ bytes_are });
+  }
+
+  broken_kept : IsBroken v.settings before.account v.effect s.stored v.after → AllByRecursion (λ id. has_id v.effect.begun id ≡ true) v.vanished → MboxKept frame (after_visit before v)
+  broken_kept b vanished = record {
+    done = origin.done ++ take s.stored ws;
+    rest = place.0.1 ∷ later;
+    prefix = prefix_of (suc s.stored)
+        ∙ ap (λ l. (frame.had ++ (origin.done ++ l)) ++ later) (sym (core.taken_is scene is_scene (suc s.stored)) ∙ ap (map snd) place.3 ∙ map-append snd (take s.stored qs) (place.0 ∷ []) ∙ ap (λ l. l ++ place.0.1 ∷ []) (core.taken_is scene is_scene s.stored))
+        ∙ ap (λ l. (frame.had ++ l) ++ later) (sym (append_assoc origin.done (take s.stored ws) (place.0.1 ∷ [])))
+        ∙ ap (λ l. l ++ later) (sym (append_assoc frame.had (origin.done ++ take s.stored ws) (place.0.1 ∷ [])))
+        ∙ append_assoc (frame.had ++ (origin.done ++ take s.stored ws)) (place.0.1 ∷ []) later;
+    recorded = recorded_after;
+    gone = gone_after vanished;
+    stands = inr (record {
+      next = place.0.1;
+      more = later;
+      is_next = refl;
+      opened = record {
+        intent = b.opened.intent ∙ ap (λ l. Some (intent_of l b.message.1.uid b.text)) bytes_are
+            ∙ ap (λ (x : ℕ × Item). Some (intent_of (frame.start ++ entries_of (origin.done ++ take s.stored ws)) x.1.uid b.text)) place.1
+            ∙ ap (λ t. Some (intent_of (frame.start ++ entries_of (origin.done ++ take s.stored ws)) place.0.1.uid t)) place.2;
+        front = b.opened.front;
+        behind = b.opened.behind;
+        entry = sym (ap entry_of place.2) ∙ b.opened.entry;
+        file = b.opened.file ∙ ap (λ l. l ++ b.opened.front) bytes_are;
+      };
+      row = ap (λ r. has_row r place.0.1.uid) rows_are ∙ rows_marked laws rows (ids_of (take s.stored ws)) place.0.1.uid ∙ row_of_next;
+    });
+  }
+    where
+      place : (q : ℕ × Message) × (b.message ≡ num_item q) × (b.text ≡ q.1.text) × (take (suc s.stored) qs ≡ take s.stored qs ++ q ∷ [])
+      place = at_place here qs v.effect.texts s.stored b.message b.text (wants_placed v.settings rows here) texts_are
+          (ap (λ (w : List (ℕ × Item)). slice_get w s.stored) (sym wanted_is) ∙ b.wanted) b.got
+
+      later : List Message
+      later = (core.added_begins scene is_scene (suc s.stored)).0
+
+      taken : take (suc s.stored) ws ≡ take s.stored ws ++ place.0.1 ∷ []
+      taken = sym (core.taken_is scene is_scene (suc s.stored)) ∙ ap (map snd) place.3 ∙ map-append snd (take s.stored qs) (place.0 ∷ [])
+          ∙ ap (λ l. l ++ place.0.1 ∷ []) (core.taken_is scene is_scene s.stored)
+
+      row_of_next : has_row rows place.0.1.uid ≡ true
+      row_of_next = all_at (λ id. has_row rows id ≡ true) (take (suc s.stored) ws) place.0.1.uid (has_rows (suc s.stored))
+          (ap (λ (l : List Message). has_id (ids_of l) place.0.1.uid) taken ∙ ids_both (take s.stored ws) (place.0.1 ∷ []) place.0.1.uid
+          ∙ ap (λ b. has_id (ids_of (take s.stored ws)) place.0.1.uid || (b || false)) (bytes_self place.0.1.uid) ∙ core.or_true (has_id (ids_of (take s.stored ws)) place.0.1.uid))
+
+  pub stored_kept : AllByRecursion (λ id. has_id v.effect.begun id ≡ true) v.vanished → MboxKept frame (after_visit before v)
+  stored_kept vanished = elim s.ending [
+    | inl c ↦ closed_kept c vanished
+    | inr b ↦ broken_kept b vanished
+  ]
+
+  pub ends : v.effect.ended ≡ true → MboxEnds frame before v
+  ends ended = record {
+    closed = (s.ended ended).1;
+    leaves_out = all_map (core.IsOut scene is_scene s.stored) (λ (m : Message). (is_delivered v.after.rows m.uid ≡ true) ⊎ (is_selected frame.max_size m ≡ false)
+        ⊎ (has_id (ids_wanted (past_limit v.settings.max_count (candidates v.settings rows v.effect.listing))) m.uid ≡ true))
+        (λ m o. elim o [
+          | inl done ↦ inl (recorded_after m.uid ∙ ids_after m.uid ∙ ap (λ l. core.is_done scene m.uid || has_id (ids_of l) m.uid) (sym (core.all_added scene is_scene (λ id d. known id ∙ d) only_new s.stored))
+              ∙ sym (ids_both (frame.had ++ origin.done) (core.added scene s.stored) m.uid) ∙ done)
+          | inr (inl unfit) ↦ inr (inl (ap (λ k. is_selected k m) (sym same) ∙ unfit))
+          | inr (inr past) ↦ inr (inr (ap (λ l. has_id l m.uid) past_ids ∙ past))
+        ]) here (core.left_out scene is_scene s.stored (let l = (s.ended ended).0 in omega (arith, l, ap length wanted_is, core.wanted_length scene is_scene)));
+  }
+    where
+      past_ids : ids_wanted (past_limit v.settings.max_count (candidates v.settings rows v.effect.listing)) ≡ ids_of (past_limit v.settings.max_count (core.os scene is_scene))
+      past_ids = ap (λ l. ids_wanted (past_limit v.settings.max_count (candidates v.settings rows l))) honest.listing ∙ core.past_ids scene is_scene filtered
+
+-- ---- one session
+
+visited : RowLaws → DistinctAreFiltered → (frame : MboxFrame) (before : MboxSituation) (v : MboxVisit) → IsWorld frame.all → MboxKept frame before → MboxVisits frame before v
+    → MboxKept frame (after_visit before v) × MboxPromises frame before v
+visited laws filtered frame before v world kept h = elim h.step [
+  | inl left ↦ (
+    left_kept frame before v kept left h.vanished,
+    record { ends = λ ended. absurd (both_ways v.effect.ended left.ended ended); begun = subst (AllByRecursion (λ id. (has_id (ids_of frame.had) id ≡ true) ⊎ HasEntry frame v.after.file id)) (sym left.begun) tt },
+  )
+  | inr (stores, honest) ↦
+      let next = stored_kept laws filtered frame world before v kept h.same h.only_new stores honest h.vanished in (
+        next,
+        record {
+          ends = ends laws filtered frame world before v kept h.same h.only_new stores honest;
+          begun = all_map (λ id. is_delivered v.after.rows id ≡ true) (λ id. (has_id (ids_of frame.had) id ≡ true) ⊎ HasEntry frame v.after.file id) (has_entry frame (after_visit before v) next) v.effect.begun stores.begun;
+        },
+      )
+]
+
+expired_kept : (frame : MboxFrame) (before : MboxSituation) (ids : List (List ℕ)) → MboxKept frame before → AllByRecursion (λ id. is_delivered before.account.rows id ≡ true) ids
+    → MboxKept frame (after_mbox_event before (MboxExpired ids))
+expired_kept frame before ids kept all = record {
+  done = kept.done;
+  rest = kept.rest;
+  prefix = kept.prefix;
+  recorded = kept.recorded;
+  gone = all_append (λ id. has_id (ids_of (frame.had ++ kept.done)) id ≡ true) before.gone ids kept.gone
+      (all_map (λ id. is_delivered before.account.rows id ≡ true) (λ id. has_id (ids_of (frame.had ++ kept.done)) id ≡ true) (λ id e. sym (kept.recorded id) ∙ e) ids all);
+  stands = kept.stands;
+}
+
+happened : RowLaws → DistinctAreFiltered → (frame : MboxFrame) (before : MboxSituation) (event : MboxEvent) → IsWorld frame.all → MboxKept frame before → MboxHappens frame before event
+    → MboxKept frame (after_mbox_event before event) × MboxPromised frame before event
+happened laws filtered frame before (MboxVisited v) world kept h = visited laws filtered frame before v world kept h
+happened laws filtered frame before (MboxExpired ids) world kept h = (expired_kept frame before ids kept h, tt)
+
+pub mbox_kept_states : RowLaws → DistinctAreFiltered → MboxKeptStaysKept
+mbox_kept_states laws filtered frame start [] world kept run = (kept, tt)
+mbox_kept_states laws filtered frame start (event ∷ events) world kept run =
+    let one = happened laws filtered frame start event world kept run.0 in
+    let more = mbox_kept_states laws filtered frame (after_mbox_event start event) events world one.0 run.1 in
+    (more.0, (one.1, one.0, more.1))
+
+-- ---- what a kept state holds
+
+texts_stand : EntryAddsText → (file : List ℕ) (first : List (List ℕ)) (ms : List Message) → AllByRecursion (λ (m : Message). IsWhole m.text) ms → MboxFile file first
+    → MboxFile (file ++ entries_of ms) (first ++ map (λ (m : Message). m.text) ms)
+texts_stand adds file first [] h stands = subst (MboxFile (file ++ [])) (sym (append-nil first)) (subst (λ f. MboxFile f first) (sym (append-nil file)) stands)
+texts_stand adds file first (m ∷ ms) h stands =
+    let more = texts_stand adds (file ++ entry_of m.text) (first ++ m.text ∷ []) ms h.1 (adds file m.text first stands h.0) in
+    subst (MboxFile (file ++ (entry_of m.text ++ entries_of ms))) (append_assoc first (m.text ∷ []) (map (λ (x : Message). x.text) ms))
+    (subst (λ f. MboxFile f ((first ++ m.text ∷ []) ++ map (λ (x : Message). x.text) ms)) (append_assoc file (entry_of m.text) (entries_of ms)) more)
+
+at_length : {X : Type 0} (xs : List X) (y : X) (ys : List X) → slice_get (xs ++ y ∷ ys) (length xs) ≡ Some y
+at_length [] y ys = refl
+at_length (x ∷ xs) y ys = at_length xs y ys
+
+pub mbox_holds : EntryAddsText → MboxKeptHolds
+mbox_holds adds frame state world kept = record {
+  j = length kept.done;
+  later = kept.done ++ kept.rest;
+  later_is = whole;
+  below = omega (arith, length-append kept.done kept.rest);
+  rest = tail.0;
+  file = tail.1 ∙ ap (λ (ms : List Message). (frame.start ++ entries_of ms) ++ tail.0) (sym front);
+  at_most = at_most;
+  ids = λ id. kept.recorded id ∙ ap (λ (ms : List Message). has_id (ids_of (frame.had ++ ms)) id) (sym front);
+  texts = λ none first stands.
+      subst (λ (ms : List Message). MboxFile state.account.file (first ++ map (λ (m : Message). m.text) ms)) (sym front)
+      (subst (λ f. MboxFile f (first ++ map (λ (m : Message). m.text) kept.done))
+      (sym (tail.1 ∙ ap (λ l. (frame.start ++ entries_of kept.done) ++ l) none ∙ append-nil (frame.start ++ entries_of kept.done)))
+      (texts_stand adds frame.start first kept.done whole_done stands));
+}
+  where
+    whole : selected frame.max_size frame.all ≡ frame.had ++ (kept.done ++ kept.rest)
+    whole = kept.prefix ∙ append_assoc frame.had kept.done kept.rest
+
+    tail : (rest : List ℕ) × (state.account.file ≡ (frame.start ++ entries_of kept.done) ++ rest)
+        × ((rest ≡ []) ⊎ ((next : Message) × (behind : List ℕ) × (more : List Message) × (kept.rest ≡ next ∷ more) × (entry_of next.text ≡ rest ++ behind)))
+    tail = rest_of frame state kept
+
+    front : take (length kept.done) (kept.done ++ kept.rest) ≡ kept.done
+    front = take_at kept.done kept.rest (length kept.done) refl
+
+    all_back : (P : Message → Type 0) (xs ys : List Message) → AllByRecursion P (xs ++ ys) → AllByRecursion P ys
+    all_back P [] ys h = h
+    all_back P (x ∷ xs) ys h = all_back P xs ys h.1
+
+    whole_done : AllByRecursion (λ (m : Message). IsWhole m.text) kept.done
+    whole_done = core.all_front (λ (m : Message). IsWhole m.text) kept.done kept.rest (all_back (λ (m : Message). IsWhole m.text) frame.had (kept.done ++ kept.rest)
+        (subst (AllByRecursion (λ (m : Message). IsWhole m.text)) whole
+        (all_filter (λ (m : Message). IsWhole m.text) (is_selected frame.max_size) frame.all (all_map IsMessage (λ (m : Message). IsWhole m.text) (λ m h. h.whole) frame.all world.messages))))
+
+    at_most : (tail.0 ≡ []) ⊎ ((next : Message) × (behind : List ℕ) × (slice_get (kept.done ++ kept.rest) (length kept.done) ≡ Some next) × (entry_of next.text ≡ tail.0 ++ behind))
+    at_most = elim tail.2 [
+      | inl none ↦ inl none
+      | inr (next, behind, more, is, entry) ↦ inr (next, behind, ap (λ (l : List Message). slice_get (kept.done ++ l) (length kept.done)) is ∙ at_length kept.done next more, entry)
+    ]
+
+pub mbox_starts : MboxStartsKept
+mbox_starts frame found rest gone prefix recorded recorded_gone = record {
+  done = [];
+  rest = rest;
+  prefix = prefix ∙ ap (λ l. l ++ rest) (sym (append-nil frame.had));
+  recorded = λ id. recorded id ∙ ap (λ (ms : List Message). has_id (ids_of ms) id) (sym (append-nil frame.had));
+  gone = subst (λ (ms : List Message). AllByRecursion (λ id. has_id (ids_of ms) id ≡ true) gone) (sym (append-nil frame.had)) recorded_gone;
+  stands = inl (record { intent = refl; file = sym (append-nil frame.start) });
+}

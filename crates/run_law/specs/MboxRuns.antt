@@ -1,0 +1,163 @@
+-- Sessions with an mboxrd over one world, and the states that they keep.
+use Rattle.std.specs.Prelude.{◌≡◌, ◌⊎◌, ◌≤◌, ℕ, true, false, List, [], ◌∷◌, ◌++◌, map, take, length, Some, None, slice_get}
+use Rattle.std.specs.List.{AllByRecursion}
+use Rattle.fetch_rules.specs.Record.{Row, is_delivered, has_row}
+use Rattle.fetch_rules.specs.Wanted.{candidates}
+use Rattle.rc_file.specs.declared.settings.Settings.{Settings}
+use Rattle.mail_store.specs.Mboxrd.{entry_of, MboxFile}
+use Rattle.mail_terms.specs.UniqueId.{has_id}
+use Rattle.pop3_wire.specs.World.{Message, IsWorld, maildrop_of}
+use Rattle.run_law.specs.Mails.{ids_of, is_selected, selected}
+use Rattle.run_law.specs.Steps.{Effect, IsHonest, ids_wanted}
+use Rattle.run_law.specs.Runs.{past_limit}
+use Rattle.run_law.specs.Mboxes.{MboxAccount, mbox_rows, mbox_wanted, entries, IsClosed, IsOpen, MboxLeaves, MboxStores}
+
+-- an account, and the ids that are gone from the server
+pub record MboxSituation : Type 0 where
+  pub account : MboxAccount
+  pub gone : List (List ℕ)
+
+-- one session: its settings, how much mail had come, what it did, which ids went with its QUIT, and the account that it left
+pub record MboxVisit : Type 0 where
+  pub settings : Settings
+  pub come : ℕ
+  pub effect : Effect
+  pub vanished : List (List ℕ)
+  pub after : MboxAccount
+
+abbrev pub after_visit : MboxSituation → MboxVisit → MboxSituation
+after_visit before visit = record { account = visit.after; gone = before.gone ++ visit.vanished }
+
+-- what stays throughout: the file before the first session, the messages that the record had as delivered then, whose entries aren't
+-- looked for, the limit on sizes, and all mail
+pub record MboxFrame : Type 0 where
+  pub start : List ℕ
+  pub had : List Message
+  pub max_size : ℕ
+  pub all : List Message
+
+abbrev pub mbox_shown : MboxFrame → MboxSituation → MboxVisit → List Message
+mbox_shown frame before visit = maildrop_of frame.all visit.come before.gone
+
+pub record MboxVisits (frame : MboxFrame) (before : MboxSituation) (visit : MboxVisit) : Type 0 where
+  pub same : visit.settings.max_size ≡ frame.max_size
+  pub only_new : visit.settings.read_all ≡ false
+  pub step : MboxLeaves before.account visit.effect visit.after
+      ⊎ (MboxStores visit.settings before.account visit.effect visit.after
+      × IsHonest (mbox_wanted visit.settings before.account visit.effect) (mbox_shown frame before visit) visit.effect)
+  pub vanished : AllByRecursion (λ id. has_id visit.effect.begun id ≡ true) visit.vanished
+
+-- a session; or messages that are gone from the server without one. Nothing else happens to an account of an mboxrd between two sessions:
+-- its record, its intent and its file's bytes are as they were
+pub data MboxEvent : Type 0 where
+  MboxVisited : MboxVisit → MboxEvent
+  MboxExpired : List (List ℕ) → MboxEvent
+
+abbrev pub after_mbox_event : MboxSituation → MboxEvent → MboxSituation
+after_mbox_event before (MboxVisited visit) = after_visit before visit
+after_mbox_event before (MboxExpired ids) = record before { gone = before.gone ++ ids }
+
+-- what is gone without a session was recorded as delivered
+abbrev pub MboxHappens : MboxFrame → MboxSituation → MboxEvent → Type 0
+MboxHappens frame before (MboxVisited visit) = MboxVisits frame before visit
+MboxHappens frame before (MboxExpired ids) = AllByRecursion (λ id. is_delivered before.account.rows id ≡ true) ids
+
+abbrev pub MboxRun : MboxFrame → MboxSituation → List MboxEvent → Type 0
+MboxRun frame before [] = Unit {0}
+MboxRun frame before (event ∷ events) = MboxHappens frame before event × MboxRun frame (after_mbox_event before event) events
+
+abbrev pub after_mbox_events : MboxSituation → List MboxEvent → MboxSituation
+after_mbox_events before [] = before
+after_mbox_events before (event ∷ events) = after_mbox_events (after_mbox_event before event) events
+
+-- the entries of these messages
+abbrev pub entries_of : List Message → List ℕ
+entries_of ms = entries (map (λ (m : Message). m.text) ms)
+
+-- the next message's entry was about to be appended to these bytes, and its id has a row
+pub record IsNextOpen (bytes : List ℕ) (rest : List Message) (account : MboxAccount) : Type 0 where
+  pub next : Message
+  pub more : List Message
+  pub is_next : rest ≡ next ∷ more
+  pub opened : IsOpen bytes next.uid next.text account
+  pub row : has_row account.rows next.uid ≡ true
+
+-- what is recorded is just a prefix of the selected messages: those that were recorded before the first session, and some more. The
+-- file is the first one, followed by the entries of these, and by a front of the next entry only where its intent is open. What is gone
+-- is recorded
+pub record MboxKept (frame : MboxFrame) (state : MboxSituation) : Type 0 where
+  pub done : List Message
+  pub rest : List Message
+  pub prefix : selected frame.max_size frame.all ≡ (frame.had ++ done) ++ rest
+  pub recorded : (id : List ℕ) → is_delivered state.account.rows id ≡ has_id (ids_of (frame.had ++ done)) id
+  pub gone : AllByRecursion (λ id. has_id (ids_of (frame.had ++ done)) id ≡ true) state.gone
+  pub stands : IsClosed (frame.start ++ entries_of done) state.account ⊎ IsNextOpen (frame.start ++ entries_of done) rest state.account
+
+-- an uncut session leaves out only what its limits exclude, and leaves no rest
+pub record MboxEnds (frame : MboxFrame) (before : MboxSituation) (visit : MboxVisit) : Type 0 where
+  pub closed : visit.after.intent ≡ None
+  pub leaves_out : AllByRecursion (λ (m : Message). (is_delivered visit.after.rows m.uid ≡ true) ⊎ (is_selected frame.max_size m ≡ false)
+      ⊎ (has_id (ids_wanted (past_limit visit.settings.max_count
+      (candidates visit.settings (mbox_rows before.account visit.effect) visit.effect.listing))) m.uid ≡ true))
+      (mbox_shown frame before visit)
+
+-- the whole entry of a message of this id stands in the file
+pub record HasEntry (frame : MboxFrame) (file id : List ℕ) : Type 0 where
+  pub message : Message
+  pub id_is : message.uid ≡ id
+  pub before : List Message
+  pub after : List Message
+  pub selected_is : selected frame.max_size frame.all ≡ (frame.had ++ before) ++ message ∷ after
+  pub behind : List ℕ
+  pub file_is : file ≡ frame.start ++ (entries_of before ++ (entry_of message.text ++ behind))
+
+-- what a session promises: an uncut one ends so; each DELE begun is for a message whose entry stands whole, or that was recorded
+-- before the first session
+pub record MboxPromises (frame : MboxFrame) (before : MboxSituation) (visit : MboxVisit) : Type 0 where
+  pub ends : visit.effect.ended ≡ true → MboxEnds frame before visit
+  pub begun : AllByRecursion (λ id. (has_id (ids_of frame.had) id ≡ true) ⊎ HasEntry frame visit.after.file id) visit.effect.begun
+
+-- of what the server does by itself nothing is promised
+abbrev pub MboxPromised : MboxFrame → MboxSituation → MboxEvent → Type 0
+MboxPromised frame before (MboxVisited visit) = MboxPromises frame before visit
+MboxPromised frame before (MboxExpired ids) = Unit {0}
+
+abbrev pub AllMboxPromised : MboxFrame → MboxSituation → List MboxEvent → Type 0
+AllMboxPromised frame before [] = Unit {0}
+AllMboxPromised frame before (event ∷ events) = MboxPromised frame before event × MboxKept frame (after_mbox_event before event)
+    × AllMboxPromised frame (after_mbox_event before event) events
+
+-- the law
+abbrev pub MboxKeptStaysKept : Type 0
+MboxKeptStaysKept = (frame : MboxFrame) (start : MboxSituation) (events : List MboxEvent) → IsWorld frame.all → MboxKept frame start → MboxRun frame start events
+    → MboxKept frame (after_mbox_events start events) × AllMboxPromised frame start events
+
+-- behind those that were recorded before the first session the file holds the entries of the next j of the selected messages, in order,
+-- and a front of the next entry at most
+pub record MboxHolds (frame : MboxFrame) (account : MboxAccount) : Type 0 where
+  pub j : ℕ
+  pub later : List Message
+  pub later_is : selected frame.max_size frame.all ≡ frame.had ++ later
+  pub below : j ≤ length later
+  pub rest : List ℕ
+  pub file : account.file ≡ (frame.start ++ entries_of (take j later)) ++ rest
+  pub at_most : (rest ≡ []) ⊎ ((next : Message) × (behind : List ℕ) × (slice_get later j ≡ Some next) × (entry_of next.text ≡ rest ++ behind))
+  pub ids : (id : List ℕ) → is_delivered account.rows id ≡ has_id (ids_of (frame.had ++ take j later)) id
+  -- where nothing is left of a next entry, a first file that stands for texts still does, with these messages' behind them
+  pub texts : rest ≡ [] → (first : List (List ℕ)) → MboxFile frame.start first
+      → MboxFile account.file (first ++ map (λ (m : Message). m.text) (take j later))
+
+abbrev pub MboxKeptHolds : Type 0
+MboxKeptHolds = (frame : MboxFrame) (state : MboxSituation) → IsWorld frame.all → MboxKept frame state → MboxHolds frame state.account
+
+-- an account of which no intent is open, and whose record has just a prefix of the selected messages as delivered, is kept with any
+-- file: so is one with an empty record, and one whose record is of version 1
+abbrev pub MboxStartsKept : Type 0
+MboxStartsKept = (frame : MboxFrame) (rows : List Row) (rest : List Message) (gone : List (List ℕ)) → selected frame.max_size frame.all ≡ frame.had ++ rest
+    → ((id : List ℕ) → is_delivered rows id ≡ has_id (ids_of frame.had) id) → AllByRecursion (λ id. has_id (ids_of frame.had) id ≡ true) gone
+    → MboxKept frame (record { account = record { rows = rows; intent = None; file = frame.start }; gone = gone })
+
+-- in every situation a session can end
+abbrev pub MboxCanEnd : Type 0
+MboxCanEnd = (frame : MboxFrame) (before : MboxSituation) (settings : Settings) (come now : ℕ) → IsWorld frame.all → settings.max_size ≡ frame.max_size → settings.read_all ≡ false
+    → (visit : MboxVisit) × MboxVisits frame before visit × (visit.effect.ended ≡ true) × (visit.come ≡ come)

@@ -1,0 +1,84 @@
+-- Sessions with an mboxrd told by what their links gained, and runs of them over one world.
+use Rattle.std.specs.Prelude.{◌≡◌, ◌⊎◌, ℕ, false, List, [], ◌∷◌, ◌++◌}
+use Rattle.std.specs.List.{AllByRecursion}
+use Rattle.pop3_wire.specs.declared.command.Command.{Command}
+use Rattle.pop3_wire.specs.declared.command.Command.TheVariants.{Retr, Dele}
+use Rattle.pop3_wire.specs.Honest.{Asked}
+use Rattle.pop3_wire.specs.World.{Message, IsWorld, maildrop_of}
+use Rattle.rc_file.specs.declared.settings.Settings.{Settings}
+use Rattle.run_law.specs.Mails.{selected}
+use Rattle.run_law.specs.Steps.{Effect}
+use Rattle.run_law.specs.Sessions.{IsBegun, Reads, BeginsOne, Served}
+use Rattle.run_law.specs.Mboxes.{MboxAccount, mbox_wanted, MboxLeaves, MboxStores}
+use Rattle.run_law.specs.MboxRuns.{MboxFrame, MboxSituation, MboxVisit, MboxKept, MboxPromises, entries_of}
+
+-- neither RETR nor DELE
+abbrev pub AsksForNoMessage : Command → Type 0
+AsksForNoMessage (Retr number) = ⊥
+AsksForNoMessage (Dele number) = ⊥
+AsksForNoMessage _ = Unit {0}
+
+-- no command for a message was begun
+abbrev pub AsksForNone : List Command → List ℕ → Type 0
+AsksForNone commands part = AllByRecursion AsksForNoMessage commands × BeginsOne AsksForNoMessage part
+
+-- a session by what its link gained: it asked for no message and left the account, or it settled the account, read the replies and
+-- appended texts
+pub record MboxSession (settings : Settings) (before : MboxAccount) (sent got : List ℕ) (effect : Effect) (after : MboxAccount) : Type 0 where
+  pub commands : List Command
+  pub asked : Asked commands sent
+  pub begun : AllByRecursion (IsBegun effect.listing effect.begun) commands
+  -- what was sent behind these commands begins one more
+  pub next : BeginsOne (IsBegun effect.listing effect.begun) asked.part
+  pub step : (MboxLeaves before effect after × AsksForNone commands asked.part)
+      ⊎ (MboxStores settings before effect after × Reads (mbox_wanted settings before effect) commands sent got effect)
+
+-- one session over its link
+pub record MboxLink : Type 0 where
+  pub settings : Settings
+  pub come : ℕ
+  pub sent : List ℕ
+  pub got : List ℕ
+  pub vanished : List (List ℕ)
+  pub after : MboxAccount
+
+-- a session that its code did, over an honest link
+pub record MboxLinks (frame : MboxFrame) (before : MboxSituation) (link : MboxLink) : Type 0 where
+  pub same : link.settings.max_size ≡ frame.max_size
+  pub only_new : link.settings.read_all ≡ false
+  pub effect : Effect
+  pub session : MboxSession link.settings before.account link.sent link.got effect link.after
+  pub served : Served (maildrop_of frame.all link.come before.gone) link.sent link.got link.vanished
+
+abbrev pub mbox_visit_of : MboxLink → Effect → MboxVisit
+mbox_visit_of link effect = record { settings = link.settings; come = link.come; effect = effect; vanished = link.vanished; after = link.after }
+
+abbrev pub after_mbox_link : MboxSituation → MboxLink → MboxSituation
+after_mbox_link before link = record { account = link.after; gone = before.gone ++ link.vanished }
+
+abbrev pub MboxLinkRun : MboxFrame → MboxSituation → List MboxLink → Type 0
+MboxLinkRun frame before [] = Unit {0}
+MboxLinkRun frame before (link ∷ links) = MboxLinks frame before link × MboxLinkRun frame (after_mbox_link before link) links
+
+-- what an earlier session left of a next entry was cut away, or counts as a whole one: what was appended stands behind whole entries
+pub record SettlesFirst (frame : MboxFrame) (before after : MboxAccount) : Type 0 where
+  pub done : List Message
+  pub rest : List Message
+  pub prefix : selected frame.max_size frame.all ≡ (frame.had ++ done) ++ rest
+  pub more : List ℕ
+  pub file : after.file ≡ (frame.start ++ entries_of done) ++ more
+
+-- a session that asks for a message settles the account first
+pub record MboxSessionKept (frame : MboxFrame) (before : MboxSituation) (link : MboxLink) : Type 0 where
+  pub effect : Effect
+  pub session : MboxSession link.settings before.account link.sent link.got effect link.after
+  pub promises : MboxPromises frame before (mbox_visit_of link effect)
+  pub settles : AsksForNone session.commands session.asked.part ⊎ SettlesFirst frame before.account link.after
+
+abbrev pub AllMboxKept : MboxFrame → MboxSituation → List MboxLink → Type 0
+AllMboxKept frame before [] = MboxKept frame before
+AllMboxKept frame before (link ∷ links) = MboxKept frame before × MboxSessionKept frame before link × AllMboxKept frame (after_mbox_link before link) links
+
+-- the law over links
+abbrev pub MboxLinksKeep : Type 0
+MboxLinksKeep = (frame : MboxFrame) (start : MboxSituation) (links : List MboxLink) → IsWorld frame.all → MboxKept frame start → MboxLinkRun frame start links → AllMboxKept frame start links

@@ -1,0 +1,83 @@
+-- What an account of an mboxrd stands for between sessions, and what one session does to it.
+use Rattle.std.specs.Prelude.{◌≡◌, ◌⊎◌, ◌≤◌, ℕ, Bool, true, false, List, [], ◌++◌, map, take, length, Option, Some, None, slice_get}
+use Rattle.std.specs.List.{flat_map, AllByRecursion}
+use Rattle.mail_terms.specs.Listing.{Item}
+use Rattle.fetch_rules.specs.Record.{Row, is_delivered, marked_all, merged}
+use Rattle.fetch_rules.specs.Record.{Intent}
+use Rattle.fetch_rules.specs.Intents.{settled_rows, settled_file}
+use Rattle.fetch_rules.specs.Wanted.{wanted}
+use Rattle.rc_file.specs.declared.settings.Settings.{Settings}
+use Rattle.mail_store.specs.Mboxrd.{entry_of}
+use Rattle.run_law.specs.Steps.{Effect, ids_wanted}
+
+-- the rows of the record and its open intent, and the mailbox file
+pub record MboxAccount : Type 0 where
+  pub rows : List Row
+  pub intent : Option Intent
+  pub file : List ℕ
+
+-- the account once the open intent is closed
+abbrev pub settled : MboxAccount → MboxAccount
+settled account = record {
+  rows = settled_rows account.rows account.intent (length account.file);
+  intent = None;
+  file = settled_file account.intent account.file;
+}
+
+-- nothing is held but by the record
+abbrev pub none_held : List Item → List Bool
+none_held listing = map (λ _. false) listing
+
+-- the record once it was settled and the listing merged into it
+abbrev pub mbox_rows : MboxAccount → Effect → List Row
+mbox_rows before effect = merged (settled before).rows effect.listing (none_held effect.listing) effect.now
+
+abbrev pub mbox_wanted : Settings → MboxAccount → Effect → List (ℕ × Item)
+mbox_wanted settings before effect = wanted settings (mbox_rows before effect) effect.listing
+
+-- the entries of these texts
+abbrev pub entries : List (List ℕ) → List ℕ
+entries texts = flat_map entry_of texts
+
+-- the intent of appending the entry of a text to these bytes
+abbrev pub intent_of : List ℕ → List ℕ → List ℕ → Intent
+intent_of bytes uid text = record { uid = uid; start = length bytes; len = length (entry_of text) }
+
+-- the file is these bytes, and no intent is open
+pub record IsClosed (bytes : List ℕ) (account : MboxAccount) : Type 0 where
+  pub intent : account.intent ≡ None
+  pub file : account.file ≡ bytes
+
+-- the intent of appending the entry of this text is open, and the file is these bytes and a front of the entry:
+-- none of it and all of it are fronts too
+pub record IsOpen (bytes uid text : List ℕ) (account : MboxAccount) : Type 0 where
+  pub intent : account.intent ≡ Some (intent_of bytes uid text)
+  pub front : List ℕ
+  pub behind : List ℕ
+  pub entry : entry_of text ≡ front ++ behind
+  pub file : account.file ≡ bytes ++ front
+
+-- no command for a message was begun: the record is as it was, and the file is as it was, or cut back by its intent
+pub record MboxLeaves (before : MboxAccount) (effect : Effect) (after : MboxAccount) : Type 0 where
+  pub rows : after.rows ≡ before.rows
+  pub intent : after.intent ≡ before.intent
+  pub file : (after.file ≡ before.file) ⊎ (after.file ≡ (settled before).file)
+  pub begun : effect.begun ≡ []
+  pub ended : effect.ended ≡ false
+
+-- of the wanted messages the next one's entry was about to be appended
+pub record IsBroken (settings : Settings) (before : MboxAccount) (effect : Effect) (stored : ℕ) (after : MboxAccount) : Type 0 where
+  pub message : ℕ × Item
+  pub text : List ℕ
+  pub wanted : slice_get (mbox_wanted settings before effect) stored ≡ Some message
+  pub got : slice_get effect.texts stored ≡ Some text
+  pub opened : IsOpen ((settled before).file ++ entries (take stored effect.texts)) message.1.uid text after
+
+-- the account was settled, the listing merged, and as many of the wanted messages were appended and recorded
+pub record MboxStores (settings : Settings) (before : MboxAccount) (effect : Effect) (after : MboxAccount) : Type 0 where
+  pub stored : ℕ
+  pub fetched : stored ≤ length effect.texts
+  pub rows : after.rows ≡ marked_all (mbox_rows before effect) (ids_wanted (take stored (mbox_wanted settings before effect)))
+  pub ending : IsClosed ((settled before).file ++ entries (take stored effect.texts)) after ⊎ IsBroken settings before effect stored after
+  pub begun : AllByRecursion (λ id. is_delivered after.rows id ≡ true) effect.begun
+  pub ended : effect.ended ≡ true → (length (mbox_wanted settings before effect) ≤ stored) × (after.intent ≡ None)
