@@ -35,7 +35,7 @@ fn id_of(alloc: Global, number: u32) -> Result<String> {
 /// The file of a record that has seen the ids of the numbers 1 to `count`, and has every other one
 /// delivered.
 fn file_of(alloc: Global, count: u32) -> Result<Vec<u8>> {
-    let mut file = Vec::from_slice(alloc, b"getmail-seen 1\n")?;
+    let mut file = Vec::from_slice(alloc, b"getmail-seen 2\n")?;
     for number in 1..=count {
         let line = format!(in alloc;
             "{} 1700000000 {}\n",
@@ -90,6 +90,7 @@ fn time_session(rt: &HostRuntime, count: u32) -> Result<()> {
     let mut seen = Seen::read(alloc, &file, RandomState::new(rt)?)?;
     let start = tell(rt, "read", start)?;
     let held = vec![in alloc; true; listing.len() as usize]?;
+    ensure!(seen.intent().is_none(), "no intent is open");
     seen.merge(&listing, &held, 1_700_000_000)?;
     let start = tell(rt, "merge", start)?;
     let steps = plan(alloc, &settings, &seen, &listing, 1_800_000_000)?;

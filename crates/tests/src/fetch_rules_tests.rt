@@ -1,4 +1,5 @@
 //! Tests of `fetch_rules`: plans and the record.
 
+mod intent;
 mod plan;
 mod seen;

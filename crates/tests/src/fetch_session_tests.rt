@@ -3,6 +3,7 @@
 mod cut;
 mod deletion;
 mod list;
+mod record;
 mod refusal;
 mod reply;
 mod selection;

@@ -64,6 +64,7 @@ fn fetches_five_messages_in_three_sessions(rt: HostRuntime) -> Result<(), Fail> 
     let listing = listing_of(alloc, &[("a", 1), ("b", 1), ("c", 1), ("d", 1), ("e", 1)])?;
     assert!(rt; listing.len() == 5);
     let mut seen = read_record(alloc, b"")?;
+    assert!(rt; seen.intent().is_none());
     assert!(rt; seen.merge(&listing, &[false; 5], 0)?);
     for fetched in [[1, 2], [3, 4], [5, 5]] {
         let steps = plan(alloc, &settings, &seen, &listing, 0)?;
@@ -83,7 +84,7 @@ fn deletes_after_seven_days_and_never_while_the_clock_is_back(rt: HostRuntime) -
     let mut settings = settings(rt.alloc());
     settings.delete_after = 7;
     for (now, wanted) in [(999_999, " 1"), (1_604_799, " 1"), (1_604_800, " 1d")] {
-        let record = "getmail-seen 1\na 1000000 1\n";
+        let record = "getmail-seen 2\na 1000000 1\n";
         let planned = steps(rt.alloc(), &settings, record, &[("a", 1)], now)?;
         assert_eq!(rt; planned.as_str(), wanted);
     }
@@ -107,7 +108,7 @@ fn plans_hundreds_of_messages(rt: HostRuntime) -> Result<(), Fail> {
     settings.delete = true;
     settings.max_count = 300;
     let listing = listing_of_hundreds(alloc)?;
-    let seen = read_record(alloc, b"getmail-seen 1\nid-2 7 1\nid-250 7 1\n")?;
+    let seen = read_record(alloc, b"getmail-seen 2\nid-2 7 1\nid-250 7 1\n")?;
     let steps = plan(alloc, &settings, &seen, &listing, 9)?;
     assert_eq!(rt; steps.len(), 400);
     let fetched = steps.iter().filter(|step| step.retrieve).count();

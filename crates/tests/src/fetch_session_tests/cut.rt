@@ -14,12 +14,12 @@ fn goes_on_after_a_cut(rt: HostRuntime) -> Result<(), Fail> {
         (
             Visit::new(rt.alloc(), "", 0, &[LISTED, ONE, "+OK|tw"])?,
             "P|RETR 1|RETR 2| Cut(ConnectionEnded) 1/3 4 s0 d0 - a=one/ - - \
-             getmail-seen 1/a 0 0/b 0 0/c 0 0/+ 1/a 0 1/",
+             getmail-seen 2/a 0 0/b 0 0/c 0 0/+ 1/a 0 1/",
         ),
         (
             Visit::new(rt.alloc(), "", 0, &[LISTED, TWO, THREE, "+OK|"])?,
             "P|RETR 2|RETR 3|QUIT| Ended 2/3 10 s1 d0 - a=one/ b=two/ c=three/ - - \
-             getmail-seen 1/a 0 0/b 0 0/c 0 0/+ 1/a 0 1/+ 1/b 0 1/+ 1/c 0 1/",
+             getmail-seen 2/a 0 0/b 0 0/c 0 0/+ 1/a 0 1/+ 1/b 0 1/+ 1/c 0 1/",
         ),
     ];
     expect(&rt, &rows)?;
@@ -39,7 +39,7 @@ fn finds_what_a_reader_moved_without_a_record(rt: HostRuntime) -> Result<(), Fai
     assert_eq!(rt;
         told.as_str(),
         "P|RETR 2|RETR 3|QUIT| Ended 2/3 10 s1 d0 - b=two/ c=three/ - a=one/ - \
-         getmail-seen 1/a 0 1/b 0 0/c 0 0/+ 1/b 0 1/+ 1/c 0 1/"
+         getmail-seen 2/a 0 1/b 0 0/c 0 0/+ 1/b 0 1/+ 1/c 0 1/"
     );
     Ok(())
 }

@@ -35,9 +35,9 @@ fn refused(
 #[test]
 fn finds_what_a_refused_settle_left(rt: HostRuntime) -> Result<(), Fail> {
     let cut_short = "P|RETR 1|RETR 2|RSET|QUIT| Cut(StoreRefused(Refused)) 1/3 4 s0 d0 - \
-        a=one/ b=two/ - - getmail-seen 1/a 0 0/b 0 0/c 0 0/+ 1/a 0 1/";
+        a=one/ b=two/ - - getmail-seen 2/a 0 0/b 0 0/c 0 0/+ 1/a 0 1/";
     let rest = "P|RETR 3|QUIT| Ended 1/3 6 s2 d0 - a=one/ b=two/ c=three/ - - \
-        getmail-seen 1/a 0 0/b 0 0/c 0 0/+ 1/a 0 1/+ 1/b 0 1/+ 1/c 0 1/";
+        getmail-seen 2/a 0 0/b 0 0/c 0 0/+ 1/a 0 1/+ 1/b 0 1/+ 1/c 0 1/";
     let alloc = rt.alloc();
     let mut first = Visit::new(alloc, "", 0, &[LISTED, ONE, TWO, "+OK|+OK|"])?;
     let next = Visit::new(alloc, "", 0, &[LISTED, THREE, "+OK|"])?;
@@ -54,10 +54,10 @@ fn finds_what_a_refused_settle_left(rt: HostRuntime) -> Result<(), Fail> {
 fn takes_back_marks_after_a_refused_begin(rt: HostRuntime) -> Result<(), Fail> {
     let delete = "delete = true";
     let cut_short = "P|RETR 1|DELE 1|RETR 2|RSET|QUIT| Cut(StoreRefused(Refused)) 1/3 4 s0 d0 - \
-        a=one/ - - getmail-seen 1/a 0 0/b 0 0/c 0 0/+ 1/a 0 1/";
+        a=one/ - - getmail-seen 2/a 0 0/b 0 0/c 0 0/+ 1/a 0 1/";
     let rest = "P|DELE 1|RETR 2|DELE 2|RETR 3|DELE 3|QUIT| Ended 2/3 10 s1 d3 - \
         a=one/ b=two/ c=three/ - - \
-        getmail-seen 1/a 0 0/b 0 0/c 0 0/+ 1/a 0 1/+ 1/b 0 1/+ 1/c 0 1/";
+        getmail-seen 2/a 0 0/b 0 0/c 0 0/+ 1/a 0 1/+ 1/b 0 1/+ 1/c 0 1/";
     let alloc = rt.alloc();
     let first = [LISTED, ONE, "+OK|", TWO, "+OK|+OK|"];
     let mut first = Visit::new(alloc, delete, 0, &first)?;
@@ -86,13 +86,13 @@ fn mends_a_record_whose_append_was_refused(rt: HostRuntime) -> Result<(), Fail> 
     assert_eq!(rt;
         told.as_str(),
         "P|RETR 1|RSET|QUIT| Cut(SeenRefused) 1/3 4 s0 d0 - a=one/ - - \
-         getmail-seen 1/a 0 0/b 0 0/c 0 0/+ 1/a"
+         getmail-seen 2/a 0 0/b 0 0/c 0 0/+ 1/a"
     );
     let (_kept, told) = run(alloc, kept, &next, 4096)?;
     assert_eq!(rt;
         told.as_str(),
         "P|RETR 2|RETR 3|QUIT| Ended 2/3 10 s1 d0 - a=one/ b=two/ c=three/ - - \
-         getmail-seen 1/a 0 1/b 0 0/c 0 0/+ 1/b 0 1/+ 1/c 0 1/"
+         getmail-seen 2/a 0 1/b 0 0/c 0 0/+ 1/b 0 1/+ 1/c 0 1/"
     );
     Ok(())
 }
@@ -102,14 +102,14 @@ fn leaves_alone_what_is_no_record(rt: HostRuntime) -> Result<(), Fail> {
     let alloc = rt.alloc();
     let rows = [
         ("x\n", 1, "x/"),
-        ("getmail-seen 1", 1, "getmail-seen 1"),
-        ("getmail-seen 1\na 0 2\n", 2, "getmail-seen 1/a 0 2/"),
+        ("getmail-seen 2", 1, "getmail-seen 2"),
+        ("getmail-seen 2\na 0 2\n", 2, "getmail-seen 2/a 0 2/"),
         (
-            "getmail-seen 1\na 0 0\na 7 1\n",
+            "getmail-seen 2\na 0 0\na 7 1\n",
             3,
-            "getmail-seen 1/a 0 0/a 7 1/",
+            "getmail-seen 2/a 0 0/a 7 1/",
         ),
-        // a row of a group has to tell what wasn't known
+        // in version 1 a row of a group has to tell what wasn't known
         (
             "getmail-seen 1\na 0 1\n+ 1\na 0 1\n",
             4,

@@ -53,7 +53,7 @@ fn ends_where_logging_in_is_refused(rt: HostRuntime) -> Result<(), Fail> {
 #[test]
 fn ends_at_a_message_that_is_refused(rt: HostRuntime) -> Result<(), Fail> {
     let retr = "P|RETR 1|RETR 2|QUIT| Cut(Refused(Retr(2))) 1/3 4 s0 d0 - a=one/ - - \
-        getmail-seen 1/a 0 0/b 0 0/c 0 0/+ 1/a 0 1/";
+        getmail-seen 2/a 0 0/b 0 0/c 0 0/+ 1/a 0 1/";
     expect(
         &rt,
         &[(
@@ -62,7 +62,7 @@ fn ends_at_a_message_that_is_refused(rt: HostRuntime) -> Result<(), Fail> {
         )],
     )?;
     let dele = "P|RETR 1|DELE 1|QUIT| Cut(Refused(Dele(1))) 1/3 4 s0 d0 - a=one/ - - \
-        getmail-seen 1/a 0 0/b 0 0/c 0 0/+ 1/a 0 1/";
+        getmail-seen 2/a 0 0/b 0 0/c 0 0/+ 1/a 0 1/";
     expect(
         &rt,
         &[(

@@ -20,7 +20,7 @@ fn stores_texts_line_by_line(rt: HostRuntime) -> Result<(), Fail> {
     for (reply, stored) in rows {
         let wanted = format!(in rt.alloc();
             "P|RETR 1|QUIT| Ended 1/1{stored}- - \
-            getmail-seen 1/a 0 0/+ 1/a 0 1/"
+            getmail-seen 2/a 0 0/+ 1/a 0 1/"
         )?;
         expect(
             &rt,

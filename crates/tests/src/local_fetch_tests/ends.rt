@@ -106,7 +106,7 @@ fn goes_on_after_a_cut_by_one_call(rt: HostRuntime) -> Result<(), Fail> {
     assert_eq!(rt;
         cut_and_whole(alloc, cut, whole)?.as_str(),
         "Cut(ReadFailed) 1/3 4 s0 d0; Ended 2/3 10 s1 d0; a=one/ b=two/ c=three/ - - \
-         getmail-seen 1/a 0 0/b 0 0/c 0 0/+ 1/a 0 1/+ 1/b 0 1/+ 1/c 0 1/"
+         getmail-seen 2/a 0 0/b 0 0/c 0 0/+ 1/a 0 1/+ 1/b 0 1/+ 1/c 0 1/"
     );
     Ok(())
 }
