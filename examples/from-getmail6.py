@@ -11,7 +11,7 @@ import os
 import sys
 import time
 
-HEADER = b"getmail-seen 1\n"
+HEADER = b"getmail-seen 2\n"
 GREATEST = 18_446_744_073_709_551_615
 
 

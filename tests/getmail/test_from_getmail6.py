@@ -13,7 +13,7 @@ from pathlib import Path
 from harness import programs
 
 SCRIPT = programs.ROOT / "examples" / "from-getmail6.py"
-HEADER = b"getmail-seen 1\n"
+HEADER = b"getmail-seen 2\n"
 
 
 class FromGetmail6(unittest.TestCase):
