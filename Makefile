@@ -15,7 +15,7 @@
 SHELL := /bin/bash
 .SHELLFLAGS := -eu -o pipefail -c
 
-.PHONY: all demo rehearse check test dist bench install uninstall clean getmail popd store_bench
+.PHONY: all demo rehearse check test dist bench install uninstall clean getmail popd store_bench record_bench
 .PHONY: bench-getmail bench-popd bench-client_bench bench-record_bench bench-store_bench
 .NOTPARALLEL:
 
@@ -40,11 +40,11 @@ rehearse:
 check:
 	@tests/gate.sh
 
-# The tests from outside also run the small program of the stores' benchmark.
-store_bench:
+# The tests from outside also run the small programs of the stores' benchmark and of the record's.
+store_bench record_bench:
 	cd crates/$@ && rt run > /dev/null
 
-test: all store_bench
+test: all store_bench record_bench
 	python3 tests/test_sample.py
 	python3 tests/test_documents.py
 	python3 tests/run.py
@@ -64,8 +64,7 @@ bench-client_bench:
 	cd crates/client_bench && rt run > /dev/null
 	@python3 bench/pop3_client.py
 
-bench-record_bench:
-	cd crates/record_bench && rt run > /dev/null
+bench-record_bench: record_bench
 	@python3 bench/fetch_rules.py
 
 bench-store_bench: store_bench

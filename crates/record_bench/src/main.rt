@@ -1,6 +1,8 @@
 //! Times the calls of `fetch_rules` that a session makes over its record and its listing, for
-//! `bench/fetch_rules.py`.
+//! `bench/fetch_rules.py`, and answers what record files stand for, for the tests from outside.
 #![tactic(auto)]
+
+mod judging;
 
 use anyhow::{Result, ensure};
 use fetch_rules::{Dest, Listing, ScanRow, Seen, Settings, UidRow, have_legal_ids, plan};
@@ -75,6 +77,19 @@ fn tell(rt: &HostRuntime, call: &str, start: Duration) -> Result<Duration> {
     Ok(rt.process_cpu_time()?)
 }
 
+/// Merges a listing whose messages are all held.
+fn time_merge(
+    rt: &HostRuntime,
+    listing: &Listing,
+    seen: &mut Seen<RandomState>,
+    start: Duration,
+) -> Result<Duration> {
+    ensure!(seen.intent().is_none(), "no intent is open");
+    let held = vec![in rt.alloc(); true; listing.len() as usize]?;
+    seen.merge(listing, &held, 1_700_000_000)?;
+    tell(rt, "merge", start)
+}
+
 /// Makes the calls of one session over `count` messages and a record of as many rows. The record
 /// knows half of the messages.
 fn time_session(rt: &HostRuntime, count: u32) -> Result<()> {
@@ -89,10 +104,7 @@ fn time_session(rt: &HostRuntime, count: u32) -> Result<()> {
     let start = tell(rt, "join", start)?;
     let mut seen = Seen::read(alloc, &file, RandomState::new(rt)?)?;
     let start = tell(rt, "read", start)?;
-    let held = vec![in alloc; true; listing.len() as usize]?;
-    ensure!(seen.intent().is_none(), "no intent is open");
-    seen.merge(&listing, &held, 1_700_000_000)?;
-    let start = tell(rt, "merge", start)?;
+    let start = time_merge(rt, &listing, &mut seen, start)?;
     let steps = plan(alloc, &settings, &seen, &listing, 1_800_000_000)?;
     let start = tell(rt, "plan", start)?;
     let bytes = seen.bytes()?;
@@ -113,7 +125,7 @@ fn time_read(rt: &HostRuntime, count: u32) -> Result<()> {
 }
 
 fn tell_usage(rt: &HostRuntime) -> Result<()> {
-    println!(rt; "usage: record_bench session|read COUNT")?;
+    println!(rt; "usage: record_bench session|read COUNT, or judge FILE")?;
     Ok(())
 }
 
@@ -122,10 +134,11 @@ fn main(rt: HostRuntime) -> Result<()> {
     if words.len() != 3 {
         return tell_usage(&rt);
     }
-    let count: u32 = words[2].as_str().parse()?;
+    let subject = words[2].as_str();
     match words[1].as_str() {
-        "session" => time_session(&rt, count),
-        "read" => time_read(&rt, count),
+        "session" => time_session(&rt, subject.parse()?),
+        "read" => time_read(&rt, subject.parse()?),
+        "judge" => judging::judge(&rt, subject),
         _ => tell_usage(&rt),
     }
 }

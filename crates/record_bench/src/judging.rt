@@ -1,0 +1,37 @@
+//! What record files stand for, for the tests from outside.
+
+use anyhow::Result;
+use fetch_rules::Seen;
+use std::fs;
+use std::hash::RandomState;
+use std::io::Write;
+
+/// Stands between the records of the file that is read, and ends each answer. No record has this octet.
+const END: u8 = 0xff;
+
+/// Reads a record in place of the last one, and answers whether its file must be written anew, `true` or
+/// `false`, and the record as `bytes` writes it; or the fault.
+fn answer(seen: &mut Seen<RandomState>, record: &[u8], answers: &mut Vec<u8>) -> Result<()> {
+    match seen.reread(record) {
+        Ok(()) => {
+            writeln!(answers, "{}", seen.needs_rewrite())?;
+            answers.extend_from_slice(&seen.bytes()?)?;
+        }
+        Err(fault) => writeln!(answers, "{fault}")?,
+    }
+    answers.push(END)?;
+    Ok(())
+}
+
+/// Prints the answer for each record of a file.
+pub fn judge(rt: &HostRuntime, path: &str) -> Result<()> {
+    let alloc = rt.alloc();
+    let records = fs::read(rt, path)?;
+    let mut answers = Vec::new(alloc);
+    let mut seen = Seen::new(alloc, RandomState::new(rt)?);
+    for record in records.split(|byte| *byte == END) {
+        answer(&mut seen, record, &mut answers)?;
+    }
+    rt.stdout().write_all(&answers)?;
+    Ok(())
+}

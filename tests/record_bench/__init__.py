@@ -1,0 +1,1 @@
+"""Tests of the record's file, by the small program of the record's benchmark."""
