@@ -1,5 +1,6 @@
 """Connections over loopback: one after the other, ended in any way, and clients that mean no good."""
 
+import contextlib
 import signal
 import socket
 import subprocess
@@ -145,16 +146,34 @@ class Waits(OverLoopback):
         super().setUp()
         self.maildir.add("new", "a", b"x" * 79 + b"\n" * 100_000)
 
-    def service(self):
-        return Service(self.maildir, "--connections", "2", **self.hurry.environment())
+    def service(self, **environment):
+        return Service(self.maildir, "--connections", "2", **self.hurry.environment(), **environment)
 
-    def check_next_client(self, service, told, count=1):
-        """The message that was marked is still there for the next client, this was told, and these waits asked for."""
+    def check_next_client(self, service, *told, count=1):
+        """The message that was marked is still there for the next client, and one of these lines was told."""
         with service.client() as client:
             self.assertEqual(client.log_in(), b"+OK %d messages\r\n" % count)
             self.assertEqual(client.ask(b"QUIT"), b"+OK bye\r\n")
-        self.assertEqual(service.finish(), (0, told))
-        self.assertEqual(self.hurry.asked(), [("read", 600_000), ("write", 600_000), ("nodelay", 1)] * 2)
+        status, err = service.finish()
+        self.assertEqual(status, 0)
+        self.assertIn(err, told)
+
+    def check_asked(self):
+        """Each connection asks for no more than what is left of three minutes, and for ten once it is logged in, as the
+        last one is."""
+        connections = []
+        for word, asked in self.hurry.asked():
+            if word == "nodelay":
+                connections.append([])
+            else:
+                connections[-1].append((word, asked))
+        idle = [("read", 600_000), ("write", 600_000)]
+        self.assertEqual(connections[-1][-2:], idle)
+        for bounds in connections:
+            before = [asked for _, asked in (bounds[:-2] if bounds[-2:] == idle else bounds)]
+            self.assertEqual(before, sorted(before, reverse=True))
+            self.assertLessEqual(before[0], 180_000)
+            self.assertLessEqual({word for word, _ in bounds}, {"read", "write"})
 
     def test_a_client_that_says_nothing(self):
         for given in (b"", b"USER u", b"USER u\r\nPASS p\r\nDELE 1\r\n", b"USER u\r\nPASS p\r\nDELE 1\r\nQUIT\r"):
@@ -163,6 +182,7 @@ class Waits(OverLoopback):
                     silent.give(given)
                     self.assertEqual(len(silent.rest().splitlines()), 1 + given.count(b"\r\n"))
                 self.check_next_client(service, b"popd: read failed\n")
+                self.check_asked()
 
     def test_a_client_that_takes_nothing(self):
         self.maildir.add("new", "b", b"two\n")
@@ -171,6 +191,45 @@ class Waits(OverLoopback):
             self.assertEqual(deaf.ask(b"DELE 2"), b"+OK marked\r\n")
             deaf.give(b"RETR 1\r\n" * 500)
             self.check_next_client(service, b"popd: write failed\n", count=2)
+            self.check_asked()
+
+    def keep_talking(self, service, piece):
+        """Says a piece every now and then until the server has had enough; how long that took."""
+        begun = time.monotonic()
+        with service.client() as client, contextlib.suppress(ConnectionError):
+            while time.monotonic() - begun < programs.SECONDS:
+                client.give(piece)
+                time.sleep(0.02)
+        return time.monotonic() - begun
+
+    def test_a_client_that_talks_and_does_not_log_in(self):
+        """Three minutes, which are 0.3 s here, are all that it gets, though it never waits for long."""
+        for piece in (b"x", b"NOOP\r\n", b"USER u\r\n", b"USER u\r\nPASS q\r\n"):
+            with self.subTest(piece), self.service() as service:
+                took = self.keep_talking(service, piece)
+                self.assertGreater(took, 0.25)
+                self.assertLess(took, programs.SECONDS / 2)
+                self.check_next_client(service, b"popd: read failed\n", b"popd: write failed\n")
+
+    def test_a_client_that_is_logged_in_has_its_time(self):
+        """It stays for longer than three minutes, and waits for six each time."""
+        with self.service() as service:
+            with service.client() as client:
+                client.log_in()
+                for _ in range(2):
+                    time.sleep(0.6)
+                    self.assertEqual(client.ask(b"NOOP"), b"+OK\r\n")
+                self.assertEqual(client.ask(b"QUIT"), b"+OK bye\r\n")
+            self.check_next_client(service, b"")
+
+    def test_waits_that_cannot_be_bounded(self):
+        """A connection that might wait for ever is not served."""
+        for word, got in (("read", READY), ("write", b"")):
+            with self.subTest(word), self.service(HURRY_REFUSED=word) as service:
+                for _ in range(2):
+                    with service.client() as client:
+                        self.assertEqual(client.rest(), got)
+                self.assertEqual(service.finish(), (0, b"popd: %s failed\n" % word.encode() * 2))
 
 
 class Memory(OverLoopback):

@@ -11,6 +11,7 @@ mod password;
 mod rehearsal;
 mod serving;
 mod telling;
+mod waits;
 mod warning;
 mod words;
 

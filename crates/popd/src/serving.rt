@@ -5,18 +5,14 @@ ghost use Rattle.pop3_server.specs.ServerMachine.{is_open};
 use crate::account::{Account, RealMaildir};
 use crate::failure::{Failure, failure_of, tell};
 use crate::telling::{Peer, Telling};
+use crate::waits::{BoundedStream, LoginJournal};
 use crate::warning::{Warning, warn};
 use crate::words::Words;
 use pop3_server::{Maildrop, Server, ServerFault, serve_and_note};
 use pop3_wire::StreamWire;
 use std::net::{TcpListener, TcpStream};
+use std::thread;
 use std::time::Duration;
-use std::{io, thread};
-
-/// How long a connection may neither say nor take anything: a read or a write that waits longer is
-/// refused, which ends the connection and removes nothing (RFC 1939, section 3, asks for ten minutes
-/// at least).
-const IDLE_SECONDS: u64 = 600;
 
 /// How long the server waits after a connection that couldn't be taken: where descriptors are wanting,
 /// the next one can't be taken at once either.
@@ -37,13 +33,6 @@ pub fn serve_streams<D: Maildrop + Drop>(
         peer: Peer::StandardInput,
     };
     serve_and_note(server, &mut wire, &mut telling)
-}
-
-/// Bounds how long a read or a write of a connection waits.
-fn bound_waits(stream: &TcpStream) -> io::Result<()> {
-    let wait = Some(Duration::from_secs(IDLE_SECONDS));
-    stream.set_read_timeout(wait)?;
-    stream.set_write_timeout(wait)
 }
 
 /// Tells which file or folder couldn't be read, where that refused the maildrop.
@@ -75,14 +64,19 @@ fn serve_stream<'a>(
         Ok(account) => account,
         Err(error) => return (Err(error.into()), maildir),
     };
-    if bound_waits(stream).is_err() {
-        return (Err(ServerFault::ReadFailed), maildir);
-    }
+    let bounded = match BoundedStream::new(rt, stream) {
+        Ok(bounded) => bounded,
+        Err(_) => return (Err(ServerFault::ReadFailed), maildir),
+    };
     // A connection without it still works, only slower.
     let _ = stream.set_nodelay(true);
     let mut server = account.into_server(rt.alloc(), maildir);
-    let mut wire = StreamWire::new(stream, stream);
-    let served = serve_and_note(&mut server, &mut wire, telling);
+    let mut wire = StreamWire::new(&bounded, &bounded);
+    let mut journal = LoginJournal {
+        stream: &bounded,
+        journal: telling,
+    };
+    let served = serve_and_note(&mut server, &mut wire, &mut journal);
     let maildir = server.into_drop();
     warn_of_unread(rt, &maildir);
     (served, maildir.renewed())

@@ -1,0 +1,115 @@
+//! How long a client may let the server wait (RFC 1939, section 3, asks for ten minutes at least once
+//! somebody is logged in).
+ghost use Rattle.std.specs.Prelude.{◌≡◌, ◌≤◌, ◌+◌, ◌*◌, IfSome, None};
+ghost use Rattle.std.specs.Duration.{as_nanos};
+
+use pop3_server::{Event, Journal};
+use std::cell::Cell;
+use std::io::{self, ErrorKind, Read, Write};
+use std::net::TcpStream;
+use std::time::{Duration, Instant};
+
+/// How long a client that is logged in may neither say nor take anything: each read and each write that
+/// waits longer is refused.
+const IDLE_SECONDS: u64 = 600;
+
+/// How long a client has to log in, all reads and writes together: one that sends an octet now and then
+/// keeps the next client out for no longer.
+const LOGIN_SECONDS: u64 = 180;
+
+/// What is left of the time to log in after so long, if anything is.
+fn left_after(passed: Duration) -> Option<Duration>
+    ensures some { IfSome result (λ left. as_nanos left + as_nanos passed ≡ 180 * 1_000_000_000) }
+    ensures none { result ≡ None → 180 * 1_000_000_000 ≤ as_nanos passed }
+{
+    match Duration::from_secs(LOGIN_SECONDS).checked_sub(passed) {
+        Some(left) if !left.is_zero() => Some(left),
+        _ => None,
+    }
+}
+
+/// A connection whose reads and writes wait so long and no longer. What is refused ends the connection
+/// and removes nothing.
+#[derive(Drop)]
+pub struct BoundedStream<'a> {
+    rt: &'a HostRuntime,
+    stream: &'a TcpStream,
+    /// When the connection was taken, until somebody is logged in.
+    taken: Cell<Option<Instant>>,
+}
+
+impl<'a> BoundedStream<'a> {
+    /// A connection that was just taken.
+    pub fn new(rt: &'a HostRuntime, stream: &'a TcpStream) -> io::Result<BoundedStream<'a>> {
+        let now = Instant::now(rt)?;
+        Ok(BoundedStream {
+            rt,
+            stream,
+            taken: Cell::new(Some(now)),
+        })
+    }
+
+    /// What is left of the time to log in. None once somebody is logged in.
+    fn left(&self) -> io::Result<Option<Duration>> {
+        let Some(taken) = self.taken.get() else {
+            return Ok(None);
+        };
+        match left_after(taken.elapsed(self.rt)?) {
+            Some(left) => Ok(Some(left)),
+            None => Err(ErrorKind::TimedOut.into()),
+        }
+    }
+
+    /// Bounds how long each read and each write waits from now on.
+    fn bound_waits(&self, wait: Duration) -> io::Result<()> {
+        self.stream.set_read_timeout(Some(wait))?;
+        self.stream.set_write_timeout(Some(wait))
+    }
+
+    /// Somebody is logged in.
+    fn end_login(&self) {
+        if self.bound_waits(Duration::from_secs(IDLE_SECONDS)).is_ok() {
+            self.taken.set(None);
+        }
+    }
+}
+
+impl<'a> Read for &BoundedStream<'a> {
+    fn read(&mut self, buf: &mut [u8]) -> io::Result<usize> {
+        if let Some(left) = self.left()? {
+            self.stream.set_read_timeout(Some(left))?;
+        }
+        let mut stream = self.stream;
+        stream.read(buf)
+    }
+}
+
+impl<'a> Write for &BoundedStream<'a> {
+    fn write(&mut self, buf: &[u8]) -> io::Result<usize> {
+        if let Some(left) = self.left()? {
+            self.stream.set_write_timeout(Some(left))?;
+        }
+        let mut stream = self.stream;
+        stream.write(buf)
+    }
+
+    fn flush(&mut self) -> io::Result<()> {
+        Ok(())
+    }
+}
+
+/// A journal that tells another one, and ends the time to log in where somebody is logged in.
+#[derive(Drop)]
+pub struct LoginJournal<'a, J: Journal + Drop> {
+    pub stream: &'a BoundedStream<'a>,
+    pub journal: &'a mut J,
+}
+
+impl<'a, J: Journal + Drop> Journal for LoginJournal<'a, J> {
+    fn note(&mut self, event: Event) {
+        if let Event::LoggedIn(_) = event {
+            self.stream.end_login();
+        }
+        self.journal.note(event);
+    }
+}
