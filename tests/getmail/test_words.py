@@ -41,6 +41,7 @@ class Words(unittest.TestCase):
         for word in ("--help", "-h"):
             run = programs.run("getmail", word)
             self.assertEqual((run.status, run.err), (0, b""))
+            self.assertTrue(run.out.startswith(b"Fetches mail from a POP3 server into a Maildir;"), run.out)
             for option in (b"--rcfile <FILE>", b"--getmaildir <DIR>", b"--verbose", b"--quiet", b"--all", b"--new",
                            b"--delete", b"--dont-delete", b"--rehearse"):
                 self.assertIn(option, run.out)

@@ -88,6 +88,9 @@ fn long_flag<'a>(alloc: Global, name: &'a str, help: &'a str) -> Arg<'a>
 }
 
 // The lines of help.
+const ABOUT: &str =
+    "Fetches mail from a POP3 server into a Maildir; getmail(1) and getmailrc(5) say more";
+
 const RCFILE: &str =
     "Read the settings from FILE, in DIR unless it begins with / or ~/ [getmailrc]";
 
@@ -97,21 +100,22 @@ const VERBOSE: &str = "Report more, each time by one, up to 2";
 
 const QUIET: &str = "Write no report";
 
-const ALL: &str = "Fetch all messages, those too that were delivered before";
+const ALL: &str = "Fetch all messages, also those that were delivered before";
 
 const NEW: &str = "Fetch only messages that were not delivered before";
 
-const DELETE: &str = "Delete from the server what is held";
+const DELETE: &str = "Delete from the server what was delivered, held or not";
 
-const DONT_DELETE: &str = "Delete nothing now, unless delete_after says so";
+const DONT_DELETE: &str = "Take delete as false; delete_after still deletes";
 
-const REHEARSE: &str = "Hold a session with standard input, and store nothing";
+const REHEARSE: &str = "Hold a session with standard input as the server, and store nothing";
 
 /// The options and flags of the program.
 pub fn command<'a>(alloc: Global) -> Result<Command<'a>, AllocError>
     ensures { IfOk result (λ command. app_of command ≡ getmail) }
 {
     Command::new(alloc, "getmail")
+        .about(ABOUT)
         .arg(value_option(alloc, "rcfile", 'r', "FILE", RCFILE))?
         .arg(value_option(alloc, "getmaildir", 'g', "DIR", GETMAILDIR))?
         .arg(flag(alloc, "verbose", 'v', VERBOSE))?

@@ -1,11 +1,13 @@
-use Rattle.std.proofs.Common.{◌∙◌, ap₂}
+use Rattle.std.proofs.Common.{◌∙◌, ap, ap₂}
 use Rattle.std.proofs.lemmas.Result.{IfOk-weaker}
+use Rattle.clap.specs.Simple.{app_of_fields}
 use Rattle.clap.specs.Words.{with_rule}
 use Rattle.getmail.proofs.words.command.Goals as goal
 
 pub returns : goal.returns
 returns c =
-    let first = c.in_ok-arg.ensures.shape c.value_option.ensures.local ∙ ap₂ with_rule c.new.ensures.app c.value_option.ensures.rule in
+    let started = ap app_of_fields c.about.ensures ∙ c.new.ensures.app in
+    let first = c.in_ok-arg.ensures.shape c.value_option.ensures.local ∙ ap₂ with_rule started c.value_option.ensures.rule in
     let second = c.in_ok-arg-2.ensures.shape c.value_option-2.ensures.local ∙ ap₂ with_rule first c.value_option-2.ensures.rule in
     let third = c.in_ok-arg-3.ensures.shape c.flag.ensures.local ∙ ap₂ with_rule second c.flag.ensures.rule in
     let fourth = c.in_ok-arg-4.ensures.shape c.flag-2.ensures.local ∙ ap₂ with_rule third c.flag-2.ensures.rule in
