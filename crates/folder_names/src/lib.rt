@@ -94,7 +94,11 @@ impl Sighting {
     /// How long to wait until each later change gives the folder another time than the one seen: until
     /// that time is older than a step, or was seen so long ago, whatever the clock of dates says.
     fn wait<R: Clock>(&self, rt: &R) -> io::Result<Duration> {
-        let age = self.change().age(rt.since_1970()?);
+        // A clock of dates before 1970 is an error: then nothing is known of the age.
+        let age = match rt.since_1970() {
+            Ok(now) => self.change().age(now),
+            Err(_) => Duration::ZERO,
+        };
         let watched = rt.monotonic()?.saturating_sub(self.at);
         Ok(self.change().step().saturating_sub(age.max(watched)))
     }
