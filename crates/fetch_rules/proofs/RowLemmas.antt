@@ -1,5 +1,5 @@
 -- The record's rows as the entries of a map.
-use Rattle.std.proofs.Common.{◌≡◌, ◌≢◌, ◌<◌, ℕ, zero, suc, List, length, [], ◌∷◌, ◌++◌, take, Option, Some, None, Bool, true, false, ◌&&◌, ◌||◌, not, cond, get_or, refl, sym, ◌∙◌, ap, subst, arith}
+use Rattle.std.proofs.Common.{◌≡◌, ◌≢◌, ◌⊎◌, inl, inr, ◌<◌, ℕ, zero, suc, List, length, filter, [], ◌∷◌, ◌++◌, take, Option, Some, None, Bool, true, false, ◌&&◌, ◌||◌, not, cond, get_or, refl, sym, ◌∙◌, ap, subst, arith}
 use Rattle.std.specs.Prelude.{find, option_map, bytes_eq, is_some, String, string_bytes}
 use Rattle.std.specs.List.{AllByRecursion, list_any}
 use Rattle.std.specs.Bool.{OnTrue, OnFalse}
@@ -9,8 +9,10 @@ use Rattle.std.proofs.Math.Bool.{or-false}
 use Rattle.std.proofs.lemmas.Bool.{true≢false}
 use Rattle.std.proofs.lemmas.List.Elements.{All-from_get_or, recursion_from_All}
 use Rattle.mail_terms.specs.UniqueId.{IsLegalId}
-use Rattle.fetch_rules.specs.Record.{Row, IsRow, IsRecord, is_of, has_row, marked, with_delivered, is_delivered}
-use Rattle.fetch_rules.specs.RecordFile.{changed}
+use Rattle.fetch_rules.specs.Record.{Row, Intent, IsRow, IsRecord, is_of, has_row, marked, with_delivered, is_delivered}
+use Rattle.fetch_rules.specs.RecordFile.{changed, marking, written}
+use Rattle.fetch_rules.specs.Intents.{intent_of, intent_in}
+use Rattle.fetch_rules.specs.declared.seen.OwnedIntent.{OwnedIntent}
 use Rattle.fetch_rules.specs.Rows.{row_from, row_of, rows_of, state_of, state_in}
 use Rattle.fetch_rules.specs.declared.seen.row_map.State.{State}
 use Rattle.fetch_rules.proofs.IdLemmas.{same_from_test, test_from_same, test_from_other}
@@ -118,6 +120,58 @@ changed-marked uid (row ∷ rows) state is found fresh = by (is_of uid row) refl
         kept : (d : Bool) → cond (d && not d) (row ∷ changed rows (marked rows uid)) (changed rows (marked rows uid)) ≡ changed rows (marked rows uid)
         kept true = refl
         kept false = refl
+
+none_kept : (uid : List ℕ) (rows : List Row) → AllByRecursion (λ other. is_of uid other ≡ false) rows → filter (is_of uid) rows ≡ []
+none_kept uid [] none = refl
+none_kept uid (row ∷ rows) none = ap (λ (b : Bool). cond b (row ∷ filter (is_of uid) rows) (filter (is_of uid) rows)) none.0 ∙ none_kept uid rows none.1
+
+-- the one row of an id behind a mark
+pub filter-marked : (uid : List ℕ) (rows : List Row) (state : State) → IsRecord rows → state_in rows uid ≡ Some state
+    → filter (is_of uid) (marked rows uid) ≡ record { uid = uid; first_seen = state.first_seen; delivered = true } ∷ []
+filter-marked uid [] state is found = absurd (no_none state found)
+  where
+    no_none : (s : State) → None ≡ Some s → ⊥
+    no_none s e = cc
+filter-marked uid (row ∷ rows) state is found = by (is_of uid row) refl found (λ at. filter-marked uid rows state (rest_of row rows is) at)
+  where
+    some_same : (s t : State) → Some s ≡ Some t → s ≡ t
+    some_same s t same = cc
+
+    by : (here : Bool) → is_of uid row ≡ here → option_map state_of (cond here (Some row) (find (is_of uid) rows)) ≡ Some state
+        → (state_in rows uid ≡ Some state → filter (is_of uid) (marked rows uid) ≡ record { uid = uid; first_seen = state.first_seen; delivered = true } ∷ [])
+        → filter (is_of uid) (marked (row ∷ rows) uid) ≡ record { uid = uid; first_seen = state.first_seen; delivered = true } ∷ []
+    by true test at rest =
+        ap (λ (b : Bool). cond b (with_delivered (is_of uid row) row ∷ filter (is_of uid) (marked rows uid)) (filter (is_of uid) (marked rows uid))) test
+        ∙ ap (λ (b : Bool). with_delivered b row ∷ filter (is_of uid) (marked rows uid)) test
+        ∙ ap (λ (r : Row). r ∷ filter (is_of uid) (marked rows uid)) (with_delivered-true row)
+        ∙ ap (λ (rs : List Row). record row { delivered = true } ∷ filter (is_of uid) rs) (unmarked uid rows (apart uid row rows is test))
+        ∙ ap (λ (rs : List Row). record row { delivered = true } ∷ rs) (none_kept uid rows (apart uid row rows is test))
+        ∙ ap (λ (u : List ℕ). record { uid = u; first_seen = row.first_seen; delivered = true } ∷ []) (sym (same_from_test uid row.uid test))
+        ∙ ap (λ (s : State). record { uid = uid; first_seen = s.first_seen; delivered = true } ∷ []) (some_same (state_of row) state at)
+    by false test at rest =
+        ap (λ (b : Bool). cond b (with_delivered (is_of uid row) row ∷ filter (is_of uid) (marked rows uid)) (filter (is_of uid) (marked rows uid))) test
+        ∙ rest at
+
+-- what a mark writes, by the intent that is open
+pub mark_is_written : (intent : Option Intent) (uid : List ℕ) (rows : List Row) (state : State) → IsRecord rows → state_in rows uid ≡ Some state → (state.delivered ≡ false) ⊎ (intent ≢ None)
+    → marking intent uid rows (marked rows uid) ≡ record { uid = uid; first_seen = state.first_seen; delivered = true } ∷ []
+mark_is_written None uid rows state is found (inl fresh) = changed-marked uid rows state is found fresh
+mark_is_written None uid rows state is found (inr some) = absurd (some refl)
+mark_is_written (Some intent) uid rows state is found why = filter-marked uid rows state is found
+
+pub none_written : (intent : Option Intent) (uid : List ℕ) (rows : List Row) → intent ≡ None → written (marking intent uid rows rows) ≡ []
+none_written intent uid rows none = ap (λ (i : Option Intent). written (marking i uid rows rows)) none ∙ ap written (unchanged rows)
+
+pub none_from_test : (intent : Option OwnedIntent) (none : Bool) → is_some intent ≡ not none → none ≡ true → intent_in intent ≡ None
+none_from_test None none is here = refl
+none_from_test (Some intent) none is here = absurd (true≢false (is ∙ ap not here))
+
+pub some_from_test : (intent : Option OwnedIntent) (none : Bool) → is_some intent ≡ not none → none ≡ false → intent_in intent ≢ None
+some_from_test None none is here = absurd (true≢false (sym (is ∙ ap not here)))
+some_from_test (Some intent) none is here = no_some (intent_of intent)
+  where
+    no_some : (i : Intent) → Some i ≢ None
+    no_some i e = cc
 
 -- an id that was delivered stays as it is
 pub marked-delivered : (uid : List ℕ) (rows : List Row) (state : State) → IsRecord rows → state_in rows uid ≡ Some state → state.delivered ≡ true → marked rows uid ≡ rows

@@ -2,9 +2,9 @@
 -- the id, the second at which it was first seen, and 1 where it was delivered, else 0. A group is the
 -- line `+ N` and N rows, which have come into the record, or were delivered, since. In version 2 an
 -- intent's line may stand behind the rows and between groups: `!`, the id, and two numbers.
-use Rattle.std.specs.Prelude.{ℕ, ◌≤◌, List, [], ◌∷◌, ◌++◌, Bool, true, false, not, ◌&&◌, if◌then◌else◌, length, flat_map, codes, Option, Some, None}
+use Rattle.std.specs.Prelude.{ℕ, ◌≤◌, List, [], ◌∷◌, ◌++◌, Bool, true, false, not, ◌&&◌, if◌then◌else◌, length, filter, flat_map, codes, Option, Some, None}
 use Rattle.std.specs.Fmt.{decimal}
-use Rattle.fetch_rules.specs.Record.{Row, IsRow, Intent, IsIntent}
+use Rattle.fetch_rules.specs.Record.{Row, IsRow, Intent, IsIntent, is_of}
 
 pub data Version : Type 0 where
   One : Version
@@ -52,6 +52,11 @@ changed (row ∷ old) (next ∷ new) = if next.delivered && not row.delivered th
 abbrev pub written : List Row → List ℕ
 written [] = []
 written (row ∷ rows) = group_of (row ∷ rows)
+
+-- the rows that a mark of an id writes: where an intent is open the id's row, else the row that it changed, if any
+abbrev pub marking : Option Intent → List ℕ → List Row → List Row → List Row
+marking None uid old new = changed old new
+marking (Some intent) uid old new = filter (is_of uid) new
 
 -- a line that may stand behind the header: a row's, one that begins a group, or an intent's
 pub data Line : Type 0 where

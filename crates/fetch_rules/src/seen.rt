@@ -5,7 +5,7 @@ ghost use Rattle.std.specs.Bool.{OnTrue, OnFalse};
 ghost use Rattle.fetch_rules.specs.Record.{IsRecord, empty, has_row, is_delivered, first_seen_of, marked, merged};
 ghost use Rattle.fetch_rules.specs.Intents.{ReadAs, IsNoneOrOf, intent_of, intent_in, has_intent, is_older, closed_rows};
 ghost use Rattle.fetch_rules.specs.Lines.{open_seen, intent_seen, version_of};
-ghost use Rattle.fetch_rules.specs.RecordFile.{changed, written, file_of, intent_line};
+ghost use Rattle.fetch_rules.specs.RecordFile.{changed, marking, written, file_of, intent_line};
 ghost use Rattle.fetch_rules.specs.RecordMeaning.{Means, Fault};
 ghost use Rattle.fetch_rules.specs.RecordGrowth.{Updates, OneMeaning, OneRecord, BytesStand, AppendedCounts, CutIsIgnored, OneIsRead, OpenHasRow};
 
@@ -30,7 +30,7 @@ pub enum SeenFault {
     /// The header's line is missing or another.
     #[error("not a record of this version")]
     BadHeader,
-    /// This line isn't what should stand there: a row, or the line that begins a group.
+    /// This line isn't what should stand there: a row, the line that begins a group, or an intent.
     #[error("line {0} is no row")]
     BadRow(u32),
     /// The row of this line repeats an id that may not stand there again.
@@ -129,11 +129,11 @@ impl<H: BuildHasher> Seen<H> {
         }
     }
 
-    /// The record that a file's bytes stand for. They are what `bytes` wrote and groups and intents that
-    /// were appended since; no bytes at all stand for the empty record. A file of version 1 is read too. A torn end counts for nothing: a
-    /// last piece without LF, and a last group that lacks rows, as an append that was cut leaves
-    /// them. Anything else is refused with its first faulty line: BadHeader where the bytes don't
-    /// begin with the header's line, BadRow and RepeatedId as they say.
+    /// The record that a file's bytes stand for. They are what `bytes` wrote, and groups and intents that
+    /// were appended since. No bytes at all stand for the empty record. A file of version 1 is read
+    /// too. A torn end counts for nothing: a last piece without LF, and a last group that lacks rows,
+    /// as an append that was cut leaves them. Anything else is refused with its first faulty line:
+    /// BadHeader if the bytes don't begin with the header's line, BadRow and RepeatedId as they say.
     pub fn read(alloc: Global, bytes: &[u8], hasher: H) -> Result<Seen<H>, SeenFault>
     where
         H: Drop,
@@ -284,6 +284,7 @@ impl<H: BuildHasher> Seen<H> {
         ensures rows { OnOk result (self.new.rows ≡ marked self.old.rows uid.now) }
         ensures intent { OnOk result (self.new.intent ≡ None) }
         ensures stale { self.new.stale ≡ self.old.stale }
+        ensures group { IfOk result (λ bytes. bytes.items ≡ written (marking self.old.intent uid.now self.old.rows self.new.rows)) }
         ensures updates { IfOk result (λ bytes. Updates self.old.rows self.old.intent bytes.items self.new.rows self.new.intent) }
         ensures err { OnErr result (self.new ≡ self.old) }
         ensures is_record { IsRecord self.new.rows }

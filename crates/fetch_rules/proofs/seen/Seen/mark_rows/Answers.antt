@@ -1,15 +1,16 @@
-use Rattle.std.proofs.Common.{◌∙◌, ◌++◌, ◌∷◌, [], inr, sym, ap, subst, refl, List, ℕ, None}
+use Rattle.std.proofs.Common.{◌∙◌, ◌++◌, ◌∷◌, [], ◌≡◌, ◌≢◌, ◌⊎◌, false, inl, inr, sym, ap, subst, refl, List, ℕ, None}
 use Rattle.std.proofs.lemmas.List.{append-nil}
 use Rattle.std.proofs.lemmas.List.Elements.{recursion_from_All}
 use Rattle.fetch_rules.specs.Record.{Row, Loaded, IsRow, marked}
-use Rattle.fetch_rules.specs.RecordFile.{line_of}
+use Rattle.fetch_rules.specs.RecordFile.{line_of, marking, written}
 use Rattle.fetch_rules.specs.RecordGrowth.{Updates}
 use Rattle.fetch_rules.specs.Intents.{intent_in, IsNoneOrOf}
-use Rattle.fetch_rules.proofs.RowLemmas.{unmarked_none, marked-delivered}
+use Rattle.fetch_rules.proofs.RowLemmas.{unmarked_none, marked-delivered, none_written, mark_is_written, none_from_test, some_from_test}
 use Rattle.fetch_rules.proofs.TakeLemmas.{has_row-none, has_row-some}
 use Rattle.fetch_rules.proofs.HeldLemmas.{none_without_row, legal_of}
 use Rattle.fetch_rules.proofs.ReadLemmas.{IsGroup-mark, now_delivered}
 use Rattle.fetch_rules.proofs.seen.Seen.mark_rows.Goals as goal
+use Rattle.fetch_rules.proofs.seen.Seen.mark_rows.Goals.{else-state-via-then-state+else-is_none, else-state-via-else-state}
 
 pub returns-in_default-clause-rows : goal.returns-in_default-clause-rows
 returns-in_default-clause-rows g c =
@@ -23,11 +24,34 @@ returns-in_default-clause-intent g c =
     (subst (λ (loaded : Loaded). IsNoneOrOf c.args.uid.now loaded.intent) (sym c.self.view_is) c.requires)
     (has_row-none c.args.uid.now c.self.inside.rows (sym c.state.ensures.value ∙ c.in_default.is))
 
+pub returns-in_default-clause-group : goal.returns-in_default-clause-group
+returns-in_default-clause-group g c =
+    c.new.ensures.items ∙ sym (none_written c.args.self.now.intent c.args.uid.now c.args.self.now.rows (returns-in_default-clause-intent g c))
+
 pub returns-then-is_none-clause-rows : goal.returns-then-is_none-clause-rows
 returns-then-is_none-clause-rows g c =
     ap (λ (loaded : Loaded). loaded.rows) (sym c.self.view_is)
     ∙ sym (marked-delivered c.args.uid.now c.self.inside.rows c.in-Some.state c.state.ensures.is_record (sym c.in-Some.ensures.value) c.if-state.true)
     ∙ ap (λ (loaded : Loaded). marked loaded.rows c.args.uid.now) c.self.view_is
+
+pub returns-then-is_none-clause-group : goal.returns-then-is_none-clause-group
+returns-then-is_none-clause-group g c =
+    c.new-then-is_none.ensures.items
+    ∙ sym (none_written c.args.self.now.intent c.args.uid.now c.args.self.now.rows
+    (sym (ap (λ (loaded : Loaded). loaded.intent) c.self.view_is) ∙ none_from_test c.self.inside.intent c.is_none.result c.is_none.ensures c.if-is_none.true))
+
+pub returns-clause-group : goal.returns-clause-group
+returns-clause-group g c =
+    let row : Row = now_delivered c.args.uid.now c.in-Some.state in
+    let why : (c.in-Some.state.delivered ≡ false) ⊎ (intent_in c.self.inside.intent ≢ None) = elim c.else-state.branch [
+      | else-state-via-then-state+else-is_none w ↦ inr (some_from_test c.self.inside.intent w.is_none.result w.is_none.ensures w.if-is_none.false)
+      | else-state-via-else-state w ↦ inl w.if-state.false
+    ] in
+    c.in_ok-group.ensures (row ∷ []) refl
+    (append-nil (line_of row) ∙ sym (c.deref.ensures.value ∙ c.in_ok-write_line.ensures ∙ ap (λ (xs : List ℕ). xs ++ line_of row) c.new-line.ensures.items))
+    ∙ ap written (sym (mark_is_written (intent_in c.self.inside.intent) c.args.uid.now c.self.inside.rows c.in-Some.state c.state.ensures.is_record (sym c.in-Some.ensures.value) why))
+    ∙ ap (λ (rows : List Row). written (marking (intent_in c.self.inside.intent) c.args.uid.now c.self.inside.rows rows)) (sym c.set_delivered.ensures.rows)
+    ∙ ap (λ (loaded : Loaded). written (marking loaded.intent c.args.uid.now loaded.rows c.set_delivered.new.self)) c.self.view_is
 
 pub returns-clause-updates : goal.returns-clause-updates
 returns-clause-updates g c =
