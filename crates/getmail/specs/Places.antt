@@ -1,8 +1,12 @@
 -- Paths of the program's files.
-use Rattle.std.specs.Prelude.{◌≡◌, ℕ, Bool, ◌||◌, nat_eq, List, ◌++◌, drop, Option, Some, None, option_map, codes, if◌then◌else◌}
+use Rattle.std.specs.Prelude.{◌≡◌, ℕ, Bool, false, Ok, ◌||◌, nat_eq, List, ◌++◌, drop, Option, Some, None, option_map, codes, if◌then◌else◌}
 use Rattle.std.specs.List.{starts_with, ends_with}
 use Rattle.std.specs.String.{string_bytes}
-use Rattle.rc_file.specs.Settings.{begins_at_home, destination_of, maildir}
+use Rattle.rc_file.specs.RcMeaning.{Warned, rc_meaning}
+use Rattle.rc_file.specs.Settings.{Content, begins_at_home, content_of, destination_of, maildir}
+use Rattle.rc_file.specs.Flags.{is_contradiction, overridden}
+use Rattle.rc_file.specs.declared.flags.Flags.{Flags}
+use Rattle.rc_file.specs.declared.settings.Settings.{Settings}
 use Rattle.fetch_session.specs.Account.{digits_of}
 use Rattle.getmail.specs.declared.setup.Setup.{Setup}
 use Rattle.getmail.specs.declared.words.Words.{Words}
@@ -27,6 +31,15 @@ folder_given None = codes "~/.getmail"
 -- the record stands in the folder, under the account's digits
 abbrev pub record_path : List ℕ → Setup → List ℕ
 record_path folder setup = joined folder (codes "seen-" ++ digits_of setup.settings)
+
+-- the settings are those that an rc file of these octets means, changed by the flags, which aren't opposite
+pub record AreAsked (flags : Flags) (settings : Settings) : Type 0 where
+  pub bytes : List ℕ
+  pub content : Content
+  pub warnings : List Warned
+  pub meant : rc_meaning bytes ≡ Ok (content, warnings)
+  pub agree : is_contradiction flags ≡ false
+  pub changed : content_of settings ≡ overridden content flags
 
 -- a run's Maildir is the one of its settings, and its record stands in the folder that the words name
 pub record IsPlaced (words : Words) (setup : Setup) : Type 0 where

@@ -3,7 +3,7 @@ ghost use Rattle.std.specs.Prelude.{◌≡◌, ◌++◌, IfOk, codes};
 ghost use Rattle.std.specs.String.{string_bytes};
 ghost use Rattle.rc_file.specs.Settings.{IsValid};
 ghost use Rattle.fetch_session.specs.Account.{digits_of};
-ghost use Rattle.getmail.specs.Places.{IsPlaced, joined};
+ghost use Rattle.getmail.specs.Places.{AreAsked, IsPlaced, joined};
 
 use crate::failure::{Failure, failure_of};
 use crate::place::{folder, joined, rc_file, whole_path};
@@ -46,7 +46,8 @@ fn tell_warnings<'a>(rt: &HostRuntime, warnings: &[Warning]) -> Result<(), Failu
 
 /// The settings of the rc file, with its warnings told, changed by the flags.
 fn settings_of<'a>(rt: &HostRuntime, path: &str, words: &Words) -> Result<Settings, Failure<'a>>
-    ensures { IfOk result IsValid }
+    ensures valid { IfOk result IsValid }
+    ensures asked { IfOk result (AreAsked words.now.flags) }
 {
     let bytes = match read_file(rt, path) {
         Ok(bytes) => bytes,
@@ -82,6 +83,7 @@ fn record_path(alloc: Global, folder: &str, settings: &Settings) -> Result<Strin
 /// obeyed, the flags are opposite, the destination is of a kind that is not supported.
 pub fn set_up<'a>(rt: &HostRuntime, words: &Words) -> Result<Setup, Failure<'a>>
     ensures valid { IfOk result (λ setup. IsValid setup.settings) }
+    ensures asked { IfOk result (λ setup. AreAsked words.now.flags setup.settings) }
     ensures placed { IfOk result (IsPlaced words.now) }
 {
     let folder = folder(rt, words.dir.as_deref())?;
