@@ -136,11 +136,11 @@ class Connections(OverLoopback):
 
 
 class Waits(OverLoopback):
-    """A client that neither says nor takes anything; ten minutes are a second here."""
+    """A client that neither says nor takes anything; ten minutes are three seconds here."""
 
     @classmethod
     def setUpClass(cls):
-        cls.hurry = waits.hurry_for(cls, speed=600)
+        cls.hurry = waits.hurry_for(cls, speed=200)
 
     def setUp(self):
         super().setUp()
@@ -203,21 +203,21 @@ class Waits(OverLoopback):
         return time.monotonic() - begun
 
     def test_a_client_that_talks_and_does_not_log_in(self):
-        """Three minutes, which are 0.3 s here, are all that it gets, though it never waits for long."""
+        """Three minutes, which are 0.9 s here, are all that it gets, though it never waits for long."""
         for piece in (b"x", b"NOOP\r\n", b"USER u\r\n", b"USER u\r\nPASS q\r\n"):
             with self.subTest(piece), self.service() as service:
                 took = self.keep_talking(service, piece)
-                self.assertGreater(took, 0.25)
+                self.assertGreater(took, 0.8)
                 self.assertLess(took, programs.SECONDS / 2)
                 self.check_next_client(service, b"popd: read failed\n", b"popd: write failed\n")
 
     def test_a_client_that_is_logged_in_has_its_time(self):
-        """It stays for longer than three minutes, and waits for six each time."""
+        """It stays for longer than three minutes, and waits for four each time."""
         with self.service() as service:
             with service.client() as client:
                 client.log_in()
                 for _ in range(2):
-                    time.sleep(0.6)
+                    time.sleep(1.2)
                     self.assertEqual(client.ask(b"NOOP"), b"+OK\r\n")
                 self.assertEqual(client.ask(b"QUIT"), b"+OK bye\r\n")
             self.check_next_client(service, b"")
