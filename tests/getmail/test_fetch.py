@@ -197,7 +197,8 @@ class Killed(Fetching):
     pauses = (0, 0.0005, 0.002, 0.01)
 
     def kill_behind(self, commands, pause, *words):
-        """Kills a run so many seconds behind the reply to the last of so many commands; with none, behind the greeting."""
+        """Kills a run so many seconds after the reply to the last of so many commands, with none after the greeting, and
+        answers its process id."""
         self.server.deaf_after = commands
         thread = self.server.begin_session()
         process = self.account.start(*words)
@@ -209,21 +210,26 @@ class Killed(Fetching):
         self.server.hung_up.set()
         thread.join(programs.SECONDS)
         self.server.deaf_after = None
+        return process.pid
 
     def retrieved(self):
         return [command for command in self.server.commands if command.startswith("RETR")]
 
     def check_kill(self, commands, pause, *words):
-        """What was delivered before the kill stands there whole, and one more run fetches the others alone."""
+        """What was delivered before the kill is there whole, and one more run fetches the others alone. What the killed
+        run was writing stays in `tmp`, by a name that no other run takes."""
         self.server.messages = list(self.letters)
-        self.kill_behind(commands, pause, *words)
+        killed = self.kill_behind(commands, pause, *words)
         held = self.account.held()
         self.assertEqual(held, self.letters[:len(held)])
         self.assertIn(len(self.retrieved()) - len(held), (0, 1))
         self.check_good(self.session(*words))
         self.assertEqual(self.retrieved(), [f"RETR {number}" for number in range(len(held) + 1, len(self.letters) + 1)])
         self.check_held(self.letters)
-        self.assertEqual(list((self.account.maildir / "tmp").iterdir()), [])
+        left = [path.name for path in (self.account.maildir / "tmp").iterdir()]
+        self.assertLessEqual(len(left), 1)
+        for name in left:
+            self.assertRegex(name, rf"^{self.account.digest}\.[0-9a-f]+\.P{killed}R[0-9a-f]{{16}}$")
 
     def check_every_kill(self, *words):
         self.server.messages = list(self.letters)
