@@ -68,11 +68,13 @@ def fetch(program):
 
 
 def poll(is_held, program):
+    """The second session is measured: the first one writes the record anew, in the version that the program has."""
     with SharedServer(letters(0, KNOWN)) as server, Account(server.port) as account:
         rows = b"".join(b"%s 1700000000 1\n" % uid for uid, _ in server.messages)
         account.record.write_bytes(b"getmail-seen 1\n" + rows)
         for uid, _ in server.messages if is_held else ():
             (account.maildir / "cur" / f"{account.name(uid)}:2,S").touch()
+        cost_of(account, program)
         return cost_of(account, program)
 
 

@@ -157,7 +157,7 @@ def poll(folder, count, is_held):
     words = account_at(folder, server.port)
     digest = hashlib.sha256(f"{LOOPBACK}\0{server.port}\0u".encode()).hexdigest()
     rows = b"".join(b"%s 1700000000 1\n" % uid_of(number) for number in range(1, count + 1))
-    (folder / "account" / f"seen-{digest}").write_bytes(b"getmail-seen 1\n" + rows)
+    (folder / "account" / f"seen-{digest}").write_bytes(b"getmail-seen 2\n" + rows)
     for number in range(1, count + 1) if is_held else ():
         (folder / "account" / "Maildir" / "cur" / f"{digest}.{uid_of(number).hex()}:2,S").touch()
     costs = [measure.cost_of(words, wait=measure.watch) for _ in range(TURNS)]
