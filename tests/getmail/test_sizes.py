@@ -2,8 +2,10 @@
 file, and many messages in a rehearsal and on a terminal.
 
 A program that gives up, or is wrong, past some size has no place to hide in: each of its tables and buffers grows here.
+TESTS_SIZE is the number of messages that one program fetches from the other.
 """
 
+import os
 import unittest
 
 from getmail import expected, terminal
@@ -14,9 +16,10 @@ from harness.kernel import LOOPBACK
 from harness.maildir import make_maildir
 from popd.service import Maildir, Service
 
-COUNT = 100_000
+COUNT = int(os.environ.get("TESTS_SIZE", "10000"))
+REHEARSED = 100_000
 RC_LIMIT = 65_536
-LONG_ENOUGH = 600
+LONG_ENOUGH = 1200
 
 USER = b"user " + b"u" * 495
 PASSWORD = b"pass " + b"p" * 495
@@ -93,7 +96,7 @@ class GreatMaildrop(unittest.TestCase):
         for number, (uid, text) in enumerate(held):
             self.assertEqual((uid, text), (uid_of(number), b"%d\n" % number))
 
-    def test_a_hundred_thousand_messages_fetched_twice(self):
+    def test_many_messages_fetched_twice(self):
         self.assertEqual(self.account.rcfile.stat().st_size, RC_LIMIT)
         lines = self.fetch("-d")
         self.assertEqual(lines[1::2][:COUNT], [f"msg {number}/{COUNT} ({len(str(number - 1)) + 1} bytes) delivered"
@@ -112,11 +115,11 @@ class GreatMaildrop(unittest.TestCase):
 
 class GreatRehearsal(unittest.TestCase):
     def test_a_hundred_thousand_messages(self):
-        rows = range(1, COUNT + 1)
-        given = (b"+OK\r\n" * 3 + b"+OK %d 1\r\n" % COUNT
+        rows = range(1, REHEARSED + 1)
+        given = (b"+OK\r\n" * 3 + b"+OK %d 1\r\n" % REHEARSED
                  + b"+OK\r\n" + b"".join(b"%d %s\r\n" % (number, uid_of(number)) for number in rows) + b".\r\n"
                  + b"+OK\r\n" + b"".join(b"%d 3\r\n" % number for number in rows) + b".\r\n"
-                 + b"+OK\r\nx\r\n.\r\n" * COUNT + b"+OK\r\n")
+                 + b"+OK\r\nx\r\n.\r\n" * REHEARSED + b"+OK\r\n")
         run = programs.run("getmail", "--rehearse", given=given)
         out, status = expected.answer(given)
         self.assertEqual((run.status, run.err), (status, b""))
