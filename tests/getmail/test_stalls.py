@@ -106,7 +106,8 @@ class Stalls(unittest.TestCase):
                 self.assertEqual(self.run_quickly(account), programs.Run(1, b"", line))
             first, asked = self.hurry.asked()[0]
             self.assertEqual(first, "poll")
-            self.assertTrue(CONNECT_WAIT - 1000 <= asked <= CONNECT_WAIT, asked)
+            # What is left of the bound; a busy machine may have kept the program waiting meanwhile.
+            self.assertTrue(CONNECT_WAIT // 2 <= asked <= CONNECT_WAIT, asked)
 
     def test_a_server_that_takes_its_time_is_waited_for(self):
         """An octet now and then is enough: the bound is on each wait, not on the session."""
