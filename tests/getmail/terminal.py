@@ -27,13 +27,13 @@ def screen_of(octets):
     return [line.rstrip() for line in lines]
 
 
-def run(account, *words, both=False):
+def run(account, *words, both=False, **changes):
     """A run whose standard error, or both outputs, are a terminal: the status, standard output, the terminal's octets."""
     ours, theirs = pty.openpty()
     with open(ours, "rb", buffering=0) as terminal:
         process = subprocess.Popen([programs.path_of("getmail"), *words], stdin=subprocess.DEVNULL,
                                    stdout=theirs if both else subprocess.PIPE, stderr=theirs,
-                                   env=programs.environment(HOME=str(account.home)))
+                                   env=programs.environment(HOME=str(account.home), **changes))
         os.close(theirs)
         shown = b""
         # Once nobody has the other end any more, reading is refused.

@@ -131,9 +131,9 @@ class GreatProgress(unittest.TestCase):
         """Each number is told, and no octet of the longest line is left."""
         count = 1200
         messages = [(uid_of(number), b"") for number in range(1, count)] + [(uid_of(count), b"x" * 79 + b"\n" * 5_000_000)]
-        with Server(messages) as server, Account(server.port) as account:
+        with Server(messages) as server, Account(server.port) as account, preload.library("skip_flushes") as skipping:
             thread = server.begin_session()
-            status, _, shown = terminal.run(account)
+            status, _, shown = terminal.run(account, LD_PRELOAD=str(skipping))
             thread.join(programs.SECONDS)
         self.assertEqual((status, terminal.screen_of(shown)), (0, [b""]))
         told = [tuple(int(number) for number in found.groups()) for found in terminal.TEXT.finditer(shown)]
