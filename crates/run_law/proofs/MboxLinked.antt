@@ -53,8 +53,7 @@ settles_first rows frame before link l kept s =
 pub mbox_links_keep : MboxKeptStaysKept → Readings → RowLaws → MboxLinksKeep
 mbox_links_keep stays laws rows frame start [] world kept run = kept
 mbox_links_keep stays laws rows frame start (link ∷ links) world kept run =
-    let one = stays frame start (MboxVisited (mbox_visit_of link run.0.effect) ∷ []) world kept (visits laws frame start link run.0, tt) in
-    (
+    let one = stays frame start (MboxVisited (mbox_visit_of link run.0.effect) ∷ []) world kept (visits laws frame start link run.0, tt) in (
       kept,
       record {
         effect = run.0.effect;
