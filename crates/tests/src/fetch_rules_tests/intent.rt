@@ -97,24 +97,6 @@ fn reads_files_of_both_versions(rt: HostRuntime) -> Result<(), Fail> {
     Ok(())
 }
 
-/// The line of an intent for `a` and the group that ends it.
-fn intent_and_group(alloc: Global) -> Result<String, Fail> {
-    let mut seen = read_record(alloc, b"getmail-seen 2\na 5 1\n")?;
-    if seen.intent().is_some() || seen.first_seen(b"a").is_none() {
-        return Err(Fail::from("a row and no intent"));
-    }
-    let mut bytes = seen.intend(b"a", 49, 24)?;
-    bytes.extend_from_slice(&seen.mark_rows(b"a")?)?;
-    Ok(String::from_utf8_lossy(alloc, bytes.as_slice())?)
-}
-
-#[test]
-fn gives_the_lines_of_an_intent(rt: HostRuntime) -> Result<(), Fail> {
-    let told = intent_and_group(rt.alloc())?;
-    assert_eq!(rt; told.as_str(), "! a 49 24\n+ 1\na 5 1\n");
-    Ok(())
-}
-
 /// The record after an intent for `a` was closed.
 fn closed(alloc: Global, whole: bool) -> Result<String, Fail> {
     let mut seen = read_record(alloc, b"getmail-seen 2\na 5 0\n! a 0 49\n")?;

@@ -72,6 +72,7 @@ fn fetches_five_messages_in_three_sessions(rt: HostRuntime) -> Result<(), Fail> 
             assert_eq!(rt; step.retrieve, fetched.contains(&step.number));
             let place = step.number.saturating_sub(1);
             if step.retrieve && place < listing.len() {
+                assert!(rt; seen.intent().is_none());
                 assert!(rt; seen.mark(listing.uid(place)));
             }
         }
