@@ -18,6 +18,7 @@ mod NewIdLemmas
 mod NumeralLemmas
 mod OccurrenceLemmas
 mod OlderLemmas
+mod OutgrownLemmas
 mod PlanLemmas
 mod ProgressLemmas
 mod ReadLemmas

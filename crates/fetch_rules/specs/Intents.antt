@@ -4,6 +4,7 @@ use Rattle.std.specs.Prelude.{◌≡◌, ◌||◌, true, false, option_map, ℕ,
 use Rattle.fetch_rules.specs.Record.{Row, Intent, Loaded, marked}
 use Rattle.fetch_rules.specs.RecordFile.{Version, One, Two}
 use Rattle.fetch_rules.specs.RecordMeaning.{Means, Rows}
+use Rattle.fetch_rules.specs.Outgrown.{IsOutgrown}
 use Rattle.fetch_rules.specs.declared.seen.OwnedIntent.{OwnedIntent}
 
 -- whether a file of this size ends where the entry would
@@ -40,12 +41,14 @@ abbrev pub is_older : Version → Bool
 is_older One = true
 is_older Two = false
 
--- the record that bytes stand for was read; its file must be written anew where it is of version 1, torn, or has an open intent
+-- the record that bytes stand for was read; its file must be written anew where it is of version 1, torn, has an open intent, or is outgrown
 pub record ReadAs (bytes : List ℕ) (loaded : Loaded) : Type 0 where
   pub version : Version
   pub torn : Bool
   pub means : Means bytes (Rows version loaded.rows loaded.intent torn)
-  pub stale : loaded.stale ≡ (is_older version || (torn || has_intent loaded.intent))
+  pub outgrown : Bool
+  pub grown : IsOutgrown bytes outgrown
+  pub stale : loaded.stale ≡ (is_older version || (torn || (has_intent loaded.intent || outgrown)))
 
 -- the rows once the open intent is ended, whole or not
 abbrev pub closed_rows : Bool → List Row → Option Intent → List Row

@@ -2,6 +2,7 @@ pub mod Due
 pub mod Laws
 pub mod Intents
 pub mod Lines
+pub mod Outgrown
 pub mod Plan
 pub mod Record
 pub mod RecordFile

@@ -51,6 +51,11 @@ after_row Between = Between
 after_row (Within zero) = Between
 after_row (Within (suc more)) = Within more
 
+-- what follows the rows after the header, so far: all of the rest while the next line is among them
+abbrev pub behind_base : Part → List ℕ → List ℕ → List ℕ
+behind_base Base before rest = rest
+behind_base _ before rest = before
+
 -- the intent that is open behind a row that leads into this part
 abbrev pub open_behind : {X : Type 0} → Part → Option X → Option X
 open_behind Between intent = None

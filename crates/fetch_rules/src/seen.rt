@@ -12,6 +12,7 @@ ghost use Rattle.fetch_rules.specs.RecordGrowth.{Updates, OneMeaning, OneRecord,
 mod change;
 mod field;
 mod line;
+mod outgrown;
 mod reading;
 mod row_map;
 
@@ -82,10 +83,10 @@ impl OwnedIntent {
 }
 
 /// Whether nothing may be appended to a file.
-fn is_stale(older: bool, torn: bool, intent: &Option<OwnedIntent>) -> bool
-    ensures { result ≡ (is_older (version_of older) || (torn || has_intent (intent_in intent.now))) }
+fn is_stale(older: bool, torn: bool, intent: &Option<OwnedIntent>, outgrown: bool) -> bool
+    ensures { result ≡ (is_older (version_of older) || (torn || (has_intent (intent_in intent.now) || outgrown))) }
 {
-    older || torn || intent.is_some()
+    older || torn || intent.is_some() || outgrown
 }
 
 /// A copy of an intent that was read.
@@ -167,13 +168,14 @@ impl<H: BuildHasher> Seen<H> {
             self.rows.clear();
             return Err(SeenFault::NoMemory);
         };
-        self.stale = is_stale(found.older, found.torn, &kept);
+        self.stale = is_stale(found.older, found.torn, &kept, found.outgrown);
         self.intent = kept;
         Ok(())
     }
 
-    /// Whether the bytes that were last read were of version 1, had a torn end or an open intent:
-    /// nothing may be appended to their file before it is written anew.
+    /// Whether the bytes that were last read were of version 1, had a torn end or an open intent, or
+    /// were outgrown: more than 65,536 octets, more of them in groups and intents than in the rows
+    /// after the header. Nothing may be appended to their file before it is written anew.
     pub fn needs_rewrite(&self) -> bool
         ensures { result ≡ self.now.stale }
     {

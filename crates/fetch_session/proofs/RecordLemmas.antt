@@ -1,12 +1,12 @@
 -- What saving the record leaves.
 use Rattle.std.proofs.Common.{◌≡◌, ◌≢◌, ◌⊎◌, inl, inr, ℕ, Bool, false, List, [], ◌∷◌, ◌++◌, Option, None, Some, Result, Ok, Err, ◌≤◌, refl, sym, ap, subst, arith, ◌∙◌}
-use Rattle.std.specs.Prelude.{OnOk, ◌==◌, ◌||◌, true, if◌then◌else◌, map, length}
+use Rattle.std.specs.Prelude.{OnOk, ◌==◌, ◌||◌, true, if◌then◌else◌, length}
 use Rattle.std.proofs.lemmas.Bool.{true≢false}
 use Rattle.std.proofs.lemmas.List.{append-nil}
-use Rattle.fetch_rules.specs.Record.{Row, Intent, Held, Loaded, none_open, IntentHasRow, has_row, marked, merged}
+use Rattle.fetch_rules.specs.Record.{Row, Intent, Held, Loaded, none_open, IntentHasRow, has_row, marked}
 use Rattle.fetch_rules.specs.RecordFile.{Version, One, Two, header, file_of}
 use Rattle.fetch_rules.specs.RecordMeaning.{Meaning, Rows, Fault as Faulty, Means, has_bytes, taken}
-use Rattle.fetch_rules.specs.RecordGrowth.{Updates, Opens, Grows, AppendedCounts, CutIsIgnored, taken_all}
+use Rattle.fetch_rules.specs.RecordGrowth.{Updates, Grows, AppendedCounts, CutIsIgnored, taken_all}
 use Rattle.fetch_rules.specs.Intents.{has_intent, is_older, closed_rows, IsNoneOrOf}
 use Rattle.mail_store.specs.FlatFile.{Stored, holding, counted, Appends}
 use Rattle.mail_store.specs.declared.fault.StoreFault.{StoreFault}
@@ -46,11 +46,11 @@ pub steady_keeps : (content : Option (List ℕ)) (held : Held) → Steady conten
 steady_keeps content held steady = means_keeps content Two held false steady
 
 -- what isn't stale is of version 2, isn't torn, and has no open intent
-parts_false : (a b c : Bool) → (a || (b || c)) ≡ false → (a ≡ false) × (b ≡ false) × (c ≡ false)
-parts_false true b c is = absurd (true≢false is)
-parts_false false true c is = absurd (true≢false is)
-parts_false false false true is = absurd (true≢false is)
-parts_false false false false is = (refl, refl, refl)
+parts_false : (a b c d : Bool) → (a || (b || (c || d))) ≡ false → (a ≡ false) × (b ≡ false) × (c ≡ false)
+parts_false true b c d is = absurd (true≢false is)
+parts_false false true c d is = absurd (true≢false is)
+parts_false false false true d is = absurd (true≢false is)
+parts_false false false false d is = (refl, refl, refl)
 
 not_older : (version : Version) → is_older version ≡ false → version ≡ Two
 not_older One is = absurd (true≢false is)
@@ -62,7 +62,7 @@ no_intent (Some intent) is = absurd (true≢false is)
 
 pub read_steady : (content : Option (List ℕ)) (loaded : Loaded) → ReadAs content loaded → loaded.stale ≡ false → Steady content (none_open loaded.rows) × (loaded.intent ≡ None)
 read_steady content loaded is fresh =
-    let parts = parts_false (is_older is.version) is.torn (has_intent loaded.intent) (sym is.stale ∙ fresh) in
+    let parts = parts_false (is_older is.version) is.torn (has_intent loaded.intent) is.outgrown (sym is.stale ∙ fresh) in
     let closed : loaded.intent ≡ None = no_intent loaded.intent parts.2 in (
       subst (λ (i : Option Intent). Means (bytes_in content) (Rows Two loaded.rows i false)) closed
           (subst (λ (t : Bool). Means (bytes_in content) (Rows Two loaded.rows loaded.intent t)) parts.1

@@ -4,11 +4,13 @@ ghost use Rattle.std.specs.Prelude.{◌≡◌, ◌≢◌, ◌≤◌, ◌-◌, �
 ghost use Rattle.fetch_rules.specs.Record.{IsRow, IsIntent, IsRecord, has_row};
 ghost use Rattle.fetch_rules.specs.RecordFile.{Version, One, Two, header};
 ghost use Rattle.fetch_rules.specs.RecordMeaning.{Means, Rows, Fault, has_bytes};
+ghost use Rattle.fetch_rules.specs.Outgrown.{IsOutgrown};
 ghost use Rattle.fetch_rules.specs.Rows.{row_from};
-ghost use Rattle.fetch_rules.specs.Lines.{version_of, intent_seen, open_seen, open_behind, IsPlaced, is_within, after_row, TakesRow, RefusesRow, TakesIntent, RefusesIntent, EndsAt};
+ghost use Rattle.fetch_rules.specs.Lines.{version_of, intent_seen, open_seen, open_behind, behind_base, IsPlaced, is_within, after_row, TakesRow, RefusesRow, TakesIntent, RefusesIntent, EndsAt};
 
 use crate::seen::SeenFault;
 use crate::seen::line::{HEADER, Intent, Line, OLDER_HEADER, ReadRow, read_line};
+use crate::seen::outgrown::is_outgrown;
 use crate::seen::row_map::{RowMap, State};
 use std::hash::BuildHasher;
 
@@ -63,6 +65,17 @@ impl Part {
         }
     }
 
+    /// What follows the rows after the header, so far: all of the rest while the next line is among
+    /// them.
+    fn behind_base<'a>(self, before: &'a [u8], rest: &'a [u8]) -> &'a [u8]
+        ensures { result.now ≡ behind_base self before.now rest.now }
+    {
+        match self {
+            Part::Base => rest,
+            _ => before,
+        }
+    }
+
     /// The intent that is open behind a row that leads into this part.
     fn open_behind(self, intent: Option<Intent<'_>>) -> Option<Intent<'_>>
         ensures { result ≡ open_behind self intent.entry }
@@ -96,6 +109,8 @@ pub(crate) struct Shape<'a> {
     /// The intent that is open.
     pub(crate) intent: Option<Intent<'a>>,
     pub(crate) end: End,
+    /// Whether more was appended than its first rows have.
+    pub(crate) outgrown: bool,
 }
 
 /// The end of a file that doesn't begin with a header's line.
@@ -144,6 +159,7 @@ impl<H: BuildHasher> RowMap<H> {
     ) -> Result<Part, SeenFault>
         requires { IsRow (row_from row.now.uid.now row.now.state) }
         ensures ok { IfOk result (λ next. TakesRow older part self.old (row_from row.now.uid.now row.now.state) next self.new) }
+        ensures part { IfOk result (λ next. next ≡ after_row part) }
         ensures err { IfErr result (λ fault. fault ≢ SeenFault.NoMemory → RefusesRow older part self.old (row_from row.now.uid.now row.now.state) number fault) }
         ensures is_record { IsRecord self.new }
     {
@@ -187,6 +203,7 @@ impl<H: BuildHasher> RowMap<H> {
         requires empty { self.old ≡ [] }
         requires is_record { IsRecord self.old }
         ensures ok { IfOk result (λ shape. EndsAt bytes.now shape.older shape.end (open_seen shape.intent) self.new) }
+        ensures grown { IfOk result (λ shape. IsOutgrown bytes.now shape.outgrown) }
         ensures err { IfErr result (λ fault. fault ≢ SeenFault.NoMemory → Means bytes.now (Fault fault)) }
         ensures is_record { IsRecord self.new }
     {
@@ -196,9 +213,11 @@ impl<H: BuildHasher> RowMap<H> {
                 older: false,
                 intent: None,
                 end,
+                outgrown: false,
             });
         };
         let mut rest = lines;
+        let mut appended = lines;
         let mut number: u32 = 2;
         let mut part = Part::Base;
         let mut intent: Option<Intent<'a>> = None;
@@ -220,30 +239,44 @@ impl<H: BuildHasher> RowMap<H> {
                 }
             }
             rest = behind;
+            appended = part.behind_base(appended, behind);
             number = number.saturating_add(1);
         }
         if rest.contains(&b'\n') {
             return Err(SeenFault::BadRow(number));
         }
         let end = part.end(front, rest);
-        Ok(Shape { older, intent, end })
+        let outgrown = is_outgrown(bytes, lines, appended);
+        Ok(Shape {
+            older,
+            intent,
+            end,
+            outgrown,
+        })
     }
 
     /// Takes the record that a file's bytes stand for in place of the rows. Gives the file's shape, its end
     /// always Counted. After a fault there are some rows or none.
     pub(crate) fn read<'a>(&mut self, bytes: &'a [u8]) -> Result<Found<'a>, SeenFault>
         ensures ok { IfOk result (λ found. Means bytes.now (Rows (version_of found.older) self.new (open_seen found.intent) found.torn)) }
+        ensures grown { IfOk result (λ found. IsOutgrown bytes.now found.outgrown) }
         ensures err { IfErr result (λ fault. fault ≢ SeenFault.NoMemory → Means bytes.now (Fault fault)) }
         ensures is_record { IsRecord self.new }
     {
         self.clear();
         let shape = self.read_lines(bytes)?;
-        let Shape { older, intent, end } = shape;
+        let Shape {
+            older,
+            intent,
+            end,
+            outgrown,
+        } = shape;
         match end {
             End::Counted { torn } => Ok(Found {
                 older,
                 intent,
                 torn,
+                outgrown,
             }),
             End::Open { front } => {
                 // The group's rows don't count: what stands before it is read again.
@@ -253,6 +286,7 @@ impl<H: BuildHasher> RowMap<H> {
                     older,
                     intent,
                     torn: true,
+                    outgrown,
                 })
             }
         }
@@ -268,4 +302,6 @@ pub(crate) struct Found<'a> {
     pub(crate) intent: Option<Intent<'a>>,
     /// Whether something torn follows what counts.
     pub(crate) torn: bool,
+    /// Whether more was appended than its first rows have.
+    pub(crate) outgrown: bool,
 }

@@ -1,8 +1,8 @@
-use Rattle.std.proofs.Common.{◌≡◌, List, ℕ, Option, None, false, inl, sym, ap, subst, ◌∙◌}
-use Rattle.fetch_rules.specs.Record.{Row, Intent, Held, none_open, merged}
+use Rattle.std.proofs.Common.{◌≡◌, List, ℕ, None, false, inl, sym, ap, subst, ◌∙◌}
+use Rattle.fetch_rules.specs.Record.{Row, Held, none_open, merged}
 use Rattle.fetch_rules.specs.RecordGrowth.{Updates}
 use Rattle.fetch_session.specs.Record.{Merges, held_in}
-use Rattle.fetch_session.proofs.RecordLemmas.{GrowsBy, saves_merges, writes_merges, read_keeps, read_steady, not_whole, held_is}
+use Rattle.fetch_session.proofs.RecordLemmas.{saves_merges, writes_merges, read_keeps, read_steady, not_whole, held_is}
 use Rattle.fetch_session.proofs.readiness.take_in.Goals as goal
 
 pub returns-clause-merges : goal.returns-clause-merges

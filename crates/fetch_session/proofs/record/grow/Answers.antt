@@ -1,4 +1,4 @@
-use Rattle.fetch_session.proofs.RecordLemmas.{not_empty, nothing_grows, grown, cut_short}
+use Rattle.fetch_session.proofs.RecordLemmas.{not_empty, grown, cut_short}
 use Rattle.fetch_session.proofs.record.grow.Goals as goal
 
 pub returns-in-Ok : goal.returns-in-Ok

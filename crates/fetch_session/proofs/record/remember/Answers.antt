@@ -1,5 +1,5 @@
-use Rattle.std.proofs.Common.{◌≡◌, List, ℕ, Option, None, inl, sym, subst}
-use Rattle.fetch_rules.specs.Record.{Row, Held, none_open}
+use Rattle.std.proofs.Common.{List, ℕ, None, inl, sym, subst}
+use Rattle.fetch_rules.specs.Record.{Row, none_open}
 use Rattle.fetch_rules.specs.RecordGrowth.{Updates}
 use Rattle.fetch_session.specs.Record.{Saves}
 use Rattle.fetch_session.proofs.RecordLemmas.{saves_steady, none_or_of, mark_begun, marks_grow}

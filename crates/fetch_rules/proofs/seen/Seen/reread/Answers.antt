@@ -10,6 +10,8 @@ returns-clause-rows g c = record {
   version = version_of c.in-Ok.found.older;
   torn = c.in-Ok.found.torn;
   means = subst (λ i. Means c.args.bytes.now (Rows (version_of c.in-Ok.found.older) c.read.new.self i c.in-Ok.found.torn)) (sym (c.in-Ok-keep.ensures)) c.in-Ok.ensures.ok;
+  outgrown = c.in-Ok.found.outgrown;
+  grown = c.in-Ok.ensures.grown;
   stale = c.is_stale-self-inside.ensures;
 }
 

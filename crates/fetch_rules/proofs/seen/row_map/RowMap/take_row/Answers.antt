@@ -1,4 +1,4 @@
-use Rattle.std.proofs.Common.{◌≡◌, ◌∙◌, true, false, sym, subst}
+use Rattle.std.proofs.Common.{◌≡◌, ◌∙◌, refl, true, false, sym, subst}
 use Rattle.std.proofs.lemmas.Bool.{true≢false}
 use Rattle.fetch_rules.specs.Record.{Row, IsRecord}
 use Rattle.fetch_rules.specs.RecordMeaning.{delivers}
@@ -19,6 +19,7 @@ returns-in_default-known g c =
     let row : Row = row_from c.args.row.now.uid.now c.args.row.now.state in
     rw (c.after_row.ensures, c.in_ok-add.ensures.ok) (record {
       ok = takes_new c.args.older c.args.part c.args.self.now row c.in_default.not-Between (has_row-none row.uid c.args.self.now (sym c.state-known.ensures.value ∙ c.in_default-known.is));
+      part = refl;
       err = tt;
       is_record = subst IsRecord c.in_ok-add.ensures.ok c.in_ok-add.ensures.is_record;
     })
@@ -33,6 +34,7 @@ returns-then-not-is_within g c =
     ] in
     record {
       ok = tt;
+      part = tt;
       err = λ differs. refuses_old c.args.older c.args.part c.args.self.now row c.args.number c.in_default.not-Between (has_row-some row.uid c.args.self.now c.in-Some.old known) later;
       is_record = c.state-known.ensures.is_record;
     }
@@ -44,6 +46,7 @@ returns g c =
     rw (c.after_row-2.ensures, c.set_delivered.ensures.rows) (record {
       ok = takes_old c.args.older c.args.part c.args.self.now row (sym c.is_within.ensures ∙ c.if-not-is_within.false) (has_row-some row.uid c.args.self.now c.in-Some.old known)
           (delivers-known c.args.older c.args.self.now row c.in-Some.old c.state-known.ensures.is_record known ∙ sym c.delivers.ensures ∙ c.if-not-delivers.false);
+      part = refl;
       err = tt;
       is_record = subst IsRecord c.set_delivered.ensures.rows c.set_delivered.ensures.is_record;
     })

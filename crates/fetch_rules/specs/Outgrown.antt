@@ -1,0 +1,28 @@
+-- When a record's file has grown so much that it is to be written anew: its groups and intents outweigh the rows after its header.
+use Rattle.std.specs.Prelude.{◌≡◌, ◌≢◌, ◌⊎◌, ℕ, ◌≤◌, ◌<◌, List, ◌++◌, Bool, false, length, flat_map, All, nat_lt}
+use Rattle.fetch_rules.specs.Record.{Row, IsRow}
+use Rattle.fetch_rules.specs.RecordFile.{Version, header, line_of}
+
+-- no row's line stands at the front of the bytes
+abbrev pub BeginsWithNoRow : List ℕ → Type 0
+BeginsWithNoRow rest = (row : Row) (behind : List ℕ) → IsRow row → rest ≢ line_of row ++ behind
+
+-- the bytes are the lines of these rows, and a rest that begins with no row's line
+pub record RowsThen (bytes : List ℕ) (rows : List Row) (rest : List ℕ) : Type 0 where
+  pub each : All IsRow rows
+  pub whole : bytes ≡ flat_map line_of rows ++ rest
+  pub ends : BeginsWithNoRow rest
+
+-- the rows after a file's header, and what was appended since
+pub record IsBase (bytes : List ℕ) (rows : List Row) (appended : List ℕ) : Type 0 where
+  pub version : Version
+  pub lines : List ℕ
+  pub whole : bytes ≡ header version ++ lines
+  pub parts : RowsThen lines rows appended
+
+-- whether the file has more than 65,536 octets, and more of them were appended than its first rows have
+abbrev pub IsOutgrown : List ℕ → Bool → Type 0
+IsOutgrown bytes outgrown =
+    ((length bytes ≤ 65536) × (outgrown ≡ false))
+    ⊎ ((((version : Version) (rest : List ℕ) → bytes ≢ header version ++ rest) × (outgrown ≡ false))
+    ⊎ ((65536 < length bytes) × ((rows : List Row) × (appended : List ℕ) × IsBase bytes rows appended × (outgrown ≡ nat_lt (length (flat_map line_of rows)) (length appended)))))
