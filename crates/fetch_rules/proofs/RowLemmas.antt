@@ -11,8 +11,7 @@ use Rattle.std.proofs.lemmas.List.Elements.{All-from_get_or, recursion_from_All}
 use Rattle.mail_terms.specs.UniqueId.{IsLegalId}
 use Rattle.fetch_rules.specs.Record.{Row, Intent, IsRow, IsRecord, is_of, has_row, marked, with_delivered, is_delivered}
 use Rattle.fetch_rules.specs.RecordFile.{changed, marking, written}
-use Rattle.fetch_rules.specs.Intents.{intent_of, intent_in}
-use Rattle.fetch_rules.specs.declared.seen.OwnedIntent.{OwnedIntent}
+use Rattle.fetch_rules.specs.Intents.{has_intent}
 use Rattle.fetch_rules.specs.Rows.{row_from, row_of, rows_of, state_of, state_in}
 use Rattle.fetch_rules.specs.declared.seen.row_map.State.{State}
 use Rattle.fetch_rules.proofs.IdLemmas.{same_from_test, test_from_same, test_from_other}
@@ -162,13 +161,17 @@ mark_is_written (Some intent) uid rows state is found why = filter-marked uid ro
 pub none_written : (intent : Option Intent) (uid : List ℕ) (rows : List Row) → intent ≡ None → written (marking intent uid rows rows) ≡ []
 none_written intent uid rows none = ap (λ (i : Option Intent). written (marking i uid rows rows)) none ∙ ap written (unchanged rows)
 
-pub none_from_test : (intent : Option OwnedIntent) (none : Bool) → is_some intent ≡ not none → none ≡ true → intent_in intent ≡ None
-none_from_test None none is here = refl
-none_from_test (Some intent) none is here = absurd (true≢false (is ∙ ap not here))
+-- where a mark changes nothing
+pub marked_parts : (delivered : Bool) (intent : Option Intent) (result : Bool) → result ≡ (delivered && not (has_intent intent)) → result ≡ true → (delivered ≡ true) × (intent ≡ None)
+marked_parts true None result is here = (refl, refl)
+marked_parts true (Some intent) result is here = absurd (true≢false (sym here ∙ is))
+marked_parts false None result is here = absurd (true≢false (sym here ∙ is))
+marked_parts false (Some intent) result is here = absurd (true≢false (sym here ∙ is))
 
-pub some_from_test : (intent : Option OwnedIntent) (none : Bool) → is_some intent ≡ not none → none ≡ false → intent_in intent ≢ None
-some_from_test None none is here = absurd (true≢false (sym (is ∙ ap not here)))
-some_from_test (Some intent) none is here = no_some (intent_of intent)
+pub unmarked_parts : (delivered : Bool) (intent : Option Intent) (result : Bool) → result ≡ (delivered && not (has_intent intent)) → result ≡ false → (delivered ≡ false) ⊎ (intent ≢ None)
+unmarked_parts false intent result is here = inl refl
+unmarked_parts true None result is here = absurd (true≢false (sym is ∙ here))
+unmarked_parts true (Some intent) result is here = inr (no_some intent)
   where
     no_some : (i : Intent) → Some i ≢ None
     no_some i e = cc

@@ -1,6 +1,6 @@
 //! The record: which messages of a maildrop were seen, since when, and whether they were delivered.
 
-ghost use Rattle.std.specs.Prelude.{◌≡◌, ◌≢◌, ◌||◌, true, Some, None, length, OnErr, OnOk, IfOk, IfErr};
+ghost use Rattle.std.specs.Prelude.{◌≡◌, ◌≢◌, ◌&&◌, ◌||◌, not, true, Some, None, length, OnErr, OnOk, IfOk, IfErr};
 ghost use Rattle.std.specs.Bool.{OnTrue, OnFalse};
 ghost use Rattle.fetch_rules.specs.Record.{IsRecord, empty, has_row, is_delivered, first_seen_of, marked, merged};
 ghost use Rattle.fetch_rules.specs.Intents.{ReadAs, IsNoneOrOf, intent_of, intent_in, has_intent, is_older, closed_rows};
@@ -87,6 +87,13 @@ fn is_stale(older: bool, torn: bool, intent: &Option<OwnedIntent>, outgrown: boo
     ensures { result ≡ (is_older (version_of older) || (torn || (has_intent (intent_in intent.now) || outgrown))) }
 {
     older || torn || intent.is_some() || outgrown
+}
+
+/// Whether a mark of a row in this state changes nothing: it is delivered, and no intent is open.
+fn has_mark(state: State, intent: &Option<OwnedIntent>) -> bool
+    ensures { result ≡ (state.delivered && not (has_intent (intent_in intent.now))) }
+{
+    state.delivered && intent.is_none()
 }
 
 /// A copy of an intent that was read.
@@ -248,6 +255,13 @@ impl<H: BuildHasher> Seen<H> {
         self.intent = None;
     }
 
+    /// Whether the id has a row.
+    pub fn has_row(&self, uid: &[u8]) -> bool
+        ensures { result ≡ has_row self.now.rows uid.now }
+    {
+        self.rows.has(uid)
+    }
+
     /// Whether the id is recorded as delivered.
     pub fn is_delivered(&self, uid: &[u8]) -> bool
         ensures { result ≡ is_delivered self.now.rows uid.now }
@@ -294,7 +308,7 @@ impl<H: BuildHasher> Seen<H> {
         let Some(state) = self.rows.state(uid) else {
             return Ok(Vec::new(self.alloc));
         };
-        if state.delivered && self.intent.is_none() {
+        if has_mark(state, &self.intent) {
             return Ok(Vec::new(self.alloc));
         }
         let mut line = Vec::new(self.alloc);

@@ -1,16 +1,15 @@
-use Rattle.std.proofs.Common.{◌∙◌, ◌++◌, ◌∷◌, [], ◌≡◌, ◌≢◌, ◌⊎◌, false, inl, inr, sym, ap, subst, refl, List, ℕ, None}
+use Rattle.std.proofs.Common.{◌∙◌, ◌++◌, ◌∷◌, [], inr, sym, ap, subst, refl, List, ℕ, None}
 use Rattle.std.proofs.lemmas.List.{append-nil}
 use Rattle.std.proofs.lemmas.List.Elements.{recursion_from_All}
 use Rattle.fetch_rules.specs.Record.{Row, Loaded, IsRow, marked}
 use Rattle.fetch_rules.specs.RecordFile.{line_of, marking, written}
 use Rattle.fetch_rules.specs.RecordGrowth.{Updates}
 use Rattle.fetch_rules.specs.Intents.{intent_in, IsNoneOrOf}
-use Rattle.fetch_rules.proofs.RowLemmas.{unmarked_none, marked-delivered, none_written, mark_is_written, none_from_test, some_from_test}
+use Rattle.fetch_rules.proofs.RowLemmas.{unmarked_none, marked-delivered, none_written, mark_is_written, marked_parts, unmarked_parts}
 use Rattle.fetch_rules.proofs.TakeLemmas.{has_row-none, has_row-some}
 use Rattle.fetch_rules.proofs.HeldLemmas.{none_without_row, legal_of}
 use Rattle.fetch_rules.proofs.ReadLemmas.{IsGroup-mark, now_delivered}
 use Rattle.fetch_rules.proofs.seen.Seen.mark_rows.Goals as goal
-use Rattle.fetch_rules.proofs.seen.Seen.mark_rows.Goals.{else-state-via-then-state+else-is_none, else-state-via-else-state}
 
 pub returns-in_default-clause-rows : goal.returns-in_default-clause-rows
 returns-in_default-clause-rows g c =
@@ -28,25 +27,27 @@ pub returns-in_default-clause-group : goal.returns-in_default-clause-group
 returns-in_default-clause-group g c =
     c.new.ensures.items ∙ sym (none_written c.args.self.now.intent c.args.uid.now c.args.self.now.rows (returns-in_default-clause-intent g c))
 
-pub returns-then-is_none-clause-rows : goal.returns-then-is_none-clause-rows
-returns-then-is_none-clause-rows g c =
+pub returns-then-has_mark-clause-rows : goal.returns-then-has_mark-clause-rows
+returns-then-has_mark-clause-rows g c =
     ap (λ (loaded : Loaded). loaded.rows) (sym c.self.view_is)
-    ∙ sym (marked-delivered c.args.uid.now c.self.inside.rows c.in-Some.state c.state.ensures.is_record (sym c.in-Some.ensures.value) c.if-state.true)
+    ∙ sym (marked-delivered c.args.uid.now c.self.inside.rows c.in-Some.state c.state.ensures.is_record (sym c.in-Some.ensures.value)
+    (marked_parts c.in-Some.state.delivered (intent_in c.self.inside.intent) c.has_mark.result c.has_mark.ensures c.if-has_mark.true).0)
     ∙ ap (λ (loaded : Loaded). marked loaded.rows c.args.uid.now) c.self.view_is
 
-pub returns-then-is_none-clause-group : goal.returns-then-is_none-clause-group
-returns-then-is_none-clause-group g c =
-    c.new-then-is_none.ensures.items
-    ∙ sym (none_written c.args.self.now.intent c.args.uid.now c.args.self.now.rows
-    (sym (ap (λ (loaded : Loaded). loaded.intent) c.self.view_is) ∙ none_from_test c.self.inside.intent c.is_none.result c.is_none.ensures c.if-is_none.true))
+pub returns-then-has_mark-clause-intent : goal.returns-then-has_mark-clause-intent
+returns-then-has_mark-clause-intent g c =
+    sym (ap (λ (loaded : Loaded). loaded.intent) c.self.view_is)
+    ∙ (marked_parts c.in-Some.state.delivered (intent_in c.self.inside.intent) c.has_mark.result c.has_mark.ensures c.if-has_mark.true).1
+
+pub returns-then-has_mark-clause-group : goal.returns-then-has_mark-clause-group
+returns-then-has_mark-clause-group g c =
+    c.new-then-has_mark.ensures.items
+    ∙ sym (none_written c.args.self.now.intent c.args.uid.now c.args.self.now.rows (returns-then-has_mark-clause-intent g c))
 
 pub returns-clause-group : goal.returns-clause-group
 returns-clause-group g c =
     let row : Row = now_delivered c.args.uid.now c.in-Some.state in
-    let why : (c.in-Some.state.delivered ≡ false) ⊎ (intent_in c.self.inside.intent ≢ None) = elim c.else-state.branch [
-      | else-state-via-then-state+else-is_none w ↦ inr (some_from_test c.self.inside.intent w.is_none.result w.is_none.ensures w.if-is_none.false)
-      | else-state-via-else-state w ↦ inl w.if-state.false
-    ] in
+    let why = unmarked_parts c.in-Some.state.delivered (intent_in c.self.inside.intent) c.has_mark.result c.has_mark.ensures c.if-has_mark.false in
     c.in_ok-group.ensures (row ∷ []) refl
     (append-nil (line_of row) ∙ sym (c.deref.ensures.value ∙ c.in_ok-write_line.ensures ∙ ap (λ (xs : List ℕ). xs ++ line_of row) c.new-line.ensures.items))
     ∙ ap written (sym (mark_is_written (intent_in c.self.inside.intent) c.args.uid.now c.self.inside.rows c.in-Some.state c.state.ensures.is_record (sym c.in-Some.ensures.value) why))
