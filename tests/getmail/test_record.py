@@ -126,6 +126,35 @@ class Records(unittest.TestCase):
         left = self.check_goes_on(given, 2, 3)
         self.assertEqual(left[:len(given)], given)
 
+    def test_an_outgrown_record(self):
+        """A large file with more octets after its first rows than in them is written anew, and stands for the same."""
+        given = files.large_file(65_537, 32_762)
+        rows = grammar.record_of(given).rows
+        for messages in ([], THREE):
+            with self.subTest(messages=len(messages)):
+                self.server.messages = messages
+                self.account.record.write_bytes(given)
+                self.session(*range(1, len(messages) + 1))
+                left = self.account.record.read_bytes()
+                self.assertLess(len(left), len(given))
+                record = grammar.record_of(left)
+                self.assertFalse(record.is_rewritten)
+                new = {uid: record.rows[uid] for uid, _ in messages}
+                self.assertEqual(record.rows, rows | new)
+                self.assertEqual([state for _, state in new.values()], [b"1"] * len(messages))
+                self.assertEqual(left[:left.find(b"+ 1\n") if messages else None].count(b"\n"), 1 + len(record.rows))
+
+    def test_a_large_record_that_is_not_outgrown(self):
+        """One that is a little smaller, or has as many octets in its first rows, is only appended to."""
+        for size, part in ((65_536, 65_521), (65_537, 32_761)):
+            with self.subTest(size=size):
+                given = files.large_file(size, part)
+                self.account.record.write_bytes(given)
+                self.session(1, 2, 3)
+                left = self.account.record.read_bytes()
+                self.assertEqual(left[:len(given)], given)
+                self.empty_maildir()
+
 
 class RandomFiles(unittest.TestCase):
     """A record is written anew if it has to be, its intent closed; of another file the program names the first line that

@@ -1,4 +1,4 @@
-"""Random files of records: good ones, torn ones, and ones with a few mistakes."""
+"""Files of records: random ones, good, torn or with a few mistakes, and large ones."""
 
 # Ids that could be taken for something else, and those as short and as long as they may be.
 IDS = (b"!", b"+", b"a", b"b", b"c", b"~", b"0", b"1", b"5", b"+1", b"!!", b"!a", b"++", b"getmail-seen", b"x" * 70,
@@ -110,3 +110,20 @@ def random_file(source):
     if kind == 3 or source.randrange(12) == 0:
         data = data[:source.randrange(len(data) + 1)]
     return data
+
+
+def row_of(number, octets=20):
+    """A row of so many octets, whose id is this number with zeros before it."""
+    return b"%0*d 5 0\n" % (octets - len(b" 5 0\n"), number)
+
+
+def large_file(size, appended):
+    """A good file of so many octets, at least 24 of them in groups and intents after its first rows."""
+    header = b"getmail-seen 2\n"
+    count, more = divmod(size - len(header) - appended, 20)
+    first_rows = [row_of(number) for number in range(count)]
+    if more:
+        first_rows[-1] = row_of(count, 20 + more)
+    ended, more = divmod(appended - 24, 46)
+    groups = [b"+ 1\n%b! %015d 0 9\n" % (row_of(number), number) for number in range(count + 1, count + 1 + ended)]
+    return b"".join((header, *first_rows, *groups, b"+ 1\n", row_of(count + 1 + ended, 20 + more)))

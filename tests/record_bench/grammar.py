@@ -11,6 +11,9 @@ distinct ids. A row of a group has a new id, or repeats one with the same second
 that wasn't delivered before. The id of an intent has a row. A whole group ends the intent, and only then may another
 one be opened. What an append that was cut can leave counts for nothing: a last line without its LF, and a last group
 that lacks rows, whose rows have to be good nevertheless. No bytes at all are the empty record.
+
+A file is to be written anew before anything is appended to it if it is of version 1, has such an end or an open intent,
+or if it has more than 65,536 octets and what follows the first rows has more octets than these rows.
 """
 
 import re
@@ -23,6 +26,7 @@ ROW = re.compile(ID + rb" " + NUMBER + rb" ([01])")
 GROUP = re.compile(rb"\+ ([1-9][0-9]*)")
 INTENT = re.compile(rb"! " + ID + rb" " + NUMBER + rb" " + NUMBER)
 MOST_ROWS = 100_000
+SMALL = 65_536
 
 
 class Fault(Exception):
@@ -75,6 +79,12 @@ def count_in(line):
     return int(found[1]) if found and int(found[1]) <= MOST_ROWS else None
 
 
+def is_outgrown(data, header, first_rows):
+    """Whether a large file has more octets after its first rows than in them."""
+    octets = sum(len(line) + 1 for line in first_rows)
+    return len(data) > SMALL and len(data) - len(header) - octets > octets
+
+
 def base_rows(lines):
     """The rows after the header."""
     rows = {}
@@ -114,6 +124,7 @@ def record_of(data):
         raise Fault(Fault.BAD_HEADER)
     *lines, torn_line = data[len(header):].split(b"\n")
     rows = base_rows(lines)
+    outgrown = is_outgrown(data, header, lines[:len(rows)])
     intent, is_torn, at = None, bool(torn_line), len(rows)
     while at < len(lines):
         line, count = lines[at], count_in(lines[at])
@@ -131,4 +142,4 @@ def record_of(data):
             at += 1
         else:
             raise Fault(Fault.BAD_ROW, at + 2)
-    return Record(rows, intent, version == 1 or is_torn or intent is not None)
+    return Record(rows, intent, version == 1 or is_torn or intent is not None or outgrown)

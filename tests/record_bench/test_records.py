@@ -57,6 +57,17 @@ class Records(unittest.TestCase):
         for head, group in ((b"+ 100000\n", rows), (b"+ 100001\n", rows + [b"x 0 0\n"]), (b"+ 100000\n", rows[1:])):
             self.check([b"getmail-seen 2\n" + head + b"".join(group)])
 
+    def test_outgrown_records(self):
+        """A file of 65,536 octets is never outgrown, nor one with as many octets in its first rows as after them."""
+        for size in (65_535, 65_536, 65_537, 65_538, 200_015):
+            lines = size - len(b"getmail-seen 2\n")
+            parts = (24, lines // 2 - 1, lines // 2, lines // 2 + 1, lines - 20, lines)
+            records = [files.large_file(size, appended) for appended in parts]
+            self.assertEqual({len(record) for record in records}, {size})
+            self.check(records)
+            rewritten = [answer.split(b"\n")[0] == b"true" for answer in answers(records)]
+            self.assertEqual(rewritten, [size > 65_536 and appended > lines - appended for appended in parts])
+
     def test_random_records(self):
         kinds = collections.Counter()
         for first in range(0, COUNT, AT_ONCE):
