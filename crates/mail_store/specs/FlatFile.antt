@@ -1,6 +1,6 @@
 -- What each call of a file device does, for either outcome, as a relation between what is known of
 -- the file before and after the call.
-use Rattle.std.specs.Prelude.{◌≡◌, ℕ, ◌+◌, ◌≤◌, List, [], ◌∷◌, ◌++◌, length, take, slice_index, Option, Some, None, Result, Ok, Err, ◌⊎◌, Vec}
+use Rattle.std.specs.Prelude.{◌≡◌, ℕ, ◌+◌, ◌≤◌, List, [], ◌∷◌, ◌++◌, length, take, drop, slice_index, Option, Some, None, Result, Ok, Err, ◌⊎◌, Vec}
 use Rattle.mail_store.specs.declared.fault.StoreFault.{StoreFault}
 use Rattle.mail_store.specs.declared.fault.StoreFault.TheVariants.{Missing, Refused, NotMbox, NoMemory}
 use Rattle.mail_store.specs.declared.file.flat_file.Edges.{Edges}
@@ -43,6 +43,17 @@ Loads old (Err fault) new = Denies old fault new
 abbrev pub Measures : Stored → Result Edges StoreFault → Stored → Type 0
 Measures old (Ok edges) new = ((was : List ℕ) × (old.content ≡ Some was) × (edges ≡ edges_of was)) × (new ≡ old)
 Measures old (Err fault) new = Denies old fault new
+
+-- the bytes from a place on, at most so many: none where the place is at or past the end
+abbrev pub piece_at : ℕ → ℕ → List ℕ → List ℕ
+piece_at start len bytes = take len (drop start bytes)
+
+-- `read_at`: the front of the buffer has the file's bytes from a place on, as many as fit, and the answer is how many
+abbrev pub ReadsAt : Stored → ℕ → Result ℕ StoreFault → List ℕ → Stored → Type 0
+ReadsAt old start (Ok count) buf new =
+    ((was : List ℕ) × (old.content ≡ Some was) × (count ≡ length (piece_at start (length buf) was)) × (take count buf ≡ piece_at start (length buf) was))
+    × (new ≡ old)
+ReadsAt old start (Err fault) buf new = Denies old fault new
 
 -- `append`: the bytes stand behind the old ones; a refused call put a front of them there
 abbrev pub Appends : {T : Type 0} → Stored → List ℕ → Result T StoreFault → Stored → Type 0

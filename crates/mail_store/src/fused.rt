@@ -206,10 +206,10 @@ impl<D: MaildirDisk> MaildirDisk for Fused<D> {
 }
 
 impl<D: FlatFile> FlatFile for Fused<D> {
-    ghost use Rattle.std.specs.Prelude.{◌≡◌, ◌<◌, IfErr, IsSome};
+    ghost use Rattle.std.specs.Prelude.{◌≡◌, ◌≤◌, ◌<◌, length, IfErr, IfOk, IsSome};
     ghost use Rattle.mail_terms.specs.FailureCount.{Tallies, refuses, greatest_count};
     ghost use Rattle.mail_store.specs.Fault.{IsDeviceFault};
-    ghost use Rattle.mail_store.specs.FlatFile.{Loads, Measures, Appends, Cuts, Replaces, HasBytes};
+    ghost use Rattle.mail_store.specs.FlatFile.{Loads, Measures, ReadsAt, Appends, Cuts, Replaces, HasBytes};
     ghost use Rattle.mail_store.specs.Fuse.{device_of, passes_left, effect_is_due, refusals, fused_file, FusedIsSound, Burns, AppendsBehind, ReplacesBehind};
 
     ghost stored = { λ f. fused_file D.stored f };
@@ -241,6 +241,21 @@ impl<D: FlatFile> FlatFile for Fused<D> {
         admit(&self.failures)?;
         self.pass()?;
         let answer = self.device.edges();
+        self.tally(answer)
+    }
+
+    fn read_at(&mut self, start: u64, buf: &mut [u8]) -> Result<usize, StoreFault>
+        ensures within { IfOk result (λ count. count ≤ length buf.new) }
+        ensures reads { FusedIsSound D.sound self.new → FusedIsSound D.sound self.old
+            × ReadsAt (fused_file D.stored self.old) start result buf.new (fused_file D.stored self.new) }
+        ensures fault { IfErr result IsDeviceFault }
+        ensures count { Tallies (refuses is_refusal result) (refusals self.old) (refusals self.new) }
+        ensures burns { refusals self.old < greatest_count → Burns (λ d. (D.stored d).failures) self.old result self.new }
+        ensures behind { passes_left self.old ≡ 0 → device_of self.new ≡ device_of self.old }
+    {
+        admit(&self.failures)?;
+        self.pass()?;
+        let answer = self.device.read_at(start, buf);
         self.tally(answer)
     }
 

@@ -15,10 +15,10 @@ pub struct Edges {
 
 /// A device that keeps one file, and that can refuse any call.
 pub trait FlatFile {
-    ghost use Rattle.std.specs.Prelude.{◌≡◌, IfErr, IsSome};
+    ghost use Rattle.std.specs.Prelude.{◌≡◌, ◌≤◌, length, IfErr, IfOk, IsSome};
     ghost use Rattle.mail_terms.specs.FailureCount.{Tallies, refuses};
     ghost use Rattle.mail_store.specs.Fault.{is_refusal, IsDeviceFault};
-    ghost use Rattle.mail_store.specs.FlatFile.{Stored, Loads, Measures, Appends, Cuts, Replaces, HasBytes};
+    ghost use Rattle.mail_store.specs.FlatFile.{Stored, Loads, Measures, ReadsAt, Appends, Cuts, Replaces, HasBytes};
 
     // What is known of the file.
     ghost stored: { Self → Stored };
@@ -39,6 +39,16 @@ pub trait FlatFile {
     fn edges(&mut self) -> Result<Edges, StoreFault>
         ensures measures { sound self.new → sound self.old
             × Measures (stored self.old) result (stored self.new) }
+        ensures fault { IfErr result IsDeviceFault }
+        ensures count { Tallies (refuses is_refusal result) (stored self.old).failures (stored self.new).failures };
+
+    /// Puts the bytes of the file from `start` on at the front of a buffer, and says how many: as many
+    /// as there are and fit, so none where `start` is at or past the end. Missing where there is no
+    /// file, else Refused: the buffer may then hold anything.
+    fn read_at(&mut self, start: u64, buf: &mut [u8]) -> Result<usize, StoreFault>
+        ensures within { IfOk result (λ count. count ≤ length buf.new) }
+        ensures reads { sound self.new → sound self.old
+            × ReadsAt (stored self.old) start result buf.new (stored self.new) }
         ensures fault { IfErr result IsDeviceFault }
         ensures count { Tallies (refuses is_refusal result) (stored self.old).failures (stored self.new).failures };
 

@@ -1,6 +1,6 @@
 //! A file of the file system.
 
-ghost use Rattle.std.specs.Prelude.{◌≡◌, ◌<◌, ◌+◌};
+ghost use Rattle.std.specs.Prelude.{◌≡◌, ◌≤◌, ◌<◌, ◌+◌, length, IfOk};
 ghost use Rattle.mail_terms.specs.FailureCount.{greatest_count};
 
 use crate::fault::StoreFault;
@@ -31,8 +31,8 @@ enum Appending {
 ///
 /// Each write is flushed before it is answered. `replace` writes the bytes to the path with `.tmp` and
 /// the process's mark after it, which its owner alone can read (mode 0600), and renames that file.
-/// Before the first `load` or `edges` tells of the file, it and its name are flushed, so that no loss
-/// of power takes back what an earlier run wrote and this one goes by.
+/// Before the first `load`, `edges` or `read_at` tells of the file, it and its name are flushed, so that
+/// no loss of power takes back what an earlier run wrote and this one goes by.
 #[derive(Drop)]
 pub struct HostFile<'a, R: Files + Clock + AllocGlobal + Clone + Drop> {
     rt: &'a R,
@@ -118,6 +118,20 @@ impl<'a, R: Files + Clock + AllocGlobal + Clone + Drop> HostFile<'a, R> {
         Ok(Edges { size, head, tail })
     }
 
+    fn read_piece(&self, start: u64, buf: &mut [u8]) -> io::Result<usize>
+        ensures { IfOk result (λ count. count ≤ length buf.new) }
+    {
+        let mut file = fs::open(self.rt, self.path.as_str())?;
+        let there = file.metadata()?.len().saturating_sub(start);
+        let count = there.min(buf.len() as u64) as usize;
+        if count > 0 {
+            file.seek(SeekFrom::Start(start))?;
+            file.read_exact(&mut buf[..count])?;
+        }
+        self.flush(&file)?;
+        Ok(count)
+    }
+
     fn append_to(&self, bytes: &[u8]) -> io::Result<()> {
         let mut file = OpenOptions::new()
             .append(true)
@@ -197,6 +211,18 @@ impl<'a, R: Files + Clock + AllocGlobal + Clone + Drop> FlatFile for HostFile<'a
             Ok(edges) => {
                 self.is_flushed = true;
                 Ok(edges)
+            }
+            Err(fault) if fault.kind() == ErrorKind::NotFound => Err(StoreFault::Missing),
+            Err(_) => Err(refuse(&mut self.failures)),
+        }
+    }
+
+    fn read_at(&mut self, start: u64, buf: &mut [u8]) -> Result<usize, StoreFault> {
+        admit(&self.failures)?;
+        match self.read_piece(start, buf) {
+            Ok(count) => {
+                self.is_flushed = true;
+                Ok(count)
             }
             Err(fault) if fault.kind() == ErrorKind::NotFound => Err(StoreFault::Missing),
             Err(_) => Err(refuse(&mut self.failures)),

@@ -1,6 +1,6 @@
 //! A file in memory.
 
-ghost use Rattle.std.specs.Prelude.{◌≡◌, ◌<◌, ◌+◌, [], slice_index, option_map};
+ghost use Rattle.std.specs.Prelude.{◌≡◌, ◌≤◌, ◌<◌, ◌+◌, [], length, drop, take, slice_index, option_map};
 ghost use Rattle.mail_terms.specs.FailureCount.{greatest_count};
 ghost use Rattle.mail_store.specs.FlatFile.{edges_of};
 
@@ -99,11 +99,32 @@ fn edges_of(bytes: &[u8]) -> Edges
     }
 }
 
+/// The bytes from a place on: none where it is at or past the end.
+fn bytes_from(bytes: &[u8], start: u64) -> &[u8]
+    ensures { result.now ≡ drop start bytes.now }
+{
+    if start >= bytes.len() as u64 {
+        return &[];
+    }
+    &bytes[start as usize..]
+}
+
+/// Puts bytes at the front of a buffer, as many as fit, and says how many.
+fn put_in_front(bytes: &[u8], buf: &mut [u8]) -> usize
+    ensures within { result ≤ length buf.new }
+    ensures count { result ≡ length (take (length buf.new) bytes.now) }
+    ensures put { take result buf.new ≡ take (length buf.new) bytes.now }
+{
+    let count = bytes.len().min(buf.len());
+    buf[..count].copy_from_slice(&bytes[..count]);
+    count
+}
+
 impl FlatFile for MemoryFile {
-    ghost use Rattle.std.specs.Prelude.{◌≡◌, ◌≢◌, ◌<◌, IfErr, IsOk};
+    ghost use Rattle.std.specs.Prelude.{◌≡◌, ◌≢◌, ◌≤◌, ◌<◌, length, IfErr, IfOk, IsOk};
     ghost use Rattle.mail_terms.specs.FailureCount.{Tallies, refuses, greatest_count};
     ghost use Rattle.mail_store.specs.Fault.{is_refusal, IsDeviceFault};
-    ghost use Rattle.mail_store.specs.FlatFile.{Measures, Cuts, HasBytes};
+    ghost use Rattle.mail_store.specs.FlatFile.{Measures, ReadsAt, Cuts, HasBytes};
 
     ghost stored = { λ f. f };
 
@@ -131,6 +152,22 @@ impl FlatFile for MemoryFile {
         admit(&self.failures)?;
         match &self.content {
             Some(bytes) => Ok(edges_of(bytes.as_slice())),
+            None => Err(StoreFault::Missing),
+        }
+    }
+
+    // It takes no memory, so below the greatest count it isn't refused.
+    fn read_at(&mut self, start: u64, buf: &mut [u8]) -> Result<usize, StoreFault>
+        ensures within { IfOk result (λ count. count ≤ length buf.new) }
+        ensures reads { self.new.failures < greatest_count → (self.old.failures < greatest_count)
+            × ReadsAt self.old start result buf.new self.new }
+        ensures fault { IfErr result IsDeviceFault }
+        ensures count { Tallies (refuses is_refusal result) self.old.failures self.new.failures }
+        ensures answers { self.old.failures < greatest_count → result ≢ Err StoreFault.Refused }
+    {
+        admit(&self.failures)?;
+        match &self.content {
+            Some(bytes) => Ok(put_in_front(bytes_from(bytes.as_slice(), start), buf)),
             None => Err(StoreFault::Missing),
         }
     }
