@@ -4,26 +4,25 @@
 #![tactic(auto)]
 
 use anyhow::Result;
-use pop3_client::{count, fault_number, list, log_in, next_piece, open, quit};
-use pop3_wire::{LineReader, StreamWire, Wire};
+use pop3_client::{Client, fault_number};
+use pop3_wire::{StreamWire, Wire};
 use std::alloc::Global;
 use std::io;
 
 /// The octets of a message's text.
 fn text_length<W: Wire>(
     alloc: Global,
-    wire: &mut W,
-    reader: &mut LineReader,
+    client: &mut Client<'_, W>,
     number: u32,
 ) -> Result<u64, pop3_client::Fault> {
-    let mut body = open(alloc, wire, reader, number)?;
+    let mut body = client.open(alloc, number)?;
     let mut out = [0u8; 4097];
     let mut length = 0u64;
     for _ in 0..u64::MAX {
         if body.has_ended() {
             break;
         }
-        let piece = next_piece(wire, reader, &mut body, &mut out)?;
+        let piece = client.next_piece(&mut body, &mut out)?;
         length = length.saturating_add(piece.put as u64);
     }
     Ok(length)
@@ -31,15 +30,15 @@ fn text_length<W: Wire>(
 
 /// How many messages there are, and how many octets their texts have together.
 fn fetch_all<W: Wire>(alloc: Global, wire: &mut W) -> Result<(u32, u64), pop3_client::Fault> {
-    let mut reader = LineReader::new();
-    log_in(alloc, wire, &mut reader, b"u", b"p")?;
-    let told = count(wire, &mut reader)?;
-    let listing = list(alloc, wire, &mut reader, told)?;
+    let mut client = Client::new(wire);
+    client.log_in(alloc, b"u", b"p")?;
+    let told = client.count()?;
+    let listing = client.list(alloc, told)?;
     let mut octets = 0u64;
     for index in 0..listing.len() {
-        octets = octets.saturating_add(text_length(alloc, wire, &mut reader, index + 1)?);
+        octets = octets.saturating_add(text_length(alloc, &mut client, index + 1)?);
     }
-    quit(wire, &mut reader)?;
+    client.quit()?;
     Ok((listing.len(), octets))
 }
 

@@ -1,7 +1,7 @@
 //! One session, from its greeting to its end.
 ghost use Rattle.std.specs.Prelude.{◌≡◌, ◌≤◌, ◌+◌, ◌*◌, [], None, length};
+ghost use Rattle.pop3_client.specs.Client.{HasSameLink, link_of, place_of};
 ghost use Rattle.std.specs.Vec.{vec_len};
-ghost use Rattle.pop3_wire.specs.Place.{at};
 ghost use Rattle.rc_file.specs.Settings.{IsValid};
 ghost use Rattle.mail_store.specs.FileName.{IsAccountText};
 ghost use Rattle.fetch_session.specs.Scene.{WhereAllSound};
@@ -19,8 +19,8 @@ use crate::report::{Outcome, Report, ReportLine, report_of};
 use crate::tail::leave;
 use fetch_rules::{Seen, Settings};
 use mail_store::{AccountId, FlatFile, MaildirDisk};
-use pop3_client::conversations_are_paced;
-use pop3_wire::{LineReader, Wire};
+use pop3_client::{Client, conversations_are_paced};
+use pop3_wire::Wire;
 use std::alloc::Global;
 use std::hash::BuildHasher;
 use std::vec::Vec;
@@ -51,8 +51,7 @@ fn proceed<W: Wire, D: MaildirDisk, F: FlatFile, H: BuildHasher>(
     alloc: Global,
     settings: &Settings,
     account: &AccountId,
-    wire: &mut W,
-    reader: &mut LineReader,
+    client: &mut Client<'_, W>,
     disk: &mut D,
     file: &mut F,
     seen: &mut Seen<H>,
@@ -63,17 +62,18 @@ fn proceed<W: Wire, D: MaildirDisk, F: FlatFile, H: BuildHasher>(
     requires digits { IsAccountText account.now }
     requires calm { D.sound disk.old → (D.maildir disk.old).begun ≡ None }
     requires nothing { (notes.old.total ≡ 0) × (notes.old.skipped ≡ 0) × (notes.old.lines.items ≡ []) × (vec_len notes.old.lines ≡ 0) }
-    ensures counted { RefusesTillCut (W.seen wire.old) result (W.seen wire.new) }
+    ensures link { HasSameLink client.old client.new }
+    ensures counted { RefusesTillCut (link_of W.Wire client.old) result (link_of W.Wire client.new) }
     ensures few { vec_len notes.new.lines ≤ 200000 }
     ensures calm { D.sound disk.new → D.sound disk.old × ((D.maildir disk.new).begun ≡ None) }
-    ensures proceeds { WhereAllSound W.sound W.leads_to D.sound F.sound wire.old wire.new disk.old disk.new file.old file.new
-        (Proceeds settings.now account.now now (at (W.seen wire.old) reader.old) (kept (D.maildir disk.old) (F.stored file.old)) result
-        (at (W.seen wire.new) reader.new) (kept (D.maildir disk.new) (F.stored file.new)) (noted notes.new.total notes.new.skipped notes.new.lines.items)) }
-    ensures took { W.sound wire.new → W.sound wire.old
-        × TookWithTail (opening_limit + (notes.new.total * step_limit + tail_limit)) (at (W.seen wire.old) reader.old) result (at (W.seen wire.new) reader.new) }
+    ensures proceeds { WhereAllSound W.sound W.leads_to D.sound F.sound client.old.wire.now client.new.wire.now disk.old disk.new file.old file.new
+        (Proceeds settings.now account.now now (place_of W.Wire client.old) (kept (D.maildir disk.old) (F.stored file.old)) result
+        (place_of W.Wire client.new) (kept (D.maildir disk.new) (F.stored file.new)) (noted notes.new.total notes.new.skipped notes.new.lines.items)) }
+    ensures took { W.sound client.new.wire.now → W.sound client.old.wire.now
+        × TookWithTail (opening_limit + (notes.new.total * step_limit + tail_limit)) (place_of W.Wire client.old) result (place_of W.Wire client.new) }
 {
     conversations_are_paced();
-    let listing = match enter(alloc, settings, wire, reader) {
+    let listing = match enter(alloc, settings, client) {
         Ok(listing) => listing,
         Err(fault) => return Err(plain(told(fault))),
     };
@@ -85,8 +85,7 @@ fn proceed<W: Wire, D: MaildirDisk, F: FlatFile, H: BuildHasher>(
         alloc,
         settings,
         account,
-        wire,
-        reader,
+        client,
         disk,
         file,
         seen,
@@ -95,6 +94,50 @@ fn proceed<W: Wire, D: MaildirDisk, F: FlatFile, H: BuildHasher>(
         &listing,
         now,
     )
+}
+
+/// Runs one session of an account over a client for which nothing waits.
+fn session_over<W: Wire, D: MaildirDisk, F: FlatFile, H: BuildHasher>(
+    account: &mut Account<D, F, H>,
+    client: &mut Client<'_, W>,
+    now: u64,
+) -> Report
+    requires { client.old.reader ≡ [] }
+    ensures link { HasSameLink client.old client.new }
+    ensures counted { RefusesByOutcome (link_of W.Wire client.old) result.outcome (link_of W.Wire client.new) }
+    ensures settings { account.new.settings ≡ account.old.settings }
+    ensures session { WhereAllSound W.sound W.leads_to D.sound F.sound client.old.wire.now client.new.wire.now
+        account.old.disk account.new.disk account.old.file account.new.file
+        (Session account.old.settings (digits_of account.old.settings) now (link_of W.Wire client.old)
+        (kept (D.maildir account.old.disk) (F.stored account.old.file)) result (link_of W.Wire client.new)
+        (kept (D.maildir account.new.disk) (F.stored account.new.file))) }
+    ensures bounded { W.sound client.new.wire.now
+        → GotAtMost (session_limit result.total) (link_of W.Wire client.old) (link_of W.Wire client.new) }
+{
+    conversations_are_paced();
+    let mut notes = Notes {
+        total: 0,
+        skipped: 0,
+        lines: Vec::new(account.alloc),
+    };
+    if let Err(cut) = proceed(
+        account.alloc,
+        &account.settings,
+        &account.id,
+        client,
+        &mut account.disk,
+        &mut account.seen_file,
+        &mut account.seen,
+        &mut notes,
+        now,
+    ) {
+        let outcome = Outcome::Cut(cut.fault);
+        leave(client, cut);
+        prove!(client.waiting().len() <= 4096);
+        return tell(outcome, notes);
+    }
+    prove!(client.waiting().len() <= 4096);
+    tell(Outcome::Ended, notes)
 }
 
 /// Runs one session of an account over a link: it logs in, lists, stores what is wanted and isn't
@@ -111,36 +154,14 @@ pub fn session<W: Wire, D: MaildirDisk, F: FlatFile, H: BuildHasher>(
 ) -> Report
     ensures counted { RefusesByOutcome (W.seen wire.old) result.outcome (W.seen wire.new) }
     ensures settings { account.new.settings ≡ account.old.settings }
-    ensures session { WhereAllSound W.sound W.leads_to D.sound F.sound wire.old wire.new account.old.disk account.new.disk account.old.file account.new.file
-        (Session account.old.settings (digits_of account.old.settings) now (W.seen wire.old) (kept (D.maildir account.old.disk) (F.stored account.old.file))
-        result (W.seen wire.new) (kept (D.maildir account.new.disk) (F.stored account.new.file))) }
+    ensures session { WhereAllSound W.sound W.leads_to D.sound F.sound wire.old wire.new
+        account.old.disk account.new.disk account.old.file account.new.file
+        (Session account.old.settings (digits_of account.old.settings) now (W.seen wire.old)
+        (kept (D.maildir account.old.disk) (F.stored account.old.file)) result (W.seen wire.new)
+        (kept (D.maildir account.new.disk) (F.stored account.new.file))) }
     ensures bounded { W.sound wire.new
         → GotAtMost (session_limit result.total) (W.seen wire.old) (W.seen wire.new) }
 {
-    conversations_are_paced();
-    let mut reader = LineReader::new();
-    let mut notes = Notes {
-        total: 0,
-        skipped: 0,
-        lines: Vec::new(account.alloc),
-    };
-    if let Err(cut) = proceed(
-        account.alloc,
-        &account.settings,
-        &account.id,
-        wire,
-        &mut reader,
-        &mut account.disk,
-        &mut account.seen_file,
-        &mut account.seen,
-        &mut notes,
-        now,
-    ) {
-        let outcome = Outcome::Cut(cut.fault);
-        leave(wire, &mut reader, cut);
-        prove!(reader.waiting().len() <= 4096);
-        return tell(outcome, notes);
-    }
-    prove!(reader.waiting().len() <= 4096);
-    tell(Outcome::Ended, notes)
+    let mut client = Client::new(wire);
+    session_over(account, &mut client, now)
 }

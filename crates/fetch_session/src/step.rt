@@ -1,7 +1,7 @@
 //! What is done with each message.
 ghost use Rattle.std.specs.Prelude.{◌≡◌, ◌*◌, ℕ, List, None, false, length, OnOk};
+ghost use Rattle.pop3_client.specs.Client.{HasSameLink, place_of, link_of};
 ghost use Rattle.pop3_wire.specs.Link.{WhereSound};
-ghost use Rattle.pop3_wire.specs.Place.{at};
 ghost use Rattle.pop3_client.specs.Turns.{most, retr, dele};
 ghost use Rattle.mail_terms.specs.UniqueId.{IsLegalId};
 ghost use Rattle.mail_store.specs.FileName.{is_held, name_of, IsAccountText};
@@ -24,8 +24,8 @@ use fetch_rules::{Listing, Seen, Step};
 use mail_store::{
     AccountId, FlatFile, MaildirDisk, file_name, one_more_is_held, unheld_ids_are_not_in_new,
 };
-use pop3_client::{conversations_are_paced, delete, open};
-use pop3_wire::{LineReader, Wire};
+use pop3_client::{Client, conversations_are_paced};
+use pop3_wire::Wire;
 use std::alloc::Global;
 use std::hash::BuildHasher;
 use std::vec::Vec;
@@ -33,8 +33,7 @@ use std::vec::Vec;
 /// Takes one text: it is read, stored and marked.
 pub fn take<W: Wire, D: MaildirDisk, F: FlatFile, H: BuildHasher>(
     alloc: Global,
-    wire: &mut W,
-    reader: &mut LineReader,
+    client: &mut Client<'_, W>,
     disk: &mut D,
     file: &mut F,
     account: &AccountId,
@@ -50,18 +49,19 @@ pub fn take<W: Wire, D: MaildirDisk, F: FlatFile, H: BuildHasher>(
     requires closed { seen.old.intent ≡ None }
     requires calm { D.sound disk.old → (D.maildir disk.old).begun ≡ None }
     requires free { D.sound disk.old → is_held account.now (D.maildir disk.old) uid.now ≡ false }
-    ensures counted { RefusesTillCut (W.seen wire.old) result (W.seen wire.new) }
+    ensures link { HasSameLink client.old client.new }
+    ensures counted { RefusesTillCut (link_of W.Wire client.old) result (link_of W.Wire client.new) }
     ensures few { Adds lines.old 1 lines.new }
     ensures steady { F.sound file.new → F.sound file.old × OnOk result (Steady (F.stored file.new).content (none_open seen.new.rows)) }
     ensures closed { OnOk result (seen.new.intent ≡ None) }
     ensures grows { D.sound disk.new → D.sound disk.old
         × Grows (name_of account.now uid.now) (D.maildir disk.old) (D.maildir disk.new) }
-    ensures takes { WhereAllSound W.sound W.leads_to D.sound F.sound wire.old wire.new disk.old disk.new file.old file.new
+    ensures takes { WhereAllSound W.sound W.leads_to D.sound F.sound client.old.wire.now client.new.wire.now disk.old disk.new file.old file.new
         (TakesTask account.now (stores number uid.now)
-        (scene (at (W.seen wire.old) reader.old) (D.maildir disk.old) (F.stored file.old) seen.old.rows lines.old.items) result
-        (scene (at (W.seen wire.new) reader.new) (D.maildir disk.new) (F.stored file.new) seen.new.rows lines.new.items)) }
-    ensures took { W.sound wire.new → W.sound wire.old
-        × TookTillCut (most (retr number)) (at (W.seen wire.old) reader.old) result (at (W.seen wire.new) reader.new) }
+        (scene (place_of W.Wire client.old) (D.maildir disk.old) (F.stored file.old) seen.old.rows lines.old.items) result
+        (scene (place_of W.Wire client.new) (D.maildir disk.new) (F.stored file.new) seen.new.rows lines.new.items)) }
+    ensures took { W.sound client.new.wire.now → W.sound client.old.wire.now
+        × TookTillCut (most (retr number)) (place_of W.Wire client.old) result (place_of W.Wire client.new) }
 {
     conversations_are_paced();
     unheld_ids_are_not_in_new();
@@ -69,11 +69,11 @@ pub fn take<W: Wire, D: MaildirDisk, F: FlatFile, H: BuildHasher>(
         Ok(name) => name,
         Err(_) => return Err(plain(Fault::NoMemory)),
     };
-    let body = match open(alloc, wire, reader, number) {
+    let body = match client.open(alloc, number) {
         Ok(body) => body,
         Err(fault) => return Err(plain(told(fault))),
     };
-    let length = match store_text(wire, reader, disk, name.as_str(), body) {
+    let length = match store_text(client, disk, name.as_str(), body) {
         Ok(length) => length,
         Err(cut) => return Err(cut),
     };
@@ -87,28 +87,28 @@ pub fn take<W: Wire, D: MaildirDisk, F: FlatFile, H: BuildHasher>(
 /// Takes one text that is held already: it is read.
 fn reread<W: Wire>(
     alloc: Global,
-    wire: &mut W,
-    reader: &mut LineReader,
+    client: &mut Client<'_, W>,
     lines: &mut Vec<ReportLine>,
     number: u32,
 ) -> Result<(), Cut>
     requires room { HasRoom lines.old 1 }
-    ensures counted { RefusesTillCut (W.seen wire.old) result (W.seen wire.new) }
+    ensures link { HasSameLink client.old client.new }
+    ensures counted { RefusesTillCut (link_of W.Wire client.old) result (link_of W.Wire client.new) }
     ensures few { Adds lines.old 1 lines.new }
     ensures rereads { (account uid : List ℕ) (maildir : Maildir) (file : Stored) (rows : List Row)
-        → WhereSound W.sound W.leads_to wire.old wire.new
+        → WhereSound W.sound W.leads_to client.old.wire.now client.new.wire.now
         (TakesTask account (rereads number uid)
-        (scene (at (W.seen wire.old) reader.old) maildir file rows lines.old.items) result
-        (scene (at (W.seen wire.new) reader.new) maildir file rows lines.new.items)) }
-    ensures took { W.sound wire.new → W.sound wire.old
-        × TookTillCut (most (retr number)) (at (W.seen wire.old) reader.old) result (at (W.seen wire.new) reader.new) }
+        (scene (place_of W.Wire client.old) maildir file rows lines.old.items) result
+        (scene (place_of W.Wire client.new) maildir file rows lines.new.items)) }
+    ensures took { W.sound client.new.wire.now → W.sound client.old.wire.now
+        × TookTillCut (most (retr number)) (place_of W.Wire client.old) result (place_of W.Wire client.new) }
 {
     conversations_are_paced();
-    let body = match open(alloc, wire, reader, number) {
+    let body = match client.open(alloc, number) {
         Ok(body) => body,
         Err(fault) => return Err(plain(told(fault))),
     };
-    match pass_text(wire, reader, body) {
+    match pass_text(client, body) {
         Ok(length) => {
             note(lines, ReportLine::Held { number, length });
             Ok(())
@@ -120,28 +120,28 @@ fn reread<W: Wire>(
 /// Deletes a message, where that is planned.
 fn delete_if<W: Wire>(
     alloc: Global,
-    wire: &mut W,
-    reader: &mut LineReader,
+    client: &mut Client<'_, W>,
     lines: &mut Vec<ReportLine>,
     wanted: bool,
     number: u32,
 ) -> Result<(), Cut>
     requires room { HasRoom lines.old 1 }
-    ensures counted { RefusesTillCut (W.seen wire.old) result (W.seen wire.new) }
+    ensures link { HasSameLink client.old client.new }
+    ensures counted { RefusesTillCut (link_of W.Wire client.old) result (link_of W.Wire client.new) }
     ensures few { Adds lines.old 1 lines.new }
     ensures deletes { (account : List ℕ) (maildir : Maildir) (file : Stored) (rows : List Row)
-        → WhereSound W.sound W.leads_to wire.old wire.new
+        → WhereSound W.sound W.leads_to client.old.wire.now client.new.wire.now
         (Does account (deleting wanted number)
-        (scene (at (W.seen wire.old) reader.old) maildir file rows lines.old.items) result
-        (scene (at (W.seen wire.new) reader.new) maildir file rows lines.new.items)) }
-    ensures took { W.sound wire.new → W.sound wire.old
-        × TookTillCut (most (dele number)) (at (W.seen wire.old) reader.old) result (at (W.seen wire.new) reader.new) }
+        (scene (place_of W.Wire client.old) maildir file rows lines.old.items) result
+        (scene (place_of W.Wire client.new) maildir file rows lines.new.items)) }
+    ensures took { W.sound client.new.wire.now → W.sound client.old.wire.now
+        × TookTillCut (most (dele number)) (place_of W.Wire client.old) result (place_of W.Wire client.new) }
 {
     conversations_are_paced();
     if !wanted {
         return Ok(());
     }
-    match delete(alloc, wire, reader, number) {
+    match client.delete(alloc, number) {
         Ok(()) => {
             note(lines, ReportLine::Deleted { number });
             Ok(())
@@ -153,8 +153,7 @@ fn delete_if<W: Wire>(
 /// Fetches a message, where that is planned, and stores it where it isn't held.
 fn fetch_if<W: Wire, D: MaildirDisk, F: FlatFile, H: BuildHasher>(
     alloc: Global,
-    wire: &mut W,
-    reader: &mut LineReader,
+    client: &mut Client<'_, W>,
     disk: &mut D,
     file: &mut F,
     account: &AccountId,
@@ -172,18 +171,19 @@ fn fetch_if<W: Wire, D: MaildirDisk, F: FlatFile, H: BuildHasher>(
     requires closed { seen.old.intent ≡ None }
     requires calm { D.sound disk.old → (D.maildir disk.old).begun ≡ None }
     requires free { D.sound disk.old → AreFresh account.now (D.maildir disk.old) (ids_ahead (fetching step.retrieve held step.number uid.now size)) }
-    ensures counted { RefusesTillCut (W.seen wire.old) result (W.seen wire.new) }
+    ensures link { HasSameLink client.old client.new }
+    ensures counted { RefusesTillCut (link_of W.Wire client.old) result (link_of W.Wire client.new) }
     ensures few { Adds lines.old 1 lines.new }
     ensures steady { F.sound file.new → F.sound file.old × OnOk result (Steady (F.stored file.new).content (none_open seen.new.rows)) }
     ensures closed { OnOk result (seen.new.intent ≡ None) }
     ensures grows { D.sound disk.new → D.sound disk.old
         × GrowsBy account.now (ids_ahead (fetching step.retrieve held step.number uid.now size)) (D.maildir disk.old) (D.maildir disk.new) }
-    ensures does { WhereAllSound W.sound W.leads_to D.sound F.sound wire.old wire.new disk.old disk.new file.old file.new
+    ensures does { WhereAllSound W.sound W.leads_to D.sound F.sound client.old.wire.now client.new.wire.now disk.old disk.new file.old file.new
         (Does account.now (fetching step.retrieve held step.number uid.now size)
-        (scene (at (W.seen wire.old) reader.old) (D.maildir disk.old) (F.stored file.old) seen.old.rows lines.old.items) result
-        (scene (at (W.seen wire.new) reader.new) (D.maildir disk.new) (F.stored file.new) seen.new.rows lines.new.items)) }
-    ensures took { W.sound wire.new → W.sound wire.old
-        × TookTillCut (most (retr step.number)) (at (W.seen wire.old) reader.old) result (at (W.seen wire.new) reader.new) }
+        (scene (place_of W.Wire client.old) (D.maildir disk.old) (F.stored file.old) seen.old.rows lines.old.items) result
+        (scene (place_of W.Wire client.new) (D.maildir disk.new) (F.stored file.new) seen.new.rows lines.new.items)) }
+    ensures took { W.sound client.new.wire.now → W.sound client.old.wire.now
+        × TookTillCut (most (retr step.number)) (place_of W.Wire client.old) result (place_of W.Wire client.new) }
 {
     let number = step.number;
     if !step.retrieve {
@@ -191,18 +191,15 @@ fn fetch_if<W: Wire, D: MaildirDisk, F: FlatFile, H: BuildHasher>(
         return Ok(());
     }
     if held {
-        return reread(alloc, wire, reader, lines, number);
+        return reread(alloc, client, lines, number);
     }
-    take(
-        alloc, wire, reader, disk, file, account, seen, lines, number, uid,
-    )
+    take(alloc, client, disk, file, account, seen, lines, number, uid)
 }
 
 /// Does one planned step.
 fn do_step<W: Wire, D: MaildirDisk, F: FlatFile, H: BuildHasher>(
     alloc: Global,
-    wire: &mut W,
-    reader: &mut LineReader,
+    client: &mut Client<'_, W>,
     disk: &mut D,
     file: &mut F,
     account: &AccountId,
@@ -220,32 +217,32 @@ fn do_step<W: Wire, D: MaildirDisk, F: FlatFile, H: BuildHasher>(
     requires closed { seen.old.intent ≡ None }
     requires calm { D.sound disk.old → (D.maildir disk.old).begun ≡ None }
     requires free { D.sound disk.old → AreFresh account.now (D.maildir disk.old) (ids_ahead (fetching step.retrieve held step.number uid.now size)) }
-    ensures counted { RefusesTillCut (W.seen wire.old) result (W.seen wire.new) }
+    ensures link { HasSameLink client.old client.new }
+    ensures counted { RefusesTillCut (link_of W.Wire client.old) result (link_of W.Wire client.new) }
     ensures few { Adds lines.old 2 lines.new }
     ensures steady { F.sound file.new → F.sound file.old × OnOk result (Steady (F.stored file.new).content (none_open seen.new.rows)) }
     ensures closed { OnOk result (seen.new.intent ≡ None) }
     ensures grows { D.sound disk.new → D.sound disk.old
         × GrowsBy account.now (ids_ahead (fetching step.retrieve held step.number uid.now size)) (D.maildir disk.old) (D.maildir disk.new) }
-    ensures does { WhereAllSound W.sound W.leads_to D.sound F.sound wire.old wire.new disk.old disk.new file.old file.new
+    ensures does { WhereAllSound W.sound W.leads_to D.sound F.sound client.old.wire.now client.new.wire.now disk.old disk.new file.old file.new
         (Does account.now (tasks_in step (record { uid = uid.now; size = size }) held)
-        (scene (at (W.seen wire.old) reader.old) (D.maildir disk.old) (F.stored file.old) seen.old.rows lines.old.items) result
-        (scene (at (W.seen wire.new) reader.new) (D.maildir disk.new) (F.stored file.new) seen.new.rows lines.new.items)) }
-    ensures took { W.sound wire.new → W.sound wire.old
-        × TookTillCut step_limit (at (W.seen wire.old) reader.old) result (at (W.seen wire.new) reader.new) }
+        (scene (place_of W.Wire client.old) (D.maildir disk.old) (F.stored file.old) seen.old.rows lines.old.items) result
+        (scene (place_of W.Wire client.new) (D.maildir disk.new) (F.stored file.new) seen.new.rows lines.new.items)) }
+    ensures took { W.sound client.new.wire.now → W.sound client.old.wire.now
+        × TookTillCut step_limit (place_of W.Wire client.old) result (place_of W.Wire client.new) }
 {
     if let Err(cut) = fetch_if(
-        alloc, wire, reader, disk, file, account, seen, lines, step, uid, size, held,
+        alloc, client, disk, file, account, seen, lines, step, uid, size, held,
     ) {
         return Err(cut);
     }
-    delete_if(alloc, wire, reader, lines, step.delete, step.number)
+    delete_if(alloc, client, lines, step.delete, step.number)
 }
 
 /// Does the planned steps, as far as goes well.
 pub fn do_steps<W: Wire, D: MaildirDisk, F: FlatFile, H: BuildHasher>(
     alloc: Global,
-    wire: &mut W,
-    reader: &mut LineReader,
+    client: &mut Client<'_, W>,
     disk: &mut D,
     file: &mut F,
     account: &AccountId,
@@ -263,23 +260,23 @@ pub fn do_steps<W: Wire, D: MaildirDisk, F: FlatFile, H: BuildHasher>(
     requires closed { seen.old.intent ≡ None }
     requires calm { D.sound disk.old → (D.maildir disk.old).begun ≡ None }
     requires free { D.sound disk.old → AreFresh account.now (D.maildir disk.old) (ids_ahead (tasks_planned steps.now listing.now held.now)) }
-    ensures counted { RefusesTillCut (W.seen wire.old) result (W.seen wire.new) }
+    ensures link { HasSameLink client.old client.new }
+    ensures counted { RefusesTillCut (link_of W.Wire client.old) result (link_of W.Wire client.new) }
     ensures few { Adds lines.old (2 * length listing.now) lines.new }
     ensures calm { D.sound disk.new → D.sound disk.old × ((D.maildir disk.new).begun ≡ None) }
-    ensures does { WhereAllSound W.sound W.leads_to D.sound F.sound wire.old wire.new disk.old disk.new file.old file.new
+    ensures does { WhereAllSound W.sound W.leads_to D.sound F.sound client.old.wire.now client.new.wire.now disk.old disk.new file.old file.new
         (Does account.now (tasks_planned steps.now listing.now held.now)
-        (scene (at (W.seen wire.old) reader.old) (D.maildir disk.old) (F.stored file.old) seen.old.rows lines.old.items) result
-        (scene (at (W.seen wire.new) reader.new) (D.maildir disk.new) (F.stored file.new) seen.new.rows lines.new.items)) }
-    ensures took { W.sound wire.new → W.sound wire.old
-        × TookTillCut (length listing.now * step_limit) (at (W.seen wire.old) reader.old) result (at (W.seen wire.new) reader.new) }
+        (scene (place_of W.Wire client.old) (D.maildir disk.old) (F.stored file.old) seen.old.rows lines.old.items) result
+        (scene (place_of W.Wire client.new) (D.maildir disk.new) (F.stored file.new) seen.new.rows lines.new.items)) }
+    ensures took { W.sound client.new.wire.now → W.sound client.old.wire.now
+        × TookTillCut (length listing.now * step_limit) (place_of W.Wire client.old) result (place_of W.Wire client.new) }
 {
     one_more_is_held();
     for i in 0..listing.len() {
         let place = i as usize;
         if let Err(cut) = do_step(
             alloc,
-            wire,
-            reader,
+            client,
             disk,
             file,
             account,

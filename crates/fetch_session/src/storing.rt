@@ -1,19 +1,19 @@
 //! How a text is taken: stored, or passed over where it is held already.
 ghost use Rattle.std.specs.Prelude.{◌≡◌, ◌≢◌, ◌≤◌, ℕ, List, [], None, IsSome, Some};
-ghost use Rattle.pop3_wire.specs.Link.{CountsRefusal, WhereSound};
-ghost use Rattle.pop3_wire.specs.Place.{Place, at};
+ghost use Rattle.pop3_client.specs.Client.{HasSameLink, CountsRefusals, place_of, link_of};
+ghost use Rattle.pop3_wire.specs.Link.{WhereSound};
+ghost use Rattle.pop3_wire.specs.Place.{Place};
 ghost use Rattle.pop3_wire.specs.declared.unstuffer.Spot.TheVariants.{Done};
 ghost use Rattle.pop3_client.specs.Turns.{retr};
 ghost use Rattle.pop3_client.specs.Texts.{Fetching};
 ghost use Rattle.mail_store.specs.Maildir.{File, IsInNew, file};
-ghost use Rattle.pop3_client.specs.Conversation.{is_refusal};
 ghost use Rattle.fetch_session.specs.Refusal.{RefusesTillCut};
 ghost use Rattle.fetch_session.specs.Store.{Starts, Puts, Ends, StoresText, ReadsText, PassesText};
 
 use crate::fault::{Cut, Fault, Why, plain, told};
 use mail_store::{MaildirDisk, StoreFault};
-use pop3_client::{Fault as TalkFault, next_piece};
-use pop3_wire::{BodyReader, LineReader, Wire};
+use pop3_client::{Client, Fault as TalkFault};
+use pop3_wire::{BodyReader, Wire};
 
 /// Begins an empty file of this name.
 fn begin_file<D: MaildirDisk>(disk: &mut D, name: &str) -> Result<(), Fault>
@@ -63,8 +63,7 @@ fn settle_file<D: MaildirDisk>(disk: &mut D) -> Result<(), Fault>
 /// Takes a text that is under way, stores it piece by piece under a name, and says how long it is,
 /// in bytes, lines ended by LF. It goes through two arrays, and is never kept whole.
 pub(crate) fn store_text<W: Wire, D: MaildirDisk>(
-    wire: &mut W,
-    reader: &mut LineReader,
+    client: &mut Client<'_, W>,
     disk: &mut D,
     name: &str,
     body: BodyReader,
@@ -73,15 +72,16 @@ pub(crate) fn store_text<W: Wire, D: MaildirDisk>(
     requires within { body.left ≤ 268435456 }
     requires calm { D.sound disk.old → (D.maildir disk.old).begun ≡ None }
     requires not_there { D.sound disk.old → IsInNew (D.maildir disk.old) name.now → ⊥ }
-    ensures counted { RefusesTillCut (W.seen wire.old) result (W.seen wire.new) }
+    ensures link { HasSameLink client.old client.new }
+    ensures counted { RefusesTillCut (link_of W.Wire client.old) result (link_of W.Wire client.new) }
     ensures stores { D.sound disk.new → D.sound disk.old
         × ((text : List ℕ) × StoresText name.now (D.maildir disk.old) text result (D.maildir disk.new)
-        × WhereSound W.sound W.leads_to wire.old wire.new
-        ((number : ℕ) (start : Place) → Fetching (retr number) start (at (W.seen wire.old) reader.old) body []
-        → ReadsText number start text result (at (W.seen wire.new) reader.new))) }
-    ensures reads { W.sound wire.new → W.sound wire.old
-        × ((number : ℕ) (start : Place) → Fetching (retr number) start (at (W.seen wire.old) reader.old) body []
-        → (text : List ℕ) × ReadsText number start text result (at (W.seen wire.new) reader.new)) }
+        × WhereSound W.sound W.leads_to client.old.wire.now client.new.wire.now
+        ((number : ℕ) (start : Place) → Fetching (retr number) start (place_of W.Wire client.old) body []
+        → ReadsText number start text result (place_of W.Wire client.new))) }
+    ensures reads { W.sound client.new.wire.now → W.sound client.old.wire.now
+        × ((number : ℕ) (start : Place) → Fetching (retr number) start (place_of W.Wire client.old) body []
+        → (text : List ℕ) × ReadsText number start text result (place_of W.Wire client.new)) }
 {
     let mut rest = body;
     if let Err(fault) = begin_file(disk, name) {
@@ -93,7 +93,7 @@ pub(crate) fn store_text<W: Wire, D: MaildirDisk>(
     let mut length = 0u64;
     let mut out = [0u8; 4097];
     'pieces: loop {
-        let piece = match next_piece(wire, reader, &mut rest, &mut out) {
+        let piece = match client.next_piece(&mut rest, &mut out) {
             Ok(piece) => piece,
             Err(fault) => {
                 disk.abandon();
@@ -121,22 +121,22 @@ pub(crate) fn store_text<W: Wire, D: MaildirDisk>(
 
 /// Takes a text that is under way, drops it, and says how long it was, in bytes, lines ended by LF.
 pub(crate) fn pass_text<W: Wire>(
-    wire: &mut W,
-    reader: &mut LineReader,
+    client: &mut Client<'_, W>,
     body: BodyReader,
 ) -> Result<u64, TalkFault>
     requires open { body.spot ≢ Done }
     requires within { body.left ≤ 268435456 }
-    ensures counted { CountsRefusal is_refusal (W.seen wire.old) result (W.seen wire.new) }
-    ensures passes { WhereSound W.sound W.leads_to wire.old wire.new
-        ((number : ℕ) (start : Place) → Fetching (retr number) start (at (W.seen wire.old) reader.old) body []
-        → PassesText number start result (at (W.seen wire.new) reader.new)) }
+    ensures link { HasSameLink client.old client.new }
+    ensures counted { CountsRefusals W.Wire client.old result client.new }
+    ensures passes { WhereSound W.sound W.leads_to client.old.wire.now client.new.wire.now
+        ((number : ℕ) (start : Place) → Fetching (retr number) start (place_of W.Wire client.old) body []
+        → PassesText number start result (place_of W.Wire client.new)) }
 {
     let mut rest = body;
     let mut length = 0u64;
     let mut out = [0u8; 4097];
     'pieces: loop {
-        let piece = match next_piece(wire, reader, &mut rest, &mut out) {
+        let piece = match client.next_piece(&mut rest, &mut out) {
             Ok(piece) => piece,
             Err(fault) => return Err(fault),
         };

@@ -1,14 +1,14 @@
 //! What is said after a fault.
 ghost use Rattle.std.specs.Prelude.{◌≡◌, None, Ok};
-ghost use Rattle.pop3_wire.specs.Link.{CountsRefusal, WhereSound};
-ghost use Rattle.pop3_wire.specs.Place.{at};
-ghost use Rattle.pop3_client.specs.Conversation.{Talks, is_refusal};
+ghost use Rattle.pop3_client.specs.Client.{HasSameLink, CountsRefusals, place_of, link_of};
+ghost use Rattle.pop3_wire.specs.Link.{WhereSound};
+ghost use Rattle.pop3_client.specs.Conversation.{Talks};
 ghost use Rattle.fetch_session.specs.Refusal.{RefusesNone, RefusesAtMostOne};
 ghost use Rattle.fetch_session.specs.Tail.{turns_in, tail, Drops, Left};
 
 use crate::fault::{Cut, Fault};
-use pop3_client::{Asked, Fault as TalkFault, drop_rest, quit, reset_and_quit};
-use pop3_wire::{BodyReader, LineReader, Wire};
+use pop3_client::{Asked, Client, Fault as TalkFault};
+use pop3_wire::{BodyReader, Wire};
 
 /// What is said after a fault.
 #[derive(Clone, Copy)]
@@ -31,47 +31,49 @@ fn tail_of(fault: Fault) -> Tail
     }
 }
 
-fn say_tail<W: Wire>(wire: &mut W, reader: &mut LineReader, kind: Tail) -> Result<(), TalkFault>
-    ensures counted { CountsRefusal is_refusal (W.seen wire.old) result (W.seen wire.new) }
+fn say_tail<W: Wire>(client: &mut Client<'_, W>, kind: Tail) -> Result<(), TalkFault>
+    ensures link { HasSameLink client.old client.new }
+    ensures counted { CountsRefusals W.Wire client.old result client.new }
     ensures nothing { kind ≡ Tail.Nothing → result ≡ Ok tt }
-    ensures talks { WhereSound W.sound W.leads_to wire.old wire.new
-        (Talks (turns_in kind) (at (W.seen wire.old) reader.old) result (at (W.seen wire.new) reader.new)) }
+    ensures talks { WhereSound W.sound W.leads_to client.old.wire.now client.new.wire.now
+        (Talks (turns_in kind) (place_of W.Wire client.old) result (place_of W.Wire client.new)) }
 {
     match kind {
         Tail::Nothing => Ok(()),
-        Tail::Leave => quit(wire, reader),
-        Tail::Undo => reset_and_quit(wire, reader),
+        Tail::Leave => client.quit(),
+        Tail::Undo => client.reset_and_quit(),
     }
 }
 
 /// Takes what is left of the reply under way, if one is, and drops it.
 fn drop_under_way<W: Wire>(
-    wire: &mut W,
-    reader: &mut LineReader,
+    client: &mut Client<'_, W>,
     rest: Option<BodyReader>,
 ) -> Result<(), TalkFault>
-    ensures counted { CountsRefusal is_refusal (W.seen wire.old) result (W.seen wire.new) }
+    ensures link { HasSameLink client.old client.new }
+    ensures counted { CountsRefusals W.Wire client.old result client.new }
     ensures nothing { rest ≡ None → result ≡ Ok tt }
-    ensures drops { WhereSound W.sound W.leads_to wire.old wire.new
-        (Drops rest (at (W.seen wire.old) reader.old) result (at (W.seen wire.new) reader.new)) }
+    ensures drops { WhereSound W.sound W.leads_to client.old.wire.now client.new.wire.now
+        (Drops rest (place_of W.Wire client.old) result (place_of W.Wire client.new)) }
 {
     match rest {
         None => Ok(()),
-        Some(mut body) => drop_rest(wire, reader, &mut body),
+        Some(mut body) => client.drop_rest(&mut body),
     }
 }
 
 /// Ends a session after a cut: the reply under way is dropped, and then what belongs behind the
 /// fault is said.
-pub fn leave<W: Wire>(wire: &mut W, reader: &mut LineReader, cut: Cut)
-    ensures counted { RefusesAtMostOne (W.seen wire.old) (W.seen wire.new) }
-    ensures silent { cut.rest ≡ None → tail cut.fault ≡ Tail.Nothing → RefusesNone (W.seen wire.old) (W.seen wire.new) }
-    ensures leaves { WhereSound W.sound W.leads_to wire.old wire.new
-        (Left cut (at (W.seen wire.old) reader.old) (at (W.seen wire.new) reader.new)) }
+pub fn leave<W: Wire>(client: &mut Client<'_, W>, cut: Cut)
+    ensures link { HasSameLink client.old client.new }
+    ensures counted { RefusesAtMostOne (link_of W.Wire client.old) (link_of W.Wire client.new) }
+    ensures silent { cut.rest ≡ None → tail cut.fault ≡ Tail.Nothing → RefusesNone (link_of W.Wire client.old) (link_of W.Wire client.new) }
+    ensures leaves { WhereSound W.sound W.leads_to client.old.wire.now client.new.wire.now
+        (Left cut (place_of W.Wire client.old) (place_of W.Wire client.new)) }
 {
     let Cut { fault, rest } = cut;
-    if let Err(_) = drop_under_way(wire, reader, rest) {
+    if let Err(_) = drop_under_way(client, rest) {
         return;
     }
-    let _ = say_tail(wire, reader, tail_of(fault));
+    let _ = say_tail(client, tail_of(fault));
 }

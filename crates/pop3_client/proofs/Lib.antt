@@ -1,4 +1,4 @@
-mod IdLemmas
+pub mod ClientLemmas
 mod LawLemmas
 mod ListingLemmas
 mod MostLemmas

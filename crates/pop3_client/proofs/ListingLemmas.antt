@@ -1,58 +1,55 @@
 -- Rows of a listing, taken one by one.
-use Rattle.std.proofs.Common.{◌≡◌, ◌⊎◌, inl, inr, ◌<◌, ◌≤◌, ◌+◌, ◌*◌, ℕ, suc, List, [], ◌∷◌, ◌++◌, length, Some, Result, Ok, Err, IsOk, IfOk, IfErr, is_ok, refl, sym, ap, subst, ◌∙◌, arith, append_assoc, length-append}
+use Rattle.std.proofs.Common.{◌≡◌, ◌≢◌, ◌⊎◌, inl, inr, ◌<◌, ◌≤◌, ◌+◌, ◌*◌, ℕ, suc, List, [], ◌∷◌, ◌++◌, length, take, drop, false, Some, Result, Ok, Err, IfOk, IfErr, refl, sym, ap, subst, ◌∙◌, arith, append_assoc, length-append}
 use Rattle.std.proofs.lemmas.List.{append-nil}
-use Rattle.std.proofs.lemmas.Bool.{false≢true}
 use Rattle.std.proofs.lemmas.Grind.{flat_map-append}
 use Rattle.std.specs.List.{flat_map, AllZip, AllByRecursion}
 use Rattle.mail_terms.specs.Listing.{Item, Agree, Joins}
 use Rattle.mail_terms.specs.declared.listing.UidRow.{UidRow}
 use Rattle.mail_terms.specs.declared.listing.ScanRow.{ScanRow}
 use Rattle.pop3_wire.specs.Line.{ended}
-use Rattle.pop3_wire.specs.Body.{dot, IsContent, body_of}
+use Rattle.pop3_wire.specs.Body.{dot, IsContent}
 use Rattle.pop3_wire.specs.Link.{Link}
-use Rattle.pop3_wire.specs.Place.{Place, at, GoesOn, Gains}
+use Rattle.pop3_wire.specs.Place.{Place, at, GoesOn, Gains, HasLine}
 use Rattle.pop3_wire.specs.Bodies.{Drew}
 use Rattle.pop3_client.specs.declared.fault.Asked.{Asked}
 use Rattle.pop3_client.specs.declared.fault.Fault.{Fault}
 use Rattle.pop3_client.specs.declared.fault.Fault.TheVariants.{ConnectionEnded, ReadFailed, WriteFailed, ReplyTooLong, BadReply, Refused, BadListing, ListingsDisagree, TooMany, TextTooLong, NoMemory}
-use Rattle.pop3_client.specs.Turns.{Turn, uidl, list, IsRow, IsListing, IsShort, LinesFit, line_limit, row_limit, most}
+use Rattle.pop3_client.specs.Turns.{Turn, uidl, list, IsRow, IsListing, IsShort, tells_count, LinesFit, line_limit, row_limit, most}
 use Rattle.pop3_client.specs.Causes.{IsPartOfListing, IsPartOfBody, HasRows, NextLine, BeginsPositive, Cause}
 use Rattle.pop3_client.specs.Conversation.{Opened}
 use Rattle.pop3_wire.specs.Reading.{IsUidLine, IsScanLine}
 use Rattle.pop3_client.specs.Listing.{Listed, GetsListing, ListsRows, RowBehind, RowCause, RowsCause, NotTaken, TakesRows}
 use Rattle.pop3_client.proofs.MostLemmas.{lines_within}
-use Rattle.pop3_client.proofs.TalkLemmas.{drew_of, talked_on, talked_body, not_answered_behind, begins_of}
+use Rattle.pop3_client.proofs.TalkLemmas.{drew_of, goes_on, line_short, line_waits, talked_on, talked_body, not_answered_behind, begins_of}
+
+-- a listing's lines are a body that fits
+lines_fit : (turn : Turn) (lines : List (List ℕ)) → IsListing turn → length lines ≤ row_limit → AllByRecursion IsShort lines → AllByRecursion (IsRow turn) lines → LinesFit turn lines
+lines_fit turn lines (inl is) few short rows = subst (λ (t : Turn). LinesFit t lines) (sym is) (few, short, subst (λ (t : Turn). AllByRecursion (IsRow t) lines) is rows)
+lines_fit turn lines (inr is) few short rows = subst (λ (t : Turn). LinesFit t lines) (sym is) (few, short, subst (λ (t : Turn). AllByRecursion (IsRow t) lines) is rows)
 
 -- some rows were taken: these lines, which stand for these rows, and the rest waits
-pub record InRows {W R : Type 0} (sound : W → Type 0) (leads_to : W → W → Type 0) (seen : W → Link) (turn : Turn) (IsThisRow : List ℕ → R → Type 0)
-    (wire : W) (reader : List ℕ) (wire' : W) (reader' : List ℕ) (rows : List R) : Type 0 where
+pub record TookRows {R : Type 0} (turn : Turn) (StandsFor : List ℕ → R → Type 0) (old new : Place) (rows : List R) : Type 0 where
   pub lines : List (List ℕ)
   pub gained : List ℕ
-  pub has : HasRows turn (reader ++ gained) reader' lines
-  pub read : AllZip IsThisRow lines rows
-  pub link : sound wire × leads_to wire wire' × Drew (seen wire) (seen wire') gained × GoesOn (seen wire) (seen wire')
+  pub has : HasRows turn (old.waiting ++ gained) new.waiting lines
+  pub read : AllZip StandsFor lines rows
+  pub drew : Drew old.link new.link gained
+  pub steady : GoesOn old.link new.link
 
-pub drew_on : (a b c : Link) (g h : List ℕ) → Drew a b g → Drew b c h → Drew a c (g ++ h)
-drew_on a b c g h first then =
-    record {
-      got = then.got ∙ ap (λ (l : List ℕ). l ++ h) first.got ∙ append_assoc a.got g h;
-      sent = then.sent ∙ first.sent;
-    }
+drew_on : (a b c : Link) (g h : List ℕ) → Drew a b g → Drew b c h → Drew a c (g ++ h)
+drew_on a b c g h first then = record {
+  got = then.got ∙ ap (λ (l : List ℕ). l ++ h) first.got ∙ append_assoc a.got g h;
+  sent = then.sent ∙ first.sent;
+}
 
-pub goes_on : (a b c : Link) → GoesOn a b → GoesOn b c → GoesOn a c
-goes_on a b c first then = record { ended = then.ended ∙ first.ended; failures = then.failures ∙ first.failures }
-
-pub rows_none : (turn : Turn) (reader : List ℕ) → IsListing turn → HasRows turn (reader ++ []) reader []
-rows_none turn reader listing = record { listing = listing; content = tt; short = tt; rows = tt; few = omega arith; whole = append-nil reader }
-
-has_more : (turn : Turn) (bytes waits more : List ℕ) (lines : List (List ℕ)) → HasRows turn bytes waits lines → HasRows turn (bytes ++ more) (waits ++ more) lines
-has_more turn bytes waits more lines has = record {
-  listing = has.listing;
-  content = has.content;
-  short = has.short;
-  rows = has.rows;
-  few = has.few;
-  whole = ap (λ (l : List ℕ). l ++ more) has.whole ∙ append_assoc (flat_map ended lines) waits more;
+pub took_none : {R : Type 0} (turn : Turn) (StandsFor : List ℕ → R → Type 0) (place : Place) → IsListing turn → TookRows turn StandsFor place place []
+took_none turn StandsFor place listing = record {
+  lines = [];
+  gained = [];
+  has = record { listing = listing; content = tt; short = tt; rows = tt; few = omega arith; whole = append-nil place.waiting };
+  read = tt;
+  drew = record { got = sym (append-nil place.link.got); sent = refl };
+  steady = record { ended = refl; failures = refl };
 }
 
 all_push : (P : List ℕ → Type 0) (lines : List (List ℕ)) (line : List ℕ) → AllByRecursion P lines → P line → AllByRecursion P (lines ++ line ∷ [])
@@ -72,38 +69,33 @@ zip_length P [] (r ∷ rows) all = absurd all
 zip_length P (l ∷ lines) [] all = absurd all
 zip_length P (l ∷ lines) (r ∷ rows) all = ap suc (zip_length P lines rows all.1)
 
-pub ok_gives : {A E : Type 0} (r : Result A E) → IsOk r → (x : A) × (r ≡ Ok x)
-ok_gives (Ok x) is = (x, refl)
-ok_gives (Err e) is = absurd (false≢true is)
-
-pub is_ok_of : {A E : Type 0} (r : Result A E) (x : A) → r ≡ Ok x → IsOk r
-is_ok_of r x e = ap is_ok e
-
-module _ {W R : Type 0} (sound : W → Type 0) (leads_to : W → W → Type 0) (seen : W → Link) (trans : (u v w : W) → leads_to u v → leads_to v w → leads_to u w)
-    (turn : Turn) (IsThisRow : List ℕ → R → Type 0) (a : W) (reader : List ℕ) (b : W) (waits : List ℕ) (rows : List R)
-    (now : InRows sound leads_to seen turn IsThisRow a reader b waits rows) where
+module _ {R : Type 0} (turn : Turn) (StandsFor : List ℕ → R → Type 0) (old here : Place) (rows : List R) (now : TookRows turn StandsFor old here rows) where
   -- more was got, and nothing taken yet
-  pub in_rows_on : (c : W) (waits' more : List ℕ) → leads_to b c → Gains (at (seen b) waits) (at (seen c) waits') more → GoesOn (seen b) (seen c)
-      → InRows sound leads_to seen turn IsThisRow a reader c waits' rows
-  in_rows_on c waits' more leads gains steady = record {
+  more_waits : (new : Place) (more : List ℕ) → Gains here new more → HasRows turn (old.waiting ++ (now.gained ++ more)) new.waiting now.lines
+  more_waits new more gains = record {
+    listing = now.has.listing;
+    content = now.has.content;
+    short = now.has.short;
+    rows = now.has.rows;
+    few = now.has.few;
+    whole = sym (append_assoc old.waiting now.gained more) ∙ ap (λ (l : List ℕ). l ++ more) now.has.whole
+        ∙ append_assoc (flat_map ended now.lines) here.waiting more ∙ ap (λ (l : List ℕ). flat_map ended now.lines ++ l) (sym gains.waiting);
+  }
+
+  pub took_on : (new : Place) (more : List ℕ) → Gains here new more → GoesOn here.link new.link → TookRows turn StandsFor old new rows
+  took_on new more gains steady = record {
     lines = now.lines;
     gained = now.gained ++ more;
-    has = subst (λ (l : List ℕ). HasRows turn l waits' now.lines) (append_assoc reader now.gained more)
-        (subst (λ (l : List ℕ). HasRows turn ((reader ++ now.gained) ++ more) l now.lines) (sym gains.waiting) (has_more turn (reader ++ now.gained) waits more now.lines now.has));
+    has = more_waits new more gains;
     read = now.read;
-    link = (
-      now.link.0,
-      trans a b c now.link.1 leads,
-      drew_on (seen a) (seen b) (seen c) now.gained more now.link.2 (drew_of (at (seen b) waits) (at (seen c) waits') more gains),
-      goes_on (seen a) (seen b) (seen c) now.link.3 steady,
-    );
+    drew = drew_on old.link here.link new.link now.gained more now.drew (drew_of here new more gains);
+    steady = goes_on old.link here.link new.link now.steady steady;
   }
 
   -- one more row was taken
-  pub in_rows_push : (line after : List ℕ) (row : R) (rows' : List R) → waits ≡ ended line ++ after → IsContent line → IsShort line → IsRow turn line → IsThisRow line row
-      → length rows < row_limit → rows' ≡ rows ++ row ∷ []
-      → InRows sound leads_to seen turn IsThisRow a reader b after rows'
-  in_rows_push line after row rows' whole content short good read few is = record {
+  pub took_row : (line after : List ℕ) (row : R) → here.waiting ≡ ended line ++ after → IsContent line → IsShort line → IsRow turn line → StandsFor line row
+      → length rows < row_limit → TookRows turn StandsFor old (at here.link after) (rows ++ row ∷ [])
+  took_row line after row whole content short good read few = record {
     lines = now.lines ++ line ∷ [];
     gained = now.gained;
     has = record {
@@ -114,14 +106,15 @@ module _ {W R : Type 0} (sound : W → Type 0) (leads_to : W → W → Type 0) (
       few = size;
       whole = now.has.whole ∙ ap (λ (l : List ℕ). flat_map ended now.lines ++ l) whole ∙ more_whole;
     };
-    read = subst (AllZip IsThisRow (now.lines ++ line ∷ [])) (sym is) (zip_push IsThisRow now.lines rows line row now.read read);
-    link = now.link;
+    read = zip_push StandsFor now.lines rows line row now.read read;
+    drew = now.drew;
+    steady = now.steady;
   }
     where
       size : length (now.lines ++ line ∷ []) ≤ row_limit
       size =
           let all : length (now.lines ++ line ∷ []) ≡ length now.lines + 1 = length-append now.lines (line ∷ []) in
-          let same : length now.lines ≡ length rows = zip_length IsThisRow now.lines rows now.read in
+          let same : length now.lines ≡ length rows = zip_length StandsFor now.lines rows now.read in
           omega arith
 
       more_whole : flat_map ended now.lines ++ (ended line ++ after) ≡ flat_map ended (now.lines ++ line ∷ []) ++ after
@@ -130,48 +123,45 @@ module _ {W R : Type 0} (sound : W → Type 0) (leads_to : W → W → Type 0) (
           ∙ ap (λ (l : List ℕ). l ++ after) (sym (flat_map-append ended now.lines (line ∷ [])))
 
   -- a row waits, which isn't taken
-  pub row_behind : (line after : List ℕ) → waits ≡ ended line ++ after → IsContent line → IsShort line → RowBehind turn (reader ++ now.gained) line (length rows)
-  row_behind line after whole content short = record {
-    behind = after;
+  pub row_behind : (n : ℕ) → HasLine line_limit here.waiting n → take n here.waiting ≢ dot → RowBehind turn (old.waiting ++ now.gained) (take n here.waiting) (length rows)
+  row_behind n has other = record {
+    behind = drop (n + 2) here.waiting;
     lines = now.lines;
-    has = subst (λ (l : List ℕ). HasRows turn (reader ++ now.gained) l now.lines) whole now.has;
-    count = zip_length IsThisRow now.lines rows now.read;
-    content = content;
-    short = short;
+    has = subst (λ (l : List ℕ). HasRows turn (old.waiting ++ now.gained) l now.lines) (line_waits line_limit n here.waiting has) now.has;
+    count = zip_length StandsFor now.lines rows now.read;
+    content = (has.line, other);
+    short = line_short n here.waiting has;
   }
 
   -- the rows end at one that waits
-  pub rows_stop : (fault : Fault) → Drew (seen a) (seen b) now.gained → RowsCause fault turn (seen a) (seen b) (reader ++ now.gained)
-      → NotTaken turn (at (seen a) reader) (at (seen b) waits) fault
-  rows_stop fault drew cause = record { gained = now.gained; used = now.lines; drew = drew; cause = cause; has = now.has }
+  pub rows_stop : (fault : Fault) → RowsCause fault turn old.link here.link (old.waiting ++ now.gained) → NotTaken turn old here fault
+  rows_stop fault cause = record { gained = now.gained; used = now.lines; drew = now.drew; cause = cause; has = now.has }
 
   -- neither a row nor the end mark came
-  pub rows_cause : (fault : Fault) (n : ℕ) (c : Link) (waits' more : List ℕ) → n ≡ length rows
-      → Drew (seen a) (seen b) now.gained → GoesOn (seen a) (seen b) → Gains (at (seen b) waits) (at c waits') more → RowCause fault n (seen b) c waits'
-      → NotTaken turn (at (seen a) reader) (at c waits') fault
-  rows_cause fault n c waits' more count drew steady gains why = record {
+  pub rows_cause : (fault : Fault) (n : ℕ) (new : Place) (more : List ℕ) → n ≡ length rows → Gains here new more → RowCause fault n here.link new.link new.waiting
+      → NotTaken turn old new fault
+  rows_cause fault n new more count gains why = record {
     gained = now.gained ++ more;
     used = now.lines;
-    drew = drew_on (seen a) (seen b) c now.gained more drew (drew_of (at (seen b) waits) (at c waits') more gains);
+    drew = drew_on old.link here.link new.link now.gained more now.drew (drew_of here new more gains);
     cause = by fault why;
     has = has;
   }
     where
-      has : HasRows turn (reader ++ (now.gained ++ more)) waits' now.lines
-      has = subst (λ (l : List ℕ). HasRows turn l waits' now.lines) (append_assoc reader now.gained more)
-          (subst (λ (l : List ℕ). HasRows turn ((reader ++ now.gained) ++ more) l now.lines) (sym gains.waiting) (has_more turn (reader ++ now.gained) waits more now.lines now.has))
+      has : HasRows turn (old.waiting ++ (now.gained ++ more)) new.waiting now.lines
+      has = more_waits new more gains
 
       full : row_limit ≤ n → length now.lines ≡ row_limit
       full least =
-          let same : length now.lines ≡ length rows = zip_length IsThisRow now.lines rows now.read in
+          let same : length now.lines ≡ length rows = zip_length StandsFor now.lines rows now.read in
           let few : length now.lines ≤ row_limit = now.has.few in
           omega arith
 
-      by : (f : Fault) → RowCause f n (seen b) c waits' → RowsCause f turn (seen a) c (reader ++ (now.gained ++ more))
-      by ConnectionEnded w = (w.0, (waits', now.lines, has, w.1))
-      by ReadFailed w = (subst (λ (k : ℕ). k < c.failures) steady.failures w.0, (waits', now.lines, has, w.1))
+      by : (f : Fault) → RowCause f n here.link new.link new.waiting → RowsCause f turn old.link new.link (old.waiting ++ (now.gained ++ more))
+      by ConnectionEnded w = (w.0, (new.waiting, now.lines, has, w.1))
+      by ReadFailed w = (subst (λ (k : ℕ). k < new.link.failures) now.steady.failures w.0, (new.waiting, now.lines, has, w.1))
       by WriteFailed w = absurd w
-      by ReplyTooLong w = (waits', now.lines, has, w)
+      by ReplyTooLong w = (new.waiting, now.lines, has, w)
       by BadReply w = absurd w
       by (Refused to) w = absurd w
       by BadListing w = absurd w
@@ -181,7 +171,7 @@ module _ {W R : Type 0} (sound : W → Type 0) (leads_to : W → W → Type 0) (
         record {
           behind = w.1;
           lines = now.lines;
-          has = subst (λ (l : List ℕ). HasRows turn (reader ++ (now.gained ++ more)) l now.lines) w.5 has;
+          has = subst (λ (l : List ℕ). HasRows turn (old.waiting ++ (now.gained ++ more)) l now.lines) w.5 has;
           count = full w.2;
           content = w.3;
           short = w.4;
@@ -191,21 +181,26 @@ module _ {W R : Type 0} (sound : W → Type 0) (leads_to : W → W → Type 0) (
       by NoMemory w = absurd w
 
   -- the end mark was taken
-  pub rows_end : (new : Place) (more : List ℕ) → Drew (seen a) (seen b) now.gained → GoesOn (seen a) (seen b)
-      → Drew (seen b) new.link more → GoesOn (seen b) new.link → waits ++ more ≡ ended dot ++ new.waiting
-      → (whole : List ℕ) × Drew (seen a) new.link whole × GoesOn (seen a) new.link × (reader ++ whole ≡ body_of now.lines ++ new.waiting)
-  rows_end new more drew steady drew' steady' heard = (
-    now.gained ++ more,
-    drew_on (seen a) (seen b) new.link now.gained more drew drew',
-    goes_on (seen a) (seen b) new.link steady steady',
-    sym (append_assoc reader now.gained more) ∙ ap (λ (l : List ℕ). l ++ more) now.has.whole ∙ append_assoc (flat_map ended now.lines) waits more
-        ∙ ap (λ (l : List ℕ). flat_map ended now.lines ++ l) heard ∙ sym (append_assoc (flat_map ended now.lines) (ended dot) new.waiting),
+  pub rows_end : (new : Place) (more : List ℕ) → Drew here.link new.link more → GoesOn here.link new.link → here.waiting ++ more ≡ ended dot ++ new.waiting
+      → TakesRows turn StandsFor old (Ok rows) new
+  rows_end new more drew steady heard = (
+    now.lines,
+    record {
+      gained = now.gained ++ more;
+      drew = drew_on old.link here.link new.link now.gained more now.drew drew;
+      steady = goes_on old.link here.link new.link now.steady steady;
+      content = now.has.content;
+      fit = lines_fit turn now.lines now.has.listing now.has.few now.has.short now.has.rows;
+      heard = sym (append_assoc old.waiting now.gained more) ∙ ap (λ (l : List ℕ). l ++ more) now.has.whole ∙ append_assoc (flat_map ended now.lines) here.waiting more
+          ∙ ap (λ (l : List ℕ). flat_map ended now.lines ++ l) heard ∙ sym (append_assoc (flat_map ended now.lines) (ended dot) new.waiting);
+    },
+    now.read,
   )
 
--- a listing's lines are a body that fits
-lines_fit : (turn : Turn) (lines : List (List ℕ)) → IsListing turn → length lines ≤ row_limit → AllByRecursion IsShort lines → AllByRecursion (IsRow turn) lines → LinesFit turn lines
-lines_fit turn lines (inl is) few short rows = subst (λ (t : Turn). LinesFit t lines) (sym is) (few, short, subst (λ (t : Turn). AllByRecursion (IsRow t) lines) is rows)
-lines_fit turn lines (inr is) few short rows = subst (λ (t : Turn). LinesFit t lines) (sym is) (few, short, subst (λ (t : Turn). AllByRecursion (IsRow t) lines) is rows)
+-- no count is asked for with a listing
+pub tells_no_count : (turn : Turn) → IsListing turn → tells_count turn ≡ false
+tells_no_count turn (inl is) = ap tells_count is
+tells_no_count turn (inr is) = ap tells_count is
 
 part_of_body : (turn : Turn) (bytes : List ℕ) → IsListing turn → IsPartOfListing turn bytes → IsPartOfBody turn bytes
 part_of_body turn bytes (inl is) part = subst (λ (t : Turn). IsPartOfBody t bytes) (sym is) (subst (λ (t : Turn). IsPartOfListing t bytes) is part)

@@ -190,8 +190,10 @@ pub stat_bytes : codes "STAT" ++ crlf ≡ turn_bytes stat
 unfolding line_of
 stat_bytes = refl
 
-pub whole_stat : (link : Link) → record link { sent = link.sent ++ (codes "STAT" ++ crlf) } ≡ record link { sent = link.sent ++ turn_bytes stat }
-whole_stat link = ap (λ (b : List ℕ). record link { sent = link.sent ++ b }) stat_bytes
+-- the octets that were sent are a turn's
+pub sent_for : (turn : Turn) (old said : Link) (bytes : List ℕ) → said ≡ record old { sent = old.sent ++ bytes } → bytes ≡ turn_bytes turn
+    → said ≡ record old { sent = old.sent ++ turn_bytes turn }
+sent_for turn old said bytes is same = is ∙ ap (λ (b : List ℕ). record old { sent = old.sent ++ b }) same
 
 pub uidl_bytes : codes "UIDL" ++ crlf ≡ turn_bytes uidl
 unfolding line_of
@@ -268,7 +270,7 @@ few_heard fault said mid gained n gains has why =
 
 -- ---- turns in a row
 
-goes_on : (a b c : Link) → GoesOn a b → GoesOn b c → GoesOn a c
+pub goes_on : (a b c : Link) → GoesOn a b → GoesOn b c → GoesOn a c
 goes_on a b c first then = record { ended = then.ended ∙ first.ended; failures = then.failures ∙ first.failures }
 
 pub talked_none : (place : Place) → Talked [] [] place place

@@ -1,4 +1,5 @@
 pub mod Causes
+pub mod Client
 pub mod Conversation
 pub mod Fault
 pub mod Listing

@@ -1,14 +1,13 @@
 //! The beginning of a session: the greeting, the user and the password.
 ghost use Rattle.std.specs.Prelude.{◌≡◌, true, List, ℕ, IfOk, IfErr};
 ghost use Rattle.mail_terms.specs.Credential.{is_credential};
-ghost use Rattle.pop3_wire.specs.Link.{CountsRefusal, WhereSound};
-ghost use Rattle.pop3_wire.specs.Place.{at};
+ghost use Rattle.pop3_client.specs.Client.{HasSameLink, CountsRefusals, WhereLinkSound};
 ghost use Rattle.pop3_client.specs.Turns.{turn_bytes, user, pass};
-ghost use Rattle.pop3_client.specs.Conversation.{is_refusal, login, Talks};
+ghost use Rattle.pop3_client.specs.Conversation.{login, Talks};
 
+use crate::client::Client;
 use crate::fault::{Asked, Fault};
-use crate::talk::{ask, greet};
-use pop3_wire::{Bytes, Command, LineReader, Wire, command_bytes};
+use pop3_wire::{Bytes, Command, Wire, command_bytes};
 use std::alloc::Global;
 use std::vec::Vec;
 
@@ -42,49 +41,39 @@ fn pass_line(alloc: Global, password: &[u8]) -> Result<Vec<u8>, Fault>
     }
 }
 
-/// Takes the greeting and says the lines of USER and PASS.
-fn log_in_by<W: Wire>(
-    wire: &mut W,
-    reader: &mut LineReader,
-    name_line: &[u8],
-    password_line: &[u8],
-) -> Result<(), Fault>
-    ensures counted { CountsRefusal is_refusal (W.seen wire.old) result (W.seen wire.new) }
-    ensures talks { WhereSound W.sound W.leads_to wire.old wire.new
-        ((name password : List ℕ) → name_line.now ≡ turn_bytes (user name) → password_line.now ≡ turn_bytes (pass password)
-        → Talks (login name password) (at (W.seen wire.old) reader.old) result (at (W.seen wire.new) reader.new)) }
-{
-    if let Err(fault) = greet(wire, reader) {
-        return Err(fault);
+impl<'a, W: Wire> Client<'a, W> {
+    /// Takes the greeting and says the lines of USER and PASS.
+    fn log_in_by(&mut self, name_line: &[u8], password_line: &[u8]) -> Result<(), Fault>
+        ensures link { HasSameLink self.old self.new }
+        ensures counted { CountsRefusals W.Wire self.old result self.new }
+        ensures talks { WhereLinkSound W.Wire self.old self.new
+            (λ old new. (name password : List ℕ) → name_line.now ≡ turn_bytes (user name) → password_line.now ≡ turn_bytes (pass password)
+            → Talks (login name password) old result new) }
+    {
+        if let Err(fault) = self.greet() {
+            return Err(fault);
+        }
+        if let Err(fault) = self.ask(Asked::User, name_line) {
+            return Err(fault);
+        }
+        self.ask(Asked::Pass, password_line)
     }
-    if let Err(fault) = ask(wire, reader, Asked::User, name_line) {
-        return Err(fault);
-    }
-    if let Err(fault) = ask(wire, reader, Asked::Pass, password_line) {
-        return Err(fault);
-    }
-    Ok(())
-}
 
-/// Logs in. The lines are made before the greeting is taken.
-pub fn log_in<W: Wire>(
-    alloc: Global,
-    wire: &mut W,
-    reader: &mut LineReader,
-    name: &[u8],
-    password: &[u8],
-) -> Result<(), Fault>
-    requires name { is_credential name.now ≡ true }
-    requires password { is_credential password.now ≡ true }
-    ensures counted { CountsRefusal is_refusal (W.seen wire.old) result (W.seen wire.new) }
-    ensures talks { WhereSound W.sound W.leads_to wire.old wire.new
-        (Talks (login name.now password.now) (at (W.seen wire.old) reader.old) result (at (W.seen wire.new) reader.new)) }
-{
-    let Ok(user) = user_line(alloc, name) else {
-        return Err(Fault::NoMemory);
-    };
-    let Ok(pass) = pass_line(alloc, password) else {
-        return Err(Fault::NoMemory);
-    };
-    log_in_by(wire, reader, &user, &pass)
+    /// Logs in. The lines are made before the greeting is taken.
+    pub fn log_in(&mut self, alloc: Global, name: &[u8], password: &[u8]) -> Result<(), Fault>
+        requires name { is_credential name.now ≡ true }
+        requires password { is_credential password.now ≡ true }
+        ensures link { HasSameLink self.old self.new }
+        ensures counted { CountsRefusals W.Wire self.old result self.new }
+        ensures talks { WhereLinkSound W.Wire self.old self.new
+            (λ old new. Talks (login name.now password.now) old result new) }
+    {
+        let Ok(user) = user_line(alloc, name) else {
+            return Err(Fault::NoMemory);
+        };
+        let Ok(pass) = pass_line(alloc, password) else {
+            return Err(Fault::NoMemory);
+        };
+        self.log_in_by(&user, &pass)
+    }
 }

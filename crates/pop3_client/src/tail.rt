@@ -1,22 +1,12 @@
 //! The last turns of a session that was cut.
 ghost use Rattle.std.specs.Prelude.{◌≡◌, ◌∷◌, [], if◌then◌else◌};
-ghost use Rattle.pop3_wire.specs.Link.{CountsRefusal, WhereSound};
-ghost use Rattle.pop3_wire.specs.Place.{at};
+ghost use Rattle.pop3_client.specs.Client.{HasSameLink, CountsRefusals, WhereLinkSound};
 ghost use Rattle.pop3_client.specs.Turns.{rset, quit as quit_turn};
-ghost use Rattle.pop3_client.specs.Conversation.{Tells, Talks, tail_of, undoing, is_refusal};
+ghost use Rattle.pop3_client.specs.Conversation.{Tells, Talks, tail_of, undoing};
 
+use crate::client::Client;
 use crate::fault::{Asked, Fault};
-use crate::talk::{ask, quit};
-use pop3_wire::{LineReader, Wire};
-
-/// Unmarks what was marked as deleted (RSET).
-fn reset<W: Wire>(wire: &mut W, reader: &mut LineReader) -> Result<(), Fault>
-    ensures counted { CountsRefusal is_refusal (W.seen wire.old) result (W.seen wire.new) }
-    ensures tells { WhereSound W.sound W.leads_to wire.old wire.new
-        (Tells rset (at (W.seen wire.old) reader.old) result (at (W.seen wire.new) reader.new)) }
-{
-    ask(wire, reader, Asked::Quit, b"RSET\r\n")
-}
+use pop3_wire::Wire;
 
 /// Whether QUIT is said after a fault: after each refused command but QUIT.
 fn says_quit(fault: Fault) -> bool
@@ -29,28 +19,39 @@ fn says_quit(fault: Fault) -> bool
     }
 }
 
-/// Leaves after a fault of the conversation: after a refused command QUIT is said, and its reply read.
-/// After a refused QUIT and after any other fault the link is left alone. It takes no memory.
-pub fn leave<W: Wire>(wire: &mut W, reader: &mut LineReader, fault: Fault) -> Result<(), Fault>
-    ensures counted { CountsRefusal is_refusal (W.seen wire.old) result (W.seen wire.new) }
-    ensures talks { WhereSound W.sound W.leads_to wire.old wire.new
-        (Talks (tail_of fault) (at (W.seen wire.old) reader.old) result (at (W.seen wire.new) reader.new)) }
-{
-    if says_quit(fault) {
-        return quit(wire, reader);
+impl<'a, W: Wire> Client<'a, W> {
+    /// Unmarks what was marked as deleted (RSET).
+    fn reset(&mut self) -> Result<(), Fault>
+        ensures link { HasSameLink self.old self.new }
+        ensures counted { CountsRefusals W.Wire self.old result self.new }
+        ensures tells { WhereLinkSound W.Wire self.old self.new (λ old new. Tells rset old result new) }
+    {
+        self.ask(Asked::Quit, b"RSET\r\n")
     }
-    Ok(())
-}
 
-/// Leaves after a fault that isn't the conversation's own: RSET is said, so that nothing that was
-/// marked goes, and where it is answered positively QUIT. Their replies are read. It takes no memory.
-pub fn reset_and_quit<W: Wire>(wire: &mut W, reader: &mut LineReader) -> Result<(), Fault>
-    ensures counted { CountsRefusal is_refusal (W.seen wire.old) result (W.seen wire.new) }
-    ensures talks { WhereSound W.sound W.leads_to wire.old wire.new
-        (Talks undoing (at (W.seen wire.old) reader.old) result (at (W.seen wire.new) reader.new)) }
-{
-    if let Err(fault) = reset(wire, reader) {
-        return Err(fault);
+    /// Leaves after a fault of the conversation: after a refused command QUIT is said, and its reply
+    /// read. After a refused QUIT and after any other fault the link is left alone. It takes no memory.
+    pub fn leave(&mut self, fault: Fault) -> Result<(), Fault>
+        ensures link { HasSameLink self.old self.new }
+        ensures counted { CountsRefusals W.Wire self.old result self.new }
+        ensures talks { WhereLinkSound W.Wire self.old self.new (λ old new. Talks (tail_of fault) old result new) }
+    {
+        if says_quit(fault) {
+            return self.quit();
+        }
+        Ok(())
     }
-    quit(wire, reader)
+
+    /// Leaves after a fault that isn't the conversation's own: RSET is said, so that nothing that was
+    /// marked goes, and where it is answered positively QUIT. Their replies are read. It takes no memory.
+    pub fn reset_and_quit(&mut self) -> Result<(), Fault>
+        ensures link { HasSameLink self.old self.new }
+        ensures counted { CountsRefusals W.Wire self.old result self.new }
+        ensures talks { WhereLinkSound W.Wire self.old self.new (λ old new. Talks undoing old result new) }
+    {
+        if let Err(fault) = self.reset() {
+            return Err(fault);
+        }
+        self.quit()
+    }
 }

@@ -2,8 +2,8 @@
 //! in pieces of several lengths.
 ghost use Rattle.std.specs.Prelude.{◌<◌};
 
-use pop3_client::{Fault, count, fault_number, leave, list, log_in, next_piece, open, quit};
-use pop3_wire::{LineReader, ScriptWire};
+use pop3_client::{Client, Fault, fault_number};
+use pop3_wire::ScriptWire;
 use std::alloc::Global;
 use std::process::Abort;
 use std::test::Fail;
@@ -11,18 +11,17 @@ use std::test::Fail;
 /// Adds the text of a message.
 fn take_text(
     alloc: Global,
-    wire: &mut ScriptWire,
-    reader: &mut LineReader,
+    client: &mut Client<'_, ScriptWire>,
     number: u32,
     text: &mut Vec<u8>,
 ) -> Result<(), Fault> {
-    let mut body = open(alloc, wire, reader, number)?;
+    let mut body = client.open(alloc, number)?;
     let mut out = [0u8; 4097];
     for _ in 0..u64::MAX {
         if body.has_ended() {
             break;
         }
-        let piece = next_piece(wire, reader, &mut body, &mut out)?;
+        let piece = client.next_piece(&mut body, &mut out)?;
         text.extend_from_slice(&out[..piece.put])?;
     }
     Ok(())
@@ -31,19 +30,18 @@ fn take_text(
 /// Adds the id of each message, a space and its text.
 fn take_all(
     alloc: Global,
-    wire: &mut ScriptWire,
-    reader: &mut LineReader,
+    client: &mut Client<'_, ScriptWire>,
     taken: &mut Vec<u8>,
 ) -> Result<(), Fault> {
-    log_in(alloc, wire, reader, b"u", b"p")?;
-    let told = count(wire, reader)?;
-    let listing = list(alloc, wire, reader, told)?;
+    client.log_in(alloc, b"u", b"p")?;
+    let told = client.count()?;
+    let listing = client.list(alloc, told)?;
     for index in 0..listing.len() {
         taken.extend_from_slice(listing.uid(index))?;
         taken.push(b' ')?;
-        take_text(alloc, wire, reader, index + 1, taken)?;
+        take_text(alloc, client, index + 1, taken)?;
     }
-    quit(wire, reader)
+    client.quit()
 }
 
 /// The number of the fault, or 0, what was sent, its tail included, and what was taken, where at most
@@ -52,12 +50,12 @@ fn outcome(alloc: Global, replies: &[u8], cut: usize) -> Result<String, Fail>
     requires { 0 < cut }
 {
     let mut wire = ScriptWire::new(alloc, Vec::from_slice(alloc, replies)?, cut);
-    let mut reader = LineReader::new();
+    let mut client = Client::new(&mut wire);
     let mut taken = Vec::new(alloc);
     let mut number = 0;
-    if let Err(fault) = take_all(alloc, &mut wire, &mut reader, &mut taken) {
+    if let Err(fault) = take_all(alloc, &mut client, &mut taken) {
         number = fault_number(fault);
-        let _ = leave(&mut wire, &mut reader, fault);
+        let _ = client.leave(fault);
     }
     let sent = String::from_utf8_lossy(alloc, wire.sent())?;
     let taken = String::from_utf8_lossy(alloc, taken.as_slice())?;

@@ -1,5 +1,5 @@
 use Rattle.std.proofs.Common.{◌+◌, ◌*◌, length, Ok, Err, arith, ◌∙◌, inl}
-use Rattle.pop3_wire.specs.Place.{at}
+use Rattle.pop3_client.specs.Client.{place_of}
 use Rattle.fetch_session.specs.declared.fault.Fault.TheVariants.{NoMemory}
 use Rattle.fetch_session.specs.Session.{noted, kept}
 use Rattle.fetch_session.proofs.SessionLemmas.{dealt}
@@ -16,17 +16,17 @@ returns-clause-proceeds g c = λ w d f.
       does.1,
       does.2,
       g.met.W.Wire.leads_on _ _ _ entered.1 does.3,
-      dealt c.args.settings.now c.args.account.now c.args.now (at (g.W.Wire.seen c.args.wire.now) c.args.reader.now)
+      dealt c.args.settings.now c.args.account.now c.args.now (place_of g.W.Wire c.args.client.now)
           (kept (g.D.MaildirDisk.maildir c.args.disk.now) (g.F.FlatFile.stored c.args.file.now)) c.carry_out.result
-          (at (g.W.Wire.seen new.wire) new.reader) (kept (g.D.MaildirDisk.maildir new.disk) (g.F.FlatFile.stored new.file)) (noted c.len-notes.result new.skipped new.lines.items)
-          c.in-Ok.listing (at (g.W.Wire.seen c.enter.new.wire) c.enter.new.reader) c.reserve.new.self.items (c.reserve.ensures.items ∙ c.requires.nothing.2) entered.2 c.len-notes.ensures.count does.4,
+          (place_of g.W.Wire new.client) (kept (g.D.MaildirDisk.maildir new.disk) (g.F.FlatFile.stored new.file)) (noted c.len-notes.result new.skipped new.lines.items)
+          c.in-Ok.listing (place_of g.W.Wire c.enter.new.client) c.reserve.new.self.items (c.reserve.ensures.items ∙ c.requires.nothing.2) entered.2 c.len-notes.ensures.count does.4,
     )
 
 pub returns-in-Err-clause-took : goal.returns-in-Err-clause-took
 returns-in-Err-clause-took g c = λ w.
     let entered = c.in-Err.ensures.enters w in
-    let old = at (g.W.Wire.seen c.args.wire.now) c.args.reader.now in
-    let new = at (g.W.Wire.seen c.enter.new.wire) c.enter.new.reader in
+    let old = place_of g.W.Wire c.args.client.now in
+    let new = place_of g.W.Wire c.enter.new.client in
     let cut = c.plain.result in (
       entered.0,
       with_tail_less (409616384 + 4096) (409616384 + (c.args.notes.now.total * 268439552 + 4096)) old new (Err cut) (omega arith)
@@ -36,8 +36,8 @@ returns-in-Err-clause-took g c = λ w.
 pub returns-in-Err-reserve-clause-took : goal.returns-in-Err-reserve-clause-took
 returns-in-Err-reserve-clause-took g c = λ w.
     let entered = c.in-Ok.ensures.enters w in
-    let old = at (g.W.Wire.seen c.args.wire.now) c.args.reader.now in
-    let new = at (g.W.Wire.seen c.enter.new.wire) c.enter.new.reader in
+    let old = place_of g.W.Wire c.args.client.now in
+    let new = place_of g.W.Wire c.enter.new.client in
     let cut = c.plain-in-Err-reserve.result in (
       entered.0,
       with_tail_less (409616384 + 4096) (409616384 + (c.len-notes.result * 268439552 + 4096)) old new (Err cut) (omega arith)
@@ -48,9 +48,9 @@ pub returns-clause-took : goal.returns-clause-took
 returns-clause-took g c = λ w.
     let does = c.carry_out.ensures.took w in
     let entered = c.in-Ok.ensures.enters does.0 in
-    let old = at (g.W.Wire.seen c.args.wire.now) c.args.reader.now in
-    let mid = at (g.W.Wire.seen c.enter.new.wire) c.enter.new.reader in
-    let new = at (g.W.Wire.seen c.carry_out.new.wire) c.carry_out.new.reader in
+    let old = place_of g.W.Wire c.args.client.now in
+    let mid = place_of g.W.Wire c.enter.new.client in
+    let new = place_of g.W.Wire c.carry_out.new.client in
     let n = length c.in-Ok.listing in (
       entered.0,
       with_tail_less (409616384 + (n * 268439552 + 4096)) (409616384 + (c.len-notes.result * 268439552 + 4096)) old new c.carry_out.result (omega (arith, c.len-notes.ensures.count))
@@ -58,10 +58,10 @@ returns-clause-took g c = λ w.
     )
 
 pub returns-in-Err-clause-counted : goal.returns-in-Err-clause-counted
-returns-in-Err-clause-counted g c = cut_by c.in-Err.fault c.told.result c.plain.result (g.W.Wire.seen c.args.wire.now) (g.W.Wire.seen c.enter.new.wire) c.plain.ensures c.told.ensures c.in-Err.ensures.counted
+returns-in-Err-clause-counted g c = cut_by c.in-Err.fault c.told.result c.plain.result (g.W.Wire.seen c.args.client.now.wire.now) (g.W.Wire.seen c.enter.new.client.wire.now) c.plain.ensures c.told.ensures c.in-Err.ensures.counted
 
 pub returns-in-Err-reserve-clause-counted : goal.returns-in-Err-reserve-clause-counted
 returns-in-Err-reserve-clause-counted g c = inl c.in-Ok.ensures.counted
 
 pub returns-clause-counted : goal.returns-clause-counted
-returns-clause-counted g c = till_cut (g.W.Wire.seen c.args.wire.now) (g.W.Wire.seen c.enter.new.wire) (g.W.Wire.seen c.carry_out.new.wire) c.carry_out.result c.in-Ok.ensures.counted c.carry_out.ensures.counted
+returns-clause-counted g c = till_cut (g.W.Wire.seen c.args.client.now.wire.now) (g.W.Wire.seen c.enter.new.client.wire.now) (g.W.Wire.seen c.carry_out.new.client.wire.now) c.carry_out.result c.in-Ok.ensures.counted c.carry_out.ensures.counted

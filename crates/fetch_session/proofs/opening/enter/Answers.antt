@@ -1,6 +1,6 @@
 use Rattle.std.proofs.Common.{List, ℕ, subst, Err}
 use Rattle.std.specs.String.{string_bytes}
-use Rattle.pop3_wire.specs.Place.{at}
+use Rattle.pop3_client.specs.Client.{place_of}
 use Rattle.fetch_session.specs.Opening.{Enters}
 use Rattle.fetch_session.proofs.OpeningLemmas.{not_entered, not_counted, listed_too}
 use Rattle.fetch_session.proofs.opening.enter.Goals as goal
@@ -8,8 +8,8 @@ use Rattle.fetch_session.proofs.opening.enter.Goals as goal
 pub returns-in-Err-clause-enters : goal.returns-in-Err-clause-enters
 returns-in-Err-clause-enters g c = λ w.
     let logged = c.in-Err.ensures.talks w in
-    let old = at (g.W.Wire.seen c.args.wire.now) c.args.reader.now in
-    let new = at (g.W.Wire.seen c.log_in.new.wire) c.log_in.new.reader in (
+    let old = place_of g.W.Wire c.args.client.now in
+    let new = place_of g.W.Wire c.log_in.new.self in (
       logged.0,
       logged.1,
       subst (λ (n : List ℕ). Enters n (string_bytes c.args.settings.now.password) old (Err c.in-Err.fault) new) c.as_bytes-name.ensures.value
@@ -23,9 +23,9 @@ returns-in-Err-count-clause-enters g c = λ w.
     let logged = c.in_default.ensures.talks counted.0 in
     let name = c.as_bytes-name.result.now in
     let password = c.as_bytes-password.result.now in
-    let old = at (g.W.Wire.seen c.args.wire.now) c.args.reader.now in
-    let mid = at (g.W.Wire.seen c.log_in.new.wire) c.log_in.new.reader in
-    let new = at (g.W.Wire.seen c.count.new.wire) c.count.new.reader in (
+    let old = place_of g.W.Wire c.args.client.now in
+    let mid = place_of g.W.Wire c.log_in.new.self in
+    let new = place_of g.W.Wire c.count.new.self in (
       logged.0,
       g.met.W.Wire.leads_on _ _ _ logged.1 counted.1,
       subst (λ (n : List ℕ). Enters n (string_bytes c.args.settings.now.password) old (Err c.in-Err-count.fault) new) c.as_bytes-name.ensures.value
@@ -40,10 +40,10 @@ returns-clause-enters g c = λ w.
     let logged = c.in_default.ensures.talks counted.0 in
     let name = c.as_bytes-name.result.now in
     let password = c.as_bytes-password.result.now in
-    let old = at (g.W.Wire.seen c.args.wire.now) c.args.reader.now in
-    let mid = at (g.W.Wire.seen c.log_in.new.wire) c.log_in.new.reader in
-    let told = at (g.W.Wire.seen c.count.new.wire) c.count.new.reader in
-    let new = at (g.W.Wire.seen c.list.new.wire) c.list.new.reader in (
+    let old = place_of g.W.Wire c.args.client.now in
+    let mid = place_of g.W.Wire c.log_in.new.self in
+    let told = place_of g.W.Wire c.count.new.self in
+    let new = place_of g.W.Wire c.list.new.self in (
       logged.0,
       g.met.W.Wire.leads_on _ _ _ logged.1 (g.met.W.Wire.leads_on _ _ _ counted.1 listed.1),
       subst (λ (n : List ℕ). Enters n (string_bytes c.args.settings.now.password) old c.list.result new) c.as_bytes-name.ensures.value

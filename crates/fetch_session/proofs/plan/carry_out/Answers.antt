@@ -1,5 +1,5 @@
 use Rattle.std.proofs.Common.{◌+◌, ◌*◌, List, [], Bool, inl, inr, arith, length, Err, sym, ap, subst, ◌∙◌, refl}
-use Rattle.pop3_wire.specs.Place.{at}
+use Rattle.pop3_client.specs.Client.{place_of}
 use Rattle.fetch_rules.specs.Plan.{planned}
 use Rattle.fetch_rules.specs.declared.steps.Step.{Step}
 use Rattle.mail_store.specs.Held.{flags_of}
@@ -15,7 +15,7 @@ use Rattle.fetch_session.proofs.plan.carry_out.Goals as goal
 pub returns-in-Err-clause-carries : goal.returns-in-Err-clause-carries
 returns-in-Err-clause-carries g c = λ w d f.
     let ready = c.in-Err.ensures.readies d f in
-    (w, ready.0, ready.1, g.met.W.Wire.leads_same c.args.wire.now, ([], inl (c.requires.none_skipped, unprepared c.args.account.now c.args.listing.now c.args.now (at (g.W.Wire.seen c.args.wire.now) c.args.reader.now) (g.D.MaildirDisk.maildir c.args.disk.now) (g.F.FlatFile.stored c.args.file.now) c.args.lines.now.items c.in-Err.fault c.plain.result (g.D.MaildirDisk.maildir c.prepare.new.disk) (g.F.FlatFile.stored c.prepare.new.file) c.plain.ensures ready.2)))
+    (w, ready.0, ready.1, g.met.W.Wire.leads_same c.args.client.now.wire.now, ([], inl (c.requires.none_skipped, unprepared c.args.account.now c.args.listing.now c.args.now (place_of g.W.Wire c.args.client.now) (g.D.MaildirDisk.maildir c.args.disk.now) (g.F.FlatFile.stored c.args.file.now) c.args.lines.now.items c.in-Err.fault c.plain.result (g.D.MaildirDisk.maildir c.prepare.new.disk) (g.F.FlatFile.stored c.prepare.new.file) c.plain.ensures ready.2)))
 
 pub skipped_in-requires : goal.skipped_in-requires
 skipped_in-requires g c = omega (arith, ap length c.deref.ensures.value, c.in-Ok.ensures.lengths.0, c.requires.few)
@@ -35,10 +35,10 @@ pub returns-in-Err-do_steps-clause-carries : goal.returns-in-Err-do_steps-clause
 returns-in-Err-do_steps-clause-carries g c = λ w d f.
     let done = c.in-Err-do_steps.ensures.does w d f in
     let ready = c.in-Ok.ensures.readies done.1 done.2 in
-    let old = at (g.W.Wire.seen c.args.wire.now) c.args.reader.now in
+    let old = place_of g.W.Wire c.args.client.now in
     let maildir = g.D.MaildirDisk.maildir c.args.disk.now in
     let file = g.F.FlatFile.stored c.args.file.now in
-    let new = scene (at (g.W.Wire.seen c.do_steps.new.wire) c.do_steps.new.reader) (g.D.MaildirDisk.maildir c.do_steps.new.disk) (g.F.FlatFile.stored c.do_steps.new.file) c.do_steps.new.seen.rows c.do_steps.new.lines.items in
+    let new = scene (place_of g.W.Wire c.do_steps.new.client) (g.D.MaildirDisk.maildir c.do_steps.new.disk) (g.F.FlatFile.stored c.do_steps.new.file) c.do_steps.new.seen.rows c.do_steps.new.lines.items in
     (done.0, ready.0, ready.1, done.3, (c.do_steps.new.seen.rows, inr (carry_fell c.args.settings.now c.args.account.now c.args.listing.now c.args.now old maildir file c.args.lines.now.items c.in-Ok.ready c.prepare.new.seen.rows (g.D.MaildirDisk.maildir c.prepare.new.disk) (g.F.FlatFile.stored c.prepare.new.file) ready.2 c.deref-2.result.now c.deref-3.result.now c.deref-2.ensures.value c.deref-3.ensures.value c.skipped_in.result (c.skipped_in.ensures ∙ ap skipped_in (c.deref.ensures.value ∙ sym c.deref-2.ensures.value)) new c.in-Err-do_steps.cut done.4)))
 
 pub returns-in-Ok-quit-clause-carries : goal.returns-in-Ok-quit-clause-carries
@@ -46,7 +46,7 @@ returns-in-Ok-quit-clause-carries g c = λ w d f.
     let tells = c.in-Ok-quit.ensures.tells w in
     let done = c.in_default.ensures.does tells.0 d f in
     let ready = c.in-Ok.ensures.readies done.1 done.2 in
-    let old = at (g.W.Wire.seen c.args.wire.now) c.args.reader.now in
+    let old = place_of g.W.Wire c.args.client.now in
     let maildir = g.D.MaildirDisk.maildir c.args.disk.now in
     let file = g.F.FlatFile.stored c.args.file.now in (
       done.0,
@@ -56,7 +56,7 @@ returns-in-Ok-quit-clause-carries g c = λ w d f.
       (
         c.do_steps.new.seen.rows,
         carry_quit c.args.settings.now c.args.account.now c.args.listing.now c.args.now old maildir file c.args.lines.now.items c.in-Ok.ready c.prepare.new.seen.rows (g.D.MaildirDisk.maildir c.prepare.new.disk) (g.F.FlatFile.stored c.prepare.new.file) ready.2 c.deref-2.result.now c.deref-3.result.now c.deref-2.ensures.value c.deref-3.ensures.value c.skipped_in.result (c.skipped_in.ensures ∙ ap skipped_in (c.deref.ensures.value ∙ sym c.deref-2.ensures.value))
-            (at (g.W.Wire.seen c.do_steps.new.wire) c.do_steps.new.reader) (at (g.W.Wire.seen c.quit.new.wire) c.quit.new.reader)
+            (place_of g.W.Wire c.do_steps.new.client) (place_of g.W.Wire c.quit.new.self)
             (g.D.MaildirDisk.maildir c.do_steps.new.disk) (g.F.FlatFile.stored c.do_steps.new.file) c.do_steps.new.seen.rows c.do_steps.new.lines.items tells.2.0 done.4 tells.2.1,
       ),
     )
@@ -66,7 +66,7 @@ returns-clause-carries g c = λ w d f.
     let tells = c.in-Err-quit.ensures.tells w in
     let done = c.in_default.ensures.does tells.0 d f in
     let ready = c.in-Ok.ensures.readies done.1 done.2 in
-    let old = at (g.W.Wire.seen c.args.wire.now) c.args.reader.now in
+    let old = place_of g.W.Wire c.args.client.now in
     let maildir = g.D.MaildirDisk.maildir c.args.disk.now in
     let file = g.F.FlatFile.stored c.args.file.now in (
       done.0,
@@ -76,7 +76,7 @@ returns-clause-carries g c = λ w d f.
       (
         c.do_steps.new.seen.rows,
         inr (carry_broke c.args.settings.now c.args.account.now c.args.listing.now c.args.now old maildir file c.args.lines.now.items c.in-Ok.ready c.prepare.new.seen.rows (g.D.MaildirDisk.maildir c.prepare.new.disk) (g.F.FlatFile.stored c.prepare.new.file) ready.2 c.deref-2.result.now c.deref-3.result.now c.deref-2.ensures.value c.deref-3.ensures.value c.skipped_in.result (c.skipped_in.ensures ∙ ap skipped_in (c.deref.ensures.value ∙ sym c.deref-2.ensures.value))
-            (at (g.W.Wire.seen c.do_steps.new.wire) c.do_steps.new.reader) (at (g.W.Wire.seen c.quit.new.wire) c.quit.new.reader)
+            (place_of g.W.Wire c.do_steps.new.client) (place_of g.W.Wire c.quit.new.self)
             (g.D.MaildirDisk.maildir c.do_steps.new.disk) (g.F.FlatFile.stored c.do_steps.new.file) c.do_steps.new.seen.rows c.do_steps.new.lines.items c.in-Err-quit.fault c.told.result c.plain-in-Err-quit.result done.4 c.plain-in-Err-quit.ensures c.told.ensures tells.2),
       ),
     )
@@ -85,7 +85,7 @@ returns-clause-carries g c = λ w d f.
 
 pub returns-in-Err-clause-took : goal.returns-in-Err-clause-took
 returns-in-Err-clause-took g c = λ w.
-    let here = at (g.W.Wire.seen c.args.wire.now) c.args.reader.now in (
+    let here = place_of g.W.Wire c.args.client.now in (
       w,
       with_tail_less (0 + 4096) (length c.args.listing.now * 268439552 + 4096) here here (Err c.plain.result) (omega arith)
           (with_any_tail 0 here here c.plain.result (takes_plain 0 here here c.in-Err.fault c.plain.result c.plain.ensures (took_nothing here))),
@@ -94,16 +94,16 @@ returns-in-Err-clause-took g c = λ w.
 pub returns-in-Err-do_steps-clause-took : goal.returns-in-Err-do_steps-clause-took
 returns-in-Err-do_steps-clause-took g c = λ w.
     let done = c.in-Err-do_steps.ensures.took w in
-    (done.0, with_any_tail (length c.args.listing.now * 268439552) (at (g.W.Wire.seen c.args.wire.now) c.args.reader.now) (at (g.W.Wire.seen c.do_steps.new.wire) c.do_steps.new.reader) c.in-Err-do_steps.cut done.1)
+    (done.0, with_any_tail (length c.args.listing.now * 268439552) (place_of g.W.Wire c.args.client.now) (place_of g.W.Wire c.do_steps.new.client) c.in-Err-do_steps.cut done.1)
 
 pub returns-in-Ok-quit-clause-took : goal.returns-in-Ok-quit-clause-took
 returns-in-Ok-quit-clause-took g c = λ w.
     let tells = c.in-Ok-quit.ensures.tells w in
     let done = c.in_default.ensures.took tells.0 in
     let most = length c.args.listing.now * 268439552 in
-    let old = at (g.W.Wire.seen c.args.wire.now) c.args.reader.now in
-    let mid = at (g.W.Wire.seen c.do_steps.new.wire) c.do_steps.new.reader in
-    let new = at (g.W.Wire.seen c.quit.new.wire) c.quit.new.reader in
+    let old = place_of g.W.Wire c.args.client.now in
+    let mid = place_of g.W.Wire c.do_steps.new.client in
+    let new = place_of g.W.Wire c.quit.new.self in
     (done.0, took_less (most + 2048) (most + 4096) old new (omega arith) (took_on most 2048 old mid new done.1 (quit_told c.conversations_are_paced.ensures mid new tells.2)))
 
 pub returns-clause-took : goal.returns-clause-took
@@ -111,9 +111,9 @@ returns-clause-took g c = λ w.
     let tells = c.in-Err-quit.ensures.tells w in
     let done = c.in_default.ensures.took tells.0 in
     let most = length c.args.listing.now * 268439552 in
-    let old = at (g.W.Wire.seen c.args.wire.now) c.args.reader.now in
-    let mid = at (g.W.Wire.seen c.do_steps.new.wire) c.do_steps.new.reader in
-    let new = at (g.W.Wire.seen c.quit.new.wire) c.quit.new.reader in
+    let old = place_of g.W.Wire c.args.client.now in
+    let mid = place_of g.W.Wire c.do_steps.new.client in
+    let new = place_of g.W.Wire c.quit.new.self in
     let cut = c.plain-in-Err-quit.result in (
       done.0,
       with_tail_less (most + 2048) (most + 4096) old new (Err cut) (omega arith) (with_tail_on most 2048 old mid new (Err cut) done.1
@@ -130,5 +130,5 @@ returns-in-Ok-quit-clause-counted g c = c.in-Ok-quit.ensures.counted ∙ c.in_de
 
 pub returns-clause-counted : goal.returns-clause-counted
 returns-clause-counted g c =
-    before_cut (g.W.Wire.seen c.args.wire.now) (g.W.Wire.seen c.do_steps.new.wire) (g.W.Wire.seen c.quit.new.wire) c.plain-in-Err-quit.result c.in_default.ensures.counted
-    (cut_by c.in-Err-quit.fault c.told.result c.plain-in-Err-quit.result (g.W.Wire.seen c.do_steps.new.wire) (g.W.Wire.seen c.quit.new.wire) c.plain-in-Err-quit.ensures c.told.ensures c.in-Err-quit.ensures.counted)
+    before_cut (g.W.Wire.seen c.args.client.now.wire.now) (g.W.Wire.seen c.do_steps.new.client.wire.now) (g.W.Wire.seen c.quit.new.self.wire.now) c.plain-in-Err-quit.result c.in_default.ensures.counted
+    (cut_by c.in-Err-quit.fault c.told.result c.plain-in-Err-quit.result (g.W.Wire.seen c.do_steps.new.client.wire.now) (g.W.Wire.seen c.quit.new.self.wire.now) c.plain-in-Err-quit.ensures c.told.ensures c.in-Err-quit.ensures.counted)

@@ -1,5 +1,5 @@
 use Rattle.std.proofs.Common.{List, [], Ok, Err, arith, sym, refl, subst}
-use Rattle.pop3_wire.specs.Place.{at}
+use Rattle.pop3_client.specs.Client.{place_of}
 use Rattle.pop3_client.specs.Turns.{dele}
 use Rattle.fetch_session.specs.Task.{Task, deletes}
 use Rattle.fetch_session.specs.Scene.{scene, AllWent, Fell}
@@ -11,14 +11,14 @@ use Rattle.fetch_session.proofs.step.delete_if.Goals as goal
 
 pub returns-then-not-wanted-clause-deletes : goal.returns-then-not-wanted-clause-deletes
 returns-then-not-wanted-clause-deletes g c = λ account maildir file rows sound.
-    let here = scene (at (g.W.Wire.seen c.args.wire.now) c.args.reader.now) maildir file rows c.args.lines.now.items in
-    (sound, g.met.W.Wire.leads_same c.args.wire.now, subst (λ (ts : List Task). AllWent account ts here here) (sym (no_deletes c.args.wanted c.args.number c.if-not-wanted.true)) (all_none account here))
+    let here = scene (place_of g.W.Wire c.args.client.now) maildir file rows c.args.lines.now.items in
+    (sound, g.met.W.Wire.leads_same c.args.client.now.wire.now, subst (λ (ts : List Task). AllWent account ts here here) (sym (no_deletes c.args.wanted c.args.number c.if-not-wanted.true)) (all_none account here))
 
 pub returns-in-Ok-clause-deletes : goal.returns-in-Ok-clause-deletes
 returns-in-Ok-clause-deletes g c = λ account maildir file rows sound.
     let tells = c.in-Ok.ensures.tells sound in
-    let old = at (g.W.Wire.seen c.args.wire.now) c.args.reader.now in
-    let new = at (g.W.Wire.seen c.delete.new.wire) c.delete.new.reader in
+    let old = place_of g.W.Wire c.args.client.now in
+    let new = place_of g.W.Wire c.delete.new.self in
     let lines = c.args.lines.now.items in
     let lines' = c.note.new.lines.items in (
       tells.0,
@@ -30,8 +30,8 @@ returns-in-Ok-clause-deletes g c = λ account maildir file rows sound.
 pub returns-in-Err-clause-deletes : goal.returns-in-Err-clause-deletes
 returns-in-Err-clause-deletes g c = λ account maildir file rows sound.
     let tells = c.in-Err.ensures.tells sound in
-    let old = at (g.W.Wire.seen c.args.wire.now) c.args.reader.now in
-    let new = at (g.W.Wire.seen c.delete.new.wire) c.delete.new.reader in
+    let old = place_of g.W.Wire c.args.client.now in
+    let new = place_of g.W.Wire c.delete.new.self in
     let lines = c.args.lines.now.items in (
       tells.0,
       tells.1,
@@ -42,20 +42,20 @@ returns-in-Err-clause-deletes g c = λ account maildir file rows sound.
 
 pub returns-then-not-wanted-clause-took : goal.returns-then-not-wanted-clause-took
 returns-then-not-wanted-clause-took g c = λ w.
-    let here = at (g.W.Wire.seen c.args.wire.now) c.args.reader.now in
+    let here = place_of g.W.Wire c.args.client.now in
     (w, took_less 0 2048 here here (omega arith) (took_nothing here))
 
 pub returns-in-Ok-clause-took : goal.returns-in-Ok-clause-took
 returns-in-Ok-clause-took g c = λ w.
     let tells = c.in-Ok.ensures.tells w in
-    (tells.0, took_deleting c.conversations_are_paced.ensures c.args.number (at (g.W.Wire.seen c.args.wire.now) c.args.reader.now) (at (g.W.Wire.seen c.delete.new.wire) c.delete.new.reader) (Ok tt) tells.2)
+    (tells.0, took_deleting c.conversations_are_paced.ensures c.args.number (place_of g.W.Wire c.args.client.now) (place_of g.W.Wire c.delete.new.self) (Ok tt) tells.2)
 
 pub returns-in-Err-clause-took : goal.returns-in-Err-clause-took
 returns-in-Err-clause-took g c = λ w.
     let tells = c.in-Err.ensures.tells w in
-    let old = at (g.W.Wire.seen c.args.wire.now) c.args.reader.now in
-    let new = at (g.W.Wire.seen c.delete.new.wire) c.delete.new.reader in
+    let old = place_of g.W.Wire c.args.client.now in
+    let new = place_of g.W.Wire c.delete.new.self in
     (tells.0, takes_plain 2048 old new c.told.result c.plain.result c.plain.ensures (took_deleting c.conversations_are_paced.ensures c.args.number old new (Err c.in-Err.fault) tells.2))
 
 pub returns-in-Err-clause-counted : goal.returns-in-Err-clause-counted
-returns-in-Err-clause-counted g c = cut_by c.in-Err.fault c.told.result c.plain.result (g.W.Wire.seen c.args.wire.now) (g.W.Wire.seen c.delete.new.wire) c.plain.ensures c.told.ensures c.in-Err.ensures.counted
+returns-in-Err-clause-counted g c = cut_by c.in-Err.fault c.told.result c.plain.result (g.W.Wire.seen c.args.client.now.wire.now) (g.W.Wire.seen c.delete.new.self.wire.now) c.plain.ensures c.told.ensures c.in-Err.ensures.counted

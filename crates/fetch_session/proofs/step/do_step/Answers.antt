@@ -1,5 +1,5 @@
 use Rattle.std.proofs.Common.{Err, arith}
-use Rattle.pop3_wire.specs.Place.{at}
+use Rattle.pop3_client.specs.Client.{place_of}
 use Rattle.fetch_session.specs.Task.{fetching, deleting}
 use Rattle.fetch_session.specs.Scene.{scene}
 use Rattle.fetch_session.proofs.SceneLemmas.{does_more}
@@ -18,21 +18,21 @@ returns-clause-does g c = λ w d f.
       fetches.2,
       g.met.W.Wire.leads_on _ _ _ fetches.3 deletes.1,
       does_more c.args.account.now (fetching c.args.step.retrieve c.args.held c.args.step.number c.args.uid.now c.args.size) (deleting c.args.step.delete c.args.step.number)
-          (scene (at (g.W.Wire.seen c.args.wire.now) c.args.reader.now) (g.D.MaildirDisk.maildir c.args.disk.now) (g.F.FlatFile.stored c.args.file.now) c.args.seen.now.rows c.args.lines.now.items)
-          (scene (at (g.W.Wire.seen c.fetch_if.new.wire) c.fetch_if.new.reader) maildir file c.fetch_if.new.seen.rows c.fetch_if.new.lines.items)
-          (scene (at (g.W.Wire.seen c.delete_if.new.wire) c.delete_if.new.reader) maildir file c.fetch_if.new.seen.rows c.delete_if.new.lines.items) c.delete_if.result fetches.4 deletes.2,
+          (scene (place_of g.W.Wire c.args.client.now) (g.D.MaildirDisk.maildir c.args.disk.now) (g.F.FlatFile.stored c.args.file.now) c.args.seen.now.rows c.args.lines.now.items)
+          (scene (place_of g.W.Wire c.fetch_if.new.client) maildir file c.fetch_if.new.seen.rows c.fetch_if.new.lines.items)
+          (scene (place_of g.W.Wire c.delete_if.new.client) maildir file c.fetch_if.new.seen.rows c.delete_if.new.lines.items) c.delete_if.result fetches.4 deletes.2,
     )
 
 pub returns-in-Err-clause-took : goal.returns-in-Err-clause-took
 returns-in-Err-clause-took g c = λ w.
     let fetches = c.in-Err.ensures.took w in
-    (fetches.0, takes_less 268437504 268439552 (at (g.W.Wire.seen c.args.wire.now) c.args.reader.now) (at (g.W.Wire.seen c.fetch_if.new.wire) c.fetch_if.new.reader) (Err c.in-Err.cut) (omega arith) fetches.1)
+    (fetches.0, takes_less 268437504 268439552 (place_of g.W.Wire c.args.client.now) (place_of g.W.Wire c.fetch_if.new.client) (Err c.in-Err.cut) (omega arith) fetches.1)
 
 pub returns-clause-took : goal.returns-clause-took
 returns-clause-took g c = λ w.
     let deletes = c.delete_if.ensures.took w in
     let fetches = c.in_default.ensures.took deletes.0 in
-    (fetches.0, takes_on 268437504 2048 (at (g.W.Wire.seen c.args.wire.now) c.args.reader.now) (at (g.W.Wire.seen c.fetch_if.new.wire) c.fetch_if.new.reader) (at (g.W.Wire.seen c.delete_if.new.wire) c.delete_if.new.reader) c.delete_if.result fetches.1 deletes.1)
+    (fetches.0, takes_on 268437504 2048 (place_of g.W.Wire c.args.client.now) (place_of g.W.Wire c.fetch_if.new.client) (place_of g.W.Wire c.delete_if.new.client) c.delete_if.result fetches.1 deletes.1)
 
 pub returns-clause-counted : goal.returns-clause-counted
-returns-clause-counted g c = till_cut (g.W.Wire.seen c.args.wire.now) (g.W.Wire.seen c.fetch_if.new.wire) (g.W.Wire.seen c.delete_if.new.wire) c.delete_if.result c.in_default.ensures.counted c.delete_if.ensures.counted
+returns-clause-counted g c = till_cut (g.W.Wire.seen c.args.client.now.wire.now) (g.W.Wire.seen c.fetch_if.new.client.wire.now) (g.W.Wire.seen c.delete_if.new.client.wire.now) c.delete_if.result c.in_default.ensures.counted c.delete_if.ensures.counted

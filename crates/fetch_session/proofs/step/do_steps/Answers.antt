@@ -1,6 +1,6 @@
 use Rattle.std.proofs.Common.{◌<◌, ◌+◌, ◌*◌, List, Bool, false, length, drop, get_or, Err, ap, subst, arith, refl, ◌∙◌}
 use Rattle.std.proofs.lemmas.List.{drop_all}
-use Rattle.pop3_wire.specs.Place.{at}
+use Rattle.pop3_client.specs.Client.{place_of}
 use Rattle.mail_terms.specs.Listing.{Item}
 use Rattle.fetch_rules.specs.declared.steps.Step.{Step}
 use Rattle.fetch_session.specs.Task.{Task, tasks_in, tasks_planned, fetching, ids_ahead, AreFresh}
@@ -59,10 +59,11 @@ loop-i-init g c = (
   (omega arith, omega arith),
   λ f. (f, c.requires.steady f),
   λ d. (d, c.requires.calm d, c.requires.free d),
-  λ w d f. (w, d, f, g.met.W.Wire.leads_same c.args.wire.now, leads_start _ _ _),
+  λ w d f. (w, d, f, g.met.W.Wire.leads_same c.args.client.now.wire.now, leads_start _ _ _),
   λ w. (w, took_nothing _),
   refl,
   c.requires.closed,
+  refl,
 )
 
 pub loop-i-preserved : goal.loop-i-preserved
@@ -104,11 +105,12 @@ loop-i-preserved g c =
       λ w.
           let done = c.in_default.ensures.took w in
           let inv = c.loop-i.invariant.4 done.0 in
-          let old = at (g.W.Wire.seen c.args.wire.now) c.args.reader.now in
-          let new = at (g.W.Wire.seen c.do_step.new.wire) c.do_step.new.reader in
-          (inv.0, took_less (i * 268439552 + 268439552) ((i + 1) * 268439552) old new (omega arith) (took_on (i * 268439552) 268439552 old (at (g.W.Wire.seen c.loop-i.wire) c.loop-i.reader) new inv.1 done.1)),
+          let old = place_of g.W.Wire c.args.client.now in
+          let new = place_of g.W.Wire c.do_step.new.client in
+          (inv.0, took_less (i * 268439552 + 268439552) ((i + 1) * 268439552) old new (omega arith) (took_on (i * 268439552) 268439552 old (place_of g.W.Wire c.loop-i.client) new inv.1 done.1)),
       c.in_default.ensures.counted ∙ c.loop-i.invariant.5,
       c.in_default.ensures.closed,
+      c.do_step.ensures.link ∙ c.loop-i.invariant.7,
     )
 
 pub returns-clause-does : goal.returns-clause-does
@@ -125,18 +127,18 @@ returns-in-Err-clause-took g c = λ w.
     let in_items : i < length c.args.listing.now = omega (arith, c.loop-i-test.true, c.len-i-end.ensures.count) in
     let done = c.in-Err.ensures.took w in
     let inv = c.loop-i.invariant.4 done.0 in
-    let old = at (g.W.Wire.seen c.args.wire.now) c.args.reader.now in
-    let new = at (g.W.Wire.seen c.do_step.new.wire) c.do_step.new.reader in (
+    let old = place_of g.W.Wire c.args.client.now in
+    let new = place_of g.W.Wire c.do_step.new.client in (
       inv.0,
       takes_less (i * 268439552 + 268439552) (length c.args.listing.now * 268439552) old new (Err c.in-Err.cut) (omega (arith, in_items))
-          (takes_on (i * 268439552) 268439552 old (at (g.W.Wire.seen c.loop-i.wire) c.loop-i.reader) new (Err c.in-Err.cut) inv.1 done.1),
+          (takes_on (i * 268439552) 268439552 old (place_of g.W.Wire c.loop-i.client) new (Err c.in-Err.cut) inv.1 done.1),
     )
 
 pub returns-clause-took : goal.returns-clause-took
 returns-clause-took g c = λ w.
     let i = c.loop-i.i in
     let inv = c.loop-i.invariant.4 w in
-    (inv.0, took_less (i * 268439552) (length c.args.listing.now * 268439552) (at (g.W.Wire.seen c.args.wire.now) c.args.reader.now) (at (g.W.Wire.seen c.loop-i.wire) c.loop-i.reader) (omega arith) inv.1)
+    (inv.0, took_less (i * 268439552) (length c.args.listing.now * 268439552) (place_of g.W.Wire c.args.client.now) (place_of g.W.Wire c.loop-i.client) (omega arith) inv.1)
 
 pub returns-in-Err-clause-counted : goal.returns-in-Err-clause-counted
-returns-in-Err-clause-counted g c = before_cut (g.W.Wire.seen c.args.wire.now) (g.W.Wire.seen c.loop-i.wire) (g.W.Wire.seen c.do_step.new.wire) c.in-Err.cut c.loop-i.invariant.5 c.in-Err.ensures.counted
+returns-in-Err-clause-counted g c = before_cut (g.W.Wire.seen c.args.client.now.wire.now) (g.W.Wire.seen c.loop-i.client.wire.now) (g.W.Wire.seen c.do_step.new.client.wire.now) c.in-Err.cut c.loop-i.invariant.5 c.in-Err.ensures.counted

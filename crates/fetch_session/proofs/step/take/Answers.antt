@@ -1,5 +1,5 @@
 use Rattle.std.proofs.Common.{List, ℕ, Ok, Err, arith, subst, ◌∙◌, inl, refl}
-use Rattle.pop3_wire.specs.Place.{at}
+use Rattle.pop3_client.specs.Client.{place_of}
 use Rattle.mail_store.specs.Maildir.{IsInNew}
 use Rattle.fetch_session.specs.declared.fault.Fault.TheVariants.{NoMemory}
 use Rattle.fetch_session.specs.Store.{Grows}
@@ -14,8 +14,8 @@ returns-in-Err-clause-takes g c = λ w d f. (
   w,
   d,
   f,
-  g.met.W.Wire.leads_same c.args.wire.now,
-  text_wanting c.args.account.now c.args.number c.args.uid.now (at (g.W.Wire.seen c.args.wire.now) c.args.reader.now) (g.D.MaildirDisk.maildir c.args.disk.now)
+  g.met.W.Wire.leads_same c.args.client.now.wire.now,
+  text_wanting c.args.account.now c.args.number c.args.uid.now (place_of g.W.Wire c.args.client.now) (g.D.MaildirDisk.maildir c.args.disk.now)
       (g.F.FlatFile.stored c.args.file.now) c.args.seen.now.rows c.args.lines.now.items c.plain.result c.plain.ensures,
 )
 
@@ -29,12 +29,12 @@ returns-in-Err-store_text-clause-takes g c = λ w d f.
     let stored = c.in-Err-store_text.ensures.stores d in
     let link = stored.1.2 w in
     let opened = c.in-Ok-open.ensures.opens link.0 in
-    let old = at (g.W.Wire.seen c.args.wire.now) c.args.reader.now in (
+    let old = place_of g.W.Wire c.args.client.now in (
       opened.0,
       stored.0,
       f,
       g.met.W.Wire.leads_on _ _ _ opened.1 link.1,
-      text_stops c.args.account.now c.args.number c.args.uid.now stored.1.0 c.as_str.result.now old (at (g.W.Wire.seen c.store_text.new.wire) c.store_text.new.reader)
+      text_stops c.args.account.now c.args.number c.args.uid.now stored.1.0 c.as_str.result.now old (place_of g.W.Wire c.store_text.new.client)
           (g.D.MaildirDisk.maildir c.args.disk.now) (g.D.MaildirDisk.maildir c.store_text.new.disk) (g.F.FlatFile.stored c.args.file.now) c.args.seen.now.rows c.args.lines.now.items c.in-Err-store_text.cut
           (c.as_str.ensures.value ∙ c.in-Ok.ensures.name) stored.1.1 (link.2 c.args.number old opened.2),
     )
@@ -45,12 +45,12 @@ returns-in-Ok-remember-clause-takes g c = λ w d f.
     let stored = c.in-Ok-store_text.ensures.stores d in
     let link = stored.1.2 w in
     let opened = c.in-Ok-open.ensures.opens link.0 in
-    let old = at (g.W.Wire.seen c.args.wire.now) c.args.reader.now in (
+    let old = place_of g.W.Wire c.args.client.now in (
       opened.0,
       stored.0,
       saved.0,
       g.met.W.Wire.leads_on _ _ _ opened.1 link.1,
-      text_stored c.args.account.now c.args.number c.in-Ok-store_text.length c.args.uid.now stored.1.0 c.as_str.result.now old (at (g.W.Wire.seen c.store_text.new.wire) c.store_text.new.reader)
+      text_stored c.args.account.now c.args.number c.in-Ok-store_text.length c.args.uid.now stored.1.0 c.as_str.result.now old (place_of g.W.Wire c.store_text.new.client)
           (g.D.MaildirDisk.maildir c.args.disk.now) (g.D.MaildirDisk.maildir c.store_text.new.disk) (g.F.FlatFile.stored c.args.file.now) (g.F.FlatFile.stored c.remember.new.file)
           c.args.seen.now.rows c.remember.new.seen.rows c.args.lines.now.items c.note.new.lines.items
           (c.as_str.ensures.value ∙ c.in-Ok.ensures.name) stored.1.1 (link.2 c.args.number old opened.2) c.in-Ok-remember.ensures.rows saved.1 c.note.ensures.items,
@@ -62,12 +62,12 @@ returns-clause-takes g c = λ w d f.
     let stored = c.in-Ok-store_text.ensures.stores d in
     let link = stored.1.2 w in
     let opened = c.in-Ok-open.ensures.opens link.0 in
-    let old = at (g.W.Wire.seen c.args.wire.now) c.args.reader.now in (
+    let old = place_of g.W.Wire c.args.client.now in (
       opened.0,
       stored.0,
       saved.0,
       g.met.W.Wire.leads_on _ _ _ opened.1 link.1,
-      text_not_saved c.args.account.now c.args.number c.in-Ok-store_text.length c.args.uid.now stored.1.0 c.as_str.result.now old (at (g.W.Wire.seen c.store_text.new.wire) c.store_text.new.reader)
+      text_not_saved c.args.account.now c.args.number c.in-Ok-store_text.length c.args.uid.now stored.1.0 c.as_str.result.now old (place_of g.W.Wire c.store_text.new.client)
           (g.D.MaildirDisk.maildir c.args.disk.now) (g.D.MaildirDisk.maildir c.store_text.new.disk) (g.F.FlatFile.stored c.args.file.now) (g.F.FlatFile.stored c.remember.new.file)
           c.args.seen.now.rows c.remember.new.seen.rows c.args.lines.now.items c.note.new.lines.items c.in-Err-remember.fault c.plain-in-Err-remember.result
           (c.as_str.ensures.value ∙ c.in-Ok.ensures.name) stored.1.1 (link.2 c.args.number old opened.2) saved.1 c.plain-in-Err-remember.ensures c.note.ensures.items,
@@ -107,38 +107,38 @@ returns-clause-grows g c = λ d.
 
 pub returns-in-Err-clause-took : goal.returns-in-Err-clause-took
 returns-in-Err-clause-took g c = λ w.
-    let here = at (g.W.Wire.seen c.args.wire.now) c.args.reader.now in
+    let here = place_of g.W.Wire c.args.client.now in
     (w, takes_plain 268437504 here here NoMemory c.plain.result c.plain.ensures (took_less 0 268437504 here here (omega arith) (took_nothing here)))
 
 pub returns-in-Err-open-clause-took : goal.returns-in-Err-open-clause-took
 returns-in-Err-open-clause-took g c = λ w.
     let opened = c.in-Err-open.ensures.opens w in
-    let old = at (g.W.Wire.seen c.args.wire.now) c.args.reader.now in
-    let new = at (g.W.Wire.seen c.open.new.wire) c.open.new.reader in
+    let old = place_of g.W.Wire c.args.client.now in
+    let new = place_of g.W.Wire c.open.new.self in
     (opened.0, takes_plain 268437504 old new c.told.result c.plain-in-Err-open.result c.plain-in-Err-open.ensures (took_retr c.conversations_are_paced.ensures c.args.number old new c.in-Err-open.fault opened.2))
 
 pub returns-in-Err-store_text-clause-took : goal.returns-in-Err-store_text-clause-took
 returns-in-Err-store_text-clause-took g c = λ w.
     let link = c.in-Err-store_text.ensures.reads w in
     let opened = c.in-Ok-open.ensures.opens link.0 in
-    let old = at (g.W.Wire.seen c.args.wire.now) c.args.reader.now in
+    let old = place_of g.W.Wire c.args.client.now in
     let reads = link.1 c.args.number old opened.2 in
-    (opened.0, takes_stopped c.conversations_are_paced.ensures c.args.number old reads.0 c.in-Err-store_text.cut (at (g.W.Wire.seen c.store_text.new.wire) c.store_text.new.reader) reads.1)
+    (opened.0, takes_stopped c.conversations_are_paced.ensures c.args.number old reads.0 c.in-Err-store_text.cut (place_of g.W.Wire c.store_text.new.client) reads.1)
 
 pub returns-in-Ok-remember-clause-took : goal.returns-in-Ok-remember-clause-took
 returns-in-Ok-remember-clause-took g c = λ w.
     let link = c.in-Ok-store_text.ensures.reads w in
     let opened = c.in-Ok-open.ensures.opens link.0 in
-    let old = at (g.W.Wire.seen c.args.wire.now) c.args.reader.now in
+    let old = place_of g.W.Wire c.args.client.now in
     let reads = link.1 c.args.number old opened.2 in
-    (opened.0, takes_text c.conversations_are_paced.ensures c.args.number old reads.0 c.in-Ok-store_text.length (at (g.W.Wire.seen c.store_text.new.wire) c.store_text.new.reader) reads.1)
+    (opened.0, takes_text c.conversations_are_paced.ensures c.args.number old reads.0 c.in-Ok-store_text.length (place_of g.W.Wire c.store_text.new.client) reads.1)
 
 pub returns-clause-took : goal.returns-clause-took
 returns-clause-took g c = λ w.
     let link = c.in-Ok-store_text.ensures.reads w in
     let opened = c.in-Ok-open.ensures.opens link.0 in
-    let old = at (g.W.Wire.seen c.args.wire.now) c.args.reader.now in
-    let new = at (g.W.Wire.seen c.store_text.new.wire) c.store_text.new.reader in
+    let old = place_of g.W.Wire c.args.client.now in
+    let new = place_of g.W.Wire c.store_text.new.client in
     let reads = link.1 c.args.number old opened.2 in
     (opened.0, takes_plain 268437504 old new c.in-Err-remember.fault c.plain-in-Err-remember.result c.plain-in-Err-remember.ensures (takes_text c.conversations_are_paced.ensures c.args.number old reads.0 c.in-Ok-store_text.length new reads.1))
 
@@ -149,10 +149,10 @@ returns-in-Err-clause-counted g c = inl refl
 
 pub returns-in-Err-open-clause-counted : goal.returns-in-Err-open-clause-counted
 returns-in-Err-open-clause-counted g c =
-    cut_by c.in-Err-open.fault c.told.result c.plain-in-Err-open.result (g.W.Wire.seen c.args.wire.now) (g.W.Wire.seen c.open.new.wire) c.plain-in-Err-open.ensures c.told.ensures c.in-Err-open.ensures.counted
+    cut_by c.in-Err-open.fault c.told.result c.plain-in-Err-open.result (g.W.Wire.seen c.args.client.now.wire.now) (g.W.Wire.seen c.open.new.self.wire.now) c.plain-in-Err-open.ensures c.told.ensures c.in-Err-open.ensures.counted
 
 pub returns-in-Err-store_text-clause-counted : goal.returns-in-Err-store_text-clause-counted
-returns-in-Err-store_text-clause-counted g c = before_cut (g.W.Wire.seen c.args.wire.now) (g.W.Wire.seen c.open.new.wire) (g.W.Wire.seen c.store_text.new.wire) c.in-Err-store_text.cut c.in-Ok-open.ensures.counted c.in-Err-store_text.ensures.counted
+returns-in-Err-store_text-clause-counted g c = before_cut (g.W.Wire.seen c.args.client.now.wire.now) (g.W.Wire.seen c.open.new.self.wire.now) (g.W.Wire.seen c.store_text.new.client.wire.now) c.in-Err-store_text.cut c.in-Ok-open.ensures.counted c.in-Err-store_text.ensures.counted
 
 pub returns-in-Ok-remember-clause-counted : goal.returns-in-Ok-remember-clause-counted
 returns-in-Ok-remember-clause-counted g c = c.in-Ok-store_text.ensures.counted ∙ c.in-Ok-open.ensures.counted

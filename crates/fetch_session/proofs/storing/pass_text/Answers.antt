@@ -42,11 +42,12 @@ pieces-preserved g c = (
             (so_far.0 ++ take c.in-Ok.piece.put c.next_piece.new.out, (took.2 number start so_far.0 so_far.1).0, longer c.pieces.length c.in-Ok.piece.put so_far.0 c.next_piece.new.out so_far.2 c.in-Ok.ensures.fits),
       ),
   c.in-Ok.ensures.counted ∙ c.pieces.invariant.3,
+  c.in-Ok.ensures.link ∙ c.pieces.invariant.4,
 )
 
 pub returns-in-Err-clause-counted : goal.returns-in-Err-clause-counted
 returns-in-Err-clause-counted g c =
-    subst (λ (n : ℕ). Tallies (is_refusal c.in-Err.fault) n (g.W.Wire.seen c.next_piece.new.wire).failures) c.pieces.invariant.3 c.in-Err.ensures.counted
+    subst (λ (n : ℕ). Tallies (is_refusal c.in-Err.fault) n (g.W.Wire.seen c.next_piece.new.self.wire.now).failures) c.pieces.invariant.3 c.in-Err.ensures.counted
 
 pub returns-then-piece-clause-counted : goal.returns-then-piece-clause-counted
 returns-then-piece-clause-counted g c = c.in-Ok.ensures.counted ∙ c.pieces.invariant.3

@@ -1,6 +1,6 @@
 use Rattle.std.proofs.Common.{◌≡◌, inr, ◌<◌, [], ◌++◌, length, take, arith, sym, ap, subst, ◌∙◌, inl, refl}
 use Rattle.std.proofs.lemmas.Bool.{false≢true}
-use Rattle.pop3_wire.specs.Place.{at}
+use Rattle.pop3_client.specs.Client.{place_of}
 use Rattle.mail_store.specs.Maildir.{Maildir, file, IsInNew}
 use Rattle.fetch_session.proofs.StoreLemmas.{refused_start, stopped_store, stopped_read, refused_piece, put_on, settled, refused_end, longer}
 use Rattle.fetch_session.proofs.RefusalLemmas.{before_cut, cut_by}
@@ -13,7 +13,7 @@ returns-in-Err-clause-stores g c = λ d.
       (
         [],
         refused_start (g.D.MaildirDisk.maildir c.args.disk.now) (g.D.MaildirDisk.maildir c.begin_file.new.disk) c.args.name.now c.args.body c.in-Err.fault (c.requires.calm starts.0) starts.1,
-        λ w. (w, g.met.W.Wire.leads_same c.args.wire.now, λ number start now. (now, λ done. absurd (c.requires.open done))),
+        λ w. (w, g.met.W.Wire.leads_same c.args.client.now.wire.now, λ number start now. (now, λ done. absurd (c.requires.open done))),
       ),
     )
 
@@ -31,7 +31,7 @@ returns-in-Err-next_piece-clause-stores g c = λ d.
             let before = inv.1.3 took.0 in (
               before.0,
               g.met.W.Wire.leads_on _ _ _ before.1 took.1,
-              λ number start now. stopped_read number start (at (g.W.Wire.seen c.next_piece.new.wire) c.next_piece.new.reader) inv.1.0 c.plain.result c.told.result c.in-Err-next_piece.fault
+              λ number start now. stopped_read number start (place_of g.W.Wire c.next_piece.new.self) inv.1.0 c.plain.result c.told.result c.in-Err-next_piece.fault
                   c.plain.ensures c.told.ensures (inr (inl (took.2 number start inv.1.0 (before.2 number start now)))),
             ),
       ),
@@ -145,6 +145,7 @@ pieces-preserved g c = (
         λ number start now. let so_far = before.1 number start now in (_, (took.2 number start so_far.0 so_far.1).0),
       ),
   c.in-Ok.ensures.counted ∙ c.pieces.invariant.4,
+  c.in-Ok.ensures.link ∙ c.pieces.invariant.5,
 )
 
 pub returns-in-Err-clause-reads : goal.returns-in-Err-clause-reads
@@ -157,7 +158,7 @@ returns-in-Err-next_piece-clause-reads g c = λ w.
       before.0,
       λ number start now.
           let so_far = before.1 number start now in
-          (so_far.0, stopped_read number start (at (g.W.Wire.seen c.next_piece.new.wire) c.next_piece.new.reader) so_far.0 c.plain.result c.told.result c.in-Err-next_piece.fault c.plain.ensures c.told.ensures (inr (inl (took.2 number start so_far.0 so_far.1)))),
+          (so_far.0, stopped_read number start (place_of g.W.Wire c.next_piece.new.self) so_far.0 c.plain.result c.told.result c.in-Err-next_piece.fault c.plain.ensures c.told.ensures (inr (inl (took.2 number start so_far.0 so_far.1)))),
     )
 
 pub returns-in-Err-put_piece-clause-reads : goal.returns-in-Err-put_piece-clause-reads
@@ -189,8 +190,8 @@ returns-in-Err-clause-counted g c = inl refl
 
 pub returns-in-Err-next_piece-clause-counted : goal.returns-in-Err-next_piece-clause-counted
 returns-in-Err-next_piece-clause-counted g c =
-    before_cut (g.W.Wire.seen c.args.wire.now) (g.W.Wire.seen c.pieces.wire) (g.W.Wire.seen c.next_piece.new.wire) c.plain.result c.pieces.invariant.4
-    (cut_by c.in-Err-next_piece.fault c.told.result c.plain.result (g.W.Wire.seen c.pieces.wire) (g.W.Wire.seen c.next_piece.new.wire) c.plain.ensures c.told.ensures c.in-Err-next_piece.ensures.counted)
+    before_cut (g.W.Wire.seen c.args.client.now.wire.now) (g.W.Wire.seen c.pieces.client.wire.now) (g.W.Wire.seen c.next_piece.new.self.wire.now) c.plain.result c.pieces.invariant.4
+    (cut_by c.in-Err-next_piece.fault c.told.result c.plain.result (g.W.Wire.seen c.pieces.client.wire.now) (g.W.Wire.seen c.next_piece.new.self.wire.now) c.plain.ensures c.told.ensures c.in-Err-next_piece.ensures.counted)
 
 pub returns-in-Err-put_piece-clause-counted : goal.returns-in-Err-put_piece-clause-counted
 returns-in-Err-put_piece-clause-counted g c = inl (c.in-Ok.ensures.counted ∙ c.pieces.invariant.4)

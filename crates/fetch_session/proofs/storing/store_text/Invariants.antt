@@ -1,5 +1,6 @@
 use Rattle.std.proofs.Common.{◌≡◌, ◌≢◌, ◌≤◌, ◌+◌, ◌*◌, ℕ, List, []}
-use Rattle.pop3_wire.specs.Place.{Place, at}
+use Rattle.pop3_wire.specs.Place.{Place}
+use Rattle.pop3_client.specs.Client.{HasSameLink, place_of}
 use Rattle.pop3_wire.specs.declared.unstuffer.Spot.TheVariants.{Done}
 use Rattle.pop3_client.specs.Turns.{retr}
 use Rattle.pop3_client.specs.Texts.{Fetching}
@@ -13,13 +14,14 @@ invariant-pieces g l =
     × (l.length + 4097 * l.rest.left ≤ 4097 * 268435456)
     × (g.D.MaildirDisk.sound l.disk → g.D.MaildirDisk.sound l.fn.disk
     × ((text : List ℕ) × (g.D.MaildirDisk.maildir l.disk ≡ begun_with (g.D.MaildirDisk.maildir l.fn.disk) (file l.fn.name text)) × (l.length ≡ Rattle.std.specs.Prelude.length text)
-    × (g.W.Wire.sound l.wire → g.W.Wire.sound l.fn.wire × g.W.Wire.leads_to l.fn.wire l.wire
-    × ((number : ℕ) (start : Place) → Fetching (retr number) start (at (g.W.Wire.seen l.fn.wire) l.fn.reader) l.fn.body []
-    → Fetching (retr number) start (at (g.W.Wire.seen l.wire) l.reader) l.rest text))))
-    × (g.W.Wire.sound l.wire → g.W.Wire.sound l.fn.wire
-    × ((number : ℕ) (start : Place) → Fetching (retr number) start (at (g.W.Wire.seen l.fn.wire) l.fn.reader) l.fn.body []
-    → (text : List ℕ) × Fetching (retr number) start (at (g.W.Wire.seen l.wire) l.reader) l.rest text))
-    × ((g.W.Wire.seen l.wire).failures ≡ (g.W.Wire.seen l.fn.wire).failures)
+    × (g.W.Wire.sound l.client.wire.now → g.W.Wire.sound l.fn.client.wire.now × g.W.Wire.leads_to l.fn.client.wire.now l.client.wire.now
+    × ((number : ℕ) (start : Place) → Fetching (retr number) start (place_of g.W.Wire l.fn.client) l.fn.body []
+    → Fetching (retr number) start (place_of g.W.Wire l.client) l.rest text))))
+    × (g.W.Wire.sound l.client.wire.now → g.W.Wire.sound l.fn.client.wire.now
+    × ((number : ℕ) (start : Place) → Fetching (retr number) start (place_of g.W.Wire l.fn.client) l.fn.body []
+    → (text : List ℕ) × Fetching (retr number) start (place_of g.W.Wire l.client) l.rest text))
+    × ((g.W.Wire.seen l.client.wire.now).failures ≡ (g.W.Wire.seen l.fn.client.wire.now).failures)
+    × HasSameLink l.fn.client l.client
 
 abbrev pub decreases-pieces : goal.decreases-pieces
 decreases-pieces g l = l.rest.left

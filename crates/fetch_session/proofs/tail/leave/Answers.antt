@@ -1,5 +1,5 @@
 use Rattle.std.proofs.Common.{subst, Result, ◌∙◌}
-use Rattle.pop3_wire.specs.Place.{at}
+use Rattle.pop3_client.specs.Client.{place_of}
 use Rattle.pop3_client.specs.Conversation.{Talks}
 use Rattle.pop3_wire.specs.Link.{CountsRefusal}
 use Rattle.pop3_client.specs.Conversation.{is_refusal}
@@ -13,29 +13,29 @@ use Rattle.fetch_session.proofs.tail.leave.Goals as goal
 pub returns-in-Err-clause-leaves : goal.returns-in-Err-clause-leaves
 returns-in-Err-clause-leaves g c = λ w.
     let drops = c.in-Err.ensures.drops w in
-    (drops.0, drops.1, left_broken c.args.cut.fault c.args.cut.rest (at (g.W.Wire.seen c.args.wire.now) c.args.reader.now) (at (g.W.Wire.seen c.drop_under_way.new.wire) c.drop_under_way.new.reader) c.in-Err.field-0 drops.2)
+    (drops.0, drops.1, left_broken c.args.cut.fault c.args.cut.rest (place_of g.W.Wire c.args.client.now) (place_of g.W.Wire c.drop_under_way.new.client) c.in-Err.field-0 drops.2)
 
 pub returns-clause-leaves : goal.returns-clause-leaves
 returns-clause-leaves g c = λ w.
     let says = c.say_tail.ensures.talks w in
     let drops = c.in_default.ensures.drops says.0 in
-    let mid = at (g.W.Wire.seen c.drop_under_way.new.wire) c.drop_under_way.new.reader in
-    let new = at (g.W.Wire.seen c.say_tail.new.wire) c.say_tail.new.reader in (
+    let mid = place_of g.W.Wire c.drop_under_way.new.client in
+    let new = place_of g.W.Wire c.say_tail.new.client in (
       drops.0,
       g.met.W.Wire.leads_on _ _ _ drops.1 says.1,
-      left_dropped c.args.cut.fault c.args.cut.rest (at (g.W.Wire.seen c.args.wire.now) c.args.reader.now) mid new c.say_tail.result drops.2
+      left_dropped c.args.cut.fault c.args.cut.rest (place_of g.W.Wire c.args.client.now) mid new c.say_tail.result drops.2
           (subst (λ (k : Tail). Talks (turns_in k) mid c.say_tail.result new) c.tail_of.ensures says.2),
     )
 
 pub returns-in-Err-clause-counted : goal.returns-in-Err-clause-counted
-returns-in-Err-clause-counted g c = at_most_one _ (g.W.Wire.seen c.args.wire.now) (g.W.Wire.seen c.drop_under_way.new.wire) c.in-Err.ensures.counted
+returns-in-Err-clause-counted g c = at_most_one _ (g.W.Wire.seen c.args.client.now.wire.now) (g.W.Wire.seen c.drop_under_way.new.client.wire.now) c.in-Err.ensures.counted
 
 pub returns-in-Err-clause-silent : goal.returns-in-Err-clause-silent
 returns-in-Err-clause-silent g c = λ none nothing. absurd (failed c.in-Err.field-0 (c.in-Err.ensures.nothing none))
 
 pub returns-clause-counted : goal.returns-clause-counted
-returns-clause-counted g c = then_at_most_one (g.W.Wire.seen c.args.wire.now) (g.W.Wire.seen c.drop_under_way.new.wire) (g.W.Wire.seen c.say_tail.new.wire) c.in_default.ensures.counted (at_most_one _ (g.W.Wire.seen c.drop_under_way.new.wire) (g.W.Wire.seen c.say_tail.new.wire) c.say_tail.ensures.counted)
+returns-clause-counted g c = then_at_most_one (g.W.Wire.seen c.args.client.now.wire.now) (g.W.Wire.seen c.drop_under_way.new.client.wire.now) (g.W.Wire.seen c.say_tail.new.client.wire.now) c.in_default.ensures.counted (at_most_one _ (g.W.Wire.seen c.drop_under_way.new.client.wire.now) (g.W.Wire.seen c.say_tail.new.client.wire.now) c.say_tail.ensures.counted)
 
 pub returns-clause-silent : goal.returns-clause-silent
 returns-clause-silent g c =
-    λ none nothing. subst (λ (r : Result (Unit {0}) TalkFault). CountsRefusal is_refusal (g.W.Wire.seen c.drop_under_way.new.wire) r (g.W.Wire.seen c.say_tail.new.wire)) (c.say_tail.ensures.nothing (c.tail_of.ensures ∙ nothing)) c.say_tail.ensures.counted ∙ c.in_default.ensures.counted
+    λ none nothing. subst (λ (r : Result (Unit {0}) TalkFault). CountsRefusal is_refusal (g.W.Wire.seen c.drop_under_way.new.client.wire.now) r (g.W.Wire.seen c.say_tail.new.client.wire.now)) (c.say_tail.ensures.nothing (c.tail_of.ensures ∙ nothing)) c.say_tail.ensures.counted ∙ c.in_default.ensures.counted

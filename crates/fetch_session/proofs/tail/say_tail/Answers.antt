@@ -1,5 +1,5 @@
 use Rattle.std.proofs.Common.{sym, subst}
-use Rattle.pop3_wire.specs.Place.{at}
+use Rattle.pop3_client.specs.Client.{place_of}
 use Rattle.pop3_client.specs.Turns.{quit}
 use Rattle.pop3_client.specs.Conversation.{Talks}
 use Rattle.fetch_session.specs.declared.tail.Tail.{Tail}
@@ -10,13 +10,13 @@ use Rattle.fetch_session.proofs.tail.say_tail.Goals as goal
 pub returns-in-Leave-clause-talks : goal.returns-in-Leave-clause-talks
 returns-in-Leave-clause-talks g c = λ w.
     let tells = c.quit.ensures.tells w in
-    let old = at (g.W.Wire.seen c.args.wire.now) c.args.reader.now in
-    let new = at (g.W.Wire.seen c.quit.new.wire) c.quit.new.reader in
+    let old = place_of g.W.Wire c.args.client.now in
+    let new = place_of g.W.Wire c.quit.new.self in
     (tells.0, tells.1, subst (λ (k : Tail). Talks (turns_in k) old c.quit.result new) (sym c.in-Leave.is) (tells_talks quit old new c.quit.result tells.2))
 
 pub returns-in-Undo-clause-talks : goal.returns-in-Undo-clause-talks
 returns-in-Undo-clause-talks g c = λ w.
     let talks = c.reset_and_quit.ensures.talks w in
-    let old = at (g.W.Wire.seen c.args.wire.now) c.args.reader.now in
-    let new = at (g.W.Wire.seen c.reset_and_quit.new.wire) c.reset_and_quit.new.reader in
+    let old = place_of g.W.Wire c.args.client.now in
+    let new = place_of g.W.Wire c.reset_and_quit.new.self in
     (talks.0, talks.1, subst (λ (k : Tail). Talks (turns_in k) old c.reset_and_quit.result new) (sym c.in-Undo.is) talks.2)

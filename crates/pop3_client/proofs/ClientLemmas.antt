@@ -1,0 +1,30 @@
+-- What is known of calls one after another, where the link is sound after them.
+use Rattle.pop3_wire.specs.declared.wire.Wire.{Ghosts}
+use Rattle.pop3_wire.specs.Link.{WhereSound}
+
+module _ {W : Type 0} (link : Ghosts W) where
+  -- what a call did, in other words
+  pub in_words : {a b : W} {P Q : Type 0} → WhereSound link.sound link.leads_to a b P → (P → Q) → WhereSound link.sound link.leads_to a b Q
+  in_words did words sound = let all = did sound in (all.0, all.1, words all.2)
+
+  -- no call was made
+  pub no_call : {a : W} {P : Type 0} → ((w : W) → link.leads_to w w) → P → WhereSound link.sound link.leads_to a a P
+  no_call same did sound = (sound, same _, did)
+
+  -- a call and then another
+  pub and_then : {a b c : W} {P Q R : Type 0} → ((u v w : W) → link.leads_to u v → link.leads_to v w → link.leads_to u w)
+      → WhereSound link.sound link.leads_to a b P → WhereSound link.sound link.leads_to b c Q → (P → Q → R) → WhereSound link.sound link.leads_to a c R
+  and_then on first second both sound =
+      let then = second sound in
+      let all = first then.0 in
+      (all.0, on _ _ _ all.1 then.1, both all.2 then.2)
+
+  -- three calls
+  pub and_then_two : {a b c d : W} {P Q R S : Type 0} → ((u v w : W) → link.leads_to u v → link.leads_to v w → link.leads_to u w)
+      → WhereSound link.sound link.leads_to a b P → WhereSound link.sound link.leads_to b c Q → WhereSound link.sound link.leads_to c d R → (P → Q → R → S)
+      → WhereSound link.sound link.leads_to a d S
+  and_then_two on first second third all sound =
+      let last = third sound in
+      let then = second last.0 in
+      let start = first then.0 in
+      (start.0, on _ _ _ start.1 (on _ _ _ then.1 last.1), all start.2 then.2 last.2)

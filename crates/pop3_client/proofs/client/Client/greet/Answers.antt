@@ -1,0 +1,23 @@
+use Rattle.std.proofs.Common.{take, sym, subst, refl, List, ℕ}
+use Rattle.pop3_wire.specs.Place.{at}
+use Rattle.pop3_client.specs.Client.{place_of}
+use Rattle.pop3_client.specs.Turns.{greeting}
+use Rattle.pop3_client.specs.Conversation.{Opened}
+use Rattle.pop3_client.proofs.ClientLemmas.{in_words}
+use Rattle.pop3_client.proofs.TalkLemmas.{opened, fits_other, broke_there, nothing_said}
+use Rattle.pop3_client.proofs.client.Client.greet.Goals as goal
+
+pub returns-in-Err-clause-asks : goal.returns-in-Err-clause-asks
+returns-in-Err-clause-asks g c =
+    let old = place_of g.W.Wire c.args.self.now in
+    in_words g.W.Wire c.in-Err.ensures.heard (λ heard. broke_there greeting old old.link _ c.in-Err.fault (nothing_said old.link) (heard greeting refl))
+
+pub returns-clause-asks : goal.returns-clause-asks
+returns-clause-asks g c =
+    let n = c.in-Ok.length in
+    let old = place_of g.W.Wire c.args.self.now in
+    let here = place_of g.W.Wire c.hear.new.self in
+    in_words g.W.Wire c.in-Ok.ensures.heard (λ hears.
+    let heard = hears greeting refl in
+    let begun = opened greeting old old.link here heard.0 n heard.4.0 (nothing_said old.link) heard.1 heard.2 heard.3 heard.4.1 (fits_other greeting heard.4.0 refl) in
+    (take n here.waiting, subst (λ (rest : List ℕ). Opened greeting (take n here.waiting) old (at here.link rest)) (sym c.skip.ensures) begun))

@@ -1,0 +1,14 @@
+use Rattle.std.proofs.Common.{List, sym, subst}
+use Rattle.pop3_client.specs.Client.{place_of}
+use Rattle.pop3_client.specs.Turns.{Turn, quit}
+use Rattle.pop3_client.specs.Conversation.{Talks}
+use Rattle.pop3_client.proofs.ClientLemmas.{in_words}
+use Rattle.pop3_client.proofs.TalkLemmas.{tells_talks}
+use Rattle.pop3_client.proofs.client.Client.leave.Goals as goal
+
+pub returns-then-says_quit-clause-talks : goal.returns-then-says_quit-clause-talks
+returns-then-says_quit-clause-talks g c =
+    let old = place_of g.W.Wire c.args.self.now in
+    let new = place_of g.W.Wire c.quit.new.self in
+    in_words g.W.Wire c.quit.ensures.tells (λ tells.
+    subst (λ (turns : List Turn). Talks turns old c.quit.result new) (sym c.if-says_quit.ensures) (tells_talks quit old new c.quit.result tells))

@@ -1,0 +1,31 @@
+use Rattle.pop3_wire.specs.Place.{at}
+use Rattle.pop3_client.specs.Turns.{retr, text_limit}
+use Rattle.pop3_client.specs.Texts.{Fetching}
+use Rattle.pop3_client.proofs.ClientLemmas.{in_words}
+use Rattle.pop3_client.proofs.TextLemmas.{fetched, broke_ended, broke_failed, broke_too_long}
+use Rattle.pop3_client.proofs.client.Client.next_piece.Goals as goal
+
+pub returns-in-Ok-clause-takes : goal.returns-in-Ok-clause-takes
+returns-in-Ok-clause-takes g c =
+    let new = at (g.W.Wire.seen c.next.new.wire) c.next.new.reader in
+    in_words g.W.Wire c.in-Ok.ensures.takes (λ took number start text now.
+    let more : Fetching (retr number) start new c.next.new.self _ = record { line = now.line; mid = now.mid; opened = now.opened; under = took text_limit now.mid text now.under } in
+    (more, λ ended. fetched number start new c.next.new.self _ more (c.in-Ok.ensures.ended.0 ended)))
+
+pub returns-in-Err-Ended-clause-takes : goal.returns-in-Err-Ended-clause-takes
+returns-in-Err-Ended-clause-takes g c = in_words g.W.Wire (rw c.in-Err-Ended.field-0-is at c.in-Err-Ended.ensures.takes) (λ took number start text now.
+    let why = took text_limit now.mid text now.under in
+    broke_ended number start now.mid _ now.line now.opened why.0 why.1.0 why.1.1 why.1.2)
+
+pub returns-in-Err-Failed-clause-takes : goal.returns-in-Err-Failed-clause-takes
+returns-in-Err-Failed-clause-takes g c = in_words g.W.Wire (rw c.in-Err-Failed.field-0-is at c.in-Err-Failed.ensures.takes) (λ took number start text now.
+    let why = took text_limit now.mid text now.under in
+    broke_failed number start now.mid _ now.line now.opened why.0 why.1.0 why.1.1 why.1.2)
+
+pub returns-in-Err-TooLong-clause-takes : goal.returns-in-Err-TooLong-clause-takes
+returns-in-Err-TooLong-clause-takes g c = in_words g.W.Wire (rw c.in-Err-TooLong.field-0-is at c.in-Err-TooLong.ensures.takes) (λ took number start text now.
+    let why = took text_limit now.mid text now.under in
+    broke_too_long number start now.mid _ now.line now.opened why.0 why.1.0 why.1.1 why.1.2)
+
+pub returns-in-Err-NoMemory-clause-takes : goal.returns-in-Err-NoMemory-clause-takes
+returns-in-Err-NoMemory-clause-takes g c = absurd (c.in-Err-NoMemory.ensures.frugal c.in-Err-NoMemory.field-0-is)

@@ -1,0 +1,30 @@
+-- A client of a link: where it is, and what is known of its calls.
+use Rattle.std.specs.Prelude.{◌≡◌, Result}
+use Rattle.pop3_wire.specs.declared.wire.Wire.{Ghosts}
+use Rattle.pop3_wire.specs.Link.{Link, CountsRefusal, WhereSound}
+use Rattle.pop3_wire.specs.Place.{Place, at}
+use Rattle.pop3_client.specs.declared.client.Client.{Client}
+use Rattle.pop3_client.specs.declared.fault.Fault.{Fault}
+use Rattle.pop3_client.specs.Conversation.{is_refusal}
+
+-- the link, and the octets of it that wait to be used
+abbrev pub place_of : {W : Type 0} → Ghosts W → Client W → Place
+place_of link client = at (link.seen client.wire.now) client.reader
+
+-- what is known of its link
+abbrev pub link_of : {W : Type 0} → Ghosts W → Client W → Link
+link_of link client = link.seen client.wire.now
+
+-- it is still the client of the same link
+abbrev pub HasSameLink : {W : Type 0} → Client W → Client W → Type 0
+HasSameLink old new = new.wire.ghost_name ≡ old.wire.ghost_name
+
+-- the failure count of its link rises exactly where a call was refused, as far as it goes
+abbrev pub CountsRefusals : {W T : Type 0} → Ghosts W → Client W → Result T Fault → Client W → Type 0
+CountsRefusals link old result new = CountsRefusal is_refusal (link.seen old.wire.now) result (link.seen new.wire.now)
+
+-- what is known of a call where the link is sound after it: it was sound before, this one leads on from that one, and the
+-- call did this between the two places
+abbrev pub WhereLinkSound : {W : Type 0} → Ghosts W → Client W → Client W → (Place → Place → Type 0) → Type 0
+WhereLinkSound link old new did =
+    WhereSound link.sound link.leads_to old.wire.now new.wire.now (did (place_of link old) (place_of link new))
