@@ -4,14 +4,14 @@ use std::io;
 use std::net::{SocketAddr, TcpStream, ToSocketAddrs};
 use std::time::Duration;
 
-/// How long one address of the server is given to take the connection.
+/// How long one address of the server has to take the connection.
 const CONNECT_SECONDS: u64 = 60;
 
-/// How long a read or a write may wait. What takes longer is refused, and the session is cut, so that
-/// no wait lasts for ever.
+/// How long a read or a write may wait. One that takes longer fails and ends the session, so no wait
+/// lasts for ever.
 const WAIT_SECONDS: u64 = 180;
 
-/// The connection to one address, with its waits bounded. Each command goes out at once.
+/// Connects to one address, and limits how long reads and writes wait. Each command goes out at once.
 fn connect_to(rt: &HostRuntime, address: SocketAddr) -> io::Result<TcpStream> {
     let stream = TcpStream::connect_timeout(rt, &address, Duration::from_secs(CONNECT_SECONDS))?;
     let wait = Some(Duration::from_secs(WAIT_SECONDS));
@@ -21,7 +21,7 @@ fn connect_to(rt: &HostRuntime, address: SocketAddr) -> io::Result<TcpStream> {
     Ok(stream)
 }
 
-/// The connection to the first of the server's addresses that takes one.
+/// Connects to the first of the server's addresses that takes the connection.
 pub fn connect<'a>(rt: &HostRuntime, server: &'a str, port: u16) -> Result<TcpStream, Failure<'a>> {
     let addresses = match (server, port).to_socket_addrs(rt) {
         Ok(addresses) => addresses,

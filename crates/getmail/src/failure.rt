@@ -10,15 +10,15 @@ use std::io::{self, ErrorKind};
 /// Why a run ends before its session.
 #[derive(Clone, Copy)]
 pub enum Failure<'a> {
-    /// HOME is wanted, and isn't set or isn't UTF-8.
+    /// HOME is needed, and isn't set or isn't UTF-8.
     NoHome,
     /// The rc file can't be read.
     CannotRead,
-    /// The rc file, or the flags, can't be obeyed.
+    /// The rc file or the flags are wrong.
     Rc(RcFault),
-    /// None of the addresses of this server and port can be connected to.
+    /// No address of this server takes a connection to this port.
     CannotConnect(&'a str, u16),
-    /// A growth was refused before there was a connection.
+    /// Out of memory before there was a connection.
     NoMemory,
 }
 
@@ -55,7 +55,7 @@ impl<'a> From<RcFault> for Failure<'a> {
     }
 }
 
-/// The failure that an error of the host stands for: want of memory is told as such.
+/// The failure for an error of the system: `failure`, unless memory ran out.
 pub fn failure_of<'a>(error: io::Error, failure: Failure<'a>) -> Failure<'a>
     ensures memory { error_kind error ≡ ErrorKind.OutOfMemory → result ≡ Failure.NoMemory }
     ensures other { error_kind error ≢ ErrorKind.OutOfMemory → result ≡ failure.entry }
@@ -67,7 +67,7 @@ pub fn failure_of<'a>(error: io::Error, failure: Failure<'a>) -> Failure<'a>
     }
 }
 
-/// Tells what is wrong with an rc file.
+/// Writes the line of an rc file's fault.
 fn tell_rc_fault(rt: &HostRuntime, fault: &RcFault) {
     let alloc: Global = rt.alloc();
     let _ = match rc_text(alloc, fault) {
@@ -76,8 +76,8 @@ fn tell_rc_fault(rt: &HostRuntime, fault: &RcFault) {
     };
 }
 
-/// Tells a failure on standard error, and gives the exit status: 1 where no connection was made, 2
-/// for all that is found before. Where standard error takes nothing the status alone tells it.
+/// Writes a failure's line to standard error and returns the exit status: 1 if there was no
+/// connection, 2 for all that is found before. A line that can't be written changes nothing.
 pub fn tell(rt: &HostRuntime, failure: Failure<'_>) -> u8
     ensures { result ≡ status_of failure.entry }
 {

@@ -1,4 +1,4 @@
-//! One session over a link, and what is told of it.
+//! One session over a link, its report, and the line of its fault.
 ghost use Rattle.std.specs.Prelude.{◌≡◌, OnOk};
 ghost use Rattle.std.specs.Io.KnownBytes.{Appends};
 ghost use Rattle.fetch_session.specs.Account.{digits_of};
@@ -16,10 +16,10 @@ use std::alloc::Global;
 use std::hash::BuildHasher;
 use std::io::{self, Write};
 
-/// What came of a session, and of telling it.
+/// How a session ended, and whether its report was written.
 #[derive(Drop)]
 pub struct Fetched {
-    /// How the session came out.
+    /// How the session ended.
     pub outcome: Outcome,
     /// Whether the report was written.
     pub report: io::Result<()>,
@@ -28,8 +28,8 @@ pub struct Fetched {
 }
 
 impl Fetched {
-    /// The exit status: 0 where the session ended and the report was written, else 1. That a fault's
-    /// line can't be written changes nothing.
+    /// The exit status: 0 if the session came to its end and the report was written, else 1. It doesn't
+    /// depend on whether a fault's line could be written.
     pub fn status(&self) -> u8
         ensures { result ≡ status_of self.now }
     {
@@ -73,9 +73,9 @@ fn write_outcome<E: Write>(alloc: Global, outcome: &Outcome, err: &mut E) -> io:
     }
 }
 
-/// Runs one session of the account over the link, wipes what was shown of it, and writes the report
+/// Runs one session of the account over the link, wipes the line of progress, and writes the report
 /// to `out`, then the line of the fault that cut it, if one did, to `err`, and nothing else to either.
-/// A write that `out` refuses hides no fault's line.
+/// The fault's line is written even if the report couldn't be.
 pub fn fetch_into<
     W: Wire,
     S: Write,

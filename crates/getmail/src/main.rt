@@ -42,15 +42,15 @@ fn seconds_now(rt: &HostRuntime) -> u64 {
     }
 }
 
-/// What a run takes of random: keys, since a server chooses the unique-ids and mustn't be able to
-/// choose ids that collide, and the mark of the files that it writes.
+/// The random values of a run: keys for hashing, since a server chooses the unique-ids and mustn't be
+/// able to choose ids that collide, and the mark of the files that the run writes.
 fn draw(rt: &HostRuntime) -> io::Result<(RandomState, ProcessMark)> {
     let hasher = RandomState::new(rt)?;
     let mark = ProcessMark::new(rt.process(), rt)?;
     Ok((hasher, mark))
 }
 
-/// Connects, holds one session, and answers the status.
+/// Connects, runs one session, and returns the exit status.
 fn fetch(rt: &HostRuntime, setup: Setup) -> u8
     requires { IsValid setup.settings }
 {
@@ -91,7 +91,7 @@ fn fetch(rt: &HostRuntime, setup: Setup) -> u8
     fetched.status()
 }
 
-/// Does what the words ask for, and answers the status.
+/// Does what the command line asks for, and returns the exit status.
 fn obey(rt: &HostRuntime, words: &Words) -> u8 {
     if words.rehearse {
         let status = rehearse(rt.alloc(), words.flags, rt.stdin(), rt.stdout());
@@ -106,7 +106,7 @@ fn obey(rt: &HostRuntime, words: &Words) -> u8 {
     }
 }
 
-/// Shows clap's text for these words, help on standard output and a mistake on standard error.
+/// Writes clap's text for these words: help to standard output, a mistake to standard error.
 fn show(rt: &HostRuntime, arguments: &[String]) -> io::Result<()> {
     match command(rt.alloc())?.try_get_matches_from(arguments) {
         Ok(_) => Ok(()),
@@ -114,7 +114,7 @@ fn show(rt: &HostRuntime, arguments: &[String]) -> io::Result<()> {
     }
 }
 
-/// Reads the words, does what they ask for, and answers the status.
+/// Reads the command line, does what it asks for, and returns the exit status.
 fn start(rt: &HostRuntime, arguments: &[String]) -> u8 {
     match read_words(rt.alloc(), arguments) {
         Ok(words) => obey(rt, &words),
@@ -127,8 +127,8 @@ fn start(rt: &HostRuntime, arguments: &[String]) -> u8 {
     }
 }
 
-/// The words of the command line, the program's name first. Where they can't be had, as where one
-/// isn't UTF-8, it is as if one were no option: the usage is shown.
+/// The words of the command line, the program's name first. If they can't be read, for example because
+/// one isn't UTF-8, a word that is no option takes their place, so that the usage is shown.
 fn arguments<'a>(rt: &HostRuntime) -> Result<Vec<String>, Failure<'a>> {
     match env::args(rt) {
         Ok(words) => Ok(words.collect(rt.alloc())?),

@@ -1,4 +1,4 @@
-//! Where the rc file, the record and the destination stand.
+//! The paths of the rc file, the record and the destination.
 ghost use Rattle.std.specs.Prelude.{◌≡◌, ℕ, List, IfOk, option_map};
 ghost use Rattle.std.specs.String.{string_bytes};
 ghost use Rattle.getmail.specs.Places.{folder_given, joined, stands_alone, whole_path};
@@ -8,10 +8,10 @@ use fetch_rules::full_path;
 use std::alloc::{AllocError, Global};
 use std::env::{self, VarError};
 
-/// The folder of the rc file and the record, where none is given.
+/// The default folder of the rc file and the record.
 const FOLDER: &str = "~/.getmail";
 
-/// The rc file's name, where none is given.
+/// The default name of the rc file.
 const RC_FILE: &str = "getmailrc";
 
 /// The path of a file of a folder, with one `/` between them.
@@ -26,7 +26,7 @@ pub fn joined(alloc: Global, folder: &str, file: &str) -> Result<String, AllocEr
     Ok(path)
 }
 
-/// Whether a path is no name in the program's folder: it begins with `/` or `~/`.
+/// Whether a path begins with `/` or `~/`, so that it isn't looked up in the program's folder.
 fn stands_alone(path: &str) -> bool
     ensures { result ≡ stands_alone path.now }
 {
@@ -42,8 +42,7 @@ fn home<'a>(rt: &HostRuntime) -> Result<String, Failure<'a>> {
     }
 }
 
-/// A path, with the home in the place of a leading `~`. The home is looked up only where it is
-/// needed.
+/// A path, with the home in place of a leading `~`. HOME is looked up only if it is needed.
 pub fn whole_path<'a>(rt: &HostRuntime, path: &str) -> Result<String, Failure<'a>>
     ensures { IfOk result (λ whole. (home : List ℕ) × (string_bytes whole ≡ whole_path home path.now)) }
 {
@@ -64,7 +63,7 @@ pub fn folder<'a>(rt: &HostRuntime, given: Option<&str>) -> Result<String, Failu
     }
 }
 
-/// The rc file, in the folder unless its path stands alone.
+/// The rc file's path: in the folder, unless it begins with `/` or `~/`.
 pub fn rc_file<'a>(
     rt: &HostRuntime,
     folder: &str,

@@ -1,25 +1,25 @@
-//! How far a fetch is, shown on a line of a terminal while messages come.
+//! The line of progress, which a terminal shows while messages come.
 ghost use Rattle.std.specs.Prelude.{◌≡◌, IfOk};
 ghost use Rattle.std.specs.String.{string_bytes};
 ghost use Rattle.getmail.specs.Progress.{progress_text};
 
 use std::alloc::{AllocError, Global};
 
-/// How many octets of a message come before the line is shown anew.
+/// How many octets of a message come before the line is shown again.
 const STEP: u64 = 65_536;
 
-/// What the reply under way tells.
+/// What the next reply holds.
 #[derive(Clone, Copy, Debug, PartialEq, Eq)]
 enum Reply {
-    /// How many messages there are.
+    /// The number of messages.
     Count,
     /// A message.
     Message,
-    /// Nothing that is shown.
+    /// Nothing that the line shows.
     Other,
 }
 
-/// How far a fetch is, as far as the commands and what comes in reply show it.
+/// How far a fetch is, as commands and replies show it.
 #[derive(Clone, Copy)]
 pub struct Progress {
     total: u32,
@@ -29,7 +29,7 @@ pub struct Progress {
     reply: Reply,
 }
 
-/// The number behind so many octets of a numeral, and one octet more: as far as 32 bits go.
+/// The number of a numeral after one more digit, at most the greatest of 32 bits.
 fn with_digit(number: u32, octet: u8) -> u32 {
     let digit = octet.saturating_sub(b'0');
     number.saturating_mul(10).saturating_add(u32::from(digit))
@@ -73,7 +73,7 @@ impl Progress {
         }
     }
 
-    /// Takes one octet of STAT's reply: the first number in it is the total.
+    /// Reads one octet of STAT's reply: the first number in it is the total.
     fn count(&mut self, octet: u8) {
         if octet.is_ascii_digit() {
             self.total = with_digit(self.total, octet);
@@ -95,8 +95,8 @@ impl Progress {
         }
     }
 
-    /// Whether the line is to be shown: a message has begun, or much more of it came since the line
-    /// was shown last.
+    /// Whether the line is to be shown now: a message has begun, or much more of it came since the last
+    /// time.
     pub fn is_due(&mut self) -> bool {
         if self.reply != Reply::Message || self.octets < self.due {
             return false;
@@ -105,7 +105,7 @@ impl Progress {
         true
     }
 
-    /// What the line says.
+    /// The text of the line.
     pub fn text(&self, alloc: Global) -> Result<String, AllocError>
         ensures { IfOk result (λ text. string_bytes text ≡ progress_text self.now) }
     {

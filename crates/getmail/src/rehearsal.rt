@@ -1,5 +1,5 @@
-//! The rehearsal: a session whose server is a recorded conversation, over a Maildir and a record in
-//! memory.
+//! The rehearsal: a session with a recorded conversation as its server, and with a Maildir and a
+//! record in memory.
 ghost use Rattle.std.specs.Prelude.{◌≡◌, ◌≤◌, ◌<◌, true, IfOk};
 ghost use Rattle.rc_file.specs.Flags.{is_contradiction};
 ghost use Rattle.rc_file.specs.Settings.{IsValid};
@@ -39,7 +39,7 @@ fn defaults(alloc: Global) -> Result<Settings, AllocError>
     })
 }
 
-/// The line on a file that was stored: its message's unique-id, and its length in bytes.
+/// Appends the line of a stored file: its message's unique-id, and its length in bytes.
 fn put_stored(
     alloc: Global,
     lines: &mut Vec<u8>,
@@ -55,7 +55,7 @@ fn put_stored(
     Ok(())
 }
 
-/// The line on how a session ended: `ended`, or `cut` with its fault's number.
+/// The last line: `ended`, or `cut` with the fault's number.
 fn outcome_line(alloc: Global, outcome: &Outcome) -> Result<String, AllocError> {
     match fault_number(outcome) {
         0 => String::from_str(alloc, "ended\n"),
@@ -63,8 +63,7 @@ fn outcome_line(alloc: Global, outcome: &Outcome) -> Result<String, AllocError> 
     }
 }
 
-/// The lines on what was stored, in order of delivery, and on how the session ended: whole, or none
-/// of them where memory is wanting.
+/// The lines of the stored files, in order of delivery, and the last line.
 fn lines_on(
     alloc: Global,
     maildir: &MemoryMaildir,
@@ -79,7 +78,7 @@ fn lines_on(
     Ok(lines)
 }
 
-/// Writes what became of a session.
+/// Writes these lines: all, or none if memory runs out.
 fn write_outcome<W: Write>(
     alloc: Global,
     output: &mut W,
@@ -91,7 +90,7 @@ fn write_outcome<W: Write>(
     output.flush()
 }
 
-/// Holds a session with these settings, and answers the status.
+/// Runs a session with these settings, and returns the exit status.
 fn rehearse_with<R: Read + Drop, W: Write + Drop>(
     alloc: Global,
     settings: Settings,
@@ -122,11 +121,10 @@ fn rehearse_with<R: Read + Drop, W: Write + Drop>(
     0
 }
 
-/// Rehearses a session of user `u` with password `p`: `input` is the server, and `output` is shown
-/// each command as it is sent, then each message that was stored, and how the session ended. It
-/// answers the status: 0 where the session ended, 1 where it was cut or `output` failed, or where
-/// memory is wanting for the last lines, of which then nothing is written, and 2, with nothing
-/// written, for opposite flags.
+/// Rehearses a session of user `u` with password `p`: `input` is the server. `output` gets each command
+/// as it is sent, then a line for each stored message and one for how the session ended. The exit
+/// status is 0 if the session came to its end; 1 if it was cut, `output` failed or memory ran out, in
+/// which case none of the last lines are written; 2 for opposite flags, with nothing written.
 pub fn rehearse<R: Read + Drop, W: Write + Drop>(
     alloc: Global,
     flags: Flags,

@@ -1,4 +1,4 @@
-//! What a run works with: the settings of the rc file, changed by the flags, and the paths.
+//! The settings of a run: those of the rc file, changed by the flags, and its paths.
 ghost use Rattle.std.specs.Prelude.{◌≡◌, ◌++◌, IfOk, codes};
 ghost use Rattle.std.specs.String.{string_bytes};
 ghost use Rattle.rc_file.specs.Settings.{IsValid};
@@ -14,10 +14,10 @@ use std::alloc::{AllocError, Global};
 use std::fs;
 use std::io::{self, Read};
 
-/// One octet more than an rc file may have, by which a longer one is told.
+/// One octet more than an rc file may have, so that a longer one is noticed.
 const RC_ROOM: u64 = 65_537;
 
-/// What a run works with.
+/// The settings and the paths of a run.
 #[derive(Drop)]
 pub struct Setup {
     /// The settings, changed by the flags.
@@ -28,14 +28,14 @@ pub struct Setup {
     pub record: String,
 }
 
-/// The octets of the rc file, and of a longer one so many that this is told.
+/// The octets of the rc file; of one that is too long, enough to notice it.
 fn read_file(rt: &HostRuntime, path: &str) -> io::Result<Vec<u8>> {
     let mut bytes = Vec::new(rt.alloc());
     fs::open(rt, path)?.take(RC_ROOM).read_to_end(&mut bytes)?;
     Ok(bytes)
 }
 
-/// Tells what of the rc file has no effect.
+/// Writes the rc file's warnings.
 fn tell_warnings<'a>(rt: &HostRuntime, warnings: &[Warning]) -> Result<(), Failure<'a>> {
     for warning in warnings {
         let text = warning_text(rt.alloc(), warning)?;
@@ -44,7 +44,7 @@ fn tell_warnings<'a>(rt: &HostRuntime, warnings: &[Warning]) -> Result<(), Failu
     Ok(())
 }
 
-/// The settings of the rc file, with its warnings told, changed by the flags.
+/// Reads the rc file, writes its warnings, and returns its settings, changed by the flags.
 fn settings_of<'a>(rt: &HostRuntime, path: &str, words: &Words) -> Result<Settings, Failure<'a>>
     ensures valid { IfOk result IsValid }
     ensures asked { IfOk result (AreAsked words.now.flags) }
@@ -79,8 +79,8 @@ fn record_path(alloc: Global, folder: &str, settings: &Settings) -> Result<Strin
     joined(alloc, folder, name.as_str())
 }
 
-/// What a run works with, or the first of: HOME is wanted and not set, the rc file can't be read or
-/// obeyed, the flags are opposite, the destination is of a kind that is not supported.
+/// The settings and the paths of a run, or the first of these failures: HOME is needed and not set,
+/// the rc file can't be read or is wrong, the flags are opposite, the destination isn't supported.
 pub fn set_up<'a>(rt: &HostRuntime, words: &Words) -> Result<Setup, Failure<'a>>
     ensures valid { IfOk result (λ setup. IsValid setup.settings) }
     ensures asked { IfOk result (λ setup. AreAsked words.now.flags setup.settings) }

@@ -1,4 +1,4 @@
-//! A link that shows on a terminal how far the fetch is.
+//! A link that shows progress on a terminal.
 ghost use Rattle.std.specs.Prelude.{◌≡◌};
 
 use crate::progress::Progress;
@@ -6,9 +6,9 @@ use pop3_wire::{Wire, WireDown};
 use std::alloc::Global;
 use std::io::{self, Write};
 
-/// A link that passes each call on, and tells on a line of `screen` which message comes and how much
-/// of it came. The line is rewritten in place. Where there is no screen nothing is told. What the
-/// screen refuses isn't told, and changes nothing.
+/// A link that passes each call on, and shows on a line of `screen` which message is coming and how
+/// much of it has come. The line is rewritten in place. Without a screen nothing is shown. A write
+/// that the screen refuses changes nothing.
 #[derive(Drop)]
 pub struct ShownWire<W, S> {
     wire: W,
@@ -18,7 +18,7 @@ pub struct ShownWire<W, S> {
     is_shown: bool,
 }
 
-/// Writes a line in the place of the last one, which no line is longer than.
+/// Writes a line over the last one; no line is longer than 48 characters.
 fn write_line<S: Write>(alloc: Global, screen: &mut S, text: &str) -> io::Result<()> {
     let line = format!(in alloc; "\r{text:<48}")?;
     screen.write_all(line.as_bytes())?;
@@ -26,7 +26,7 @@ fn write_line<S: Write>(alloc: Global, screen: &mut S, text: &str) -> io::Result
 }
 
 impl<W: Wire, S: Write> ShownWire<W, S> {
-    /// A link that shows what crosses this one.
+    /// A link around this one that shows how far the fetch is.
     pub fn new(alloc: Global, wire: W, screen: Option<S>) -> ShownWire<W, S>
         ensures { result.wire ≡ wire }
     {
@@ -39,7 +39,7 @@ impl<W: Wire, S: Write> ShownWire<W, S> {
         }
     }
 
-    /// Shows how far the fetch is, where that is due.
+    /// Shows how far the fetch is, if it is time to.
     fn show(&mut self)
         ensures { self.new.wire ≡ self.old.wire }
     {
@@ -53,7 +53,7 @@ impl<W: Wire, S: Write> ShownWire<W, S> {
         }
     }
 
-    /// Wipes the line, so that something else can be written on the terminal.
+    /// Wipes the line, so that something else can be written to the terminal.
     pub fn wipe(&mut self)
         ensures { self.new.wire ≡ self.old.wire }
     {

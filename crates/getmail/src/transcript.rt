@@ -1,11 +1,11 @@
-//! What a rehearsal shows of the commands that it sends.
+//! The commands that a rehearsal shows.
 ghost use Rattle.std.specs.Prelude.{◌≡◌};
 ghost use Rattle.getmail.specs.Rehearsal.{shown_of};
 
 use std::io;
 use std::io::Write;
 
-/// A writer that shows each command that is written to it on a line of its own, behind `C: `. The
+/// A writer that shows each command that is written to it on a line of its own, after `C: `. The
 /// argument of PASS is shown as `*`. Each command has to come in one write.
 #[derive(Drop)]
 pub struct Transcript<W> {
@@ -37,7 +37,7 @@ impl<W: Write> Transcript<W> {
         Transcript { writer }
     }
 
-    /// The writer, given back.
+    /// Gives back the writer.
     pub fn into_inner(self) -> W
         ensures { result ≡ self.writer }
     {

@@ -13,24 +13,24 @@ use std::alloc::{AllocError, Global};
 /// What the command line asks for.
 #[derive(Drop)]
 pub struct Words {
-    /// The rc file, as written; none for the one of every day.
+    /// The rc file, as written; none for the default.
     pub rcfile: Option<String>,
-    /// The folder of the rc file and the record, as written.
+    /// The folder of the rc file and the record, as written; none for the default.
     pub dir: Option<String>,
-    /// What goes before the rc file.
+    /// The flags that override the rc file.
     pub flags: Flags,
-    /// Whether a session is held with standard input.
+    /// Whether standard input is the server.
     pub rehearse: bool,
 }
 
-/// Why the command line asks for no run.
+/// Why there is no run.
 #[derive(Clone, Copy, Debug, PartialEq, Eq)]
 pub enum WordsFault {
-    /// It asks for help.
+    /// The command line asks for help.
     Help,
-    /// It is no command line of this program.
+    /// The command line is wrong.
     Usage,
-    /// A growth was refused.
+    /// Out of memory.
     NoMemory,
 }
 
@@ -127,7 +127,7 @@ pub fn command<'a>(alloc: Global) -> Result<Command<'a>, AllocError>
         .arg(long_flag(alloc, "rehearse", REHEARSE))
 }
 
-/// A text of its own.
+/// A copy of a text.
 fn copy(alloc: Global, text: Option<&str>) -> Result<Option<String>, AllocError>
     ensures { IfOk result (λ owned. option_map string_bytes owned ≡ option_map (λ t. t.now) text.entry) }
 {
@@ -137,7 +137,7 @@ fn copy(alloc: Global, text: Option<&str>) -> Result<Option<String>, AllocError>
     }
 }
 
-/// The flags among clap's matches.
+/// The flags in clap's matches.
 fn flags_of(matches: &ArgMatches<'_>) -> Flags
     ensures { result ≡ flags_in (rows_of (found_of matches.now)) }
 {
@@ -163,7 +163,7 @@ fn words_of(alloc: Global, matches: &ArgMatches<'_>) -> Result<Words, AllocError
     })
 }
 
-/// Which fault an error of clap is.
+/// The fault for an error of clap.
 fn fault_of_error(error: &Error) -> WordsFault
     ensures help { kind_of error.now ≡ ErrorKind.DisplayHelp → result ≡ WordsFault.Help }
     ensures memory { kind_of error.now ≡ ErrorKind.OutOfMemory → result ≡ WordsFault.NoMemory }

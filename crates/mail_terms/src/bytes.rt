@@ -4,7 +4,7 @@ ghost use Rattle.std.specs.Prelude.{ℕ, ◌≡◌, List};
 
 use std::marker::Model;
 
-/// A byte string. It takes no memory of its own: it is made from a `Vec` and gives it back.
+/// A byte string. It allocates nothing: it is made from a `Vec` and gives it back.
 #[derive(Drop)]
 pub struct Bytes {
     bytes: Vec<u8>,

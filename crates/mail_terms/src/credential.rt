@@ -1,10 +1,10 @@
-//! What USER and PASS take as their argument (RFC 1939, section 7).
+//! The arguments that USER and PASS take (RFC 1939, section 7).
 
 ghost use Rattle.std.specs.Prelude.{◌≡◌};
 ghost use Rattle.std.specs.List.{list_all};
 ghost use Rattle.mail_terms.specs.Credential.{is_plain, is_credential};
 
-/// Whether bytes hold neither CR, nor LF, nor NUL.
+/// Whether bytes hold no CR, LF or NUL.
 fn are_plain(bytes: &[u8]) -> bool
     ensures { result ≡ list_all is_plain bytes.now }
 {

@@ -5,8 +5,8 @@ ghost use Rattle.mail_terms.specs.FailureCount.{greatest_count, counted_up};
 
 use std::marker::Model;
 
-/// How many calls a device refused. At its greatest value, 18,446,744,073,709,551,615, the device
-/// is to refuse every call, and the count stays as it is.
+/// How many calls a device refused. At its greatest value, 18,446,744,073,709,551,615, the count
+/// stays as it is, and the device has to refuse every call.
 #[derive(Drop)]
 pub struct FailureCount {
     count: u64,
@@ -43,7 +43,7 @@ impl FailureCount {
         self.count == u64::MAX
     }
 
-    /// Counts one more refusal, as far as the count goes.
+    /// Counts one more refusal, up to the greatest value.
     pub fn count_up(&mut self)
         ensures { self.new ≡ counted_up self.old }
     {

@@ -1,4 +1,4 @@
-//! What mail is, apart from the wire that carries it and the files that keep it: unique-ids,
+//! The terms of mail that the wire, the stores and the programs share: unique-ids,
 //! credentials, numerals, texts and their lines, the listing of a maildrop, the names of a Maildir's
 //! files, and the count of the calls that a device refused.
 #![tactic(auto)]

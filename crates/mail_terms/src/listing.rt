@@ -28,7 +28,7 @@ pub struct ScanRow {
     pub size: u64,
 }
 
-/// Why rows aren't joined.
+/// Why rows can't be joined.
 #[derive(Clone, Copy, Debug, PartialEq, Eq, Error)]
 pub enum ListingFault {
     /// A number of 1 to n isn't once in each list, or another number is there.
@@ -116,7 +116,7 @@ fn size_numbers(alloc: Global, rows: &[ScanRow]) -> Result<Vec<u32>, AllocError>
     rows.iter().map(|row| row.number).collect(alloc)
 }
 
-/// The messages whose rows stand at these places.
+/// The messages whose rows are at these places.
 fn items_at(
     alloc: Global,
     uids: &[UidRow],
@@ -145,10 +145,10 @@ fn items_at(
 impl Listing {
     ghost use Rattle.mail_terms.specs.Listing.{Agree, Joins};
 
-    /// The listing of `n` messages by the rows of UIDL and LIST, in whatever order they came.
-    /// TooMany where `n` is above `MESSAGE_LIMIT`, before anything else is looked at; Disagree where
-    /// either list isn't the numbers 1 to `n`, each once. Time and memory grow in proportion to the
-    /// rows and to `n`, since each list's places go into a table of `n` slots.
+    /// The listing of `n` messages from the rows of UIDL and LIST, which may come in any order.
+    /// TooMany if `n` is above `MESSAGE_LIMIT`, which is tested first; Disagree if either list isn't
+    /// the numbers 1 to `n`, each once. Time and memory grow in proportion to the rows and to `n`,
+    /// since each list's places go into a table of `n` slots.
     pub fn join(
         alloc: Global,
         n: u32,

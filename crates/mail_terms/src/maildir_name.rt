@@ -3,8 +3,8 @@
 ghost use Rattle.std.specs.Prelude.{◌≡◌};
 ghost use Rattle.mail_terms.specs.MaildirName.{base};
 
-/// What stands before the first colon of a name in `new` or `cur`; readers of a Maildir put their
-/// marks behind it.
+/// The part of a name in `new` or `cur` before the first colon; mail readers put their flags after
+/// it.
 pub fn base(name: &str) -> &str
     ensures { result.now ≡ base name.now }
 {

@@ -6,8 +6,8 @@ ghost use Rattle.mail_terms.specs.Numbering.{IsNumbering, HasPlaces, IsOrderOf};
 use crate::listing::ListingFault;
 use std::alloc::Global;
 
-/// The place of each number of 1 to `count` in the list, if it stands there, under that number
-/// less 1. Takes time in proportion to `count` and the list's length.
+/// For each number of 1 to `count`, at the index of that number less 1, its place in the list, if it
+/// is there. Takes time in proportion to `count` and the list's length.
 fn found_places(
     alloc: Global,
     count: u32,
@@ -31,7 +31,7 @@ fn found_places(
     Ok(slots)
 }
 
-/// The places of the numbers 1 to `count` in the list, in this order. Disagree where the list isn't
+/// The places of the numbers 1 to `count` in the list, in this order. Disagree if the list isn't
 /// these numbers, each once.
 pub(crate) fn places_in_order(
     alloc: Global,

@@ -21,8 +21,8 @@ fn is_numeral(text: &[u8]) -> bool
     !text.is_empty() && text.len() <= 20 && are_digits(text)
 }
 
-/// The number that 1 to 20 digits stand for, leading zeros among them. None where it is above
-/// 18,446,744,073,709,551,615, and where the text is anything else.
+/// The number that 1 to 20 digits stand for; leading zeros are allowed. None if it is above
+/// 18,446,744,073,709,551,615, or if the text is anything else.
 pub fn read_numeral(text: &[u8]) -> Option<u64>
     ensures { result ≡ numeral_value text.now }
 {

@@ -1,16 +1,16 @@
-//! When the folders of a Maildir were changed last, and for how long an earlier listing of them stands.
+//! When the folders of a Maildir were last changed, and how long an earlier listing of them stays valid.
 ghost use Rattle.std.specs.Prelude.{◌≡◌, ◌↔◌, IsTrue};
 ghost use Rattle.pop3_server.specs.FoldersLook.{Stands};
 
 use std::fs::Metadata;
 use std::os::unix::fs::MetadataExt;
 
-/// How long ago a folder must have been changed, so that each later change gives it another time: no
-/// file system's clock ticks in longer steps.
+/// How long ago a folder must have been changed, so that each later change gives it a different time:
+/// no file system's clock ticks in longer steps.
 const SETTLED_SECONDS: u64 = 2;
 
-/// For how long a listing stands while the folders do: so long may a file's length and time of change
-/// stay unseen, where software changes it in place.
+/// How long a listing stays valid while the folders don't change: for so long the server may miss that
+/// a file was changed in place.
 const STANDING_SECONDS: u64 = 3_600;
 
 /// A folder's time of change, in seconds and nanoseconds since 1970. It moves when a file comes, goes
@@ -22,7 +22,7 @@ pub struct ChangeTime {
 }
 
 impl ChangeTime {
-    /// The time of change of a folder. One before 1970 becomes a time that is never past.
+    /// The time of change of a folder. One before 1970 counts as a time that never passes.
     pub fn of(folder: &Metadata) -> ChangeTime {
         ChangeTime {
             seconds: u64::try_from(folder.ctime()).unwrap_or(u64::MAX),
@@ -40,7 +40,7 @@ pub struct FoldersLook {
 }
 
 impl FoldersLook {
-    /// No look, behind which nothing stands.
+    /// No look: no listing is valid after it.
     pub fn none() -> FoldersLook {
         let never = ChangeTime {
             seconds: 0,
@@ -53,8 +53,8 @@ impl FoldersLook {
         }
     }
 
-    /// Whether a listing that was made behind this look is that of the folders at a later look too:
-    /// they were settled and weren't changed since, and it isn't too old.
+    /// Whether a listing that was made after this look is still valid at a later look: the folders were
+    /// settled and haven't changed since, and the listing isn't too old.
     pub fn stands_at(&self, later: &FoldersLook) -> bool
         ensures { IsTrue result ↔ Stands self.now later.now }
     {

@@ -1,4 +1,4 @@
-//! That the server is honest: laws over its definitions.
+//! The server is honest: laws about its definitions.
 ghost use Rattle.pop3_server.specs.HonestServer.{IsHonest};
 ghost use Rattle.pop3_server.specs.HonestLoop.{GivesHonest};
 
@@ -10,7 +10,7 @@ use pop3_wire::{
 
 /// A new server's greeting and its answers to any commands that a session sends, one after another,
 /// are an honest conversation over the messages of its maildrop; while the server is open all of
-/// these are there, and behind QUIT only marked ones may be gone, the others in their order.
+/// these are there, and after QUIT only marked ones may be gone, the others in their order.
 pub fn conversations_are_honest<D: Maildrop>()
     ensures { IsHonest D.sound D.mail }
 {
@@ -20,8 +20,7 @@ pub fn conversations_are_honest<D: Maildrop>()
 }
 
 /// The same of a [`LoopWire`](crate::LoopWire) to a new server, for whole commands of a session and
-/// a part of one more, also where the link went down; and the server is open unless QUIT was sent
-/// whole.
+/// a part of one more, also if the link went down; and the server is open unless QUIT was sent whole.
 pub fn loops_are_honest<D: Maildrop>()
     ensures { GivesHonest D.sound D.mail }
 {

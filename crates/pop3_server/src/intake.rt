@@ -1,4 +1,4 @@
-//! The lines that a server gets, within its limits.
+//! Reads the lines that a server gets, within its limits.
 ghost use Rattle.std.specs.Prelude.{◌≡◌, ◌≤◌, ◌<◌, ◌+◌, ◌-◌, ◌*◌, ◌++◌, ℕ, List, [], length, take, drop, true, false, IfOk, IfErr, IfSome, IfNone, Ok, Err};
 ghost use Rattle.pop3_wire.specs.Link.{CountsFailure, WhereSound};
 ghost use Rattle.pop3_wire.specs.Place.{HasLine, HasNoLine};
@@ -11,24 +11,25 @@ use crate::fault::ServerFault;
 use pop3_wire::{LineReader, Wire};
 use std::marker::Model;
 
-/// How many octets a server reads of one connection; then it is as at the end of input.
+/// How many octets a server reads from one connection; it treats what follows as the end of input.
 pub const MAX_OCTETS: usize = 16_777_216;
 
 /// How long a line may be, its CR LF included.
 pub const MAX_LINE: usize = 512;
 
-/// What came.
+/// What came from the link.
 #[derive(Clone, Copy)]
 pub enum Heard {
-    /// A line of so many octets waits, its CR LF not counted.
+    /// A line of so many octets, without its CR LF, waits.
     Line(usize),
     /// A line longer than [`MAX_LINE`] was read to its CR LF and dropped.
     LongLine,
-    /// No whole line will come.
+    /// The input ended, and no whole line waits.
     End,
 }
 
-/// What a server has got and not used yet, and how much more it may take. It takes no memory.
+/// The octets that a server got and hasn't used yet, and how many more it may read. It allocates
+/// nothing.
 #[derive(Drop)]
 pub struct Intake {
     reader: LineReader,
@@ -45,7 +46,7 @@ impl Model for Intake {
 }
 
 impl Intake {
-    /// Nothing was got yet.
+    /// At the start of a connection.
     pub fn new() -> Intake
         ensures { result ≡ record { octets = []; left = MAX_OCTETS } }
     {
@@ -55,7 +56,7 @@ impl Intake {
         }
     }
 
-    /// What waits to be used.
+    /// The octets that wait to be used.
     pub fn waiting(&self) -> &[u8]
         ensures { result.now ≡ self.now.octets }
     {
@@ -70,7 +71,7 @@ impl Intake {
         self.reader.skip(n);
     }
 
-    /// How long the line is that waits, if one ends within [`MAX_LINE`].
+    /// The length of the line that waits, if one ends within [`MAX_LINE`].
     fn line_end(&mut self) -> Option<usize>
         ensures same { self.new ≡ self.old }
         ensures found { IfSome result (HasLine MAX_LINE self.new.octets) }
@@ -79,7 +80,7 @@ impl Intake {
         self.reader.line_end(MAX_LINE)
     }
 
-    /// Takes what comes next, and says whether anything came.
+    /// Reads what comes next, and returns whether anything came.
     fn more<W: Wire>(&mut self, wire: &mut W) -> Result<bool, ServerFault>
         requires { length self.old.octets < MAX_LINE }
         ensures counted { CountsFailure (W.seen wire.old) result (W.seen wire.new) }

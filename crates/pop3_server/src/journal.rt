@@ -1,4 +1,4 @@
-//! What one may want to know of a session while it goes on.
+//! Events of a session, for a log.
 ghost use Rattle.std.specs.Prelude.{◌≡◌};
 ghost use Rattle.pop3_server.specs.Events.{event_of};
 
@@ -8,19 +8,19 @@ use crate::state::State;
 /// What happened in a session.
 #[derive(Clone, Copy)]
 pub enum Event {
-    /// A client was let in, and finds so many messages.
+    /// A client logged in, and finds so many messages.
     LoggedIn(usize),
-    /// A name with its password was refused.
+    /// A login was refused.
     Refused,
-    /// A name with its password was right, and the maildrop couldn't be listed.
+    /// The name and the password were right, but the maildrop couldn't be listed.
     Unavailable,
-    /// QUIT ended the session: so many messages were removed, and the removal of so many was refused.
+    /// QUIT ended the session: so many messages were removed, and so many couldn't be.
     Left(usize, u64),
 }
 
-/// Who is told what happens in a session, while it goes on.
+/// Gets the events of a session while it goes on.
 pub trait Journal {
-    /// Takes note of what happened.
+    /// Takes note of an event.
     fn note(&mut self, event: Event);
 }
 
@@ -32,7 +32,7 @@ impl Journal for NoJournal {
     fn note(&mut self, _event: Event) {}
 }
 
-/// What happened where one state came after another, and the maildrop refused so many calls meanwhile.
+/// The event between one state and the next, with so many refused calls of the maildrop in between.
 pub fn event_of(old: &State, new: &State, refused: u64) -> Option<Event>
     ensures { result ≡ event_of old.now new.now refused }
 {

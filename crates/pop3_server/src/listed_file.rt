@@ -12,11 +12,11 @@ use std::fs::Metadata;
 use std::io::{self, Read};
 use std::time::UNIX_EPOCH;
 
-/// How many octets of a file are read at once.
+/// How many octets of a file are read at a time.
 pub const PIECE: usize = 65_536;
 
-/// Where the file of a listed message lies, how long it was and when it was changed last when its size
-/// was counted, and that size, where each line's end counts as two octets.
+/// The place of a listed message's file, its length and time of change when its size was counted, and
+/// that size, with each line's end counted as two octets.
 #[derive(Drop)]
 pub struct ListedFile {
     pub folder: Folder,
@@ -44,7 +44,7 @@ impl ListedFile {
         }
     }
 
-    /// The size that was counted, where the file wasn't changed since then.
+    /// The counted size, if the file hasn't changed since.
     fn size_at(&self, stamp: Stamp) -> Option<u64>
         ensures { IfSome result (λ size. (size ≡ self.now.size) × (stamp ≡ self.now.stamp)) }
     {
@@ -55,14 +55,14 @@ impl ListedFile {
         }
     }
 
-    /// Whether it lies where that file was found.
+    /// Whether its place is that of a file that was found.
     fn is_same(&self, found: &MailFile) -> bool
         ensures { IsTrue result → (self.now.folder ≡ found.now.folder) × (string_bytes self.now.name ≡ string_bytes found.now.name) }
     {
         self.folder == found.folder && self.name.as_str() == found.name.as_str()
     }
 
-    /// Whether it is ordered before a file that was found.
+    /// Whether it comes before a file that was found.
     fn is_before(&self, found: &MailFile) -> bool {
         let name = self.name.as_str();
         let place = (base(name).as_bytes(), self.folder, name);
@@ -70,7 +70,7 @@ impl ListedFile {
     }
 }
 
-/// The stamp of a file. A time that can't be had, or is before 1970, counts as 1970.
+/// The stamp of a file. A time that is before 1970, or that the system doesn't give, counts as 1970.
 pub fn stamp_of(metadata: &Metadata) -> Stamp {
     let mut stamp = Stamp {
         length: metadata.len(),
@@ -87,14 +87,14 @@ pub fn stamp_of(metadata: &Metadata) -> Stamp {
 }
 
 /// The files found in a Maildir, in the order in which their messages are listed, and the look at the
-/// folders behind which they were found.
+/// folders after which they were found.
 #[derive(Drop)]
 pub struct FoundFiles {
     pub look: FoldersLook,
     pub files: Vec<MailFile>,
 }
 
-/// The files of the listed messages, in their order, and the look at the folders behind which they were
+/// The files of the listed messages, in their order, and the look at the folders after which they were
 /// found.
 #[derive(Drop)]
 pub struct Listing {
@@ -103,7 +103,7 @@ pub struct Listing {
 }
 
 impl Listing {
-    /// No listing, which never stands.
+    /// No listing; it is never valid.
     pub fn none(alloc: Global) -> Listing
         ensures { result.files.items ≡ [] }
     {
@@ -128,8 +128,8 @@ impl Listing {
     }
 }
 
-/// Sizes that were counted for an earlier listing, in the order in which files are listed. They are asked
-/// for in that order too.
+/// Sizes that were counted for an earlier listing, in the order in which files are listed. They have to
+/// be asked for in that order too.
 #[derive(Drop)]
 pub struct Counted<'a> {
     files: &'a [ListedFile],
@@ -141,8 +141,8 @@ impl<'a> Counted<'a> {
         Counted { files }
     }
 
-    /// The size of a file that was found, where it was counted and the file is as it was then. The files
-    /// that are ordered before it are passed over.
+    /// The counted size of a file that was found, if there is one and the file is as it was then. Files
+    /// that come before it are skipped.
     pub fn size_of(&mut self, found: &MailFile) -> Option<u64>
         ensures { IfSome result (λ size. WasCounted self.old.files.now found.now size) }
     {
@@ -159,7 +159,7 @@ impl<'a> Counted<'a> {
     }
 }
 
-/// The size of a file as a message, which is read in pieces to its end.
+/// The size of a file as a message. The file is read in pieces to its end.
 pub fn count_size<F: Read>(file: &mut F, piece: &mut [u8]) -> io::Result<u64> {
     let mut count = SizeCount::new();
     for _ in 0..u64::MAX {

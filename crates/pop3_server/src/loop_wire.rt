@@ -16,18 +16,18 @@ use std::marker::Model;
 
 const GREETING: &[u8] = b"+OK popd ready\r\n";
 
-/// A link whose answers are a server's: it gives the greeting, and then an answer to each line that
+/// A link to a server in the same process: it gives the greeting, and then an answer to each line that
 /// is sent while the server is open. It keeps all octets that were sent and all answers.
 ///
-/// It refuses a call only for want of memory, and every call after that.
+/// A call fails only when out of memory, and so does every call after that.
 #[derive(Drop)]
 pub struct LoopWire<D: Maildrop> {
     server: Server<D>,
     sent: Vec<u8>,
-    // so many of the octets sent were answered
+    // how many of the octets sent were answered
     used: usize,
     answers: Vec<u8>,
-    // so many octets of the greeting and the answers were given
+    // how many octets of the greeting and the answers were given
     given: usize,
     ended: bool,
     down: bool,
@@ -60,7 +60,7 @@ impl<D: Maildrop> Model for LoopWire<D> {
 }
 
 impl<D: Maildrop> LoopWire<D> {
-    /// A link to this server, which was sent nothing yet.
+    /// A link to this server; nothing was sent over it yet.
     pub fn new(alloc: Global, server: Server<D>) -> LoopWire<D>
         ensures { result ≡ record {
           machine = server;
@@ -91,7 +91,7 @@ impl<D: Maildrop> LoopWire<D> {
         server
     }
 
-    /// How long the first whole line is that waits, its CR LF not counted, while the server is open.
+    /// The length of the first whole line that waits, without its CR LF, while the server is open.
     fn next_line(&self) -> Option<usize>
         ensures some { IfSome result (λ n. (is_open self.now.machine.state ≡ true) × HasLine (length self.now.waiting) self.now.waiting n) }
         ensures none { IfNone result (IsAnswered self.now) }
@@ -150,7 +150,7 @@ impl<D: Maildrop> LoopWire<D> {
         Ok(())
     }
 
-    /// What is given next of the greeting and the answers.
+    /// The octets of the greeting and the answers that come next.
     fn piece(&self) -> &[u8]
         ensures begins { (rest : List ℕ) × (self.now.left ≡ result.now ++ rest) }
         ensures some { result.now ≡ [] → self.now.left ≡ [] }
@@ -163,7 +163,7 @@ impl<D: Maildrop> LoopWire<D> {
         }
     }
 
-    /// Takes the link down, and counts the call that is refused.
+    /// Takes the link down, and counts the refused call.
     fn refuse(&mut self) -> WireDown
         ensures counted { self.new.link.failures ≡ counted_up self.old.link.failures }
         ensures same { self.new ≡ record self.old { down = true; link = with_failures self.new.link.failures self.old.link } }
@@ -185,7 +185,7 @@ impl<D: Maildrop> Wire for LoopWire<D> {
         ensures counted { CountsFailure self.old.link result self.new.link }
         ensures sent { WhereSound (λ w. w.link.failures < greatest_count) (λ u v. Serves D.sound D.mail u v) self.old self.new
             (Sends self.old.link bytes.now result self.new.link) }
-        // A good call has answered every whole line that was sent to an open server; behind a
+        // A call that succeeds has answered every whole line that was sent to an open server; after a
         // refused one all calls are refused.
         ensures answered { IfOk result (λ _. (self.old.down ≡ false) × (self.new.down ≡ false) × IsAnswered self.new) }
         ensures down { IfErr result (λ _. self.new.down ≡ true) }
@@ -208,7 +208,7 @@ impl<D: Maildrop> Wire for LoopWire<D> {
         ensures counted { CountsFailure self.old.link result self.new.link }
         ensures got { WhereSound (λ w. w.link.failures < greatest_count) (λ u v. Serves D.sound D.mail u v) self.old self.new
             (Receives self.old.link result buf.new self.new.link) }
-        // It is refused behind a refused call and there alone, and 0 says that nothing is left.
+        // It is refused only after a refused call, and 0 says that nothing is left.
         ensures up { IfOk result (λ _. (self.old.down ≡ false) × (self.new.down ≡ false)) }
         ensures down { IfErr result (λ _. (self.old.down ≡ true) × (self.new.down ≡ true)) }
         ensures gives { IfOk result (λ n. self.old.left ≡ take n buf.new ++ self.new.left) }

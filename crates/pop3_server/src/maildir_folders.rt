@@ -1,5 +1,5 @@
-//! The two folders of a Maildir whose files are messages, and where such a file lies now: mail software
-//! moves files from `new` to `cur` and gives them other flags while they are served.
+//! The two folders of a Maildir whose files are messages, and where such a file is now: mail software
+//! moves files from `new` to `cur` and changes their flags while they are served.
 ghost use Rattle.std.specs.Prelude.{◌≡◌};
 ghost use Rattle.std.specs.String.{string_bytes};
 
@@ -16,11 +16,11 @@ use std::marker::Model;
 use std::rt::Files;
 use std::time::Clock;
 
-/// How many times a file is tried that has got another name each time.
+/// How many times a file is tried that has a new name each time.
 const MOST_TRIES: u32 = 10;
 
-/// Why a file or folder couldn't be read or removed: the error of the system, and its path, where it was
-/// for one.
+/// Why a file or folder couldn't be read or removed: the system's error, and the path, if the error is
+/// about one.
 #[derive(Drop)]
 pub struct Unread {
     pub error: io::Error,
@@ -28,7 +28,7 @@ pub struct Unread {
 }
 
 impl Unread {
-    /// What kept a file or folder from being read. Running out of memory has nothing to do with its path.
+    /// The failure to read a file or folder. If memory ran out, the path doesn't matter.
     pub fn at(error: io::Error, path: String) -> Unread {
         let path = if error.kind() == ErrorKind::OutOfMemory {
             None
@@ -77,7 +77,7 @@ impl<'a, R: Files + AllocGlobal + Clone + Drop> Model for MaildirFolders<'a, R> 
 }
 
 impl<'a, R: Files + Clock + AllocGlobal + Clone + Drop> MaildirFolders<'a, R> {
-    /// Those of the Maildir at this path.
+    /// The folders of the Maildir at this path.
     pub fn at(rt: &'a R, path: String) -> MaildirFolders<'a, R>
         ensures { result ≡ string_bytes path }
     {
@@ -106,7 +106,7 @@ impl<'a, R: Files + Clock + AllocGlobal + Clone + Drop> MaildirFolders<'a, R> {
         Ok(format!(in self.rt.alloc(); "{path}/{folder}/{name}")?)
     }
 
-    /// When a folder was changed last.
+    /// When a folder was last changed.
     fn change_of(&self, folder: Folder) -> Result<ChangeTime, Unread> {
         let path = self.folder_path(folder)?;
         match fs::metadata(self.rt, path.as_str()) {
@@ -115,8 +115,8 @@ impl<'a, R: Files + Clock + AllocGlobal + Clone + Drop> MaildirFolders<'a, R> {
         }
     }
 
-    /// A look at both folders. The clock is read first: what a folder's change that the look misses
-    /// leaves behind is no older than the look.
+    /// A look at both folders. The clock is read first, so that a change which the look misses has a
+    /// time no older than the look.
     pub fn look(&self) -> Result<FoldersLook, Unread> {
         let at = match self.rt.since_1970() {
             Ok(passed) => passed.as_secs(),
@@ -129,8 +129,8 @@ impl<'a, R: Files + Clock + AllocGlobal + Clone + Drop> MaildirFolders<'a, R> {
         })
     }
 
-    /// Adds the files of a folder, none left out that is there all the time. A name that isn't UTF-8, or
-    /// begins with a full stop, is passed over.
+    /// Adds the files of a folder; one that is there all the time isn't left out. Names that aren't UTF-8,
+    /// or begin with a full stop, are skipped.
     fn add_files(&self, folder: Folder, files: &mut Vec<PlacedFile>) -> Result<(), Unread> {
         let path = self.folder_path(folder)?;
         let names = match list_names(self.rt, path.as_str()) {
@@ -143,8 +143,8 @@ impl<'a, R: Files + Clock + AllocGlobal + Clone + Drop> MaildirFolders<'a, R> {
         Ok(())
     }
 
-    /// The files of both folders, in their order. A file that moves from `new` to `cur` meanwhile is
-    /// found all the same, as `new` is listed first; it may be found in both.
+    /// The files of both folders, in order. A file that moves from `new` to `cur` meanwhile is still
+    /// found, since `new` is listed first; it may be found in both.
     pub fn list(&self) -> Result<Vec<PlacedFile>, Unread> {
         let mut files = Vec::new(self.rt.alloc());
         self.add_files(Folder::New, &mut files)?;
@@ -153,8 +153,8 @@ impl<'a, R: Files + Clock + AllocGlobal + Clone + Drop> MaildirFolders<'a, R> {
         Ok(files)
     }
 
-    /// The path of a file that isn't at `tried` any more: where the last listing saw a file of its base,
-    /// else where a new one does. None where no file has it.
+    /// The path of a file that isn't at `tried` any more: where the last listing saw a file with its
+    /// base, else where a new listing does. None if no file has it.
     fn path_now(
         &self,
         seen: &mut SeenFiles,
@@ -176,8 +176,8 @@ impl<'a, R: Files + Clock + AllocGlobal + Clone + Drop> MaildirFolders<'a, R> {
         }
     }
 
-    /// Does something with the file that had this name: where it isn't there, with the one that has its
-    /// base now. None where no file has it.
+    /// Does something with the file of this name, or if that is gone, with the one that has its base now.
+    /// None if no file has it.
     fn reach<T: Drop, D: FnMut(&R, &str) -> io::Result<T>>(
         &self,
         seen: &mut SeenFiles,
@@ -205,7 +205,7 @@ impl<'a, R: Files + Clock + AllocGlobal + Clone + Drop> MaildirFolders<'a, R> {
         Err(Unread::at(ErrorKind::TimedOut.into(), path))
     }
 
-    /// The stamp of a regular file. None where it is none, or gone.
+    /// The stamp of a regular file. None if it isn't one, or is gone.
     pub fn stamp(&self, seen: &mut SeenFiles, file: &PlacedFile) -> Result<Option<Stamp>, Unread> {
         let told = self.reach(seen, file.folder, file.name.as_str(), |rt, path| {
             fs::symlink_metadata(rt, path)
@@ -216,7 +216,7 @@ impl<'a, R: Files + Clock + AllocGlobal + Clone + Drop> MaildirFolders<'a, R> {
         }
     }
 
-    /// Opens a file. None where it is gone.
+    /// Opens a file. None if it is gone.
     pub fn open(
         &self,
         seen: &mut SeenFiles,
@@ -226,13 +226,13 @@ impl<'a, R: Files + Clock + AllocGlobal + Clone + Drop> MaildirFolders<'a, R> {
         self.reach(seen, folder, name, |rt, path| fs::open(rt, path))
     }
 
-    /// Removes a file. One that is gone already is removed.
+    /// Removes a file. One that is gone already counts as removed.
     pub fn remove(&self, seen: &mut SeenFiles, folder: Folder, name: &str) -> Result<(), Unread> {
         self.reach(seen, folder, name, |rt, path| fs::remove_file(rt, path))?;
         Ok(())
     }
 
-    /// The size of a file as a message, which is read in pieces. None where it is gone.
+    /// The size of a file as a message; the file is read in pieces. None if it is gone.
     pub fn size(
         &self,
         seen: &mut SeenFiles,

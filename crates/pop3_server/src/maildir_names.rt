@@ -1,4 +1,4 @@
-//! The folders and files of a Maildir, and the unique-id that a file's name stands for.
+//! The folders and files of a Maildir, and the unique-id for a file's name.
 ghost use Rattle.std.specs.Prelude.{◌≡◌, true, length, IsTrue, IfOk};
 ghost use Rattle.std.specs.List.{list_all};
 ghost use Rattle.mail_terms.specs.UniqueId.{is_legal_id, is_id_byte};
@@ -30,7 +30,7 @@ impl Folder {
     }
 }
 
-/// How long a file is, and when it was changed last, in seconds and nanoseconds since 1970.
+/// How long a file is, and when it was last changed, in seconds and nanoseconds since 1970.
 #[derive(Clone, Copy, PartialEq, Eq, PartialOrd, Ord)]
 pub struct Stamp {
     pub length: u64,
@@ -38,7 +38,7 @@ pub struct Stamp {
     pub nanoseconds: u32,
 }
 
-/// Where a file of a Maildir lies. Files are ordered by the bytes of their base, then `cur` before
+/// The place of a file in a Maildir. Files are ordered by the bytes of their base, then `cur` before
 /// `new`, then by their whole name.
 #[derive(PartialEq, Eq, PartialOrd, Ord, Drop)]
 pub struct PlacedFile {
@@ -64,12 +64,12 @@ pub struct MailFile {
     pub base: Vec<u8>,
     pub folder: Folder,
     pub name: String,
-    /// What the folder says of it.
+    /// Its length and time of change.
     pub stamp: Stamp,
 }
 
 impl MailFile {
-    /// A file that lies there.
+    /// A file at this place.
     pub fn of(placed: PlacedFile, stamp: Stamp) -> MailFile {
         let PlacedFile { base, folder, name } = placed;
         MailFile {
@@ -103,8 +103,8 @@ fn digest(base: &[u8]) -> [u8; 64]
     hexadecimal(digest.as_slice())
 }
 
-/// The unique-id of a base: the base itself where that is a legal id, else its SHA-256 in
-/// lower-case hexadecimal.
+/// The unique-id of a base: the base itself if that is a legal id, else its SHA-256 in lower-case
+/// hexadecimal.
 pub fn unique_id(alloc: Global, base: &[u8]) -> Result<Bytes, AllocError>
     ensures value { IfOk result (λ id. id ≡ id_of base.now) }
     ensures legal { IfOk result (λ id. IsTrue (is_legal_id id)) }

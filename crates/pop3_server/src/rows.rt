@@ -1,4 +1,4 @@
-//! The messages as PASS found them, in order of their numbers (RFC 1939, section 4).
+//! The messages that PASS found, in order of their numbers (RFC 1939, section 4).
 ghost use Rattle.std.specs.Prelude.{◌≡◌, ◌≤◌, ◌<◌, ◌+◌, ◌-◌, ℕ, List, map, length, slice_get, Some, None, MatchOption, IfOk, vec_len};
 ghost use Rattle.pop3_server.specs.declared.rows.MessageRow.{MessageRow};
 ghost use Rattle.pop3_server.specs.ServerMachine.{row_at, row_of_entry, mark_at, unmarked, left_count, left_total, IsSmall, KeepLimits};
@@ -8,14 +8,14 @@ use pop3_wire::Bytes;
 use std::alloc::{AllocError, Global};
 use std::marker::Model;
 
-/// A message as PASS found it, and whether it is marked for removal.
+/// A message that PASS found, and whether it is marked for removal.
 #[derive(Drop)]
 pub struct MessageRow {
     pub entry: Entry,
     pub marked: bool,
 }
 
-/// The messages as PASS found them, in order of their numbers.
+/// The messages that PASS found, in order of their numbers.
 #[derive(Drop)]
 pub struct Rows {
     rows: Vec<MessageRow>,
@@ -43,7 +43,7 @@ impl Rows {
     {
         let mut rows = Vec::with_capacity(alloc, entries.len())?;
         for entry in entries {
-            // The clause hands on the limit that the entry keeps to.
+            // The clause states the limit that an entry's type keeps.
             let _size = entry.size();
             rows.push(MessageRow {
                 entry,
@@ -61,8 +61,8 @@ impl Rows {
         self.rows.as_slice()
     }
 
-    /// The place of the row of this message number, counted from 1. None where there is no such
-    /// message, or where it is marked.
+    /// The place of the row of this message number, counted from 1. None if there is no such message,
+    /// or it is marked.
     pub fn place(&self, number: u32) -> Option<usize>
         ensures { MatchOption result
             (row_at self.now number ≡ None)
@@ -97,7 +97,7 @@ impl Rows {
         self.rows[i].marked = true;
     }
 
-    /// Marks none.
+    /// Unmarks all rows.
     pub fn unmark(&mut self)
         ensures { self.new ≡ map unmarked self.old }
     {

@@ -1,9 +1,9 @@
-//! Where the files of a Maildir were seen last, for those that aren't where they were listed.
+//! Where the files of a Maildir were last seen, for those that aren't where they were listed.
 ghost use Rattle.std.specs.Prelude.{◌≡◌, IfSome};
 
 use crate::maildir_names::PlacedFile;
 
-/// The files that were seen when one was looked for last.
+/// The files that were seen when one was last looked for.
 #[derive(Drop)]
 pub struct SeenFiles {
     /// In their order. None before the first look.
@@ -13,7 +13,7 @@ pub struct SeenFiles {
 }
 
 impl SeenFiles {
-    /// No files, as none was looked for.
+    /// No files: none was looked for yet.
     pub fn none() -> SeenFiles {
         SeenFiles {
             files: None,
@@ -21,7 +21,7 @@ impl SeenFiles {
         }
     }
 
-    /// Takes the place of what was seen before; the files are in their order.
+    /// Replaces what was seen before; the files have to be in order.
     pub fn renew(&mut self, files: Vec<PlacedFile>) {
         self.files = Some(files);
     }
@@ -41,8 +41,8 @@ impl SeenFiles {
         }
     }
 
-    /// From now on a file that wasn't seen is gone: one look during the removals of a session is enough
-    /// for all of them.
+    /// From now on a file that wasn't seen counts as gone: one look is enough for all removals of a
+    /// session.
     pub fn begin_removals(&mut self) {
         if !self.are_removed {
             *self = SeenFiles {
@@ -52,7 +52,7 @@ impl SeenFiles {
         }
     }
 
-    /// Whether a file that wasn't seen is gone.
+    /// Whether a file that wasn't seen counts as gone.
     pub fn tells_all(&self) -> bool {
         self.are_removed && self.files.is_some()
     }

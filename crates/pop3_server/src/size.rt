@@ -1,14 +1,14 @@
-//! Sizes of texts, in octets as they go over the wire without stuffing: each line's end counts as
-//! two, and a last piece without LF is a line (RFC 1939, section 11).
+//! Sizes of texts, in octets on the wire without stuffing: each line's end counts as two, and a last
+//! piece without LF is a line (RFC 1939, section 11).
 ghost use Rattle.std.specs.Prelude.{◌≡◌, ◌++◌, ℕ, List, [], Bool, true, false, ◌+◌, if◌then◌else◌};
 ghost use Rattle.pop3_server.specs.Size.{CountsText, weight, size_of, capped};
 
 use crate::text_line::cut_line;
 
-/// How many octets the end of a line counts.
+/// How many octets the end of a line counts for.
 const LINE_END: usize = 2;
 
-/// A count of a text that is read piece by piece.
+/// Counts the size of a text that is read piece by piece.
 #[derive(Clone, Copy)]
 pub struct SizeCount {
     octets: u64,
@@ -43,14 +43,14 @@ impl SizeCount {
         }
     }
 
-    /// Counts so many octets more, as far as the count goes.
+    /// Counts so many octets more, up to the greatest number.
     fn count(&mut self, octets: usize)
         ensures { self.new ≡ record self.old { octets = capped (self.old.octets + octets) } }
     {
         self.octets = self.octets.saturating_add(octets as u64);
     }
 
-    /// The size of what was counted.
+    /// The size so far.
     pub fn size(&self) -> u64
         ensures { (text : List ℕ) → CountsText self.now text → result ≡ capped (size_of text) }
     {

@@ -1,11 +1,11 @@
-//! Where a session stands (RFC 1939, section 3).
+//! The states of a session (RFC 1939, section 3).
 use crate::rows::Rows;
 use pop3_wire::Bytes;
 
 /// The state of a session.
 #[derive(Drop)]
 pub enum State {
-    /// The client isn't let in yet; a user's name may be kept.
+    /// The client isn't logged in yet; a user's name may be kept.
     Authorization(Option<Bytes>),
     /// The maildrop is open.
     Transaction(Rows),

@@ -4,7 +4,7 @@ ghost use Rattle.mail_terms.specs.Text.{HasNoLf};
 
 use memchr::memchr;
 
-/// What stands before the first LF of a piece, and what follows that LF. None where there is no LF.
+/// The bytes before the first LF of a piece, and those after it. None if there is no LF.
 pub fn cut_line(piece: &[u8]) -> Option<(&[u8], &[u8])>
     ensures cut { MatchOption result (HasNoLf piece.now)
         (λ parts. HasNoLf parts.0.now × (piece.now ≡ parts.0.now ++ 10 ∷ parts.1.now)) }

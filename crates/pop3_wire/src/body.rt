@@ -6,7 +6,7 @@ use crate::fault::WireFault;
 use crate::line::cut_line;
 use std::alloc::Global;
 
-/// What a line of a body stands for: the line without its first full stop, where it begins with one.
+/// The line of the text that a line of a body stands for: without its first full stop, if it begins with one.
 pub fn without_dot(line: &[u8]) -> &[u8]
     ensures { result.now ≡ unstuffed line.now }
 {
@@ -24,7 +24,7 @@ pub fn is_end_mark(line: &[u8]) -> bool
 }
 
 /// The text of the body that the bytes begin with, and how many octets the body takes, its end
-/// mark included. None where no prefix of the bytes is a whole body. The text has the body's lines
+/// mark included. None if no prefix of the bytes is a whole body. The text has the body's lines
 /// as they were before they were stuffed, each ended by LF.
 pub fn unstuff(alloc: Global, bytes: &[u8]) -> Result<Option<(Vec<u8>, usize)>, WireFault>
     ensures found { IfOk result (λ found. IfSome found (λ b. (b.1 ≤ length bytes.now)

@@ -16,16 +16,16 @@ use thiserror::Error;
 /// Why there is no text.
 #[derive(Clone, Copy, Debug, PartialEq, Eq, Error)]
 pub enum BodyFault {
-    /// The link gave 0 octets: nothing comes any more.
+    /// The link gave 0 octets: it has ended.
     #[error("the link has ended")]
     Ended,
     /// The link refused a `recv`.
     #[error("the link failed")]
     Failed,
-    /// As many octets as the limit hold no whole body.
+    /// No whole body ends within the limit.
     #[error("the body is too long")]
     TooLong,
-    /// A growth was refused.
+    /// Out of memory.
     #[error("out of memory")]
     NoMemory,
 }
@@ -41,7 +41,7 @@ impl From<AllocError> for BodyFault {
     }
 }
 
-/// Takes from the link where nothing waits, so that something does.
+/// Takes octets from the link if none wait, so that some do.
 fn draw<W: Wire>(wire: &mut W, reader: &mut LineReader) -> Result<(), BodyFault>
     ensures counted { CountsRefusal is_refusal (W.seen wire.old) result (W.seen wire.new) }
     ensures frugal { IfErr result (λ fault. fault ≢ BodyFault.NoMemory) }
@@ -61,8 +61,8 @@ fn draw<W: Wire>(wire: &mut W, reader: &mut LineReader) -> Result<(), BodyFault>
     }
 }
 
-/// Uses what waits, as far as it belongs to the body and stays within `left` octets, and puts what
-/// it adds to the text into `out`.
+/// Uses the octets that wait, up to the end of the body and at most `left` of them, and puts what
+/// they add to the text into `out`.
 fn use_waiting(
     reader: &mut LineReader,
     unstuffer: &mut Unstuffer,
@@ -107,7 +107,7 @@ impl Model for BodyReader {
 }
 
 impl BodyReader {
-    /// A reader of a body of at most `limit` octets, of which nothing was read yet.
+    /// A reader of a body of at most `limit` octets; none were read yet.
     pub fn new(limit: usize) -> BodyReader
         ensures value { result ≡ rest_of Start limit }
         ensures starts { (place : Place) → UnderWay limit place place result [] }
@@ -159,8 +159,8 @@ impl BodyReader {
     }
 }
 
-/// Takes one body from the link, end mark included, and answers its text. It asks the link for no
-/// more than the body needs, and the body may take at most `limit` octets. Whatever it answers, no
+/// Takes one body from the link, end mark included, and returns its text. It asks the link for no
+/// more than the body needs, and the body may take at most `limit` octets. Whatever the result, no
 /// more than `limit` octets are used, and what the link gave beyond them waits.
 pub fn read_body<W: Wire>(
     alloc: Global,

@@ -33,15 +33,15 @@ pub enum Command {
     Dele(u32),
     /// Unmarks all messages.
     Rset,
-    /// Nothing.
+    /// Does nothing.
     Noop,
-    /// The head of a message, and so many lines of what follows.
+    /// The head of a message, and the given number of lines after it.
     Top(u32, u32),
-    /// The end of the session, where the marked messages are removed.
+    /// Ends the session; the server then removes the marked messages.
     Quit,
 }
 
-/// A keyword and an argument as a line.
+/// The line of a keyword and an argument.
 fn text_line(alloc: Global, keyword: &[u8], argument: &[u8]) -> Result<Vec<u8>, WireFault>
     ensures ok { IfOk result (λ v. (is_credential argument.now ≡ true) × (v.items ≡ keyword.now ++ argument.now ++ crlf)) }
     ensures err { IfErr result (λ e. ((e ≡ WireFault.BadArgument) × (is_credential argument.now ≡ false)) ⊎ ((e ≡ WireFault.NoMemory) × (is_credential argument.now ≡ true))) }
@@ -56,7 +56,7 @@ fn text_line(alloc: Global, keyword: &[u8], argument: &[u8]) -> Result<Vec<u8>, 
     Ok(line)
 }
 
-/// A keyword alone as a line.
+/// The line of a keyword alone.
 fn bare_line(alloc: Global, keyword: &str) -> Result<Vec<u8>, WireFault>
     ensures ok { IfOk result (λ v. v.items ≡ keyword.now ++ crlf) }
     ensures err { IfErr result (λ e. e ≡ WireFault.NoMemory) }
@@ -64,7 +64,7 @@ fn bare_line(alloc: Global, keyword: &str) -> Result<Vec<u8>, WireFault>
     Ok(format!(in alloc; "{keyword}\r\n")?.into_bytes())
 }
 
-/// A keyword and a number as a line.
+/// The line of a keyword and a number.
 fn number_line(alloc: Global, keyword: &str, number: u32) -> Result<Vec<u8>, WireFault>
     ensures ok { IfOk result (λ v. v.items ≡ keyword.now ++ (codes " " ++ (decimal number ++ crlf))) }
     ensures err { IfErr result (λ e. e ≡ WireFault.NoMemory) }

@@ -13,7 +13,7 @@ use crate::keyword::{Keyword, read_keyword};
 use mail_terms::{Bytes, is_credential};
 use std::alloc::Global;
 
-/// What stands before the first space, and what stands behind it, where there is one.
+/// The bytes before the first space, and those after it, if there is a space.
 fn cut_word(bytes: &[u8]) -> (&[u8], Option<&[u8]>)
     ensures word { result.0.now ≡ before_first is_space bytes.now }
     ensures rest { MatchOption result.1
@@ -39,7 +39,7 @@ fn without_spaces(line: &[u8]) -> &[u8]
     &line[..length]
 }
 
-/// What stands behind the keyword, where the spaces at the line's end are dropped.
+/// The bytes after the keyword, without the spaces at the line's end.
 #[tactic(auto, unfolding(crate::specs::CommandLine::arguments))]
 fn behind_keyword(line: &[u8]) -> Option<&[u8]>
     ensures { MatchOption result (arguments line.now ≡ []) (λ rest. arguments line.now ≡ slice_split is_space rest.now) }
@@ -48,7 +48,7 @@ fn behind_keyword(line: &[u8]) -> Option<&[u8]>
     rest
 }
 
-/// The argument of USER or PASS: all that stands behind the keyword's space, spaces included.
+/// The argument of USER or PASS: all that follows the space after the keyword, spaces included.
 #[tactic(auto, unfolding(crate::specs::CommandLine::text_argument))]
 fn text_argument(alloc: Global, line: &[u8]) -> Result<Bytes, WireFault>
     ensures ok { IfOk result (λ text. text_argument (rest_of line.now) ≡ Ok text) }
@@ -76,7 +76,7 @@ fn argument_number(word: &[u8]) -> Result<u32, WireFault>
     Ok(number(4_294_967_295, word)? as u32)
 }
 
-/// That there is no argument.
+/// Checks that there is no argument.
 #[tactic(auto, unfolding(crate::specs::CommandLine::no_argument))]
 fn no_argument(line: &[u8]) -> Result<(), WireFault>
     ensures { result ≡ no_argument (arguments line.now) }
@@ -101,7 +101,7 @@ fn one_number(line: &[u8]) -> Result<u32, WireFault>
     }
 }
 
-/// The one argument, a number, where there is one.
+/// The one argument, a number, if there is one.
 #[tactic(auto, unfolding(crate::specs::CommandLine::number_or_none))]
 fn number_or_none(line: &[u8]) -> Result<Option<u32>, WireFault>
     ensures { result ≡ number_or_none (arguments line.now) }
@@ -180,9 +180,9 @@ fn read_by(alloc: Global, keyword: Option<Keyword>, line: &[u8]) -> Result<Comma
     }
 }
 
-/// The command that a line without its CR LF asks for. The keyword, in upper or lower case, is what
-/// stands before the first space; USER and PASS take all that follows as their argument, the others
-/// take words apart by single spaces. BadCommand for an unknown keyword and for a line of more than
+/// The command that a line without its CR LF asks for. The keyword, in upper or lower case, ends at
+/// the first space; USER and PASS take all that follows as their argument, the others split it at
+/// single spaces. BadCommand for an unknown keyword and for a line of more than
 /// 510 bytes; BadArgument for another count of arguments and for an argument of USER or PASS that
 /// `command_bytes` refuses; BadNumber for a number that isn't 1 to 10 digits or is above 2^32 - 1;
 /// NoMemory only for USER and PASS, whose argument is copied.
@@ -204,17 +204,17 @@ pub fn read_as_written()
     ensures { ReadAsWritten }
 {}
 
-/// What asks for a command that can be sent is one line.
+/// The line of a command that can be sent is one line.
 pub fn commands_are_lines()
     ensures { CommandsAreLines }
 {}
 
-/// What was sent tells which commands were sent whole.
+/// The octets sent determine which commands were sent whole.
 pub fn only_one_list_of_commands()
     ensures { OneListOfCommands }
 {}
 
-/// Octets that begin those of some commands are the first of these whole, and perhaps a part of the
+/// A prefix of the octets of some commands is the first few of them whole, and perhaps a part of the
 /// next.
 pub fn fronts_are_asked()
     ensures { FrontsAreAsked }

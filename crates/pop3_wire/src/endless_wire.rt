@@ -11,7 +11,7 @@ use mail_terms::FailureCount;
 use std::alloc::Global;
 use std::marker::Model;
 
-/// A link that gives a front and then a pattern for ever, and keeps what it is sent. Below the
+/// A link that gives a front and then repeats a pattern, and keeps what it is sent. Below the
 /// greatest failure count `send` fails only when out of memory, and `recv` only after
 /// 18,446,744,073,709,551,615 octets.
 #[derive(Drop)]
@@ -41,7 +41,7 @@ impl Model for EndlessWire {
 }
 
 impl EndlessWire {
-    /// A link that will give the front and then the pattern for ever, and was sent nothing yet.
+    /// A link that will give the front and then repeat the pattern; nothing was sent to it yet.
     pub fn new(alloc: Global, front: Vec<u8>, pattern: Vec<u8>) -> EndlessWire
         requires { 0 < length pattern.items }
         ensures value { result ≡ record {

@@ -17,10 +17,10 @@ pub enum WireFault {
     /// The line is too long for a command, or its keyword is unknown.
     #[error("bad command")]
     BadCommand,
-    /// A command has another count of arguments, or its argument can't be sent.
+    /// A command has too many or too few arguments, or its argument can't be sent.
     #[error("bad argument")]
     BadArgument,
-    /// A growth was refused.
+    /// Out of memory.
     #[error("out of memory")]
     NoMemory,
 }

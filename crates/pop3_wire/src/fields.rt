@@ -1,4 +1,4 @@
-//! Fields of reply lines, which stand apart by one or more spaces (RFC 1939, sections 5 and 7).
+//! Fields of reply lines, separated by one or more spaces (RFC 1939, sections 5 and 7).
 ghost use Rattle.std.specs.Prelude.{◌≡◌, ◌≤◌, IfOk, IfErr, Ok, Err, length, take_while};
 ghost use Rattle.std.specs.Char.{is_ascii_digit};
 ghost use Rattle.std.specs.List.{prefix_len};
@@ -37,14 +37,14 @@ fn leading_digits(bytes: &[u8]) -> usize
         .count()
 }
 
-/// What follows the spaces in front.
+/// The bytes without the spaces in front.
 fn past_spaces(bytes: &[u8]) -> &[u8]
     ensures { result.now ≡ past is_space bytes.now }
 {
     &bytes[leading_spaces(bytes)..]
 }
 
-/// The number that a field stands for, where it isn't above the limit.
+/// The number that a field stands for, if it isn't above the limit.
 #[tactic(auto, unfolding(crate::specs::Fields::number))]
 pub fn number(limit: u64, field: &[u8]) -> Result<u64, WireFault>
     ensures value { result ≡ number limit field.now }
@@ -69,7 +69,7 @@ fn next_field(bytes: &[u8]) -> Result<&[u8], WireFault>
     Ok(rest)
 }
 
-/// What a field of an id holds.
+/// The id in a field.
 #[tactic(auto, unfolding(crate::specs::Fields::legal_id))]
 fn legal_id(field: &[u8]) -> Result<&[u8], WireFault>
     ensures ok { IfOk result (λ id. legal_id field.now ≡ Ok id.now) }
@@ -81,7 +81,7 @@ fn legal_id(field: &[u8]) -> Result<&[u8], WireFault>
     Ok(field)
 }
 
-/// An id, where nothing but spaces follows it.
+/// An id, if nothing but spaces follows it.
 #[tactic(auto, unfolding(crate::specs::Fields::nothing_more))]
 fn nothing_more<'a>(id: &'a [u8], bytes: &[u8]) -> Result<&'a [u8], WireFault>
     ensures ok { IfOk result (λ whole. nothing_more id.now bytes.now ≡ Ok whole.now) }
@@ -105,8 +105,8 @@ fn message_number(line: &[u8]) -> Result<(u32, &[u8]), WireFault>
 }
 
 /// The count and the total of STAT, from the rest of its first line: `nn mm` (RFC 1939, section 5).
-/// What follows `mm` is ignored where it begins with a character that isn't a digit. BadField where
-/// a field is missing; BadNumber where it isn't 1 to 20 digits, the count is above 4,294,967,295 or
+/// What follows `mm` is ignored if it begins with a character that isn't a digit. BadField if
+/// a field is missing; BadNumber if it isn't 1 to 20 digits, the count is above 4,294,967,295 or
 /// the total is above 18,446,744,073,709,551,615. The first faulty field decides.
 pub fn read_stat(rest: &[u8]) -> Result<(u32, u64), WireFault>
     ensures value { result ≡ number_and_size rest.now }
@@ -129,8 +129,8 @@ pub fn read_scan(line: &[u8]) -> Result<(u32, u64), WireFault>
 }
 
 /// The number and the unique-id of a row of UIDL: `number id` (RFC 1939, section 7), after which
-/// only spaces may follow. BadField where a field is missing, the id isn't legal or more follows;
-/// BadNumber where the number isn't 1 to 20 digits or is above 4,294,967,295. The first faulty
+/// only spaces may follow. BadField if a field is missing, the id isn't legal or more follows;
+/// BadNumber if the number isn't 1 to 20 digits or is above 4,294,967,295. The first faulty
 /// field decides.
 #[tactic(auto, unfolding(crate::specs::Fields::number_and_id))]
 pub fn read_uid(line: &[u8]) -> Result<(u32, &[u8]), WireFault>
@@ -146,15 +146,15 @@ pub fn read_uid(line: &[u8]) -> Result<(u32, &[u8]), WireFault>
     Ok((n, whole))
 }
 
-/// A row of LIST, and STAT's rest, is read exactly where it has this form: spaces or none, a message
-/// number, one space or more, a size, and behind it whatever doesn't go on with a digit. A number is 1
-/// to 20 digits, up to its limit; read is what stands there.
+/// A row of LIST, and STAT's rest, is accepted exactly if it has this form: any spaces, a message
+/// number, one space or more, a size, and then anything that doesn't begin with a digit. A number is 1
+/// to 20 digits, up to its limit. The result is these two numbers.
 pub fn scan_rows_have_a_form()
     ensures { ScanRowsHaveForm }
 {}
 
-/// A row of UIDL is read exactly where it has this form: spaces or none, a message number, one space
-/// or more, a legal unique-id, and spaces or none; read is what stands there.
+/// A row of UIDL is accepted exactly if it has this form: any spaces, a message number, one space
+/// or more, a legal unique-id, and any spaces. The result is this number and this id.
 pub fn uid_rows_have_a_form()
     ensures { UidRowsHaveForm }
 {}

@@ -1,4 +1,4 @@
-//! A link that passes a number of calls, and refuses the rest.
+//! A link that passes on a number of calls and refuses the rest.
 ghost use Rattle.std.specs.Prelude.{◌≡◌, ◌≤◌, ◌<◌, length, IfOk};
 ghost use Rattle.mail_terms.specs.FailureCount.{greatest_count};
 ghost use Rattle.pop3_wire.specs.Link.{Sends, Receives, CountsFailure, WhereSound};
@@ -8,8 +8,8 @@ use crate::wire::{Wire, WireDown};
 use mail_terms::FailureCount;
 use std::marker::Model;
 
-/// A link behind a fuse: `send` and `recv` are passed on to it as often as the fuse says, and every
-/// call after those is refused and counted.
+/// A link with a fuse: the first so many calls of `send` and `recv` are passed on to it, and every
+/// later call is refused and counted.
 #[derive(Drop)]
 pub struct FusedWire<W> {
     wire: W,
@@ -26,7 +26,7 @@ impl<W> Model for FusedWire<W> {
 }
 
 impl<W> FusedWire<W> {
-    /// A fuse before this link, which passes so many calls.
+    /// This link with a fuse that passes on so many calls.
     pub fn new(wire: W, passes: u64) -> FusedWire<W>
         ensures { result ≡ record { wire = wire; left = passes; failures = 0 } }
     {
@@ -37,7 +37,7 @@ impl<W> FusedWire<W> {
         }
     }
 
-    /// The link behind the fuse.
+    /// The link without the fuse.
     pub fn into_inner(self) -> W
         ensures { result ≡ self.wire }
     {

@@ -3,14 +3,14 @@
 ghost use Rattle.std.specs.Prelude.{◌≡◌};
 ghost use Rattle.pop3_wire.specs.CommandLine.{keyword_of};
 
-/// What a command begins with.
+/// The word that a command begins with.
 #[derive(Clone, Copy)]
 pub enum Keyword {
     /// The user's name.
     User,
     /// The password.
     Pass,
-    /// The state of the maildrop.
+    /// How many messages there are, and their octets.
     Stat,
     /// Unique ids.
     Uidl,
@@ -18,19 +18,19 @@ pub enum Keyword {
     List,
     /// A message.
     Retr,
-    /// Marks as deleted.
+    /// Marks a message as deleted.
     Dele,
-    /// Unmarks.
+    /// Unmarks all messages.
     Rset,
-    /// Nothing.
+    /// Does nothing.
     Noop,
     /// The head of a message.
     Top,
-    /// The end.
+    /// The end of the session.
     Quit,
 }
 
-/// The keyword that a word is, in upper or lower case or both.
+/// The keyword that a word is, in upper or lower case or a mix of both.
 #[tactic(auto, unfolding(crate::specs::CommandLine::keyword_of))]
 pub fn read_keyword(word: &[u8]) -> Option<Keyword>
     ensures { result ≡ keyword_of word.now }

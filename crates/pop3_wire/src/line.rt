@@ -4,7 +4,7 @@ ghost use Rattle.pop3_wire.specs.Line.{crlf, IsLine, OneLine};
 
 use memchr::memmem;
 
-/// The line that the bytes begin with, and what follows its CR LF. None where no line ends.
+/// The line that the bytes begin with, and what follows its CR LF. None if no line ends in them.
 pub fn cut_line(bytes: &[u8]) -> Option<(&[u8], &[u8])>
     ensures found { IfSome result (λ cut. IsLine cut.0.now × (bytes.now ≡ cut.0.now ++ (crlf ++ cut.1.now))) }
     ensures none { IfNone result (IsLine bytes.now) }
@@ -13,7 +13,7 @@ pub fn cut_line(bytes: &[u8]) -> Option<(&[u8], &[u8])>
     Some((&bytes[..length], &bytes[length + 2..]))
 }
 
-/// Bytes begin with one ended line at most.
+/// Bytes begin with at most one whole line.
 pub fn only_one_line()
     ensures { OneLine }
 {}

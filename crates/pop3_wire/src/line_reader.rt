@@ -1,5 +1,4 @@
-//! A reader of lines over any link: the replies that a client gets, and the commands that a server
-//! gets.
+//! Reads lines from any link: the replies that a client gets, and the commands that a server gets.
 ghost use Rattle.std.specs.Prelude.{◌≡◌, ◌≤◌, ◌<◌, ◌+◌, ◌-◌, ℕ, List, [], ◌++◌, length, take, drop, IfOk, IfErr, OnErr, IfSome, IfNone};
 ghost use Rattle.pop3_wire.specs.Link.{CountsFailure, CountsRefusal, WhereSound};
 ghost use Rattle.pop3_wire.specs.Place.{most_waiting, at, GotPiece, WasRefused, Gains, HasLine, HasNoLine, ReadsLine, is_refusal};
@@ -9,29 +8,29 @@ use crate::wire::{Wire, WireDown};
 use std::marker::Model;
 use thiserror::Error;
 
-/// Why no line waits.
+/// Why there is no whole line.
 #[derive(Clone, Copy, Debug, PartialEq, Eq, Error)]
 pub enum LineFault {
-    /// The link gave 0 octets: nothing comes any more.
+    /// The link gave 0 octets: it has ended.
     #[error("the link has ended")]
     Ended,
     /// The link refused a `recv`.
     #[error("the link failed")]
     Failed,
-    /// As many octets as the limit hold no whole line.
+    /// No whole line ends within the limit.
     #[error("the line is too long")]
     TooLong,
 }
 
-/// What a link gave and nobody has used yet: at most 4,096 octets. It takes no memory.
+/// What a link gave and nobody has used yet: at most 4,096 octets. It allocates nothing.
 ///
-/// Nothing is asked of the link that isn't needed: while a whole line waits, no `recv` is made.
+/// It reads only when it must: while a whole line waits, it makes no `recv`.
 #[derive(Drop)]
 pub struct LineReader {
     bytes: [u8; 4096],
     start: usize,
     end: usize,
-    // so many of the waiting octets are known to hold no line end
+    // how many of the waiting octets are known to hold no line end
     searched: usize,
 }
 
@@ -44,7 +43,7 @@ impl Model for LineReader {
         × HasNoLine r.searched (take (r.end - r.start) (drop r.start r.bytes)) };
 }
 
-/// Moves a part of the bytes to their front. Where it stands there nothing is copied, so that a line
+/// Moves a part of the bytes to their front. If it is there already, nothing is copied, so that a line
 /// that comes in many pieces is copied once.
 fn move_to_front(bytes: &mut [u8], start: usize, end: usize)
     requires low { start ≤ end }
@@ -57,7 +56,7 @@ fn move_to_front(bytes: &mut [u8], start: usize, end: usize)
 }
 
 impl LineReader {
-    /// A reader for which nothing waits.
+    /// A reader with nothing waiting.
     pub fn new() -> LineReader
         ensures { result ≡ [] }
     {
@@ -69,7 +68,7 @@ impl LineReader {
         }
     }
 
-    /// What waits to be used.
+    /// The octets that wait to be used.
     pub fn waiting(&self) -> &[u8]
         ensures value { result.now ≡ self.now }
         ensures short { length result.now ≤ most_waiting }
@@ -86,8 +85,8 @@ impl LineReader {
         self.searched = self.searched.saturating_sub(n);
     }
 
-    /// Takes what the link gives next, in one `recv`, and says how many octets that were. They wait
-    /// behind those that wait.
+    /// Takes what the link gives next, in one `recv`, after the octets that wait already, and returns
+    /// how many came.
     pub fn fill<W: Wire>(&mut self, wire: &mut W) -> Result<usize, WireDown>
         requires { length self.old < most_waiting }
         ensures counted { CountsFailure (W.seen wire.old) result (W.seen wire.new) }
@@ -100,8 +99,8 @@ impl LineReader {
         self.fill_at_most(wire, 4096)
     }
 
-    /// Takes what the link gives next, at most so many octets, in one `recv`, and says how many that
-    /// were. They wait behind those that wait.
+    /// Takes what the link gives next, at most so many octets, in one `recv`, after the octets that wait
+    /// already, and returns how many came.
     pub fn fill_at_most<W: Wire>(&mut self, wire: &mut W, most: usize) -> Result<usize, WireDown>
         requires room { length self.old < most_waiting }
         requires some { 0 < most }
@@ -122,8 +121,8 @@ impl LineReader {
         Ok(n)
     }
 
-    /// How long the line is that waits, if one ends within the limit. The search goes on where the
-    /// last one ended.
+    /// The length of the line that waits, if one ends within the limit. The search goes on from where
+    /// the last one stopped.
     pub fn line_end(&mut self, limit: usize) -> Option<usize>
         ensures same { self.new ≡ self.old }
         ensures short { length self.new ≤ most_waiting }
@@ -140,7 +139,7 @@ impl LineReader {
     }
 
     /// Takes from the link until a line waits that ends within `limit` octets, its CR LF included,
-    /// and says how long it is without its CR LF. The line still waits then.
+    /// and returns its length without CR LF. The line isn't used yet.
     pub fn line<W: Wire>(&mut self, wire: &mut W, limit: usize) -> Result<usize, LineFault>
         requires { limit ≤ most_waiting }
         ensures counted { CountsRefusal is_refusal (W.seen wire.old) result (W.seen wire.new) }

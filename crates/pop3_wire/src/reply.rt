@@ -16,7 +16,7 @@ pub enum Status {
     Negative,
 }
 
-/// What follows a status indicator, without the space between the two.
+/// The text after a status indicator, without the space between the two.
 fn without_space(after: &[u8]) -> &[u8]
     ensures { result.now ≡ without_space after.now }
 {
@@ -26,8 +26,8 @@ fn without_space(after: &[u8]) -> &[u8]
     }
 }
 
-/// The status and the rest of a first line, which is handed over without its CR LF. BadStatus where
-/// it begins with neither `+OK` nor `-ERR`, in upper case. One space in front of the rest is dropped.
+/// The status and the rest of a first line, which is given without its CR LF. BadStatus if it begins
+/// with neither `+OK` nor `-ERR`, in upper case. One space in front of the rest is dropped.
 pub fn read_status(line: &[u8]) -> Result<(Status, &[u8]), WireFault>
     ensures ok { IfOk result (λ read. IsFirstLine line.now read.0 read.1.now) }
     ensures err { IfErr result (λ e. (e ≡ WireFault.BadStatus)
@@ -42,19 +42,19 @@ pub fn read_status(line: &[u8]) -> Result<(Status, &[u8]), WireFault>
     }
 }
 
-/// Octets are cut into whole replies to given commands in one way only: a first line, and behind a
+/// Octets split into whole replies to given commands in one way only: a first line, and after a
 /// positive one the body that its command asks for.
 pub fn only_one_reading()
     ensures { OneReading }
 {}
 
-/// The octets of a body are cut into its lines in one way only.
+/// The octets of a body split into its lines in one way only.
 pub fn only_one_list_of_lines()
     ensures { OneListOfLines }
 {}
 
-/// What a server writes is read as it was meant: a status and what stands behind it; a number; a row
-/// of LIST, which is STAT's rest too; and a row of UIDL. The rows stand in a body as they are.
+/// What a server writes is read as it was meant: a status and the text after it; a number; a row
+/// of LIST, which is STAT's rest too; and a row of UIDL. In a body these rows need no stuffing.
 pub fn replies_are_read_as_written()
     ensures first { FirstLinesAreRead }
     ensures numbers { NumbersAreRead }

@@ -1,4 +1,4 @@
-//! A link in memory whose replies were written beforehand.
+//! A link in memory with prepared replies.
 ghost use Rattle.std.specs.Prelude.{◌≡◌, ◌≤◌, ◌<◌, ◌-◌, ◌^◌, ◌++◌, ℕ, List, [], false, length, take, min, IsOk, IfOk};
 ghost use Rattle.mail_terms.specs.FailureCount.{greatest_count};
 ghost use Rattle.pop3_wire.specs.Link.{Receives, CountsFailure, WhereSound};
@@ -10,8 +10,8 @@ use mail_terms::FailureCount;
 use std::alloc::Global;
 use std::marker::Model;
 
-/// A link that gives replies written beforehand, in pieces of a bounded length, and keeps what it is
-/// sent. Below the greatest failure count it refuses only for want of memory, in `send`.
+/// A link that gives prepared replies, in pieces of a bounded length, and keeps what it is sent.
+/// Below the greatest failure count only `send` fails, and only when out of memory.
 #[derive(Drop)]
 pub struct ScriptWire {
     replies: Vec<u8>,
@@ -40,7 +40,7 @@ impl Model for ScriptWire {
 }
 
 impl ScriptWire {
-    /// A link that will give these replies, at most `cut` octets at once, and was sent nothing yet.
+    /// A link that will give these replies, at most `cut` octets at once; nothing was sent to it yet.
     pub fn new(alloc: Global, replies: Vec<u8>, cut: usize) -> ScriptWire
         requires { 0 < cut }
         ensures value { result ≡ record {
@@ -91,7 +91,7 @@ impl Wire for ScriptWire {
         ensures within { IfOk result (λ n. n ≤ length buf.new) }
         ensures counted { CountsFailure self.old.link result self.new.link }
         ensures got { WhereSound is_sound gives_on self.old self.new (Receives self.old.link result buf.new self.new.link) }
-        // Below the greatest count it refuses nothing, and answers 0 only where all was given; a piece
+        // Below the greatest count it never fails, and it answers 0 only after all was given; a piece
         // is never longer than the cut.
         ensures gives { self.old.link.failures < greatest_count → IsOk result }
         ensures ends { IfOk result (λ n. n ≡ 0 → self.new.link.got ≡ self.new.replies) }

@@ -7,8 +7,8 @@ use crate::wire::{Wire, WireDown};
 use mail_terms::FailureCount;
 use std::io::{self, ErrorKind, Read, Write};
 
-/// A link over a reader and a writer. Nothing is known of the octets that these take and give, so
-/// its premise never holds: what crosses it is shown by tests.
+/// A link over a reader and a writer. Contracts know nothing of the octets that these take and give,
+/// so its premise never holds: tests show what crosses it.
 #[derive(Drop)]
 pub struct StreamWire<R, W> {
     reader: R,
@@ -17,7 +17,7 @@ pub struct StreamWire<R, W> {
 }
 
 impl<R: Read, W: Write> StreamWire<R, W> {
-    /// A link that reads from the one and writes to the other, with no refusal counted.
+    /// A link that reads from the reader and writes to the writer. Its failure count is 0.
     pub fn new(reader: R, writer: W) -> StreamWire<R, W>
         ensures { result ≡ record { reader = reader; writer = writer; failures = 0 } }
     {
@@ -41,7 +41,7 @@ impl<R: Read, W: Write> StreamWire<R, W> {
     }
 }
 
-/// Writes the bytes, all of them, and sends them on their way.
+/// Writes all of the bytes, and flushes.
 fn write_whole<W: Write>(writer: &mut W, bytes: &[u8]) -> io::Result<()>
     ensures { OnOk result (Appends (W.contents writer.old) (W.contents writer.new) bytes.now) }
 {
@@ -49,8 +49,8 @@ fn write_whole<W: Write>(writer: &mut W, bytes: &[u8]) -> io::Result<()>
     writer.flush()
 }
 
-/// Reads once, however often that is interrupted: where a process was stopped and goes on, the system
-/// interrupts a read whose wait is bounded.
+/// Reads once, and tries again if that is interrupted: when a stopped process goes on, the system
+/// interrupts a read that has a time limit.
 fn read_once<R: Read>(reader: &mut R, buf: &mut [u8]) -> io::Result<usize>
     ensures within { IfOk result (λ n. n ≤ length buf.new) }
     ensures took { ReadConsumes (R.remaining reader.old) (R.remaining reader.new) result buf.new }
@@ -77,7 +77,7 @@ impl<R: Read, W: Write> Wire for StreamWire<R, W> {
 
     fn send(&mut self, bytes: &[u8]) -> Result<(), WireDown>
         ensures counted { CountsFailure (uncharted self.old.failures) result (uncharted self.new.failures) }
-        // What is written is known where the writer's bytes are: a good call wrote the bytes.
+        // If the writer's bytes are known, a call that succeeds wrote these bytes.
         ensures wrote { OnOk result (Appends (W.contents self.old.writer) (W.contents self.new.writer) bytes.now) }
         ensures same { self.new.reader ≡ self.old.reader }
     {
@@ -97,8 +97,8 @@ impl<R: Read, W: Write> Wire for StreamWire<R, W> {
         requires { 0 < length buf.old }
         ensures within { IfOk result (λ n. n ≤ length buf.new) }
         ensures counted { CountsFailure (uncharted self.old.failures) result (uncharted self.new.failures) }
-        // What is read is known where the reader's bytes are: a good call took what it put into the
-        // buffer, and 0 says that none is left.
+        // If the reader's bytes are known, a call that succeeds took what it put into the buffer, and 0
+        // says that none are left.
         ensures took { OnOk result (ReadConsumes (R.remaining self.old.reader) (R.remaining self.new.reader) result buf.new) }
         ensures same { self.new.writer ≡ self.old.writer }
     {

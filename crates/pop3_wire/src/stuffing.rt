@@ -8,8 +8,8 @@ use crate::fault::WireFault;
 use mail_terms::cut_text;
 use std::alloc::Global;
 
-/// Writes a line of a text into a body, behind what stands there: with one more full stop where it
-/// begins with one, and ended by CR LF. Where memory runs out a part of it may stand there.
+/// Appends a line of a text to a body: with one more full stop if it begins with one, and ended by
+/// CR LF. If memory runs out, a part of it may have been appended.
 pub fn put_line(body: &mut Vec<u8>, line: &[u8]) -> Result<(), WireFault>
     ensures ok { IfOk result (λ _. body.new.items ≡ body.old.items ++ sent_line line.now) }
     ensures err { IfErr result (λ e. e ≡ WireFault.NoMemory) }
@@ -23,8 +23,8 @@ pub fn put_line(body: &mut Vec<u8>, line: &[u8]) -> Result<(), WireFault>
     Ok(())
 }
 
-/// Writes the body of a text behind what stands there, end mark included. The text's lines end at
-/// LF; a last piece without LF is a line. Where memory runs out a part of it may stand there.
+/// Appends the body of a text, end mark included. The text's lines end at LF; a last piece without LF
+/// is a line. If memory runs out, a part of it may have been appended.
 pub fn put_body(body: &mut Vec<u8>, text: &[u8]) -> Result<(), WireFault>
     ensures ok { IfOk result (λ _. body.new.items ≡ body.old.items ++ stuffed_lines (lines_of_text text.now)) }
     ensures err { IfErr result (λ e. e ≡ WireFault.NoMemory) }
@@ -56,13 +56,13 @@ pub fn stuffed_is_body()
     ensures { StuffedIsBody }
 {}
 
-/// Whatever follows what a writer sends, a reader finds that body alone, and the text with its last
-/// line ended.
+/// Whatever follows the body that a writer sends, a reader finds that body and no other, and the text
+/// with its last line ended.
 pub fn stuffed_is_read()
     ensures { StuffedIsRead }
 {}
 
-/// No body begins another, so that bytes begin with one body at most.
+/// No body begins another, so bytes begin with at most one body.
 pub fn only_one_body()
     ensures { OneBody }
 {}

@@ -1,4 +1,4 @@
-//! Bodies that are read piece by piece, however the pieces fall (RFC 1939, section 3).
+//! Reads bodies piece by piece, wherever the pieces are cut (RFC 1939, section 3).
 ghost use Rattle.std.specs.Prelude.{◌≡◌, ◌≢◌, ◌≤◌, ◌<◌, ◌+◌, ◌++◌, ◌↔◌, ◌∷◌, ℕ, List, [], length, slice_index, take, IsTrue, IfSome};
 ghost use Rattle.pop3_wire.specs.Body.{Body, HasNoBody};
 ghost use Rattle.pop3_wire.specs.Unstuffing.{Reaches, held_back, bytes_given};
@@ -6,24 +6,24 @@ ghost use Rattle.pop3_wire.specs.Unstuffing.{Reaches, held_back, bytes_given};
 use memchr::memchr;
 use std::marker::Model;
 
-/// Where in a body the octets read so far lead.
+/// The place in a body after the octets read so far.
 #[derive(Clone, Copy, Debug, PartialEq, Eq)]
 pub enum Spot {
     /// At the start of a line.
     Start,
-    /// Behind a full stop at the start of a line.
+    /// After a full stop at the start of a line.
     Dot,
-    /// Behind a full stop at the start of a line, and CR.
+    /// After a full stop at the start of a line, and CR.
     DotCr,
-    /// In a line, not behind CR.
+    /// In a line, not after CR.
     Middle,
-    /// In a line, behind CR.
+    /// In a line, after CR.
     Cr,
-    /// Behind the end mark.
+    /// After the end mark.
     Done,
 }
 
-/// What an octet of a body gives to the text.
+/// What an octet of a body adds to the text.
 #[derive(Clone, Copy, Debug, PartialEq, Eq)]
 pub enum Given {
     /// Nothing yet.
@@ -34,7 +34,7 @@ pub enum Given {
     CrAnd(u8),
 }
 
-/// What became of a piece.
+/// How a piece was used.
 #[derive(Clone, Copy, Debug, PartialEq, Eq)]
 pub struct Fed {
     /// How many octets of the piece belong to the body.
@@ -80,8 +80,8 @@ fn step(spot: Spot, byte: u8) -> (Spot, Given)
     }
 }
 
-/// Where the two octets that a piece begins with lead, and the one that they give, for the pairs
-/// that many lines have: CR LF in a line, and a full stop at its start with an octet that isn't CR.
+/// The place after the two octets that a piece begins with, and the octet that they give, for common
+/// pairs: CR LF in a line, and a full stop at its start with an octet that isn't CR.
 fn pair(spot: Spot, piece: &[u8]) -> Option<(Spot, u8)>
     ensures fits { IfSome result (λ r. (2 ≤ length piece.now) × (r.0 ≢ Spot.Done) × (held_back r.0 ≤ held_back spot)) }
     ensures reached { IfSome result (λ r. (bytes text : List ℕ) → Reaches spot bytes text
@@ -101,7 +101,7 @@ fn pair(spot: Spot, piece: &[u8]) -> Option<(Spot, u8)>
     }
 }
 
-/// Writes what an octet gave behind the first `put` octets, and says how many stand there now.
+/// Writes what an octet gave after the first `put` octets, and returns how many there are now.
 fn write(out: &mut [u8], put: usize, given: Given) -> usize
     requires { put + length (bytes_given given) ≤ length out.old }
     ensures value { result ≡ put + length (bytes_given given) }
@@ -135,8 +135,8 @@ fn run_length(piece: &[u8]) -> usize
     }
 }
 
-/// Copies what a piece begins with behind the first `put` octets, where that is the same in the
-/// body and in its text: in a line, all up to CR. It says how many octets that are.
+/// Copies the front of a piece after the first `put` octets, as far as it is the same in the body and
+/// in its text: within a line, all up to CR. It returns how many octets that were.
 fn copy_run(spot: Spot, piece: &[u8], out: &mut [u8], put: usize) -> usize
     requires { put + length piece.now ≤ length out.old }
     ensures fits { result ≤ length piece.now }
@@ -154,7 +154,7 @@ fn copy_run(spot: Spot, piece: &[u8], out: &mut [u8], put: usize) -> usize
     }
 }
 
-/// Where the first octets of a piece lead, how many they are, and how many octets stand in the
+/// The place after the first octets of a piece, how many they are, and how many octets are in the
 /// buffer then.
 #[derive(Clone, Copy)]
 struct Advance {
@@ -163,7 +163,7 @@ struct Advance {
     put: usize,
 }
 
-/// Reads the first octets of a piece, and puts what they give behind the first `put` octets.
+/// Reads the first octets of a piece, and puts what they give after the first `put` octets.
 fn go_on(spot: Spot, piece: &[u8], out: &mut [u8], put: usize) -> Advance
     requires inside { spot ≢ Spot.Done }
     requires some { 0 < length piece.now }
@@ -213,7 +213,7 @@ impl Model for Unstuffer {
 }
 
 impl Unstuffer {
-    /// A reader of a body of which nothing was read yet.
+    /// A reader at the start of a body.
     pub fn new() -> Unstuffer
         ensures { result ≡ Spot.Start }
     {
@@ -227,8 +227,8 @@ impl Unstuffer {
         self.spot == Spot::Done
     }
 
-    /// Reads one more piece, and puts into the buffer what it adds to the text. A piece is used
-    /// whole, unless the body ends in it; once it has ended, nothing is used and nothing put.
+    /// Reads one more piece, and puts what it adds to the text into the buffer. The whole piece is
+    /// used, unless the body ends in it; after the end nothing is used and nothing put.
     pub fn feed(&mut self, piece: &[u8], out: &mut [u8]) -> Fed
         requires { length piece.now < length out.old }
         ensures fits { (result.used ≤ length piece.now) × (result.put ≤ length out.new) }
@@ -272,7 +272,7 @@ pub fn holds_no_body()
     ensures { (spot : Spot) (bytes text : List ℕ) → Reaches spot bytes text → spot ≢ Spot.Done → HasNoBody bytes }
 {}
 
-/// What was put begins the text of every body that goes on from the octets read.
+/// The text put so far begins the text of every body that begins with the octets read.
 pub fn shows_a_beginning()
     ensures { (spot : Spot) (bytes text rest whole : List ℕ) → Reaches spot bytes text → Body (bytes ++ rest) whole
         → (more : List ℕ) × (whole ≡ text ++ more) }

@@ -11,28 +11,28 @@ pub struct WireDown;
 
 /// A link that takes octets and gives octets, in order.
 ///
-/// Its failure count rises by one exactly where a call is refused; at its greatest value,
-/// 18,446,744,073,709,551,615, it stays. Everything else that a clause says of the octets stands
-/// under the premise `sound`: nothing is known of a real socket.
+/// Its failure count rises by one exactly when a call is refused; at its greatest value,
+/// 18,446,744,073,709,551,615, it stays. All other clauses hold under the premise `sound`: nothing is
+/// known of a real socket.
 pub trait Wire {
-    // What is known of the link.
+    // What contracts know of the link.
     ghost seen: { Self → Link };
 
     // The premise: so far the link did what this trait says, and its failure count hasn't reached
-    // its greatest value. It is known backwards: what is sound after a call was so before it.
+    // its greatest value. It runs backwards: a link that is sound after a call was sound before it.
     ghost sound: { Self → Type 0 };
 
-    // What each call keeps, which a link may have of its own.
+    // A relation of the link's own that each call keeps.
     ghost leads_to: { Self → Self → Type 0 };
 
-    /// Sends the bytes, all of them, before it answers. A refused call has sent a prefix of them.
+    /// Sends all of the bytes before it returns. A refused call has sent a prefix of them.
     fn send(&mut self, bytes: &[u8]) -> Result<(), WireDown>
         ensures counted { CountsFailure (seen self.old) result (seen self.new) }
         ensures sent { WhereSound sound leads_to self.old self.new
             (Sends (seen self.old) bytes.now result (seen self.new)) };
 
-    /// Puts into the buffer what comes next, at least one octet, and answers how many; 0 says that
-    /// nothing comes any more. It may wait.
+    /// Puts the octets that come next into the buffer, at least one, and returns how many; 0 says that
+    /// the link has ended. It may wait.
     fn recv(&mut self, buf: &mut [u8]) -> Result<usize, WireDown>
         requires { 0 < length buf.old }
         ensures within { IfOk result (λ n. n ≤ length buf.new) }

@@ -1,4 +1,4 @@
-//! The settings that the rows of an rc file give.
+//! The settings that an rc file's rows give.
 ghost use Rattle.std.specs.Prelude.{true, codes};
 ghost use Rattle.rc_file.specs.SectionReading.{
   MakesDestination,
@@ -42,7 +42,7 @@ pub(crate) struct Options {
     verbose: u8,
 }
 
-/// The settings that the rows give, or the first of their keys that is faulty.
+/// The settings that the rows give, or the fault of the first faulty key.
 pub(crate) fn read_settings(alloc: Global, rows: &[ReadRow<'_>]) -> Result<Settings, RcFault>
     ensures { ReadsSettings (rows_in rows.now) result }
 {

@@ -1,4 +1,4 @@
-//! What can be wrong with an rc file.
+//! The faults of an rc file.
 ghost use Rattle.std.specs.Prelude.{◌≡◌};
 ghost use Rattle.rc_file.specs.declared.fault.RcFault.TheVariants.{NoMemory};
 
@@ -15,28 +15,28 @@ pub enum RcFault {
     /// The line of this number, counted from 1, isn't understood.
     #[error("rc file line {0} not understood")]
     BadLine(u32),
-    /// A section line that must be there isn't.
+    /// A required section is missing.
     #[error("section missing")]
     MissingSection(Section),
-    /// A key that must be there isn't.
+    /// A required key is missing.
     #[error("key missing")]
     MissingKey(Key),
-    /// The type that is named isn't one of those that this program has.
+    /// The type isn't one that this program knows.
     #[error("type unknown")]
     UnknownType(Key),
-    /// The value isn't of the key's form.
+    /// The value doesn't have the key's form.
     #[error("bad value")]
     BadValue(Key),
-    /// The value asks for what this program doesn't do.
+    /// The value asks for something that this program doesn't support.
     #[error("value unsupported")]
     Unsupported(Key),
-    /// The destination's path isn't of the form that its type wants.
+    /// The destination's path doesn't have the form that its type needs.
     #[error("path has a bad form")]
     BadPath,
     /// Two flags of the command line ask for opposite things.
     #[error("opposite flags")]
     Contradiction,
-    /// A growth was refused.
+    /// Out of memory.
     #[error("out of memory")]
     NoMemory,
 }

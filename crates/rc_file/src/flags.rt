@@ -1,4 +1,4 @@
-//! The flags of a command line, which go before the rc file.
+//! The flags of a command line, which override the rc file.
 ghost use Rattle.std.specs.Prelude.{◌≡◌, ◌↔◌, false, IfErr, IfOk, IsOk};
 ghost use Rattle.rc_file.specs.Flags.{is_contradiction, louder, overridden, switched};
 ghost use Rattle.rc_file.specs.Settings.{IsValid, content_of};
@@ -9,15 +9,15 @@ use crate::settings::Settings;
 /// Which flags were given.
 #[derive(Clone, Copy, Debug, PartialEq, Eq)]
 pub struct Flags {
-    /// `--all`: fetch messages that were fetched before.
+    /// `--all`: fetch all messages, also those that were fetched before.
     pub all: bool,
-    /// `--new`: fetch new messages alone.
+    /// `--new`: fetch only new messages.
     pub new_only: bool,
-    /// `--delete`: delete messages that are held from the server.
+    /// `--delete`: delete stored messages from the server.
     pub delete: bool,
-    /// `--dont-delete`: don't delete them, unless `delete_after` says so.
+    /// `--dont-delete`: don't delete them, unless `delete_after` asks for it.
     pub dont_delete: bool,
-    /// `--quiet`: tell nothing.
+    /// `--quiet`: write no report.
     pub quiet: bool,
     /// How often `--verbose` was given.
     pub verbose: u8,
@@ -25,8 +25,8 @@ pub struct Flags {
 
 /// The settings, changed as the flags say: `all` and `new_only` set `read_all`; `delete` and
 /// `dont_delete` set `delete` and leave `delete_after`; `quiet` sets `verbose` to 0, and each
-/// `--verbose` adds one, up to 2. Two flags that ask for opposite things are refused as
-/// Contradiction; the settings are then given up. Takes no memory.
+/// `--verbose` adds one, up to 2. Contradiction if two flags ask for opposite things; the settings
+/// are then dropped. Allocates nothing.
 pub fn override_with(settings: Settings, flags: Flags) -> Result<Settings, RcFault>
     ensures given { IsOk result ↔ (is_contradiction flags ≡ false) }
     ensures content { IfOk result (λ new. content_of new ≡ overridden (content_of settings) flags) }

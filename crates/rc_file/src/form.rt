@@ -1,4 +1,4 @@
-//! Values of keys, each read by its form.
+//! Reads the values of keys, each by its form.
 ghost use Rattle.std.specs.Prelude.{◌≡◌, ◌≤◌, map, IfOk, IsTrue, Some, true};
 ghost use Rattle.std.specs.Char.{to_ascii_lowercase};
 ghost use Rattle.std.specs.Str.Parse.{digits_value};
@@ -27,7 +27,7 @@ use crate::settings::is_server;
 use crate::value::required;
 use mail_terms::{is_credential, read_numeral};
 
-/// The value of a key that holds a boolean.
+/// The value of a boolean key.
 pub(crate) fn read_boolean(rows: &[ReadRow<'_>], key: Key) -> Result<bool, RcFault>
     requires { (rule key).form ≡ boolean }
     ensures { ReadsAs (fault_at (rows_in rows.now) key) (is_true (rows_in rows.now) key) result }
@@ -47,7 +47,7 @@ fn parse_boolean(key: Key, text: &str) -> Result<bool, RcFault>
     }
 }
 
-/// Refuses a key that holds a boolean where that is true.
+/// Refuses a boolean key that is true.
 pub(crate) fn refuse_true(rows: &[ReadRow<'_>], key: Key) -> Result<(), RcFault>
     requires { (rule key).form ≡ never }
     ensures { ReadsAs (fault_at (rows_in rows.now) key) tt result }
@@ -86,7 +86,7 @@ fn is_word(text: &str, word: &str) -> bool
     text.eq_ignore_ascii_case(word)
 }
 
-/// The value of a key that holds a number from `low` to `high`.
+/// The value of a key that takes a number from `low` to `high`.
 pub(crate) fn read_number(
     rows: &[ReadRow<'_>],
     key: Key,

@@ -1,4 +1,4 @@
-//! The keys of an rc file that have an effect, and the sections in which they stand.
+//! The keys of an rc file that have an effect, and their sections.
 ghost use Rattle.std.specs.Prelude.{◌≡◌};
 ghost use Rattle.std.specs.Option.{option_copied};
 ghost use Rattle.rc_file.specs.KeyTable.{rule};
@@ -13,7 +13,7 @@ pub enum Section {
     Destination,
 }
 
-/// A key that has an effect, in the order in which keys are judged.
+/// A key that has an effect. Keys are checked in this order.
 #[derive(Clone, Copy, Debug, PartialEq, Eq)]
 pub enum Key {
     /// `type` of `[retriever]`
@@ -46,7 +46,7 @@ pub enum Key {
     Verbose,
 }
 
-// The sections in which keys stand.
+// The sections that have keys.
 const RETRIEVER: &str = "retriever";
 
 const DESTINATION: &str = "destination";
@@ -66,7 +66,7 @@ impl Section {
 }
 
 impl Key {
-    /// Every key, in the order in which they are judged.
+    /// Every key, in the order in which they are checked.
     pub(crate) const ALL: [Key; 14] = [
         Key::RetrieverKind,
         Key::UseApop,
@@ -84,7 +84,7 @@ impl Key {
         Key::Verbose,
     ];
 
-    /// The name of the section in which the key stands.
+    /// The name of the key's section.
     pub(crate) fn section(self) -> &'static str
         ensures { result.now ≡ (rule self).section }
     {
@@ -127,7 +127,7 @@ impl Key {
         }
     }
 
-    /// What counts where the key has no row; none for a key that must have one.
+    /// The key's default; none for a required key.
     pub(crate) fn default_value(self) -> Option<&'static str>
         ensures { option_copied result ≡ (rule self).default }
     {

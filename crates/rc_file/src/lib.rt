@@ -1,5 +1,5 @@
-//! The settings of a POP3 retriever: its rc file, read and judged, and the flags of a command line,
-//! which go before it. No call reads a file or prints: bytes, values and texts come in and go out.
+//! The settings of a POP3 retriever: the meaning of its rc file, and the flags of a command line,
+//! which override it. No call reads a file or prints: all take and return bytes, values and texts.
 #![tactic(auto)]
 
 mod account;

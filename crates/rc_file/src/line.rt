@@ -1,4 +1,4 @@
-//! What each line of an rc file is, wherever it stands.
+//! The kinds of lines of an rc file.
 ghost use Rattle.std.specs.Prelude.{◌≡◌, ◌≤◌, ◌==◌, length, slice_index};
 ghost use Rattle.std.specs.List.{position, prefix_len, suffix_len};
 ghost use Rattle.rc_file.specs.LineRules.{
@@ -15,11 +15,11 @@ ghost use Rattle.rc_file.specs.JudgedLine.{line_of};
 
 use std::str;
 
-/// A line, by the rule that it falls under.
+/// A line, by its kind.
 pub(crate) enum JudgedLine<'a> {
     /// Empty, blanks alone, or a comment.
     Skipped,
-    /// A line that goes on with a value.
+    /// A line that continues a value.
     More(&'a str),
     /// A section line, with the section's name.
     Section(&'a str),
@@ -29,9 +29,9 @@ pub(crate) enum JudgedLine<'a> {
     Bad,
 }
 
-/// What the line is by the first of the five rules that fits it: a line that isn't UTF-8 is bad;
-/// one that is empty, blank or a comment is skipped; one that begins with a blank goes on with a
-/// value; one that begins with `[` is a section line; any other is a key line.
+/// The line's kind, by the first of five rules that fits it: a line that isn't UTF-8 is bad; one that
+/// is empty, blank or a comment is skipped; one that begins with a blank continues a value; one that
+/// begins with `[` is a section line; any other is a key line.
 pub(crate) fn judge(bytes: &[u8]) -> JudgedLine<'_>
     ensures { line_of result ≡ judge bytes.now }
 {
@@ -120,7 +120,7 @@ fn trimmed(text: &str) -> &str
     without_end_blanks(&text[front_blanks(text)..])
 }
 
-/// The section that a line names which begins with `[` and ends with no blank.
+/// The section named by a line that begins with `[` and doesn't end with a blank.
 fn section_line(line: &str) -> JudgedLine<'_>
     requires { slice_index line.now 0 ≡ 91 }
     ensures { line_of result ≡ section_line line.now }

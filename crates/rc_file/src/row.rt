@@ -28,12 +28,12 @@ pub(crate) struct ReadRow<'a> {
 pub(crate) struct Entry {
     /// The key, in ASCII lower case.
     pub(crate) key: String,
-    /// The value, with the lines that go on with it.
+    /// The value, with the lines that continue it.
     pub(crate) value: String,
 }
 
 impl ReadRow<'_> {
-    /// Puts a line behind the key's value.
+    /// Appends a line to the key's value.
     fn add_text(&mut self, number: u32, text: &str) -> Result<(), RcFault>
         ensures { AddsText (row_of self.old) number text.now result (row_of self.new) }
     {
@@ -45,7 +45,7 @@ impl ReadRow<'_> {
 }
 
 impl Entry {
-    /// Puts a line behind the value.
+    /// Appends a line to the value.
     fn add_text(&mut self, text: &str) -> Result<(), RcFault>
         ensures same { string_bytes self.new.key ≡ string_bytes self.old.key }
         ensures grown { OnOk result (string_bytes self.new.value ≡ string_bytes self.old.value ++ (10 ∷ text.now)) }
@@ -119,7 +119,7 @@ fn add_more(rows: &mut Vec<ReadRow<'_>>, number: u32, text: &str) -> Result<(), 
     }
 }
 
-/// The rows of a file. The first line that is bad where it stands is refused as BadLine.
+/// The rows of a file. BadLine for the first line that is bad in its place.
 pub(crate) fn read_rows<'a>(alloc: Global, bytes: &'a [u8]) -> Result<Vec<ReadRow<'a>>, RcFault>
     requires { length bytes.now ≤ RC_LIMIT }
     ensures { ReadsRows (rows_of bytes.now) result }

@@ -1,4 +1,4 @@
-//! What the user asked for: the account, where its messages go, and which of them.
+//! The settings: the account, where its messages go, and which of them are fetched.
 ghost use Rattle.std.specs.Prelude.{◌≡◌, ◌↔◌, ◌++◌, drop, if◌then◌else◌, IfOk, IsTrue};
 ghost use Rattle.std.specs.String.{string_bytes};
 ghost use Rattle.std.specs.List.{list_all};
@@ -7,35 +7,35 @@ ghost use Rattle.rc_file.specs.Settings.{begins_at_home, is_server_byte, is_path
 use mail_terms::is_credential;
 use std::alloc::{AllocError, Global};
 
-/// The most days that [`Settings::delete_after`] may have.
+/// The greatest value of [`Settings::delete_after`], in days.
 pub const DELETE_AFTER_LIMIT: u64 = 4_294_967_295;
 
-/// What the rc file and the command line ask for. Any values can be put together here;
-/// [`Settings::is_valid`] tells whether they are such as an rc file may give.
+/// What the rc file and the command line ask for. Fields may have any values;
+/// [`Settings::is_valid`] says whether an rc file can give them.
 #[derive(Drop)]
 pub struct Settings {
-    /// The server's name or address: not empty, neither LF nor NUL.
+    /// The server's name or address: not empty, without LF and NUL.
     pub server: String,
     /// The server's TCP port, 1 to 65,535.
     pub port: u16,
-    /// The argument of USER: 1 to 500 bytes, neither CR, LF nor NUL.
+    /// The argument of USER: 1 to 500 bytes without CR, LF and NUL.
     pub username: String,
-    /// The argument of PASS: 1 to 500 bytes, neither CR, LF nor NUL.
+    /// The argument of PASS: 1 to 500 bytes without CR, LF and NUL.
     pub password: String,
     /// Where messages are stored.
     pub dest: Dest,
-    /// Messages that were fetched before are fetched again.
+    /// Whether messages that were fetched before are fetched again.
     pub read_all: bool,
-    /// Messages that are held are deleted from the server.
+    /// Whether stored messages are deleted from the server.
     pub delete: bool,
-    /// Messages that are held are deleted this many days after they were first seen, at most
-    /// [`DELETE_AFTER_LIMIT`]; 0 for never.
+    /// After how many days, counted from when they were first seen, stored messages are deleted; at
+    /// most [`DELETE_AFTER_LIMIT`], and 0 for never.
     pub delete_after: u64,
-    /// Larger messages, in octets as the server lists them, are passed over; 0 for no limit.
+    /// Messages that the server lists with more octets are skipped; 0 for no limit.
     pub max_size: u64,
     /// At most this many messages are fetched in a session; 0 for no limit.
     pub max_count: u64,
-    /// How much is told: 0 nothing, 1 what was done, 2 also what was passed over.
+    /// The report: 0 for none, 1 for fetched and deleted messages, 2 for skipped ones too.
     pub verbose: u8,
 }
 
@@ -49,7 +49,7 @@ pub enum Dest {
 }
 
 impl Settings {
-    /// Whether the settings hold only values that an rc file may give.
+    /// Whether an rc file can give these settings.
     pub fn is_valid(&self) -> bool
         ensures { IsTrue result ↔ IsValid self.now }
     {
@@ -117,8 +117,8 @@ fn is_destination(dest: &Dest) -> bool
     }
 }
 
-/// The path that is meant: one that begins with `~/` begins in the home, and is `home` followed by
-/// the path from its `/`; any other is itself.
+/// The whole path: for one that begins with `~/`, `home` followed by the path from its `/`; any other
+/// path as it is.
 pub fn full_path(alloc: Global, path: &str, home: &str) -> Result<String, AllocError>
     ensures { IfOk result (λ full. string_bytes full ≡ (if begins_at_home path.now then home.now ++ drop 1 path.now else path.now)) }
 {

@@ -1,5 +1,4 @@
-//! How faults and warnings of an rc file are told. Nothing of a value stands in them, so that no
-//! password does.
+//! The texts of an rc file's faults and warnings. They hold no part of a value, and so no password.
 ghost use Rattle.std.specs.Prelude.{◌≡◌, ◌++◌, List, map, IfOk};
 ghost use Rattle.rc_file.specs.RcMeaning.{warnings_in};
 ghost use Rattle.rc_file.specs.FileRows.{RcRow};
@@ -40,7 +39,7 @@ pub fn rc_text(alloc: Global, fault: &RcFault) -> Result<String, AllocError>
     }
 }
 
-/// A key with its section, and what is said of it.
+/// A key with its section, and a text about it.
 fn key_text(alloc: Global, key: Key, said: &str) -> Result<String, AllocError>
     ensures { IfOk result (λ text. string_bytes text ≡ key_text key ++ said.now) }
 {
@@ -73,7 +72,7 @@ fn key_warning(alloc: Global, line: u32, section: &str, key: &str) -> Result<Str
     format!(in alloc; "warning: line {line}: {section}.{key} has no effect")
 }
 
-/// A law: no warning depends on a value of the file, a password among them.
+/// A law: no warning depends on a value of the file, such as a password.
 pub fn warnings_hide_values()
     ensures { (rows : List RcRow) → warnings_in (map without_value rows) ≡ warnings_in rows }
 {}

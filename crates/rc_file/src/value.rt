@@ -1,4 +1,4 @@
-//! Look-ups of keys in the rows of an rc file.
+//! Looks up keys in the rows of an rc file.
 ghost use Rattle.std.specs.Prelude.{◌≡◌, IfErr, IfOk, None, Some};
 ghost use Rattle.std.specs.Option.{option_copied};
 ghost use Rattle.std.specs.List.{list_any};
@@ -11,7 +11,7 @@ use crate::key::{Key, Section};
 use crate::row::ReadRow;
 
 impl ReadRow<'_> {
-    /// The row's value, where it is a row of the key.
+    /// The row's value, if it is a row of the key.
     fn value_at(&self, key: Key) -> Option<&str>
         ensures { option_copied result ≡ value_at key (row_of self.now) }
     {
@@ -31,7 +31,7 @@ impl ReadRow<'_> {
     }
 }
 
-/// The key's value, which is that of its last row, or its default.
+/// The key's value: that of its last row, or its default.
 fn value<'r>(rows: &'r [ReadRow<'_>], key: Key) -> Option<&'r str>
     ensures { option_copied result ≡ value_of (rows_in rows.now) key }
 {
@@ -44,7 +44,7 @@ fn value<'r>(rows: &'r [ReadRow<'_>], key: Key) -> Option<&'r str>
     found
 }
 
-/// The key's value. MissingKey where it has none.
+/// The key's value. MissingKey if it has none.
 pub(crate) fn required<'r>(rows: &'r [ReadRow<'_>], key: Key) -> Result<&'r str, RcFault>
     ensures found { IfOk result (λ text. value_of (rows_in rows.now) key ≡ Some text.now) }
     ensures missing { IfErr result (λ fault. (value_of (rows_in rows.now) key ≡ None) × (fault ≡ RcFault.MissingKey key)) }
@@ -52,7 +52,7 @@ pub(crate) fn required<'r>(rows: &'r [ReadRow<'_>], key: Key) -> Result<&'r str,
     value(rows, key).ok_or(RcFault::MissingKey(key))
 }
 
-/// Refuses rows without a line of the section.
+/// MissingSection if no row is a line of the section.
 pub(crate) fn expect_section(rows: &[ReadRow<'_>], section: Section) -> Result<(), RcFault>
     ensures { fault_in result ≡ missing_section (rows_in rows.now) section }
 {

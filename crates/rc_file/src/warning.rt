@@ -1,4 +1,4 @@
-//! What of an rc file has no effect.
+//! Sections and keys of an rc file that have no effect.
 ghost use Rattle.std.specs.Prelude.{◌≡◌, map, IfOk, OnOk};
 ghost use Rattle.std.specs.Str.{bytes_eq};
 ghost use Rattle.rc_file.specs.KeyTable.{rule};
@@ -18,7 +18,7 @@ use crate::row::ReadRow;
 use std::alloc::{AllocError, Global};
 use std::collections::HashSet;
 
-/// A section or a key of an rc file that has no effect, at the line where it first stands.
+/// A section or a key of an rc file that has no effect, with the first line that has it.
 #[derive(Drop)]
 pub struct Warning {
     /// The line's number, counted from 1.
@@ -29,7 +29,7 @@ pub struct Warning {
     pub key: String,
 }
 
-/// What has no effect, in the order of lines, each section and each key once.
+/// The sections and keys without effect, in the order of lines, each once.
 pub(crate) fn find_warnings(alloc: Global, rows: &[ReadRow<'_>]) -> Result<Vec<Warning>, AllocError>
     ensures { IfOk result (λ found. map warning_of found.items ≡ warnings_in (rows_in rows.now)) }
 {
@@ -43,7 +43,7 @@ pub(crate) fn find_warnings(alloc: Global, rows: &[ReadRow<'_>]) -> Result<Vec<W
     Ok(warnings)
 }
 
-/// Tells a row, but where one of its name was told.
+/// Adds a warning for a row, unless there is one for its section and key.
 fn tell<'r>(
     alloc: Global,
     row: &'r ReadRow<'_>,
@@ -60,8 +60,8 @@ fn tell<'r>(
 }
 
 impl ReadRow<'_> {
-    /// Whether the row is a line of a section that has no effect, or of a key that has none though
-    /// its section has.
+    /// Whether the row is a line of a section without effect, or a key without effect in a section that
+    /// has one.
     fn has_no_effect(&self) -> bool
         ensures { result ≡ has_no_effect (row_of self.now) }
     {
@@ -84,7 +84,7 @@ impl ReadRow<'_> {
         }
     }
 
-    /// The row as a warning.
+    /// The warning for the row.
     fn warning(&self, alloc: Global) -> Result<Warning, AllocError>
         ensures { IfOk result (λ warning. warning_of warning ≡ warned (row_of self.now)) }
     {
