@@ -18,31 +18,16 @@
    A path that isn't absolute is taken from the working folder. After the fifth row, here, the program is killed;
    without CHANGES_KILLED it isn't. */
 
-#define _GNU_SOURCE
-#include <dlfcn.h>
-#include <errno.h>
-#include <fcntl.h>
-#include <limits.h>
+#include "note.h"
 #include <signal.h>
 #include <stdarg.h>
 #include <stdint.h>
-#include <stdio.h>
-#include <stdlib.h>
-#include <string.h>
 #include <sys/socket.h>
-#include <sys/stat.h>
 #include <sys/types.h>
 #include <sys/uio.h>
-#include <unistd.h>
 
-static int note = -1;
 static long rows_until_kill = -1;
 static long rows_written = 0;
-
-#define NEXT(name) \
-    static __typeof__(name) *next; \
-    if (!next) \
-        next = (__typeof__(name) *)dlsym(RTLD_NEXT, #name)
 
 static ssize_t write_rows(const struct iovec *pieces)
 {
@@ -52,14 +37,7 @@ static ssize_t write_rows(const struct iovec *pieces)
 
 __attribute__((constructor)) static void begin(void)
 {
-    const char *path = getenv("CHANGES_NOTE");
-    const char *number = getenv("CHANGES_KILLED");
-    static int (*next)(const char *, int, ...);
-
-    next = (int (*)(const char *, int, ...))dlsym(RTLD_NEXT, "open");
-    rows_until_kill = number ? atol(number) : -1;
-    if (path)
-        note = next(path, O_WRONLY | O_CREAT | O_APPEND | O_CLOEXEC, 0600);
+    rows_until_kill = open_note("CHANGES_NOTE", "CHANGES_KILLED");
 }
 
 /* Adds a row, which has no count of bytes yet, and kills the program if it was the last one. */
@@ -91,18 +69,6 @@ static const char *absolute(const char *path, char whole[2 * PATH_MAX])
         abort();
     strcat(strcat(whole, "/"), path);
     return whole;
-}
-
-/* The path of an open folder. */
-static const char *path_of(int descriptor, char path[PATH_MAX])
-{
-    char link[64];
-    ssize_t length;
-
-    snprintf(link, sizeof link, "/proc/self/fd/%d", descriptor);
-    length = readlink(link, path, PATH_MAX - 1);
-    path[length < 0 ? 0 : length] = 0;
-    return path;
 }
 
 /* What a file was before it is opened: -1 if there was none, else its length. */

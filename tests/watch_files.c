@@ -8,58 +8,24 @@
    half of its bytes only, so that the program has to write the rest itself. Of the calls of fsync and rename the
    second, here, answers -1 with EIO and does nothing; without WATCH_REFUSED none is refused. */
 
-#define _GNU_SOURCE
-#include <dlfcn.h>
-#include <errno.h>
-#include <fcntl.h>
-#include <limits.h>
-#include <stdio.h>
-#include <stdlib.h>
-#include <string.h>
-#include <sys/stat.h>
-#include <unistd.h>
+#include "note.h"
 
-static ssize_t (*next_write)(int, const void *, size_t);
-static int (*next_fsync)(int);
-static int (*next_rename)(const char *, const char *);
-static int (*next_unlink)(const char *);
-static int note = -1;
 static long refused_call = -1;
 static long calls_seen = 0;
 
 __attribute__((constructor)) static void begin(void)
 {
-    const char *path = getenv("WATCH_NOTE");
-    const char *number = getenv("WATCH_REFUSED");
-
-    next_write = dlsym(RTLD_NEXT, "write");
-    next_fsync = dlsym(RTLD_NEXT, "fsync");
-    next_rename = dlsym(RTLD_NEXT, "rename");
-    next_unlink = dlsym(RTLD_NEXT, "unlink");
-    refused_call = number ? atol(number) : -1;
-    if (path)
-        note = open(path, O_WRONLY | O_CREAT | O_APPEND | O_CLOEXEC, 0600);
+    refused_call = open_note("WATCH_NOTE", "WATCH_REFUSED");
 }
 
 static void write_down(const char *word, const char *outcome, const char *first, const char *second)
 {
+    NEXT(write);
     char line[3 * PATH_MAX];
     int length = snprintf(line, sizeof line, "%s\t%s\t%s\t%s\n", word, outcome, first, second);
 
-    if (note >= 0 && next_write(note, line, length) != length)
+    if (note >= 0 && next(note, line, length) != length)
         abort();
-}
-
-/* The path of an open file. */
-static const char *path_of(int descriptor, char path[PATH_MAX])
-{
-    char link[64];
-    ssize_t length;
-
-    snprintf(link, sizeof link, "/proc/self/fd/%d", descriptor);
-    length = readlink(link, path, PATH_MAX - 1);
-    path[length < 0 ? 0 : length] = 0;
-    return path;
 }
 
 /* Counts a call of fsync or rename, and tells whether it is the one to refuse. */
@@ -78,13 +44,14 @@ static const char *outcome_of(int answer)
 
 ssize_t write(int descriptor, const void *bytes, size_t size)
 {
+    NEXT(write);
     struct stat about;
     char path[PATH_MAX], count[32];
     ssize_t written;
 
     if (fstat(descriptor, &about) != 0 || !S_ISREG(about.st_mode))
-        return next_write(descriptor, bytes, size);
-    written = next_write(descriptor, bytes, size > 1 ? size / 2 : size);
+        return next(descriptor, bytes, size);
+    written = next(descriptor, bytes, size > 1 ? size / 2 : size);
     snprintf(count, sizeof count, "%zd", written);
     write_down("write", count, path_of(descriptor, path), "");
     return written;
@@ -92,9 +59,10 @@ ssize_t write(int descriptor, const void *bytes, size_t size)
 
 int fsync(int descriptor)
 {
+    NEXT(fsync);
     char path[PATH_MAX];
     int refused = is_refused();
-    int answer = refused ? -1 : next_fsync(descriptor);
+    int answer = refused ? -1 : next(descriptor);
     int fault = errno;
 
     write_down("fsync", refused ? "refused" : outcome_of(answer), path_of(descriptor, path), "");
@@ -104,8 +72,9 @@ int fsync(int descriptor)
 
 int rename(const char *from, const char *to)
 {
+    NEXT(rename);
     int refused = is_refused();
-    int answer = refused ? -1 : next_rename(from, to);
+    int answer = refused ? -1 : next(from, to);
     int fault = errno;
 
     write_down("rename", refused ? "refused" : outcome_of(answer), from, to);
@@ -115,7 +84,8 @@ int rename(const char *from, const char *to)
 
 int unlink(const char *path)
 {
-    int answer = next_unlink(path);
+    NEXT(unlink);
+    int answer = next(path);
     int fault = errno;
 
     write_down("unlink", outcome_of(answer), path, "");

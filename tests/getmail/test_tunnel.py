@@ -1,57 +1,21 @@
 """`getmail` through stunnel, set up as `examples/stunnel.conf` has it, from a dovecot that speaks TLS alone."""
 
-import os
-import pwd
 import re
 import shutil
 import subprocess
 import tempfile
-import threading
 import unittest
 from pathlib import Path
 
 from getmail.account import Account
-from harness import kernel, programs
+from harness import dovecot, kernel, programs
 from harness.maildir import make_maildir
 
 NAME = "mail.example.org"
-OWNER = "nobody"
 STUNNEL = shutil.which("stunnel4") or shutil.which("stunnel")
-MISSING = [name for name, there in (
-    ("stunnel", STUNNEL), ("dovecot", shutil.which("dovecot")), ("dovecot's POP3", os.path.exists("/usr/lib/dovecot/pop3")),
-    ("openssl", shutil.which("openssl")), ("root, whom dovecot wants,", os.geteuid() == 0)) if not there]
+MISSING = [*dovecot.missing(), *(name for name, there in (("stunnel", STUNNEL), ("openssl", shutil.which("openssl")))
+                                 if not there)]
 MESSAGES = [(b"1.one", b"Subject: one\n\n.x\n"), (b"2.two", b"two\n" * 1000)]
-DOVECOT = """
-base_dir = {folder}/run
-state_dir = {folder}/state
-log_path = {folder}/log
-protocols = pop3
-ssl = required
-ssl_cert = <{certificate}
-ssl_key = <{key}
-listen = 127.0.0.1
-mail_location = maildir:{folder}/Maildir
-first_valid_uid = 1
-first_valid_gid = 1
-pop3_uidl_format = %f
-passdb {{
-  driver = static
-  args = password=p
-}}
-userdb {{
-  driver = static
-  args = uid={uid} gid={gid} home={folder}
-}}
-service pop3-login {{
-  inet_listener pop3 {{
-    port = 0
-  }}
-  inet_listener pop3s {{
-    port = {port}
-    ssl = yes
-  }}
-}}
-"""
 
 
 class Certificates:
@@ -107,26 +71,17 @@ class Tunnel(unittest.TestCase):
         process = subprocess.Popen(words, stdin=subprocess.DEVNULL, stdout=log, stderr=log)
         self.addCleanup(process.wait, programs.SECONDS)
         self.addCleanup(process.terminate)
-        woken = threading.Event()
-        for _ in range(programs.SECONDS * 20):
-            if kernel.listens(port):
-                return
-            self.assertIsNone(process.poll(), Path(log.name).read_text())
-            woken.wait(0.05)
-        self.fail(f"{words[0]} doesn't listen")
+        if not kernel.wait_for_listener(process, port):
+            self.fail(f"{words[0]} doesn't listen: {Path(log.name).read_text()}")
 
     def start_dovecot(self, certificate, key):
         """Serves the messages over TLS alone, and answers the port."""
-        owner, port = pwd.getpwnam(OWNER), kernel.free_port()
-        make_maildir(self.folder / "Maildir")
+        maildir, port = self.folder / "Maildir", kernel.free_port()
+        make_maildir(maildir)
         for uid, text in MESSAGES:
-            (self.folder / "Maildir/new" / uid.decode()).write_bytes(text)
-        for path in (self.folder / "Maildir", *(self.folder / "Maildir").rglob("*")):
-            os.chown(path, owner.pw_uid, owner.pw_gid)
-        settings = self.folder / "dovecot.conf"
-        settings.write_text(DOVECOT.format(folder=self.folder, port=port, uid=owner.pw_uid, gid=owner.pw_gid,
-                                           certificate=certificate, key=key))
-        self.start(["dovecot", "-F", "-c", settings], port)
+            (maildir / "new" / uid.decode()).write_bytes(text)
+        dovecot.give_to_owner(maildir)
+        self.start(dovecot.words(self.folder, maildir, port, (certificate, key)), port)
         return port
 
     def start_stunnel(self, served):

@@ -1,9 +1,11 @@
 """What the kernel tells of a running server, so that no connection is spent on finding it out."""
 
 import socket
+import time
 from pathlib import Path
 
 LOOPBACK = "127.0.0.1"
+SECONDS_TO_LISTEN = 60
 _LOOPBACK_IN_TABLE = "0100007F"
 _LISTENING = "0A"
 
@@ -20,6 +22,16 @@ def listens(port):
     wanted = f"{_LOOPBACK_IN_TABLE}:{port:04X}"
     rows = (row.split() for row in Path("/proc/net/tcp").read_text().splitlines()[1:])
     return any(row[1] == wanted and row[3] == _LISTENING for row in rows)
+
+
+def wait_for_listener(process, port):
+    """Waits until a socket of loopback listens on the port; False if the process ended first, or if it took too long."""
+    deadline = time.monotonic() + SECONDS_TO_LISTEN
+    while process.poll() is None and time.monotonic() < deadline:
+        if listens(port):
+            return True
+        time.sleep(0.005)
+    return False
 
 
 def peak_of_memory(process):

@@ -3,11 +3,11 @@
 import contextlib
 import os
 import poplib
+import re
 import socket
 import struct
 import subprocess
 import tempfile
-import time
 from pathlib import Path
 from unittest import mock
 
@@ -15,6 +15,7 @@ from harness import kernel, programs
 from harness.kernel import LOOPBACK
 
 PORT_TRIES = 10
+FAULT_AND_PEER = re.compile(rb"^popd: (.*)\npopd: warning: 127\.0\.0\.1:\d+: \1\n", re.MULTILINE)
 
 
 class Maildir:
@@ -130,7 +131,7 @@ class Service:
                  self.maildir.passfile,
                  self.maildir.folder], env=programs.environment(**self.environment), stdin=subprocess.DEVNULL,
                 stdout=subprocess.DEVNULL, stderr=subprocess.PIPE)
-            if self.is_listening():
+            if kernel.wait_for_listener(self.process, self.port):
                 return self
             self.__exit__()
         raise AssertionError(f"popd listens on none of {PORT_TRIES} ports")
@@ -139,15 +140,6 @@ class Service:
         self.process.kill()
         self.process.wait()
         self.process.stderr.close()
-
-    def is_listening(self):
-        """Waits until the server listens; false where it ended first, as where its port was taken meanwhile."""
-        deadline = time.monotonic() + programs.SECONDS
-        while self.process.poll() is None and time.monotonic() < deadline:
-            if kernel.listens(self.port):
-                return True
-            time.sleep(0.005)
-        return False
 
     def client(self):
         return Client(self.port)
@@ -167,6 +159,11 @@ class Service:
         """Waits until the server ends by itself; its status and what it told on standard error."""
         _, err = self.process.communicate(timeout=programs.SECONDS)
         return self.process.returncode, err
+
+    def finish_after_faults(self):
+        """The same, without the warning that names the connection after each fault of one."""
+        status, err = self.finish()
+        return status, FAULT_AND_PEER.sub(rb"popd: \1\n", err)
 
 
 def long_lines_allowed():

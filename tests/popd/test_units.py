@@ -4,7 +4,6 @@ import re
 import shutil
 import subprocess
 import tempfile
-import threading
 import unittest
 from pathlib import Path
 
@@ -66,18 +65,14 @@ class Started(unittest.TestCase):
         return [str(programs.path_of("popd")), *(places.get(word, word) for word in words)]
 
     def start(self, words, port):
-        """Starts what listens for popd, and answers the process; its standard error goes to a file."""
+        """Starts what listens for popd, and answers the file that its standard output and error go to."""
         log = tempfile.TemporaryFile()
         self.addCleanup(log.close)
         process = subprocess.Popen(words, stdin=subprocess.DEVNULL, stdout=log, stderr=log)
         self.addCleanup(process.wait, programs.SECONDS)
         self.addCleanup(process.terminate)
-        woken = threading.Event()
-        for _ in range(programs.SECONDS * 20):
-            if kernel.listens(port):
-                return log
-            woken.wait(0.05)
-        self.fail(f"{words[0]} doesn't listen")
+        self.assertTrue(kernel.wait_for_listener(process, port), f"{words[0]} doesn't listen")
+        return log
 
     def converse(self, port):
         """A whole session that removes a message, and the next one; everything that the clients were sent."""
