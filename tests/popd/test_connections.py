@@ -29,7 +29,7 @@ class OverLoopback(unittest.TestCase):
         client.reset()
         with service.client() as next_client:
             self.assertEqual(next_client.log_in(), answer)
-        status, err = service.finish()
+        status, err = service.finish_after_faults()
         self.assertEqual(status, 0)
         self.assertIn(err, (b"popd: write failed\n", b"popd: read failed\n"))
 
@@ -98,9 +98,10 @@ class Connections(OverLoopback):
         with Service(self.maildir, "--connections", "2") as service:
             client = service.client()
             self.assertEqual(client.line(), READY)
+            peer = b"%s:%d" % (LOOPBACK.encode(), client.socket.getsockname()[1])
             client.reset()
             self.check_good_client(service)
-            self.assertEqual(service.finish(), (0, b"popd: read failed\n"))
+            self.assertEqual(service.finish(), (0, b"popd: read failed\npopd: warning: " + peer + b": read failed\n"))
 
     def test_a_reset_under_way_is_told_and_the_next_client_served(self):
         """The client asks for more than the sockets hold, reads none of it and resets."""
@@ -154,7 +155,7 @@ class Waits(OverLoopback):
         with service.client() as client:
             self.assertEqual(client.log_in(), b"+OK %d messages\r\n" % count)
             self.assertEqual(client.ask(b"QUIT"), b"+OK bye\r\n")
-        status, err = service.finish()
+        status, err = service.finish_after_faults()
         self.assertEqual(status, 0)
         self.assertIn(err, told)
 
@@ -229,7 +230,7 @@ class Waits(OverLoopback):
                 for _ in range(2):
                     with service.client() as client:
                         self.assertEqual(client.rest(), got)
-                self.assertEqual(service.finish(), (0, b"popd: %s failed\n" % word.encode() * 2))
+                self.assertEqual(service.finish_after_faults(), (0, b"popd: %s failed\n" % word.encode() * 2))
 
 
 class Memory(OverLoopback):

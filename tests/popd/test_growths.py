@@ -91,4 +91,4 @@ class RefusedGrowths(unittest.TestCase):
                 with service.client() as client:
                     client.give(given)
                     got.append(client.rest_or_reset())
-            return got, service.finish()
+            return got, service.finish_after_faults()

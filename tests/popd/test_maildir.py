@@ -246,7 +246,7 @@ class Changes(unittest.TestCase):
                     folder.mkdir()
                     client.ask(b"USER u")
                     self.assertEqual(client.ask(b"PASS p"), b"+OK 0 messages\r\n")
-                self.assertEqual(service.finish(), (0, f'popd: warning: cannot read "{folder}"\n'.encode()))
+                self.assertEqual(service.finish(), (0, f'popd: warning: cannot read {folder}\n'.encode()))
 
     def test_no_maildir_at_all(self):
         with Maildir() as maildir:
@@ -468,7 +468,7 @@ class Listings(unittest.TestCase):
             for _ in range(2):
                 with service.client() as client:
                     self.assertEqual(client.log_in(), b"-ERR maildrop unavailable\r\n")
-            self.assertEqual(service.finish(), (0, f'popd: warning: cannot read "{path}"\n'.encode() * 2))
+            self.assertEqual(service.finish(), (0, f'popd: warning: cannot read {path}\n'.encode() * 2))
 
 
     def test_names_that_are_no_text_end_no_listing(self):

@@ -109,7 +109,7 @@ class Verbose(unittest.TestCase):
             folder.rmdir()
             peer, answers = self.talk(service, b"QUIT")
             self.assertEqual(answers[1], b"-ERR maildrop unavailable\r\n")
-            self.check_told(service, f"{peer}: maildrop unavailable", f'warning: cannot read "{folder}"')
+            self.check_told(service, f"{peer}: maildrop unavailable", f'warning: cannot read {folder}')
 
 
 class OverStandardStreams(unittest.TestCase):

@@ -32,7 +32,8 @@ class Words(unittest.TestCase):
             with self.subTest(words):
                 run = self.run_popd(*words)
                 self.assertEqual((run.status, run.err), (0, b""))
-                for word in (b"--listen", b"--connections", b"--rehearse", b"--verbose", b"USER PASSFILE MAILDIR"):
+                self.assertIn(b"\nUsage: popd [OPTIONS] USER PASSFILE MAILDIR\n       popd --rehearse\n", run.out)
+                for word in (b"--listen", b"--connections", b"--rehearse", b"--verbose", b"USER]", b"PASSFILE]", b"MAILDIR]"):
                     lines = [line for line in run.out.splitlines() if line.strip(b" []<").startswith(word)]
                     self.assertEqual(len(lines), 1, run.out)
                     self.assertGreater(len(lines[0].split(b"  ")[-1].split()), 3, "it has no line of help")
@@ -56,12 +57,17 @@ class Words(unittest.TestCase):
                     self.assertNotEqual(run, WRONG_COUNT)
 
     def test_wrong_number_of_arguments(self):
-        for words in ([], ["u"], ["u", "missing"], [*self.served, "more"], ["--rehearse", "u"],
+        for words in (["u"], ["u", "missing"], [*self.served, "more"], ["--rehearse", "u"],
                       ["--rehearse", *self.served],
                       ["--listen", "nonsense"], ["--listen", "nonsense", "u", "missing"], ["--connections", "0"], [""],
-                      ["u", "missing", "missing", "missing"], ["--", "--rehearse"]):
+                      ["u", "missing", "missing", "missing"], ["--", "--rehearse"], ["--verbose"],
+                      ["u", "--verbose", "missing"], [*self.served, "--", "--rehearse"], ["--rehearse", ""]):
             with self.subTest(words):
                 self.assertEqual(self.run_popd(*words), WRONG_COUNT)
+
+    def test_no_word_at_all_shows_the_usage(self):
+        usage = b"Usage: popd [OPTIONS] USER PASSFILE MAILDIR\n       popd --rehearse\n"
+        self.assertEqual(self.run_popd(), programs.Run(2, b"", WRONG_COUNT.err + usage))
 
     def test_words_that_are_no_text(self):
         for words in ([b"\xff"], [*self.served[:2], b"\xff"]):
@@ -82,6 +88,11 @@ class Words(unittest.TestCase):
         (self.maildir.folder / "new").write_bytes(b"")
         (self.maildir.folder / "cur").rmdir()
         self.check_warning([f"{folder} has no folder new", f"{folder} has no folder cur"])
+
+    def test_a_path_with_control_characters(self):
+        """A warning shows them escaped, so that it stays one line and no terminal obeys it."""
+        self.served[2] = str(self.maildir.folder) + "/no\n\x1b[2J"
+        self.check_warning([f"{self.maildir.folder}/no\\u{{a}}\\u{{1b}}[2J has no folder {part}" for part in ("new", "cur")])
 
     def test_a_user_or_a_password_that_no_client_can_give(self):
         reason = "it is empty, longer than 500 octets, or has a CR, LF or NUL in it"

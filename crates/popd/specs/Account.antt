@@ -1,5 +1,5 @@
 -- Whose mail is served.
-use Rattle.std.specs.Prelude.{◌≡◌, ℕ, true, List, Some, option_map, slice_get}
+use Rattle.std.specs.Prelude.{◌≡◌, ℕ, true, List, Some, option_map}
 use Rattle.std.specs.String.{string_bytes}
 use Rattle.popd.specs.Password.{password_of}
 use Rattle.popd.specs.Failures.{has_right_count}
@@ -9,6 +9,6 @@ use Rattle.popd.specs.declared.words.Words.{Words}
 -- the words name this account: its user first and its Maildir last; and a password file of these octets has its password
 pub record IsAccount (words : Words) (file : List ℕ) (account : Account) : Type 0 where
   pub count : has_right_count words ≡ true
-  pub user : option_map string_bytes (slice_get words.rest.items 0) ≡ Some account.user.items
+  pub user : option_map string_bytes words.user ≡ Some account.user.items
   pub password : account.password.items ≡ password_of file
-  pub maildir : option_map string_bytes (slice_get words.rest.items 2) ≡ Some (string_bytes account.maildir)
+  pub maildir : option_map string_bytes words.maildir ≡ Some (string_bytes account.maildir)

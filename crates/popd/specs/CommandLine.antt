@@ -1,5 +1,5 @@
 -- The command line: its options, and what words ask for.
-use Rattle.std.specs.Prelude.{◌≡◌, ◌<◌, ◌^◌, ℕ, List, [], Option, None, Some, codes, map, nat_lt, option_map, pos, unwrap_or}
+use Rattle.std.specs.Prelude.{◌≡◌, ◌<◌, ◌^◌, ◌==◌, ◌&&◌, ℕ, Bool, not, List, [], Option, None, Some, codes, is_some, length, map, nat_lt, option_map, pos, unwrap_or}
 use Rattle.std.specs.String.{string_bytes}
 use Rattle.std.specs.Str.Parse.{IsNumeral, digits_value, without_leading_plus}
 use Rattle.clap.specs.Words.{App, Row, Rule, all_of, count_of, first_of, new_app, new_rule, one_of, with_rule}
@@ -23,22 +23,33 @@ rehearse_rule = record (new_rule (codes "rehearse")) { long = Some (codes "rehea
 abbrev pub verbose_rule : Rule
 verbose_rule = record (new_rule (codes "verbose")) { long = Some (codes "verbose"); action = Some Count }
 
--- the words that are no options, any number of them
-abbrev pub rest_rule : Rule
-rest_rule = record (new_rule (codes "rest")) { value_names = 1; range = Some (record { start_inclusive = 0; end_inclusive = 18446744073709551615 }); action = Some Append }
+-- a word that is no option
+abbrev pub word_rule : List ℕ → Rule
+word_rule name = record (new_rule name) { value_names = 1; action = Some Set }
+
+-- any number of words after these
+abbrev pub more_rule : Rule
+more_rule = record (new_rule (codes "more")) { range = Some (record { start_inclusive = 0; end_inclusive = 18446744073709551615 }); action = Some Append }
+
+abbrev pub with_options : App → App
+with_options app = with_rule (with_rule (with_rule (with_rule app listen_rule) connections_rule) rehearse_rule) verbose_rule
+
+-- USER PASSFILE MAILDIR
+abbrev pub with_words : App → App
+with_words app = with_rule (with_rule (with_rule app (word_rule (codes "user"))) (word_rule (codes "passfile"))) (word_rule (codes "maildir"))
 
 abbrev pub popd : App
-popd = with_rule (with_rule (with_rule (with_rule (with_rule (new_app (codes "popd")) listen_rule) connections_rule) rehearse_rule) verbose_rule) rest_rule
+popd = with_rule (with_words (with_options (new_app (codes "popd")))) more_rule
 
--- so many connections: the number that stands behind the option, the greatest where none does
+-- so many connections: the number after the option, or the greatest if there is none
 abbrev pub Numbers : Option (List ℕ) → ℕ → Type 0
 Numbers None count = count ≡ 4294967295
 Numbers (Some text) count = IsNumeral 10 (without_leading_plus text) → digits_value 10 (without_leading_plus text) < 2 ^ 32
     → count ≡ digits_value 10 (without_leading_plus text)
 
--- the words that are no options, in order
-abbrev pub positionals : List Row → List (List ℕ)
-positionals rows = unwrap_or (all_of (codes "rest") rows) []
+-- the words after the three, in order
+abbrev pub words_after : List Row → List (List ℕ)
+words_after rows = unwrap_or (all_of (codes "more") rows) []
 
 -- the matches ask for this
 pub record AsksFor (rows : List Row) (words : Words) : Type 0 where
@@ -46,4 +57,16 @@ pub record AsksFor (rows : List Row) (words : Words) : Type 0 where
   pub connections : Numbers (one_of (codes "connections") rows) words.connections
   pub rehearse : words.rehearse ≡ nat_lt 0 (count_of (codes "rehearse") rows)
   pub verbose : words.verbose ≡ nat_lt 0 (count_of (codes "verbose") rows)
-  pub rest : map string_bytes words.rest.items ≡ positionals rows
+  pub user : option_map string_bytes words.user ≡ first_of (codes "user") rows
+  pub passfile : option_map string_bytes words.passfile ≡ first_of (codes "passfile") rows
+  pub maildir : option_map string_bytes words.maildir ≡ first_of (codes "maildir") rows
+  pub more : map string_bytes words.more.items ≡ words_after rows
+
+-- there are options alone
+abbrev pub is_bare : Words → Bool
+is_bare words =
+    not (is_some words.user) && (not (is_some words.passfile) && (not (is_some words.maildir) && (length words.more.items == 0)))
+
+-- there are USER PASSFILE MAILDIR and no more words
+abbrev pub is_whole : Words → Bool
+is_whole words = is_some words.user && (is_some words.passfile && (is_some words.maildir && (length words.more.items == 0)))

@@ -1,7 +1,8 @@
 -- How the program ends: the exit status, and what each failure says of the words.
-use Rattle.std.specs.Prelude.{◌≡◌, ◌≢◌, ◌==◌, ◌||◌, ℕ, Bool, true, false, not, List, Some, Result, Ok, Err, is_some, option_map, slice_get, length, if◌then◌else◌}
+use Rattle.std.specs.Prelude.{◌≡◌, ◌≢◌, ◌||◌, ℕ, Bool, true, false, not, List, Some, Result, Ok, Err, is_some, option_map, if◌then◌else◌}
 use Rattle.std.specs.String.{string_bytes}
 use Rattle.pop3_server.specs.declared.fault.ServerFault.TheVariants.{NoMemory}
+use Rattle.popd.specs.CommandLine.{is_bare, is_whole}
 use Rattle.popd.specs.declared.failure.Failure.{Failure}
 use Rattle.popd.specs.declared.failure.Failure.TheVariants.{WrongCount, CannotRead, CannotListen, Fault}
 use Rattle.popd.specs.declared.words.Words.{Words}
@@ -14,9 +15,9 @@ status_of (Err (CannotRead name)) = 1
 status_of (Err (CannotListen address)) = 1
 status_of (Err (Fault fault)) = 1
 
--- as many positionals as are wanted: none for a rehearsal, else USER PASSFILE MAILDIR
+-- as many words as are wanted: none for a rehearsal, else USER PASSFILE MAILDIR
 abbrev pub has_right_count : Words → Bool
-has_right_count words = length words.rest.items == (if words.rehearse then 0 else 3)
+has_right_count words = if words.rehearse then is_bare words else is_whole words
 
 -- standard input and output are served, and no address
 abbrev pub serves_streams : Words → Bool
@@ -26,7 +27,7 @@ serves_streams words = words.rehearse || not (is_some words.listen)
 pub record NamesPassfile (words : Words) (name : List ℕ) : Type 0 where
   pub count : has_right_count words ≡ true
   pub wanted : words.rehearse ≡ false
-  pub named : option_map string_bytes (slice_get words.rest.items 1) ≡ Some name
+  pub named : option_map string_bytes words.passfile ≡ Some name
 
 -- the words name ADDRESS so, and it is listened on
 pub record NamesAddress (words : Words) (address : List ℕ) : Type 0 where

@@ -1,4 +1,4 @@
-//! Whose mail is served, and where it lies.
+//! The account that is served: user, password and Maildir.
 ghost use Rattle.std.specs.Prelude.{◌≡◌, ℕ, List, [], true, false, IfOk, IfErr, codes};
 ghost use Rattle.std.specs.String.{string_bytes};
 ghost use Rattle.popd.specs.Account.{IsAccount};
@@ -15,7 +15,7 @@ use std::fs;
 /// A Maildir in a folder of this machine.
 pub type RealMaildir<'a> = MaildirDrop<'a, HostRuntime>;
 
-/// Whose mail is served, and where it lies.
+/// The account that is served.
 #[derive(Drop)]
 pub struct Account {
     pub user: Vec<u8>,
@@ -25,7 +25,7 @@ pub struct Account {
 }
 
 impl Account {
-    /// The same account once more.
+    /// A copy of the account.
     pub fn copy(&self, alloc: Global) -> Result<Account, AllocError>
         ensures { IfOk result (λ account. (account.user.items ≡ self.now.user.items)
             × (account.password.items ≡ self.now.password.items)
@@ -38,7 +38,7 @@ impl Account {
         })
     }
 
-    /// The account's Maildir, of which nothing is listed yet.
+    /// The account's Maildir; nothing of it is listed yet.
     pub fn open_maildir<'a>(&self, rt: &'a HostRuntime) -> Result<RealMaildir<'a>, AllocError>
         ensures { IfOk result (λ maildir. maildir ≡ record { path = string_bytes self.now.maildir; names = []; failures = 0; removals = 0 }) }
     {
@@ -46,8 +46,7 @@ impl Account {
         Ok(MaildirDrop::at(rt, path))
     }
 
-    /// The server of this maildrop at the start of a session: it lets in this account's user with its
-    /// password.
+    /// A server over this maildrop at the start of a session, for this account's user and password.
     pub fn into_server<D: Maildrop + Drop>(self, alloc: Global, maildrop: D) -> Server<D>
         ensures { result ≡ at_start self.user.items self.password.items maildrop }
     {
@@ -56,17 +55,21 @@ impl Account {
     }
 }
 
-/// The account that the words USER PASSFILE MAILDIR name, its password read from PASSFILE. A wrong
-/// count of words is answered before that file is read.
+/// The account that the words USER PASSFILE MAILDIR name, with the password from PASSFILE. A wrong
+/// number of words is reported before that file is read.
 pub fn read_account<'a>(rt: &HostRuntime, words: &'a Words) -> Result<Account, Failure<'a>>
     requires { words.now.rehearse ≡ false }
     ensures ok { IfOk result (λ account. (file : List ℕ) × IsAccount words.now file account) }
     ensures err { IfErr result (IsCause words.now) }
 {
     let alloc = rt.alloc();
-    let [user, passfile, maildir] = words.rest.as_slice() else {
+    let (Some(user), Some(passfile), Some(maildir)) = (&words.user, &words.passfile, &words.maildir)
+    else {
         return Err(Failure::WrongCount);
     };
+    if !words.more.is_empty() {
+        return Err(Failure::WrongCount);
+    }
     let file = match fs::read(rt, passfile.as_str()) {
         Ok(file) => file,
         Err(error) => return Err(failure_of(error, Failure::CannotRead(passfile.as_str()))),

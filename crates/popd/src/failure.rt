@@ -10,13 +10,13 @@ use std::io::{self, ErrorKind};
 /// Why the program serves nothing, or ends early.
 #[derive(Clone, Copy)]
 pub enum Failure<'a> {
-    /// The count of the words that are no options is wrong.
+    /// There are too many or too few words besides the options.
     WrongCount,
     /// The password file of this name can't be read.
     CannotRead(&'a str),
     /// This address can't be listened on.
     CannotListen(&'a str),
-    /// The link failed, or memory was wanting.
+    /// The link failed, or memory ran out.
     Fault(ServerFault),
 }
 
@@ -43,7 +43,7 @@ impl<'a> From<AllocError> for Failure<'a> {
     }
 }
 
-/// The failure that an error of the host stands for: want of memory is told as such.
+/// The failure for an error of the system: `failure`, unless memory ran out.
 pub fn failure_of<'a>(error: io::Error, failure: Failure<'a>) -> Failure<'a>
     ensures memory { error_kind error ≡ ErrorKind.OutOfMemory → result ≡ Failure.Fault ServerFault.NoMemory }
     ensures other { error_kind error ≢ ErrorKind.OutOfMemory → result ≡ failure.entry }
@@ -55,8 +55,8 @@ pub fn failure_of<'a>(error: io::Error, failure: Failure<'a>) -> Failure<'a>
     }
 }
 
-/// Tells a failure on standard error. It takes no memory, and where standard error takes nothing
-/// the failure is told by the exit status alone.
+/// Writes a failure's line to standard error. It allocates nothing, and a line that can't be written
+/// changes nothing.
 pub fn tell(rt: &HostRuntime, failure: Failure<'_>) {
     let _ = match failure {
         Failure::WrongCount => rt.eprintln("popd: wrong number of arguments"),
@@ -68,8 +68,8 @@ pub fn tell(rt: &HostRuntime, failure: Failure<'_>) {
     };
 }
 
-/// Tells how the program ends, where that is by a failure, and gives the exit status: 0 where it
-/// served, 2 for a wrong count of words, 1 for any other failure.
+/// Writes the failure's line, if there was a failure, and returns the exit status: 0 if there was
+/// none, 2 for a wrong number of words, 1 for any other failure.
 pub fn end(rt: &HostRuntime, outcome: Result<(), Failure<'_>>) -> u8
     ensures { result ≡ status_of outcome.entry }
 {

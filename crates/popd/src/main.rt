@@ -1,4 +1,4 @@
-//! `popd`: a small POP3 server of one user's Maildir, over standard input and output or over TCP.
+//! `popd`: a small POP3 server over one user's Maildir, on standard input and output or over TCP.
 #![tactic(auto)]
 
 ghost use Rattle.std.specs.Prelude.{◌≡◌, ◌≢◌, ◌≤◌, ◌⊎◌, true, IfErr, MatchResult};
@@ -20,15 +20,15 @@ use crate::failure::{Failure, end, failure_of};
 use crate::rehearsal::rehearsal_server;
 use crate::serving::{listen, serve_maildir, serve_streams};
 use crate::warning::warn_of;
-use crate::words::{Words, read_words};
+use crate::words::{Words, command, read_words};
 use clap::Error;
 use clap::error::ErrorKind;
 use pop3_server::ServerFault;
 use std::env;
 use std::process::ExitCode;
 
-/// The words of the command line, the program's name first. Where they can't be had, as where one
-/// isn't UTF-8, it is as if their count were wrong.
+/// The words of the command line, the program's name first. If they can't be read, for example because
+/// one isn't UTF-8, the failure is that of a wrong number of words.
 fn arguments(rt: &HostRuntime) -> Result<Vec<String>, Failure<'static>>
     ensures { IfErr result (λ f. (f ≡ Failure.WrongCount) ⊎ (f ≡ Failure.Fault ServerFault.NoMemory)) }
 {
@@ -38,29 +38,29 @@ fn arguments(rt: &HostRuntime) -> Result<Vec<String>, Failure<'static>>
     }
 }
 
-/// Does what the words ask for. The first of these failures is answered: a wrong count of
-/// positionals, a password file that can't be read, an address that can't be listened on, a fault
-/// of the link. Where an address is listened on, a fault on a connection is none of the run.
+/// Does what the command line asks for, or returns the first of these failures: a wrong number of
+/// words, a password file that can't be read, an address that can't be listened on, a fault of the
+/// link. With an address to listen on, a fault of one connection isn't a failure of the run.
 fn run<'a>(rt: &HostRuntime, words: &'a Words) -> Result<(), Failure<'a>>
     ensures { MatchResult result (λ _. has_right_count words.now ≡ true) (IsCause words.now) }
 {
     if words.rehearse {
-        if !words.rest.is_empty() {
+        if !words.is_bare() {
             return Err(Failure::WrongCount);
         }
         let mut server = rehearsal_server(rt.alloc())?;
         return Ok(serve_streams(rt, &mut server, words.verbose)?);
     }
     let account = read_account(rt, words)?;
-    warn_of(rt, &account, words.rest[1].as_str())?;
+    warn_of(rt, &account, words.passfile.as_deref())?;
     match &words.listen {
         Some(address) => listen(rt, address.as_str(), words, &account),
         None => Ok(serve_maildir(rt, account, words.verbose)?),
     }
 }
 
-/// Shows clap's text, help on standard output and a mistake on standard error, and gives the exit
-/// status: 0 for help that was shown, 2 for a mistake.
+/// Writes clap's text, help to standard output and a mistake to standard error, and returns the exit
+/// status: 0 for help that was written, 2 for a mistake.
 fn show(rt: &HostRuntime, error: &Error) -> u8
     ensures memory { kind_of error.now ≡ ErrorKind.OutOfMemory → result ≡ 1 }
     ensures help { kind_of error.now ≡ ErrorKind.DisplayHelp → result ≤ 1 }
@@ -78,10 +78,26 @@ fn show(rt: &HostRuntime, error: &Error) -> u8
     if shown.is_ok() { 0 } else { 1 }
 }
 
-/// Does what the command line asks for, and gives the exit status.
+/// Writes the usage to standard error.
+fn show_usage(rt: &HostRuntime) {
+    if let Ok(mut command) = command(rt.alloc()) {
+        if let Ok(usage) = command.render_usage() {
+            let _ = rt.eprintln(usage);
+        }
+    }
+}
+
+/// Does what the command line asks for, and returns the exit status. If it is empty, the usage is
+/// shown too.
 fn obey(rt: &HostRuntime, arguments: &[String]) -> u8 {
     match read_words(rt.alloc(), arguments) {
-        Ok(words) => end(rt, run(rt, &words)),
+        Ok(words) => {
+            let status = end(rt, run(rt, &words));
+            if arguments.len() <= 1 {
+                show_usage(rt);
+            }
+            status
+        }
         Err(error) => show(rt, &error),
     }
 }

@@ -7,7 +7,7 @@ ghost use Rattle.popd.specs.Password.{password_of};
 
 use mail_terms::cut_text;
 
-/// What stands before the first LF, or all where there is none.
+/// The bytes before the first LF, or all if there is no LF.
 fn first_line(bytes: &[u8]) -> &[u8]
     ensures { result.now ≡ before_first is_line_feed bytes.now }
 {
@@ -18,15 +18,15 @@ fn first_line(bytes: &[u8]) -> &[u8]
     line
 }
 
-/// A line without the CR at its end, where it ends in one.
+/// A line without the CR at its end, if there is one.
 fn without_return(line: &[u8]) -> &[u8]
     ensures { result.now ≡ strip_last 13 line.now }
 {
     line.strip_suffix(b"\r".as_slice()).unwrap_or(line)
 }
 
-/// The password in a password file: the bytes before its first LF, or all where there is none, one
-/// CR at their end dropped.
+/// The password in a password file: the bytes before its first LF, or all if there is no LF, without
+/// one CR at their end.
 pub fn password(bytes: &[u8]) -> &[u8]
     ensures { result.now ≡ password_of bytes.now }
 {

@@ -6,8 +6,8 @@ ghost use Rattle.popd.specs.Start.{at_start};
 use pop3_server::{MemoryDrop, Server};
 use std::alloc::{AllocError, Global};
 
-/// Two small messages: one with a line that begins with a full stop, and one of two lines behind
-/// its head.
+/// Two small messages: one with a line that begins with a full stop, and one with two lines after its
+/// header.
 pub fn rehearsal_drop(alloc: Global) -> Result<MemoryDrop, AllocError>
     ensures { IfOk result (λ maildrop. maildrop ≡ rehearsal) }
 {

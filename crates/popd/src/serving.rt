@@ -1,4 +1,4 @@
-//! Serving over standard input and output, and over TCP, one connection after the other.
+//! Serves standard input and output, or TCP connections one after the other.
 ghost use Rattle.std.specs.Prelude.{◌≡◌, ◌⊎◌, true, IfErr};
 ghost use Rattle.pop3_server.specs.ServerMachine.{is_open};
 
@@ -14,11 +14,11 @@ use std::net::{TcpListener, TcpStream};
 use std::thread;
 use std::time::Duration;
 
-/// How long the server waits after a connection that couldn't be taken: where descriptors are wanting,
-/// the next one can't be taken at once either.
+/// How long the server waits after a connection that couldn't be accepted: without a free descriptor,
+/// the next one can't be accepted at once either.
 const PAUSE_SECONDS: u64 = 1;
 
-/// Serves standard input and output with this server.
+/// Serves standard input and output.
 pub fn serve_streams<D: Maildrop + Drop>(
     rt: &HostRuntime,
     server: &mut Server<D>,
@@ -35,14 +35,14 @@ pub fn serve_streams<D: Maildrop + Drop>(
     serve_and_note(server, &mut wire, &mut telling)
 }
 
-/// Tells which file or folder couldn't be read, where that refused the maildrop.
+/// Warns of the file or folder that couldn't be read, if that made the maildrop unavailable.
 fn warn_of_unread(rt: &HostRuntime, maildir: &RealMaildir<'_>) {
     if let Some(path) = maildir.unread() {
         warn(rt, Warning::Unread(path));
     }
 }
 
-/// Serves standard input and output with the account's Maildir.
+/// Serves the account's Maildir over standard input and output.
 pub fn serve_maildir(rt: &HostRuntime, account: Account, verbose: bool) -> Result<(), ServerFault> {
     let maildir = account.open_maildir(rt)?;
     let mut server = account.into_server(rt.alloc(), maildir);
@@ -51,8 +51,7 @@ pub fn serve_maildir(rt: &HostRuntime, account: Account, verbose: bool) -> Resul
     served
 }
 
-/// Serves one connection with a server of its own, over the Maildir as it is then, and gives the
-/// Maildir back for the next one.
+/// Serves one connection over the Maildir as it is now, and gives the Maildir back for the next one.
 fn serve_stream<'a>(
     telling: &mut Telling<'a>,
     stream: &TcpStream,
@@ -68,7 +67,7 @@ fn serve_stream<'a>(
         Ok(bounded) => bounded,
         Err(_) => return (Err(ServerFault::ReadFailed), maildir),
     };
-    // A connection without it still works, only slower.
+    // Without it the connection works too, only slower.
     let _ = stream.set_nodelay(true);
     let mut server = account.into_server(rt.alloc(), maildir);
     let mut wire = StreamWire::new(&bounded, &bounded);
@@ -82,8 +81,8 @@ fn serve_stream<'a>(
     (served, maildir.renewed())
 }
 
-/// Serves so many connections to an address, one after the other. A fault on one of them, or in
-/// taking it, is told, and the next one is served.
+/// Serves connections to an address, one after the other, as many as the words say. A fault of one of
+/// them, or in accepting it, is reported, and the next one is served.
 pub fn listen<'a>(
     rt: &HostRuntime,
     address: &'a str,
@@ -98,7 +97,7 @@ pub fn listen<'a>(
     };
     let mut maildir = account.open_maildir(rt)?;
     for _ in 0..words.connections {
-        let served = match listener.accept() {
+        match listener.accept() {
             Ok((stream, client)) => {
                 let mut telling = Telling {
                     rt,
@@ -107,15 +106,15 @@ pub fn listen<'a>(
                 };
                 let (served, left) = serve_stream(&mut telling, &stream, account, maildir);
                 maildir = left;
-                served
+                if let Err(fault) = served {
+                    tell(rt, Failure::Fault(fault));
+                    warn(rt, Warning::Cut(client, fault));
+                }
             }
             Err(_) => {
                 thread::sleep(rt, Duration::from_secs(PAUSE_SECONDS));
-                Err(ServerFault::ReadFailed)
+                tell(rt, Failure::Fault(ServerFault::ReadFailed));
             }
-        };
-        if let Err(fault) = served {
-            tell(rt, Failure::Fault(fault));
         }
     }
     Ok(())

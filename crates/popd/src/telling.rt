@@ -1,14 +1,14 @@
-//! What `--verbose` tells on standard error.
+//! The lines of `--verbose` on standard error.
 use pop3_server::{Event, Journal};
 use std::fmt::{self, Display, Formatter, Write};
 use std::net::SocketAddr;
 
-/// Who is served.
+/// The client that is served.
 #[derive(Clone, Copy)]
 pub enum Peer {
-    /// Who writes on standard input.
+    /// The one at standard input.
     StandardInput,
-    /// Who connected from this address.
+    /// The one that connected from this address.
     Address(SocketAddr),
 }
 
@@ -21,9 +21,9 @@ impl Display for Peer {
     }
 }
 
-/// A journal on standard error, where it is wanted. It shows nothing that a client sent, not even the
-/// name that was tried, in whose place a password may have been given. It takes no memory, and what
-/// standard error doesn't take isn't told.
+/// A journal on standard error, if `verbose` asks for it. It shows nothing that a client sent, not even
+/// the name that was tried, since people type passwords there by mistake. It allocates nothing, and a
+/// line that can't be written changes nothing.
 #[derive(Clone, Copy)]
 pub struct Telling<'a> {
     pub rt: &'a HostRuntime,

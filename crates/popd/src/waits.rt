@@ -1,5 +1,5 @@
-//! How long a client may let the server wait (RFC 1939, section 3, asks for ten minutes at least once
-//! somebody is logged in).
+//! How long a client may keep the server waiting (RFC 1939, section 3, asks for at least ten minutes
+//! after the login).
 ghost use Rattle.std.specs.Prelude.{◌≡◌, ◌≤◌, ◌+◌, ◌*◌, IfSome, None};
 ghost use Rattle.std.specs.Duration.{as_nanos};
 
@@ -9,15 +9,14 @@ use std::io::{self, ErrorKind, Read, Write};
 use std::net::TcpStream;
 use std::time::{Duration, Instant};
 
-/// How long a client that is logged in may neither say nor take anything: each read and each write that
-/// waits longer is refused.
+/// How long one read or write may wait for a client that is logged in.
 const IDLE_SECONDS: u64 = 600;
 
-/// How long a client has to log in, all reads and writes together: one that sends an octet now and then
-/// keeps the next client out for no longer.
+/// How long a client has to log in, all reads and writes together, so that one which sends an octet now
+/// and then keeps the next client out for no longer.
 const LOGIN_SECONDS: u64 = 180;
 
-/// What is left of the time to log in after so long, if anything is.
+/// How much of the time to log in is left after so long, if any.
 fn left_after(passed: Duration) -> Option<Duration>
     ensures some { IfSome result (λ left. as_nanos left + as_nanos passed ≡ 180 * 1_000_000_000) }
     ensures none { result ≡ None → 180 * 1_000_000_000 ≤ as_nanos passed }
@@ -28,18 +27,18 @@ fn left_after(passed: Duration) -> Option<Duration>
     }
 }
 
-/// A connection whose reads and writes wait so long and no longer. What is refused ends the connection
-/// and removes nothing.
+/// A connection whose reads and writes have a time limit. One that takes longer fails, which ends the
+/// connection and removes nothing.
 #[derive(Drop)]
 pub struct BoundedStream<'a> {
     rt: &'a HostRuntime,
     stream: &'a TcpStream,
-    /// When the connection was taken, until somebody is logged in.
+    /// When the connection was accepted; none after the login.
     taken: Cell<Option<Instant>>,
 }
 
 impl<'a> BoundedStream<'a> {
-    /// A connection that was just taken.
+    /// A connection that was just accepted.
     pub fn new(rt: &'a HostRuntime, stream: &'a TcpStream) -> io::Result<BoundedStream<'a>> {
         let now = Instant::now(rt)?;
         Ok(BoundedStream {
@@ -49,7 +48,7 @@ impl<'a> BoundedStream<'a> {
         })
     }
 
-    /// What is left of the time to log in. None once somebody is logged in.
+    /// How much of the time to log in is left. None after the login.
     fn left(&self) -> io::Result<Option<Duration>> {
         let Some(taken) = self.taken.get() else {
             return Ok(None);
@@ -60,13 +59,13 @@ impl<'a> BoundedStream<'a> {
         }
     }
 
-    /// Bounds how long each read and each write waits from now on.
+    /// Limits how long each read and each write waits from now on.
     fn bound_waits(&self, wait: Duration) -> io::Result<()> {
         self.stream.set_read_timeout(Some(wait))?;
         self.stream.set_write_timeout(Some(wait))
     }
 
-    /// Somebody is logged in.
+    /// The client has logged in.
     fn end_login(&self) {
         if self.bound_waits(Duration::from_secs(IDLE_SECONDS)).is_ok() {
             self.taken.set(None);
@@ -98,7 +97,7 @@ impl<'a> Write for &BoundedStream<'a> {
     }
 }
 
-/// A journal that tells another one, and ends the time to log in where somebody is logged in.
+/// A journal that passes events on to another one, and lifts the limit on logging in after the login.
 #[derive(Drop)]
 pub struct LoginJournal<'a, J: Journal + Drop> {
     pub stream: &'a BoundedStream<'a>,

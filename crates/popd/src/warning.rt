@@ -1,11 +1,14 @@
-//! What may be wrong though the program serves all the same.
+//! Warnings: the program goes on after them.
 use crate::account::Account;
 use mail_terms::is_credential;
+use pop3_server::ServerFault;
 use std::alloc::AllocError;
+use std::fmt::{self, Display, Formatter, Write};
 use std::fs;
+use std::net::SocketAddr;
 use std::os::unix::fs::PermissionsExt;
 
-/// What may be wrong though the program serves all the same.
+/// Something that may be wrong, though the program goes on.
 #[derive(Clone, Copy)]
 pub enum Warning<'a> {
     /// The Maildir of this name has no such folder.
@@ -18,17 +21,37 @@ pub enum Warning<'a> {
     OpenPassfile(&'a str),
     /// A message's file, or a folder of the Maildir, can't be read.
     Unread(&'a str),
+    /// This fault ended the connection from this address.
+    Cut(SocketAddr, ServerFault),
 }
 
-/// What no client can give as a name or a password.
+/// A path as a line shows it: with control characters escaped.
+#[derive(Clone, Copy)]
+struct Shown<'a>(&'a str);
+
+impl<'a> Display for Shown<'a> {
+    fn fmt<W: Write>(&self, f: &mut Formatter<W>) -> fmt::Result {
+        for character in self.0.chars() {
+            if character.is_control() {
+                write!(f, "\\u{{{:x}}}", character as u32)?;
+            } else {
+                f.write_char(character)?;
+            }
+        }
+        Ok(())
+    }
+}
+
+/// Why no client can give a name or a password.
 const NOT_GIVEN: &str = "it is empty, longer than 500 octets, or has a CR, LF or NUL in it";
 
-/// Tells a warning on standard error. It takes no memory.
+/// Writes a warning to standard error. It allocates nothing.
 pub fn warn(rt: &HostRuntime, warning: Warning<'_>) {
     let _ = match warning {
-        Warning::NoFolder(path, name) => {
-            rt.eprintln(format_args!("popd: warning: {path} has no folder {name}"))
-        }
+        Warning::NoFolder(path, name) => rt.eprintln(format_args!(
+            "popd: warning: {} has no folder {name}",
+            Shown(path)
+        )),
         Warning::NoUser => rt.eprintln(format_args!(
             "popd: warning: no client can give this USER: {NOT_GIVEN}"
         )),
@@ -36,15 +59,19 @@ pub fn warn(rt: &HostRuntime, warning: Warning<'_>) {
             "popd: warning: no client can give this password: {NOT_GIVEN}"
         )),
         Warning::OpenPassfile(path) => rt.eprintln(format_args!(
-            "popd: warning: others than its owner may read or write {path}"
+            "popd: warning: others than its owner may read or write {}",
+            Shown(path)
         )),
         Warning::Unread(path) => {
-            rt.eprintln(format_args!("popd: warning: cannot read {path:?}"))
+            rt.eprintln(format_args!("popd: warning: cannot read {}", Shown(path)))
+        }
+        Warning::Cut(client, fault) => {
+            rt.eprintln(format_args!("popd: warning: {client}: {fault}"))
         }
     };
 }
 
-/// Whether a folder of this name is there.
+/// Whether there is a folder at this path.
 fn is_folder(rt: &HostRuntime, path: &str) -> bool {
     match fs::metadata(rt, path) {
         Ok(metadata) => metadata.is_dir(),
@@ -60,16 +87,22 @@ fn is_others_too(rt: &HostRuntime, path: &str) -> bool {
     }
 }
 
-/// Warns of what keeps this account from being served as one may wish.
-pub fn warn_of(rt: &HostRuntime, account: &Account, passfile: &str) -> Result<(), AllocError> {
+/// Warns of all that may keep this account from being served properly.
+pub fn warn_of(
+    rt: &HostRuntime,
+    account: &Account,
+    passfile: Option<&str>,
+) -> Result<(), AllocError> {
     if !is_credential(account.user.as_slice()) {
         warn(rt, Warning::NoUser);
     }
     if !is_credential(account.password.as_slice()) {
         warn(rt, Warning::NoPassword);
     }
-    if is_others_too(rt, passfile) {
-        warn(rt, Warning::OpenPassfile(passfile));
+    if let Some(passfile) = passfile {
+        if is_others_too(rt, passfile) {
+            warn(rt, Warning::OpenPassfile(passfile));
+        }
     }
     let maildir = account.maildir.as_str();
     for name in ["new", "cur"] {

@@ -2,7 +2,7 @@
 ghost use Rattle.std.specs.Prelude.{◌≡◌, IfOk, false, map, option_map};
 ghost use Rattle.std.specs.String.{string_bytes};
 ghost use Rattle.clap.specs.Words.{FailsBy, app_of, fault_of, found_of, matches_of, rows_of, rule_of};
-ghost use Rattle.popd.specs.CommandLine.{AsksFor, connections_rule, listen_rule, popd, positionals, rehearse_rule, rest_rule, verbose_rule};
+ghost use Rattle.popd.specs.CommandLine.{AsksFor, connections_rule, is_bare, listen_rule, more_rule, popd, rehearse_rule, verbose_rule, word_rule, words_after};
 
 use clap::error::ErrorKind;
 use clap::{Arg, ArgAction, ArgMatches, Command, Error, value_parser};
@@ -13,14 +13,32 @@ use std::alloc::{AllocError, Global};
 pub struct Words {
     /// The address to listen on; none for standard input and output.
     pub listen: Option<String>,
-    /// How many connections are served.
+    /// How many connections to serve.
     pub connections: u32,
-    /// Whether the maildrop of the rehearsal is served.
+    /// Whether to serve the rehearsal's messages.
     pub rehearse: bool,
-    /// Whether logins and removals are told.
+    /// Whether logins and removals are reported.
     pub verbose: bool,
-    /// The words that are no options, in order.
-    pub rest: Vec<String>,
+    /// The name of the user who may log in.
+    pub user: Option<String>,
+    /// The file that holds the password.
+    pub passfile: Option<String>,
+    /// The Maildir to serve.
+    pub maildir: Option<String>,
+    /// Words after these three.
+    pub more: Vec<String>,
+}
+
+impl Words {
+    /// Whether there are only options.
+    pub fn is_bare(&self) -> bool
+        ensures { result ≡ is_bare self.now }
+    {
+        self.user.is_none()
+            && self.passfile.is_none()
+            && self.maildir.is_none()
+            && self.more.is_empty()
+    }
 }
 
 /// `--listen ADDRESS`.
@@ -68,37 +86,61 @@ fn verbose_option<'a>(alloc: Global) -> Arg<'a>
 {
     Arg::new(alloc, "verbose")
         .long("verbose")
-        .help(
-            "Tell each login, each one refused, and how many messages were removed on standard error",
-        )
+        .help("Report logins, refused logins and removals on standard error")
         .action(ArgAction::Count)
 }
 
-/// The words that are no options.
-fn rest_option<'a>(alloc: Global) -> Arg<'a>
-    ensures rule { rule_of result ≡ rest_rule }
+/// A word that is no option.
+fn word<'a>(alloc: Global, name: &'a str, shown: &'a str, help: &'a str) -> Arg<'a>
+    ensures rule { rule_of result ≡ word_rule name.entry.now }
     ensures local { result.global ≡ false }
 {
-    Arg::new(alloc, "rest")
-        .value_name("USER PASSFILE MAILDIR")
-        .help("Whom to let in, the file whose first line is the password, and the Maildir to serve")
-        .num_args(0..)
-        .action(ArgAction::Append)
+    Arg::new(alloc, name)
+        .value_name(shown)
+        .help(help)
+        .action(ArgAction::Set)
 }
 
-/// The command line's options.
-fn command<'a>(alloc: Global) -> Result<Command<'a>, AllocError>
+/// Any words after these, so that the program can say that there are too many.
+fn more_words<'a>(alloc: Global) -> Arg<'a>
+    ensures rule { rule_of result ≡ more_rule }
+    ensures local { result.global ≡ false }
+{
+    Arg::new(alloc, "more")
+        .num_args(0..)
+        .action(ArgAction::Append)
+        .hide(true)
+}
+
+// What help says of the program and of its words.
+const ABOUT: &str = "Serves one user's Maildir over POP3; popd(8) says more";
+
+const USAGE: &str = "popd [OPTIONS] USER PASSFILE MAILDIR\n       popd --rehearse";
+
+const USER: &str = "The name of the user who may log in";
+
+const PASSFILE: &str = "The file whose first line is the password";
+
+const MAILDIR: &str = "The Maildir to serve";
+
+/// The command line's options and words.
+pub fn command<'a>(alloc: Global) -> Result<Command<'a>, AllocError>
     ensures { IfOk result (λ command. app_of command ≡ popd) }
 {
     Command::new(alloc, "popd")
+        .about(ABOUT)
+        .override_usage(USAGE)
         .arg(listen_option(alloc))?
         .arg(connections_option(alloc))?
         .arg(rehearse_option(alloc))?
         .arg(verbose_option(alloc))?
-        .arg(rest_option(alloc))
+        .arg(word(alloc, "user", "USER", USER))?
+        .arg(word(alloc, "passfile", "PASSFILE", PASSFILE))?
+        .arg(word(alloc, "maildir", "MAILDIR", MAILDIR))?
+        .arg(more_words(alloc))
 }
 
-/// A text of its own.
+/// A copy of a text.
 fn copy(alloc: Global, text: Option<&str>) -> Result<Option<String>, AllocError>
     ensures { IfOk result (λ owned. option_map string_bytes owned ≡ option_map (λ t. t.now) text.entry) }
 {
@@ -108,7 +150,7 @@ fn copy(alloc: Global, text: Option<&str>) -> Result<Option<String>, AllocError>
     }
 }
 
-/// Texts of their own.
+/// Copies of texts.
 fn copies(alloc: Global, texts: &[&str]) -> Result<Vec<String>, AllocError>
     ensures { IfOk result (λ owned. map string_bytes owned.items ≡ map (λ t. t.now) texts.now) }
 {
@@ -119,11 +161,11 @@ fn copies(alloc: Global, texts: &[&str]) -> Result<Vec<String>, AllocError>
     Ok(owned)
 }
 
-/// The words that are no options.
-fn positionals(alloc: Global, matches: &ArgMatches<'_>) -> Result<Vec<String>, AllocError>
-    ensures { IfOk result (λ rest. map string_bytes rest.items ≡ positionals (rows_of (found_of matches.now))) }
+/// The words that are too many.
+fn words_after(alloc: Global, matches: &ArgMatches<'_>) -> Result<Vec<String>, AllocError>
+    ensures { IfOk result (λ more. map string_bytes more.items ≡ words_after (rows_of (found_of matches.now))) }
 {
-    match matches.get_strs("rest") {
+    match matches.get_strs("more") {
         None => Ok(Vec::new(alloc)),
         Some(texts) => copies(alloc, texts),
     }
@@ -138,12 +180,15 @@ fn words_of(alloc: Global, matches: &ArgMatches<'_>) -> Result<Words, AllocError
         connections: matches.get_one("connections").unwrap_or(u32::MAX),
         rehearse: matches.get_count("rehearse") > 0,
         verbose: matches.get_count("verbose") > 0,
-        rest: positionals(alloc, matches)?,
+        user: copy(alloc, matches.get_str("user"))?,
+        passfile: copy(alloc, matches.get_str("passfile"))?,
+        maildir: copy(alloc, matches.get_str("maildir"))?,
+        more: words_after(alloc, matches)?,
     })
 }
 
-/// What these words ask for, the program's name first. Clap's error has the text of help or of the
-/// mistake, or is of the kind OutOfMemory.
+/// What these words, the program's name first, ask for. Clap's error has the text of help or of the
+/// mistake, or its kind is OutOfMemory.
 pub fn read_words(alloc: Global, words: &[String]) -> Result<Words, Error>
     ensures faults { FailsBy (fault_of popd (map string_bytes words.now)) result }
     ensures asks { IfOk result (AsksFor (matches_of popd (map string_bytes words.now))) }

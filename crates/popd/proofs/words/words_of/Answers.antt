@@ -16,5 +16,8 @@ returns c =
           (λ none. c.get_one.ensures.none (text_is ∙ none)) (λ text is. c.get_one.ensures.value text (text_is ∙ is)) c.unwrap_or.ensures;
       rehearse = ap (nat_lt 0) c.get_count.ensures.value;
       verbose = ap (nat_lt 0) c.get_count-2.ensures.value;
-      rest = c.in_ok-positionals.ensures;
+      user = c.in_ok-copy-2.ensures ∙ c.get_str-2.ensures ∙ first_value-rows found (codes "user");
+      passfile = c.in_ok-copy-3.ensures ∙ c.get_str-3.ensures ∙ first_value-rows found (codes "passfile");
+      maildir = c.in_ok-copy-4.ensures ∙ c.get_str-4.ensures ∙ first_value-rows found (codes "maildir");
+      more = c.in_ok-words_after.ensures;
     }
