@@ -188,7 +188,7 @@ class OtherHands(Devices):
 class ManyNames(Devices):
     def test_a_folder_of_many_names(self):
         """Each of them is held, wherever in the folder it stands."""
-        count = 25_000
+        count = 30_000
         messages = [(b"%05d" % number, b"") for number in range(count)]
         with Server(messages) as self.server, Account(self.server.port) as self.account:
             for number, (uid, _) in enumerate(messages):

@@ -37,7 +37,7 @@ class LongAccount(Account):
 
     def __init__(self, port):
         super().__init__(port, user=USER.decode())
-        home = self.home / ("a" * 40) / "home"
+        home = self.home / ("a" * 100) / "home"
         home.mkdir(parents=True)
         self.maildir = make_maildir(home / "Maildir")
         self.folder = home / ".getmail"

@@ -1,0 +1,110 @@
+"""Whole sessions on folders and disks with which something happens just then: names that vanish between the listing and
+the look at them, folders that can't be read to their end, a record whose replacement is refused, and octets of random
+that can't be had."""
+
+import os
+import resource
+import unittest
+
+from getmail.account import Account
+from getmail.server import Server
+from harness import preload, programs
+
+THREE = [(b"a", b"one\n"), (b"b", b"two\n"), (b"c", b"three\n")]
+LOGIN = ["USER u", "PASS p", "STAT", "UIDL", "LIST"]
+
+SILENT = programs.Run(0, b"", b"")
+REFUSED = programs.Run(1, b"", b"getmail: destination refused\n")
+RECORD_REFUSED = programs.Run(1, b"", b"getmail: seen file refused\n")
+UNREADABLE = programs.Run(2, b"", b"getmail: cannot read rc file\n")
+
+
+class OtherHands(unittest.TestCase):
+    @classmethod
+    def setUpClass(cls):
+        library = preload.library("other_hands")
+        cls.library = library.__enter__()
+        cls.addClassCleanup(library.__exit__, None, None, None)
+
+    def setUp(self):
+        self.server = Server(THREE)
+        self.addCleanup(self.server.socket.close)
+        self.account = Account(self.server.port)
+        self.addCleanup(self.account.holder.cleanup)
+
+    def session(self, *words, bound=None, **others):
+        """One run against one session, with the commands after the listings; no file may grow past `bound`."""
+        thread = self.server.begin_session()
+        changes = {"LD_PRELOAD": str(self.library), **{f"OTHER_{what}": str(value) for what, value in others.items()}}
+        if bound is not None:
+            resource.setrlimit(resource.RLIMIT_FSIZE, (bound, resource.RLIM_INFINITY))
+        try:
+            # Python ignores the signal that tells of the bound, and so does the program, which sees an error.
+            process = self.account.start("-q", *words, restore_signals=False, **changes)
+        finally:
+            resource.setrlimit(resource.RLIMIT_FSIZE, (resource.RLIM_INFINITY, resource.RLIM_INFINITY))
+        out, err = process.communicate(timeout=programs.SECONDS)
+        thread.join(programs.SECONDS)
+        self.assertEqual(self.server.commands[:5], LOGIN)
+        return programs.Run(process.returncode, out, err), self.server.commands[5:]
+
+    def hold_in_cur(self, uid, text, flags=":2,"):
+        """Puts a held message's file into `cur`."""
+        path = self.account.maildir / "cur" / (self.account.name(uid) + flags)
+        path.write_bytes(text)
+        return path
+
+    def test_a_name_that_vanishes_after_its_folder_was_listed(self):
+        """A reader has given the file another name by the time it is looked at: its message is held all the same. The
+        program looks at each file only if the folder holds folders too."""
+        for part in ("new", "cur"):
+            (self.account.maildir / part / "folder").mkdir()
+        path = self.hold_in_cur(*THREE[0])
+        renamed = path.with_name(path.name + "S")
+        run, commands = self.session(FROM=path, TO=renamed)
+        self.assertEqual((run, commands), (SILENT, ["RETR 2", "RETR 3", "QUIT"]))
+        self.assertTrue(renamed.exists())
+        self.assertEqual(self.account.held(), THREE)
+
+    def test_a_file_that_is_removed_after_its_folder_was_listed(self):
+        """It was held when the folder was listed, so its message counts as delivered."""
+        (self.account.maildir / "cur" / "folder").mkdir()
+        path = self.hold_in_cur(*THREE[0])
+        self.assertEqual(self.session(FROM=path), (SILENT, ["RETR 2", "RETR 3", "QUIT"]))
+        self.assertEqual(self.account.held(), THREE[1:])
+
+    def test_a_folder_that_cannot_be_read_to_its_end(self):
+        """Nothing is fetched by half a listing: a message whose name was not read would be stored again."""
+        self.hold_in_cur(*THREE[0])
+        self.assertEqual(self.session("-d", BROKEN="listing"), (REFUSED, ["RSET", "QUIT"]))
+        self.assertEqual(self.account.held(), THREE[:1])
+        self.assertEqual(self.session("-d")[0], SILENT)
+        self.assertEqual(self.account.held(), THREE)
+
+    def test_a_folder_that_changes_and_has_its_times_put_back(self):
+        """It is listed again until it rests, and then nothing is told of it."""
+        self.hold_in_cur(*THREE[0])
+        run, commands = self.session("-d", BRIEF=self.account.maildir / "cur" / "brief")
+        self.assertEqual((run, commands), (REFUSED, ["RSET", "QUIT"]))
+
+    def test_a_record_whose_replacement_is_refused(self):
+        """The old record stays as it was, octet for octet, and beside it is nothing."""
+        rows = b"old 5 1\nolder 6 0\n"
+        for old in (b"getmail-seen 1\n" + rows, b"getmail-seen 2\n" + rows + b"+ 1\nne", b"getmail-seen 2\n" + rows + b"torn"):
+            for bound in (0, 20, len(old) + 20):
+                with self.subTest(old=old, bound=bound):
+                    self.account.record.write_bytes(old)
+                    self.assertEqual(self.session("-d", bound=bound), (RECORD_REFUSED, ["RSET", "QUIT"]))
+                    self.assertEqual(self.account.record.read_bytes(), old)
+                    self.assertEqual(sorted(os.listdir(self.account.folder)), ["getmailrc", self.account.record.name])
+        self.assertEqual(self.server.messages, THREE)
+        self.assertEqual(self.session("-d")[0], SILENT)
+        self.assertEqual(self.account.held(), THREE)
+        self.assertTrue(self.account.record.read_bytes().startswith(b"getmail-seen 2\n" + rows))
+
+    def test_each_draw_of_random(self):
+        """The keys of the record's table are drawn, and the mark of the files in `tmp`; there is no third draw."""
+        for number in (1, 2):
+            run = self.account.run("-q", LD_PRELOAD=str(self.library), OTHER_RANDOM=str(number))
+            self.assertEqual(run, UNREADABLE)
+        self.assertEqual(self.session(RANDOM=3), (SILENT, ["RETR 1", "RETR 2", "RETR 3", "QUIT"]))

@@ -1,0 +1,29 @@
+"""A file that another program cuts to nothing while an entry is appended to it: it isn't made longer again."""
+
+import unittest
+
+from harness import preload, programs
+from store_bench.watched import folder_for
+
+SEPARATOR = b"From MAILER-DAEMON Thu Jan  1 00:00:00 1970\n"
+OLD = SEPARATOR + b"an older text\n\n"
+
+
+class ShrunkFiles(unittest.TestCase):
+    @classmethod
+    def setUpClass(cls):
+        library = preload.library("other_hands")
+        cls.library = library.__enter__()
+        cls.addClassCleanup(library.__exit__, None, None, None)
+
+    def test_a_cut_makes_no_file_longer(self):
+        """The append is refused, and what is taken back is more than is there: zeros would stand in the file."""
+        work = folder_for(self)
+        file = work / "mbox"
+        file.write_bytes(OLD)
+        (work / "mbox.text").write_bytes(b"a text\n")
+        run = programs.run("store_bench", "append", str(file), "1", LD_PRELOAD=str(self.library),
+                           OTHER_SHRUNK=str(file), OTHER_LENGTH=str(len(OLD)))
+        self.assertEqual(run.status, 1)
+        self.assertIn(b"destination refused", run.err)
+        self.assertEqual(file.read_bytes(), b"")
