@@ -2,7 +2,9 @@
 
 mod cut;
 mod deletion;
+mod endless;
 mod list;
+mod many;
 mod record;
 mod refusal;
 mod reply;

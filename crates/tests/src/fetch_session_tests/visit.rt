@@ -162,7 +162,7 @@ fn put_octets(octets: &mut Vec<u8>, reply: &str) -> Result<(), AllocError> {
 }
 
 /// Bytes as a text in which `|` stands for CR LF and `/` for any other LF.
-fn shown(alloc: Global, bytes: &[u8]) -> Result<String, AllocError> {
+pub fn shown(alloc: Global, bytes: &[u8]) -> Result<String, AllocError> {
     let mut text = Vec::new(alloc);
     for byte in bytes {
         match *byte {

@@ -1,7 +1,7 @@
 //! Links, and bodies that are taken from them, with ample memory.
 ghost use Rattle.std.specs.Prelude.{◌<◌};
 
-use pop3_wire::{LineReader, ScriptWire, StreamWire, Wire, WireDown, read_body};
+use pop3_wire::{EndlessWire, LineReader, ScriptWire, StreamWire, Wire, WireDown, read_body};
 use std::alloc::Global;
 use std::io;
 use std::io::{BufWriter, ErrorKind, Read, Write};
@@ -65,6 +65,26 @@ fn a_script_takes_what_is_sent(rt: HostRuntime) -> Result<(), Fail> {
     wire.send(&text)?;
     wire.send(b"y")?;
     assert!(rt; wire.sent().len() == 5001 && wire.sent().starts_with(&text));
+    Ok(())
+}
+
+#[test]
+fn an_endless_link_repeats_its_pattern(rt: HostRuntime) -> Result<(), Fail> {
+    let alloc = rt.alloc();
+    let front = Vec::from_slice(alloc, b"+OK\r\n")?;
+    let pattern = Vec::from_slice(alloc, b"1 a\r\n")?;
+    let mut wire = EndlessWire::new(alloc, front, pattern);
+    let mut reader = LineReader::new();
+    for turn in 0..2000 {
+        assert!(rt; reader.line(&mut wire, 5) == Ok(3));
+        assert!(rt; reader.waiting().len() >= 5);
+        let line = if turn == 0 { b"+OK\r\n" } else { b"1 a\r\n" };
+        assert!(rt; reader.waiting().starts_with(line));
+        reader.skip(5);
+    }
+    wire.send(b"QUIT\r\n")?;
+    assert_eq!(rt; wire.sent(), b"QUIT\r\n".as_slice());
+    assert_eq!(rt; wire.failures(), 0);
     Ok(())
 }
 
