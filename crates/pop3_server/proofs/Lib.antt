@@ -17,6 +17,7 @@ mod ServeIntakeLemmas
 mod ServeLemmas
 mod SizeLemmas
 mod SlotLemmas
-mod TextPartLemmas
+mod TextAnswerLemmas
+mod TextBodyLemmas
 mod TextPieceLemmas
 mod TextTopLemmas

@@ -9,14 +9,15 @@ use Rattle.pop3_wire.specs.CommandLine.{command_of}
 use Rattle.pop3_wire.specs.Line.{crlf, IsLine, ended}
 use Rattle.pop3_wire.specs.Link.{Link}
 use Rattle.pop3_wire.specs.Place.{HasLine}
-use Rattle.pop3_server.specs.declared.fault.ServerFault.TheVariants.{WriteFailed, NoMemory}
+use Rattle.pop3_server.specs.declared.fault.ServerFault.{ServerFault}
+use Rattle.pop3_server.specs.declared.fault.ServerFault.TheVariants.{ReadFailed, WriteFailed, MaildropFailed, NoMemory}
 use Rattle.pop3_server.specs.declared.state.State.{State}
 use Rattle.pop3_server.specs.Maildrop.{Mail}
 use Rattle.pop3_server.specs.ServerMachine.{Machine, Deed, Say, Open, Give, Leave, Answers, deed, greeting, said, is_open}
 use Rattle.pop3_server.specs.LoopLaws.{runs_on}
 use Rattle.pop3_server.specs.AnswersLines.{AnswersLines, AnswersLine, SameServer}
 use Rattle.pop3_server.specs.Got.{Waiting}
-use Rattle.pop3_server.specs.Serving.{Queues, AllSent, Served}
+use Rattle.pop3_server.specs.Serving.{Queues, AllSent, SendsAnswer, Served, WentOut}
 use Rattle.pop3_wire.specs.Bodies.{Drew}
 
 -- the greeting and the answers to all lines that were got whole went out
@@ -106,11 +107,43 @@ served_closed sound mail old server before link waiting p closed =
       ends = λ _. inl closed;
     }
 
+-- one more line came, and of its answer so much went out before a fault
+served_last : {D : Type 0} (sound : D → Type 0) (mail : D → Mail) (old server next : Machine D) (before link taken sent : Link) (waiting after : Waiting) (g line front : List ℕ) (fault : ServerFault)
+    (p : Progress sound mail old before server link waiting) → Drew link taken g → waiting.octets ++ g ≡ ended line ++ after.octets → length g + after.left ≡ waiting.left → IsLine line
+    → sent.got ≡ taken.got → sent.sent ≡ taken.sent ++ front
+    → WentOut sound mail old (p.lines ++ line ∷ []) after.octets ((greeting ++ p.answers) ++ front) (Err fault) next → Served sound mail old before (Err fault) next sent
+served_last sound mail old server next before link taken sent waiting after g line front fault p took octets left is got sends answered =
+    let total = within sound mail old server before link waiting g after.left p left in
+    record {
+      gained = p.gained ++ g;
+      got = got ∙ took.got ∙ ap (λ (l : List ℕ). l ++ g) p.got ∙ append_assoc before.got p.gained g;
+      bound = omega arith;
+      lines = p.lines ++ line ∷ [];
+      rest = after.octets;
+      each = all_push p.lines line p.each is;
+      heard = ap (λ (l : List ℕ). l ++ g) p.heard ∙ append_assoc (flat_map ended p.lines) waiting.octets g ∙ ap (λ (l : List ℕ). flat_map ended p.lines ++ l) octets
+          ∙ sym (append_assoc (flat_map ended p.lines) (ended line) after.octets) ∙ ap (λ (l : List ℕ). l ++ after.octets) (sym (flat_push p.lines line));
+      out = (greeting ++ p.answers) ++ front;
+      sent = sends ∙ ap (λ (l : List ℕ). l ++ front) (took.sent ∙ p.sent) ∙ append_assoc before.sent (greeting ++ p.answers) front;
+      answered = answered;
+      ends = λ e. cc;
+    }
+
+-- one more line came, and its answer went out in part
+pub served_unsent : {D : Type 0} (sound : D → Type 0) (mail : D → Mail) (old server next : Machine D) (before link taken sent : Link) (waiting after : Waiting) (g line answer front rest : List ℕ) (count : ℕ)
+    → Progress sound mail old before server link waiting → Drew link taken g → waiting.octets ++ g ≡ ended line ++ after.octets → length g + after.left ≡ waiting.left → IsLine line
+    → AnswersLine sound mail server line answer next → answer ≡ front ++ rest → sent ≡ record taken { sent = taken.sent ++ front; failures = count }
+    → Served sound mail old before (Err WriteFailed) next sent
+served_unsent sound mail old server next before link taken sent waiting after g line answer front rest count p took octets left is turn part sends =
+    served_last sound mail old server next before link taken sent waiting after g line front WriteFailed p took octets left is
+    (ap (λ (l : Link). l.got) sends) (ap (λ (l : Link). l.sent) sends)
+    (inl (inr (p.lines, line, greeting ++ p.answers, answer, front, rest, server, refl, all_sent sound mail old server before link waiting p, turn, part, refl)))
+
 -- one more line came, and memory was wanting for its answer
-pub served_unanswered : {D : Type 0} (sound : D → Type 0) (mail : D → Mail) (old server next : Machine D) (before link taken : Link) (waiting after : Waiting) (g : List ℕ)
-    → Progress sound mail old before server link waiting → Drew link taken g → Queues waiting [] after g → SameServer sound mail server next → Served sound mail old before (Err NoMemory) next taken
-served_unanswered sound mail old server next before link taken waiting after g p took takes same =
-    let total = within sound mail old server before link waiting g after.left p takes.left in
+served_unanswered : {D : Type 0} (sound : D → Type 0) (mail : D → Mail) (old server next : Machine D) (before link taken : Link) (waiting : Waiting) (g : List ℕ) (left : ℕ)
+    → Progress sound mail old before server link waiting → Drew link taken g → length g + left ≡ waiting.left → SameServer sound mail server next → Served sound mail old before (Err NoMemory) next taken
+served_unanswered sound mail old server next before link taken waiting g left p took more same =
+    let total = within sound mail old server before link waiting g left p more in
     record {
       gained = p.gained ++ g;
       got = took.got ∙ ap (λ (l : List ℕ). l ++ g) p.got ∙ append_assoc before.got p.gained g;
@@ -125,27 +158,24 @@ served_unanswered sound mail old server next before link taken waiting after g p
       ends = λ e. cc;
     }
 
--- one more line came, and its answer went out in part
-pub served_unsent : {D : Type 0} (sound : D → Type 0) (mail : D → Mail) (old server next : Machine D) (before link taken sent : Link) (waiting after : Waiting) (g line answer front rest : List ℕ) (count : ℕ)
+-- one more line came, and its answer met a fault
+pub served_stopped : {D : Type 0} (sound : D → Type 0) (mail : D → Mail) (old server next : Machine D) (before link taken sent : Link) (waiting after : Waiting) (g line : List ℕ) (fault : ServerFault)
     → Progress sound mail old before server link waiting → Drew link taken g → waiting.octets ++ g ≡ ended line ++ after.octets → length g + after.left ≡ waiting.left → IsLine line
-    → AnswersLine sound mail server line answer next → answer ≡ front ++ rest → sent ≡ record taken { sent = taken.sent ++ front; failures = count }
-    → Served sound mail old before (Err WriteFailed) next sent
-served_unsent sound mail old server next before link taken sent waiting after g line answer front rest count p took octets left is turn part sends =
-    let total = within sound mail old server before link waiting g after.left p left in
-    record {
-      gained = p.gained ++ g;
-      got = ap (λ (l : Link). l.got) sends ∙ took.got ∙ ap (λ (l : List ℕ). l ++ g) p.got ∙ append_assoc before.got p.gained g;
-      bound = omega arith;
-      lines = p.lines ++ line ∷ [];
-      rest = after.octets;
-      each = all_push p.lines line p.each is;
-      heard = ap (λ (l : List ℕ). l ++ g) p.heard ∙ append_assoc (flat_map ended p.lines) waiting.octets g ∙ ap (λ (l : List ℕ). flat_map ended p.lines ++ l) octets
-          ∙ sym (append_assoc (flat_map ended p.lines) (ended line) after.octets) ∙ ap (λ (l : List ℕ). l ++ after.octets) (sym (flat_push p.lines line));
-      out = (greeting ++ p.answers) ++ front;
-      sent = ap (λ (l : Link). l.sent) sends ∙ ap (λ (l : List ℕ). l ++ front) (took.sent ∙ p.sent) ∙ append_assoc before.sent (greeting ++ p.answers) front;
-      answered = inr (p.lines, line, greeting ++ p.answers, answer, front, rest, server, refl, all_sent sound mail old server before link waiting p, turn, part, refl);
-      ends = λ e. cc;
-    }
+    → SendsAnswer sound mail server line taken (Err fault) next sent → Served sound mail old before (Err fault) next sent
+served_stopped sound mail old server next before link taken sent waiting after g line ReadFailed p took octets left is went = absurd went
+served_stopped sound mail old server next before link taken sent waiting after g line WriteFailed p took octets left is (front, unsent, sends, inl turn) =
+    served_unsent sound mail old server next before link taken sent waiting after g line (front ++ unsent) front unsent (taken.failures + 1) p took octets left is turn refl sends
+served_stopped sound mail old server next before link taken sent waiting after g line WriteFailed p took octets left is (front, unsent, sends, inr begun) =
+    served_last sound mail old server next before link taken sent waiting after g line front WriteFailed p took octets left is
+    (ap (λ (l : Link). l.got) sends) (ap (λ (l : Link). l.sent) sends)
+    (inr (unsent, (p.lines, line, greeting ++ p.answers, front ++ unsent, server, refl, all_sent sound mail old server before link waiting p, begun, append_assoc (greeting ++ p.answers) front unsent)))
+served_stopped sound mail old server next before link taken sent waiting after g line MaildropFailed p took octets left is (answer, begun, sends) =
+    served_last sound mail old server next before link taken sent waiting after g line answer MaildropFailed p took octets left is
+    (ap (λ (l : Link). l.got) sends) (ap (λ (l : Link). l.sent) sends)
+    (p.lines, line, greeting ++ p.answers, answer, server, refl, all_sent sound mail old server before link waiting p, begun, refl)
+served_stopped sound mail old server next before link taken sent waiting after g line NoMemory p took octets left is (same, none) =
+    subst (λ (l : Link). Served sound mail old before (Err NoMemory) next l) (sym none)
+    (served_unanswered sound mail old server next before link taken waiting g after.left p took left same)
 
 -- the greeting found no memory, or went out in part
 pub served_unmade : {D : Type 0} (sound : D → Type 0) (mail : D → Mail) (old server : Machine D) (before : Link) → server ≡ old → Served sound mail old before (Err NoMemory) server before
@@ -175,7 +205,7 @@ served_ungreeted sound mail old server before link hello front rest count same i
   heard = refl;
   out = front;
   sent = ap (λ (l : Link). l.sent) sends;
-  answered = inl (rest, sym is ∙ part, refl, same);
+  answered = inl (inl (rest, sym is ∙ part, refl, same));
   ends = λ e. cc;
 }
 

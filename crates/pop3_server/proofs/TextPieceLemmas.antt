@@ -1,5 +1,5 @@
 -- Pieces of a text, cut at their first LF.
-use Rattle.std.proofs.Common.{◌≡◌, ◌≢◌, ◌==◌, ℕ, Bool, true, false, not, List, [], ◌∷◌, ◌++◌, length, refl, sym, ap, ◌∙◌, append_assoc, arith, inl, inr, if◌then◌else◌}
+use Rattle.std.proofs.Common.{◌≡◌, ◌≢◌, ◌==◌, ◌≤◌, ℕ, Bool, true, false, not, List, [], ◌∷◌, ◌++◌, length, refl, sym, ap, ◌∙◌, append_assoc, arith, inl, inr, if◌then◌else◌}
 use Rattle.std.specs.List.{flat_map, onto_first}
 use Rattle.std.proofs.lemmas.Bool.Decides.{eqb_tells}
 use Rattle.mail_terms.specs.Text.{lines_of_text, HasNoLf}
@@ -77,6 +77,15 @@ sent_rest in_line (byte ∷ rest) none = elim (eqb_tells byte 10) [
       let start = stuffing in_line (byte ∷ []) in
       ap (λ (l : List ℕ). (start ++ byte ∷ []) ++ l) (sent_on_rest rest none.1) ∙ append_assoc start (byte ∷ []) rest
       )
+]
+
+-- where a line begins with a full stop, one more stands there
+pub stuffing_length : (in_line : Bool) (line : List ℕ) → (length (stuffing in_line line) ≤ 1) × (length (stuffing in_line line) ≤ length line)
+stuffing_length in_line [] = (omega arith, omega arith)
+stuffing_length true (byte ∷ line) = (omega arith, omega arith)
+stuffing_length false (byte ∷ line) = elim (eqb_tells byte 46) [
+  | inl p ↦ rw p.0 (omega arith, omega arith)
+  | inr p ↦ rw p.0 (omega arith, omega arith)
 ]
 
 -- two pieces, one behind the other

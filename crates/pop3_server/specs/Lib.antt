@@ -14,5 +14,7 @@ pub mod Removal
 pub mod ServerMachine
 pub mod Serving
 pub mod Size
+pub mod TextAnswer
+pub mod TextBody
 pub mod TextPart
 pub mod TextPiece

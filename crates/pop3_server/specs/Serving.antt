@@ -6,13 +6,16 @@ use Rattle.pop3_wire.specs.Bodies.{Drew}
 use Rattle.pop3_wire.specs.Link.{Link}
 use Rattle.pop3_wire.specs.Place.{HasLine}
 use Rattle.pop3_server.specs.declared.fault.ServerFault.{ServerFault}
-use Rattle.pop3_server.specs.declared.fault.ServerFault.TheVariants.{ReadFailed, WriteFailed, NoMemory}
+use Rattle.pop3_server.specs.declared.fault.ServerFault.TheVariants.{ReadFailed, WriteFailed, MaildropFailed, NoMemory}
 use Rattle.pop3_server.specs.declared.intake.Heard.{Heard}
 use Rattle.pop3_server.specs.declared.intake.Heard.TheVariants.{Line, LongLine, End}
 use Rattle.pop3_server.specs.Maildrop.{Mail}
 use Rattle.pop3_server.specs.ServerMachine.{Machine, greeting, is_open}
 use Rattle.pop3_server.specs.AnswersLines.{AnswersLines, AnswersLine, SameServer}
 use Rattle.pop3_server.specs.Got.{Waiting}
+use Rattle.pop3_server.specs.declared.text_part.TextBody.{TextBody}
+use Rattle.pop3_server.specs.TextAnswer.{BeginsAnswer}
+use Rattle.pop3_server.specs.TextBody.{GivesMore, GivesRest}
 
 -- how long a line may be, its CR LF included, and how many octets are read of one connection
 abbrev pub max_line : ℕ
@@ -66,17 +69,52 @@ PartSent {D} sound mail old lines sent last =
     × (lines ≡ before ++ line ∷ []) × AllSent sound mail old before whole mid × AnswersLine sound mail mid line answer last
     × (answer ≡ front ++ rest) × (sent ≡ whole ++ front))
 
+-- the greeting and all answers went out but the last, with a text, of which all went out that was read
+abbrev pub BegunSent : {D : Type 0} → (D → Type 0) → (D → Mail) → Bool → Machine D → List (List ℕ) → List ℕ → Machine D → Type 0
+BegunSent {D} sound mail refused old lines sent last =
+    (before : List (List ℕ)) × (line whole answer : List ℕ) × (mid : Machine D)
+    × (lines ≡ before ++ line ∷ []) × AllSent sound mail old before whole mid × BeginsAnswer sound mail refused mid line answer last
+    × (sent ≡ whole ++ answer)
+
 -- what went out for these lines, and which server is left, where this rest was got behind them
 abbrev pub WentOut : {D : Type 0} → (D → Type 0) → (D → Mail) → Machine D → List (List ℕ) → List ℕ → List ℕ → Result (Unit {0}) ServerFault → Machine D → Type 0
 -- all was answered while the server was open
 WentOut sound mail old lines rest sent (Ok done) new =
     AllSent sound mail old lines sent new × ((is_open new.state ≡ false) ⊎ IsLine rest)
 WentOut sound mail old lines rest sent (Err ReadFailed) new = AllSent sound mail old lines sent new
-WentOut sound mail old lines rest sent (Err WriteFailed) new = PartSent sound mail old lines sent new
+-- of a text that goes on, perhaps not all went out that was read
+WentOut sound mail old lines rest sent (Err WriteFailed) new =
+    PartSent sound mail old lines sent new ⊎ ((unsent : List ℕ) × BegunSent sound mail false old lines (sent ++ unsent) new)
+-- the maildrop refused a part of a text of which parts went out
+WentOut sound mail old lines rest sent (Err MaildropFailed) new = BegunSent sound mail true old lines sent new
 -- memory was wanting for the greeting, or for one more answer
 WentOut {D} sound mail old lines rest sent (Err NoMemory) new =
     ((sent ≡ []) × (lines ≡ []) × (new ≡ old))
     ⊎ ((last : Machine D) × AllSent sound mail old lines sent last × SameServer sound mail last new)
+
+-- what follows of a text went out, or a front of it
+abbrev pub SendsRest : {D : Type 0} → (D → Type 0) → (D → Mail) → D → TextBody → Link → Result (Unit {0}) ServerFault → D → Link → Type 0
+SendsRest sound mail old text before (Ok done) new after =
+    (given : List ℕ) × GivesRest sound mail old text given new × (after ≡ record before { sent = before.sent ++ given })
+SendsRest sound mail old text before (Err ReadFailed) new after = ⊥
+SendsRest sound mail old text before (Err WriteFailed) new after =
+    (front unsent : List ℕ) × (after ≡ record before { sent = before.sent ++ front; failures = before.failures + 1 })
+    × (GivesRest sound mail old text (front ++ unsent) new ⊎ ((next : TextBody) × GivesMore sound mail false old text (front ++ unsent) next new))
+SendsRest sound mail old text before (Err MaildropFailed) new after =
+    (given : List ℕ) × (next : TextBody) × GivesMore sound mail true old text given next new × (after ≡ record before { sent = before.sent ++ given })
+SendsRest sound mail old text before (Err NoMemory) new after = ⊥
+
+-- a line was answered, or a front of its answer went out
+abbrev pub SendsAnswer : {D : Type 0} → (D → Type 0) → (D → Mail) → Machine D → List ℕ → Link → Result Bool ServerFault → Machine D → Link → Type 0
+SendsAnswer sound mail old line before (Ok closing) new after =
+    (answer : List ℕ) × AnswersLine sound mail old line answer new × (after ≡ record before { sent = before.sent ++ answer })
+SendsAnswer sound mail old line before (Err ReadFailed) new after = ⊥
+SendsAnswer sound mail old line before (Err WriteFailed) new after =
+    (front unsent : List ℕ) × (after ≡ record before { sent = before.sent ++ front; failures = before.failures + 1 })
+    × (AnswersLine sound mail old line (front ++ unsent) new ⊎ BeginsAnswer sound mail false old line (front ++ unsent) new)
+SendsAnswer sound mail old line before (Err MaildropFailed) new after =
+    (answer : List ℕ) × BeginsAnswer sound mail true old line answer new × (after ≡ record before { sent = before.sent ++ answer })
+SendsAnswer sound mail old line before (Err NoMemory) new after = SameServer sound mail old new × (after ≡ before)
 
 -- the lines that were got were answered in order
 pub record Served {D : Type 0} (sound : D → Type 0) (mail : D → Mail) (old : Machine D) (before : Link) (result : Result (Unit {0}) ServerFault) (new : Machine D) (after : Link) : Type 0 where
@@ -93,8 +131,9 @@ pub record Served {D : Type 0} (sound : D → Type 0) (mail : D → Mail) (old :
   -- Ok only where the server is closed, nothing comes any more, or the bound is reached
   pub ends : result ≡ Ok tt → (is_open new.state ≡ false) ⊎ ((after.ended ≡ true) ⊎ (length gained ≡ max_octets))
 
--- a fault of the link is a refused call of it, and there is no other
+-- a fault of the link is a refused call of it; the others are none
 abbrev pub is_refusal : ServerFault → Bool
 is_refusal ReadFailed = true
 is_refusal WriteFailed = true
+is_refusal MaildropFailed = false
 is_refusal NoMemory = false

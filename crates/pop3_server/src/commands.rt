@@ -1,40 +1,105 @@
 //! What a server does for each command: the table of states and commands (RFC 1939, sections 4 to 7).
-ghost use Rattle.std.specs.Prelude.{◌≡◌, ℕ, Bool, map, slice_get, Some, None, IfOk, IfErr, IfSome, MatchResult, bytes_eq, codes, ◌++◌};
+ghost use Rattle.std.specs.Prelude.{◌≡◌, ◌<◌, ◌-◌, ◌^◌, ℕ, Bool, List, Option, map, slice_get, Some, None, IfOk, IfErr, IfSome, MatchResult, bytes_eq, codes, ◌++◌};
 ghost use Rattle.pop3_wire.specs.declared.command.Command.TheVariants.{Retr, Top, Dele, Rset};
 ghost use Rattle.pop3_server.specs.declared.rows.MessageRow.{MessageRow};
 ghost use Rattle.pop3_server.specs.declared.state.State.{State};
 ghost use Rattle.pop3_server.specs.declared.state.State.TheVariants.{Authorization, Transaction, Closed};
 ghost use Rattle.mail_terms.specs.FailureCount.{counted_up};
 ghost use Rattle.pop3_server.specs.Maildrop.{HasPlace};
-ghost use Rattle.pop3_server.specs.ServerMachine.{Say, Open, Leave, Answers, SamePlaces, Unanswered, Tied, Tries, Empties, with_marked, in_authorization, in_transaction, next_of, said, of_row, row_at, scan_line, uid_line};
+ghost use Rattle.pop3_server.specs.ServerMachine.{Say, Open, Give, Leave, Answers, SamePlaces, Unanswered, Tied, Tries, Empties, with_marked, in_authorization, in_transaction, next_of, said, of_row, row_at, scan_line, uid_line, text_body};
+ghost use Rattle.pop3_server.specs.TextAnswer.{AnswersOrBegins};
+ghost use Rattle.pop3_server.specs.TextBody.{still};
 
 use crate::fault::ServerFault;
 use crate::maildrop::{DropFault, Maildrop};
 use crate::reply::{begin_text, say, say_count, say_left, say_size, say_sizes, say_uid, say_uids};
 use crate::rows::{MessageRow, Rows};
 use crate::state::State;
-use crate::text_part::{put_text, put_top};
+use crate::text_part::TextBody;
 use pop3_wire::{Bytes, Command};
 use std::alloc::Global;
 
-/// A reply, and the next state; none where the state stays.
-pub type Step = (Vec<u8>, Option<State>);
+/// A reply, or the front of one, and the text that goes on behind it.
+type Reply = (Vec<u8>, Option<TextBody>);
+
+/// What a command leads to.
+#[derive(Drop)]
+pub struct Step {
+    /// The octets of the reply, or of its front where a text goes on.
+    pub bytes: Vec<u8>,
+    /// The next state; none where the state stays.
+    pub next: Option<State>,
+    /// The text that goes on behind these octets.
+    pub rest: Option<TextBody>,
+}
+
+impl Step {
+    /// A whole reply, behind which the state stays.
+    pub fn stay(bytes: Vec<u8>) -> Step
+        ensures { result ≡ record { bytes = bytes; next = None; rest = None } }
+    {
+        Step {
+            bytes,
+            next: None,
+            rest: None,
+        }
+    }
+
+    /// A whole reply, and the next state.
+    fn go(bytes: Vec<u8>, next: State) -> Step
+        ensures { result ≡ record { bytes = bytes; next = Some next; rest = None } }
+    {
+        Step {
+            bytes,
+            next: Some(next),
+            rest: None,
+        }
+    }
+}
 
 /// PASS with the right password: lists the maildrop.
 fn open<D: Maildrop>(alloc: Global, drop: &mut D) -> Result<Step, ServerFault>
-    ensures ok { IfOk result (λ step. (state : State) → Answers D.sound D.mail Open drop.old step.0.items (next_of state step.1) drop.new) }
-    ensures tied { IfOk result (λ step. (state : State) → Tied (D.sound drop.new) (D.mail drop.new) (next_of state step.1)) }
+    ensures ok { IfOk result (λ step. (state : State) → AnswersOrBegins D.sound D.mail Open drop.old step.bytes.items step.rest (next_of state step.next) drop.new) }
+    ensures tied { IfOk result (λ step. (state : State) → Tied (D.sound drop.new) (D.mail drop.new) (next_of state step.next)) }
+    ensures whole { IfOk result (λ step. step.rest ≡ None) }
     ensures err { IfErr result (λ e. (e ≡ ServerFault.NoMemory) × Unanswered D.sound D.mail drop.old drop.new) }
 {
     let unavailable = say(alloc, b"-ERR maildrop unavailable")?;
     let entries = match drop.entries() {
         Ok(entries) => entries,
         Err(DropFault::NoMemory) => return Err(ServerFault::NoMemory),
-        Err(DropFault::Refused) => return Ok((unavailable, Some(State::Authorization(None)))),
+        Err(DropFault::Refused) => return Ok(Step::go(unavailable, State::Authorization(None))),
     };
     let rows = Rows::of(alloc, entries)?;
     let reply = say_count(alloc, rows.as_slice().len())?;
-    Ok((reply, Some(State::Transaction(rows))))
+    Ok(Step::go(reply, State::Transaction(rows)))
+}
+
+/// The text of the message at a place behind a first line: all of it, or its head and so many lines of
+/// what follows. The reply is made until it has more than `limit` octets.
+fn give<D: Maildrop>(
+    alloc: Global,
+    drop: &mut D,
+    mut reply: Vec<u8>,
+    text: TextBody,
+    limit: usize,
+) -> Result<Reply, ServerFault>
+    requires place { D.sound drop.old → HasPlace (D.mail drop.old) text.place }
+    requires start { text.start ≡ 0 }
+    ensures ok { IfOk result (λ given. (rows : List MessageRow) (top : Option ℕ) → ((octets : List ℕ) → still text octets ≡ text_body top octets)
+        → AnswersOrBegins D.sound D.mail (Give rows text.place reply.items top) drop.old given.0.items given.1 (Transaction rows) drop.new) }
+    ensures limited { IfOk result (λ given. IfSome given.1 (λ _. limit < 2 ^ 64 - 1)) }
+    ensures same_places { D.sound drop.new → D.sound drop.old × ((D.mail drop.new).slots ≡ (D.mail drop.old).slots) }
+    ensures err { IfErr result (λ e. (e ≡ ServerFault.NoMemory) × Unanswered D.sound D.mail drop.old drop.new) }
+{
+    let unavailable = say(alloc, b"-ERR message unavailable")?;
+    let mut text = text;
+    match text.put(drop, &mut reply, limit) {
+        Ok(true) => Ok((reply, Some(text))),
+        Ok(false) => Ok((reply, None)),
+        Err(DropFault::NoMemory) => Err(ServerFault::NoMemory),
+        Err(DropFault::Refused) => Ok((unavailable, None)),
+    }
 }
 
 /// RETR: the text of a message.
@@ -43,22 +108,19 @@ fn retr<D: Maildrop>(
     drop: &mut D,
     rows: &Rows,
     number: u32,
-) -> Result<Vec<u8>, ServerFault>
+    limit: usize,
+) -> Result<Reply, ServerFault>
     requires { Tied (D.sound drop.old) (D.mail drop.old) (Transaction rows.now) }
-    ensures ok { IfOk result (λ reply. Answers D.sound D.mail (in_transaction rows.now (Retr number)) drop.old reply.items (Transaction rows.now) drop.new) }
+    ensures ok { IfOk result (λ given. AnswersOrBegins D.sound D.mail (in_transaction rows.now (Retr number)) drop.old given.0.items given.1 (Transaction rows.now) drop.new) }
+    ensures limited { IfOk result (λ given. IfSome given.1 (λ _. limit < 2 ^ 64 - 1)) }
     ensures tied { Tied (D.sound drop.new) (D.mail drop.new) (Transaction rows.now) }
     ensures err { IfErr result (λ e. (e ≡ ServerFault.NoMemory) × Unanswered D.sound D.mail drop.old drop.new) }
 {
     let Some(i) = rows.place(number) else {
-        return say(alloc, b"-ERR no such message");
+        return Ok((say(alloc, b"-ERR no such message")?, None));
     };
-    let unavailable = say(alloc, b"-ERR message unavailable")?;
-    let mut reply = begin_text(alloc, rows.row(i))?;
-    match put_text(drop, i, &mut reply) {
-        Ok(()) => Ok(reply),
-        Err(DropFault::NoMemory) => Err(ServerFault::NoMemory),
-        Err(DropFault::Refused) => Ok(unavailable),
-    }
+    let reply = begin_text(alloc, rows.row(i), limit)?;
+    give(alloc, drop, reply, TextBody::new(i, None), limit)
 }
 
 /// TOP: the head of a message, and so many lines of what follows.
@@ -68,22 +130,19 @@ fn top<D: Maildrop>(
     rows: &Rows,
     number: u32,
     count: u32,
-) -> Result<Vec<u8>, ServerFault>
+    limit: usize,
+) -> Result<Reply, ServerFault>
     requires { Tied (D.sound drop.old) (D.mail drop.old) (Transaction rows.now) }
-    ensures ok { IfOk result (λ reply. Answers D.sound D.mail (in_transaction rows.now (Top number count)) drop.old reply.items (Transaction rows.now) drop.new) }
+    ensures ok { IfOk result (λ given. AnswersOrBegins D.sound D.mail (in_transaction rows.now (Top number count)) drop.old given.0.items given.1 (Transaction rows.now) drop.new) }
+    ensures limited { IfOk result (λ given. IfSome given.1 (λ _. limit < 2 ^ 64 - 1)) }
     ensures tied { Tied (D.sound drop.new) (D.mail drop.new) (Transaction rows.now) }
     ensures err { IfErr result (λ e. (e ≡ ServerFault.NoMemory) × Unanswered D.sound D.mail drop.old drop.new) }
 {
     let Some(i) = rows.place(number) else {
-        return say(alloc, b"-ERR no such message");
+        return Ok((say(alloc, b"-ERR no such message")?, None));
     };
-    let unavailable = say(alloc, b"-ERR message unavailable")?;
-    let mut reply = say(alloc, b"+OK")?;
-    match put_top(drop, i, count, &mut reply) {
-        Ok(()) => Ok(reply),
-        Err(DropFault::NoMemory) => Err(ServerFault::NoMemory),
-        Err(DropFault::Refused) => Ok(unavailable),
-    }
+    let reply = say(alloc, b"+OK")?;
+    give(alloc, drop, reply, TextBody::new(i, Some(count)), limit)
 }
 
 /// Removes one message, and says whether it was removed.
@@ -139,17 +198,18 @@ pub fn authorize<D: Maildrop>(
     kept: &Option<Bytes>,
     command: Command,
 ) -> Result<Step, ServerFault>
-    ensures ok { IfOk result (λ step. Answers D.sound D.mail (in_authorization user.now pass.now kept.now command) drop.old step.0.items (next_of (Authorization kept.now) step.1) drop.new) }
-    ensures tied { IfOk result (λ step. Tied (D.sound drop.new) (D.mail drop.new) (next_of (Authorization kept.now) step.1)) }
+    ensures ok { IfOk result (λ step. AnswersOrBegins D.sound D.mail (in_authorization user.now pass.now kept.now command) drop.old step.bytes.items step.rest (next_of (Authorization kept.now) step.next) drop.new) }
+    ensures whole { IfOk result (λ step. step.rest ≡ None) }
+    ensures tied { IfOk result (λ step. Tied (D.sound drop.new) (D.mail drop.new) (next_of (Authorization kept.now) step.next)) }
     ensures err { IfErr result (λ e. (e ≡ ServerFault.NoMemory) × Unanswered D.sound D.mail drop.old drop.new) }
 {
     match command {
-        Command::User(name) => Ok((
+        Command::User(name) => Ok(Step::go(
             say(alloc, b"+OK send PASS")?,
-            Some(State::Authorization(Some(name))),
+            State::Authorization(Some(name)),
         )),
         Command::Pass(word) => match kept {
-            None => Ok((say(alloc, b"-ERR USER first")?, None)),
+            None => Ok(Step::stay(say(alloc, b"-ERR USER first")?)),
             Some(name) => {
                 // Both are compared, so that the time doesn't tell which of them differs.
                 let right_name = are_same(name.as_slice(), user);
@@ -157,14 +217,11 @@ pub fn authorize<D: Maildrop>(
                 if right_name & right_word {
                     open(alloc, drop)
                 } else {
-                    Ok((
-                        say(alloc, b"-ERR refused")?,
-                        Some(State::Authorization(None)),
-                    ))
+                    Ok(Step::go(say(alloc, b"-ERR refused")?, State::Authorization(None)))
                 }
             }
         },
-        Command::Quit => Ok((say(alloc, b"+OK bye")?, Some(State::Closed))),
+        Command::Quit => Ok(Step::go(say(alloc, b"+OK bye")?, State::Closed)),
         Command::Stat
         | Command::UidlAll
         | Command::UidlOne(_)
@@ -174,7 +231,7 @@ pub fn authorize<D: Maildrop>(
         | Command::Dele(_)
         | Command::Rset
         | Command::Noop
-        | Command::Top(_, _) => Ok((say(alloc, b"-ERR not now")?, None)),
+        | Command::Top(_, _) => Ok(Step::stay(say(alloc, b"-ERR not now")?)),
     }
 }
 
@@ -242,33 +299,49 @@ fn quit<D: Maildrop>(
     if leave(drop, rows) { Ok(all) } else { Ok(some) }
 }
 
-/// A command in TRANSACTION.
+/// A command in TRANSACTION. A reply with a text is made until it has more than `limit` octets.
 pub fn transact<D: Maildrop>(
     alloc: Global,
     drop: &mut D,
     rows: &mut Rows,
     command: &Command,
+    limit: usize,
 ) -> Result<Step, ServerFault>
     requires { Tied (D.sound drop.old) (D.mail drop.old) (Transaction rows.old) }
-    ensures ok { IfOk result (λ step. Answers D.sound D.mail (in_transaction rows.old command.now) drop.old step.0.items (next_of (Transaction rows.new) step.1) drop.new) }
+    ensures ok { IfOk result (λ step. AnswersOrBegins D.sound D.mail (in_transaction rows.old command.now) drop.old step.bytes.items step.rest (next_of (Transaction rows.new) step.next) drop.new) }
+    ensures rest { IfOk result (λ step. IfSome step.rest (λ _. (limit < 2 ^ 64 - 1) × (step.next ≡ None) × (rows.new ≡ rows.old))) }
     ensures tied { MatchResult result
-        (λ step. Tied (D.sound drop.new) (D.mail drop.new) (next_of (Transaction rows.new) step.1))
+        (λ step. Tied (D.sound drop.new) (D.mail drop.new) (next_of (Transaction rows.new) step.next))
         (λ e. Tied (D.sound drop.new) (D.mail drop.new) (Transaction rows.new)) }
-    ensures keeps { IfOk result (λ step. IfSome step.1 (λ next. rows.new ≡ rows.old)) }
+    ensures keeps { IfOk result (λ step. IfSome step.next (λ next. rows.new ≡ rows.old)) }
     ensures err { IfErr result (λ e. (e ≡ ServerFault.NoMemory) × (rows.new ≡ rows.old) × Unanswered D.sound D.mail drop.old drop.new) }
 {
     match command {
-        Command::User(_) | Command::Pass(_) => Ok((say(alloc, b"-ERR not now")?, None)),
-        Command::Stat => Ok((say_left(alloc, rows.as_slice())?, None)),
-        Command::ListAll => Ok((say_sizes(alloc, rows.as_slice())?, None)),
-        Command::UidlAll => Ok((say_uids(alloc, rows.as_slice())?, None)),
-        Command::ListOne(number) => Ok((list_one(alloc, rows, *number)?, None)),
-        Command::UidlOne(number) => Ok((uidl_one(alloc, rows, *number)?, None)),
-        Command::Retr(number) => Ok((retr(alloc, drop, rows, *number)?, None)),
-        Command::Top(number, count) => Ok((top(alloc, drop, rows, *number, *count)?, None)),
-        Command::Dele(number) => Ok((dele(alloc, rows, *number)?, None)),
-        Command::Rset => Ok((rset(alloc, rows)?, None)),
-        Command::Noop => Ok((say(alloc, b"+OK")?, None)),
-        Command::Quit => Ok((quit(alloc, drop, rows.as_slice())?, Some(State::Closed))),
+        Command::User(_) | Command::Pass(_) => Ok(Step::stay(say(alloc, b"-ERR not now")?)),
+        Command::Stat => Ok(Step::stay(say_left(alloc, rows.as_slice())?)),
+        Command::ListAll => Ok(Step::stay(say_sizes(alloc, rows.as_slice())?)),
+        Command::UidlAll => Ok(Step::stay(say_uids(alloc, rows.as_slice())?)),
+        Command::ListOne(number) => Ok(Step::stay(list_one(alloc, rows, *number)?)),
+        Command::UidlOne(number) => Ok(Step::stay(uidl_one(alloc, rows, *number)?)),
+        Command::Retr(number) => {
+            let (bytes, rest) = retr(alloc, drop, rows, *number, limit)?;
+            Ok(Step {
+                bytes,
+                next: None,
+                rest,
+            })
+        }
+        Command::Top(number, count) => {
+            let (bytes, rest) = top(alloc, drop, rows, *number, *count, limit)?;
+            Ok(Step {
+                bytes,
+                next: None,
+                rest,
+            })
+        }
+        Command::Dele(number) => Ok(Step::stay(dele(alloc, rows, *number)?)),
+        Command::Rset => Ok(Step::stay(rset(alloc, rows)?)),
+        Command::Noop => Ok(Step::stay(say(alloc, b"+OK")?)),
+        Command::Quit => Ok(Step::go(quit(alloc, drop, rows.as_slice())?, State::Closed)),
     }
 }

@@ -11,6 +11,9 @@ pub enum ServerFault {
     /// The link refused to write.
     #[error("write failed")]
     WriteFailed,
+    /// The maildrop refused a part of a text of which parts were sent.
+    #[error("maildrop failed")]
+    MaildropFailed,
     /// A growth was refused.
     #[error("out of memory")]
     NoMemory,

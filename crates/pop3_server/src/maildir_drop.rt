@@ -1,7 +1,7 @@
 //! A Maildir in a real folder as a maildrop. Its files are listed as they lie in `cur` and `new`,
 //! those whose names begin with a full stop left out (the Maildir format: a name up to its first
 //! colon stays, and flags follow).
-ghost use Rattle.std.specs.Prelude.{◌≡◌, ◌≤◌, length, map, vec_len, IfOk, IfErr, []};
+ghost use Rattle.std.specs.Prelude.{◌≡◌, ◌≤◌, ◌<◌, ◌+◌, ◌^◌, length, map, vec_len, IfOk, IfErr, []};
 ghost use Rattle.std.specs.String.{string_bytes};
 ghost use Rattle.mail_terms.specs.Distinct.{AreDistinct};
 ghost use Rattle.mail_terms.specs.FailureCount.{Tallies, counted_up, refuses};
@@ -266,6 +266,7 @@ impl<'a, R: Files + Clock + RandomSource + AllocGlobal + Clone + Drop> MaildirDr
     fn read_part(&mut self, i: usize, start: usize, piece: &mut [u8]) -> Result<usize, Unread>
         ensures same { self.new ≡ self.old }
         ensures within { IfOk result (λ n. n ≤ length piece.new) }
+        ensures countable { IfOk result (λ n. start + n < 2 ^ 64) }
     {
         let mut text = match self.open.take() {
             Some(open) => {
@@ -278,8 +279,11 @@ impl<'a, R: Files + Clock + RandomSource + AllocGlobal + Clone + Drop> MaildirDr
             None => self.open_text(i, start)?,
         };
         let n = text.file.read(piece)?;
+        let Some(read) = start.checked_add(n) else {
+            return Err(io::Error::from(ErrorKind::FileTooLarge).into());
+        };
         if n > 0 {
-            text.read = text.read.saturating_add(n);
+            text.read = read;
             self.open = Some(text);
         }
         Ok(n)
@@ -359,6 +363,8 @@ impl<'a, R: Files + Clock + RandomSource + AllocGlobal + Clone + Drop> Maildrop
 
     fn part(&mut self, i: usize, start: usize, piece: &mut [u8]) -> Result<usize, DropFault>
         ensures within { IfOk result (λ n. n ≤ length piece.new) }
+        ensures countable { IfOk result (λ n. start + n < 2 ^ 64) }
+        ensures later { 0 < start → IfErr result (λ e. e ≡ DropFault.Refused) }
         ensures tally { Tallies (refuses is_refusal result) self.old.failures self.new.failures }
         ensures others { self.new ≡ record self.old { failures = self.new.failures } }
     {
@@ -367,7 +373,13 @@ impl<'a, R: Files + Clock + RandomSource + AllocGlobal + Clone + Drop> Maildrop
         }
         match self.read_part(i, start, piece) {
             Ok(n) => Ok(n),
-            Err(unread) => Err(self.refuse(unread.error)),
+            Err(unread) => {
+                if start == 0 {
+                    return Err(self.refuse(unread.error));
+                }
+                self.failures.count_up();
+                Err(DropFault::Refused)
+            }
         }
     }
 

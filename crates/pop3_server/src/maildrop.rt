@@ -1,5 +1,5 @@
 //! Maildrops: messages that a server lists, gives and removes (RFC 1939, section 4).
-ghost use Rattle.std.specs.Prelude.{◌≡◌, ℕ, ◌≤◌, ◌<◌, length, IsTrue, IfOk, IfErr, map, vec_len};
+ghost use Rattle.std.specs.Prelude.{◌≡◌, ℕ, ◌≤◌, ◌<◌, ◌+◌, ◌^◌, length, IsTrue, IfOk, IfErr, map, vec_len};
 ghost use Rattle.mail_terms.specs.UniqueId.{is_legal_id};
 ghost use Rattle.mail_terms.specs.Distinct.{AreDistinct};
 ghost use Rattle.mail_terms.specs.FailureCount.{Tallies, counted_up, refuses};
@@ -122,11 +122,14 @@ pub trait Maildrop {
         ensures gives { sound self.new → sound self.old × Gives (mail self.old) i result (mail self.new) };
 
     /// Puts octets of the text of the message at a place, from the octet `start` on, in front of what
-    /// stands in `piece`, and says how many: 0 only where none are left.
+    /// stands in `piece`, and says how many: 0 only where none are left. Behind the first part, want of
+    /// memory is a refusal as others are.
     fn part(&mut self, i: usize, start: usize, piece: &mut [u8]) -> Result<usize, DropFault>
         requires place { sound self.old → HasPlace (mail self.old) i }
         requires room { 0 < length piece.old }
         ensures within { IfOk result (λ n. n ≤ length piece.new) }
+        ensures countable { IfOk result (λ n. start + n < 2 ^ 64) }
+        ensures later { 0 < start → IfErr result (λ e. e ≡ DropFault.Refused) }
         ensures tally { Tallies (refuses is_refusal result) (mail self.old).failures (mail self.new).failures }
         ensures removes_none { (mail self.new).removals ≡ (mail self.old).removals }
         ensures gives { sound self.new → sound self.old × GivesPart (mail self.old) i start result piece.new (mail self.new) };

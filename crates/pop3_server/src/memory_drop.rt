@@ -1,5 +1,5 @@
 //! A maildrop in memory.
-ghost use Rattle.std.specs.Prelude.{◌≡◌, ◌≤◌, ◌<◌, ◌∷◌, [], ◌++◌, ◌↔◌, ◌==◌, IsTrue, IfOk, IfErr, OnErr, IsOk, map, length, take, drop, vec_len, Some};
+ghost use Rattle.std.specs.Prelude.{◌≡◌, ◌≤◌, ◌<◌, ◌+◌, ◌^◌, ◌∷◌, [], ◌++◌, ◌↔◌, ◌==◌, IsTrue, IfOk, IfErr, OnErr, IsOk, map, length, take, drop, vec_len, Some};
 ghost use Rattle.std.specs.List.{Contains};
 ghost use Rattle.mail_terms.specs.UniqueId.{is_legal_id};
 ghost use Rattle.pop3_wire.specs.World.{Message};
@@ -71,6 +71,7 @@ impl Kept {
         ensures within { result ≤ length piece.new }
         ensures part { take result piece.new ≡ take result (drop start self.now.text) }
         ensures none { result ≡ 0 → length self.now.text ≤ start }
+        ensures countable { start + result < 2 ^ 64 }
     {
         let text = self.text.as_slice();
         if start >= text.len() {

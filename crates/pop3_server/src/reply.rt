@@ -6,6 +6,7 @@ ghost use Rattle.pop3_server.specs.ServerMachine.{said, scan_line, uid_line, lis
 use crate::fault::ServerFault;
 use crate::maildrop::MAX_COUNT;
 use crate::rows::{MessageRow, left};
+use crate::text_part::PART;
 use std::alloc::Global;
 
 /// One line.
@@ -124,14 +125,17 @@ pub fn say_uids(alloc: Global, rows: &[MessageRow]) -> Result<Vec<u8>, ServerFau
     Ok(reply)
 }
 
-/// The line with a message's size, in answer to RETR, and room for its text behind it.
-pub fn begin_text(alloc: Global, row: &MessageRow) -> Result<Vec<u8>, ServerFault>
+/// The line with a message's size, in answer to RETR, and room for its text behind it, as far as the
+/// reply is made up to a limit.
+pub fn begin_text(alloc: Global, row: &MessageRow, limit: usize) -> Result<Vec<u8>, ServerFault>
     ensures ok { IfOk result (λ reply. reply.items ≡ said (octets_line row.now)) }
     ensures err { IfErr result (λ e. e ≡ ServerFault.NoMemory) }
 {
     let size = row.entry.size();
     let mut reply = format!(in alloc; "+OK {size} octets\r\n")?.into_bytes();
-    // The size counts all that is sent but dots that are stuffed in and the end mark.
-    reply.reserve(size as usize + b".\r\n".len())?;
+    // The size counts all that is sent but dots that are stuffed in and the end mark; the last part may
+    // go over the limit.
+    let room = limit.saturating_add(PART).min(size as usize);
+    reply.reserve(room + b".\r\n".len())?;
     Ok(reply)
 }

@@ -1,16 +1,21 @@
 //! The server: a machine that is given lines and gives answers (RFC 1939).
-ghost use Rattle.std.specs.Prelude.{◌≡◌, ◌-◌, ℕ, not, true, None, Ok, IfOk, IfErr};
+ghost use Rattle.std.specs.Prelude.{◌≡◌, ◌≤◌, ◌<◌, ◌+◌, ◌-◌, ◌^◌, ℕ, not, true, false, None, Ok, IfOk, IfErr, IfSome, vec_len, vec_capacity};
+ghost use Rattle.mail_terms.specs.FailureCount.{counted_up};
 ghost use Rattle.pop3_wire.specs.CommandLine.{command_of};
 ghost use Rattle.pop3_server.specs.declared.state.State.TheVariants.{Authorization};
 ghost use Rattle.pop3_server.specs.Events.{event_of};
-ghost use Rattle.pop3_server.specs.ServerMachine.{Answers, Unanswered, deed, greeting, is_open, next_of};
+ghost use Rattle.pop3_server.specs.Maildrop.{HasPlace, refusing};
+ghost use Rattle.pop3_server.specs.ServerMachine.{Answers, Known, Unanswered, deed, greeting, is_open, next_of};
+ghost use Rattle.pop3_server.specs.TextAnswer.{AnswersOrBegins};
+ghost use Rattle.pop3_server.specs.TextBody.{GivesMore, GivesRest};
 
 use crate::commands::{Step, authorize, transact};
 use crate::fault::ServerFault;
 use crate::journal::{Event, event_of};
-use crate::maildrop::Maildrop;
+use crate::maildrop::{DropFault, Maildrop};
 use crate::reply::say;
 use crate::state::State;
+use crate::text_part::{ROOM, TextBody};
 use pop3_wire::{Command, WireFault, read_command};
 use std::alloc::Global;
 use std::marker::Model;
@@ -24,6 +29,15 @@ pub struct Answer {
     pub closing: bool,
     /// What happened by it that one may want to know of.
     pub event: Option<Event>,
+}
+
+/// What a server says to a line, or the front of it where a text goes on behind.
+#[derive(Drop)]
+pub struct Begun {
+    /// All that was made.
+    pub answer: Answer,
+    /// The text that goes on.
+    pub rest: Option<TextBody>,
 }
 
 /// A server of one session, over a maildrop. Contracts see whom it lets in, where it stands, and
@@ -61,22 +75,26 @@ fn is_closed(state: &State) -> bool
 /// Goes to the state that a step leads to, and gives its answer. The maildrop refused so many calls
 /// in this step.
 #[tactic(auto, using(crate::proofs::EventLemmas::event_of_same))]
-fn take(state: &mut State, step: Step, refused: u64) -> Answer
-    ensures state { state.new ≡ next_of state.old step.1 }
-    ensures bytes { result.bytes.items ≡ step.0.items }
-    ensures closing { result.closing ≡ not (is_open state.new) }
-    ensures event { result.event ≡ event_of state.old state.new refused }
+fn take(state: &mut State, step: Step, refused: u64) -> Begun
+    ensures state { state.new ≡ next_of state.old step.next }
+    ensures bytes { result.answer.bytes.items ≡ step.bytes.items }
+    ensures rest { result.rest ≡ step.rest }
+    ensures closing { result.answer.closing ≡ not (is_open state.new) }
+    ensures event { result.answer.event ≡ event_of state.old state.new refused }
 {
-    let (bytes, next) = step;
+    let Step { bytes, next, rest } = step;
     let mut event = None;
     if let Some(next) = next {
         event = event_of(state, &next, refused);
         *state = next;
     }
-    Answer {
-        bytes,
-        closing: is_closed(state),
-        event,
+    Begun {
+        answer: Answer {
+            bytes,
+            closing: is_closed(state),
+            event,
+        },
+        rest,
     }
 }
 
@@ -132,25 +150,49 @@ impl<D: Maildrop> Server<D> {
         ensures err { IfErr result (λ e. (e ≡ ServerFault.NoMemory) × (self.new.state ≡ self.old.state)
             × Unanswered D.sound D.mail self.old.drop self.new.drop) }
     {
+        let Begun { answer, rest } = self.begin(line, usize::MAX)?;
+        match rest {
+            None => Ok(answer),
+            Some(_) => unreachable!(),
+        }
+    }
+
+    /// Begins the answer to a line without its CR LF. It is whole unless it has a text and more than
+    /// `limit` octets: then `go_on` gives what follows. `is_open` tests the condition. NoMemory as by
+    /// `answer`.
+    pub fn begin(&mut self, line: &[u8], limit: usize) -> Result<Begun, ServerFault>
+        requires { is_open self.old.state ≡ true }
+        ensures who { (self.new.user ≡ self.old.user) × (self.new.pass ≡ self.old.pass) }
+        ensures ok { IfOk result (λ begun. AnswersOrBegins D.sound D.mail
+            (deed self.old.user self.old.pass self.old.state (command_of line.now))
+            self.old.drop begun.answer.bytes.items begun.rest self.new.state self.new.drop) }
+        ensures rest { IfOk result (λ begun. IfSome begun.rest (λ _. (limit < 2 ^ 64 - 1) × (self.new.state ≡ self.old.state))) }
+        ensures closing { IfOk result (λ begun. begun.answer.closing ≡ not (is_open self.new.state)) }
+        ensures event { IfOk result (λ begun. begun.answer.event ≡ event_of self.old.state self.new.state
+            ((D.mail self.new.drop).failures - (D.mail self.old.drop).failures)) }
+        ensures err { IfErr result (λ e. (e ≡ ServerFault.NoMemory) × (self.new.state ≡ self.old.state)
+            × Unanswered D.sound D.mail self.old.drop self.new.drop) }
+    {
         match read_command(self.alloc, line) {
-            Ok(command) => self.obey(command),
+            Ok(command) => self.obey(command, limit),
             Err(WireFault::NoMemory) => Err(ServerFault::NoMemory),
             Err(_) => {
-                let step = (say(self.alloc, b"-ERR bad command")?, None);
+                let step = Step::stay(say(self.alloc, b"-ERR bad command")?);
                 Ok(take(&mut self.state, step, 0))
             }
         }
     }
 
-    /// The answer to a command, in the state that the server is in.
-    fn obey(&mut self, command: Command) -> Result<Answer, ServerFault>
+    /// Begins the answer to a command, in the state that the server is in.
+    fn obey(&mut self, command: Command, limit: usize) -> Result<Begun, ServerFault>
         requires { is_open self.old.state ≡ true }
         ensures who { (self.new.user ≡ self.old.user) × (self.new.pass ≡ self.old.pass) }
-        ensures ok { IfOk result (λ answer. Answers D.sound D.mail
+        ensures ok { IfOk result (λ begun. AnswersOrBegins D.sound D.mail
             (deed self.old.user self.old.pass self.old.state (Ok command))
-            self.old.drop answer.bytes.items self.new.state self.new.drop) }
-        ensures closing { IfOk result (λ answer. answer.closing ≡ not (is_open self.new.state)) }
-        ensures event { IfOk result (λ answer. answer.event ≡ event_of self.old.state self.new.state
+            self.old.drop begun.answer.bytes.items begun.rest self.new.state self.new.drop) }
+        ensures rest { IfOk result (λ begun. IfSome begun.rest (λ _. (limit < 2 ^ 64 - 1) × (self.new.state ≡ self.old.state))) }
+        ensures closing { IfOk result (λ begun. begun.answer.closing ≡ not (is_open self.new.state)) }
+        ensures event { IfOk result (λ begun. begun.answer.event ≡ event_of self.old.state self.new.state
             ((D.mail self.new.drop).failures - (D.mail self.old.drop).failures)) }
         ensures err { IfErr result (λ e. (e ≡ ServerFault.NoMemory) × (self.new.state ≡ self.old.state)
             × Unanswered D.sound D.mail self.old.drop self.new.drop) }
@@ -165,11 +207,47 @@ impl<D: Maildrop> Server<D> {
                 kept,
                 command,
             )?,
-            State::Transaction(rows) => transact(self.alloc, &mut self.drop, rows, &command)?,
+            State::Transaction(rows) => transact(
+                self.alloc,
+                &mut self.drop,
+                rows,
+                &command,
+                limit,
+            )?,
             State::Closed => unreachable!(),
         };
         let refused = self.drop.failures().saturating_sub(failures);
         Ok(take(&mut self.state, step, refused))
+    }
+
+    /// Puts what follows of a text into a reply that is empty, until the text has ended or the reply has
+    /// more than `limit` octets; says whether more may come. The reply needs room for `limit` and `ROOM`
+    /// octets; then the only fault is MaildropFailed, where the maildrop refused a part.
+    pub fn go_on(
+        &mut self,
+        text: &mut TextBody,
+        reply: &mut Vec<u8>,
+        limit: usize,
+    ) -> Result<bool, ServerFault>
+        requires place { D.sound self.old.drop → HasPlace (D.mail self.old.drop) text.old.place }
+        requires begun { 0 < text.old.start }
+        requires empty { vec_len reply.old ≡ 0 }
+        requires room { limit + ROOM ≤ vec_capacity reply.old }
+        ensures others { self.new ≡ record self.old { drop = self.new.drop } }
+        ensures capacity { vec_capacity reply.old ≤ vec_capacity reply.new }
+        ensures more { result ≡ Ok true → GivesMore D.sound D.mail false self.old.drop text.old reply.new.items text.new self.new.drop }
+        ensures some { result ≡ Ok true → (text.old.start < text.new.start) × (text.new.start < 2 ^ 64) }
+        ensures end { result ≡ Ok false → GivesRest D.sound D.mail self.old.drop text.old reply.new.items self.new.drop }
+        ensures err { IfErr result (λ e. (e ≡ ServerFault.MaildropFailed)
+            × ((D.mail self.new.drop).failures ≡ counted_up (D.mail self.old.drop).failures)
+            × ((D.mail self.new.drop).removals ≡ (D.mail self.old.drop).removals)
+            × Known D.sound D.mail self.old.drop self.new.drop (λ before after. after ≡ refusing before)) }
+    {
+        match text.put(&mut self.drop, reply, limit) {
+            Ok(more) => Ok(more),
+            Err(DropFault::Refused) => Err(ServerFault::MaildropFailed),
+            Err(DropFault::NoMemory) => unreachable!(),
+        }
     }
 
     /// The maildrop.

@@ -1,15 +1,20 @@
 //! Serving a link: the greeting, and an answer to each line.
-ghost use Rattle.std.specs.Prelude.{◌≡◌, ◌≤◌, ◌<◌, ◌+◌, ◌*◌, ℕ, List, length, true, false, Ok, Err, IfOk, IfErr, IsOk};
+ghost use Rattle.std.specs.Prelude.{◌≡◌, ◌≤◌, ◌<◌, ◌+◌, ◌*◌, ℕ, List, length, not, true, false, Ok, Err, IfOk, IfErr, IsOk, vec_capacity};
 ghost use Rattle.pop3_wire.specs.Link.{CountsFailure, CountsRefusal, Sends, WhereSound};
 ghost use Rattle.pop3_server.specs.ServerMachine.{is_open};
-ghost use Rattle.pop3_server.specs.Serving.{Served, is_refusal};
+ghost use Rattle.pop3_server.specs.Maildrop.{HasPlace};
+ghost use Rattle.pop3_server.specs.Serving.{SendsAnswer, SendsRest, Served, is_refusal};
 
 use crate::fault::ServerFault;
 use crate::intake::{Heard, Intake};
 use crate::journal::{Event, Journal, NoJournal};
 use crate::maildrop::Maildrop;
-use crate::server::Server;
+use crate::server::{Begun, Server};
+use crate::text_part::{ROOM, TextBody};
 use pop3_wire::Wire;
+
+/// How many octets of a text are gathered before they are sent, where more of it follows.
+const CHUNK: usize = 65_536;
 
 /// Sends bytes, all of them at once.
 fn send<W: Wire>(wire: &mut W, bytes: &[u8]) -> Result<(), ServerFault>
@@ -31,14 +36,92 @@ fn tell<J: Journal>(journal: &mut J, event: Option<Event>) {
     }
 }
 
+/// Sends what follows of a text as it is read, each time some of it, by way of a buffer that has room for
+/// this. The faults are WriteFailed, and MaildropFailed where the maildrop refused a part.
+fn send_rest<D: Maildrop, W: Wire>(
+    server: &mut Server<D>,
+    wire: &mut W,
+    text: TextBody,
+    buffer: Vec<u8>,
+) -> Result<(), ServerFault>
+    requires place { D.sound server.old.drop → HasPlace (D.mail server.old.drop) text.place }
+    requires begun { 0 < text.start }
+    requires room { CHUNK + ROOM ≤ vec_capacity buffer }
+    ensures others { server.new ≡ record server.old { drop = server.new.drop } }
+    ensures counted { CountsRefusal is_refusal (W.seen wire.old) result (W.seen wire.new) }
+    ensures removals { (D.mail server.new.drop).removals ≡ (D.mail server.old.drop).removals }
+    ensures sends { WhereSound W.sound W.leads_to wire.old wire.new
+        (SendsRest D.sound D.mail server.old.drop text (W.seen wire.old) result server.new.drop (W.seen wire.new)) }
+{
+    let mut text = text;
+    let mut buffer = buffer;
+    loop {
+        buffer.clear();
+        let more = match server.go_on(&mut text, &mut buffer, CHUNK) {
+            Ok(more) => more,
+            Err(fault) => return Err(fault),
+        };
+        if let Err(fault) = send(wire, buffer.as_slice()) {
+            return Err(fault);
+        }
+        if !more {
+            return Ok(());
+        }
+    }
+}
+
+/// Answers a line, and says whether the session is over. A text that is long is sent as it is read.
+fn answer_line<D: Maildrop, W: Wire, J: Journal>(
+    server: &mut Server<D>,
+    wire: &mut W,
+    journal: &mut J,
+    line: &[u8],
+) -> Result<bool, ServerFault>
+    requires { is_open server.old.state ≡ true }
+    ensures counted { CountsRefusal is_refusal (W.seen wire.old) result (W.seen wire.new) }
+    ensures closing { IfOk result (λ closing. closing ≡ not (is_open server.new.state)) }
+    ensures removals { is_open server.new.state ≡ true
+        → (D.mail server.new.drop).removals ≡ (D.mail server.old.drop).removals }
+    ensures answers { WhereSound W.sound W.leads_to wire.old wire.new
+        (SendsAnswer D.sound D.mail server.old line.now (W.seen wire.old) result server.new (W.seen wire.new)) }
+{
+    let Begun { answer, rest } = match server.begin(line, CHUNK) {
+        Ok(begun) => begun,
+        Err(fault) => return Err(fault),
+    };
+    tell(journal, answer.event);
+    let closing = answer.closing;
+    let mut bytes = answer.bytes;
+    let Some(text) = rest else {
+        return match send(wire, bytes.as_slice()) {
+            Ok(()) => Ok(closing),
+            Err(fault) => Err(fault),
+        };
+    };
+    // Room for what follows is had before anything is sent.
+    let room = (CHUNK + ROOM).saturating_sub(bytes.len());
+    if bytes.reserve(room).is_err() {
+        return Err(ServerFault::NoMemory);
+    }
+    if let Err(fault) = send(wire, bytes.as_slice()) {
+        return Err(fault);
+    }
+    match send_rest(server, wire, text, bytes) {
+        Ok(()) => Ok(closing),
+        Err(fault) => Err(fault),
+    }
+}
+
 /// Serves a link: sends the greeting, then an answer to each line, until QUIT or the end of input.
-/// Each answer is sent whole before the link is asked for more.
+/// Each answer is sent whole before the link is asked for more, a long text as it is read, so that the
+/// memory that is wanted doesn't grow with it.
 ///
 /// A line longer than 512 octets, its CR LF included, is read to its CR LF and answered
 /// `-ERR bad command`. At most 16,777,216 octets are read; then it is as at the end of input.
 /// `Server::is_open` tests the condition. ReadFailed and WriteFailed where the link refused,
-/// NoMemory where a growth was refused: after a fault nothing more is sent, and nothing is removed
-/// that QUIT hadn't removed.
+/// MaildropFailed where the maildrop refused a part of a text of which parts were sent, NoMemory where
+/// a growth was refused, before anything of the answer was sent: after a fault nothing more is sent, and
+/// nothing is removed that QUIT hadn't removed.
 pub fn serve<D: Maildrop, W: Wire>(server: &mut Server<D>, wire: &mut W) -> Result<(), ServerFault>
     requires { is_open server.old.state ≡ true }
     ensures counted { CountsRefusal is_refusal (W.seen wire.old) result (W.seen wire.new) }
@@ -85,16 +168,13 @@ pub fn serve_and_note<D: Maildrop, W: Wire, J: Journal>(
                 }
             }
             Heard::Line(length) => {
-                let answer = match server.answer(&intake.waiting()[..length]) {
-                    Ok(answer) => answer,
+                let line = &intake.waiting()[..length];
+                let closing = match answer_line(server, wire, journal, line) {
+                    Ok(closing) => closing,
                     Err(fault) => return Err(fault),
                 };
-                tell(journal, answer.event);
                 intake.skip(length + 2);
-                if let Err(fault) = send(wire, answer.bytes.as_slice()) {
-                    return Err(fault);
-                }
-                if answer.closing {
+                if closing {
                     return Ok(());
                 }
             }

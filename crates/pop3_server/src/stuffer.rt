@@ -1,5 +1,5 @@
 //! The body of a text that comes piece by piece, dot-stuffed (RFC 1939, section 3).
-ghost use Rattle.std.specs.Prelude.{◌≡◌, ◌++◌, false, IfOk};
+ghost use Rattle.std.specs.Prelude.{◌≡◌, ◌≤◌, ◌+◌, ◌*◌, ◌++◌, length, false, IfOk, IsOk, vec_len, vec_capacity};
 ghost use Rattle.pop3_server.specs.TextPiece.{is_open_after, sent_end, sent_piece, stuffing};
 
 use crate::text_line::cut_line;
@@ -21,7 +21,10 @@ impl Stuffer {
 
     /// Puts what stands in front of some octets of a line.
     fn put_stuffing(self, body: &mut Vec<u8>, octets: &[u8]) -> Result<(), AllocError>
-        ensures { IfOk result (λ _. body.new.items ≡ body.old.items ++ stuffing self.in_line octets.now) }
+        ensures body { IfOk result (λ _. body.new.items ≡ body.old.items ++ stuffing self.in_line octets.now) }
+        ensures len { IfOk result (λ _. vec_len body.new ≡ vec_len body.old + length (stuffing self.in_line octets.now)) }
+        ensures capacity { vec_capacity body.old ≤ vec_capacity body.new }
+        ensures room { vec_len body.old + length octets.now ≤ vec_capacity body.old → IsOk result }
     {
         if self.in_line {
             return Ok(());
@@ -36,6 +39,8 @@ impl Stuffer {
     pub fn put(&mut self, body: &mut Vec<u8>, piece: &[u8]) -> Result<(), AllocError>
         ensures body { IfOk result (λ _. body.new.items ≡ body.old.items ++ sent_piece self.old.in_line piece.now) }
         ensures in_line { IfOk result (λ _. self.new.in_line ≡ is_open_after self.old.in_line piece.now) }
+        ensures capacity { vec_capacity body.old ≤ vec_capacity body.new }
+        ensures room { vec_len body.old + 2 * length piece.now ≤ vec_capacity body.old → IsOk result }
     {
         let mut rest = piece;
         while let Some((line, after)) = cut_line(rest) {
@@ -56,7 +61,9 @@ impl Stuffer {
 
     /// Ends the body: the text's last line, where it has no LF, and the end mark.
     pub fn end(self, body: &mut Vec<u8>) -> Result<(), AllocError>
-        ensures { IfOk result (λ _. body.new.items ≡ body.old.items ++ sent_end self.in_line) }
+        ensures body { IfOk result (λ _. body.new.items ≡ body.old.items ++ sent_end self.in_line) }
+        ensures capacity { vec_capacity body.old ≤ vec_capacity body.new }
+        ensures room { vec_len body.old + 5 ≤ vec_capacity body.old → IsOk result }
     {
         if self.in_line {
             body.extend_from_slice(b"\r\n")?;

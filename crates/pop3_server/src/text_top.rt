@@ -1,5 +1,5 @@
 //! The top of a text that comes piece by piece (RFC 1939, section 7).
-ghost use Rattle.std.specs.Prelude.{◌≡◌, ◌==◌, ◌<◌, ◌↔◌, ◌||◌, length, not, ◌++◌, ◌∷◌, ℕ, List, IsTrue, true, false};
+ghost use Rattle.std.specs.Prelude.{◌≡◌, ◌==◌, ◌<◌, ◌≤◌, ◌↔◌, ◌||◌, length, not, ◌++◌, ◌∷◌, ℕ, List, IsTrue, true, false};
 ghost use Rattle.mail_terms.specs.Text.{HasNoLf};
 ghost use Rattle.pop3_server.specs.TextPiece.{taken, top_begun};
 
@@ -59,7 +59,8 @@ impl Top {
 
     /// The octets of a piece of the text that belong to its top.
     pub fn take<'a>(&mut self, piece: &'a [u8]) -> &'a [u8]
-        ensures { (rest : List ℕ) → taken self.old (piece.now ++ rest) ≡ result.now ++ taken self.new rest }
+        ensures taken { (rest : List ℕ) → taken self.old (piece.now ++ rest) ≡ result.now ++ taken self.new rest }
+        ensures within { length result.now ≤ length piece.now }
     {
         let mut rest = piece;
         while !self.is_done() {

@@ -3,5 +3,6 @@
 mod endless;
 mod lock_step;
 pub mod memory_drop;
+mod refused_parts;
 mod serving;
 mod text_calls;

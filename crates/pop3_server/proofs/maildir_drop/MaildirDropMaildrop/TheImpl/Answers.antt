@@ -22,6 +22,8 @@ text-tells g c = record {
 pub part-tells : goal.part-tells
 part-tells g c = record {
   within = c.ensures.within;
+  countable = c.ensures.countable;
+  later = c.ensures.later;
   tally = c.ensures.tally;
   removes_none = ap (λ (maildir : RealMaildir). maildir.removals) c.ensures.others;
   gives = λ sound. absurd sound;

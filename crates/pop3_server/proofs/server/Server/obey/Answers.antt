@@ -13,7 +13,7 @@ returns-clause-event g c =
       | in-Authorization+in_ok-step-in-Authorization w ↦ event_is _ _ _ _ _ _ _ c.take.ensures.event (ap (λ s. s.state) w.self-inside-is ∙ sym w.in-Authorization.is ∙ kept) count
       | in-Transaction+in_ok-step-in-Transaction w ↦
           event_is _ _ _ _ _ _ _
-          (event_after _ _ _ _ w.in-Transaction.rows w.transact.new.rows w.in_ok-step-in-Transaction.step.1 _ (ap (λ s. s.state) w.self-inside-is) (sym kept ∙ w.in-Transaction.is)
-          (c.take.ensures.state ∙ ap (λ step. next_of c.match-self.self-inside.state step.1) w.step-is) w.in_ok-step-in-Transaction.ensures.keeps c.take.ensures.event)
+          (event_after _ _ _ _ w.in-Transaction.rows w.transact.new.rows w.in_ok-step-in-Transaction.step.next _ (ap (λ s. s.state) w.self-inside-is) (sym kept ∙ w.in-Transaction.is)
+          (c.take.ensures.state ∙ ap (λ step. next_of c.match-self.self-inside.state step.next) w.step-is) w.in_ok-step-in-Transaction.ensures.keeps c.take.ensures.event)
           refl count
     ]

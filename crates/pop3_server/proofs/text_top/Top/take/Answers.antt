@@ -15,8 +15,8 @@ loop-rest-preserved c =
           cut.1 (so_far.2 rest) (c.end_line.ensures cut.0 (after ++ rest)),
     )
 
-pub returns-in-None : goal.returns-in-None
-returns-in-None c = λ rest.
+pub returns-in-None-clause-taken : goal.returns-in-None-clause-taken
+returns-in-None-clause-taken c = λ rest.
     let so_far = c.loop-rest.invariant in
     let self = c.loop-rest.self in
     let piece = c.loop-rest.rest.now in
@@ -26,8 +26,8 @@ returns-in-None c = λ rest.
     takes_rest self.in_head self.in_line opened self.left piece rest c.in-None.ensures.cut more c.is_open_behind-self.ensures in
     went_all (taken c.args.self.now) (taken self) (top_octets self.in_head opened self.left) c.args.piece.now so_far.0 piece rest so_far.1 (so_far.2 rest) step
 
-pub returns : goal.returns
-returns c = λ rest.
+pub returns-clause-taken : goal.returns-clause-taken
+returns-clause-taken c = λ rest.
     let so_far = c.loop-rest.invariant in
     let self = c.loop-rest.self in
     let done = c.is_done.ensures.0 c.loop-rest-test.false in
