@@ -151,15 +151,20 @@ class Listings:
                     client.sendall(self.replies.get(line.strip(), b"+OK\r\n"))
 
 
-def poll(folder, count, is_held):
-    """The least processor time and the greatest peak of a poll with so many messages known."""
-    server = Listings(count)
+def account_knowing(folder, server, count, is_held):
+    """An account that knows so many messages of the server, by its record or by its Maildir too; the words of a run."""
     words = account_at(folder, server.port)
     digest = hashlib.sha256(f"{LOOPBACK}\0{server.port}\0u".encode()).hexdigest()
     rows = b"".join(b"%s 1700000000 1\n" % uid_of(number) for number in range(1, count + 1))
     (folder / "account" / f"seen-{digest}").write_bytes(b"getmail-seen 2\n" + rows)
     for number in range(1, count + 1) if is_held else ():
         (folder / "account" / "Maildir" / "cur" / f"{digest}.{uid_of(number).hex()}:2,S").touch()
+    return words
+
+
+def poll(folder, count, is_held):
+    """The least processor time and the greatest peak of a poll with so many messages known."""
+    words = account_knowing(folder, Listings(count), count, is_held)
     costs = [measure.cost_of(words, wait=measure.watch) for _ in range(TURNS)]
     return min(cost.processor for cost in costs), max(cost.memory for cost in costs)
 

@@ -1,0 +1,141 @@
+#!/usr/bin/env python3
+"""Benchmark of `getmail` beside mpop, where that is installed, in one run and in turns, mpop with pipelining off.
+
+Polls where 20,000 and 100,000 messages are known and nothing is new: those that the record alone knows, and those that
+stand in the Maildir too (mpop looks into no Maildir). To be reached: at most mpop's processor time and 1.3 of its memory, and
+a growth from 20,000 to 100,000 that is linear within a tenth.
+
+Then fetches of 2,000, 20,000 and 100,000 messages of 400 octets from `popd` into a Maildir in memory (tmpfs, the folder
+/dev/shm or the first word), where no disk's waits count. To be reached: at most mpop's processor time.
+"""
+
+import importlib.util
+import os
+import shutil
+import sys
+import tempfile
+from pathlib import Path
+
+import measure
+from harness.kernel import LOOPBACK
+from harness.maildir import make_maildir
+
+# By its path, since its name is also that of a package of the tests.
+SPEC = importlib.util.spec_from_file_location("fetching", Path(__file__).with_name("getmail.py"))
+ours = importlib.util.module_from_spec(SPEC)
+SPEC.loader.exec_module(ours)
+
+TURNS = 5
+POLLS = (20_000, 100_000)
+FETCHES = (2_000, 20_000, 100_000)
+OCTETS = 400
+MOST_MEMORY = 1.3
+MOST_GROWTH = 1.1
+MPOP = ["mpop", "--file=/dev/null", "--user=u", "--passwordeval=echo p", "--tls=off", "--auth=user", "--quiet",
+        "--received-header=off", "--pipelining=off", "--keep=on", "--only-new=on"]
+
+
+class Letters(ours.Listings):
+    """A server that lists messages and gives each of them, one empty line, so that mpop gets to know them."""
+
+    def __init__(self, count):
+        super().__init__(count)
+        self.replies.update({b"RETR %d" % number: b"+OK\r\n\r\n.\r\n" for number in range(1, count + 1)})
+
+
+def mpop_at(folder, port):
+    """The words of a run of mpop into a Maildir of the folder."""
+    return [*MPOP, f"--host={LOOPBACK}", f"--port={port}", f"--delivery=maildir,{folder}/mpop", f"--uidls-file={folder}/uidls"]
+
+
+def known_to_mpop(folder, server):
+    """An mpop that has fetched all that the server lists."""
+    shutil.rmtree(folder / "mpop", ignore_errors=True)
+    (folder / "uidls").unlink(missing_ok=True)
+    make_maildir(folder / "mpop")
+    words = mpop_at(folder, server.port)
+    measure.cost_of(words)
+    return words
+
+
+def in_turns(ours, theirs):
+    """What the runs of both cost, by turns; each word list is made anew for its run."""
+    costs = [(measure.cost_of(ours(), wait=measure.watch), measure.cost_of(theirs(), wait=measure.watch)) for _ in range(TURNS)]
+    return tuple(zip(*costs))
+
+
+def least(costs):
+    return min(cost.processor for cost in costs)
+
+
+def greatest_memory(costs):
+    return max(cost.memory for cost in costs)
+
+
+def print_costs(name, ours, theirs):
+    """Prints a row of both programs' costs, and answers the ratios of processor time and of memory."""
+    ratio, memory = least(ours) / least(theirs), greatest_memory(ours) / greatest_memory(theirs)
+    measure.print_row(name, f"{least(ours) * 1000:.0f} ms", f"{least(theirs) * 1000:.0f} ms", f"{ratio:.2f}",
+                      f"{greatest_memory(ours) / measure.MEBIBYTE:.1f} MiB", f"{greatest_memory(theirs) / measure.MEBIBYTE:.1f} MiB",
+                      f"{memory:.2f}")
+    return ratio, memory
+
+
+def measure_polls(folder, memory_folder):
+    """Polls by the record alone and with the Maildir; answers whether all marks were reached."""
+    reached = []
+    for is_held in (False, True):
+        times = []
+        for count in POLLS:
+            server = Letters(count)
+            known_to_mpop(memory_folder, server)
+            shutil.copy(memory_folder / "uidls", folder / "uidls")
+            make_maildir(folder / "mpop") if not (folder / "mpop").is_dir() else None
+            words = ours.account_knowing(folder, server, count, is_held)
+            costs = in_turns(lambda words=words: words, lambda server=server: mpop_at(folder, server.port))
+            ratio, memory = print_costs(f"{count:,}{', held' if is_held else ''}", *costs)
+            times.append(least(costs[0]))
+            reached.append(ratio <= 1 and memory <= MOST_MEMORY)
+        growth = times[1] / times[0] / (POLLS[1] / POLLS[0])
+        print(f"growth of a message's time from {POLLS[0]:,} to {POLLS[1]:,}: {growth:.2f}", flush=True)
+        reached.append(growth <= MOST_GROWTH)
+    return all(reached)
+
+
+def fresh_mpop(folder, port):
+    """The words of a first run of mpop."""
+    shutil.rmtree(folder / "mpop", ignore_errors=True)
+    (folder / "uidls").unlink(missing_ok=True)
+    make_maildir(folder / "mpop")
+    return mpop_at(folder, port)
+
+
+def measure_fetches(folder):
+    """Fetches into a Maildir in memory; answers whether all marks were reached."""
+    reached = []
+    for count in FETCHES:
+        ours.make_served(folder, count, OCTETS)
+        with ours.Service(folder) as service:
+            costs = in_turns(lambda port=service.port: ours.account_at(folder, port), lambda port=service.port: fresh_mpop(folder, port))
+        if ours.fetched(folder / "account" / "Maildir") != ours.fetched(folder / "mpop") and count != ours.fetched(folder / "mpop")[0]:
+            sys.exit(f"{count}: not all was fetched")
+        ratio, _ = print_costs(f"{count:,}", *costs)
+        reached.append(ratio <= 1)
+    return all(reached)
+
+
+def main():
+    if shutil.which("mpop") is None:
+        sys.exit("mpop is not installed")
+    memory = Path(sys.argv[1] if len(sys.argv) > 1 else "/dev/shm")
+    print(f"getmail beside mpop, best of {TURNS}; load {os.getloadavg()[0]:.1f}")
+    with tempfile.TemporaryDirectory(prefix="mpop-", dir=".") as name, tempfile.TemporaryDirectory(prefix="mpop-", dir=memory) as fast:
+        head = ("processor time", "mpop's", "ratio", "peak of memory", "mpop's", "ratio")
+        measure.print_head("poll", *head)
+        print(f"polls: {measure.verdict(measure_polls(Path(name).resolve(), Path(fast).resolve()))}")
+        measure.print_head("fetch on tmpfs", *head)
+        print(f"fetches: {measure.verdict(measure_fetches(Path(fast).resolve()))}")
+
+
+if __name__ == "__main__":
+    main()
