@@ -38,7 +38,7 @@ class Progress:
     """How far the proofs are, read from what `rt` prints."""
 
     def __init__(self):
-        self.crate = "what they are made of"
+        self.crate = "starting"
         self.part = ""
         self.all = crates_of_programs()
         self.done = set()
@@ -97,7 +97,7 @@ def start_popd(folder):
         probe.bind(("127.0.0.1", 0))
         port = probe.getsockname()[1]
     words = ["--listen", f"127.0.0.1:{port}", "fred", "password", "served"]
-    say(f"\n1. popd serves a Maildir with one message to Fred.\n$ popd {' '.join(words)}")
+    say(f"\n1. popd serves a Maildir with one message to Fred.\n$ env popd {' '.join(words)}")
     process = subprocess.Popen([TOP / "bin/popd", *words], cwd=folder)
     deadline = time.monotonic() + SECONDS_TO_START
     while process.poll() is None and time.monotonic() < deadline:

@@ -262,7 +262,7 @@ class Demo(Copied):
     def test_the_message_is_fetched_and_then_known(self):
         before = sorted(self.top.rglob("*"))
         told = self.make("demo", PATH=str(self.path_without_rt()))
-        for part in ("$ popd --listen 127.0.0.1:", "delivered\n", "1 messages (", "Subject: hello\n", "It works.\n",
+        for part in ("$ env popd --listen 127.0.0.1:", "delivered\n", "1 messages (", "Subject: hello\n", "It works.\n",
                      "0 messages (0 bytes) retrieved, 1 skipped, 0 deleted\n", "popd has ended"):
             self.assertIn(part, told)
             told = told[told.index(part):]
@@ -330,7 +330,7 @@ class Readme(unittest.TestCase):
             self.assertEqual((done.returncode, done.stderr), (0, ""))
             self.assertEqual(len(os.listdir(Path(home) / "Maildir/new")), len(messages))
             self.assertEqual(stat.S_IMODE((Path(home) / ".getmail/getmailrc").stat().st_mode), 0o600)
-        self.assertIn("flock -n ~/.getmail/lock getmail -q", lines[-1])
+        self.assertIn("flock -n ~/.getmail/lock $(command -v getmail) -q", lines[-1])
 
 
 class Cron(unittest.TestCase):
