@@ -180,6 +180,7 @@ fn fault_of_error(error: &Error) -> WordsFault
 /// What these words ask for, the program's name first.
 pub fn read_words(alloc: Global, words: &[String]) -> Result<Words, WordsFault>
     ensures asks { IfOk result (AsksFor (matches_of getmail (map string_bytes words.now))) }
+    ensures faultless { IfOk result (λ _. fault_of getmail (map string_bytes words.now) ≡ []) }
     ensures passes { fault_of getmail (map string_bytes words.now) ≡ [] → IfErr result (λ fault. fault ≡ WordsFault.NoMemory) }
     ensures help { result ≡ Err WordsFault.Help → IsHelp (fault_of getmail (map string_bytes words.now)) }
     ensures usage { result ≡ Err WordsFault.Usage → IsMistake (fault_of getmail (map string_bytes words.now)) }

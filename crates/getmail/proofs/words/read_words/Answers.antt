@@ -1,4 +1,4 @@
-use Rattle.std.proofs.Common.{◌∙◌, List, ap, map, rules, subst}
+use Rattle.std.proofs.Common.{◌∙◌, List, ap, map, rules, subst, sym}
 use Rattle.std.specs.String.{string_bytes}
 use Rattle.clap.specs.Kinds.{HasKind}
 use Rattle.clap.specs.Words.{App, Row, fault_of, is_simple_and_free}
@@ -10,6 +10,11 @@ pub returns-in_ok-words_of-in-Ok-clause-asks : goal.returns-in_ok-words_of-in-Ok
 returns-in_ok-words_of-in-Ok-clause-asks c =
     subst (λ (rows : List Row). AsksFor rows c.in_ok-words_of-in-Ok.field-0)
     (rows_are _ _ c.in-Ok.matches c.in_ok-command.ensures c.in-Ok.ensures.matches) c.in_ok-words_of-in-Ok.ensures
+
+pub returns-in_ok-words_of-in-Ok-clause-faultless : goal.returns-in_ok-words_of-in-Ok-clause-faultless
+returns-in_ok-words_of-in-Ok-clause-faultless c =
+    ap (λ (app : App). fault_of app (map string_bytes c.args.words.now)) (sym c.in_ok-command.ensures)
+    ∙ c.in-Ok.ensures.kinds (ap is_simple_and_free c.in_ok-command.ensures ∙ getmail_is_free)
 
 pub returns-in-Err-clause-usage : goal.returns-in-Err-clause-usage
 returns-in-Err-clause-usage c told =
