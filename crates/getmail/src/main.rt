@@ -23,7 +23,7 @@ use crate::shown_wire::ShownWire;
 use crate::words::{Words, WordsFault, command, read_words};
 use fetch_rules::RcFault;
 use fetch_session::{Account, Store};
-use mail_store::{FolderMaildir, HostFile, ProcessMark};
+use folder_store::{FolderMaildir, HostFile, ProcessMark};
 use pop3_wire::StreamWire;
 use std::env;
 use std::hash::RandomState;
@@ -73,8 +73,8 @@ fn fetch(rt: &HostRuntime, setup: Setup) -> u8
         None
     };
     let mut wire = ShownWire::new(rt.alloc(), StreamWire::new(&stream, &stream), screen);
-    let store = Store::Maildir(FolderMaildir::at(rt, maildir, mark));
-    let record = HostFile::by_pages(rt, record, mark);
+    let store = Store::Maildir(FolderMaildir::at(rt, maildir.as_str(), mark));
+    let record = HostFile::by_pages(rt, record.as_str(), mark);
     let mut account = Account::new(rt.alloc(), settings, store, record, hasher);
     let fetched = fetch_into(
         rt.alloc(),

@@ -77,7 +77,3 @@ Replaces old bytes (Err fault) new = (new ≡ counted old) ⊎ (new ≡ counted 
 -- the file is there, and has at least this many bytes
 abbrev pub HasBytes : Stored → ℕ → Type 0
 HasBytes stored len = (was : List ℕ) × (stored.content ≡ Some was) × (len ≤ length was)
-
--- what is known of a file of the file system: how many calls were refused, and nothing else
-abbrev pub unknown_file : ℕ → Stored
-unknown_file failures = record { content = None; failures = failures }

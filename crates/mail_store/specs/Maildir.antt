@@ -136,21 +136,6 @@ Moves old name suffix (Ok false) new =
     (new ≡ old) × ((IsInNew old name → ⊥) ⊎ Contains (names_of old.in_cur) (name ++ suffix))
 Moves old name suffix (Err e) new = new ≡ old
 
--- a file of this name, whose bytes aren't known
-abbrev pub file_named : List ℕ → File
-file_named name = file name []
-
--- what is known of a Maildir of the file system: the name of the file that is being written, if there
--- is one, and how many calls were refused
-abbrev pub unknown_maildir : Option File → ℕ → Maildir
-unknown_maildir begun failures = record {
-  there = record { tmp = false; new = false; cur = false };
-  in_new = [];
-  in_cur = [];
-  begun = begun;
-  failures = failures;
-}
-
 -- all three folders are there
 abbrev pub all_there : Folders
 all_there = record { tmp = true; new = true; cur = true }

@@ -1,5 +1,4 @@
 //! Devices that keep one file.
 
 pub mod flat_file;
-pub mod host;
 pub mod memory;

@@ -7,19 +7,15 @@ mod file;
 mod fused;
 mod maildir;
 mod mboxrd;
-mod process_mark;
 mod refusal;
-mod system;
 
 pub use account::{AccountId, account_id, account_texts_are_digits};
 pub use fault::StoreFault;
 pub use file::flat_file::{Edges, FlatFile};
-pub use file::host::HostFile;
 pub use file::memory::MemoryFile;
 pub use fused::Fused;
 pub use maildir::delivery::deliver;
 pub use maildir::disk::{Folder, MaildirDisk};
-pub use maildir::folder::FolderMaildir;
 pub use maildir::held::{flags_tell_what_is_held, held};
 pub use maildir::memory::MemoryMaildir;
 pub use maildir::names::{
@@ -32,4 +28,4 @@ pub use mboxrd::entry::{
 };
 pub use mboxrd::quoting::{is_whole, quote, unquote, unquoting_undoes_quoting};
 pub use mboxrd::reading::read_mbox;
-pub use process_mark::ProcessMark;
+pub use refusal::{admit, refuse};

@@ -2,7 +2,6 @@
 
 pub mod delivery;
 pub mod disk;
-pub mod folder;
 pub mod held;
 pub mod memory;
 pub mod names;

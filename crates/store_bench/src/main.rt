@@ -8,9 +8,8 @@ ghost use Rattle.std.specs.Prelude.{◌≡◌, IfOk, length};
 mod mbox;
 
 use anyhow::{Result, ensure};
-use mail_store::{
-    FlatFile, FolderMaildir, HostFile, ProcessMark, account_id, deliver, file_name, held,
-};
+use folder_store::{FolderMaildir, HostFile, ProcessMark};
+use mail_store::{FlatFile, account_id, deliver, file_name, held};
 use mail_terms::{Listing, ScanRow, UidRow, have_legal_ids, is_legal_id};
 use std::alloc::Global;
 use std::env;
@@ -47,7 +46,7 @@ fn time_held(rt: &HostRuntime, path: &str, count: u32) -> Result<()> {
     let alloc = rt.alloc();
     let account = account_id("bench", 110, "bench");
     let listing = listing_of(alloc, count)?;
-    let mut disk = FolderMaildir::at(rt, String::from_str(alloc, path)?, mark_of(rt)?);
+    let mut disk = FolderMaildir::at(rt, path, mark_of(rt)?);
     let start = Instant::now(rt)?;
     let used = rt.process_cpu_time()?;
     let flags = held(alloc, &mut disk, &account, &listing)?;
@@ -64,7 +63,7 @@ fn time_deliver(rt: &HostRuntime, path: &str, count: u32) -> Result<()> {
     let alloc = rt.alloc();
     let account = account_id("bench", 110, "bench");
     let text = [b'x'; 2048];
-    let mut disk = FolderMaildir::at(rt, String::from_str(alloc, path)?, mark_of(rt)?);
+    let mut disk = FolderMaildir::at(rt, path, mark_of(rt)?);
     let start = Instant::now(rt)?;
     let used = rt.process_cpu_time()?;
     for number in 1..=count {
@@ -83,7 +82,7 @@ fn time_deliver(rt: &HostRuntime, path: &str, count: u32) -> Result<()> {
 /// `count` times.
 fn rewrite(rt: &HostRuntime, path: &str, count: u32) -> Result<()> {
     let text = [b'x'; 2048];
-    let mut file = HostFile::at(rt, String::from_str(rt.alloc(), path)?, mark_of(rt)?);
+    let mut file = HostFile::at(rt, path, mark_of(rt)?);
     for _ in 0..count {
         file.replace(text.as_slice())?;
         file.append(text.as_slice())?;
@@ -96,7 +95,6 @@ fn rewrite(rt: &HostRuntime, path: &str, count: u32) -> Result<()> {
 /// Puts one text of `count` bytes behind a file, page by page as a record's.
 fn append_pages(rt: &HostRuntime, path: &str, count: u32) -> Result<()> {
     let text = Vec::from_elem(rt.alloc(), b'x', count as usize)?;
-    let path = String::from_str(rt.alloc(), path)?;
     let mut file = HostFile::by_pages(rt, path, mark_of(rt)?);
     file.edges()?;
     file.append(&text)?;
@@ -109,10 +107,8 @@ fn sweep(rt: &HostRuntime, path: &str) -> Result<()> {
     let alloc = rt.alloc();
     let mark = mark_of(rt)?;
     let record = format!(in alloc; "{path}/seen")?;
-    HostFile::by_pages(rt, record, mark).sweep();
-    FolderMaildir::at(rt, String::from_str(alloc, path)?, mark).sweep(&account_id(
-        "bench", 110, "bench",
-    ));
+    HostFile::by_pages(rt, record.as_str(), mark).sweep();
+    FolderMaildir::at(rt, path, mark).sweep(&account_id("bench", 110, "bench"));
     Ok(())
 }
 

@@ -2,7 +2,8 @@
 
 use crate::mark_of;
 use anyhow::{Result, ensure};
-use mail_store::{FlatFile, HostFile, append_entry, is_whole, quote, read_mbox};
+use folder_store::HostFile;
+use mail_store::{FlatFile, append_entry, is_whole, quote, read_mbox};
 use std::fs;
 use std::time::{CpuClock, Instant};
 
@@ -13,7 +14,7 @@ pub fn append(rt: &HostRuntime, path: &str, count: u32) -> Result<()> {
     let beside = format!(in alloc; "{path}.text")?;
     let text = fs::read(rt, beside.as_str())?;
     ensure!(is_whole(&text), "a text whose last line isn't ended");
-    let mut file = HostFile::at(rt, String::from_str(alloc, path)?, mark_of(rt)?);
+    let mut file = HostFile::at(rt, path, mark_of(rt)?);
     for _ in 0..count {
         append_entry(alloc, &mut file, &text)?;
     }
@@ -25,7 +26,7 @@ pub fn append(rt: &HostRuntime, path: &str, count: u32) -> Result<()> {
 /// the processor.
 pub fn time_texts(rt: &HostRuntime, path: &str) -> Result<()> {
     let alloc = rt.alloc();
-    let mut file = HostFile::at(rt, String::from_str(alloc, path)?, mark_of(rt)?);
+    let mut file = HostFile::at(rt, path, mark_of(rt)?);
     let bytes = file.load()?;
     let start = Instant::now(rt)?;
     let used = rt.process_cpu_time()?;

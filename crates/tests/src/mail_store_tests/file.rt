@@ -1,7 +1,8 @@
 //! Files of the file system, with ample memory. What `replace`, `append` and `cut_to` ask of it is
 //! watched by the tests from outside.
 
-use mail_store::{Edges, FlatFile, HostFile, ProcessMark, StoreFault};
+use folder_store::{HostFile, ProcessMark};
+use mail_store::{Edges, FlatFile, StoreFault};
 use std::alloc::Global;
 use std::fs;
 use std::test::Fail;
@@ -22,11 +23,7 @@ pub fn text_of(alloc: Global, letter: u8, count: usize) -> Result<Vec<u8>, Fail>
 
 #[test]
 fn a_full_disk_refuses(rt: HostRuntime) -> Result<(), Fail> {
-    let mut file = HostFile::at(
-        &rt,
-        String::from_str(rt.alloc(), "/dev/full")?,
-        mark_of(&rt)?,
-    );
+    let mut file = HostFile::at(&rt, "/dev/full", mark_of(&rt)?);
     assert_eq!(rt; file.append(b"x"), Err(StoreFault::Refused));
     assert_eq!(rt; file.failures(), 1);
     Ok(())
@@ -34,11 +31,7 @@ fn a_full_disk_refuses(rt: HostRuntime) -> Result<(), Fail> {
 
 /// What a file holds once one text replaced what stood there, and another was appended.
 fn kept(rt: &HostRuntime, replaced: &[u8], appended: &[u8]) -> Result<Vec<u8>, Fail> {
-    let mut file = HostFile::at(
-        rt,
-        String::from_str(rt.alloc(), "long_texts")?,
-        mark_of(rt)?,
-    );
+    let mut file = HostFile::at(rt, "long_texts", mark_of(rt)?);
     file.replace(b"old")?;
     file.replace(replaced)?;
     file.append(appended)?;
@@ -60,8 +53,7 @@ fn keeps_long_texts(rt: HostRuntime) -> Result<(), Fail> {
 #[test]
 fn appends_by_pages(rt: HostRuntime) -> Result<(), Fail> {
     let text = text_of(rt.alloc(), b'y', 10_000)?;
-    let path = String::from_str(rt.alloc(), "by_pages")?;
-    let mut file = HostFile::by_pages(&rt, path, mark_of(&rt)?);
+    let mut file = HostFile::by_pages(&rt, "by_pages", mark_of(&rt)?);
     file.replace(b"first")?;
     file.append(text.as_slice())?;
     file.append(b"")?;
@@ -74,7 +66,7 @@ fn appends_by_pages(rt: HostRuntime) -> Result<(), Fail> {
 
 /// The edges of a file of these bytes, cut to so many of them.
 fn edges_of(rt: &HostRuntime, bytes: &str, len: u64) -> Result<Edges, Fail> {
-    let mut file = HostFile::at(rt, String::from_str(rt.alloc(), "edges")?, mark_of(rt)?);
+    let mut file = HostFile::at(rt, "edges", mark_of(rt)?);
     file.replace(bytes.as_bytes())?;
     file.cut_to(len)?;
     let edges = file.edges()?;
@@ -108,7 +100,7 @@ fn faults_at(
     rt: &HostRuntime,
     path: &str,
 ) -> Result<(Option<StoreFault>, Option<StoreFault>, u64), Fail> {
-    let mut file = HostFile::at(rt, String::from_str(rt.alloc(), path)?, mark_of(rt)?);
+    let mut file = HostFile::at(rt, path, mark_of(rt)?);
     let loaded = file.load().err();
     let measured = file.edges().err();
     Ok((loaded, measured, file.failures()))

@@ -3,9 +3,8 @@
 use crate::mail_store_tests::file::{mark_of, text_of};
 use crate::mail_store_tests::name::{fred, name_of};
 use crate::mail_terms_tests::listing::listing_of;
-use mail_store::{
-    Folder, FolderMaildir, Fused, MaildirDisk, MemoryMaildir, StoreFault, deliver, held,
-};
+use folder_store::FolderMaildir;
+use mail_store::{Folder, Fused, MaildirDisk, MemoryMaildir, StoreFault, deliver, held};
 use std::fs;
 use std::test::Fail;
 
@@ -88,8 +87,7 @@ fn files_of(rt: &HostRuntime, path: &str, folder: &str) -> Result<String, Fail> 
 /// what stands in `tmp` and in `new` then.
 fn delivered(rt: &HostRuntime, files: &[(&str, &str)], name: &str) -> Result<String, Fail> {
     make_maildir(rt, "delivery", files)?;
-    let path = String::from_str(rt.alloc(), "delivery/")?;
-    let mut disk = FolderMaildir::at(rt, path, mark_of(rt)?);
+    let mut disk = FolderMaildir::at(rt, "delivery/", mark_of(rt)?);
     let answer = match deliver(&mut disk, name, b"new") {
         Ok(()) => "delivered",
         Err(StoreFault::Refused) => "refused",
@@ -123,11 +121,7 @@ fn delivers_to_a_folder(rt: HostRuntime) -> Result<(), Fail> {
 fn delivers_a_long_text(rt: HostRuntime) -> Result<(), Fail> {
     make_maildir(&rt, "long_delivery", &[])?;
     let text = text_of(rt.alloc(), b'x', 100_000)?;
-    let mut disk = FolderMaildir::at(
-        &rt,
-        String::from_str(rt.alloc(), "long_delivery")?,
-        mark_of(&rt)?,
-    );
+    let mut disk = FolderMaildir::at(&rt, "long_delivery", mark_of(&rt)?);
     deliver(&mut disk, "one", text.as_slice())?;
     let found = fs::read(&rt, "long_delivery/new/one")?;
     assert!(rt; found.as_slice() == text.as_slice());
@@ -140,11 +134,7 @@ fn names_no_file_of_another_folder(rt: HostRuntime) -> Result<(), Fail> {
     make_maildir(&rt, "folder_within", &[])?;
     fs::create_dir(&rt, "folder_within/tmp/sub")?;
     fs::create_dir(&rt, "folder_within/new/sub")?;
-    let mut disk = FolderMaildir::at(
-        &rt,
-        String::from_str(rt.alloc(), "folder_within")?,
-        mark_of(&rt)?,
-    );
+    let mut disk = FolderMaildir::at(&rt, "folder_within", mark_of(&rt)?);
     assert_eq!(rt;
         deliver(&mut disk, "sub/one", b"x"),
         Err(StoreFault::Refused)
@@ -159,11 +149,7 @@ fn names_no_file_of_another_folder(rt: HostRuntime) -> Result<(), Fail> {
 #[test]
 fn one_file_is_begun_at_a_time(rt: HostRuntime) -> Result<(), Fail> {
     make_maildir(&rt, "begun_twice", &[])?;
-    let mut disk = FolderMaildir::at(
-        &rt,
-        String::from_str(rt.alloc(), "begun_twice")?,
-        mark_of(&rt)?,
-    );
+    let mut disk = FolderMaildir::at(&rt, "begun_twice", mark_of(&rt)?);
     disk.begin("one")?;
     assert_eq!(rt; disk.begin("two"), Err(StoreFault::Refused));
     disk.add(b"x")?;
@@ -183,11 +169,7 @@ fn lists_files_alone(rt: HostRuntime) -> Result<(), Fail> {
         &[("new/.hidden", "x"), ("new/seen", "x")],
     )?;
     fs::create_dir(&rt, "folder_names/new/folder")?;
-    let mut disk = FolderMaildir::at(
-        &rt,
-        String::from_str(rt.alloc(), "folder_names")?,
-        mark_of(&rt)?,
-    );
+    let mut disk = FolderMaildir::at(&rt, "folder_names", mark_of(&rt)?);
     let names = disk.names(Folder::New)?;
     assert!(rt; names.len() == 1 && names[0].as_str() == "seen");
     fs::remove_dir_all(&rt, "folder_names")?;
@@ -197,11 +179,7 @@ fn lists_files_alone(rt: HostRuntime) -> Result<(), Fail> {
 #[test]
 fn misses_folders_that_are_not_there(rt: HostRuntime) -> Result<(), Fail> {
     let _ = fs::remove_dir_all(&rt, "folder_missing");
-    let mut disk = FolderMaildir::at(
-        &rt,
-        String::from_str(rt.alloc(), "folder_missing")?,
-        mark_of(&rt)?,
-    );
+    let mut disk = FolderMaildir::at(&rt, "folder_missing", mark_of(&rt)?);
     let listing = listing_of(rt.alloc(), &[("a", 5), ("b", 5)])?;
     let found = held(rt.alloc(), &mut disk, &fred(), &listing).err();
     assert_eq!(rt; found, Some(StoreFault::Missing));
@@ -215,14 +193,10 @@ fn misses_folders_that_are_not_there(rt: HostRuntime) -> Result<(), Fail> {
 fn misses_the_folder_where_a_file_begins(rt: HostRuntime) -> Result<(), Fail> {
     make_maildir(&rt, "no_tmp", &[("new/one", "x")])?;
     fs::remove_dir(&rt, "no_tmp/tmp")?;
-    let mut disk = FolderMaildir::at(&rt, String::from_str(rt.alloc(), "no_tmp")?, mark_of(&rt)?);
+    let mut disk = FolderMaildir::at(&rt, "no_tmp", mark_of(&rt)?);
     assert_eq!(rt; disk.begin("two"), Err(StoreFault::Missing));
     assert_eq!(rt; disk.failures(), 0);
-    let mut through = FolderMaildir::at(
-        &rt,
-        String::from_str(rt.alloc(), "no_tmp/new/one")?,
-        mark_of(&rt)?,
-    );
+    let mut through = FolderMaildir::at(&rt, "no_tmp/new/one", mark_of(&rt)?);
     assert_eq!(rt; through.names(Folder::New).err(), Some(StoreFault::Refused));
     assert_eq!(rt; through.failures(), 1);
     fs::remove_dir_all(&rt, "no_tmp")?;
@@ -233,11 +207,7 @@ fn misses_the_folder_where_a_file_begins(rt: HostRuntime) -> Result<(), Fail> {
 fn looks_into_new_before_cur(rt: HostRuntime) -> Result<(), Fail> {
     make_maildir(&rt, "folder_order", &[])?;
     fs::remove_dir(&rt, "folder_order/new")?;
-    let folder = FolderMaildir::at(
-        &rt,
-        String::from_str(rt.alloc(), "folder_order")?,
-        mark_of(&rt)?,
-    );
+    let folder = FolderMaildir::at(&rt, "folder_order", mark_of(&rt)?);
     let mut disk = Fused::new(folder, 1, false);
     let listing = listing_of(rt.alloc(), &[("a", 5), ("b", 5)])?;
     let found = held(rt.alloc(), &mut disk, &fred(), &listing).err();

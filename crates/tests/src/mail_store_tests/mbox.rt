@@ -1,9 +1,10 @@
 //! The mboxrd file: its vectors, appending over devices that refuse, and files of other forms.
 
 use crate::mail_store_tests::file::mark_of;
+use folder_store::HostFile;
 use mail_store::{
-    FlatFile, Fused, HostFile, MemoryFile, StoreFault, append_entry, check_mbox, is_whole, quote,
-    read_mbox, unquote,
+    FlatFile, Fused, MemoryFile, StoreFault, append_entry, check_mbox, is_whole, quote, read_mbox,
+    unquote,
 };
 use std::alloc::Global;
 use std::fs;
@@ -75,7 +76,7 @@ fn appends_to_a_real_file(rt: HostRuntime) -> Result<(), Fail> {
     let path = "appends_to_a_real_file";
     fs::write(&rt, path, b"")?;
     for passes in 0..4 {
-        let file = HostFile::at(&rt, String::from_str(alloc, path)?, mark_of(&rt)?);
+        let file = HostFile::at(&rt, path, mark_of(&rt)?);
         let mut file = Fused::new(file, passes, false);
         assert!(rt; is_whole(TEXT));
         let whole = passes >= 2;
@@ -84,7 +85,7 @@ fn appends_to_a_real_file(rt: HostRuntime) -> Result<(), Fail> {
             "after {passes} calls"
         );
     }
-    let mut file = HostFile::at(&rt, String::from_str(alloc, path)?, mark_of(&rt)?);
+    let mut file = HostFile::at(&rt, path, mark_of(&rt)?);
     let bytes = file.load()?;
     let texts = read_mbox(alloc, &bytes)?;
     assert_eq!(rt; texts.len(), 2);

@@ -1,0 +1,340 @@
+-- A file in a folder: what the calls of the folder leave of it.
+use Rattle.std.proofs.Common.{◌≡◌, ℕ, ◌+◌, refl, List, [], ◌∷◌, ◌++◌, take, drop, cond, sym, ap, subst, ◌∙◌, Bool, true, false, Option, Some, None, Result, Ok, Err, inl, inr, Vec, append_assoc}
+use Rattle.std.specs.Prelude.{option_map, bytes_eq, if◌then◌else◌, IsErr}
+use Rattle.std.proofs.lemmas.Slice.Eq.{bytes_eq-Decides}
+use Rattle.std.proofs.lemmas.List.{append-nil, take-append-drop}
+use Rattle.std.proofs.lemmas.Bool.{true≢false}
+use Rattle.mail_terms.specs.FailureCount.{is_refused}
+use Rattle.mail_store.specs.Fault.{is_refusal}
+use Rattle.mail_store.specs.declared.fault.StoreFault.{StoreFault}
+use Rattle.mail_store.specs.declared.fault.StoreFault.TheVariants.{Missing, Refused, NotMbox, NoMemory}
+use Rattle.mail_store.specs.declared.file.flat_file.Edges.{Edges}
+use Rattle.mail_store.specs.FlatFile.{Appends, Cuts, Replaces, Loads, Measures, ReadsAt, Denies}
+use Rattle.folder_store.specs.FileFolder.{Directory, Entry, Blob, Older, entry, find, placed, making, changed, appended, cut, doubted, flushed, secured, empty_blob, content_in, content_at, ChangesMade, Makes, Writes, LacksFile, Reads, MeasuresFile, ReadsPiece, AppendsTo, CutsTo, FlushesFile, FlushesNames}
+use Rattle.folder_store.specs.FolderMaildir.{PutsFlushed}
+use Rattle.folder_store.specs.HostFile.{stored_in, Holds, Keeps, Becomes, MayBeFlushed, IsAppended, IsSoFar, IsPartAppended, AppendsPiece, AppendsFlushed, CutsFlushed, ReplacesFlushed, Flushes}
+
+or_else : {A : Type 0} → A → Option A → A
+or_else d None = d
+or_else d (Some x) = x
+
+pub some_is : {A : Type 0} (x y : A) → Some x ≡ Some y → x ≡ y
+unfolding or_else
+some_is x y h = ap (or_else x) h
+
+pub some_is_not_none : {A : Type 0} (x : A) (o : Option A) → o ≡ None → o ≡ Some x → ⊥
+some_is_not_none {A} x o e h = apart (sym e ∙ h)
+  where
+    apart : None ≡ Some x → ⊥
+    apart k = cc
+
+-- the name leads to what was put there
+pub find_placed : (name : List ℕ) (b : Blob) (es : List Entry) → find name (placed name b es) ≡ Some b
+find_placed name b [] = ap (λ (v : Bool). cond v (Some b) None) ((bytes_eq-Decides name name).1 refl)
+find_placed name b (e ∷ es) = by (find_placed name b es) (bytes_eq name e.name) refl
+  where
+    by : find name (placed name b es) ≡ Some b → (v : Bool) → bytes_eq name e.name ≡ v
+        → find name (cond v (entry name b ∷ es) (e ∷ placed name b es)) ≡ Some b
+    by later true is = ap (λ (v : Bool). cond v (Some b) (find name es)) ((bytes_eq-Decides name name).1 refl)
+    by later false is = ap (λ (v : Bool). cond v (Some e.blob) (find name (placed name b es))) is ∙ later
+
+-- a file with other bytes
+pub holds_changed : (old new : Directory) (name : List ℕ) (b : Blob) → new ≡ changed old name b → Holds new name (Some b) old.older
+holds_changed old new name b e = record {
+  leads_to = ap (λ (d : Directory). find name d.entries) e ∙ find_placed name b old.entries;
+  named = ap (λ (d : Directory). d.older) e;
+}
+
+keeps_same : (old new : Directory) (name : List ℕ) → new ≡ old → Keeps old name new
+keeps_same old new name e = record { leads_to = ap (λ (d : Directory). find name d.entries) e; named = ap (λ (d : Directory). d.older) e }
+
+keeps_making : (old new : Directory) (name : List ℕ) → ChangesMade old new → Keeps old name new
+keeps_making old new name (m, e) = record { leads_to = ap (λ (d : Directory). find name d.entries) e; named = ap (λ (d : Directory). d.older) e }
+
+-- another file made doesn't change a file
+pub holds_making : (d new : Directory) (m : Option Blob) (name : List ℕ) (o : Option Blob) (older : List Older) → new ≡ making d m
+    → Holds d name o older → Holds new name o older
+holds_making d new m name o older e h = record {
+  leads_to = ap (λ (x : Directory). find name x.entries) e ∙ h.leads_to;
+  named = ap (λ (x : Directory). x.older) e ∙ h.named;
+}
+
+-- the file that was there, changed, and then flushed, or not
+module _ (old mid new : Directory) (name : List ℕ) (b c : Blob) (at : find name old.entries ≡ Some b) (changing : mid ≡ changed old name c) (R : Blob → Blob → Type 0) where
+  of_mid : (x : Blob) (f : Blob → Blob) → find name mid.entries ≡ Some x → new ≡ changed mid name (f x) → Holds new name (Some (f c)) old.older
+  of_mid x f found flush =
+      let h = holds_changed old mid name c changing in
+      let k = holds_changed mid new name (f x) flush in record {
+        leads_to = k.leads_to ∙ ap (λ (y : Blob). Some (f y)) (some_is x c (sym found ∙ h.leads_to));
+        named = k.named ∙ h.named;
+      }
+
+  pub flush_done : R b (flushed c) → FlushesFile {T = Unit {0}} mid name (Ok tt) new → Becomes R old name new
+  flush_done is (x, found, flush) = (b, flushed c, at, is, of_mid x flushed found flush)
+
+  pub flush_refused : ((y : Blob) → MayBeFlushed c y → R b y) → (fault : StoreFault) → FlushesFile {T = Unit {0}} mid name (Err fault) new → Becomes R old name new
+  flush_refused is fault (inl same) = (b, c, at, is c (inl refl), holds_changed old new name c (same ∙ changing))
+  flush_refused is fault (inr (x, found, inl flush)) = (b, flushed c, at, is (flushed c) (inr (inl refl)), of_mid x flushed found flush)
+  flush_refused is fault (inr (x, found, inr flush)) = (b, doubted c, at, is (doubted c) (inr (inr refl)), of_mid x doubted found flush)
+
+-- `append_flushed`
+pub piece_refused : (old new : Directory) (name bytes : List ℕ) (fault : StoreFault) (r : Result (Unit {0}) StoreFault) → IsErr r
+    → AppendsTo {T = Unit {0}} old name bytes (Err fault) new → AppendsPiece old name bytes r new
+piece_refused old new name bytes fault (Ok done) err t = absurd (true≢false (sym err))
+piece_refused old new name bytes fault (Err e) err (inl same) = inl (keeps_same old new name same)
+piece_refused old new name bytes fault (Err e) err (inr (b, front, rest, at, parts, is)) =
+    inr (front, rest, parts, (b, appended b front, at, inl refl, holds_changed old new name (appended b front) is))
+
+pub piece_done : (old mid new : Directory) (name bytes : List ℕ) (r : Result (Unit {0}) StoreFault) → AppendsTo {T = Unit {0}} old name bytes (Ok tt) mid
+    → FlushesFile mid name r new → AppendsPiece old name bytes r new
+piece_done old mid new name bytes (Ok done) (b, at, e) flush =
+    flush_done old mid new name b (appended b bytes) at e (IsAppended bytes) refl flush
+piece_done old mid new name bytes (Err fault) (b, at, e) flush =
+    inr (
+      bytes,
+      [],
+      sym (append-nil bytes),
+      flush_refused old mid new name b (appended b bytes) at e (λ x y. MayBeFlushed (appended x bytes) y) (λ y may. may) fault flush,
+    )
+
+-- `append_pages`: the pieces one after another
+appended_twice : (b : Blob) (xs ys : List ℕ) → flushed (appended (flushed (appended b xs)) ys) ≡ flushed (appended b (xs ++ ys))
+appended_twice b xs ys = by b.content b.flushed b.uncut b.is_doubted
+  where
+    by : (content flush : List ℕ) (n : ℕ) (d : Bool)
+        → flushed (appended (flushed (appended (record { content = content; flushed = flush; uncut = n; is_doubted = d }) xs)) ys)
+        ≡ flushed (appended (record { content = content; flushed = flush; uncut = n; is_doubted = d }) (xs ++ ys))
+    by content flush n true = ap (λ (zs : List ℕ). record { content = zs; flushed = flush; uncut = n; is_doubted = true }) (append_assoc content xs ys)
+    by content flush n false = ap (λ (zs : List ℕ). secured zs) (append_assoc content xs ys)
+
+appended_nothing : (b : Blob) → appended b [] ≡ b
+appended_nothing b = ap (λ (zs : List ℕ). record b { content = zs }) (append-nil b.content)
+
+-- a piece was refused, of which the file has a front
+pub first_refused : (old new : Directory) (name bytes piece more : List ℕ) (fault : StoreFault) → bytes ≡ piece ++ more
+    → AppendsPiece {T = Unit {0}} old name piece (Err fault) new → AppendsFlushed {T = Unit {0}} old name bytes (Err fault) new
+first_refused old new name bytes piece more fault parts (inl same) = inl same
+first_refused old new name bytes piece more fault parts (inr (front, rest, is, (b, c, at, may, h))) =
+    inr (
+      [],
+      front,
+      rest ++ more,
+      parts ∙ ap (λ (xs : List ℕ). xs ++ more) is ∙ append_assoc front rest more,
+      (b, c, at, record { so_far = b; is_flushed = inl (refl, refl); is = may }, h),
+    )
+
+pub later_refused : (old mid new : Directory) (name bytes done piece more : List ℕ) (fault : StoreFault) → bytes ≡ done ++ (piece ++ more)
+    → Becomes (IsAppended done) old name mid → AppendsPiece {T = Unit {0}} mid name piece (Err fault) new
+    → AppendsFlushed {T = Unit {0}} old name bytes (Err fault) new
+later_refused old mid new name bytes done piece more fault parts (b, c, at, is, h) (inl same) =
+    inr (
+      done,
+      [],
+      piece ++ more,
+      parts,
+      (
+        b,
+        c,
+        at,
+        record { so_far = c; is_flushed = inr is; is = inl (sym (appended_nothing c)) },
+        record { leads_to = same.leads_to ∙ h.leads_to; named = same.named ∙ h.named },
+      ),
+    )
+later_refused old mid new name bytes done piece more fault parts (b, c, at, is, h) (inr (front, rest, which, (x, y, found, may, k))) =
+    inr (
+      done,
+      front,
+      rest ++ more,
+      parts ∙ ap (λ (xs : List ℕ). done ++ (xs ++ more)) which ∙ ap (λ (xs : List ℕ). done ++ xs) (append_assoc front rest more),
+      (
+        b,
+        y,
+        at,
+        record {
+          so_far = c;
+          is_flushed = inr is;
+          is = subst (λ (z : Blob). MayBeFlushed (appended z front) y) (some_is x c (sym found ∙ h.leads_to)) may;
+        },
+        record { leads_to = k.leads_to; named = k.named ∙ h.named },
+      ),
+    )
+
+pub later_done : (old mid new : Directory) (name done piece : List ℕ) → Becomes (IsAppended done) old name mid
+    → AppendsPiece {T = Unit {0}} mid name piece (Ok tt) new → Becomes (IsAppended (done ++ piece)) old name new
+later_done old mid new name done piece (b, c, at, is, h) (x, y, found, flush, k) = (
+  b,
+  y,
+  at,
+  flush ∙ ap (λ (z : Blob). flushed (appended z piece)) (some_is x c (sym found ∙ h.leads_to) ∙ is) ∙ appended_twice b done piece,
+  record { leads_to = k.leads_to; named = k.named ∙ h.named },
+)
+
+pub in_one_piece : (old new : Directory) (name bytes : List ℕ) (r : Result (Unit {0}) StoreFault) → AppendsPiece old name bytes r new → AppendsFlushed old name bytes r new
+in_one_piece old new name bytes (Ok done) t = t
+in_one_piece old new name bytes (Err fault) t = first_refused old new name bytes bytes [] fault (sym (append-nil bytes)) t
+
+-- `cut_flushed`
+pub cut_refused : (old new : Directory) (name : List ℕ) (len : ℕ) (fault : StoreFault) (r : Result (Unit {0}) StoreFault) → IsErr r
+    → CutsTo {T = Unit {0}} old name len (Err fault) new → CutsFlushed old name len r new
+cut_refused old new name len fault (Ok done) err t = absurd (true≢false (sym err))
+cut_refused old new name len fault (Err e) err (inl same) = inl (keeps_same old new name same)
+cut_refused old new name len fault (Err e) err (inr (b, at, is)) = inr (b, cut b len, at, inl refl, holds_changed old new name (cut b len) is)
+
+pub cut_done : (old mid new : Directory) (name : List ℕ) (len : ℕ) (r : Result (Unit {0}) StoreFault) → CutsTo {T = Unit {0}} old name len (Ok tt) mid
+    → FlushesFile mid name r new → CutsFlushed old name len r new
+cut_done old mid new name len (Ok done) (b, at, e) flush =
+    flush_done old mid new name b (cut b len) at e (λ x y. y ≡ flushed (cut x len)) refl flush
+cut_done old mid new name len (Err fault) (b, at, e) flush =
+    inr (flush_refused old mid new name b (cut b len) at e (λ x y. MayBeFlushed (cut x len) y) (λ y may. may) fault flush)
+
+-- `replace_flushed`
+pub make_refused : (old new : Directory) (name bytes : List ℕ) (fault : StoreFault) → Makes {T = Unit {0}} old (Err fault) new
+    → ReplacesFlushed {T = Unit {0}} old name bytes (Err fault) new
+make_refused old new name bytes Missing (gone, e) = inl (keeps_same old new name e)
+make_refused old new name bytes Refused change = inl (keeps_making old new name change)
+make_refused old new name bytes NotMbox t = absurd t
+make_refused old new name bytes NoMemory t = absurd t
+
+pub write_refused : (old mid new : Directory) (name bytes : List ℕ) (fault : StoreFault) → Makes {T = Unit {0}} old (Ok tt) mid
+    → Writes {T = Unit {0}} mid bytes (Err fault) new → ReplacesFlushed {T = Unit {0}} old name bytes (Err fault) new
+write_refused old mid new name bytes fault (can, e) (m, k) =
+    inl (holds_making mid new m name (find name old.entries) old.older k (keeps_making old mid name (Some empty_blob, e)))
+
+-- the file made has these bytes
+made_is : (old one two : Directory) (bytes : List ℕ) → Makes {T = Unit {0}} old (Ok tt) one → Writes {T = Unit {0}} one bytes (Ok tt) two
+    → two ≡ making old (Some (appended empty_blob bytes))
+made_is old one two bytes (can, e) (b, made, k) =
+    let same : b ≡ empty_blob = some_is b empty_blob (sym made ∙ ap (λ (d : Directory). d.made) e) in
+    k ∙ ap (λ (d : Directory). making d (Some (appended b bytes))) e ∙ ap (λ (x : Blob). making old (Some (appended x bytes))) same
+
+pub replace_done : (old one two new : Directory) (name bytes : List ℕ) (r : Result (Unit {0}) StoreFault) → Makes {T = Unit {0}} old (Ok tt) one
+    → Writes {T = Unit {0}} one bytes (Ok tt) two → PutsFlushed two name r new → ReplacesFlushed old name bytes r new
+replace_done old one two new name bytes r make write put =
+    by r (subst (λ (d : Directory). PutsFlushed d name r new) (made_is old one two bytes make write) put)
+  where
+    held : (c : Blob) → Some (appended empty_blob bytes) ≡ Some c → find name (placed name (secured c.content) old.entries) ≡ Some (secured bytes)
+    held c made =
+        find_placed name (secured c.content) old.entries ∙ ap (λ (x : Blob). Some (secured x.content)) (sym (some_is (appended empty_blob bytes) c made))
+
+    by : (r : Result (Unit {0}) StoreFault) → PutsFlushed (making old (Some (appended empty_blob bytes))) name r new → ReplacesFlushed old name bytes r new
+    by (Ok done) (c, made, e) = record {
+      leads_to = ap (λ (d : Directory). find name d.entries) e ∙ held c made;
+      named = ap (λ (d : Directory). d.older) e;
+    }
+    by (Err fault) (inl (m, e)) = inl (record { leads_to = ap (λ (d : Directory). find name d.entries) e; named = ap (λ (d : Directory). d.older) e })
+    by (Err fault) (inr (c, made, inl e)) = inr (inl (record {
+      leads_to = ap (λ (d : Directory). find name d.entries) e ∙ held c made;
+      named = ap (λ (d : Directory). d.older) e;
+    }))
+    by (Err fault) (inr (c, made, inr e)) = inr (inr (record {
+      leads_to = ap (λ (d : Directory). find name d.entries) e ∙ held c made;
+      named = ap (λ (d : Directory). d.older) e;
+    }))
+
+-- the bytes under the name
+pub content_held : (d : Directory) (name : List ℕ) (o : Option Blob) (older : List Older) → Holds d name o older → content_at d name ≡ option_map content_in o
+content_held d name o older h = ap (option_map content_in) h.leads_to
+
+-- the bytes of the file that is there
+pub content_is : (d : Directory) (name was : List ℕ) (b : Blob) → find name d.entries ≡ Some b → content_at d name ≡ Some was → b.content ≡ was
+content_is d name was b at h = some_is b.content was (sym (ap (option_map content_in) at) ∙ h)
+
+-- the device's state after a call, from the bytes under the name
+state_is : (old new : Directory) (name : List ℕ) (n m k : ℕ) (content : Option (List ℕ)) → m ≡ k → content_at new name ≡ content
+    → stored_in new name m ≡ record { content = content; failures = k }
+state_is old new name n m k content up e =
+    ap (λ (x : ℕ). record { content = content_at new name; failures = x }) up ∙ ap (λ (c : Option (List ℕ)). record { content = c; failures = k }) e
+
+-- the bytes of a file stay, whether it is flushed or not
+may_content : (b c : Blob) → MayBeFlushed b c → c.content ≡ b.content
+may_content b c (inl e) = ap content_in e
+may_content b c (inr (inl e)) = ap content_in e
+may_content b c (inr (inr e)) = ap content_in e
+
+so_far_content : (b c : Blob) (bytes : List ℕ) → IsSoFar bytes b c → c.content ≡ b.content ++ bytes
+so_far_content b c bytes (inl (none, e)) = ap content_in e ∙ sym (append-nil b.content) ∙ ap (λ (xs : List ℕ). b.content ++ xs) (sym none)
+so_far_content b c bytes (inr e) = ap content_in e
+
+part_content : (b c : Blob) (first front : List ℕ) → IsPartAppended first front b c → c.content ≡ b.content ++ (first ++ front)
+part_content b c first front is =
+    may_content (appended is.so_far front) c is.is
+    ∙ ap (λ (xs : List ℕ). xs ++ front) (so_far_content b is.so_far first is.is_flushed)
+    ∙ append_assoc b.content first front
+
+pub appends : (old new : Directory) (name bytes : List ℕ) (n m : ℕ) (r : Result (Unit {0}) StoreFault) → AppendsFlushed old name bytes r new
+    → m ≡ (if is_refused r then n + 1 else n) → Appends (stored_in old name n) bytes r (stored_in new name m)
+appends old new name bytes n m (Ok done) (b, c, at, is, h) up = λ was here.
+    state_is old new name n m n (Some (was ++ bytes)) up
+    (content_held new name _ _ h ∙ ap (λ (x : Blob). Some x.content) is ∙ ap (λ (xs : List ℕ). Some (xs ++ bytes)) (content_is old name was b at here))
+appends old new name bytes n m (Err e) (inl h) up = λ was is.
+    ([], bytes, refl, state_is old new name n m (n + 1) (Some (was ++ [])) up (content_held new name _ _ h ∙ is ∙ ap Some (sym (append-nil was))))
+appends old new name bytes n m (Err e) (inr (first, front, rest, parts, (b, c, at, is, h))) up = λ was here. (
+  first ++ front,
+  rest,
+  parts ∙ sym (append_assoc first front rest),
+  state_is old new name n m (n + 1) (Some (was ++ (first ++ front))) up
+      (content_held new name _ _ h ∙ ap Some (part_content b c first front is) ∙ ap (λ (xs : List ℕ). Some (xs ++ (first ++ front))) (content_is old name was b at here)),
+)
+
+pub cuts : (old new : Directory) (name : List ℕ) (len n m : ℕ) (r : Result (Unit {0}) StoreFault) → CutsFlushed old name len r new
+    → m ≡ (if is_refused r then n + 1 else n) → Cuts (stored_in old name n) len r (stored_in new name m)
+cuts old new name len n m (Ok done) (b, c, at, is, h) up = λ was here.
+    state_is old new name n m n (Some (take len was)) up
+    (content_held new name _ _ h ∙ ap (λ (x : Blob). Some x.content) is ∙ ap (λ (xs : List ℕ). Some (take len xs)) (content_is old name was b at here))
+cuts old new name len n m (Err e) (inl h) up = λ was is.
+    inl (state_is old new name n m (n + 1) (content_at old name) up (content_held new name _ _ h))
+cuts old new name len n m (Err e) (inr (b, c, at, is, h)) up = λ was here.
+    inr (state_is old new name n m (n + 1) (Some (take len was)) up
+    (content_held new name _ _ h ∙ ap Some (may_content (cut b len) c is) ∙ ap (λ (xs : List ℕ). Some (take len xs)) (content_is old name was b at here)))
+
+pub replaces : (old new : Directory) (name bytes : List ℕ) (n m : ℕ) (r : Result (Unit {0}) StoreFault) → ReplacesFlushed old name bytes r new
+    → m ≡ (if is_refused r then n + 1 else n) → Replaces (stored_in old name n) bytes r (stored_in new name m)
+replaces old new name bytes n m (Ok done) h up = state_is old new name n m n (Some bytes) up (content_held new name _ _ h)
+replaces old new name bytes n m (Err e) (inl h) up = inl (state_is old new name n m (n + 1) (content_at old name) up (content_held new name _ _ h))
+replaces old new name bytes n m (Err e) (inr (inl h)) up = inr (state_is old new name n m (n + 1) (Some bytes) up (content_held new name _ _ h))
+replaces old new name bytes n m (Err e) (inr (inr h)) up = inr (state_is old new name n m (n + 1) (Some bytes) up (content_held new name _ _ h))
+
+-- what was flushed alone looks as it did
+module _ (old new : Directory) (name : List ℕ) where
+  pub flushes_file : (r : Result (Unit {0}) StoreFault) → FlushesFile old name r new → Flushes old name new
+  flushes_file (Ok done) (b, at, e) = content_held new name _ _ (holds_changed old new name (flushed b) e) ∙ sym (ap (option_map content_in) at)
+  flushes_file (Err fault) (inl e) = ap (λ (d : Directory). content_at d name) e
+  flushes_file (Err fault) (inr (b, at, inl e)) = content_held new name _ _ (holds_changed old new name (flushed b) e) ∙ sym (ap (option_map content_in) at)
+  flushes_file (Err fault) (inr (b, at, inr e)) = content_held new name _ _ (holds_changed old new name (doubted b) e) ∙ sym (ap (option_map content_in) at)
+
+  pub flushes_names : (r : Result (Unit {0}) StoreFault) → FlushesNames old r new → Flushes old name new
+  flushes_names (Ok done) e = ap (λ (d : Directory). content_at d name) e
+  flushes_names (Err fault) (inl e) = ap (λ (d : Directory). content_at d name) e
+  flushes_names (Err fault) (inr e) = ap (λ (d : Directory). content_at d name) e
+
+pub flushes_both : (old mid new : Directory) (name : List ℕ) → Flushes old name mid → Flushes mid name new → Flushes old name new
+flushes_both old mid new name a b = b ∙ a
+
+-- what a call that reads answers, once what it read is flushed
+module _ (old mid new : Directory) (name : List ℕ) (n m : ℕ) where
+  pub loads_done : {B : Type 0} (bytes : Vec ℕ B) → Reads old name (Ok bytes) mid → Flushes mid name new → m ≡ n
+      → Loads (stored_in old name n) (Ok bytes) (stored_in new name m)
+  loads_done bytes (is, e) same up = (is, state_is old new name n m n (content_at old name) up (same ∙ ap (λ (d : Directory). content_at d name) e))
+
+  pub measures_done : (edges : Edges) → MeasuresFile old name (Ok edges) mid → Flushes mid name new → m ≡ n
+      → Measures (stored_in old name n) (Ok edges) (stored_in new name m)
+  measures_done edges (is, e) same up = (is, state_is old new name n m n (content_at old name) up (same ∙ ap (λ (d : Directory). content_at d name) e))
+
+  pub reads_done : (start count : ℕ) (buf : List ℕ) → ReadsPiece old name start (Ok count) buf mid → Flushes mid name new → m ≡ n
+      → ReadsAt (stored_in old name n) start (Ok count) buf (stored_in new name m)
+  reads_done start count buf (is, e) same up = (is, state_is old new name n m n (content_at old name) up (same ∙ ap (λ (d : Directory). content_at d name) e))
+
+  pub read_refused : mid ≡ old → Flushes mid name new → m ≡ n + 1 → Denies (stored_in old name n) Refused (stored_in new name m)
+  read_refused e same up = state_is old new name n m (n + 1) (content_at old name) up (same ∙ ap (λ (d : Directory). content_at d name) e)
+
+-- what a call that reads answers where there is nothing, or it was refused
+pub lacks_file : (old new : Directory) (name : List ℕ) (n m : ℕ) (fault : StoreFault) → LacksFile old name fault new
+    → m ≡ (if is_refusal fault then n + 1 else n) → Denies (stored_in old name n) fault (stored_in new name m)
+lacks_file old new name n m Missing (none, e) up = (none, state_is old new name n m n (content_at old name) up (ap (λ (d : Directory). content_at d name) e))
+lacks_file old new name n m Refused e up = state_is old new name n m (n + 1) (content_at old name) up (ap (λ (d : Directory). content_at d name) e)
+lacks_file old new name n m NotMbox t up = t
+lacks_file old new name n m NoMemory t up = t
+
+-- a text in two parts
+pub in_parts : (xs front back : List ℕ) (n : ℕ) → front ≡ take n xs → back ≡ drop n xs → xs ≡ front ++ back
+in_parts xs front back n f b = rw (f, b) (sym (take-append-drop n xs))

@@ -1,0 +1,2 @@
+mod Directories
+mod Files

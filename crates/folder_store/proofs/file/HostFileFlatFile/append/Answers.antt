@@ -1,0 +1,13 @@
+use Rattle.std.proofs.Common.{Err}
+use Rattle.folder_store.proofs.Files.{appends}
+use Rattle.folder_store.proofs.file.HostFileFlatFile.append.Goals as goal
+
+pub returns-in-Err-clause-appends : goal.returns-in-Err-clause-appends
+returns-in-Err-clause-appends g c = λ s.
+    let told = c.in-Err.ensures s.0 in
+    let now = c.args.self.now in
+    let d = g.F.FileFolder.directory in (
+      (told.0, c.in_ok-admit.ensures.admitted),
+      appends (d now.folder) (d c.append_in.new.folder) now.name.now c.args.bytes.now now.failures c.refuse.new.failures (Err c.in-Err.field-0) told.1
+          c.refuse.ensures.counted,
+    )

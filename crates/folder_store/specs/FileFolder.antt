@@ -1,0 +1,219 @@
+-- A folder of a file system: what its calls see, what of it is on the disk, and what each call does,
+-- for either outcome.
+use Rattle.std.specs.Prelude.{◌≡◌, ℕ, min, List, [], ◌∷◌, ◌++◌, length, take, map, Bool, true, false, IsTrue, ◌↔◌, Option, Some, None, option_map, Result, Ok, Err, ◌⊎◌, Vec, String, string_bytes, bytes_eq, if◌then◌else◌, IsPermutation, Contains}
+use Rattle.mail_terms.specs.Distinct.{AreDistinct}
+use Rattle.mail_store.specs.declared.fault.StoreFault.{StoreFault}
+use Rattle.mail_store.specs.declared.fault.StoreFault.TheVariants.{Missing, Refused, NotMbox, NoMemory}
+use Rattle.mail_store.specs.declared.file.flat_file.Edges.{Edges}
+use Rattle.mail_store.specs.FlatFile.{edges_of, piece_at}
+
+-- a file: its bytes, those that it had when it was last flushed, how many of these weren't cut off since,
+-- and whether a flush of it was refused, after which nothing more of it is known to come on the disk
+pub record Blob : Type 0 where
+  pub content : List ℕ
+  pub flushed : List ℕ
+  pub uncut : ℕ
+  pub is_doubted : Bool
+
+-- a name and the file that it leads to
+pub record Entry : Type 0 where
+  pub name : List ℕ
+  pub blob : Blob
+
+-- what a name led to, before a change that may not be on the disk yet
+pub record Older : Type 0 where
+  pub name : List ℕ
+  pub was : Option Blob
+
+-- a folder: whether it is there, whether a file can be made, the files by their names in the order in
+-- which they came, what names led to before they were changed, since the names were last flushed, and
+-- the file that was made and has no name here yet
+pub record Directory : Type 0 where
+  pub is_there : Bool
+  pub can_make : Bool
+  pub entries : List Entry
+  pub older : List Older
+  pub made : Option Blob
+
+abbrev pub entry : List ℕ → Blob → Entry
+entry name blob = record { name = name; blob = blob }
+
+abbrev pub name_at : Entry → List ℕ
+name_at e = e.name
+
+abbrev pub content_in : Blob → List ℕ
+content_in b = b.content
+
+-- the names of some files
+abbrev pub names_in : List Entry → List (List ℕ)
+names_in entries = map name_at entries
+
+-- the file that a name leads to
+abbrev pub find : List ℕ → List Entry → Option Blob
+find name [] = None
+find name (e ∷ entries) = if bytes_eq name e.name then Some e.blob else find name entries
+
+-- the name leads to this file: in the place of another, else behind all
+abbrev pub placed : List ℕ → Blob → List Entry → List Entry
+placed name blob [] = entry name blob ∷ []
+placed name blob (e ∷ entries) = if bytes_eq name e.name then entry name blob ∷ entries else e ∷ placed name blob entries
+
+-- the bytes of the file of this name
+abbrev pub content_at : Directory → List ℕ → Option (List ℕ)
+content_at d name = option_map content_in (find name d.entries)
+
+-- a file without bytes
+abbrev pub empty_blob : Blob
+empty_blob = record { content = []; flushed = []; uncut = 0; is_doubted = false }
+
+-- bytes behind those of a file
+abbrev pub appended : Blob → List ℕ → Blob
+appended b bytes = record b { content = b.content ++ bytes }
+
+-- the first bytes of a file
+abbrev pub cut : Blob → ℕ → Blob
+cut b len = record b { content = take len b.content; uncut = min len b.uncut }
+
+-- a file after a flush that was answered Ok: its bytes are on the disk, unless an earlier flush of it was
+-- refused, since a system may have given up what that one should have written
+abbrev pub flushed : Blob → Blob
+flushed b = record b {
+  flushed = if b.is_doubted then b.flushed else b.content;
+  uncut = if b.is_doubted then b.uncut else length b.content;
+}
+
+-- a file after a flush that was refused
+abbrev pub doubted : Blob → Blob
+doubted b = record b { is_doubted = true }
+
+-- a file whose bytes are on the disk
+abbrev pub secured : List ℕ → Blob
+secured bytes = record { content = bytes; flushed = bytes; uncut = length bytes; is_doubted = false }
+
+-- another file is made, or none
+abbrev pub making : Directory → Option Blob → Directory
+making d m = record d { made = m }
+
+-- the file of this name has other bytes
+abbrev pub changed : Directory → List ℕ → Blob → Directory
+changed d name blob = record d { entries = placed name blob d.entries }
+
+-- the file made has a name here
+abbrev pub put_in : Directory → Blob → List ℕ → Directory
+put_in d blob name = record d {
+  entries = placed name blob d.entries;
+  older = record { name = name; was = find name d.entries } ∷ d.older;
+  made = None;
+}
+
+-- the names are on the disk
+abbrev pub names_flushed : Directory → Directory
+names_flushed d = record d { older = [] }
+
+-- a call changed nothing but the file made
+abbrev pub ChangesMade : Directory → Directory → Type 0
+ChangesMade old new = (m : Option Blob) × (new ≡ making old m)
+
+-- `list`: each name once, in any order
+abbrev pub ListsNames : {A B : Type 0} → Directory → Result (Vec (String A) B) StoreFault → Directory → Type 0
+ListsNames old (Ok names) new =
+    ((old.is_there ≡ true) × IsPermutation (names_in old.entries) (map string_bytes names.items)
+    × AreDistinct (map string_bytes names.items)) × (new ≡ old)
+ListsNames old (Err Missing) new = (old.is_there ≡ false) × (new ≡ old)
+ListsNames old (Err Refused) new = new ≡ old
+ListsNames old (Err NotMbox) new = ⊥
+ListsNames old (Err NoMemory) new = ⊥
+
+-- `has`: whether a name leads to a file
+abbrev pub LooksUp : Directory → List ℕ → Result Bool StoreFault → Directory → Type 0
+LooksUp old name (Ok found) new = (IsTrue found ↔ Contains (names_in old.entries) name) × (new ≡ old)
+LooksUp old name (Err fault) new = new ≡ old
+
+-- `make`: a file without bytes and without a name here; none is made where it can't be
+abbrev pub Makes : {T : Type 0} → Directory → Result T StoreFault → Directory → Type 0
+Makes old (Ok done) new = (old.can_make ≡ true) × (new ≡ making old (Some empty_blob))
+Makes old (Err Missing) new = (old.can_make ≡ false) × (new ≡ old)
+Makes old (Err Refused) new = ChangesMade old new
+Makes old (Err NotMbox) new = ⊥
+Makes old (Err NoMemory) new = ⊥
+
+-- `write`: the bytes stand behind those of the file made
+abbrev pub Writes : {T : Type 0} → Directory → List ℕ → Result T StoreFault → Directory → Type 0
+Writes old bytes (Ok done) new = (b : Blob) × (old.made ≡ Some b) × (new ≡ making old (Some (appended b bytes)))
+Writes old bytes (Err fault) new = ChangesMade old new
+
+-- `flush_made`: the bytes of the file made are on the disk; a refused call gives the file up
+abbrev pub FlushesMade : {T : Type 0} → Directory → Result T StoreFault → Directory → Type 0
+FlushesMade old (Ok done) new = (b : Blob) × (old.made ≡ Some b) × (new ≡ making old (Some (secured b.content)))
+FlushesMade old (Err fault) new = new ≡ making old None
+
+-- the file made stands under the name
+abbrev pub PutsIn : Directory → List ℕ → Directory → Type 0
+PutsIn old name new = (b : Blob) × (old.made ≡ Some b) × (new ≡ put_in old b name)
+
+-- `put`: it does; a refused call did it, or nothing
+abbrev pub Puts : {T : Type 0} → Directory → List ℕ → Result T StoreFault → Directory → Type 0
+Puts old name (Ok done) new = PutsIn old name new
+Puts old name (Err fault) new = ChangesMade old new ⊎ PutsIn old name new
+
+-- a call that only reads a file answered a fault: there is no such file, or the call was refused
+abbrev pub LacksFile : Directory → List ℕ → StoreFault → Directory → Type 0
+LacksFile old name Missing new = (content_at old name ≡ None) × (new ≡ old)
+LacksFile old name Refused new = new ≡ old
+LacksFile old name NotMbox new = ⊥
+LacksFile old name NoMemory new = ⊥
+
+-- `read`: the bytes of the file of this name
+abbrev pub Reads : {B : Type 0} → Directory → List ℕ → Result (Vec ℕ B) StoreFault → Directory → Type 0
+Reads old name (Ok bytes) new = (content_at old name ≡ Some bytes.items) × (new ≡ old)
+Reads old name (Err fault) new = LacksFile old name fault new
+
+-- `edges`: the size and the ends of the file of this name
+abbrev pub MeasuresFile : Directory → List ℕ → Result Edges StoreFault → Directory → Type 0
+MeasuresFile old name (Ok edges) new = ((was : List ℕ) × (content_at old name ≡ Some was) × (edges ≡ edges_of was)) × (new ≡ old)
+MeasuresFile old name (Err fault) new = LacksFile old name fault new
+
+-- `read_at`: the front of the buffer has the bytes of the file of this name from a place on, as many as fit,
+-- and the answer is how many
+abbrev pub ReadsPiece : Directory → List ℕ → ℕ → Result ℕ StoreFault → List ℕ → Directory → Type 0
+ReadsPiece old name start (Ok count) buf new =
+    ((was : List ℕ) × (content_at old name ≡ Some was) × (count ≡ length (piece_at start (length buf) was)) × (take count buf ≡ piece_at start (length buf) was))
+    × (new ≡ old)
+ReadsPiece old name start (Err fault) buf new = LacksFile old name fault new
+
+-- `size`: how many bytes the file of this name has
+abbrev pub TellsSize : Directory → List ℕ → Result ℕ StoreFault → Directory → Type 0
+TellsSize old name (Ok size) new = ((was : List ℕ) × (content_at old name ≡ Some was) × (size ≡ length was)) × (new ≡ old)
+TellsSize old name (Err fault) new = new ≡ old
+
+-- `append`: the bytes stand behind those of the file of this name; a refused call put a front of them there
+abbrev pub AppendsTo : {T : Type 0} → Directory → List ℕ → List ℕ → Result T StoreFault → Directory → Type 0
+AppendsTo old name bytes (Ok done) new =
+    (b : Blob) × (find name old.entries ≡ Some b) × (new ≡ changed old name (appended b bytes))
+AppendsTo old name bytes (Err fault) new =
+    (new ≡ old)
+    ⊎ ((b : Blob) × (front : List ℕ) × (rest : List ℕ) × (find name old.entries ≡ Some b) × (bytes ≡ front ++ rest) × (new ≡ changed old name (appended b front)))
+
+-- `cut_to`: the first bytes of the file are kept; a refused call did it, or nothing
+abbrev pub CutsTo : {T : Type 0} → Directory → List ℕ → ℕ → Result T StoreFault → Directory → Type 0
+CutsTo old name len (Ok done) new = (b : Blob) × (find name old.entries ≡ Some b) × (new ≡ changed old name (cut b len))
+CutsTo old name len (Err fault) new =
+    (new ≡ old) ⊎ ((b : Blob) × (find name old.entries ≡ Some b) × (new ≡ changed old name (cut b len)))
+
+-- `flush`: the bytes of the file of this name are on the disk; after a refused call they may be, or nothing
+-- was done, or nothing more of the file is known to come there
+abbrev pub FlushesFile : {T : Type 0} → Directory → List ℕ → Result T StoreFault → Directory → Type 0
+FlushesFile old name (Ok done) new = (b : Blob) × (find name old.entries ≡ Some b) × (new ≡ changed old name (flushed b))
+FlushesFile old name (Err fault) new =
+    (new ≡ old)
+    ⊎ ((b : Blob) × (find name old.entries ≡ Some b)
+    × ((new ≡ changed old name (flushed b)) ⊎ (new ≡ changed old name (doubted b))))
+
+-- `flush_names`: the names are on the disk; a refused call did it, or nothing
+abbrev pub FlushesNames : {T : Type 0} → Directory → Result T StoreFault → Directory → Type 0
+FlushesNames old (Ok done) new = new ≡ names_flushed old
+FlushesNames old (Err fault) new = (new ≡ old) ⊎ (new ≡ names_flushed old)
+
+-- a folder of which nothing is known
+abbrev pub unknown_directory : Directory
+unknown_directory = record { is_there = false; can_make = false; entries = []; older = []; made = None }

@@ -1,0 +1,75 @@
+-- What a file in a folder of a file system is, and what is done to it in several calls.
+use Rattle.std.specs.Prelude.{◌≡◌, ℕ, List, [], ◌∷◌, ◌++◌, Option, Some, Result, Ok, Err, ◌⊎◌}
+use Rattle.mail_store.specs.declared.fault.StoreFault.{StoreFault}
+use Rattle.mail_store.specs.FlatFile.{Stored}
+use Rattle.folder_store.specs.FileFolder.{Directory, Blob, Older, find, appended, cut, doubted, flushed, secured, content_at, unknown_directory}
+
+-- the file of this name
+abbrev pub stored_in : Directory → List ℕ → ℕ → Stored
+stored_in d name failures = record { content = content_at d name; failures = failures }
+
+-- a file of which nothing is known, where no call was refused
+abbrev pub unknown_file : Stored
+unknown_file = stored_in unknown_directory [] 0
+
+-- the file of this name, and what names led to before, are these
+pub record Holds (d : Directory) (name : List ℕ) (blob : Option Blob) (older : List Older) : Type 0 where
+  pub leads_to : find name d.entries ≡ blob
+  pub named : d.older ≡ older
+
+-- nothing changed of the file
+abbrev pub Keeps : Directory → List ℕ → Directory → Type 0
+Keeps old name new = Holds new name (find name old.entries) old.older
+
+-- the file that was there became one that stands in this relation to it
+abbrev pub Becomes : (Blob → Blob → Type 0) → Directory → List ℕ → Directory → Type 0
+Becomes R old name new = (b : Blob) × (c : Blob) × (find name old.entries ≡ Some b) × R b c × Holds new name (Some c) old.older
+
+-- a file once a flush of it was asked for and refused, or not asked for
+abbrev pub MayBeFlushed : Blob → Blob → Type 0
+MayBeFlushed b c = (c ≡ b) ⊎ ((c ≡ flushed b) ⊎ (c ≡ doubted b))
+
+-- these bytes came behind those of the file, and all of it was flushed
+abbrev pub IsAppended : List ℕ → Blob → Blob → Type 0
+IsAppended bytes b c = c ≡ flushed (appended b bytes)
+
+-- the same of these bytes, if there are any
+abbrev pub IsSoFar : List ℕ → Blob → Blob → Type 0
+IsSoFar bytes b c = ((bytes ≡ []) × (c ≡ b)) ⊎ IsAppended bytes b c
+
+-- first some bytes came behind those of the file, and were flushed, and then others that may be
+pub record IsPartAppended (first front : List ℕ) (b c : Blob) : Type 0 where
+  pub so_far : Blob
+  pub is_flushed : IsSoFar first b so_far
+  pub is : MayBeFlushed (appended so_far front) c
+
+-- bytes were put behind those of a file, and flushed
+abbrev pub AppendsPiece : {T : Type 0} → Directory → List ℕ → List ℕ → Result T StoreFault → Directory → Type 0
+AppendsPiece old name bytes (Ok done) new = Becomes (IsAppended bytes) old name new
+AppendsPiece old name bytes (Err fault) new =
+    Keeps old name new
+    ⊎ ((front : List ℕ) × (rest : List ℕ) × (bytes ≡ front ++ rest) × Becomes (λ b c. MayBeFlushed (appended b front) c) old name new)
+
+-- the same, in several pieces, each flushed before the next
+abbrev pub AppendsFlushed : {T : Type 0} → Directory → List ℕ → List ℕ → Result T StoreFault → Directory → Type 0
+AppendsFlushed old name bytes (Ok done) new = Becomes (IsAppended bytes) old name new
+AppendsFlushed old name bytes (Err fault) new =
+    Keeps old name new
+    ⊎ ((first : List ℕ) × (front : List ℕ) × (rest : List ℕ) × (bytes ≡ first ++ (front ++ rest)) × Becomes (IsPartAppended first front) old name new)
+
+-- a file was cut, and flushed
+abbrev pub CutsFlushed : {T : Type 0} → Directory → List ℕ → ℕ → Result T StoreFault → Directory → Type 0
+CutsFlushed old name len (Ok done) new = Becomes (λ b c. c ≡ flushed (cut b len)) old name new
+CutsFlushed old name len (Err fault) new = Keeps old name new ⊎ Becomes (λ b c. MayBeFlushed (cut b len) c) old name new
+
+-- a file of these bytes, flushed, was put under the name, and the names were flushed
+abbrev pub ReplacesFlushed : {T : Type 0} → Directory → List ℕ → List ℕ → Result T StoreFault → Directory → Type 0
+ReplacesFlushed old name bytes (Ok done) new = Holds new name (Some (secured bytes)) []
+ReplacesFlushed old name bytes (Err fault) new =
+    Keeps old name new
+    ⊎ (Holds new name (Some (secured bytes)) (record { name = name; was = find name old.entries } ∷ old.older)
+    ⊎ Holds new name (Some (secured bytes)) [])
+
+-- what calls see of the file didn't change
+abbrev pub Flushes : Directory → List ℕ → Directory → Type 0
+Flushes old name new = content_at new name ≡ content_at old name

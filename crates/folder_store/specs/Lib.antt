@@ -1,0 +1,3 @@
+pub mod FileFolder
+pub mod FolderMaildir
+pub mod HostFile

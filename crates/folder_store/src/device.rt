@@ -1,0 +1,103 @@
+//! What the devices of the file system ask of it.
+
+use mail_store::{Edges, StoreFault};
+
+/// A folder of a file system, any of whose calls may be refused.
+///
+/// A file is made without a name in the folder, at a place that no other call sees, and then put
+/// under a name at one step. No call removes a file that has a name.
+pub trait FileFolder {
+    ghost use Rattle.std.specs.Prelude.{◌≡◌, ◌≤◌, length, IfErr, IfOk, None};
+    ghost use Rattle.mail_store.specs.Fault.{IsDeviceFault};
+    ghost use Rattle.folder_store.specs.FileFolder.{Directory, ListsNames, LooksUp, Makes, Writes, FlushesMade, Puts, Reads, MeasuresFile, ReadsPiece, TellsSize, AppendsTo, CutsTo, FlushesFile, FlushesNames, making};
+
+    // What calls see of the folder, and what is on the disk.
+    ghost directory: { Self → Directory };
+
+    // The premise: so far the file system did what this trait says. Where it holds after a call it
+    // held before it.
+    ghost sound: { Self → Type 0 };
+
+    /// The names of the files, each once, in any order. Missing where the folder isn't there.
+    fn list(&mut self) -> Result<Vec<String>, StoreFault>
+        ensures lists { sound self.new → sound self.old
+            × ListsNames (directory self.old) result (directory self.new) }
+        ensures fault { IfErr result IsDeviceFault };
+
+    /// Whether a name leads to a file.
+    fn has(&mut self, name: &str) -> Result<bool, StoreFault>
+        ensures { sound self.new → sound self.old
+            × LooksUp (directory self.old) name.now result (directory self.new) };
+
+    /// Makes a file, which its owner alone can read. The name tells it from others that were made.
+    /// Missing where the place for such files isn't there.
+    fn make(&mut self, name: &str) -> Result<(), StoreFault>
+        ensures makes { sound self.new → sound self.old
+            × Makes (directory self.old) result (directory self.new) }
+        ensures fault { IfErr result IsDeviceFault };
+
+    /// Puts bytes behind those of the file made.
+    fn write(&mut self, bytes: &[u8]) -> Result<(), StoreFault>
+        ensures { sound self.new → sound self.old
+            × Writes (directory self.old) bytes.now result (directory self.new) };
+
+    /// Flushes the bytes of the file made. Refused, it gives the file up.
+    fn flush_made(&mut self) -> Result<(), StoreFault>
+        ensures { sound self.new → sound self.old
+            × FlushesMade (directory self.old) result (directory self.new) };
+
+    /// Puts the file made under a name, in the place of another, if there is one.
+    fn put(&mut self, name: &str) -> Result<(), StoreFault>
+        ensures { sound self.new → sound self.old
+            × Puts (directory self.old) name.now result (directory self.new) };
+
+    /// Gives up the file made, if there is one.
+    fn discard(&mut self)
+        ensures { sound self.new → sound self.old
+            × (directory self.new ≡ making (directory self.old) None) };
+
+    /// The bytes of a file. Missing where there is none.
+    fn read(&mut self, name: &str) -> Result<Vec<u8>, StoreFault>
+        ensures reads { sound self.new → sound self.old
+            × Reads (directory self.old) name.now result (directory self.new) }
+        ensures fault { IfErr result IsDeviceFault };
+
+    /// The size of a file and its ends. Missing where there is none.
+    fn edges(&mut self, name: &str) -> Result<Edges, StoreFault>
+        ensures measures { sound self.new → sound self.old
+            × MeasuresFile (directory self.old) name.now result (directory self.new) }
+        ensures fault { IfErr result IsDeviceFault };
+
+    /// Puts the bytes of a file from `start` on at the front of a buffer, and says how many: as many as
+    /// there are and fit. Missing where there is none, else Refused: the buffer may then hold anything.
+    fn read_at(&mut self, name: &str, start: u64, buf: &mut [u8]) -> Result<usize, StoreFault>
+        ensures within { IfOk result (λ count. count ≤ length buf.new) }
+        ensures reads { sound self.new → sound self.old
+            × ReadsPiece (directory self.old) name.now start result buf.new (directory self.new) }
+        ensures fault { IfErr result IsDeviceFault };
+
+    /// How many bytes a file has.
+    fn size(&mut self, name: &str) -> Result<u64, StoreFault>
+        ensures { sound self.new → sound self.old
+            × TellsSize (directory self.old) name.now result (directory self.new) };
+
+    /// Puts bytes behind those of a file.
+    fn append(&mut self, name: &str, bytes: &[u8]) -> Result<(), StoreFault>
+        ensures { sound self.new → sound self.old
+            × AppendsTo (directory self.old) name.now bytes.now result (directory self.new) };
+
+    /// Cuts a file to its first bytes. Refused where it has fewer.
+    fn cut_to(&mut self, name: &str, len: u64) -> Result<(), StoreFault>
+        ensures { sound self.new → sound self.old
+            × CutsTo (directory self.old) name.now len result (directory self.new) };
+
+    /// Flushes the bytes of a file.
+    fn flush(&mut self, name: &str) -> Result<(), StoreFault>
+        ensures { sound self.new → sound self.old
+            × FlushesFile (directory self.old) name.now result (directory self.new) };
+
+    /// Flushes the names.
+    fn flush_names(&mut self) -> Result<(), StoreFault>
+        ensures { sound self.new → sound self.old
+            × FlushesNames (directory self.old) result (directory self.new) };
+}

@@ -1,0 +1,188 @@
+//! A file in a folder of a file system.
+
+ghost use Rattle.std.specs.Prelude.{◌≡◌, ◌<◌, ◌+◌};
+ghost use Rattle.mail_terms.specs.FailureCount.{greatest_count};
+
+use crate::device::FileFolder;
+use crate::host::HostFolder;
+use crate::process_mark::ProcessMark;
+use crate::steps::{Appending, append_in, cut_flushed, flush_both, replace_flushed};
+use crate::system::name_in;
+use crate::tally::tally;
+use mail_store::{Edges, FlatFile, StoreFault, admit, refuse};
+use mail_terms::FailureCount;
+use std::rt::Files;
+use std::time::Clock;
+
+/// A file in a folder of a file system.
+///
+/// Each write is flushed before it is answered. `replace` writes a file of its own, flushes it, gives it
+/// the name and flushes that. Before the first `load`, `edges` or `read_at` tells of the file, it and
+/// its name are flushed, so that no loss of power takes back what an earlier run wrote and this one goes by.
+#[derive(Drop)]
+pub struct HostFile<'a, F: FileFolder + Drop> {
+    folder: F,
+    name: &'a str,
+    appending: Appending,
+    /// Whether what stands in the file, and its name, were flushed.
+    is_flushed: bool,
+    failures: FailureCount,
+}
+
+impl<'a, F: FileFolder + Drop> HostFile<'a, F> {
+    ghost use Rattle.folder_store.specs.HostFile.{Flushes, stored_in};
+
+    /// The file of a name in a folder. There need be none.
+    pub fn over(folder: F, name: &'a str, appending: Appending) -> HostFile<'a, F>
+        ensures { ⟦<HostFile<'a, F> as FlatFile>⟧.stored result ≡ stored_in (F.directory folder) name.now 0 }
+    {
+        HostFile {
+            folder,
+            name,
+            appending,
+            is_flushed: false,
+            failures: FailureCount::new(),
+        }
+    }
+
+    // Flushes the file and its name, unless they were flushed before.
+    fn secure(&mut self) -> Result<(), StoreFault>
+        ensures flushes { F.sound self.new.folder → F.sound self.old.folder
+            × Flushes (F.directory self.old.folder) self.old.name.now (F.directory self.new.folder) }
+        ensures others { self.new ≡ record self.old { folder = self.new.folder; is_flushed = self.new.is_flushed } }
+    {
+        if self.is_flushed {
+            return Ok(());
+        }
+        flush_both(&mut self.folder, self.name)?;
+        self.is_flushed = true;
+        Ok(())
+    }
+}
+
+impl<'a, R: Files + Clock + AllocGlobal + Clone + Drop> HostFile<'a, HostFolder<'a, R>> {
+    ghost use Rattle.folder_store.specs.HostFile.{unknown_file};
+
+    /// The file at a path, absolute or taken from the working folder. There need be none. What is
+    /// appended is flushed once, which suits long texts whose writer finds and cuts off what a loss of
+    /// power left of one.
+    pub fn at(rt: &'a R, path: &'a str, mark: ProcessMark) -> HostFile<'a, HostFolder<'a, R>>
+        ensures { ⟦<HostFile<'a, HostFolder<'a, R>> as FlatFile>⟧.stored result ≡ unknown_file }
+    {
+        HostFile::over(
+            HostFolder::around(rt, path, mark),
+            name_in(path),
+            Appending::AtOnce,
+        )
+    }
+
+    /// The file at a path, likewise. What is appended is flushed at each border of 4,096 octets of the
+    /// file before more is written, so that a loss of power leaves a front of it: for short texts.
+    pub fn by_pages(rt: &'a R, path: &'a str, mark: ProcessMark) -> HostFile<'a, HostFolder<'a, R>>
+        ensures { ⟦<HostFile<'a, HostFolder<'a, R>> as FlatFile>⟧.stored result ≡ unknown_file }
+    {
+        HostFile::over(
+            HostFolder::around(rt, path, mark),
+            name_in(path),
+            Appending::ByPages,
+        )
+    }
+
+    /// Removes the files that `replace` of killed runs left beside this one: those that weren't changed
+    /// for 36 hours. What can't be removed stays.
+    pub fn sweep(&self) {
+        let name = self.name;
+        if let Ok(front) = format!(in self.folder.alloc(); "{name}.tmp") {
+            self.folder.sweep(front.as_str());
+        }
+    }
+}
+
+impl<'a, F: FileFolder + Drop> FlatFile for HostFile<'a, F> {
+    ghost use Rattle.std.specs.Prelude.{◌<◌};
+    ghost use Rattle.mail_terms.specs.FailureCount.{greatest_count};
+    ghost use Rattle.folder_store.specs.HostFile.{stored_in};
+
+    ghost stored = { λ f. stored_in (F.directory f.folder) f.name.now f.failures };
+
+    ghost sound = { λ f. F.sound f.folder × (f.failures < greatest_count) };
+
+    fn load(&mut self) -> Result<Vec<u8>, StoreFault> {
+        admit(&self.failures)?;
+        match self.folder.read(self.name) {
+            Ok(bytes) => {
+                if self.secure().is_err() {
+                    return Err(refuse(&mut self.failures));
+                }
+                Ok(bytes)
+            }
+            Err(fault) => tally(&mut self.failures, Err(fault)),
+        }
+    }
+
+    fn edges(&mut self) -> Result<Edges, StoreFault> {
+        admit(&self.failures)?;
+        match self.folder.edges(self.name) {
+            Ok(edges) => {
+                if self.secure().is_err() {
+                    return Err(refuse(&mut self.failures));
+                }
+                Ok(edges)
+            }
+            Err(fault) => tally(&mut self.failures, Err(fault)),
+        }
+    }
+
+    fn read_at(&mut self, start: u64, buf: &mut [u8]) -> Result<usize, StoreFault> {
+        admit(&self.failures)?;
+        match self.folder.read_at(self.name, start, buf) {
+            Ok(count) => {
+                if self.secure().is_err() {
+                    return Err(refuse(&mut self.failures));
+                }
+                Ok(count)
+            }
+            Err(fault) => tally(&mut self.failures, Err(fault)),
+        }
+    }
+
+    fn append(&mut self, bytes: &[u8]) -> Result<(), StoreFault> {
+        admit(&self.failures)?;
+        match append_in(&mut self.folder, self.name, bytes, self.appending) {
+            Ok(()) => Ok(()),
+            Err(_) => {
+                self.is_flushed = false;
+                Err(refuse(&mut self.failures))
+            }
+        }
+    }
+
+    fn cut_to(&mut self, len: u64) -> Result<(), StoreFault> {
+        admit(&self.failures)?;
+        match cut_flushed(&mut self.folder, self.name, len) {
+            Ok(()) => Ok(()),
+            Err(_) => {
+                self.is_flushed = false;
+                Err(refuse(&mut self.failures))
+            }
+        }
+    }
+
+    fn replace(&mut self, bytes: &[u8]) -> Result<(), StoreFault> {
+        admit(&self.failures)?;
+        match replace_flushed(&mut self.folder, self.name, bytes) {
+            Ok(()) => {
+                self.is_flushed = true;
+                Ok(())
+            }
+            Err(_) => {
+                self.is_flushed = false;
+                Err(refuse(&mut self.failures))
+            }
+        }
+    }
+
+    fn failures(&self) -> u64 {
+        self.failures.count()
+    }
+}

@@ -1,0 +1,368 @@
+//! Folders of the machine's file system.
+
+ghost use Rattle.std.specs.Prelude.{◌≡◌, ◌≤◌, length, IfErr, IfOk, Ok};
+ghost use Rattle.mail_store.specs.Fault.{IsDeviceFault};
+ghost use Rattle.folder_store.specs.FileFolder.{unknown_directory};
+
+use crate::device::FileFolder;
+use crate::process_mark::ProcessMark;
+use crate::system::{flush_folder, folder_of, make_file, sweep};
+use folder_names::list_names;
+use mail_store::{Edges, StoreFault};
+use std::alloc::Global;
+use std::fs::{Metadata, OpenFile, OpenOptions};
+use std::io::{ErrorKind, Read, Seek, SeekFrom, Write};
+use std::os::unix::fs::MetadataExt;
+use std::rt::Files;
+use std::time::Clock;
+use std::{fs, io};
+
+/// A file that was made, and its path.
+#[derive(Drop)]
+struct Made<F: Drop> {
+    file: F,
+    path: String,
+}
+
+/// The handle by which a file was changed, and the file's name.
+#[derive(Drop)]
+struct Changed<F: Drop> {
+    file: F,
+    name: String,
+}
+
+/// A folder of the machine's file system. Nothing is known of what the system does. Each call asks the
+/// system for one or two things, so that a reader can compare it with what the trait says.
+///
+/// A file is made so that its owner alone can read it (mode 0600), and its name ends with the process's
+/// mark until it is put into the folder, so that no other run writes it. The listing is exact although
+/// others rename files meanwhile.
+#[derive(Drop)]
+pub struct HostFolder<'a, R: Files + Clock + AllocGlobal + Clone + Drop> {
+    rt: &'a R,
+    /// The path that those of the next two folders begin with.
+    base: &'a str,
+    /// The folder, empty if it is that of the path.
+    folder: &'a str,
+    /// The folder in which files are made, likewise.
+    scratch: &'a str,
+    /// What stands after the name of a file that is made, before the mark.
+    suffix: &'a str,
+    mark: ProcessMark,
+    made: Option<Made<R::File>>,
+    changed: Option<Changed<R::File>>,
+}
+
+impl<'a, R: Files + Clock + AllocGlobal + Clone + Drop> HostFolder<'a, R> {
+    /// A folder of the Maildir at a path, absolute or taken from the working folder. Files are made in
+    /// the Maildir's folder `tmp`.
+    pub fn of_maildir(
+        rt: &'a R,
+        path: &'a str,
+        folder: &'a str,
+        mark: ProcessMark,
+    ) -> HostFolder<'a, R>
+        ensures { ⟦<HostFolder<'a, R> as FileFolder>⟧.directory result ≡ unknown_directory }
+    {
+        HostFolder {
+            rt,
+            base: path,
+            folder,
+            scratch: "tmp",
+            suffix: "",
+            mark,
+            made: None,
+            changed: None,
+        }
+    }
+
+    /// The folder that holds the file at a path, absolute or taken from the working folder. Files are
+    /// made in it too, with `.tmp` and the process's mark after their names.
+    pub fn around(rt: &'a R, path: &'a str, mark: ProcessMark) -> HostFolder<'a, R>
+        ensures { ⟦<HostFolder<'a, R> as FileFolder>⟧.directory result ≡ unknown_directory }
+    {
+        HostFolder {
+            rt,
+            base: folder_of(path),
+            folder: "",
+            scratch: "",
+            suffix: ".tmp",
+            mark,
+            made: None,
+            changed: None,
+        }
+    }
+
+    /// Removes the files whose names begin so that killed runs made and left behind: those that weren't
+    /// changed for 36 hours. What can't be removed stays.
+    pub fn sweep(&self, front: &str) {
+        if let Ok(path) = self.folder_path(self.scratch) {
+            let _ = sweep(self.rt, path.as_str(), front);
+        }
+    }
+
+    /// Where what is told of the folder is kept.
+    pub fn alloc(&self) -> Global {
+        self.rt.alloc()
+    }
+
+    // The path of a folder.
+    fn folder_path(&self, folder: &str) -> io::Result<String> {
+        let base = self.base;
+        Ok(if folder.is_empty() {
+            String::from_str(self.rt.alloc(), base)?
+        } else if base.ends_with('/') {
+            format!(in self.rt.alloc(); "{base}{folder}")?
+        } else {
+            format!(in self.rt.alloc(); "{base}/{folder}")?
+        })
+    }
+
+    // The path of a file in a folder.
+    fn file_path(&self, folder: &str, name: &str) -> io::Result<String> {
+        let mut path = self.folder_path(folder)?;
+        if !path.ends_with('/') {
+            path.push('/')?;
+        }
+        path.push_str(name)?;
+        Ok(path)
+    }
+
+    fn path_of(&self, name: &str) -> io::Result<String> {
+        self.file_path(self.folder, name)
+    }
+
+    // The names of the folder's files. A name that begins with a full stop or isn't UTF-8 is skipped,
+    // and so is a folder. The system is asked what each name stands for only where a folder may be
+    // among them, since that takes longer than all else.
+    fn read_names(&self) -> io::Result<Vec<String>> {
+        let found = list_names(self.rt, self.folder_path(self.folder)?.as_str())?;
+        if may_hold_folders(&found.folder) {
+            return self.files_among(found.names);
+        }
+        Ok(found.names)
+    }
+
+    // The names that stand for no folder. What has vanished counts as a file: a reader may have
+    // renamed it.
+    fn files_among(&self, found: Vec<String>) -> io::Result<Vec<String>> {
+        let mut names = Vec::with_capacity(self.rt.alloc(), found.len())?;
+        for name in found {
+            let path = self.path_of(name.as_str())?;
+            if !is_folder(fs::symlink_metadata(self.rt, path))? {
+                names.push(name)?;
+            }
+        }
+        Ok(names)
+    }
+
+    fn look_up(&self, name: &str) -> io::Result<Metadata> {
+        fs::symlink_metadata(self.rt, self.path_of(name)?)
+    }
+
+    fn make_marked(&mut self, name: &str) -> io::Result<()> {
+        let alloc = self.rt.alloc();
+        let suffix = self.suffix;
+        let title = format!(in alloc; "{name}{suffix}")?;
+        let title = self.mark.marked(alloc, title.as_str())?;
+        let path = self.file_path(self.scratch, title.as_str())?;
+        let file = make_file(self.rt, path.as_str())?;
+        self.made = Some(Made { file, path });
+        Ok(())
+    }
+
+    fn rename_made(&mut self, name: &str) -> io::Result<()> {
+        let to = self.path_of(name)?;
+        let Some(made) = &self.made else {
+            return Err(io::Error::from(ErrorKind::InvalidInput));
+        };
+        fs::rename(self.rt, made.path.as_str(), to)?;
+        self.made = None;
+        Ok(())
+    }
+
+    fn read_all(&self, name: &str) -> io::Result<Vec<u8>> {
+        fs::read(self.rt, self.path_of(name)?)
+    }
+
+    fn read_edges(&self, name: &str) -> io::Result<Edges> {
+        let mut file = fs::open(self.rt, self.path_of(name)?)?;
+        let size = file.metadata()?.len();
+        let mut head = [0u8; 5];
+        let mut tail = [0u8; 2];
+        let in_head = size.min(5) as usize;
+        let in_tail = size.min(2) as usize;
+        file.read_exact(&mut head[..in_head])?;
+        file.seek(SeekFrom::Start(size - in_tail as u64))?;
+        file.read_exact(&mut tail[2 - in_tail..])?;
+        Ok(Edges { size, head, tail })
+    }
+
+    fn read_piece(&self, name: &str, start: u64, buf: &mut [u8]) -> io::Result<usize>
+        ensures { IfOk result (λ count. count ≤ length buf.new) }
+    {
+        let mut file = fs::open(self.rt, self.path_of(name)?)?;
+        let there = file.metadata()?.len().saturating_sub(start);
+        let count = there.min(buf.len() as u64) as usize;
+        if count > 0 {
+            file.seek(SeekFrom::Start(start))?;
+            file.read_exact(&mut buf[..count])?;
+        }
+        Ok(count)
+    }
+
+    fn measure(&self, name: &str) -> io::Result<u64> {
+        Ok(fs::metadata(self.rt, self.path_of(name)?)?.len())
+    }
+
+    fn write_behind(&mut self, name: &str, bytes: &[u8]) -> io::Result<()> {
+        let title = String::from_str(self.rt.alloc(), name)?;
+        let mut file = OpenOptions::new()
+            .append(true)
+            .open(self.rt, self.path_of(name)?)?;
+        let answer = file.write_all(bytes);
+        self.changed = Some(Changed { file, name: title });
+        answer
+    }
+
+    fn set_len(&mut self, name: &str, len: u64) -> io::Result<()> {
+        let title = String::from_str(self.rt.alloc(), name)?;
+        let file = OpenOptions::new()
+            .write(true)
+            .open(self.rt, self.path_of(name)?)?;
+        if file.metadata()?.len() < len {
+            return Err(io::Error::from(ErrorKind::InvalidInput));
+        }
+        let answer = file.set_len(len);
+        self.changed = Some(Changed { file, name: title });
+        answer
+    }
+
+    // A file that was changed last is flushed by the handle that changed it: the system may tell no
+    // other one of a fault.
+    fn sync(&mut self, name: &str) -> io::Result<()> {
+        if let Some(changed) = self.changed.take() {
+            if changed.name.as_str() == name {
+                return changed.file.sync_all();
+            }
+        }
+        fs::open(self.rt, self.path_of(name)?)?.sync_all()
+    }
+
+    fn sync_names(&self) -> io::Result<()> {
+        flush_folder(self.rt, self.folder_path(self.folder)?.as_str())
+    }
+}
+
+/// Whether a folder may hold others. Each of them links to it by its `..`, beside the folder's name
+/// and its own `.`. File systems that don't count so answer another number than 2, or always 2. The
+/// latter let a folder pass for a file, which does no harm: no folder has the name of an id's file.
+fn may_hold_folders(folder: &Metadata) -> bool {
+    folder.nlink() != 2
+}
+
+/// Whether a name stands for a folder; what has vanished was none.
+fn is_folder(answer: io::Result<Metadata>) -> io::Result<bool> {
+    match answer {
+        Ok(metadata) => Ok(metadata.is_dir()),
+        Err(fault) if fault.kind() == ErrorKind::NotFound => Ok(false),
+        Err(fault) => Err(fault),
+    }
+}
+
+/// What the system answered.
+fn told<T>(answer: io::Result<T>) -> Result<T, StoreFault>
+    ensures same { IfOk result (λ value. answer ≡ Ok value) }
+    ensures fault { IfErr result IsDeviceFault }
+{
+    match answer {
+        Ok(value) => Ok(value),
+        Err(fault) if fault.kind() == ErrorKind::NotFound => Err(StoreFault::Missing),
+        Err(_) => Err(StoreFault::Refused),
+    }
+}
+
+impl<'a, R: Files + Clock + AllocGlobal + Clone + Drop> FileFolder for HostFolder<'a, R> {
+    ghost use Rattle.folder_store.specs.FileFolder.{unknown_directory};
+
+    ghost directory = { λ _. unknown_directory };
+
+    // Of the file system nothing is known.
+    ghost sound = { λ _. ⊥ };
+
+    fn list(&mut self) -> Result<Vec<String>, StoreFault> {
+        told(self.read_names())
+    }
+
+    fn has(&mut self, name: &str) -> Result<bool, StoreFault> {
+        match told(self.look_up(name)) {
+            Ok(_) => Ok(true),
+            Err(StoreFault::Missing) => Ok(false),
+            Err(fault) => Err(fault),
+        }
+    }
+
+    fn make(&mut self, name: &str) -> Result<(), StoreFault> {
+        told(self.make_marked(name))
+    }
+
+    fn write(&mut self, bytes: &[u8]) -> Result<(), StoreFault> {
+        match &mut self.made {
+            Some(made) => told(made.file.write_all(bytes)),
+            None => Err(StoreFault::Refused),
+        }
+    }
+
+    fn flush_made(&mut self) -> Result<(), StoreFault> {
+        let Some(made) = &self.made else {
+            return Err(StoreFault::Refused);
+        };
+        let answer = told(made.file.sync_all());
+        if answer.is_err() {
+            self.discard();
+        }
+        answer
+    }
+
+    fn put(&mut self, name: &str) -> Result<(), StoreFault> {
+        told(self.rename_made(name))
+    }
+
+    fn discard(&mut self) {
+        if let Some(made) = self.made.take() {
+            let _ = fs::remove_file(self.rt, made.path);
+        }
+    }
+
+    fn read(&mut self, name: &str) -> Result<Vec<u8>, StoreFault> {
+        told(self.read_all(name))
+    }
+
+    fn edges(&mut self, name: &str) -> Result<Edges, StoreFault> {
+        told(self.read_edges(name))
+    }
+
+    fn read_at(&mut self, name: &str, start: u64, buf: &mut [u8]) -> Result<usize, StoreFault> {
+        told(self.read_piece(name, start, buf))
+    }
+
+    fn size(&mut self, name: &str) -> Result<u64, StoreFault> {
+        told(self.measure(name))
+    }
+
+    fn append(&mut self, name: &str, bytes: &[u8]) -> Result<(), StoreFault> {
+        told(self.write_behind(name, bytes))
+    }
+
+    fn cut_to(&mut self, name: &str, len: u64) -> Result<(), StoreFault> {
+        told(self.set_len(name, len))
+    }
+
+    fn flush(&mut self, name: &str) -> Result<(), StoreFault> {
+        told(self.sync(name))
+    }
+
+    fn flush_names(&mut self) -> Result<(), StoreFault> {
+        told(self.sync_names())
+    }
+}

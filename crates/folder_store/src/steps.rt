@@ -1,0 +1,145 @@
+//! What the devices do to a folder in several calls.
+
+ghost use Rattle.std.specs.Prelude.{◌≡◌, IfErr, OnOk, true};
+ghost use Rattle.mail_store.specs.Fault.{IsDeviceFault};
+ghost use Rattle.folder_store.specs.FolderMaildir.{Tells, PutsFlushed};
+ghost use Rattle.folder_store.specs.HostFile.{AppendsPiece, AppendsFlushed, CutsFlushed, Flushes, ReplacesFlushed};
+
+use crate::device::FileFolder;
+use mail_store::StoreFault;
+
+/// How many octets of a file the system writes to the disk at once.
+const PAGE: usize = 4_096;
+
+/// How an append goes to the disk.
+#[derive(Clone, Copy, PartialEq, Eq)]
+pub enum Appending {
+    /// With one flush. After a loss of power a later page may be there and an earlier one missing.
+    AtOnce,
+    /// Each page is flushed before the next is written, so that at any moment a front of it is there.
+    ByPages,
+}
+
+/// The names of a folder, once they are on the disk.
+pub fn told_names<F: FileFolder>(folder: &mut F) -> Result<Vec<String>, StoreFault>
+    ensures tells { F.sound folder.new → F.sound folder.old
+        × Tells (F.directory folder.old) result (F.directory folder.new) }
+    ensures fault { IfErr result IsDeviceFault }
+{
+    let names = folder.list()?;
+    match folder.flush_names() {
+        Ok(()) => Ok(names),
+        Err(_) => Err(StoreFault::Refused),
+    }
+}
+
+/// Flushes the file made, puts it under a name, and flushes the names.
+fn put_flushed<F: FileFolder>(folder: &mut F, name: &str) -> Result<(), StoreFault>
+    ensures { F.sound folder.new → F.sound folder.old
+        × PutsFlushed (F.directory folder.old) name.now result (F.directory folder.new) }
+{
+    folder.flush_made()?;
+    folder.put(name)?;
+    folder.flush_names()
+}
+
+/// The same, where no file has the name.
+pub fn put_where_none<F: FileFolder>(folder: &mut F, name: &str) -> Result<(), StoreFault>
+    ensures { F.sound folder.new → F.sound folder.old
+        × PutsFlushed (F.directory folder.old) name.now result (F.directory folder.new) }
+{
+    folder.flush_made()?;
+    if folder.has(name)? {
+        return Err(StoreFault::Refused);
+    }
+    folder.put(name)?;
+    folder.flush_names()
+}
+
+/// Puts bytes behind those of a file, and flushes them.
+fn append_flushed<F: FileFolder>(folder: &mut F, name: &str, bytes: &[u8]) -> Result<(), StoreFault>
+    ensures { F.sound folder.new → F.sound folder.old
+        × AppendsPiece (F.directory folder.old) name.now bytes.now result (F.directory folder.new) }
+{
+    folder.append(name, bytes)?;
+    folder.flush(name)
+}
+
+/// The same, at each border of 4,096 octets of the file before more is written.
+fn append_pages<F: FileFolder>(folder: &mut F, name: &str, bytes: &[u8]) -> Result<(), StoreFault>
+    ensures { F.sound folder.new → F.sound folder.old
+        × AppendsFlushed (F.directory folder.old) name.now bytes.now result (F.directory folder.new) }
+{
+    let size = folder.size(name)?;
+    let room = PAGE - (size % PAGE as u64) as usize;
+    let (front, mut rest) = bytes.split_at(room.min(bytes.len()));
+    append_flushed(folder, name, front)?;
+    while !rest.is_empty() {
+        let (page, after) = rest.split_at(PAGE.min(rest.len()));
+        append_flushed(folder, name, page)?;
+        rest = after;
+    }
+    Ok(())
+}
+
+/// Puts bytes behind those of a file, and flushes them in one of the two ways.
+pub fn append_in<F: FileFolder>(
+    folder: &mut F,
+    name: &str,
+    bytes: &[u8],
+    appending: Appending,
+) -> Result<(), StoreFault>
+    ensures { F.sound folder.new → F.sound folder.old
+        × AppendsFlushed (F.directory folder.old) name.now bytes.now result (F.directory folder.new) }
+{
+    match appending {
+        Appending::AtOnce => append_flushed(folder, name, bytes),
+        Appending::ByPages => append_pages(folder, name, bytes),
+    }
+}
+
+/// Cuts a file to its first bytes, and flushes it.
+pub fn cut_flushed<F: FileFolder>(folder: &mut F, name: &str, len: u64) -> Result<(), StoreFault>
+    ensures { F.sound folder.new → F.sound folder.old
+        × CutsFlushed (F.directory folder.old) name.now len result (F.directory folder.new) }
+{
+    folder.cut_to(name, len)?;
+    folder.flush(name)
+}
+
+/// Makes a file of these bytes, flushes it, puts it under a name, and flushes the names.
+fn put_new<F: FileFolder>(folder: &mut F, name: &str, bytes: &[u8]) -> Result<(), StoreFault>
+    ensures { F.sound folder.new → F.sound folder.old
+        × ReplacesFlushed (F.directory folder.old) name.now bytes.now result (F.directory folder.new) }
+{
+    folder.make(name)?;
+    folder.write(bytes)?;
+    put_flushed(folder, name)
+}
+
+/// The same, and gives the file up where a call was refused.
+pub fn replace_flushed<F: FileFolder>(
+    folder: &mut F,
+    name: &str,
+    bytes: &[u8],
+) -> Result<(), StoreFault>
+    ensures { F.sound folder.new → F.sound folder.old
+        × ReplacesFlushed (F.directory folder.old) name.now bytes.now result (F.directory folder.new) }
+{
+    match put_new(folder, name, bytes) {
+        Ok(()) => Ok(()),
+        Err(fault) => {
+            folder.discard();
+            Err(fault)
+        }
+    }
+}
+
+/// Flushes a file and the names.
+pub fn flush_both<F: FileFolder>(folder: &mut F, name: &str) -> Result<(), StoreFault>
+    ensures flushes { F.sound folder.new → F.sound folder.old
+        × Flushes (F.directory folder.old) name.now (F.directory folder.new) }
+{
+    folder.flush(name)?;
+    folder.flush_names()
+}
