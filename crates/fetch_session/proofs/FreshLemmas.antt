@@ -110,17 +110,19 @@ item_is item uid size u s =
 pub no_item : Item
 no_item = record { uid = []; size = 0 }
 
-pub no_step : Step
-no_step = record { number = 0; retrieve = false; delete = false }
+-- the i-th step, and the tasks after it
+abbrev pub step_at : List Step → ℕ → Step
+step_at steps i = get_or steps i (record { number = 0; retrieve = false; delete = false })
 
-pub tasks_left : (steps : List Step) (items : List Item) (held : List Bool) (i : ℕ) (uid : List ℕ) (size : ℕ) → i < length steps → i < length items → i < length held
-    → uid ≡ (get_or items i no_item).uid → size ≡ (get_or items i no_item).size
-    → tasks_planned (drop i steps) (drop i items) (drop i held)
-    ≡ tasks_in (get_or steps i (record { number = 0; retrieve = false; delete = false })) (record { uid = uid; size = size }) (get_or held i false)
-    ++ tasks_planned (drop (i + 1) steps) (drop (i + 1) items) (drop (i + 1) held)
-tasks_left steps items held i uid size a b c u s =
+abbrev pub later_at : List Step → List Item → List Bool → ℕ → List Task
+later_at steps items held i = tasks_planned (drop (i + 1) steps) (drop (i + 1) items) (drop (i + 1) held)
+
+pub tasks_left : (steps : List Step) (items : List Item) (held : List Bool) (i : ℕ) (item : Item) → i < length items → length steps ≡ length items
+    → length held ≡ length items → item.uid ≡ (get_or items i no_item).uid → item.size ≡ (get_or items i no_item).size
+    → tasks_planned (drop i steps) (drop i items) (drop i held) ≡ tasks_in (step_at steps i) item (get_or held i false) ++ later_at steps items held i
+tasks_left steps items held i item within all_steps all_flags u s =
     let next : suc i ≡ i + 1 = omega arith in
-    let step = get_or steps i (record { number = 0; retrieve = false; delete = false }) in
-    left steps items held i (record { number = 0; retrieve = false; delete = false }) no_item false a b c
-    ∙ ap (λ (item : Item). tasks_in step item (get_or held i false) ++ tasks_planned (drop (suc i) steps) (drop (suc i) items) (drop (suc i) held)) (item_is (get_or items i no_item) uid size u s)
-    ∙ ap (λ (n : ℕ). tasks_in step (record { uid = uid; size = size }) (get_or held i false) ++ tasks_planned (drop n steps) (drop n items) (drop n held)) next
+    left steps items held i (record { number = 0; retrieve = false; delete = false }) no_item false (omega (arith, within, all_steps)) within (omega (arith, within, all_flags))
+    ∙ ap (λ (t : Item). tasks_in (step_at steps i) t (get_or held i false) ++ tasks_planned (drop (suc i) steps) (drop (suc i) items) (drop (suc i) held))
+    (item_is (get_or items i no_item) item.uid item.size u s)
+    ∙ ap (λ (n : ℕ). tasks_in (step_at steps i) item (get_or held i false) ++ tasks_planned (drop n steps) (drop n items) (drop n held)) next

@@ -24,7 +24,7 @@ use Rattle.fetch_session.specs.Store.{ReadsText, StopsReading, PassesText}
 use Rattle.fetch_session.specs.Tail.{turns_in as tail_turns, tail, Left, LeftBy}
 use Rattle.fetch_session.specs.Opening.{opening, Enters}
 use Rattle.fetch_session.specs.Intake.{session_limit, step_limit, opening_limit, tail_limit, GotAtMost, Took, TookBefore, TookTillCut, TookWithTail}
-use Rattle.fetch_session.proofs.TurnLemmas.{stopped_first}
+use Rattle.pop3_client.proofs.TalkLemmas.{stopped_first}
 
 pub took_on : (m n : ℕ) (a b c : Place) → Took m a b → Took n b c → Took (m + n) a c
 took_on m n a b c first then =

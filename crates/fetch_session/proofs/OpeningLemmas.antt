@@ -1,5 +1,5 @@
 -- How logging in, the count and the listings make the beginning.
-use Rattle.std.proofs.Common.{inl, inr, ℕ, List, [], ◌∷◌, ◌++◌, Result, Ok, Err}
+use Rattle.std.proofs.Common.{◌≡◌, inl, inr, ℕ, List, [], ◌∷◌, ◌++◌, Result, Ok, Err, subst}
 use Rattle.pop3_wire.specs.Place.{Place}
 use Rattle.pop3_wire.specs.Reading.{WholeReply, TellsCount}
 use Rattle.mail_terms.specs.Listing.{Item}
@@ -10,15 +10,13 @@ use Rattle.pop3_client.specs.Turns.{stat, uidl, list}
 use Rattle.pop3_client.specs.Conversation.{Talked, Stopped, Broke, login}
 use Rattle.pop3_client.specs.Listing.{Listed, GetsListing}
 use Rattle.fetch_session.specs.Opening.{Opened, Enters}
-use Rattle.fetch_session.proofs.TurnLemmas.{talked_on, stopped_first, stopped_before, stopped_behind}
+use Rattle.pop3_client.proofs.TalkLemmas.{talked_on, stopped_first}
+use Rattle.fetch_session.proofs.TurnLemmas.{stopped_before, stopped_behind}
 
 module _ (name password : List ℕ) (a b c d : Place) (welcome : List WholeReply) (entered : Talked (login name password) welcome a b) where
   -- the count wasn't told
   pub not_counted : (fault : Fault) → Broke stat b c fault → Enters name password a (Err fault) c
   not_counted fault broke = inl (stopped_behind (login name password) (stat ∷ uidl ∷ list ∷ []) welcome a b c fault entered (stopped_first stat (uidl ∷ list ∷ []) b c fault broke))
-
-  counted_too : (counted : WholeReply) → Talked (stat ∷ []) (counted ∷ []) b c → Talked (login name password ++ stat ∷ []) (welcome ++ counted ∷ []) a c
-  counted_too counted talked = talked_on (login name password) (stat ∷ []) welcome (counted ∷ []) a b c entered talked
 
   all_opened : (counted : WholeReply) (count : ℕ) (uids : List UidRow) (sizes : List ScanRow) → Talked (stat ∷ []) (counted ∷ []) b c → TellsCount counted count → Listed c d uids sizes
       → Opened name password a d count uids sizes
@@ -46,3 +44,9 @@ module _ (name password : List ℕ) (a b c d : Place) (welcome : List WholeReply
 -- logging in stopped
 pub not_entered : (name password : List ℕ) (a b : Place) (fault : Fault) → Stopped (login name password) a b fault → Enters name password a (Err fault) b
 not_entered name password a b fault stopped = inl (stopped_before (login name password) (stat ∷ uidl ∷ list ∷ []) a b fault stopped)
+
+-- by the same name and password
+pub entered_as : (name name' password password' : List ℕ) (old : Place) (result : Result (List Item) Fault) (new : Place) → name ≡ name' → password ≡ password'
+    → Enters name password old result new → Enters name' password' old result new
+entered_as name name' password password' old result new same also enters =
+    subst (λ (n : List ℕ). Enters n password' old result new) same (subst (λ (p : List ℕ). Enters name p old result new) also enters)

@@ -6,6 +6,3 @@ use Rattle.fetch_session.specs.Report.{Adds}
 
 pub adds_on : {Z : Type 0} (a b c : Vec ReportLine Z) (i : ℕ) → Adds a (2 * i) b → Adds b 2 c → Adds a (2 * (i + 1)) c
 adds_on a b c i first then = (omega (arith, first.0, then.0), omega (arith, first.1, then.1))
-
-pub adds_more : {Z : Type 0} (a b c : Vec ReportLine Z) (m n : ℕ) → Adds a m b → Adds b n c → Adds a (m + n) c
-adds_more a b c m n first then = (omega (arith, first.0, then.0), omega (arith, first.1, then.1))

@@ -1,5 +1,5 @@
 -- How what single tasks do makes what lists of tasks do.
-use Rattle.std.proofs.Common.{◌≡◌, ◌≤◌, ℕ, List, [], ◌∷◌, ◌++◌, Result, Ok, Err, refl, sym, ap, subst, ◌∙◌, arith, append_assoc}
+use Rattle.std.proofs.Common.{◌≡◌, ◌≤◌, ℕ, List, [], ◌∷◌, ◌++◌, Result, Ok, Err, OnOk, refl, sym, ap, subst, ◌∙◌, arith, append_assoc}
 use Rattle.std.proofs.lemmas.List.{append-nil, map-append}
 use Rattle.std.proofs.lemmas.Grind.{flat_map-append}
 use Rattle.std.specs.List.{AllByRecursion}
@@ -8,7 +8,7 @@ use Rattle.mail_store.specs.Maildir.{Maildir, File}
 use Rattle.pop3_client.specs.Turns.{Turn}
 use Rattle.pop3_wire.specs.Reading.{WholeReply}
 use Rattle.pop3_client.specs.Conversation.{Talked}
-use Rattle.fetch_session.proofs.TurnLemmas.{talked_none, talked_on}
+use Rattle.pop3_client.proofs.TalkLemmas.{talked_none, talked_on}
 use Rattle.fetch_session.specs.declared.fault.Cut.{Cut}
 use Rattle.fetch_session.specs.declared.report.ReportLine.{ReportLine}
 use Rattle.fetch_session.specs.Task.{Task, Done, IsAnswered, task_in, turns_in, ids_in, files_in, lines_in, tasks_of, turns_of, replies_of, ids_of, files_of, lines_of}
@@ -122,3 +122,7 @@ leads_fell account all left xs ys start now new f split leads fell =
 
 pub leads_end : (account : List ℕ) (all left : List Task) (start now : Scene) → left ≡ [] → Leads account all start left now → AllWent account all start now
 leads_end account all left start now none leads = leads.on (Ok tt) now (subst (λ (ts : List Task). AllWent account ts now now) (sym none) (all_none account now))
+
+pub on_any : {T E P : Type 0} (result : Result T E) → P → OnOk result P
+on_any (Ok done) p = p
+on_any (Err fault) p = tt

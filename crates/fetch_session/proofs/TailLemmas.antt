@@ -11,7 +11,7 @@ use Rattle.pop3_client.specs.Texts.{Fetching, TakesRest}
 use Rattle.pop3_client.specs.Conversation.{Broke, Talks}
 use Rattle.fetch_session.specs.declared.fault.Fault.{Fault}
 use Rattle.fetch_session.specs.Tail.{turns_in, tail, Drops, LeftBy}
-use Rattle.fetch_session.proofs.TurnLemmas.{talks_on, stopped_first}
+use Rattle.pop3_client.proofs.TalkLemmas.{tells_then, stopped_first}
 
 abbrev result_of : Result (Unit {0}) TalkFault → Result (Unit {0}) TalkFault
 result_of r = r
@@ -114,7 +114,7 @@ left_dropped fault (Some rest) old mid new r drops talks = (
   λ done. (r, subst (λ (p : Place). Talks (turns_in (tail fault)) p r new) (drops.0 done).1 talks),
   λ number start text now. let told = drops.1 number start text now in (
     r,
-    talks_on (retr number) (turns_in (tail fault)) told.0 start mid new r told.1 talks,
+    tells_then (retr number) (turns_in (tail fault)) start mid new told.0 r told.1 talks,
     (let got = got_after old mid new (got_under number start old mid rest text (Ok tt) drops now) (got_talks (turns_in (tail fault)) mid new r talks) in
         let said = said_talks (turns_in (tail fault)) mid new r talks in
         record {

@@ -24,7 +24,7 @@ use Rattle.fetch_session.specs.Record.{Steady, Saves}
 use Rattle.fetch_session.specs.Scene.{scene, AllWent, Stops, TakesTask}
 use Rattle.std.specs.Prelude.{not}
 use Rattle.std.proofs.lemmas.Bool.{true≢false}
-use Rattle.fetch_session.proofs.TurnLemmas.{talked_none}
+use Rattle.pop3_client.proofs.TalkLemmas.{talked_none}
 use Rattle.fetch_session.proofs.SceneLemmas.{gained_none}
 use Rattle.fetch_session.proofs.StoreLemmas.{gained_file}
 

@@ -5,7 +5,9 @@ use Rattle.fetch_session.specs.declared.fault.Cut.{Cut}
 use Rattle.pop3_client.specs.declared.fault.Fault.{Fault as TalkFault}
 use Rattle.pop3_client.specs.declared.fault.Fault.TheVariants as Talk
 use Rattle.fetch_session.specs.declared.fault.Fault.{Fault}
-use Rattle.fetch_session.specs.declared.fault.Fault.TheVariants.{ConnectionEnded, ReadFailed, WriteFailed, ReplyTooLong, BadReply, Refused, BadListing, ListingsDisagree, TooMany, TextTooLong, NoMemory}
+use Rattle.fetch_session.specs.declared.fault.Fault.TheVariants.{ConnectionEnded, ReadFailed, WriteFailed}
+use Rattle.fetch_session.specs.declared.fault.Fault.TheVariants.{ReplyTooLong, BadReply, Refused, BadListing}
+use Rattle.fetch_session.specs.declared.fault.Fault.TheVariants.{ListingsDisagree, TooMany, TextTooLong, NoMemory}
 
 -- the fault of a session whose conversation broke so
 abbrev pub fault_of : TalkFault → Fault

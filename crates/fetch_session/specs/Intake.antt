@@ -59,4 +59,5 @@ TookTillCut limit old (Err cut) new = TookBefore limit old cut.rest new
 -- the same, where what is said after the fault stays within them too
 abbrev pub TookWithTail : ℕ → Place → Result (Unit {0}) Cut → Place → Type 0
 TookWithTail limit old (Ok done) new = Took limit old new
-TookWithTail limit old (Err cut) new = (before : ℕ) × TookBefore before old cut.rest new × (before + most_of (turns_in (tail cut.fault)) ≤ limit)
+TookWithTail limit old (Err cut) new = (before : ℕ) × TookBefore before old cut.rest new
+    × (before + most_of (turns_in (tail cut.fault)) ≤ limit)

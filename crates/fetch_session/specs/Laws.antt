@@ -23,12 +23,14 @@ Stands replies old new = (rest : List ℕ) × (new.place.link.got ≡ old.place.
 -- a file more, whose reply stands behind those taken, only where the store refused
 abbrev pub ExtraIs : List ℕ → List Done → List Task → Scene → Fault → Scene → List File → Type 0
 ExtraIs account taken next old fault new extra = (extra ≡ [])
-    ⊎ ((fault ≡ StoreRefused Refused) × ((number : ℕ) × (uid : List ℕ) × (later : List Task) × (reply : WholeReply) × (next ≡ stores number uid ∷ later)
+    ⊎ ((fault ≡ StoreRefused Refused) × ((number : ℕ) × (uid : List ℕ) × (later : List Task) × (reply : WholeReply)
+    × (next ≡ stores number uid ∷ later)
     × (extra ≡ file_from account uid reply ∷ []) × Stands (replies_of taken ++ reply ∷ []) old new))
 
 -- the last id that was to be marked isn't saved, only where the record wasn't
 abbrev pub MarksAre : List (List ℕ) → Fault → List (List ℕ) → Type 0
-MarksAre taken fault marks = (marks ≡ taken) ⊎ (((fault ≡ SeenRefused) ⊎ (fault ≡ NoMemory)) × ((uid : List ℕ) × (taken ≡ marks ++ uid ∷ [])))
+MarksAre taken fault marks = (marks ≡ taken) ⊎ (((fault ≡ SeenRefused) ⊎ (fault ≡ NoMemory))
+    × ((uid : List ℕ) × (taken ≡ marks ++ uid ∷ [])))
 
 -- what tasks that were cut short leave
 pub record CutShort (account : List ℕ) (tasks : List Task) (old : Scene) (fault : Fault) (new : Scene) : Type 0 where
@@ -48,7 +50,9 @@ pub record CutShort (account : List ℕ) (tasks : List Task) (old : Scene) (faul
 
 -- where a list of tasks stopped, it leaves what tasks that were cut short leave
 abbrev pub StoppingCutsShort : Type 0
-StoppingCutsShort = (account : List ℕ) (tasks : List Task) (old new : Scene) (cut : Cut) → Fell account tasks old cut new → old.place.waiting ≡ [] → Steady old.file.content (none_open old.rows) → CutShort account tasks old cut.fault new
+StoppingCutsShort = (account : List ℕ) (tasks : List Task) (old new : Scene) (cut : Cut)
+    → Fell account tasks old cut new → old.place.waiting ≡ [] → Steady old.file.content (none_open old.rows)
+    → CutShort account tasks old cut.fault new
 
 -- a file that stands for a record without a torn end stands for it
 abbrev pub SteadyFilesKeep : Type 0
@@ -56,7 +60,8 @@ SteadyFilesKeep = (content : Option (List ℕ)) (held : Held) → Steady content
 
 -- a record that wasn't saved left its file standing for the one before or for this one
 abbrev pub UnsavedFilesKeep : Type 0
-UnsavedFilesKeep = (old : Stored) (was now : Held) (fault : Fault) (new : Stored) → Saves old was now (Err fault) new → Steady old.content was
+UnsavedFilesKeep = (old : Stored) (was now : Held) (fault : Fault) (new : Stored) → Saves old was now (Err fault) new
+    → Steady old.content was
     → Keeps new.content was ⊎ Keeps new.content now
 
 -- of no turns there is a conversation in which nothing happens, and turns behind turns make one conversation

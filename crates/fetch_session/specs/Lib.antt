@@ -13,3 +13,4 @@ pub mod Account
 pub mod Text
 pub mod Intake
 pub mod Refusal
+pub mod Work

@@ -27,7 +27,9 @@ pub record Opened (name password : List ℕ) (old new : Place) (count : ℕ) (ui
 
 -- the listing is the rows, joined with the count; or the conversation stopped; or the rows don't join; or memory was wanting to join them
 abbrev pub Enters : List ℕ → List ℕ → Place → Result (List Item) Fault → Place → Type 0
-Enters name password old (Ok items) new = (count : ℕ) × (uids : List UidRow) × (sizes : List ScanRow) × Opened name password old new count uids sizes × Joins count uids sizes items
+Enters name password old (Ok items) new = (count : ℕ) × (uids : List UidRow) × (sizes : List ScanRow)
+    × Opened name password old new count uids sizes × Joins count uids sizes items
 Enters name password old (Err fault) new = Stopped (opening name password) old new fault
-    ⊎ (((fault ≡ ListingsDisagree) × ((count : ℕ) × (uids : List UidRow) × (sizes : List ScanRow) × Opened name password old new count uids sizes × (Agree count uids sizes → ⊥)))
+    ⊎ (((fault ≡ ListingsDisagree) × ((count : ℕ) × (uids : List UidRow) × (sizes : List ScanRow)
+    × Opened name password old new count uids sizes × (Agree count uids sizes → ⊥)))
     ⊎ ((fault ≡ NoMemory) × ((count : ℕ) × (uids : List UidRow) × (sizes : List ScanRow) × Opened name password old new count uids sizes)))

@@ -18,10 +18,12 @@ use Rattle.fetch_session.specs.Scene.{Scene, scene, Does}
 
 -- what a session does once its record is ready: the planned tasks, then QUIT
 abbrev pub tasks_ahead : Settings → List ℕ → List Item → ℕ → Maildir → List Row → List Task
-tasks_ahead settings account items now maildir rows = tasks_planned (planned settings rows items now) items (flags_of account maildir items) ++ says quit ∷ []
+tasks_ahead settings account items now maildir rows = tasks_planned (planned settings rows items now) items
+    (flags_of account maildir items) ++ says quit ∷ []
 
 -- the record was read, merged with the listing and saved
-pub record Prepared (account : List ℕ) (items : List Item) (now : ℕ) (place : Place) (maildir : Maildir) (file : Stored) (lines : List ReportLine) (mid : Scene) : Type 0 where
+pub record Prepared (account : List ℕ) (items : List Item) (now : ℕ) (place : Place) (maildir : Maildir)
+    (file : Stored) (lines : List ReportLine) (mid : Scene) : Type 0 where
   pub was : Held
   pub stood : Keeps file.content was
   pub rows : mid.rows ≡ merged was.rows items (flags_of account maildir items) now
@@ -32,23 +34,29 @@ pub record Prepared (account : List ℕ) (items : List Item) (now : ℕ) (place 
   pub lines_are : mid.lines ≡ lines
 
 -- it wasn't: nothing was said
-pub record Unprepared (account : List ℕ) (items : List Item) (now : ℕ) (place : Place) (maildir : Maildir) (file : Stored) (lines : List ReportLine) (cut : Cut) (new : Scene) : Type 0 where
+pub record Unprepared (account : List ℕ) (items : List Item) (now : ℕ) (place : Place) (maildir : Maildir)
+    (file : Stored) (lines : List ReportLine) (cut : Cut) (new : Scene) : Type 0 where
   pub none : cut.rest ≡ None
   pub unready : Unready account items now maildir file cut.fault new.maildir new.file
   pub place_is : new.place ≡ place
   pub lines_are : new.lines ≡ lines
 
 -- what was planned was done, or as much as went well
-pub record Carried (settings : Settings) (account : List ℕ) (items : List Item) (now : ℕ) (place : Place) (maildir : Maildir) (file : Stored) (lines : List ReportLine) (result : Result (Unit {0}) Cut) (new : Scene) (skipped : ℕ) : Type 0 where
+pub record Carried (settings : Settings) (account : List ℕ) (items : List Item) (now : ℕ) (place : Place)
+    (maildir : Maildir) (file : Stored) (lines : List ReportLine) (result : Result (Unit {0}) Cut) (new : Scene)
+    (skipped : ℕ) : Type 0 where
   pub mid : Scene
   pub prepared : Prepared account items now place maildir file lines mid
   pub does : Does account (tasks_ahead settings account items now maildir mid.rows) mid result new
   pub skips : skipped ≡ skipped_in (planned settings mid.rows items now)
 
 -- the listing's steps were prepared and carried out, or as far as went well
-abbrev pub Carries : Settings → List ℕ → List Item → ℕ → Place → Maildir → Stored → List ReportLine → Result (Unit {0}) Cut → Place → Maildir → Stored → List ReportLine → ℕ → Type 0
+abbrev pub Carries : Settings → List ℕ → List Item → ℕ → Place → Maildir → Stored → List ReportLine
+    → Result (Unit {0}) Cut → Place → Maildir → Stored → List ReportLine → ℕ → Type 0
 Carries settings account items now place maildir file lines (Ok done) place' maildir' file' lines' skipped =
-    (rows : List Row) × Carried settings account items now place maildir file lines (Ok done) (scene place' maildir' file' rows lines') skipped
+    (rows : List Row)
+    × Carried settings account items now place maildir file lines (Ok done) (scene place' maildir' file' rows lines') skipped
 Carries settings account items now place maildir file lines (Err cut) place' maildir' file' lines' skipped =
-    (rows : List Row) × (((skipped ≡ 0) × Unprepared account items now place maildir file lines cut (scene place' maildir' file' rows lines'))
+    (rows : List Row)
+    × (((skipped ≡ 0) × Unprepared account items now place maildir file lines cut (scene place' maildir' file' rows lines'))
     ⊎ Carried settings account items now place maildir file lines (Err cut) (scene place' maildir' file' rows lines') skipped)

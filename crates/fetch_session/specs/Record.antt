@@ -52,7 +52,8 @@ Writes old held (Err _) new = ⊥
 -- a changed record was saved; or, refused, the file stands for the one or the other; or nothing was done for want of memory
 abbrev pub Saves : Stored → Held → Held → Result (Unit {0}) Fault → Stored → Type 0
 Saves old was now (Ok done) new = (new.failures ≡ old.failures) × (Steady old.content was → Steady new.content now)
-Saves old was now (Err SeenRefused) new = (new.failures ≡ old.failures + 1) × (Steady old.content was → Keeps new.content was ⊎ Keeps new.content now)
+Saves old was now (Err SeenRefused) new = (new.failures ≡ old.failures + 1)
+    × (Steady old.content was → Keeps new.content was ⊎ Keeps new.content now)
 Saves old was now (Err NoMemory) new = new ≡ old
 Saves old was now (Err _) new = ⊥
 
@@ -105,7 +106,8 @@ FindsHeld account old items (Err NoMemory) new = new ≡ old
 FindsHeld account old items (Err _) new = ⊥
 
 -- the record was read, merged and saved, and the plan made; no intent is open any more
-pub record IsReady (settings : Settings) (account : List ℕ) (items : List Item) (now : ℕ) (maildir : Maildir) (file : Stored) (ready : Ready) (after : List Row) (maildir' : Maildir) (file' : Stored) : Type 0 where
+pub record IsReady (settings : Settings) (account : List ℕ) (items : List Item) (now : ℕ) (maildir : Maildir)
+    (file : Stored) (ready : Ready) (after : List Row) (maildir' : Maildir) (file' : Stored) : Type 0 where
   pub was : Held
   pub stood : Keeps file.content was
   pub held : ready.held.items ≡ flags_of account maildir items
@@ -119,7 +121,8 @@ pub record IsReady (settings : Settings) (account : List ℕ) (items : List Item
 abbrev pub UnreadyCause : Fault → Maildir → Stored → Maildir → Stored → Type 0
 UnreadyCause SeenRefused maildir file maildir' file' = (file.failures < file'.failures) × (maildir' ≡ maildir)
 UnreadyCause (BadSeen line) maildir file maildir' file' = Misread file line file' × (maildir' ≡ maildir)
-UnreadyCause (StoreRefused Missing) maildir file maildir' file' = ((maildir.there.new ≡ false) ⊎ (maildir.there.cur ≡ false)) × (maildir' ≡ maildir)
+UnreadyCause (StoreRefused Missing) maildir file maildir' file' = ((maildir.there.new ≡ false)
+    ⊎ (maildir.there.cur ≡ false)) × (maildir' ≡ maildir)
 UnreadyCause (StoreRefused Refused) maildir file maildir' file' = maildir' ≡ Rattle.mail_store.specs.Maildir.counted maildir
 UnreadyCause NoMemory maildir file maildir' file' = maildir' ≡ maildir
 UnreadyCause _ maildir file maildir' file' = ⊥
@@ -127,12 +130,16 @@ UnreadyCause _ maildir file maildir' file' = ⊥
 -- the file is as it was, or stands for the merged record
 abbrev pub IsMergedAtMost : List ℕ → List Item → ℕ → Maildir → Stored → Stored → Type 0
 IsMergedAtMost account items now maildir file file' = (file'.content ≡ file.content)
-    ⊎ ((was : Held) × Keeps file.content was × (Keeps file'.content was ⊎ Keeps file'.content (none_open (merged was.rows items (flags_of account maildir items) now))))
+    ⊎ ((was : Held) × Keeps file.content was × (Keeps file'.content was
+    ⊎ Keeps file'.content (none_open (merged was.rows items (flags_of account maildir items) now))))
 
-pub record Unready (account : List ℕ) (items : List Item) (now : ℕ) (maildir : Maildir) (file : Stored) (fault : Fault) (maildir' : Maildir) (file' : Stored) : Type 0 where
+pub record Unready (account : List ℕ) (items : List Item) (now : ℕ) (maildir : Maildir) (file : Stored)
+    (fault : Fault) (maildir' : Maildir) (file' : Stored) : Type 0 where
   pub cause : UnreadyCause fault maildir file maildir' file'
   pub content : IsMergedAtMost account items now maildir file file'
 
 abbrev pub Readies : Settings → List ℕ → List Item → ℕ → Maildir → Stored → Result Ready Fault → List Row → Maildir → Stored → Type 0
-Readies settings account items now maildir file (Ok ready) after maildir' file' = IsReady settings account items now maildir file ready after maildir' file'
-Readies settings account items now maildir file (Err fault) after maildir' file' = Unready account items now maildir file fault maildir' file'
+Readies settings account items now maildir file
+    (Ok ready) after maildir' file' = IsReady settings account items now maildir file ready after maildir' file'
+Readies settings account items now maildir file
+    (Err fault) after maildir' file' = Unready account items now maildir file fault maildir' file'

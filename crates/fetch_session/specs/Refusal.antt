@@ -18,7 +18,8 @@ RefusesAtMostOne old new = RefusesNone old new ⊎ (new.failures ≡ counted_up 
 
 -- one only where this cut leaves the link alone from then on
 abbrev pub RefusesBefore : Link → Cut → Link → Type 0
-RefusesBefore old cut new = RefusesNone old new ⊎ ((new.failures ≡ counted_up old.failures) × (cut.rest ≡ None) × (tail cut.fault ≡ Nothing))
+RefusesBefore old cut new = RefusesNone old new ⊎ ((new.failures ≡ counted_up old.failures) × (cut.rest ≡ None)
+    × (tail cut.fault ≡ Nothing))
 
 -- a part of a session
 abbrev pub RefusesTillCut : {A : Type 0} → Link → Result A Cut → Link → Type 0

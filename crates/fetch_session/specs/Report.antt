@@ -1,7 +1,8 @@
 -- What a report says of a session.
-use Rattle.std.specs.Prelude.{◌≡◌, ◌+◌, ◌≤◌, ℕ, Bool, true, false, not, List, min, if◌then◌else◌, Vec}
+use Rattle.std.specs.Prelude.{◌≡◌, ◌+◌, ◌*◌, ◌≤◌, ℕ, Bool, true, false, not, List, min, if◌then◌else◌, Vec}
 use Rattle.std.specs.Vec.{vec_len, vec_capacity}
 use Rattle.std.specs.List.{filter, count_by, sum_by}
+use Rattle.mail_terms.specs.Listing.{message_limit}
 use Rattle.fetch_rules.specs.declared.steps.Step.{Step}
 use Rattle.fetch_session.specs.declared.fault.Fault.TheVariants.{StoreRefused, SeenRefused, BadSeen}
 use Rattle.fetch_session.specs.declared.report.Report.{Report}
@@ -66,6 +67,10 @@ kept_lines outcome lines = if takes_back outcome then without_deletions lines el
 -- a number of bytes, as far as 64 bits go
 abbrev pub most_bytes : ℕ → ℕ
 most_bytes n = min n 18446744073709551615
+
+-- how many lines a session tells at most: two of each message
+abbrev pub most_lines : ℕ
+most_lines = 2 * message_limit
 
 -- what a session tells that came out so: so many messages were listed, the plan passes over so many, and these lines were noted
 pub record Reports (outcome : Outcome) (total skipped : ℕ) (lines : List ReportLine) (report : Report) : Type 0 where

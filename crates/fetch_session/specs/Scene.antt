@@ -16,7 +16,8 @@ use Rattle.pop3_wire.specs.Bodies.{Rest}
 use Rattle.pop3_wire.specs.declared.unstuffer.Spot.TheVariants.{Done as AtEnd}
 use Rattle.pop3_client.specs.Texts.{Fetching, Fetched}
 use Rattle.mail_store.specs.FileName.{name_of}
-use Rattle.fetch_session.specs.Task.{Task, stores, Done, IsAnswered, turns_in, tasks_of, turns_of, replies_of, ids_of, files_of, file_from, delivered, lines_of}
+use Rattle.fetch_session.specs.Task.{Task, stores, Done, IsAnswered, turns_in, tasks_of, turns_of, replies_of, ids_of}
+use Rattle.fetch_session.specs.Task.{files_of, file_from, delivered, lines_of}
 use Rattle.fetch_session.specs.Store.{RefusesText, Gained}
 use Rattle.fetch_session.specs.Record.{Steady, Saves}
 
@@ -103,7 +104,8 @@ pub record AllWent (account : List ℕ) (tasks : List Task) (old new : Scene) : 
 
 -- one task
 abbrev pub TakesTask : List ℕ → Task → Scene → Result (Unit {0}) Cut → Scene → Type 0
-TakesTask account task old (Ok done) new = (replies : List WholeReply) × Went account (record { task = task; replies = replies } ∷ []) old new
+TakesTask account task old (Ok done) new = (replies : List WholeReply)
+    × Went account (record { task = task; replies = replies } ∷ []) old new
 TakesTask account task old (Err cut) new = Stops account task old cut new
 
 -- a list of tasks
@@ -111,7 +113,9 @@ abbrev pub Does : List ℕ → List Task → Scene → Result (Unit {0}) Cut →
 Does account tasks old (Ok done) new = AllWent account tasks old new
 Does account tasks old (Err cut) new = Fell account tasks old cut new
 
--- what is known of a call where the link, the Maildir and the record's file are sound after it: they were sound before, the link leads on from what it was, and the call did this
-abbrev pub WhereAllSound : {W D F : Type 0} → (W → Type 0) → (W → W → Type 0) → (D → Type 0) → (F → Type 0) → W → W → D → D → F → F → Type 0 → Type 0
+-- what is known of a call where the link, the Maildir and the record's file are sound after it: they were sound
+-- before, the link leads on from what it was, and the call did this
+abbrev pub WhereAllSound : {W D F : Type 0} → (W → Type 0) → (W → W → Type 0) → (D → Type 0) → (F → Type 0) → W → W
+    → D → D → F → F → Type 0 → Type 0
 WhereAllSound wire_is leads_to disk_is file_is wire wire' disk disk' file file' did =
     wire_is wire' → disk_is disk' → file_is file' → wire_is wire × disk_is disk × file_is file × leads_to wire wire' × did

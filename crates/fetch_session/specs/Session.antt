@@ -41,7 +41,8 @@ abbrev pub Enters_with : Settings → Place → Result (List Item) TalkFault →
 Enters_with settings old result new = Enters (string_bytes settings.username) (string_bytes settings.password) old result new
 
 -- the conversation stopped before a listing was known: nothing was stored
-pub record NotEntered (settings : Settings) (old : Place) (before : Kept) (cut : Cut) (new : Place) (after : Kept) (notes : Noted) : Type 0 where
+pub record NotEntered (settings : Settings) (old : Place) (before : Kept) (cut : Cut) (new : Place) (after : Kept)
+    (notes : Noted) : Type 0 where
   pub why : TalkFault
   pub is : cut ≡ cut_of (fault_of why) None
   pub enters : Enters_with settings old (Err why) new
@@ -49,7 +50,8 @@ pub record NotEntered (settings : Settings) (old : Place) (before : Kept) (cut :
   pub nothing : notes ≡ noted 0 0 []
 
 -- memory was wanting for the notes on what the listing names
-pub record NoRoom (settings : Settings) (old : Place) (before : Kept) (cut : Cut) (new : Place) (after : Kept) (notes : Noted) : Type 0 where
+pub record NoRoom (settings : Settings) (old : Place) (before : Kept) (cut : Cut) (new : Place) (after : Kept)
+    (notes : Noted) : Type 0 where
   pub items : List Item
   pub is : cut ≡ cut_of NoMemory None
   pub enters : Enters_with settings old (Ok items) new
@@ -57,12 +59,14 @@ pub record NoRoom (settings : Settings) (old : Place) (before : Kept) (cut : Cut
   pub nothing : notes ≡ noted (length items) 0 []
 
 -- the listing was known, and its messages were dealt with, or as far as went well
-pub record Dealt (settings : Settings) (account : List ℕ) (now : ℕ) (old : Place) (before : Kept) (result : Result (Unit {0}) Cut) (new : Place) (after : Kept) (notes : Noted) : Type 0 where
+pub record Dealt (settings : Settings) (account : List ℕ) (now : ℕ) (old : Place) (before : Kept)
+    (result : Result (Unit {0}) Cut) (new : Place) (after : Kept) (notes : Noted) : Type 0 where
   pub items : List Item
   pub mid : Place
   pub enters : Enters_with settings old (Ok items) mid
   pub total : notes.total ≡ length items
-  pub carries : Carries settings account items now mid before.maildir before.file [] result new after.maildir after.file notes.lines notes.skipped
+  pub carries : Carries settings account items now mid before.maildir before.file
+      [] result new after.maildir after.file notes.lines notes.skipped
 
 -- a session up to its QUIT, or to where it was cut
 abbrev pub Proceeds : Settings → List ℕ → ℕ → Place → Kept → Result (Unit {0}) Cut → Place → Kept → Noted → Type 0
@@ -81,7 +85,8 @@ LeavesLink (Ok done) mid link = link ≡ mid.link
 LeavesLink (Err cut) mid link = (new : Place) × Left cut mid new × (link ≡ new.link)
 
 -- a whole session, from a link of which nothing waits to be used
-pub record Session (settings : Settings) (account : List ℕ) (now : ℕ) (link : Link) (before : Kept) (report : Report) (link' : Link) (after : Kept) : Type 0 where
+pub record Session (settings : Settings) (account : List ℕ) (now : ℕ) (link : Link) (before : Kept) (report : Report)
+    (link' : Link) (after : Kept) : Type 0 where
   pub result : Result (Unit {0}) Cut
   pub mid : Place
   pub notes : Noted

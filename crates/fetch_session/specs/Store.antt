@@ -51,7 +51,8 @@ begun_with old f = record old { begun = Some f }
 -- an empty file of this name is being written, or none is
 abbrev pub Starts : Maildir → List ℕ → Result (Unit {0}) Fault → Maildir → Type 0
 Starts old name (Ok done) new = new ≡ begun_with old (file name [])
-Starts old name (Err fault) new = ((fault ≡ StoreRefused Missing) × (old.there.tmp ≡ false) × (new ≡ old)) ⊎ ((fault ≡ StoreRefused Refused) × (new ≡ counted old))
+Starts old name (Err fault) new = ((fault ≡ StoreRefused Missing) × (old.there.tmp ≡ false) × (new ≡ old))
+    ⊎ ((fault ≡ StoreRefused Refused) × (new ≡ counted old))
 
 -- the bytes stand behind those of the file that is being written, or none is any more
 abbrev pub Puts : Maildir → List ℕ → Result (Unit {0}) Fault → Maildir → Type 0
@@ -61,12 +62,14 @@ Puts old bytes (Err fault) new = (fault ≡ StoreRefused Refused) × ((f : File)
 -- the file that is being written stands in `new`, or, refused, it may
 abbrev pub Ends : Maildir → Result (Unit {0}) Fault → Maildir → Type 0
 Ends old (Ok done) new = (f : File) → old.begun ≡ Some f → new ≡ with_file old f
-Ends old (Err fault) new = (fault ≡ StoreRefused Refused) × ((f : File) → old.begun ≡ Some f → (new ≡ counted (dropped old)) ⊎ (new ≡ counted (with_file old f)))
+Ends old (Err fault) new = (fault ≡ StoreRefused Refused) × ((f : File) → old.begun ≡ Some f
+    → (new ≡ counted (dropped old)) ⊎ (new ≡ counted (with_file old f)))
 
 -- the store refused a text of which this much has come: nothing came into `new`, or, only where the text had come whole, the file
 abbrev pub RefusesText : Maildir → List ℕ → Rest → List ℕ → Fault → Maildir → Type 0
 RefusesText old name rest text fault new = ((fault ≡ StoreRefused Missing) × (old.there.tmp ≡ false) × (new ≡ old))
-    ⊎ ((fault ≡ StoreRefused Refused) × ((new ≡ counted (dropped old)) ⊎ ((rest.spot ≡ Done) × (new ≡ counted (with_file old (file name text))))))
+    ⊎ ((fault ≡ StoreRefused Refused) × ((new ≡ counted (dropped old))
+    ⊎ ((rest.spot ≡ Done) × (new ≡ counted (with_file old (file name text))))))
 
 -- the link stopped, and nothing was stored; or the store refused
 abbrev pub StopsStoring : List ℕ → Maildir → List ℕ → Fault → Option Rest → Maildir → Type 0
@@ -80,7 +83,8 @@ StoresText name old text (Err cut) new = StopsStoring name old text cut.fault cu
 -- the conversation broke; or the reply is under way, or whole
 abbrev pub StopsReading : ℕ → Place → List ℕ → Fault → Option Rest → Place → Type 0
 StopsReading number start text fault None new = (why : TalkFault) × (fault ≡ fault_of why) × Broke (retr number) start new why
-StopsReading number start text fault (Some rest) new = Fetching (retr number) start new rest text × (rest.spot ≡ Done → Fetched (retr number) start text new)
+StopsReading number start text fault (Some rest) new = Fetching (retr number) start new rest text
+    × (rest.spot ≡ Done → Fetched (retr number) start text new)
 
 abbrev pub ReadsText : ℕ → Place → List ℕ → Result ℕ Cut → Place → Type 0
 ReadsText number start text (Ok octets) new = Fetched (retr number) start text new
@@ -88,5 +92,6 @@ ReadsText number start text (Err cut) new = StopsReading number start text cut.f
 
 -- a text that is read and not stored: its length
 abbrev pub PassesText : ℕ → Place → Result ℕ TalkFault → Place → Type 0
-PassesText number start (Ok octets) new = (reply : WholeReply) × Talked (retr number ∷ []) (reply ∷ []) start new × (octets ≡ length (body_text reply.body))
+PassesText number start (Ok octets) new = (reply : WholeReply) × Talked (retr number ∷ []) (reply ∷ []) start new
+    × (octets ≡ length (body_text reply.body))
 PassesText number start (Err why) new = Broke (retr number) start new why

@@ -19,7 +19,8 @@ turns_in Nothing = []
 turns_in Leave = quit ∷ []
 turns_in Undo = rset ∷ quit ∷ []
 
--- nothing after a refused QUIT, QUIT after any other refused command, and after a refused store or record RSET, and QUIT once that is answered well
+-- nothing after a refused QUIT, QUIT after any other refused command, and after a refused store or record RSET, and
+-- QUIT once that is answered well
 abbrev pub tail : Fault → Tail
 tail (Refused Quit) = Nothing
 tail (Refused to) = Leave
@@ -35,7 +36,8 @@ Drops None old (Err fault) new = ⊥
 Drops (Some rest) old result new = (rest.spot ≡ Done → (result ≡ Ok tt) × (new ≡ old))
     × ((number : ℕ) (start : Place) (text : List ℕ) → Fetching (retr number) start old rest text → TakesRest (retr number) start result new)
 
--- what had been sent and what had come until then stand in front of all that was sent and that came, and what was sent behind them begins these turns
+-- what had been sent and what had come until then stand in front of all that was sent and that came, and what was
+-- sent behind them begins these turns
 pub record WentOn (turns : List Turn) (old new : Place) : Type 0 where
   pub said : List ℕ
   pub gained : List ℕ
@@ -43,12 +45,16 @@ pub record WentOn (turns : List Turn) (old new : Place) : Type 0 where
   pub got : new.link.got ≡ old.link.got ++ gained
   pub front : (later : List ℕ) × (asking turns ≡ said ++ later)
 
--- with no reply under way the tail was talked, or it stopped; else the turn of that reply and then the tail, from where that turn began, where what is sent and what comes go on from what had been sent and had come; and behind a whole reply the tail alone
+-- with no reply under way the tail was talked, or it stopped; else the turn of that reply and then the tail, from
+-- where that turn began, where what is sent and what comes go on from what had been sent and had come; and behind a
+-- whole reply the tail alone
 abbrev pub LeftBy : Fault → Option Rest → Place → Place → Type 0
 LeftBy fault None old new = (result : Result (Unit {0}) TalkFault) × Talks (turns_in (tail fault)) old result new
-LeftBy fault (Some rest) old new = (rest.spot ≡ Done → (result : Result (Unit {0}) TalkFault) × Talks (turns_in (tail fault)) old result new)
+LeftBy fault (Some rest) old new = (rest.spot ≡ Done → (result : Result (Unit {0}) TalkFault)
+    × Talks (turns_in (tail fault)) old result new)
     × ((number : ℕ) (start : Place) (text : List ℕ) → Fetching (retr number) start old rest text
-    → (result : Result (Unit {0}) TalkFault) × Talks (retr number ∷ turns_in (tail fault)) start result new × WentOn (turns_in (tail fault)) old new)
+    → (result : Result (Unit {0}) TalkFault) × Talks (retr number ∷ turns_in (tail fault)) start result new
+    × WentOn (turns_in (tail fault)) old new)
 
 abbrev pub Left : Cut → Place → Place → Type 0
 Left cut old new = LeftBy cut.fault cut.rest old new

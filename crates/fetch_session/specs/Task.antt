@@ -12,7 +12,8 @@ use Rattle.pop3_client.specs.Texts.{body_text}
 use Rattle.fetch_session.specs.declared.report.ReportLine.{ReportLine}
 use Rattle.fetch_session.specs.declared.report.ReportLine.TheVariants.{Delivered, Held, Skipped, Deleted}
 
--- a turn that stores nothing; a message passed over, of this number and size; a message to fetch and store under its id; one to fetch that is held already; one to delete
+-- a turn that stores nothing; a message passed over, of this number and size; a message to fetch and store under its
+-- id; one to fetch that is held already; one to delete
 pub data Task : Type 0 where
   says : Turn → Task
   skips : ℕ → ℕ → Task
@@ -40,7 +41,8 @@ ids_ahead tasks = flat_map ids_in tasks
 -- each of these ids is legal, isn't held yet, and stands there once
 abbrev pub AreFresh : List ℕ → Maildir → List (List ℕ) → Type 0
 AreFresh account maildir [] = Unit {0}
-AreFresh account maildir (uid ∷ uids) = IsLegalId uid × (is_held account maildir uid ≡ false) × AllByRecursion (λ (other : List ℕ). other ≢ uid) uids × AreFresh account maildir uids
+AreFresh account maildir (uid ∷ uids) = IsLegalId uid × (is_held account maildir uid ≡ false)
+    × AllByRecursion (λ (other : List ℕ). other ≢ uid) uids × AreFresh account maildir uids
 
 -- what is planned for a message of this id and size, which is held or not
 abbrev pub fetching : Bool → Bool → ℕ → List ℕ → ℕ → List Task

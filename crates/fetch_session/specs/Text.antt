@@ -8,7 +8,10 @@ use Rattle.pop3_client.specs.declared.fault.Asked.TheVariants.{Greeting, User, P
 use Rattle.fetch_session.specs.declared.fault.Why.{Why}
 use Rattle.fetch_session.specs.declared.fault.Why.TheVariants as why
 use Rattle.fetch_session.specs.declared.fault.Fault.{Fault}
-use Rattle.fetch_session.specs.declared.fault.Fault.TheVariants.{ConnectionEnded, ReadFailed, WriteFailed, ReplyTooLong, BadReply, Refused, BadListing, ListingsDisagree, TooMany, TextTooLong, StoreRefused, SeenRefused, NoMemory, BadSeen}
+use Rattle.fetch_session.specs.declared.fault.Fault.TheVariants.{ConnectionEnded, ReadFailed, WriteFailed}
+use Rattle.fetch_session.specs.declared.fault.Fault.TheVariants.{ReplyTooLong, BadReply, Refused, BadListing}
+use Rattle.fetch_session.specs.declared.fault.Fault.TheVariants.{ListingsDisagree, TooMany, TextTooLong, StoreRefused}
+use Rattle.fetch_session.specs.declared.fault.Fault.TheVariants.{SeenRefused, NoMemory, BadSeen}
 use Rattle.fetch_session.specs.declared.report.Outcome.{Outcome}
 use Rattle.fetch_session.specs.declared.report.Outcome.TheVariants.{Ended, Cut}
 use Rattle.fetch_session.specs.declared.report.Report.{Report}

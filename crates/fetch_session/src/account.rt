@@ -3,11 +3,13 @@ ghost use Rattle.std.specs.Prelude.{◌≡◌, None};
 ghost use Rattle.rc_file.specs.Settings.{IsValid};
 ghost use Rattle.fetch_session.specs.Account.{disk_of};
 
+use crate::work::Work;
 use fetch_rules::{Seen, Settings};
 use mail_store::{AccountId, FlatFile, MaildirDisk, account_id};
 use std::alloc::Global;
 use std::hash::BuildHasher;
 use std::marker::Model;
+use std::vec::Vec;
 
 /// Where texts are stored.
 pub enum Store<D> {
@@ -20,12 +22,9 @@ pub enum Store<D> {
 /// No file is begun in the store between sessions, and the settings hold only values that an rc file
 /// may give.
 pub struct Account<D: MaildirDisk, F: FlatFile, H: BuildHasher> {
-    pub(crate) alloc: Global,
     pub(crate) settings: Settings,
     pub(crate) id: AccountId,
-    pub(crate) disk: D,
-    pub(crate) seen_file: F,
-    pub(crate) seen: Seen<H>,
+    pub(crate) work: Work<D, F, H>,
 }
 
 impl<D: MaildirDisk, F: FlatFile, H: BuildHasher> Model for Account<D, F, H> {
@@ -37,10 +36,11 @@ impl<D: MaildirDisk, F: FlatFile, H: BuildHasher> Model for Account<D, F, H> {
 
     ghost Value = { Holding D F };
 
-    ghost view = { λ a. record { settings = a.settings; disk = a.disk; file = a.seen_file } };
+    ghost view = { λ a. record { settings = a.settings; disk = a.work.disk; file = a.work.file } };
 
-    ghost invariant = { λ a. IsValid a.settings × (a.id ≡ account_text (string_bytes a.settings.server) a.settings.port (string_bytes a.settings.username))
-        × (D.sound a.disk → (D.maildir a.disk).begun ≡ None) };
+    ghost invariant = { λ a. IsValid a.settings
+        × (a.id ≡ account_text (string_bytes a.settings.server) a.settings.port (string_bytes a.settings.username))
+        × (D.sound a.work.disk → (D.maildir a.work.disk).begun ≡ None) };
 }
 
 impl<D: MaildirDisk, F: FlatFile, H: BuildHasher> Account<D, F, H> {
@@ -64,12 +64,15 @@ impl<D: MaildirDisk, F: FlatFile, H: BuildHasher> Account<D, F, H> {
         );
         let Store::Maildir(disk) = store;
         Account {
-            alloc,
             settings,
             id,
-            disk,
-            seen_file,
-            seen: Seen::new(alloc, hasher),
+            work: Work {
+                alloc,
+                disk,
+                file: seen_file,
+                seen: Seen::new(alloc, hasher),
+                lines: Vec::new(alloc),
+            },
         }
     }
 
@@ -90,13 +93,11 @@ impl<D: MaildirDisk, F: FlatFile, H: BuildHasher> Account<D, F, H> {
         ensures calm { D.sound (disk_of result.1) → (D.maildir (disk_of result.1)).begun ≡ None }
     {
         let Account {
-            alloc: _,
             settings,
             id: _,
-            disk,
-            seen_file,
-            seen: _,
+            work,
         } = self;
-        (settings, Store::Maildir(disk), seen_file)
+        let Work { disk, file, .. } = work;
+        (settings, Store::Maildir(disk), file)
     }
 }

@@ -13,7 +13,9 @@ mod report;
 mod step;
 mod storing;
 mod tail;
+mod terms;
 mod text;
+mod work;
 
 pub use account::{Account, Store};
 pub use fault::{Cut, Fault, Why};

@@ -5,10 +5,11 @@ ghost use Rattle.std.specs.Vec.{vec_len};
 ghost use Rattle.rc_file.specs.Settings.{IsValid};
 ghost use Rattle.mail_store.specs.FileName.{IsAccountText};
 ghost use Rattle.fetch_session.specs.Scene.{WhereAllSound};
+ghost use Rattle.fetch_session.specs.Work.{WhereWorkSound};
 ghost use Rattle.fetch_session.specs.Account.{digits_of};
 ghost use Rattle.fetch_session.specs.Intake.{GotAtMost, session_limit, TookWithTail, opening_limit, step_limit, tail_limit};
 ghost use Rattle.fetch_session.specs.Refusal.{RefusesTillCut, RefusesByOutcome};
-ghost use Rattle.fetch_session.specs.Report.{Reports};
+ghost use Rattle.fetch_session.specs.Report.{Reports, most_lines};
 ghost use Rattle.fetch_session.specs.Session.{Proceeds, Session, noted, kept};
 
 use crate::account::Account;
@@ -17,83 +18,64 @@ use crate::opening::enter;
 use crate::plan::carry_out;
 use crate::report::{Outcome, Report, ReportLine, report_of};
 use crate::tail::leave;
-use fetch_rules::{Seen, Settings};
-use mail_store::{AccountId, FlatFile, MaildirDisk};
+use crate::terms::Terms;
+use crate::work::Work;
+use mail_store::{FlatFile, MaildirDisk};
 use pop3_client::{Client, conversations_are_paced};
 use pop3_wire::Wire;
-use std::alloc::Global;
 use std::hash::BuildHasher;
+use std::mem;
 use std::vec::Vec;
 
-/// What a session notes for its report.
+/// What a session counts for its report: the messages that are listed, and those that its plan passes
+/// over.
 #[derive(Drop)]
-struct Notes {
+struct Counts {
     total: u32,
     skipped: u32,
-    lines: Vec<ReportLine>,
 }
 
 /// What a session tells that came out so.
-fn tell(outcome: Outcome, notes: Notes) -> Report
-    requires { vec_len notes.lines ≤ 200000 }
-    ensures { Reports outcome notes.total notes.skipped notes.lines.items result }
+fn tell(outcome: Outcome, counts: Counts, lines: Vec<ReportLine>) -> Report
+    requires { vec_len lines ≤ most_lines }
+    ensures { Reports outcome counts.total counts.skipped lines.items result }
 {
-    let Notes {
-        total,
-        skipped,
-        lines,
-    } = notes;
+    let Counts { total, skipped } = counts;
     report_of(outcome, total, skipped, lines)
 }
 
 /// Logs in, deals with what is listed, and quits, or does as much as goes well.
 fn proceed<W: Wire, D: MaildirDisk, F: FlatFile, H: BuildHasher>(
-    alloc: Global,
-    settings: &Settings,
-    account: &AccountId,
     client: &mut Client<'_, W>,
-    disk: &mut D,
-    file: &mut F,
-    seen: &mut Seen<H>,
-    notes: &mut Notes,
-    now: u64,
+    work: &mut Work<D, F, H>,
+    terms: Terms<'_>,
+    counts: &mut Counts,
 ) -> Result<(), Cut>
-    requires valid { IsValid settings.now }
-    requires digits { IsAccountText account.now }
-    requires calm { D.sound disk.old → (D.maildir disk.old).begun ≡ None }
-    requires nothing { (notes.old.total ≡ 0) × (notes.old.skipped ≡ 0) × (notes.old.lines.items ≡ []) × (vec_len notes.old.lines ≡ 0) }
+    requires valid { IsValid terms.settings.now }
+    requires digits { IsAccountText terms.account.now }
+    requires calm { D.sound work.old.disk → (D.maildir work.old.disk).begun ≡ None }
+    requires nothing { (counts.old.total ≡ 0) × (counts.old.skipped ≡ 0) × (work.old.lines.items ≡ []) × (vec_len work.old.lines ≡ 0) }
     ensures link { HasSameLink client.old client.new }
     ensures counted { RefusesTillCut (link_of W.Wire client.old) result (link_of W.Wire client.new) }
-    ensures few { vec_len notes.new.lines ≤ 200000 }
-    ensures calm { D.sound disk.new → D.sound disk.old × ((D.maildir disk.new).begun ≡ None) }
-    ensures proceeds { WhereAllSound W.sound W.leads_to D.sound F.sound client.old.wire.now client.new.wire.now disk.old disk.new file.old file.new
-        (Proceeds settings.now account.now now (place_of W.Wire client.old) (kept (D.maildir disk.old) (F.stored file.old)) result
-        (place_of W.Wire client.new) (kept (D.maildir disk.new) (F.stored file.new)) (noted notes.new.total notes.new.skipped notes.new.lines.items)) }
+    ensures few { vec_len work.new.lines ≤ most_lines }
+    ensures calm { D.sound work.new.disk → D.sound work.old.disk × ((D.maildir work.new.disk).begun ≡ None) }
+    ensures proceeds { WhereWorkSound W.Wire D.MaildirDisk F.FlatFile client.old work.old client.new work.new
+        (λ old new. Proceeds terms.entry.settings.now terms.entry.account.now terms.entry.now old.place (kept old.maildir old.file) result
+        new.place (kept new.maildir new.file) (noted counts.new.total counts.new.skipped new.lines)) }
     ensures took { W.sound client.new.wire.now → W.sound client.old.wire.now
-        × TookWithTail (opening_limit + (notes.new.total * step_limit + tail_limit)) (place_of W.Wire client.old) result (place_of W.Wire client.new) }
+        × TookWithTail (opening_limit + (counts.new.total * step_limit + tail_limit)) (place_of W.Wire client.old) result
+        (place_of W.Wire client.new) }
 {
     conversations_are_paced();
-    let listing = match enter(alloc, settings, client) {
+    let listing = match enter(work.alloc, terms.settings, client) {
         Ok(listing) => listing,
         Err(fault) => return Err(plain(told(fault))),
     };
-    notes.total = listing.len();
-    if let Err(_) = notes.lines.reserve(2 * listing.len() as usize) {
+    counts.total = listing.len();
+    if let Err(_) = work.lines.reserve(2 * listing.len() as usize) {
         return Err(plain(Fault::NoMemory));
     }
-    carry_out(
-        alloc,
-        settings,
-        account,
-        client,
-        disk,
-        file,
-        seen,
-        &mut notes.lines,
-        &mut notes.skipped,
-        &listing,
-        now,
-    )
+    carry_out(client, work, terms, &listing, &mut counts.skipped)
 }
 
 /// Runs one session of an account over a client for which nothing waits.
@@ -115,29 +97,26 @@ fn session_over<W: Wire, D: MaildirDisk, F: FlatFile, H: BuildHasher>(
         → GotAtMost (session_limit result.total) (link_of W.Wire client.old) (link_of W.Wire client.new) }
 {
     conversations_are_paced();
-    let mut notes = Notes {
+    let mut counts = Counts {
         total: 0,
         skipped: 0,
-        lines: Vec::new(account.alloc),
     };
-    if let Err(cut) = proceed(
-        account.alloc,
-        &account.settings,
-        &account.id,
-        client,
-        &mut account.disk,
-        &mut account.seen_file,
-        &mut account.seen,
-        &mut notes,
+    account.work.lines = Vec::new(account.work.alloc);
+    let terms = Terms {
+        settings: &account.settings,
+        account: &account.id,
         now,
-    ) {
+    };
+    if let Err(cut) = proceed(client, &mut account.work, terms, &mut counts) {
         let outcome = Outcome::Cut(cut.fault);
         leave(client, cut);
         prove!(client.waiting().len() <= 4096);
-        return tell(outcome, notes);
+        let lines = mem::replace(&mut account.work.lines, Vec::new(account.work.alloc));
+        return tell(outcome, counts, lines);
     }
     prove!(client.waiting().len() <= 4096);
-    tell(Outcome::Ended, notes)
+    let lines = mem::replace(&mut account.work.lines, Vec::new(account.work.alloc));
+    tell(Outcome::Ended, counts, lines)
 }
 
 /// Runs one session of an account over a link: it logs in, lists, stores what is wanted and isn't

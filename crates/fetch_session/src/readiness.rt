@@ -7,7 +7,8 @@ ghost use Rattle.fetch_session.specs.Record.{Gets, Reads, ReadAs, Merges, Readie
 
 use crate::fault::{Fault, Why};
 use crate::record::{grow, save};
-use fetch_rules::{Listing, Seen, SeenFault, Settings, Step, plan};
+use crate::terms::Terms;
+use fetch_rules::{Listing, Seen, SeenFault, Step, plan};
 use mail_store::{AccountId, FlatFile, MaildirDisk, StoreFault, held};
 use std::alloc::Global;
 use std::hash::BuildHasher;
@@ -102,7 +103,8 @@ fn take_in<F: FlatFile, H: BuildHasher>(
     ensures rows { OnOk result (seen.new.rows ≡ merged seen.old.rows listing.now held.now now) }
     ensures closed { OnOk result (seen.new.intent ≡ None) }
     ensures merges { F.sound file.new → F.sound file.old
-        × Merges (F.stored file.old) (held_in seen.old) (none_open (merged seen.old.rows listing.now held.now now)) result (F.stored file.new) }
+        × Merges (F.stored file.old) (held_in seen.old) (none_open
+        (merged seen.old.rows listing.now held.now now)) result (F.stored file.new) }
 {
     seen.close(false);
     let Ok(group) = seen.merge_rows(listing, held, now) else {
@@ -121,36 +123,36 @@ fn take_in<F: FlatFile, H: BuildHasher>(
 /// that changed it, and makes the plan.
 pub fn prepare<D: MaildirDisk, F: FlatFile, H: BuildHasher>(
     alloc: Global,
-    settings: &Settings,
-    account: &AccountId,
+    terms: Terms<'_>,
     disk: &mut D,
     file: &mut F,
     seen: &mut Seen<H>,
     listing: &Listing,
-    now: u64,
 ) -> Result<Ready, Fault>
-    ensures lengths { IfOk result (λ ready. (length ready.steps.items ≡ length listing.now) × (length ready.held.items ≡ length listing.now)) }
-    ensures plans { IfOk result (λ ready. ready.steps.items ≡ planned settings.now seen.new.rows listing.now now) }
+    ensures lengths { IfOk result (λ ready. (length ready.steps.items ≡ length listing.now)
+        × (length ready.held.items ≡ length listing.now)) }
+    ensures plans { IfOk result (λ ready. ready.steps.items ≡ planned terms.entry.settings.now seen.new.rows listing.now terms.entry.now) }
     ensures stays { D.sound disk.new → D.sound disk.old
         × ((D.maildir disk.new).begun ≡ (D.maildir disk.old).begun)
-        × IfOk result (λ ready. ready.held.items ≡ flags_of account.now (D.maildir disk.new) listing.now) }
+        × IfOk result (λ ready. ready.held.items ≡ flags_of terms.entry.account.now (D.maildir disk.new) listing.now) }
     ensures steady { F.sound file.new → F.sound file.old × OnOk result (Steady (F.stored file.new).content (none_open seen.new.rows)) }
     ensures closed { OnOk result (seen.new.intent ≡ None) }
     ensures readies { D.sound disk.new → F.sound file.new → D.sound disk.old × F.sound file.old
-        × Readies settings.now account.now listing.now now (D.maildir disk.old) (F.stored file.old) result seen.new.rows (D.maildir disk.new) (F.stored file.new) }
+        × Readies terms.entry.settings.now terms.entry.account.now listing.now terms.entry.now (D.maildir disk.old)
+        (F.stored file.old) result seen.new.rows (D.maildir disk.new) (F.stored file.new) }
 {
     let is_new = match read(alloc, file, seen) {
         Ok(is_new) => is_new,
         Err(fault) => return Err(fault),
     };
-    let flags = match ask_held(alloc, disk, account, listing) {
+    let flags = match ask_held(alloc, disk, terms.account, listing) {
         Ok(flags) => flags,
         Err(fault) => return Err(fault),
     };
-    if let Err(fault) = take_in(file, seen, listing, &flags, now, is_new) {
+    if let Err(fault) = take_in(file, seen, listing, &flags, terms.now, is_new) {
         return Err(fault);
     }
-    match plan(alloc, settings, seen, listing, now) {
+    match plan(alloc, terms.settings, seen, listing, terms.now) {
         Ok(steps) => Ok(Ready { held: flags, steps }),
         Err(_) => Err(Fault::NoMemory),
     }

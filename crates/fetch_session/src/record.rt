@@ -32,7 +32,8 @@ pub(crate) fn save<F: FlatFile, H: BuildHasher>(file: &mut F, seen: &Seen<H>) ->
 pub(crate) fn grow<F: FlatFile>(file: &mut F, group: &[u8]) -> Result<(), Fault>
     requires begun { F.sound file.old → group.now ≢ [] → bytes_in (F.stored file.old).content ≢ [] }
     ensures saves { F.sound file.new → F.sound file.old
-        × ((was now : Held) → Grows was.rows was.intent group.now now.rows now.intent → Saves (F.stored file.old) was now result (F.stored file.new)) }
+        × ((was now : Held) → Grows was.rows was.intent group.now now.rows now.intent
+        → Saves (F.stored file.old) was now result (F.stored file.new)) }
 {
     appended_counts();
     cut_is_ignored();

@@ -1,7 +1,10 @@
 //! What a session tells of itself.
 ghost use Rattle.std.specs.Prelude.{◌≡◌, ◌≤◌, ◌+◌, ◌++◌, ◌∷◌, [], vec_len, length, filter, not};
 ghost use Rattle.std.specs.Vec.{vec_capacity};
-ghost use Rattle.fetch_session.specs.Report.{HasRoom, is_deletion, is_taken, length_in, takes_back, kept_lines, retrieved_in, length_of, deleted_in, skipped_in, most_bytes, Reports};
+ghost use Rattle.mail_terms.specs.Listing.{message_limit};
+ghost use Rattle.fetch_session.specs.Report.{HasRoom, is_deletion, is_taken, length_in, takes_back, kept_lines};
+ghost use Rattle.fetch_session.specs.Report.{retrieved_in, length_of, deleted_in, skipped_in, most_bytes, most_lines};
+ghost use Rattle.fetch_session.specs.Report.{Reports};
 
 use crate::fault::Fault;
 use fetch_rules::Step;
@@ -100,7 +103,7 @@ fn takes_back(outcome: &Outcome) -> bool
 
 /// How many texts were fetched to their end.
 fn retrieved_in(lines: &[ReportLine]) -> u32
-    requires { length lines.now ≤ 200000 }
+    requires { length lines.now ≤ most_lines }
     ensures { result ≡ retrieved_in lines.now }
 {
     let mut count = 0u32;
@@ -114,7 +117,7 @@ fn retrieved_in(lines: &[ReportLine]) -> u32
 
 /// How many messages were deleted.
 fn deleted_in(lines: &[ReportLine]) -> u32
-    requires { length lines.now ≤ 200000 }
+    requires { length lines.now ≤ most_lines }
     ensures { result ≡ deleted_in lines.now }
 {
     let mut count = 0u32;
@@ -139,7 +142,7 @@ fn length_of(lines: &[ReportLine]) -> u64
 
 /// How many steps fetch nothing.
 pub(crate) fn skipped_in(steps: &[Step]) -> u32
-    requires { length steps.now ≤ 100000 }
+    requires { length steps.now ≤ message_limit }
     ensures { result ≡ skipped_in steps.now }
 {
     let mut count = 0u32;
@@ -172,7 +175,7 @@ pub(crate) fn report_of(
     skipped: u32,
     lines: Vec<ReportLine>,
 ) -> Report
-    requires { length lines.items ≤ 200000 }
+    requires { length lines.items ≤ most_lines }
     ensures { Reports outcome total skipped lines.items result }
 {
     let retrieved = retrieved_in(&lines);

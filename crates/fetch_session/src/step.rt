@@ -1,26 +1,27 @@
 //! What is done with each message.
 ghost use Rattle.std.specs.Prelude.{◌≡◌, ◌*◌, ℕ, List, None, false, length, OnOk};
-ghost use Rattle.pop3_client.specs.Client.{HasSameLink, place_of, link_of};
-ghost use Rattle.pop3_wire.specs.Link.{WhereSound};
-ghost use Rattle.pop3_client.specs.Turns.{most, retr, dele};
 ghost use Rattle.mail_terms.specs.UniqueId.{IsLegalId};
 ghost use Rattle.mail_store.specs.FileName.{is_held, name_of, IsAccountText};
-ghost use Rattle.fetch_rules.specs.Record.{Row, none_open};
-ghost use Rattle.mail_store.specs.Maildir.{Maildir};
 ghost use Rattle.mail_store.specs.FlatFile.{Stored};
+ghost use Rattle.mail_store.specs.Maildir.{Maildir};
+ghost use Rattle.fetch_rules.specs.Record.{Row};
+ghost use Rattle.pop3_wire.specs.Link.{WhereSound};
+ghost use Rattle.pop3_client.specs.Client.{HasSameLink, place_of, link_of};
+ghost use Rattle.pop3_client.specs.Turns.{most, retr, dele};
+ghost use Rattle.fetch_session.specs.Work.{IsReady, WhereWorkSound};
 ghost use Rattle.fetch_session.specs.Store.{Grows, GrowsBy};
 ghost use Rattle.fetch_session.specs.Task.{stores, rereads, fetching, deleting, tasks_in, tasks_planned, ids_ahead, AreFresh};
-ghost use Rattle.fetch_session.specs.Record.{Steady};
 ghost use Rattle.fetch_session.specs.Refusal.{RefusesTillCut};
 ghost use Rattle.fetch_session.specs.Report.{HasRoom, Adds};
-ghost use Rattle.fetch_session.specs.Scene.{scene, TakesTask, Does, WhereAllSound};
+ghost use Rattle.fetch_session.specs.Scene.{scene, TakesTask, Does};
 ghost use Rattle.fetch_session.specs.Intake.{TookTillCut, step_limit};
 
 use crate::fault::{Cut, Fault, plain, told};
 use crate::record::remember;
 use crate::report::{ReportLine, note};
 use crate::storing::{pass_text, store_text};
-use fetch_rules::{Listing, Seen, Step};
+use crate::work::Work;
+use fetch_rules::{Listing, Step};
 use mail_store::{
     AccountId, FlatFile, MaildirDisk, file_name, one_more_is_held, unheld_ids_are_not_in_new,
 };
@@ -30,55 +31,55 @@ use std::alloc::Global;
 use std::hash::BuildHasher;
 use std::vec::Vec;
 
+/// What is planned for a message of this id and size, which the store holds or not.
+#[derive(Clone, Copy)]
+struct PlannedMessage<'a> {
+    step: Step,
+    uid: &'a [u8],
+    size: u64,
+    held: bool,
+}
+
 /// Takes one text: it is read, stored and marked.
-pub fn take<W: Wire, D: MaildirDisk, F: FlatFile, H: BuildHasher>(
-    alloc: Global,
+fn take<W: Wire, D: MaildirDisk, F: FlatFile, H: BuildHasher>(
     client: &mut Client<'_, W>,
-    disk: &mut D,
-    file: &mut F,
+    work: &mut Work<D, F, H>,
     account: &AccountId,
-    seen: &mut Seen<H>,
-    lines: &mut Vec<ReportLine>,
     number: u32,
     uid: &[u8],
 ) -> Result<(), Cut>
     requires digits { IsAccountText account.now }
     requires legal { IsLegalId uid.now }
-    requires room { HasRoom lines.old 1 }
-    requires steady { F.sound file.old → Steady (F.stored file.old).content (none_open seen.old.rows) }
-    requires closed { seen.old.intent ≡ None }
-    requires calm { D.sound disk.old → (D.maildir disk.old).begun ≡ None }
-    requires free { D.sound disk.old → is_held account.now (D.maildir disk.old) uid.now ≡ false }
+    requires room { HasRoom work.old.lines 1 }
+    requires ready { IsReady D.MaildirDisk F.FlatFile work.old }
+    requires free { D.sound work.old.disk → is_held account.now (D.maildir work.old.disk) uid.now ≡ false }
     ensures link { HasSameLink client.old client.new }
     ensures counted { RefusesTillCut (link_of W.Wire client.old) result (link_of W.Wire client.new) }
-    ensures few { Adds lines.old 1 lines.new }
-    ensures steady { F.sound file.new → F.sound file.old × OnOk result (Steady (F.stored file.new).content (none_open seen.new.rows)) }
-    ensures closed { OnOk result (seen.new.intent ≡ None) }
-    ensures grows { D.sound disk.new → D.sound disk.old
-        × Grows (name_of account.now uid.now) (D.maildir disk.old) (D.maildir disk.new) }
-    ensures takes { WhereAllSound W.sound W.leads_to D.sound F.sound client.old.wire.now client.new.wire.now disk.old disk.new file.old file.new
-        (TakesTask account.now (stores number uid.now)
-        (scene (place_of W.Wire client.old) (D.maildir disk.old) (F.stored file.old) seen.old.rows lines.old.items) result
-        (scene (place_of W.Wire client.new) (D.maildir disk.new) (F.stored file.new) seen.new.rows lines.new.items)) }
+    ensures few { Adds work.old.lines 1 work.new.lines }
+    ensures ready { OnOk result (IsReady D.MaildirDisk F.FlatFile work.new) }
+    ensures grows { D.sound work.new.disk → D.sound work.old.disk
+        × Grows (name_of account.now uid.now) (D.maildir work.old.disk) (D.maildir work.new.disk) }
+    ensures takes { WhereWorkSound W.Wire D.MaildirDisk F.FlatFile client.old work.old client.new work.new
+        (λ old new. TakesTask account.now (stores number uid.now) old result new) }
     ensures took { W.sound client.new.wire.now → W.sound client.old.wire.now
         × TookTillCut (most (retr number)) (place_of W.Wire client.old) result (place_of W.Wire client.new) }
 {
     conversations_are_paced();
     unheld_ids_are_not_in_new();
-    let name = match file_name(alloc, account, uid) {
+    let name = match file_name(work.alloc, account, uid) {
         Ok(name) => name,
         Err(_) => return Err(plain(Fault::NoMemory)),
     };
-    let body = match client.open(alloc, number) {
+    let body = match client.open(work.alloc, number) {
         Ok(body) => body,
         Err(fault) => return Err(plain(told(fault))),
     };
-    let length = match store_text(client, disk, name.as_str(), body) {
+    let length = match store_text(client, &mut work.disk, name.as_str(), body) {
         Ok(length) => length,
         Err(cut) => return Err(cut),
     };
-    note(lines, ReportLine::Delivered { number, length });
-    match remember(file, seen, uid) {
+    note(&mut work.lines, ReportLine::Delivered { number, length });
+    match remember(&mut work.file, &mut work.seen, uid) {
         Ok(()) => Ok(()),
         Err(fault) => Err(plain(fault)),
     }
@@ -152,141 +153,125 @@ fn delete_if<W: Wire>(
 
 /// Fetches a message, where that is planned, and stores it where it isn't held.
 fn fetch_if<W: Wire, D: MaildirDisk, F: FlatFile, H: BuildHasher>(
-    alloc: Global,
     client: &mut Client<'_, W>,
-    disk: &mut D,
-    file: &mut F,
+    work: &mut Work<D, F, H>,
     account: &AccountId,
-    seen: &mut Seen<H>,
-    lines: &mut Vec<ReportLine>,
-    step: Step,
-    uid: &[u8],
-    size: u64,
-    held: bool,
+    message: PlannedMessage<'_>,
 ) -> Result<(), Cut>
     requires digits { IsAccountText account.now }
-    requires legal { IsLegalId uid.now }
-    requires room { HasRoom lines.old 1 }
-    requires steady { F.sound file.old → Steady (F.stored file.old).content (none_open seen.old.rows) }
-    requires closed { seen.old.intent ≡ None }
-    requires calm { D.sound disk.old → (D.maildir disk.old).begun ≡ None }
-    requires free { D.sound disk.old → AreFresh account.now (D.maildir disk.old) (ids_ahead (fetching step.retrieve held step.number uid.now size)) }
+    requires legal { IsLegalId message.uid.now }
+    requires room { HasRoom work.old.lines 1 }
+    requires ready { IsReady D.MaildirDisk F.FlatFile work.old }
+    requires free { D.sound work.old.disk → AreFresh account.now (D.maildir work.old.disk)
+        (ids_ahead (fetching message.step.retrieve message.held message.step.number message.uid.now message.size)) }
     ensures link { HasSameLink client.old client.new }
     ensures counted { RefusesTillCut (link_of W.Wire client.old) result (link_of W.Wire client.new) }
-    ensures few { Adds lines.old 1 lines.new }
-    ensures steady { F.sound file.new → F.sound file.old × OnOk result (Steady (F.stored file.new).content (none_open seen.new.rows)) }
-    ensures closed { OnOk result (seen.new.intent ≡ None) }
-    ensures grows { D.sound disk.new → D.sound disk.old
-        × GrowsBy account.now (ids_ahead (fetching step.retrieve held step.number uid.now size)) (D.maildir disk.old) (D.maildir disk.new) }
-    ensures does { WhereAllSound W.sound W.leads_to D.sound F.sound client.old.wire.now client.new.wire.now disk.old disk.new file.old file.new
-        (Does account.now (fetching step.retrieve held step.number uid.now size)
-        (scene (place_of W.Wire client.old) (D.maildir disk.old) (F.stored file.old) seen.old.rows lines.old.items) result
-        (scene (place_of W.Wire client.new) (D.maildir disk.new) (F.stored file.new) seen.new.rows lines.new.items)) }
+    ensures few { Adds work.old.lines 1 work.new.lines }
+    ensures ready { OnOk result (IsReady D.MaildirDisk F.FlatFile work.new) }
+    ensures grows { D.sound work.new.disk → D.sound work.old.disk × GrowsBy account.now
+        (ids_ahead (fetching message.entry.step.retrieve message.entry.held message.entry.step.number message.entry.uid.now
+        message.entry.size))
+        (D.maildir work.old.disk) (D.maildir work.new.disk) }
+    ensures does { WhereWorkSound W.Wire D.MaildirDisk F.FlatFile client.old work.old client.new work.new
+        (λ old new. Does account.now
+        (fetching message.entry.step.retrieve message.entry.held message.entry.step.number message.entry.uid.now
+        message.entry.size) old result new) }
     ensures took { W.sound client.new.wire.now → W.sound client.old.wire.now
-        × TookTillCut (most (retr step.number)) (place_of W.Wire client.old) result (place_of W.Wire client.new) }
+        × TookTillCut (most (retr message.entry.step.number)) (place_of W.Wire client.old) result (place_of W.Wire client.new) }
 {
+    let PlannedMessage {
+        step,
+        uid,
+        size,
+        held,
+    } = message;
     let number = step.number;
     if !step.retrieve {
-        note(lines, ReportLine::Skipped { number, size });
+        note(&mut work.lines, ReportLine::Skipped { number, size });
         return Ok(());
     }
     if held {
-        return reread(alloc, client, lines, number);
+        return reread(work.alloc, client, &mut work.lines, number);
     }
-    take(alloc, client, disk, file, account, seen, lines, number, uid)
+    take(client, work, account, number, uid)
 }
 
 /// Does one planned step.
 fn do_step<W: Wire, D: MaildirDisk, F: FlatFile, H: BuildHasher>(
-    alloc: Global,
     client: &mut Client<'_, W>,
-    disk: &mut D,
-    file: &mut F,
+    work: &mut Work<D, F, H>,
     account: &AccountId,
-    seen: &mut Seen<H>,
-    lines: &mut Vec<ReportLine>,
-    step: Step,
-    uid: &[u8],
-    size: u64,
-    held: bool,
+    message: PlannedMessage<'_>,
 ) -> Result<(), Cut>
     requires digits { IsAccountText account.now }
-    requires legal { IsLegalId uid.now }
-    requires room { HasRoom lines.old 2 }
-    requires steady { F.sound file.old → Steady (F.stored file.old).content (none_open seen.old.rows) }
-    requires closed { seen.old.intent ≡ None }
-    requires calm { D.sound disk.old → (D.maildir disk.old).begun ≡ None }
-    requires free { D.sound disk.old → AreFresh account.now (D.maildir disk.old) (ids_ahead (fetching step.retrieve held step.number uid.now size)) }
+    requires legal { IsLegalId message.uid.now }
+    requires room { HasRoom work.old.lines 2 }
+    requires ready { IsReady D.MaildirDisk F.FlatFile work.old }
+    requires free { D.sound work.old.disk → AreFresh account.now (D.maildir work.old.disk)
+        (ids_ahead (fetching message.step.retrieve message.held message.step.number message.uid.now message.size)) }
     ensures link { HasSameLink client.old client.new }
     ensures counted { RefusesTillCut (link_of W.Wire client.old) result (link_of W.Wire client.new) }
-    ensures few { Adds lines.old 2 lines.new }
-    ensures steady { F.sound file.new → F.sound file.old × OnOk result (Steady (F.stored file.new).content (none_open seen.new.rows)) }
-    ensures closed { OnOk result (seen.new.intent ≡ None) }
-    ensures grows { D.sound disk.new → D.sound disk.old
-        × GrowsBy account.now (ids_ahead (fetching step.retrieve held step.number uid.now size)) (D.maildir disk.old) (D.maildir disk.new) }
-    ensures does { WhereAllSound W.sound W.leads_to D.sound F.sound client.old.wire.now client.new.wire.now disk.old disk.new file.old file.new
-        (Does account.now (tasks_in step (record { uid = uid.now; size = size }) held)
-        (scene (place_of W.Wire client.old) (D.maildir disk.old) (F.stored file.old) seen.old.rows lines.old.items) result
-        (scene (place_of W.Wire client.new) (D.maildir disk.new) (F.stored file.new) seen.new.rows lines.new.items)) }
+    ensures few { Adds work.old.lines 2 work.new.lines }
+    ensures ready { OnOk result (IsReady D.MaildirDisk F.FlatFile work.new) }
+    ensures grows { D.sound work.new.disk → D.sound work.old.disk × GrowsBy account.now
+        (ids_ahead (fetching message.entry.step.retrieve message.entry.held message.entry.step.number message.entry.uid.now
+        message.entry.size))
+        (D.maildir work.old.disk) (D.maildir work.new.disk) }
+    ensures does { WhereWorkSound W.Wire D.MaildirDisk F.FlatFile client.old work.old client.new work.new
+        (λ old new. Does account.now
+        (tasks_in message.entry.step (record { uid = message.entry.uid.now; size = message.entry.size }) message.entry.held)
+        old result new) }
     ensures took { W.sound client.new.wire.now → W.sound client.old.wire.now
         × TookTillCut step_limit (place_of W.Wire client.old) result (place_of W.Wire client.new) }
 {
-    if let Err(cut) = fetch_if(
-        alloc, client, disk, file, account, seen, lines, step, uid, size, held,
-    ) {
+    let step = message.step;
+    if let Err(cut) = fetch_if(client, work, account, message) {
         return Err(cut);
     }
-    delete_if(alloc, client, lines, step.delete, step.number)
+    delete_if(
+        work.alloc,
+        client,
+        &mut work.lines,
+        step.delete,
+        step.number,
+    )
 }
 
 /// Does the planned steps, as far as goes well.
 pub fn do_steps<W: Wire, D: MaildirDisk, F: FlatFile, H: BuildHasher>(
-    alloc: Global,
     client: &mut Client<'_, W>,
-    disk: &mut D,
-    file: &mut F,
+    work: &mut Work<D, F, H>,
     account: &AccountId,
-    seen: &mut Seen<H>,
-    lines: &mut Vec<ReportLine>,
     steps: &[Step],
     listing: &Listing,
     held: &[bool],
 ) -> Result<(), Cut>
     requires digits { IsAccountText account.now }
-    requires room { HasRoom lines.old (2 * length listing.now) }
+    requires room { HasRoom work.old.lines (2 * length listing.now) }
     requires all_steps { length steps.now ≡ length listing.now }
     requires all_flags { length held.now ≡ length listing.now }
-    requires steady { F.sound file.old → Steady (F.stored file.old).content (none_open seen.old.rows) }
-    requires closed { seen.old.intent ≡ None }
-    requires calm { D.sound disk.old → (D.maildir disk.old).begun ≡ None }
-    requires free { D.sound disk.old → AreFresh account.now (D.maildir disk.old) (ids_ahead (tasks_planned steps.now listing.now held.now)) }
+    requires ready { IsReady D.MaildirDisk F.FlatFile work.old }
+    requires free { D.sound work.old.disk
+        → AreFresh account.now (D.maildir work.old.disk) (ids_ahead (tasks_planned steps.now listing.now held.now)) }
     ensures link { HasSameLink client.old client.new }
     ensures counted { RefusesTillCut (link_of W.Wire client.old) result (link_of W.Wire client.new) }
-    ensures few { Adds lines.old (2 * length listing.now) lines.new }
-    ensures calm { D.sound disk.new → D.sound disk.old × ((D.maildir disk.new).begun ≡ None) }
-    ensures does { WhereAllSound W.sound W.leads_to D.sound F.sound client.old.wire.now client.new.wire.now disk.old disk.new file.old file.new
-        (Does account.now (tasks_planned steps.now listing.now held.now)
-        (scene (place_of W.Wire client.old) (D.maildir disk.old) (F.stored file.old) seen.old.rows lines.old.items) result
-        (scene (place_of W.Wire client.new) (D.maildir disk.new) (F.stored file.new) seen.new.rows lines.new.items)) }
+    ensures few { Adds work.old.lines (2 * length listing.now) work.new.lines }
+    ensures calm { D.sound work.new.disk → D.sound work.old.disk × ((D.maildir work.new.disk).begun ≡ None) }
+    ensures does { WhereWorkSound W.Wire D.MaildirDisk F.FlatFile client.old work.old client.new work.new
+        (λ old new. Does account.now (tasks_planned steps.now listing.now held.now) old result new) }
     ensures took { W.sound client.new.wire.now → W.sound client.old.wire.now
         × TookTillCut (length listing.now * step_limit) (place_of W.Wire client.old) result (place_of W.Wire client.new) }
 {
     one_more_is_held();
     for i in 0..listing.len() {
         let place = i as usize;
-        if let Err(cut) = do_step(
-            alloc,
-            client,
-            disk,
-            file,
-            account,
-            seen,
-            lines,
-            steps[place],
-            listing.uid(i),
-            listing.size(i),
-            held[place],
-        ) {
+        let message = PlannedMessage {
+            step: steps[place],
+            uid: listing.uid(i),
+            size: listing.size(i),
+            held: held[place],
+        };
+        if let Err(cut) = do_step(client, work, account, message) {
             return Err(cut);
         }
     }

@@ -4,7 +4,7 @@ ghost use Rattle.pop3_client.specs.Client.{HasSameLink, CountsRefusals, place_of
 ghost use Rattle.pop3_wire.specs.Link.{WhereSound};
 ghost use Rattle.pop3_wire.specs.Place.{Place};
 ghost use Rattle.pop3_wire.specs.declared.unstuffer.Spot.TheVariants.{Done};
-ghost use Rattle.pop3_client.specs.Turns.{retr};
+ghost use Rattle.pop3_client.specs.Turns.{retr, text_limit};
 ghost use Rattle.pop3_client.specs.Texts.{Fetching};
 ghost use Rattle.mail_store.specs.Maildir.{File, IsInNew, file};
 ghost use Rattle.fetch_session.specs.Refusal.{RefusesTillCut};
@@ -69,7 +69,7 @@ pub(crate) fn store_text<W: Wire, D: MaildirDisk>(
     body: BodyReader,
 ) -> Result<u64, Cut>
     requires open { body.spot ≢ Done }
-    requires within { body.left ≤ 268435456 }
+    requires within { body.left ≤ text_limit }
     requires calm { D.sound disk.old → (D.maildir disk.old).begun ≡ None }
     requires not_there { D.sound disk.old → IsInNew (D.maildir disk.old) name.now → ⊥ }
     ensures link { HasSameLink client.old client.new }
@@ -125,7 +125,7 @@ pub(crate) fn pass_text<W: Wire>(
     body: BodyReader,
 ) -> Result<u64, TalkFault>
     requires open { body.spot ≢ Done }
-    requires within { body.left ≤ 268435456 }
+    requires within { body.left ≤ text_limit }
     ensures link { HasSameLink client.old client.new }
     ensures counted { CountsRefusals W.Wire client.old result client.new }
     ensures passes { WhereSound W.sound W.leads_to client.old.wire.now client.new.wire.now

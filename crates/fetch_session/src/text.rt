@@ -1,7 +1,8 @@
 //! How faults and reports are told. Nothing of a password stands in them.
 ghost use Rattle.std.specs.Prelude.{◌≡◌, ◌++◌, IfOk, codes};
 ghost use Rattle.std.specs.String.{string_bytes};
-ghost use Rattle.fetch_session.specs.Text.{asked_text, fault_number, fault_text, heading, line_text, message_text, outcome_number, report_text, summary};
+ghost use Rattle.fetch_session.specs.Text.{asked_text, fault_number, fault_text, heading, line_text, message_text};
+ghost use Rattle.fetch_session.specs.Text.{outcome_number, report_text, summary};
 
 use crate::fault::{Fault, Why};
 use crate::report::{Outcome, Report, ReportLine};

@@ -28,3 +28,28 @@ module _ {W : Type 0} (link : Ghosts W) where
       let then = second last.0 in
       let start = first then.0 in
       (start.0, on _ _ _ start.1 (on _ _ _ then.1 last.1), all start.2 then.2 last.2)
+
+  -- what a call did, where nothing is asked of what the link leads to
+  pub did_so : {a b : W} {P Q : Type 0} → WhereSound link.sound link.leads_to a b P → (P → Q) → link.sound b → link.sound a × Q
+  did_so did words sound = let all = did sound in (all.0, words all.2)
+
+  pub did_both : {a b c : W} {P Q R : Type 0} → WhereSound link.sound link.leads_to a b P → WhereSound link.sound link.leads_to b c Q → (P → Q → R)
+      → link.sound c → link.sound a × R
+  did_both first second both sound =
+      let then = second sound in
+      let all = first then.0 in
+      (all.0, both all.2 then.2)
+
+  -- so far, and then a call
+  pub so_far : {a b c : W} {P Q R : Type 0} → (link.sound b → link.sound a × P) → WhereSound link.sound link.leads_to b c Q → (P → Q → R) → link.sound c → link.sound a × R
+  so_far first second both sound =
+      let then = second sound in
+      let all = first then.0 in
+      (all.0, both all.1 then.2)
+
+  -- and then more
+  pub so_on : {a b c : W} {P Q R : Type 0} → WhereSound link.sound link.leads_to a b P → (link.sound c → link.sound b × Q) → (P → Q → R) → link.sound c → link.sound a × R
+  so_on first second both sound =
+      let then = second sound in
+      let all = first then.0 in
+      (all.0, both all.2 then.1)

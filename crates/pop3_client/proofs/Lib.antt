@@ -2,5 +2,5 @@ pub mod ClientLemmas
 mod LawLemmas
 mod ListingLemmas
 mod MostLemmas
-mod TalkLemmas
+pub mod TalkLemmas
 mod TextLemmas

@@ -233,20 +233,6 @@ broke_saying turn old new fault said waits =
       },
     )
 
-heads_apart : (x y : ℕ) → x < y → (a b : List ℕ) → x ∷ a ≡ y ∷ b → ⊥
-heads_apart x y less a b e = let same : x ≡ y = ap (λ (l : List ℕ). get_or l 0 x) e in absurd (omega arith)
-
--- a first line is of one status and has one rest
-pub not_negative : (line r rest : List ℕ) → IsFirstLine line Positive r → IsFirstLine line Negative rest → ⊥
-not_negative line r rest first read = heads_apart 43 45 (lit< tt) (79 ∷ 75 ∷ first.0) (69 ∷ 82 ∷ 82 ∷ read.0) (sym first.1 ∙ read.1)
-
-pub positive_of : (line : List ℕ) (status : Status) (r rest : List ℕ) → IsFirstLine line Positive r → IsFirstLine line status rest → IsFirstLine line Positive rest
-positive_of line Positive r rest first read = read
-positive_of line Negative r rest first read = absurd (not_negative line r rest first read)
-
-pub same_rest : (line r rest : List ℕ) → IsFirstLine line Positive r → IsFirstLine line Positive rest → r ≡ rest
-same_rest line r rest first read = first.2 ∙ ap without_space (ap (drop 3) (sym first.1 ∙ read.1)) ∙ sym read.2
-
 -- why STAT's line isn't good
 pub few_cause : (fault : Fault) (old new : Link) (line bytes : List ℕ) → FirstLine bytes line
     → TellsFew line (Err fault) → Cause fault stat old new bytes × ((to : Asked) → fault ≡ Refused to → ⊥)

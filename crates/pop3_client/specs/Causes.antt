@@ -10,7 +10,9 @@ use Rattle.pop3_wire.specs.Link.{Link}
 use Rattle.pop3_wire.specs.Place.{HasNoLine}
 use Rattle.pop3_wire.specs.declared.command.Command.TheVariants.{UidlAll, ListAll, Retr}
 use Rattle.pop3_client.specs.declared.fault.Fault.{Fault}
-use Rattle.pop3_client.specs.declared.fault.Fault.TheVariants.{ConnectionEnded, ReadFailed, WriteFailed, ReplyTooLong, BadReply, Refused, BadListing, ListingsDisagree, TooMany, TextTooLong, NoMemory}
+use Rattle.pop3_client.specs.declared.fault.Fault.TheVariants.{ConnectionEnded, ReadFailed, WriteFailed, ReplyTooLong}
+use Rattle.pop3_client.specs.declared.fault.Fault.TheVariants.{BadReply, Refused, BadListing, ListingsDisagree}
+use Rattle.pop3_client.specs.declared.fault.Fault.TheVariants.{TooMany, TextTooLong, NoMemory}
 use Rattle.pop3_client.specs.Turns.{Turn, Names, tells_count, retr, line_limit, text_limit, row_limit, IsShort, IsListing, IsRow}
 
 -- the octets begin with a positive first line, and this follows it

@@ -1,5 +1,6 @@
 -- A conversation: turns and the replies to them, whole and in order, or the place where it stopped (RFC 1939, section 3).
-use Rattle.std.specs.Prelude.{◌≡◌, ◌⊎◌, ◌+◌, ◌<◌, ◌≤◌, ℕ, Bool, true, false, List, [], ◌∷◌, ◌++◌, length, take, None, Some, Result, Ok, Err, IsOk}
+use Rattle.std.specs.Prelude.{◌≡◌, ◌⊎◌, ◌+◌, ◌<◌, ◌≤◌, ℕ, Bool, true, false, List, [], ◌∷◌, ◌++◌, length, take, None}
+use Rattle.std.specs.Prelude.{Some, Result, Ok, Err, IsOk}
 use Rattle.std.specs.List.{flat_map, AllZip}
 use Rattle.pop3_wire.specs.Line.{IsLine, ended}
 use Rattle.pop3_wire.specs.Reply.{IsFirstLine}
@@ -11,11 +12,14 @@ use Rattle.pop3_wire.specs.Link.{Link}
 use Rattle.pop3_wire.specs.Place.{Place, GoesOn, Gains, HasLine}
 use Rattle.pop3_client.specs.declared.fault.Fault.{Fault}
 use Rattle.pop3_client.specs.declared.fault.Asked.TheVariants.{Quit as ByQuit}
-use Rattle.pop3_client.specs.declared.fault.Fault.TheVariants.{ConnectionEnded, ReadFailed, WriteFailed, ReplyTooLong, BadReply, Refused, TooMany, NoMemory}
-use Rattle.pop3_client.specs.Turns.{Turn, turn_bytes, asking, greeting, user, pass, stat, rset, quit, line_limit, row_limit, IsShort, most, Fits, IsGood}
+use Rattle.pop3_client.specs.declared.fault.Fault.TheVariants.{ConnectionEnded, ReadFailed, WriteFailed, ReplyTooLong}
+use Rattle.pop3_client.specs.declared.fault.Fault.TheVariants.{BadReply, Refused, TooMany, NoMemory}
+use Rattle.pop3_client.specs.Turns.{Turn, turn_bytes, asking, greeting, user, pass, stat, rset, quit, line_limit}
+use Rattle.pop3_client.specs.Turns.{row_limit, IsShort, most, Fits, IsGood}
 use Rattle.pop3_client.specs.Causes.{IsPartOfLine, IsOverlong, Cause}
 
--- these were sent, and in order each was answered by its reply, whole and good; that none is sent before the reply to the one before it shows where turns stop (`Stopped`)
+-- these were sent, and in order each was answered by its reply, whole and good; that none is sent before the reply to
+-- the one before it shows where turns stop (`Stopped`)
 pub record Talked (turns : List Turn) (replies : List WholeReply) (old new : Place) : Type 0 where
   pub gained : List ℕ
   pub sent : new.link.sent ≡ old.link.sent ++ asking turns
@@ -37,7 +41,8 @@ pub record Opened (turn : Turn) (line : List ℕ) (old new : Place) : Type 0 whe
   pub fits : Fits turn rest
   pub steady : GoesOn old.link new.link
 
--- whether memory may be wanting before the turn: not for what is sent as a constant, nor for USER and PASS, which are made before the greeting
+-- whether memory may be wanting before the turn: not for what is sent as a constant, nor for USER and PASS, which are
+-- made before the greeting
 abbrev pub may_want : Turn → Bool
 may_want None = true
 may_want (Some (Retr number)) = true
@@ -132,7 +137,8 @@ abbrev pub IsFrontOfNext : List ℕ → List Turn → Type 0
 IsFrontOfNext part [] = part ≡ []
 IsFrontOfNext part (next ∷ later) = (more : List ℕ) × (turn_bytes next ≡ part ++ more)
 
--- what was sent is the octets of the first of these turns, to each of which its whole and good reply stands in what came, and a front of the next one's; and no more was taken than the most of all of them
+-- what was sent is the octets of the first of these turns, to each of which its whole and good reply stands in what
+-- came, and a front of the next one's; and no more was taken than the most of all of them
 pub record Paced (turns : List Turn) (old new : Place) : Type 0 where
   pub done : List Turn
   pub rest : List Turn
@@ -151,7 +157,8 @@ pub record Paced (turns : List Turn) (old new : Place) : Type 0 where
 
 -- each conversation, whole or stopped, is paced
 abbrev pub ConversationsArePaced : Type 0
-ConversationsArePaced = (turns : List Turn) (old new : Place) (result : Result (Unit {0}) Fault) → Talks turns old result new → Paced turns old new
+ConversationsArePaced = (turns : List Turn) (old new : Place) (result : Result (Unit {0}) Fault)
+    → Talks turns old result new → Paced turns old new
 
 -- ---- the parts of a turn
 
@@ -192,10 +199,12 @@ Sent bytes old (Err fault) new = (fault ≡ WriteFailed)
 
 -- a positive first line tells a count of at most 100,000 messages, or why it doesn't
 abbrev pub TellsFew : List ℕ → Result ℕ Fault → Type 0
-TellsFew line (Ok count) = (rest : List ℕ) × (size : ℕ) × IsFirstLine line Positive rest × (number_and_size rest ≡ Ok (count, size)) × (count ≤ row_limit)
+TellsFew line (Ok count) = (rest : List ℕ) × (size : ℕ) × IsFirstLine line Positive rest
+    × (number_and_size rest ≡ Ok (count, size)) × (count ≤ row_limit)
 TellsFew line (Err BadReply) = ((rest : List ℕ) → IsFirstLine line Negative rest → ⊥)
     × ((rest : List ℕ) → IsFirstLine line Positive rest → IsOk (number_and_size rest) → ⊥)
-TellsFew line (Err TooMany) = (rest : List ℕ) × (count size : ℕ) × IsFirstLine line Positive rest × (number_and_size rest ≡ Ok (count, size)) × (row_limit < count)
+TellsFew line (Err TooMany) = (rest : List ℕ) × (count size : ℕ) × IsFirstLine line Positive rest
+    × (number_and_size rest ≡ Ok (count, size)) × (row_limit < count)
 TellsFew line (Err _) = ⊥
 
 -- whether a fault is a refused call of the link

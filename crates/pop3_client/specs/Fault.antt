@@ -1,7 +1,9 @@
 -- The numbers of the faults.
 use Rattle.std.specs.Prelude.{ℕ}
 use Rattle.pop3_client.specs.declared.fault.Fault.{Fault}
-use Rattle.pop3_client.specs.declared.fault.Fault.TheVariants.{ConnectionEnded, ReadFailed, WriteFailed, ReplyTooLong, BadReply, Refused, BadListing, ListingsDisagree, TooMany, TextTooLong, NoMemory}
+use Rattle.pop3_client.specs.declared.fault.Fault.TheVariants.{ConnectionEnded, ReadFailed, WriteFailed, ReplyTooLong}
+use Rattle.pop3_client.specs.declared.fault.Fault.TheVariants.{BadReply, Refused, BadListing, ListingsDisagree}
+use Rattle.pop3_client.specs.declared.fault.Fault.TheVariants.{TooMany, TextTooLong, NoMemory}
 
 -- the number under which a fault is told
 abbrev pub number_of : Fault → ℕ

@@ -11,7 +11,8 @@ use Rattle.mail_terms.specs.Listing.{Item, Agree, Joins}
 use Rattle.mail_terms.specs.declared.listing.UidRow.{UidRow}
 use Rattle.mail_terms.specs.declared.listing.ScanRow.{ScanRow}
 use Rattle.pop3_client.specs.declared.fault.Fault.{Fault}
-use Rattle.pop3_client.specs.declared.fault.Fault.TheVariants.{ConnectionEnded, ReadFailed, ReplyTooLong, BadListing, ListingsDisagree, TooMany, NoMemory}
+use Rattle.pop3_client.specs.declared.fault.Fault.TheVariants.{ConnectionEnded, ReadFailed, ReplyTooLong, BadListing}
+use Rattle.pop3_client.specs.declared.fault.Fault.TheVariants.{ListingsDisagree, TooMany, NoMemory}
 use Rattle.pop3_client.specs.Turns.{Turn, uidl, list, line_limit, row_limit, IsShort, IsRow, LinesFit}
 use Rattle.pop3_client.specs.Causes.{IsPartOfListing, HasRows, IsOverlong}
 use Rattle.pop3_client.specs.Conversation.{NoLineCause, Talked, Stopped, Broke}
@@ -24,11 +25,14 @@ pub record Listed (old new : Place) (uids : List UidRow) (sizes : List ScanRow) 
   pub names : HasListing IsUidLine first uids
   pub octets : HasListing IsScanLine second sizes
 
--- both listings were taken, and these are the messages, joined; or the conversation stopped; or the listings don't join with the count; or memory was wanting to join them, before anything else was sent
+-- both listings were taken, and these are the messages, joined; or the conversation stopped; or the listings don't
+-- join with the count; or memory was wanting to join them, before anything else was sent
 abbrev pub GetsListing : ℕ → Place → Result (List Item) Fault → Place → Type 0
-GetsListing count old (Ok items) new = (uids : List UidRow) × (sizes : List ScanRow) × Listed old new uids sizes × Joins count uids sizes items
+GetsListing count old (Ok items) new = (uids : List UidRow) × (sizes : List ScanRow) × Listed old new uids sizes
+    × Joins count uids sizes items
 GetsListing count old (Err fault) new = Stopped (uidl ∷ list ∷ []) old new fault
-    ⊎ ((fault ≡ ListingsDisagree) × ((uids : List UidRow) × (sizes : List ScanRow) × Listed old new uids sizes × (Agree count uids sizes → ⊥)))
+    ⊎ ((fault ≡ ListingsDisagree) × ((uids : List UidRow) × (sizes : List ScanRow) × Listed old new uids sizes
+    × (Agree count uids sizes → ⊥)))
     ⊎ ((fault ≡ NoMemory) × ((uids : List UidRow) × (sizes : List ScanRow) × Listed old new uids sizes))
 
 -- ---- the parts of a listing
@@ -38,7 +42,8 @@ abbrev pub RowCause : Fault → ℕ → Link → Link → List ℕ → Type 0
 RowCause ConnectionEnded rows old new bytes = NoLineCause ConnectionEnded old new bytes
 RowCause ReadFailed rows old new bytes = NoLineCause ReadFailed old new bytes
 RowCause ReplyTooLong rows old new bytes = IsOverlong bytes
-RowCause TooMany rows old new bytes = (row behind : List ℕ) × (row_limit ≤ rows) × IsContent row × IsShort row × (bytes ≡ ended row ++ behind)
+RowCause TooMany rows old new bytes = (row behind : List ℕ) × (row_limit ≤ rows) × IsContent row × IsShort row
+    × (bytes ≡ ended row ++ behind)
 RowCause _ rows old new bytes = ⊥
 
 -- a row waits, or the end mark was taken, or why neither
@@ -62,8 +67,10 @@ pub record RowBehind (turn : Turn) (after row : List ℕ) (rows : ℕ) : Type 0 
 abbrev pub RowsCause : Fault → Turn → Link → Link → List ℕ → Type 0
 RowsCause ConnectionEnded turn old new after = (new.ended ≡ true) × IsPartOfListing turn after
 RowsCause ReadFailed turn old new after = (old.failures < new.failures) × IsPartOfListing turn after
-RowsCause ReplyTooLong turn old new after = (behind : List ℕ) × (lines : List (List ℕ)) × HasRows turn after behind lines × IsOverlong behind
-RowsCause BadListing turn old new after = (row : List ℕ) × (rows : ℕ) × RowBehind turn after row rows × (rows < row_limit) × (IsRow turn row → ⊥)
+RowsCause ReplyTooLong turn old new after = (behind : List ℕ) × (lines : List (List ℕ))
+    × HasRows turn after behind lines × IsOverlong behind
+RowsCause BadListing turn old new after = (row : List ℕ) × (rows : ℕ) × RowBehind turn after row rows
+    × (rows < row_limit) × (IsRow turn row → ⊥)
 RowsCause TooMany turn old new after = (row : List ℕ) × RowBehind turn after row row_limit
 RowsCause NoMemory turn old new after = (row : List ℕ) × (rows : ℕ) × RowBehind turn after row rows × (rows < row_limit) × IsRow turn row
 RowsCause _ turn old new after = ⊥
@@ -92,5 +99,6 @@ TakesRows turn IsThisRow old (Err fault) new = NotTaken turn old new fault
 
 -- a listing was asked for and taken, or its turn broke
 abbrev pub ListsRows : {R : Type 0} → Turn → (List ℕ → R → Type 0) → Place → Result (List R) Fault → Place → Type 0
-ListsRows turn IsThisRow old (Ok rows) new = (reply : WholeReply) × Talked (turn ∷ []) (reply ∷ []) old new × HasListing IsThisRow reply rows
+ListsRows turn IsThisRow old (Ok rows) new = (reply : WholeReply) × Talked (turn ∷ []) (reply ∷ []) old new
+    × HasListing IsThisRow reply rows
 ListsRows turn IsThisRow old (Err fault) new = Broke turn old new fault

@@ -23,7 +23,8 @@ fn joined(alloc: Global, count: u32, uids: &[UidRow], sizes: &[ScanRow]) -> Resu
     requires legal { All (λ row. IsLegalId row.uid.items) uids.now }
     ensures legal { IfOk result (λ listing. All (λ item. IsLegalId item.uid) listing) }
     ensures ok { IfOk result (Joins count uids.now sizes.now) }
-    ensures err { IfErr result (λ fault. ((fault ≡ Fault.ListingsDisagree) × (Agree count uids.now sizes.now → ⊥)) ⊎ (fault ≡ Fault.NoMemory)) }
+    ensures err { IfErr result (λ fault. ((fault ≡ Fault.ListingsDisagree) × (Agree count uids.now sizes.now → ⊥))
+        ⊎ (fault ≡ Fault.NoMemory)) }
 {
     match Listing::join(alloc, count, uids, sizes) {
         Ok(listing) => Ok(listing),

@@ -1,4 +1,4 @@
-use Rattle.fetch_session.proofs.TurnLemmas.{talked_none, talked_on}
+use Rattle.pop3_client.proofs.TalkLemmas.{talked_none, talked_on}
 use Rattle.fetch_session.proofs.laws.turns_join.Goals as goal
 
 pub returns : goal.returns

@@ -16,10 +16,10 @@ returns-clause-proceeds g c = λ w d f.
       does.1,
       does.2,
       g.met.W.Wire.leads_on _ _ _ entered.1 does.3,
-      dealt c.args.settings.now c.args.account.now c.args.now (place_of g.W.Wire c.args.client.now)
-          (kept (g.D.MaildirDisk.maildir c.args.disk.now) (g.F.FlatFile.stored c.args.file.now)) c.carry_out.result
-          (place_of g.W.Wire new.client) (kept (g.D.MaildirDisk.maildir new.disk) (g.F.FlatFile.stored new.file)) (noted c.len-notes.result new.skipped new.lines.items)
-          c.in-Ok.listing (place_of g.W.Wire c.enter.new.client) c.reserve.new.self.items (c.reserve.ensures.items ∙ c.requires.nothing.2) entered.2 c.len-notes.ensures.count does.4,
+      dealt c.args.terms.settings.now c.args.terms.account.now c.args.terms.now (place_of g.W.Wire c.args.client.now)
+          (kept (g.D.MaildirDisk.maildir c.args.work.now.disk) (g.F.FlatFile.stored c.args.work.now.file)) c.carry_out.result
+          (place_of g.W.Wire new.client) (kept (g.D.MaildirDisk.maildir new.work.disk) (g.F.FlatFile.stored new.work.file)) (noted c.len-counts.result new.skipped new.work.lines.items)
+          c.in-Ok.listing (place_of g.W.Wire c.enter.new.client) c.reserve.new.self.items (c.reserve.ensures.items ∙ c.requires.nothing.2) entered.2 c.len-counts.ensures.count does.4,
     )
 
 pub returns-in-Err-clause-took : goal.returns-in-Err-clause-took
@@ -29,7 +29,7 @@ returns-in-Err-clause-took g c = λ w.
     let new = place_of g.W.Wire c.enter.new.client in
     let cut = c.plain.result in (
       entered.0,
-      with_tail_less (409616384 + 4096) (409616384 + (c.args.notes.now.total * 268439552 + 4096)) old new (Err cut) (omega arith)
+      with_tail_less (409616384 + 4096) (409616384 + (c.args.counts.now.total * 268439552 + 4096)) old new (Err cut) (omega arith)
           (with_any_tail 409616384 old new cut (takes_plain 409616384 old new c.told.result cut c.plain.ensures (took_entering c.conversations_are_paced.ensures _ _ old new (Err c.in-Err.fault) entered.2))),
     )
 
@@ -40,7 +40,7 @@ returns-in-Err-reserve-clause-took g c = λ w.
     let new = place_of g.W.Wire c.enter.new.client in
     let cut = c.plain-in-Err-reserve.result in (
       entered.0,
-      with_tail_less (409616384 + 4096) (409616384 + (c.len-notes.result * 268439552 + 4096)) old new (Err cut) (omega arith)
+      with_tail_less (409616384 + 4096) (409616384 + (c.len-counts.result * 268439552 + 4096)) old new (Err cut) (omega arith)
           (with_any_tail 409616384 old new cut (takes_plain 409616384 old new NoMemory cut c.plain-in-Err-reserve.ensures (took_entering c.conversations_are_paced.ensures _ _ old new (Ok c.in-Ok.listing) entered.2))),
     )
 
@@ -53,7 +53,7 @@ returns-clause-took g c = λ w.
     let new = place_of g.W.Wire c.carry_out.new.client in
     let n = length c.in-Ok.listing in (
       entered.0,
-      with_tail_less (409616384 + (n * 268439552 + 4096)) (409616384 + (c.len-notes.result * 268439552 + 4096)) old new c.carry_out.result (omega (arith, c.len-notes.ensures.count))
+      with_tail_less (409616384 + (n * 268439552 + 4096)) (409616384 + (c.len-counts.result * 268439552 + 4096)) old new c.carry_out.result (omega (arith, c.len-counts.ensures.count))
           (with_tail_on 409616384 (n * 268439552 + 4096) old mid new c.carry_out.result (took_entering c.conversations_are_paced.ensures _ _ old mid (Ok c.in-Ok.listing) entered.2) does.1),
     )
 

@@ -17,7 +17,7 @@ returns-in-Err-clause-session g c = λ w d f.
     let went = c.in-Err.ensures.proceeds says.0 d f in
     let done = c.proceed.new in
     let inside = c.account.inside in
-    let after = kept (g.D.MaildirDisk.maildir done.disk) (g.F.FlatFile.stored done.file) in
+    let after = kept (g.D.MaildirDisk.maildir done.work.disk) (g.F.FlatFile.stored done.work.file) in
     let new = place_of g.W.Wire c.leave.new.client in
     subst (λ h. g.W.Wire.sound c.args.client.now.wire.now × g.D.MaildirDisk.sound h.disk × g.F.FlatFile.sound h.file × g.W.Wire.leads_to c.args.client.now.wire.now c.leave.new.client.wire.now
     × Session h.settings (digits_of h.settings) c.args.now (g.W.Wire.seen c.args.client.now.wire.now) (kept (g.D.MaildirDisk.maildir h.disk) (g.F.FlatFile.stored h.file)) c.tell.result new.link after) c.account.view_is (
@@ -26,9 +26,9 @@ returns-in-Err-clause-session g c = λ w d f.
       went.2,
       g.met.W.Wire.leads_on _ _ _ went.3 says.1,
       cut_session inside.settings (digits_of inside.settings) inside.id c.args.now (g.W.Wire.seen c.args.client.now.wire.now) c.args.client.now.reader
-          (kept (g.D.MaildirDisk.maildir inside.disk) (g.F.FlatFile.stored inside.seen_file)) c.in-Err.cut
-          (place_of g.W.Wire done.client) new after (noted done.notes.total done.notes.skipped done.notes.lines.items) c.tell.result
-          c.account.invariant.1 c.requires went.4 says.2 c.tell.ensures,
+          (kept (g.D.MaildirDisk.maildir inside.work.disk) (g.F.FlatFile.stored inside.work.file)) c.in-Err.cut
+          (place_of g.W.Wire done.client) new after (noted done.counts.total done.counts.skipped done.work.lines.items) c.tell.result
+          c.account.invariant.1 c.requires went.4 says.2 (rw c.replace-lines.ensures.value at c.tell.ensures),
     )
 
 pub returns-clause-session : goal.returns-clause-session
@@ -36,7 +36,7 @@ returns-clause-session g c = λ w d f.
     let went = c.in_default.ensures.proceeds w d f in
     let done = c.proceed.new in
     let inside = c.account.inside in
-    let after = kept (g.D.MaildirDisk.maildir done.disk) (g.F.FlatFile.stored done.file) in
+    let after = kept (g.D.MaildirDisk.maildir done.work.disk) (g.F.FlatFile.stored done.work.file) in
     let mid = place_of g.W.Wire done.client in
     subst (λ h. g.W.Wire.sound c.args.client.now.wire.now × g.D.MaildirDisk.sound h.disk × g.F.FlatFile.sound h.file × g.W.Wire.leads_to c.args.client.now.wire.now done.client.wire.now
     × Session h.settings (digits_of h.settings) c.args.now (g.W.Wire.seen c.args.client.now.wire.now) (kept (g.D.MaildirDisk.maildir h.disk) (g.F.FlatFile.stored h.file)) c.tell-2.result mid.link after) c.account.view_is (
@@ -45,8 +45,8 @@ returns-clause-session g c = λ w d f.
       went.2,
       went.3,
       ended_session inside.settings (digits_of inside.settings) inside.id c.args.now (g.W.Wire.seen c.args.client.now.wire.now) c.args.client.now.reader
-          (kept (g.D.MaildirDisk.maildir inside.disk) (g.F.FlatFile.stored inside.seen_file)) mid after (noted done.notes.total done.notes.skipped done.notes.lines.items) c.tell-2.result
-          c.account.invariant.1 c.requires went.4 c.tell-2.ensures,
+          (kept (g.D.MaildirDisk.maildir inside.work.disk) (g.F.FlatFile.stored inside.work.file)) mid after (noted done.counts.total done.counts.skipped done.work.lines.items) c.tell-2.result
+          c.account.invariant.1 c.requires went.4 (rw c.replace-lines-2.ensures.value at c.tell-2.ensures),
     )
 
 pub returns-in-Err-clause-bounded : goal.returns-in-Err-clause-bounded
@@ -57,7 +57,7 @@ returns-in-Err-clause-bounded g c = λ w.
     let link = g.W.Wire.seen c.args.client.now.wire.now in
     let mid = place_of g.W.Wire done.client in
     let last = place_of g.W.Wire c.leave.new.client in
-    let n = done.notes.total in
+    let n = done.counts.total in
     subst (λ (n : ℕ). GotAtMost (session_limit n) link last.link) (sym c.tell.ensures.total_is)
     (cut_within c.conversations_are_paced.ensures n link c.in-Err.cut mid last
     (subst (λ (r : List ℕ). TookWithTail (opening_limit + (n * step_limit + tail_limit)) (at link r) (Err c.in-Err.cut) mid) c.requires took.1) says.2
@@ -69,7 +69,7 @@ returns-clause-bounded g c = λ w.
     let done = c.proceed.new in
     let link = g.W.Wire.seen c.args.client.now.wire.now in
     let mid = place_of g.W.Wire done.client in
-    let n = done.notes.total in
+    let n = done.counts.total in
     subst (λ (n : ℕ). GotAtMost (session_limit n) link mid.link) (sym c.tell-2.ensures.total_is)
     (ended_within n link mid (subst (λ (r : List ℕ). Took (opening_limit + (n * step_limit + tail_limit)) (at link r) mid) c.requires took.1)
     (subst (λ (r : List ℕ). length r ≤ 4096) c.waiting-2.ensures.value c.waiting-2.ensures.short))

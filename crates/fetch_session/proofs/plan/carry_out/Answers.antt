@@ -15,31 +15,38 @@ use Rattle.fetch_session.proofs.plan.carry_out.Goals as goal
 pub returns-in-Err-clause-carries : goal.returns-in-Err-clause-carries
 returns-in-Err-clause-carries g c = λ w d f.
     let ready = c.in-Err.ensures.readies d f in
-    (w, ready.0, ready.1, g.met.W.Wire.leads_same c.args.client.now.wire.now, ([], inl (c.requires.none_skipped, unprepared c.args.account.now c.args.listing.now c.args.now (place_of g.W.Wire c.args.client.now) (g.D.MaildirDisk.maildir c.args.disk.now) (g.F.FlatFile.stored c.args.file.now) c.args.lines.now.items c.in-Err.fault c.plain.result (g.D.MaildirDisk.maildir c.prepare.new.disk) (g.F.FlatFile.stored c.prepare.new.file) c.plain.ensures ready.2)))
+    (w, ready.0, ready.1, g.met.W.Wire.leads_same c.args.client.now.wire.now, ([], inl (c.requires.none_skipped, unprepared c.args.terms.account.now c.args.listing.now c.args.terms.now (place_of g.W.Wire c.args.client.now) (g.D.MaildirDisk.maildir c.args.work.now.disk) (g.F.FlatFile.stored c.args.work.now.file) c.args.work.now.lines.items c.in-Err.fault c.plain.result (g.D.MaildirDisk.maildir c.prepare.new.disk) (g.F.FlatFile.stored c.prepare.new.file) c.plain.ensures ready.2)))
 
 pub skipped_in-requires : goal.skipped_in-requires
 skipped_in-requires g c = omega (arith, ap length c.deref.ensures.value, c.in-Ok.ensures.lengths.0, c.requires.few)
 
+pub do_steps-requires-clause-ready : goal.do_steps-requires-clause-ready
+do_steps-requires-clause-ready g c = record {
+  calm = λ d. let stays = c.in-Ok.ensures.stays d in stays.1 ∙ c.requires.calm stays.0;
+  closed = c.in-Ok.ensures.closed;
+  steady = λ f. (c.in-Ok.ensures.steady f).1;
+}
+
 pub do_steps-requires-clause-free : goal.do_steps-requires-clause-free
 do_steps-requires-clause-free g c = λ kept.
     let stays = c.in-Ok.ensures.stays kept in
-    let account = c.args.account.now in
+    let account = c.args.terms.account.now in
     let items = c.args.listing.now in
     let maildir = g.D.MaildirDisk.maildir c.prepare.new.disk in
     let rows = c.prepare.new.seen.rows in
     subst (λ (held : List Bool). AreFresh account maildir (ids_ahead (tasks_planned c.deref-2.result.now items held))) (sym (c.deref-3.ensures.value ∙ stays.2))
     (subst (λ (steps : List Step). AreFresh account maildir (ids_ahead (tasks_planned steps items (flags_of account maildir items)))) (sym (c.deref-2.ensures.value ∙ c.in-Ok.ensures.plans))
-    (fresh_firsts account maildir [] (planned c.args.settings.now rows items c.args.now) items (c.firsts_are_fetched.ensures c.args.settings.now rows items c.args.now) c.requires.legal))
+    (fresh_firsts account maildir [] (planned c.args.terms.settings.now rows items c.args.terms.now) items (c.firsts_are_fetched.ensures c.args.terms.settings.now rows items c.args.terms.now) c.requires.legal))
 
 pub returns-in-Err-do_steps-clause-carries : goal.returns-in-Err-do_steps-clause-carries
 returns-in-Err-do_steps-clause-carries g c = λ w d f.
     let done = c.in-Err-do_steps.ensures.does w d f in
     let ready = c.in-Ok.ensures.readies done.1 done.2 in
     let old = place_of g.W.Wire c.args.client.now in
-    let maildir = g.D.MaildirDisk.maildir c.args.disk.now in
-    let file = g.F.FlatFile.stored c.args.file.now in
-    let new = scene (place_of g.W.Wire c.do_steps.new.client) (g.D.MaildirDisk.maildir c.do_steps.new.disk) (g.F.FlatFile.stored c.do_steps.new.file) c.do_steps.new.seen.rows c.do_steps.new.lines.items in
-    (done.0, ready.0, ready.1, done.3, (c.do_steps.new.seen.rows, inr (carry_fell c.args.settings.now c.args.account.now c.args.listing.now c.args.now old maildir file c.args.lines.now.items c.in-Ok.ready c.prepare.new.seen.rows (g.D.MaildirDisk.maildir c.prepare.new.disk) (g.F.FlatFile.stored c.prepare.new.file) ready.2 c.deref-2.result.now c.deref-3.result.now c.deref-2.ensures.value c.deref-3.ensures.value c.skipped_in.result (c.skipped_in.ensures ∙ ap skipped_in (c.deref.ensures.value ∙ sym c.deref-2.ensures.value)) new c.in-Err-do_steps.cut done.4)))
+    let maildir = g.D.MaildirDisk.maildir c.args.work.now.disk in
+    let file = g.F.FlatFile.stored c.args.work.now.file in
+    let new = scene (place_of g.W.Wire c.do_steps.new.client) (g.D.MaildirDisk.maildir c.do_steps.new.work.disk) (g.F.FlatFile.stored c.do_steps.new.work.file) c.do_steps.new.work.seen.rows c.do_steps.new.work.lines.items in
+    (done.0, ready.0, ready.1, done.3, (c.do_steps.new.work.seen.rows, inr (carry_fell c.args.terms.settings.now c.args.terms.account.now c.args.listing.now c.args.terms.now old maildir file c.args.work.now.lines.items c.in-Ok.ready c.prepare.new.seen.rows (g.D.MaildirDisk.maildir c.prepare.new.disk) (g.F.FlatFile.stored c.prepare.new.file) ready.2 c.deref-2.result.now c.deref-3.result.now c.deref-2.ensures.value c.deref-3.ensures.value c.skipped_in.result (c.skipped_in.ensures ∙ ap skipped_in (c.deref.ensures.value ∙ sym c.deref-2.ensures.value)) new c.in-Err-do_steps.cut done.4)))
 
 pub returns-in-Ok-quit-clause-carries : goal.returns-in-Ok-quit-clause-carries
 returns-in-Ok-quit-clause-carries g c = λ w d f.
@@ -47,17 +54,17 @@ returns-in-Ok-quit-clause-carries g c = λ w d f.
     let done = c.in_default.ensures.does tells.0 d f in
     let ready = c.in-Ok.ensures.readies done.1 done.2 in
     let old = place_of g.W.Wire c.args.client.now in
-    let maildir = g.D.MaildirDisk.maildir c.args.disk.now in
-    let file = g.F.FlatFile.stored c.args.file.now in (
+    let maildir = g.D.MaildirDisk.maildir c.args.work.now.disk in
+    let file = g.F.FlatFile.stored c.args.work.now.file in (
       done.0,
       ready.0,
       ready.1,
       g.met.W.Wire.leads_on _ _ _ done.3 tells.1,
       (
-        c.do_steps.new.seen.rows,
-        carry_quit c.args.settings.now c.args.account.now c.args.listing.now c.args.now old maildir file c.args.lines.now.items c.in-Ok.ready c.prepare.new.seen.rows (g.D.MaildirDisk.maildir c.prepare.new.disk) (g.F.FlatFile.stored c.prepare.new.file) ready.2 c.deref-2.result.now c.deref-3.result.now c.deref-2.ensures.value c.deref-3.ensures.value c.skipped_in.result (c.skipped_in.ensures ∙ ap skipped_in (c.deref.ensures.value ∙ sym c.deref-2.ensures.value))
+        c.do_steps.new.work.seen.rows,
+        carry_quit c.args.terms.settings.now c.args.terms.account.now c.args.listing.now c.args.terms.now old maildir file c.args.work.now.lines.items c.in-Ok.ready c.prepare.new.seen.rows (g.D.MaildirDisk.maildir c.prepare.new.disk) (g.F.FlatFile.stored c.prepare.new.file) ready.2 c.deref-2.result.now c.deref-3.result.now c.deref-2.ensures.value c.deref-3.ensures.value c.skipped_in.result (c.skipped_in.ensures ∙ ap skipped_in (c.deref.ensures.value ∙ sym c.deref-2.ensures.value))
             (place_of g.W.Wire c.do_steps.new.client) (place_of g.W.Wire c.quit.new.self)
-            (g.D.MaildirDisk.maildir c.do_steps.new.disk) (g.F.FlatFile.stored c.do_steps.new.file) c.do_steps.new.seen.rows c.do_steps.new.lines.items tells.2.0 done.4 tells.2.1,
+            (g.D.MaildirDisk.maildir c.do_steps.new.work.disk) (g.F.FlatFile.stored c.do_steps.new.work.file) c.do_steps.new.work.seen.rows c.do_steps.new.work.lines.items tells.2.0 done.4 tells.2.1,
       ),
     )
 
@@ -67,17 +74,17 @@ returns-clause-carries g c = λ w d f.
     let done = c.in_default.ensures.does tells.0 d f in
     let ready = c.in-Ok.ensures.readies done.1 done.2 in
     let old = place_of g.W.Wire c.args.client.now in
-    let maildir = g.D.MaildirDisk.maildir c.args.disk.now in
-    let file = g.F.FlatFile.stored c.args.file.now in (
+    let maildir = g.D.MaildirDisk.maildir c.args.work.now.disk in
+    let file = g.F.FlatFile.stored c.args.work.now.file in (
       done.0,
       ready.0,
       ready.1,
       g.met.W.Wire.leads_on _ _ _ done.3 tells.1,
       (
-        c.do_steps.new.seen.rows,
-        inr (carry_broke c.args.settings.now c.args.account.now c.args.listing.now c.args.now old maildir file c.args.lines.now.items c.in-Ok.ready c.prepare.new.seen.rows (g.D.MaildirDisk.maildir c.prepare.new.disk) (g.F.FlatFile.stored c.prepare.new.file) ready.2 c.deref-2.result.now c.deref-3.result.now c.deref-2.ensures.value c.deref-3.ensures.value c.skipped_in.result (c.skipped_in.ensures ∙ ap skipped_in (c.deref.ensures.value ∙ sym c.deref-2.ensures.value))
+        c.do_steps.new.work.seen.rows,
+        inr (carry_broke c.args.terms.settings.now c.args.terms.account.now c.args.listing.now c.args.terms.now old maildir file c.args.work.now.lines.items c.in-Ok.ready c.prepare.new.seen.rows (g.D.MaildirDisk.maildir c.prepare.new.disk) (g.F.FlatFile.stored c.prepare.new.file) ready.2 c.deref-2.result.now c.deref-3.result.now c.deref-2.ensures.value c.deref-3.ensures.value c.skipped_in.result (c.skipped_in.ensures ∙ ap skipped_in (c.deref.ensures.value ∙ sym c.deref-2.ensures.value))
             (place_of g.W.Wire c.do_steps.new.client) (place_of g.W.Wire c.quit.new.self)
-            (g.D.MaildirDisk.maildir c.do_steps.new.disk) (g.F.FlatFile.stored c.do_steps.new.file) c.do_steps.new.seen.rows c.do_steps.new.lines.items c.in-Err-quit.fault c.told.result c.plain-in-Err-quit.result done.4 c.plain-in-Err-quit.ensures c.told.ensures tells.2),
+            (g.D.MaildirDisk.maildir c.do_steps.new.work.disk) (g.F.FlatFile.stored c.do_steps.new.work.file) c.do_steps.new.work.seen.rows c.do_steps.new.work.lines.items c.in-Err-quit.fault c.told.result c.plain-in-Err-quit.result done.4 c.plain-in-Err-quit.ensures c.told.ensures tells.2),
       ),
     )
 

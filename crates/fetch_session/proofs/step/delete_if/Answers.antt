@@ -1,6 +1,7 @@
 use Rattle.std.proofs.Common.{List, [], Ok, Err, arith, sym, refl, subst}
 use Rattle.pop3_client.specs.Client.{place_of}
 use Rattle.pop3_client.specs.Turns.{dele}
+use Rattle.pop3_client.proofs.ClientLemmas.{in_words, no_call, did_so}
 use Rattle.fetch_session.specs.Task.{Task, deletes}
 use Rattle.fetch_session.specs.Scene.{scene, AllWent, Fell}
 use Rattle.fetch_session.proofs.SceneLemmas.{all_none, fell_first}
@@ -10,52 +11,40 @@ use Rattle.fetch_session.proofs.RefusalLemmas.{cut_by}
 use Rattle.fetch_session.proofs.step.delete_if.Goals as goal
 
 pub returns-then-not-wanted-clause-deletes : goal.returns-then-not-wanted-clause-deletes
-returns-then-not-wanted-clause-deletes g c = λ account maildir file rows sound.
+returns-then-not-wanted-clause-deletes g c = λ account maildir file rows.
     let here = scene (place_of g.W.Wire c.args.client.now) maildir file rows c.args.lines.now.items in
-    (sound, g.met.W.Wire.leads_same c.args.client.now.wire.now, subst (λ (ts : List Task). AllWent account ts here here) (sym (no_deletes c.args.wanted c.args.number c.if-not-wanted.true)) (all_none account here))
+    no_call g.W.Wire g.met.W.Wire.leads_same
+    (subst (λ (ts : List Task). AllWent account ts here here) (sym (no_deletes c.args.wanted c.args.number c.if-not-wanted.true)) (all_none account here))
 
 pub returns-in-Ok-clause-deletes : goal.returns-in-Ok-clause-deletes
-returns-in-Ok-clause-deletes g c = λ account maildir file rows sound.
-    let tells = c.in-Ok.ensures.tells sound in
-    let old = place_of g.W.Wire c.args.client.now in
-    let new = place_of g.W.Wire c.delete.new.self in
-    let lines = c.args.lines.now.items in
-    let lines' = c.note.new.lines.items in (
-      tells.0,
-      tells.1,
-      subst (λ (ts : List Task). AllWent account ts (scene old maildir file rows lines) (scene new maildir file rows lines')) (sym (one_delete c.args.wanted c.args.number c.if-not-wanted.false))
-          (deleted account c.args.number tells.2.0 old new maildir file rows lines lines' tells.2.1 c.note.ensures.items),
-    )
+returns-in-Ok-clause-deletes g c = λ account maildir file rows.
+    let old = scene (place_of g.W.Wire c.args.client.now) maildir file rows c.args.lines.now.items in
+    let new = scene (place_of g.W.Wire c.delete.new.self) maildir file rows c.note.new.lines.items in
+    in_words g.W.Wire c.in-Ok.ensures.tells (λ tells.
+    subst (λ (ts : List Task). AllWent account ts old new) (sym (one_delete c.args.wanted c.args.number c.if-not-wanted.false))
+    (deleted account c.args.number tells.0 old.place new.place maildir file rows old.lines new.lines tells.1 c.note.ensures.items))
 
 pub returns-in-Err-clause-deletes : goal.returns-in-Err-clause-deletes
-returns-in-Err-clause-deletes g c = λ account maildir file rows sound.
-    let tells = c.in-Err.ensures.tells sound in
-    let old = place_of g.W.Wire c.args.client.now in
-    let new = place_of g.W.Wire c.delete.new.self in
-    let lines = c.args.lines.now.items in (
-      tells.0,
-      tells.1,
-      subst (λ (ts : List Task). Fell account ts (scene old maildir file rows lines) c.plain.result (scene new maildir file rows lines)) (sym (one_delete c.args.wanted c.args.number c.if-not-wanted.false))
-          (fell_first account (deletes c.args.number) [] (scene old maildir file rows lines) (scene new maildir file rows lines) c.plain.result
-          (text_broken account (deletes c.args.number) (dele c.args.number) old new maildir file rows lines c.in-Err.fault c.told.result c.plain.result refl c.plain.ensures c.told.ensures tells.2)),
-    )
+returns-in-Err-clause-deletes g c = λ account maildir file rows.
+    let old = scene (place_of g.W.Wire c.args.client.now) maildir file rows c.args.lines.now.items in
+    let new = scene (place_of g.W.Wire c.delete.new.self) maildir file rows c.args.lines.now.items in
+    in_words g.W.Wire c.in-Err.ensures.tells (λ tells.
+    subst (λ (ts : List Task). Fell account ts old c.plain.result new) (sym (one_delete c.args.wanted c.args.number c.if-not-wanted.false))
+    (fell_first account (deletes c.args.number) [] old new c.plain.result
+    (text_broken account (deletes c.args.number) (dele c.args.number) old.place new.place maildir file rows old.lines c.in-Err.fault c.told.result c.plain.result refl c.plain.ensures c.told.ensures tells)))
 
 pub returns-then-not-wanted-clause-took : goal.returns-then-not-wanted-clause-took
-returns-then-not-wanted-clause-took g c = λ w.
-    let here = place_of g.W.Wire c.args.client.now in
-    (w, took_less 0 2048 here here (omega arith) (took_nothing here))
+returns-then-not-wanted-clause-took g c = λ w. (w, took_less 0 2048 _ _ (omega arith) (took_nothing _))
 
 pub returns-in-Ok-clause-took : goal.returns-in-Ok-clause-took
-returns-in-Ok-clause-took g c = λ w.
-    let tells = c.in-Ok.ensures.tells w in
-    (tells.0, took_deleting c.conversations_are_paced.ensures c.args.number (place_of g.W.Wire c.args.client.now) (place_of g.W.Wire c.delete.new.self) (Ok tt) tells.2)
+returns-in-Ok-clause-took g c = did_so g.W.Wire c.in-Ok.ensures.tells (λ tells. took_deleting c.conversations_are_paced.ensures c.args.number _ _ (Ok tt) tells)
 
 pub returns-in-Err-clause-took : goal.returns-in-Err-clause-took
-returns-in-Err-clause-took g c = λ w.
-    let tells = c.in-Err.ensures.tells w in
+returns-in-Err-clause-took g c =
     let old = place_of g.W.Wire c.args.client.now in
     let new = place_of g.W.Wire c.delete.new.self in
-    (tells.0, takes_plain 2048 old new c.told.result c.plain.result c.plain.ensures (took_deleting c.conversations_are_paced.ensures c.args.number old new (Err c.in-Err.fault) tells.2))
+    did_so g.W.Wire c.in-Err.ensures.tells (λ tells.
+    takes_plain 2048 old new c.told.result c.plain.result c.plain.ensures (took_deleting c.conversations_are_paced.ensures c.args.number old new (Err c.in-Err.fault) tells))
 
 pub returns-in-Err-clause-counted : goal.returns-in-Err-clause-counted
 returns-in-Err-clause-counted g c = cut_by c.in-Err.fault c.told.result c.plain.result (g.W.Wire.seen c.args.client.now.wire.now) (g.W.Wire.seen c.delete.new.self.wire.now) c.plain.ensures c.told.ensures c.in-Err.ensures.counted

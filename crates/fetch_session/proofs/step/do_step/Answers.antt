@@ -1,27 +1,33 @@
 use Rattle.std.proofs.Common.{Err, arith}
 use Rattle.pop3_client.specs.Client.{place_of}
 use Rattle.fetch_session.specs.Task.{fetching, deleting}
+use Rattle.fetch_session.specs.Work.{scene_of}
 use Rattle.fetch_session.specs.Scene.{scene}
-use Rattle.fetch_session.proofs.SceneLemmas.{does_more}
+use Rattle.fetch_session.proofs.SceneLemmas.{does_more, on_any}
 use Rattle.fetch_session.proofs.IntakeLemmas.{takes_on, takes_less}
 use Rattle.fetch_session.proofs.RefusalLemmas.{till_cut}
 use Rattle.fetch_session.proofs.step.do_step.Goals as goal
 
 pub returns-clause-does : goal.returns-clause-does
 returns-clause-does g c = λ w d f.
-    let maildir = g.D.MaildirDisk.maildir c.fetch_if.new.disk in
-    let file = g.F.FlatFile.stored c.fetch_if.new.file in
-    let deletes = c.delete_if.ensures.deletes c.args.account.now maildir file c.fetch_if.new.seen.rows w in
+    let message = c.args.message in
+    let account = c.args.account.now in
+    let mid = scene_of g.W.Wire g.D.MaildirDisk g.F.FlatFile c.fetch_if.new.client c.fetch_if.new.work in
+    let deletes = c.delete_if.ensures.deletes account mid.maildir mid.file mid.rows w in
     let fetches = c.in_default.ensures.does deletes.0 d f in (
       fetches.0,
       fetches.1,
       fetches.2,
       g.met.W.Wire.leads_on _ _ _ fetches.3 deletes.1,
-      does_more c.args.account.now (fetching c.args.step.retrieve c.args.held c.args.step.number c.args.uid.now c.args.size) (deleting c.args.step.delete c.args.step.number)
-          (scene (place_of g.W.Wire c.args.client.now) (g.D.MaildirDisk.maildir c.args.disk.now) (g.F.FlatFile.stored c.args.file.now) c.args.seen.now.rows c.args.lines.now.items)
-          (scene (place_of g.W.Wire c.fetch_if.new.client) maildir file c.fetch_if.new.seen.rows c.fetch_if.new.lines.items)
-          (scene (place_of g.W.Wire c.delete_if.new.client) maildir file c.fetch_if.new.seen.rows c.delete_if.new.lines.items) c.delete_if.result fetches.4 deletes.2,
+      does_more account (fetching message.step.retrieve message.held message.step.number message.uid.now message.size) (deleting message.step.delete message.step.number)
+          (scene_of g.W.Wire g.D.MaildirDisk g.F.FlatFile c.args.client.now c.args.work.now) mid
+          (scene (place_of g.W.Wire c.delete_if.new.client) mid.maildir mid.file mid.rows c.delete_if.new.lines.items) c.delete_if.result fetches.4 deletes.2,
     )
+
+pub returns-clause-ready : goal.returns-clause-ready
+returns-clause-ready g c =
+    let ready = c.in_default.ensures.ready in
+    on_any c.delete_if.result (record { calm = ready.calm; closed = ready.closed; steady = ready.steady })
 
 pub returns-in-Err-clause-took : goal.returns-in-Err-clause-took
 returns-in-Err-clause-took g c = λ w.

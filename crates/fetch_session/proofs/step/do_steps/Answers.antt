@@ -5,7 +5,7 @@ use Rattle.mail_terms.specs.Listing.{Item}
 use Rattle.fetch_rules.specs.declared.steps.Step.{Step}
 use Rattle.fetch_session.specs.Task.{Task, tasks_in, tasks_planned, fetching, ids_ahead, AreFresh}
 use Rattle.fetch_session.proofs.SceneLemmas.{leads_start, leads_on, leads_fell, leads_end}
-use Rattle.fetch_session.proofs.FreshLemmas.{fresh_step, fresh_later, grows_calm, tasks_left, no_item}
+use Rattle.fetch_session.proofs.FreshLemmas.{fresh_step, fresh_later, grows_calm, step_at, later_at, tasks_left, no_item}
 use Rattle.fetch_session.proofs.ReportLemmas.{adds_on}
 use Rattle.fetch_session.proofs.IntakeLemmas.{took_on, took_less, took_nothing, takes_on, takes_less}
 use Rattle.fetch_session.proofs.RefusalLemmas.{before_cut}
@@ -18,17 +18,12 @@ do_step-requires-clause-free g c = λ kept.
     let steps = c.args.steps.now in
     let items = c.args.listing.now in
     let held = c.args.held.now in
-    let in_items : i < length items = omega (arith, c.loop-i-test.true, c.len-i-end.ensures.count) in
-    let in_steps : i < length steps = omega (arith, in_items, c.requires.all_steps) in
-    let in_held : i < length held = omega (arith, in_items, c.requires.all_flags) in
-    let step : Step = get_or steps i (record { number = 0; retrieve = false; delete = false }) in
     let item : Item = record { uid = c.uid.result.now; size = c.size.result } in
-    let flag : Bool = get_or held i false in
-    let later = tasks_planned (drop (i + 1) steps) (drop (i + 1) items) (drop (i + 1) held) in
-    let split = tasks_left steps items held i c.uid.result.now c.size.result in_steps in_items in_held (c.uid.ensures.value no_item) (c.size.ensures no_item) in
+    let in_items : i < length items = omega (arith, c.loop-i-test.true, c.len-i-end.ensures.count) in
+    let split = tasks_left steps items held i item in_items c.requires.all_steps c.requires.all_flags (c.uid.ensures.value no_item) (c.size.ensures no_item) in
     let inv = c.loop-i.invariant.2 kept in
-    let maildir = g.D.MaildirDisk.maildir c.loop-i.disk in
-    fresh_step account step item flag later maildir (subst (λ (ts : List Task). AreFresh account maildir (ids_ahead ts)) split inv.2)
+    let maildir = g.D.MaildirDisk.maildir c.loop-i.work.disk in
+    fresh_step account (step_at steps i) item (get_or held i false) (later_at steps items held i) maildir (subst (λ (ts : List Task). AreFresh account maildir (ids_ahead ts)) split inv.1)
 
 pub returns-in-Err-clause-does : goal.returns-in-Err-clause-does
 returns-in-Err-clause-does g c = λ w d f.
@@ -37,32 +32,26 @@ returns-in-Err-clause-does g c = λ w d f.
     let steps = c.args.steps.now in
     let items = c.args.listing.now in
     let held = c.args.held.now in
-    let in_items : i < length items = omega (arith, c.loop-i-test.true, c.len-i-end.ensures.count) in
-    let in_steps : i < length steps = omega (arith, in_items, c.requires.all_steps) in
-    let in_held : i < length held = omega (arith, in_items, c.requires.all_flags) in
-    let step : Step = get_or steps i (record { number = 0; retrieve = false; delete = false }) in
     let item : Item = record { uid = c.uid.result.now; size = c.size.result } in
-    let flag : Bool = get_or held i false in
-    let later = tasks_planned (drop (i + 1) steps) (drop (i + 1) items) (drop (i + 1) held) in
-    let split = tasks_left steps items held i c.uid.result.now c.size.result in_steps in_items in_held (c.uid.ensures.value no_item) (c.size.ensures no_item) in
+    let in_items : i < length items = omega (arith, c.loop-i-test.true, c.len-i-end.ensures.count) in
+    let split = tasks_left steps items held i item in_items c.requires.all_steps c.requires.all_flags (c.uid.ensures.value no_item) (c.size.ensures no_item) in
     let done = c.in-Err.ensures.does w d f in
     let inv = c.loop-i.invariant.3 done.0 done.1 done.2 in (
       inv.0,
       inv.1,
       inv.2,
       g.met.W.Wire.leads_on _ _ _ inv.3 done.3,
-      leads_fell account (tasks_planned steps items held) _ (tasks_in step item flag) later _ _ _ c.in-Err.cut split inv.4 done.4,
+      leads_fell account (tasks_planned steps items held) _ (tasks_in (step_at steps i) item (get_or held i false)) (later_at steps items held i) _ _ _ c.in-Err.cut split inv.4 done.4,
     )
 
 pub loop-i-init : goal.loop-i-init
 loop-i-init g c = (
   (omega arith, omega arith),
-  λ f. (f, c.requires.steady f),
-  λ d. (d, c.requires.calm d, c.requires.free d),
+  c.requires.ready,
+  λ d. (d, c.requires.free d),
   λ w d f. (w, d, f, g.met.W.Wire.leads_same c.args.client.now.wire.now, leads_start _ _ _),
   λ w. (w, took_nothing _),
   refl,
-  c.requires.closed,
   refl,
 )
 
@@ -73,25 +62,18 @@ loop-i-preserved g c =
     let steps = c.args.steps.now in
     let items = c.args.listing.now in
     let held = c.args.held.now in
-    let in_items : i < length items = omega (arith, c.loop-i-test.true, c.len-i-end.ensures.count) in
-    let in_steps : i < length steps = omega (arith, in_items, c.requires.all_steps) in
-    let in_held : i < length held = omega (arith, in_items, c.requires.all_flags) in
-    let step : Step = get_or steps i (record { number = 0; retrieve = false; delete = false }) in
     let item : Item = record { uid = c.uid.result.now; size = c.size.result } in
-    let flag : Bool = get_or held i false in
-    let later = tasks_planned (drop (i + 1) steps) (drop (i + 1) items) (drop (i + 1) held) in
-    let split = tasks_left steps items held i c.uid.result.now c.size.result in_steps in_items in_held (c.uid.ensures.value no_item) (c.size.ensures no_item) in (
-      adds_on c.args.lines.now c.loop-i.lines c.do_step.new.lines i c.loop-i.invariant.0 c.do_step.ensures.few,
-      λ f. let after = c.in_default.ensures.steady f in ((c.loop-i.invariant.1 after.0).0, after.1),
+    let in_items : i < length items = omega (arith, c.loop-i-test.true, c.len-i-end.ensures.count) in
+    let split = tasks_left steps items held i item in_items c.requires.all_steps c.requires.all_flags (c.uid.ensures.value no_item) (c.size.ensures no_item) in (
+      adds_on c.args.work.now.lines c.loop-i.work.lines c.do_step.new.work.lines i c.loop-i.invariant.0 c.do_step.ensures.few,
+      c.in_default.ensures.ready,
       λ d.
           let grows = c.do_step.ensures.grows d in
           let inv = c.loop-i.invariant.2 grows.0 in
-          let ids = ids_ahead (fetching step.retrieve flag step.number item.uid item.size) in
-          let maildir = g.D.MaildirDisk.maildir c.loop-i.disk in
-          let maildir' = g.D.MaildirDisk.maildir c.do_step.new.disk in (
+          let maildir = g.D.MaildirDisk.maildir c.loop-i.work.disk in
+          let maildir' = g.D.MaildirDisk.maildir c.do_step.new.work.disk in (
             inv.0,
-            grows_calm account ids maildir maildir' grows.1,
-            fresh_later c.one_more_is_held.ensures account step item flag later maildir maildir' c.requires.digits grows.1 (subst (λ (ts : List Task). AreFresh account maildir (ids_ahead ts)) split inv.2),
+            fresh_later c.one_more_is_held.ensures account (step_at steps i) item (get_or held i false) (later_at steps items held i) maildir maildir' c.requires.digits grows.1 (subst (λ (ts : List Task). AreFresh account maildir (ids_ahead ts)) split inv.1),
           ),
       λ w d f.
           let done = c.in_default.ensures.does w d f in
@@ -100,7 +82,7 @@ loop-i-preserved g c =
             inv.1,
             inv.2,
             g.met.W.Wire.leads_on _ _ _ inv.3 done.3,
-            leads_on account (tasks_planned steps items held) _ (tasks_in step item flag) later _ _ _ split inv.4 done.4,
+            leads_on account (tasks_planned steps items held) _ (tasks_in (step_at steps i) item (get_or held i false)) (later_at steps items held i) _ _ _ split inv.4 done.4,
           ),
       λ w.
           let done = c.in_default.ensures.took w in
@@ -109,8 +91,7 @@ loop-i-preserved g c =
           let new = place_of g.W.Wire c.do_step.new.client in
           (inv.0, took_less (i * 268439552 + 268439552) ((i + 1) * 268439552) old new (omega arith) (took_on (i * 268439552) 268439552 old (place_of g.W.Wire c.loop-i.client) new inv.1 done.1)),
       c.in_default.ensures.counted ∙ c.loop-i.invariant.5,
-      c.in_default.ensures.closed,
-      c.do_step.ensures.link ∙ c.loop-i.invariant.7,
+      c.do_step.ensures.link ∙ c.loop-i.invariant.6,
     )
 
 pub returns-clause-does : goal.returns-clause-does
@@ -142,3 +123,16 @@ returns-clause-took g c = λ w.
 
 pub returns-in-Err-clause-counted : goal.returns-in-Err-clause-counted
 returns-in-Err-clause-counted g c = before_cut (g.W.Wire.seen c.args.client.now.wire.now) (g.W.Wire.seen c.loop-i.client.wire.now) (g.W.Wire.seen c.do_step.new.client.wire.now) c.in-Err.cut c.loop-i.invariant.5 c.in-Err.ensures.counted
+
+pub returns-clause-calm : goal.returns-clause-calm
+returns-clause-calm g c = λ d. ((c.loop-i.invariant.2 d).0, c.loop-i.invariant.1.calm d)
+
+pub returns-in-Err-clause-calm : goal.returns-in-Err-clause-calm
+returns-in-Err-clause-calm g c = λ d.
+    let i = c.loop-i.i in
+    let step = step_at c.args.steps.now i in
+    let grows = c.do_step.ensures.grows d in (
+      (c.loop-i.invariant.2 grows.0).0,
+      grows_calm c.args.account.now (ids_ahead (fetching step.retrieve (get_or c.args.held.now i false) step.number c.uid.result.now c.size.result))
+          (g.D.MaildirDisk.maildir c.loop-i.work.disk) (g.D.MaildirDisk.maildir c.do_step.new.work.disk) grows.1,
+    )

@@ -1,55 +1,65 @@
 use Rattle.std.proofs.Common.{List, arith, sym, subst}
 use Rattle.pop3_client.specs.Client.{place_of}
 use Rattle.fetch_session.specs.Task.{Task, stores, rereads}
+use Rattle.fetch_session.specs.Work.{scene_of}
 use Rattle.fetch_session.specs.Scene.{scene, AllWent, Does}
-use Rattle.fetch_session.proofs.SceneLemmas.{takes_does}
+use Rattle.fetch_session.proofs.SceneLemmas.{takes_does, on_any}
 use Rattle.fetch_session.proofs.TakeLemmas.{skipped, no_fetch, one_reread, one_store, was_true, was_false}
 use Rattle.fetch_session.proofs.IntakeLemmas.{took_nothing, took_less}
 use Rattle.fetch_session.proofs.step.fetch_if.Goals as goal
 
 pub returns-then-not-step-clause-does : goal.returns-then-not-step-clause-does
 returns-then-not-step-clause-does g c = λ w d f.
-    let account = c.args.account.now in
-    let place = place_of g.W.Wire c.args.client.now in
-    let maildir = g.D.MaildirDisk.maildir c.args.disk.now in
-    let file = g.F.FlatFile.stored c.args.file.now in
-    let rows = c.args.seen.now.rows in
-    let lines = c.args.lines.now.items in
+    let message = c.args.message in
+    let here = scene_of g.W.Wire g.D.MaildirDisk g.F.FlatFile c.args.client.now c.args.work.now in
     let lines' = c.note.new.lines.items in (
       w,
       d,
       f,
       g.met.W.Wire.leads_same c.args.client.now.wire.now,
-      subst (λ (ts : List Task). AllWent account ts (scene place maildir file rows lines) (scene place maildir file rows lines'))
-          (sym (no_fetch c.args.step.retrieve c.args.held c.args.step.number c.args.uid.now c.args.size (was_false c.args.step.retrieve c.if-not-step.true)))
-          (skipped account c.args.step.number c.args.size place maildir file rows lines lines' c.note.ensures.items),
+      subst (λ (ts : List Task). AllWent c.args.account.now ts here (record here { lines = lines' }))
+          (sym (no_fetch message.step.retrieve message.held message.step.number message.uid.now message.size (was_false message.step.retrieve c.if-not-step.true)))
+          (skipped c.args.account.now message.step.number message.size here.place here.maildir here.file here.rows here.lines lines' c.note.ensures.items),
     )
 
 pub returns-then-held-clause-does : goal.returns-then-held-clause-does
 returns-then-held-clause-does g c = λ w d f.
-    let old = scene (place_of g.W.Wire c.args.client.now) (g.D.MaildirDisk.maildir c.args.disk.now) (g.F.FlatFile.stored c.args.file.now) c.args.seen.now.rows c.args.lines.now.items in
-    let new = scene (place_of g.W.Wire c.reread.new.client) (g.D.MaildirDisk.maildir c.args.disk.now) (g.F.FlatFile.stored c.args.file.now) c.args.seen.now.rows c.reread.new.lines.items in
-    let took = c.reread.ensures.rereads c.args.account.now c.args.uid.now (g.D.MaildirDisk.maildir c.args.disk.now) (g.F.FlatFile.stored c.args.file.now) c.args.seen.now.rows w in (
+    let message = c.args.message in
+    let account = c.args.account.now in
+    let old = scene_of g.W.Wire g.D.MaildirDisk g.F.FlatFile c.args.client.now c.args.work.now in
+    let new = scene (place_of g.W.Wire c.reread.new.client) old.maildir old.file old.rows c.reread.new.lines.items in
+    let took = c.reread.ensures.rereads account message.uid.now old.maildir old.file old.rows w in (
       took.0,
       d,
       f,
       took.1,
-      subst (λ (ts : List Task). Does c.args.account.now ts old c.reread.result new) (sym (one_reread c.args.step.retrieve c.args.held c.args.step.number c.args.uid.now c.args.size (was_true c.args.step.retrieve c.if-not-step.false) c.if-held.true))
-          (takes_does c.args.account.now (rereads c.args.step.number c.args.uid.now) old new c.reread.result took.2),
+      subst (λ (ts : List Task). Does account ts old c.reread.result new)
+          (sym (one_reread message.step.retrieve message.held message.step.number message.uid.now message.size (was_true message.step.retrieve c.if-not-step.false) c.if-held.true))
+          (takes_does account (rereads message.step.number message.uid.now) old new c.reread.result took.2),
     )
 
 pub returns-clause-does : goal.returns-clause-does
 returns-clause-does g c = λ w d f.
+    let message = c.args.message in
+    let account = c.args.account.now in
     let took = c.take.ensures.takes w d f in
-    let old = scene (place_of g.W.Wire c.args.client.now) (g.D.MaildirDisk.maildir c.args.disk.now) (g.F.FlatFile.stored c.args.file.now) c.args.seen.now.rows c.args.lines.now.items in
-    let new = scene (place_of g.W.Wire c.take.new.client) (g.D.MaildirDisk.maildir c.take.new.disk) (g.F.FlatFile.stored c.take.new.file) c.take.new.seen.rows c.take.new.lines.items in (
+    let old = scene_of g.W.Wire g.D.MaildirDisk g.F.FlatFile c.args.client.now c.args.work.now in
+    let new = scene_of g.W.Wire g.D.MaildirDisk g.F.FlatFile c.take.new.client c.take.new.work in (
       took.0,
       took.1,
       took.2,
       took.3,
-      subst (λ (ts : List Task). Does c.args.account.now ts old c.take.result new) (sym (one_store c.args.step.retrieve c.args.held c.args.step.number c.args.uid.now c.args.size (was_true c.args.step.retrieve c.if-not-step.false) c.if-held.false))
-          (takes_does c.args.account.now (stores c.args.step.number c.args.uid.now) old new c.take.result took.4),
+      subst (λ (ts : List Task). Does account ts old c.take.result new)
+          (sym (one_store message.step.retrieve message.held message.step.number message.uid.now message.size (was_true message.step.retrieve c.if-not-step.false) c.if-held.false))
+          (takes_does account (stores message.step.number message.uid.now) old new c.take.result took.4),
     )
+
+-- the store and the record have no part in it
+pub returns-then-not-step-clause-ready : goal.returns-then-not-step-clause-ready
+returns-then-not-step-clause-ready g c = record { calm = c.requires.ready.calm; closed = c.requires.ready.closed; steady = c.requires.ready.steady }
+
+pub returns-then-held-clause-ready : goal.returns-then-held-clause-ready
+returns-then-held-clause-ready g c = on_any c.reread.result (record { calm = c.requires.ready.calm; closed = c.requires.ready.closed; steady = c.requires.ready.steady })
 
 pub returns-then-not-step-clause-took : goal.returns-then-not-step-clause-took
 returns-then-not-step-clause-took g c = λ w.

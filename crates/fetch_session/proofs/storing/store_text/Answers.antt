@@ -3,6 +3,7 @@ use Rattle.std.proofs.lemmas.Bool.{false≢true}
 use Rattle.pop3_client.specs.Client.{place_of}
 use Rattle.mail_store.specs.Maildir.{Maildir, file, IsInNew}
 use Rattle.fetch_session.proofs.StoreLemmas.{refused_start, stopped_store, stopped_read, refused_piece, put_on, settled, refused_end, longer}
+use Rattle.pop3_client.proofs.ClientLemmas.{and_then, so_far}
 use Rattle.fetch_session.proofs.RefusalLemmas.{before_cut, cut_by}
 use Rattle.fetch_session.proofs.storing.store_text.Goals as goal
 
@@ -26,14 +27,7 @@ returns-in-Err-next_piece-clause-stores g c = λ d.
         inv.1.0,
         stopped_store (g.D.MaildirDisk.maildir c.args.disk.now) (g.D.MaildirDisk.maildir c.pieces.disk) (g.D.MaildirDisk.maildir c.abandon.new.self) c.args.name.now inv.1.0
             c.plain.result c.told.result (c.requires.calm inv.0) inv.1.1 drops.1 c.plain.ensures,
-        λ w.
-            let took = c.in-Err-next_piece.ensures.takes w in
-            let before = inv.1.3 took.0 in (
-              before.0,
-              g.met.W.Wire.leads_on _ _ _ before.1 took.1,
-              λ number start now. stopped_read number start (place_of g.W.Wire c.next_piece.new.self) inv.1.0 c.plain.result c.told.result c.in-Err-next_piece.fault
-                  c.plain.ensures c.told.ensures (inr (inl (took.2 number start inv.1.0 (before.2 number start now)))),
-            ),
+        and_then g.W.Wire g.met.W.Wire.leads_on inv.1.3 c.in-Err-next_piece.ensures.takes (λ before took number start now. stopped_read number start (place_of g.W.Wire c.next_piece.new.self) inv.1.0 c.plain.result c.told.result c.in-Err-next_piece.fault c.plain.ensures c.told.ensures (inr (inl (took number start inv.1.0 (before number start now))))),
       ),
     )
 
@@ -47,13 +41,7 @@ returns-in-Err-put_piece-clause-stores g c = λ d.
         more,
         refused_piece (g.D.MaildirDisk.maildir c.args.disk.now) (g.D.MaildirDisk.maildir c.pieces.disk) (g.D.MaildirDisk.maildir c.put_piece.new.disk) c.args.name.now inv.1.0 (take c.in-Ok.piece.put c.next_piece.new.out) more
             c.next_piece.new.body c.in-Err-put_piece.fault inv.1.1 puts.1,
-        λ w.
-            let took = c.in-Ok.ensures.takes w in
-            let before = inv.1.3 took.0 in (
-              before.0,
-              g.met.W.Wire.leads_on _ _ _ before.1 took.1,
-              λ number start now. let more = took.2 number start inv.1.0 (before.2 number start now) in (more.0, λ done. more.1 (c.in-Ok.ensures.ended.1 done)),
-            ),
+        and_then g.W.Wire g.met.W.Wire.leads_on inv.1.3 c.in-Ok.ensures.takes (λ before took number start now. let more = took number start inv.1.0 (before number start now) in (more.0, λ done. more.1 (c.in-Ok.ensures.ended.1 done))),
       ),
     )
 
@@ -82,13 +70,7 @@ returns-in-Ok-settle_file-clause-stores g c = λ d.
           settled (g.D.MaildirDisk.maildir c.args.disk.now) (g.D.MaildirDisk.maildir c.put_piece.new.disk) (g.D.MaildirDisk.maildir c.settle_file.new.disk) c.args.name.now (inv.1.0 ++ bytes) is ends.1,
           longer c.pieces.length c.in-Ok.piece.put inv.1.0 c.next_piece.new.out inv.1.2 c.in-Ok.ensures.fits,
         ),
-        λ w.
-            let took = c.in-Ok.ensures.takes w in
-            let before = inv.1.3 took.0 in (
-              before.0,
-              g.met.W.Wire.leads_on _ _ _ before.1 took.1,
-              λ number start now. (took.2 number start inv.1.0 (before.2 number start now)).1 c.if-piece.true,
-            ),
+        and_then g.W.Wire g.met.W.Wire.leads_on inv.1.3 c.in-Ok.ensures.takes (λ before took number start now. (took number start inv.1.0 (before number start now)).1 c.if-piece.true),
       ),
     )
 
@@ -104,13 +86,7 @@ returns-in-Err-settle_file-clause-stores g c = λ d.
         inv.1.0 ++ bytes,
         refused_end (g.D.MaildirDisk.maildir c.args.disk.now) (g.D.MaildirDisk.maildir c.put_piece.new.disk) (g.D.MaildirDisk.maildir c.settle_file.new.disk) c.args.name.now (inv.1.0 ++ bytes)
             c.next_piece.new.body c.in-Err-settle_file.fault is (c.in-Ok.ensures.ended.0 c.if-piece.true) ends.1,
-        λ w.
-            let took = c.in-Ok.ensures.takes w in
-            let before = inv.1.3 took.0 in (
-              before.0,
-              g.met.W.Wire.leads_on _ _ _ before.1 took.1,
-              λ number start now. let more = took.2 number start inv.1.0 (before.2 number start now) in (more.0, λ done. more.1 c.if-piece.true),
-            ),
+        and_then g.W.Wire g.met.W.Wire.leads_on inv.1.3 c.in-Ok.ensures.takes (λ before took number start now. let more = took number start inv.1.0 (before number start now) in (more.0, λ done. more.1 c.if-piece.true)),
       ),
     )
 
@@ -129,21 +105,10 @@ pieces-preserved g c = (
           inv.1.0 ++ bytes,
           put_on (g.D.MaildirDisk.maildir c.args.disk.now) (g.D.MaildirDisk.maildir c.pieces.disk) (g.D.MaildirDisk.maildir c.put_piece.new.disk) c.args.name.now inv.1.0 bytes inv.1.1 puts.1,
           longer c.pieces.length c.in-Ok.piece.put inv.1.0 c.next_piece.new.out inv.1.2 c.in-Ok.ensures.fits,
-          λ w.
-              let took = c.in-Ok.ensures.takes w in
-              let before = inv.1.3 took.0 in (
-                before.0,
-                g.met.W.Wire.leads_on _ _ _ before.1 took.1,
-                λ number start now. (took.2 number start inv.1.0 (before.2 number start now)).0,
-              ),
+          and_then g.W.Wire g.met.W.Wire.leads_on inv.1.3 c.in-Ok.ensures.takes (λ before took number start now. (took number start inv.1.0 (before number start now)).0),
         ),
       ),
-  λ w.
-      let took = c.in-Ok.ensures.takes w in
-      let before = c.pieces.invariant.3 took.0 in (
-        before.0,
-        λ number start now. let so_far = before.1 number start now in (_, (took.2 number start so_far.0 so_far.1).0),
-      ),
+  so_far g.W.Wire c.pieces.invariant.3 c.in-Ok.ensures.takes (λ before took number start now. let till = before number start now in (_, (took number start till.0 till.1).0)),
   c.in-Ok.ensures.counted ∙ c.pieces.invariant.4,
   c.in-Ok.ensures.link ∙ c.pieces.invariant.5,
 )
@@ -152,38 +117,20 @@ pub returns-in-Err-clause-reads : goal.returns-in-Err-clause-reads
 returns-in-Err-clause-reads g c = λ w. (w, λ number start now. ([], (now, λ done. absurd (c.requires.open done))))
 
 pub returns-in-Err-next_piece-clause-reads : goal.returns-in-Err-next_piece-clause-reads
-returns-in-Err-next_piece-clause-reads g c = λ w.
-    let took = c.in-Err-next_piece.ensures.takes w in
-    let before = c.pieces.invariant.3 took.0 in (
-      before.0,
-      λ number start now.
-          let so_far = before.1 number start now in
-          (so_far.0, stopped_read number start (place_of g.W.Wire c.next_piece.new.self) so_far.0 c.plain.result c.told.result c.in-Err-next_piece.fault c.plain.ensures c.told.ensures (inr (inl (took.2 number start so_far.0 so_far.1)))),
-    )
+returns-in-Err-next_piece-clause-reads g c = so_far g.W.Wire c.pieces.invariant.3 c.in-Err-next_piece.ensures.takes (λ before took number start now.
+    let till = before number start now in (till.0, stopped_read number start (place_of g.W.Wire c.next_piece.new.self) till.0 c.plain.result c.told.result c.in-Err-next_piece.fault c.plain.ensures c.told.ensures (inr (inl (took number start till.0 till.1)))))
 
 pub returns-in-Err-put_piece-clause-reads : goal.returns-in-Err-put_piece-clause-reads
-returns-in-Err-put_piece-clause-reads g c = λ w.
-    let took = c.in-Ok.ensures.takes w in
-    let before = c.pieces.invariant.3 took.0 in (
-      before.0,
-      λ number start now. let so_far = before.1 number start now in let more = took.2 number start so_far.0 so_far.1 in (_, (more.0, λ done. more.1 (c.in-Ok.ensures.ended.1 done))),
-    )
+returns-in-Err-put_piece-clause-reads g c = so_far g.W.Wire c.pieces.invariant.3 c.in-Ok.ensures.takes (λ before took number start now.
+    let till = before number start now in let more = took number start till.0 till.1 in (_, (more.0, λ done. more.1 (c.in-Ok.ensures.ended.1 done))))
 
 pub returns-in-Ok-settle_file-clause-reads : goal.returns-in-Ok-settle_file-clause-reads
-returns-in-Ok-settle_file-clause-reads g c = λ w.
-    let took = c.in-Ok.ensures.takes w in
-    let before = c.pieces.invariant.3 took.0 in (
-      before.0,
-      λ number start now. let so_far = before.1 number start now in (_, (took.2 number start so_far.0 so_far.1).1 c.if-piece.true),
-    )
+returns-in-Ok-settle_file-clause-reads g c = so_far g.W.Wire c.pieces.invariant.3 c.in-Ok.ensures.takes (λ before took number start now.
+    let till = before number start now in (_, (took number start till.0 till.1).1 c.if-piece.true))
 
 pub returns-in-Err-settle_file-clause-reads : goal.returns-in-Err-settle_file-clause-reads
-returns-in-Err-settle_file-clause-reads g c = λ w.
-    let took = c.in-Ok.ensures.takes w in
-    let before = c.pieces.invariant.3 took.0 in (
-      before.0,
-      λ number start now. let so_far = before.1 number start now in let more = took.2 number start so_far.0 so_far.1 in (_, (more.0, λ done. more.1 c.if-piece.true)),
-    )
+returns-in-Err-settle_file-clause-reads g c = so_far g.W.Wire c.pieces.invariant.3 c.in-Ok.ensures.takes (λ before took number start now.
+    let till = before number start now in let more = took number start till.0 till.1 in (_, (more.0, λ done. more.1 c.if-piece.true)))
 
 pub returns-in-Err-clause-counted : goal.returns-in-Err-clause-counted
 returns-in-Err-clause-counted g c = inl refl

@@ -4,19 +4,19 @@ use Rattle.pop3_client.specs.Turns.{quit}
 use Rattle.pop3_client.specs.Conversation.{Talks}
 use Rattle.fetch_session.specs.declared.tail.Tail.{Tail}
 use Rattle.fetch_session.specs.Tail.{turns_in}
-use Rattle.fetch_session.proofs.TurnLemmas.{tells_talks}
+use Rattle.pop3_client.proofs.TalkLemmas.{tells_talks}
+use Rattle.pop3_client.proofs.ClientLemmas.{in_words}
 use Rattle.fetch_session.proofs.tail.say_tail.Goals as goal
 
 pub returns-in-Leave-clause-talks : goal.returns-in-Leave-clause-talks
-returns-in-Leave-clause-talks g c = λ w.
-    let tells = c.quit.ensures.tells w in
-    let old = place_of g.W.Wire c.args.client.now in
+returns-in-Leave-clause-talks g c =
     let new = place_of g.W.Wire c.quit.new.self in
-    (tells.0, tells.1, subst (λ (k : Tail). Talks (turns_in k) old c.quit.result new) (sym c.in-Leave.is) (tells_talks quit old new c.quit.result tells.2))
+    let old = place_of g.W.Wire c.args.client.now in
+    in_words g.W.Wire c.quit.ensures.tells (λ tells.
+    subst (λ (k : Tail). Talks (turns_in k) old c.quit.result new) (sym c.in-Leave.is) (tells_talks quit old new c.quit.result tells))
 
 pub returns-in-Undo-clause-talks : goal.returns-in-Undo-clause-talks
-returns-in-Undo-clause-talks g c = λ w.
-    let talks = c.reset_and_quit.ensures.talks w in
-    let old = place_of g.W.Wire c.args.client.now in
+returns-in-Undo-clause-talks g c =
     let new = place_of g.W.Wire c.reset_and_quit.new.self in
-    (talks.0, talks.1, subst (λ (k : Tail). Talks (turns_in k) old c.reset_and_quit.result new) (sym c.in-Undo.is) talks.2)
+    let old = place_of g.W.Wire c.args.client.now in
+    in_words g.W.Wire c.reset_and_quit.ensures.talks (λ talks. subst (λ (k : Tail). Talks (turns_in k) old c.reset_and_quit.result new) (sym c.in-Undo.is) talks)
