@@ -1,6 +1,7 @@
 //! What a session knows before its plan is carried out: the record, and what the Maildir holds.
-ghost use Rattle.std.specs.Prelude.{◌≡◌, ◌≢◌, ℕ, List, [], false, None, length, OnOk, IfOk};
+ghost use Rattle.std.specs.Prelude.{◌≡◌, ◌≢◌, ℕ, List, [], false, true, None, Some, length, OnOk, IfOk};
 ghost use Rattle.fetch_rules.specs.Record.{none_open, merged};
+ghost use Rattle.fetch_rules.specs.RecordFile.{file_of};
 ghost use Rattle.fetch_rules.specs.Plan.{planned};
 ghost use Rattle.mail_store.specs.Held.{flags_of};
 ghost use Rattle.fetch_session.specs.Record.{Gets, Reads, ReadAs, Merges, Readies, IsLineFault, FindsHeld, Steady, bytes_in, held_in};
@@ -102,6 +103,8 @@ fn take_in<F: FlatFile, H: BuildHasher>(
     requires begun { F.sound file.old → is_new ≡ false → bytes_in (F.stored file.old).content ≢ [] }
     ensures rows { OnOk result (seen.new.rows ≡ merged seen.old.rows listing.now held.now now) }
     ensures closed { OnOk result (seen.new.intent ≡ None) }
+    ensures renewed { F.sound file.new → seen.old.stale ≡ true
+        → OnOk result ((F.stored file.new).content ≡ Some (file_of seen.new.rows None)) }
     ensures merges { F.sound file.new → F.sound file.old
         × Merges (F.stored file.old) (held_in seen.old) (none_open
         (merged seen.old.rows listing.now held.now now)) result (F.stored file.new) }
