@@ -40,6 +40,7 @@ class Letters(ours.Listings):
 
     def __init__(self, count):
         super().__init__(count)
+        self.replies[b"CAPA"] = b"-ERR\r\n"
         self.replies.update({b"RETR %d" % number: b"+OK\r\n\r\n.\r\n" for number in range(1, count + 1)})
 
 

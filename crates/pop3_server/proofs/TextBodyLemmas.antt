@@ -1,7 +1,7 @@
 -- How far the body of a text comes by several parts.
-use Rattle.std.proofs.Common.{◌≡◌, ◌≤◌, ◌<◌, ◌+◌, ℕ, zero, suc, Bool, true, false, List, [], ◌∷◌, ◌++◌, length, take, drop, Option, Some, None, Ok, refl, sym, ap, ap₂, subst, ◌∙◌, arith, append_assoc, inr, slice_get, length-append, length-take-le, take-append-drop}
+use Rattle.std.proofs.Common.{◌≡◌, ◌≤◌, ◌+◌, ℕ, zero, suc, Bool, true, false, List, [], ◌∷◌, ◌++◌, length, take, drop, Option, Some, None, Ok, refl, sym, ap, ap₂, subst, ◌∙◌, arith, append_assoc, inr, slice_get, length-append, length-take-le, take-append-drop}
 use Rattle.std.proofs.Math.Seq.{take-add}
-use Rattle.std.proofs.lemmas.List.{append-nil, drop-drop}
+use Rattle.std.proofs.lemmas.List.{drop-drop}
 use Rattle.mail_terms.specs.FailureCount.{Tallies, counted_up}
 use Rattle.pop3_wire.specs.World.{Message}
 use Rattle.pop3_server.specs.declared.maildrop.DropFault.{DropFault}
@@ -13,7 +13,7 @@ use Rattle.pop3_server.specs.declared.text_top.Top.{Top}
 use Rattle.pop3_server.specs.Maildrop.{Denies, GivesPart, HasPlace, Mail, refusing}
 use Rattle.pop3_server.specs.ServerMachine.{GivesText, Known, Tied, text_body}
 use Rattle.pop3_server.specs.TextBody.{GivesMore, GivesRest, after_call, belonging, ended_body, still}
-use Rattle.pop3_server.specs.TextPart.{ArePart, BeginsTextAt}
+use Rattle.pop3_server.specs.TextPart.{ArePart}
 use Rattle.pop3_server.specs.TextPiece.{is_open_after, sent_end, sent_piece, taken, top_begun, top_octets}
 use Rattle.pop3_server.proofs.TextPieceLemmas.{open_append, sent_append, sent_whole}
 use Rattle.pop3_server.proofs.TextTopLemmas.{none_taken, top_body}

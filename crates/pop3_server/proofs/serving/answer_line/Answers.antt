@@ -1,5 +1,4 @@
-use Rattle.std.proofs.Common.{◌≡◌, ◌++◌, List, ℕ, Bool, true, false, Ok, Err, inr, refl, sym, ap, subst, ◌∙◌}
-use Rattle.pop3_wire.specs.Link.{Link}
+use Rattle.std.proofs.Common.{◌≡◌, ◌++◌, List, ℕ, true, false, Ok, Err, inr, refl, sym, ap, subst, ◌∙◌}
 use Rattle.pop3_server.specs.TextAnswer.{BeginsAnswer}
 use Rattle.pop3_server.proofs.TextAnswerLemmas.{started_answer, started_of, started_same, started_sent}
 use Rattle.pop3_server.proofs.serving.answer_line.Goals as goal

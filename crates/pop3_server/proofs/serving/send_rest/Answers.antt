@@ -1,4 +1,4 @@
-use Rattle.std.proofs.Common.{◌≡◌, ◌≤◌, ◌<◌, ◌+◌, ◌++◌, ℕ, Bool, List, Ok, sym, ap, ◌∙◌, arith, false}
+use Rattle.std.proofs.Common.{◌++◌, Ok, sym, ap, ◌∙◌, arith, false}
 use Rattle.pop3_server.specs.ServerMachine.{Machine}
 use Rattle.pop3_server.proofs.TextAnswerLemmas.{rest_unsent, sent_on}
 use Rattle.pop3_server.proofs.TextBodyLemmas.{more_on, more_place, more_refused, rest_on}

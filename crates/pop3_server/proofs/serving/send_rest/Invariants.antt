@@ -1,4 +1,4 @@
-use Rattle.std.proofs.Common.{◌≡◌, ◌≤◌, ◌<◌, ◌+◌, ◌-◌, ◌++◌, ℕ, List, false}
+use Rattle.std.proofs.Common.{◌≡◌, ◌≤◌, ◌<◌, ◌-◌, ◌++◌, ℕ, List, false}
 use Rattle.std.specs.Prelude.{vec_capacity}
 use Rattle.pop3_server.specs.Maildrop.{HasPlace}
 use Rattle.pop3_server.specs.TextBody.{GivesMore}

@@ -1,4 +1,4 @@
-use Rattle.std.proofs.Common.{◌≡◌, Bool, Ok, false, inl, inr, ap}
+use Rattle.std.proofs.Common.{Ok, inl, inr, ap}
 use Rattle.std.proofs.lemmas.Bool.{cases_Bool}
 use Rattle.pop3_server.proofs.TextBodyLemmas.{denied_slots, more_slots, rest_slots, tied_on}
 use Rattle.pop3_server.proofs.server.Server.go_on.Goals as goal

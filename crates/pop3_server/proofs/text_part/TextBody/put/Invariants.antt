@@ -1,4 +1,4 @@
-use Rattle.std.proofs.Common.{◌≡◌, ◌≤◌, ◌<◌, ◌+◌, ◌-◌, ◌++◌, ℕ, List, false, length}
+use Rattle.std.proofs.Common.{◌≡◌, ◌≤◌, ◌-◌, ◌++◌, ℕ, List, false}
 use Rattle.std.specs.Prelude.{vec_capacity, vec_len}
 use Rattle.pop3_server.specs.TextBody.{GivesMore}
 use Rattle.pop3_server.proofs.text_part.TextBody.put.Given as goal

@@ -1,4 +1,4 @@
-use Rattle.std.proofs.Common.{◌≡◌, ◌+◌, ◌++◌, ℕ, Bool, List, ap, ◌∙◌, arith}
+use Rattle.std.proofs.Common.{◌≡◌, ◌+◌, ◌++◌, Bool, ap, ◌∙◌, arith}
 use Rattle.pop3_server.specs.declared.text_part.TextBody.{TextBody}
 use Rattle.pop3_server.specs.TextPiece.{is_open_after, sent_end, sent_piece}
 use Rattle.pop3_server.proofs.TextBodyLemmas.{more_part, rest_done, rest_none}

@@ -1,4 +1,4 @@
-use Rattle.std.proofs.Common.{◌≡◌, ◌++◌, ◌∷◌, ℕ, List, [], false, sym, ap, ◌∙◌}
+use Rattle.std.proofs.Common.{◌≡◌, ◌++◌, ◌∷◌, ℕ, List, [], sym, ap, ◌∙◌}
 use Rattle.pop3_server.specs.TextPiece.{taken, top_octets}
 use Rattle.pop3_server.proofs.TextTopLemmas.{before_rest, done_takes_none, not_done, split_on, takes_rest, went_all, went_on}
 use Rattle.pop3_server.proofs.text_top.Top.take.Goals as goal
