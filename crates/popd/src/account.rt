@@ -2,6 +2,7 @@
 ghost use Rattle.std.specs.Prelude.{◌≡◌, ℕ, List, [], true, false, IfOk, IfErr, codes};
 ghost use Rattle.std.specs.String.{string_bytes};
 ghost use Rattle.popd.specs.Account.{IsAccount};
+ghost use Rattle.popd.specs.Password.{password_of};
 ghost use Rattle.popd.specs.Failures.{IsCause};
 ghost use Rattle.popd.specs.Start.{at_start};
 
@@ -55,6 +56,24 @@ impl Account {
     }
 }
 
+/// The account of a user, with the password from a password file of these bytes, and of a Maildir.
+fn account_of(
+    alloc: Global,
+    user: &str,
+    file: &[u8],
+    maildir: &str,
+) -> Result<Account, AllocError>
+    ensures { IfOk result (λ account. (account.user.items ≡ user.now)
+        × (account.password.items ≡ password_of file.now)
+        × (string_bytes account.maildir ≡ maildir.now)) }
+{
+    Ok(Account {
+        user: Vec::from_slice(alloc, user.as_bytes())?,
+        password: Vec::from_slice(alloc, password(file))?,
+        maildir: String::from_str(alloc, maildir)?,
+    })
+}
+
 /// The account that the words USER PASSFILE MAILDIR name, with the password from PASSFILE. A wrong
 /// number of words is reported before that file is read.
 pub fn read_account<'a>(rt: &HostRuntime, words: &'a Words) -> Result<Account, Failure<'a>>
@@ -74,9 +93,10 @@ pub fn read_account<'a>(rt: &HostRuntime, words: &'a Words) -> Result<Account, F
         Ok(file) => file,
         Err(error) => return Err(failure_of(error, Failure::CannotRead(passfile.as_str()))),
     };
-    Ok(Account {
-        user: Vec::from_slice(alloc, user.as_bytes())?,
-        password: Vec::from_slice(alloc, password(file.as_slice()))?,
-        maildir: String::from_str(alloc, maildir.as_str())?,
-    })
+    Ok(account_of(
+        alloc,
+        user.as_str(),
+        file.as_slice(),
+        maildir.as_str(),
+    )?)
 }
