@@ -41,10 +41,10 @@ class GreatRecords(unittest.TestCase):
         listed = [(b"first", b"0"), (b"first", b"1")] + [(uid, b"0") for uid, _ in more]
         self.assertEqual(self.rows(), listed)
         self.assertGreater(self.account.record.stat().st_size, 1 << 20)
-        # The rows are read again, and two of them marked.
+        # The rows are read again. As the appended ones outweigh the first, all are written anew, and two marked.
         self.server.refuses = ()
         self.assertEqual(self.session(), (SILENT, ["RETR 2", "RETR 3", "QUIT"]))
-        self.assertEqual(self.rows(), listed + [(uid, b"1") for uid, _ in more[:2]])
+        self.assertEqual(self.rows(), listed[1:] + [(uid, b"1") for uid, _ in more[:2]])
         self.assertEqual(self.account.held(), sorted([FIRST, *more[:2]]))
         # A record with a torn end is written anew, whole.
         with self.account.record.open("ab") as record:
