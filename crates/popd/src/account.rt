@@ -57,12 +57,7 @@ impl Account {
 }
 
 /// The account of a user, with the password from a password file of these bytes, and of a Maildir.
-fn account_of(
-    alloc: Global,
-    user: &str,
-    file: &[u8],
-    maildir: &str,
-) -> Result<Account, AllocError>
+fn account_of(alloc: Global, user: &str, file: &[u8], maildir: &str) -> Result<Account, AllocError>
     ensures { IfOk result (λ account. (account.user.items ≡ user.now)
         × (account.password.items ≡ password_of file.now)
         × (string_bytes account.maildir ≡ maildir.now)) }
@@ -93,10 +88,5 @@ pub fn read_account<'a>(rt: &HostRuntime, words: &'a Words) -> Result<Account, F
         Ok(file) => file,
         Err(error) => return Err(failure_of(error, Failure::CannotRead(passfile.as_str()))),
     };
-    Ok(account_of(
-        alloc,
-        user.as_str(),
-        file.as_slice(),
-        maildir.as_str(),
-    )?)
+    Ok(account_of(alloc, user.as_str(), file.as_slice(), maildir.as_str())?)
 }
