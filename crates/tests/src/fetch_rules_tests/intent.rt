@@ -115,3 +115,28 @@ fn closes_an_intent(rt: HostRuntime) -> Result<(), Fail> {
     assert_eq!(rt; told.as_str(), "true getmail-seen 2\na 5 0\n");
     Ok(())
 }
+
+/// What an intent for `a` and the mark that ends it append to the record's file, and whether an intent
+/// is open after them.
+fn marked(alloc: Global, file: &str) -> Result<String, Fail> {
+    let mut seen = read_record(alloc, file.as_bytes())?;
+    if !seen.has_row(b"a") || seen.intent().is_some() {
+        return Err(Fail::from("a row, and no intent"));
+    }
+    let mut appended = seen.intend(b"a", 49, 24)?;
+    appended.extend_from_slice(&seen.mark_rows(b"a")?)?;
+    let appended = String::from_utf8_lossy(alloc, appended.as_slice())?;
+    let is_open = seen.intent().is_some();
+    Ok(format!(in alloc; "{appended}{is_open}")?)
+}
+
+#[test]
+fn opens_an_intent_that_its_mark_ends(rt: HostRuntime) -> Result<(), Fail> {
+    for file in ["getmail-seen 2\na 5 0\n", "getmail-seen 2\na 5 1\n"] {
+        let told = marked(rt.alloc(), file)?;
+        assert_eq!(rt; told.as_str(), "! a 49 24\n+ 1\na 5 1\nfalse", "in {file}");
+    }
+    let seen = read_record(rt.alloc(), b"getmail-seen 2\na 5 0\n")?;
+    assert!(rt; seen.has_row(b"a") && !seen.has_row(b"b"));
+    Ok(())
+}

@@ -94,7 +94,7 @@ fn served(
 
 #[test]
 fn a_refused_part_ends_a_text_that_has_begun(rt: HostRuntime) -> Result<(), Fail> {
-    let before = 16 + 15 + 17;
+    let before = 16 + 15 + 16;
     let unavailable = before + 26 + 5;
     let begun = Err(ServerFault::MaildropFailed);
     let rows = [
