@@ -11,3 +11,6 @@ mod MboxQuoting
 mod MboxReading
 mod MoveLemmas
 mod NameLemmas
+mod OneEntry
+mod Pages
+mod SettlingLemmas

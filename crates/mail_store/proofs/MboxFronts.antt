@@ -74,7 +74,7 @@ last_group (file ∷ files) (group ∷ groups) head lines are be begins apart e 
       texts = ap (λ (ls : List (List ℕ)). flat_map unquoted ls ∷ map group_text groups) same ∙ ap (λ (ts : List (List ℕ)). group_text file ∷ ts) later.texts;
     }
 
-entry_lines : (text : List ℕ) → IsWhole text → lines_of (entry_of text) ≡ group_lines (entry_group text)
+pub entry_lines : (text : List ℕ) → IsWhole text → lines_of (entry_of text) ≡ group_lines (entry_group text)
 entry_lines text whole =
     let is = entry_is_group text whole in
     ap lines_of (sym (entry_bytes text) ∙ sym (append-nil (group_bytes (entry_group text))))

@@ -7,3 +7,4 @@ pub mod Held
 pub mod Mboxrd
 pub mod MboxCalls
 pub mod MboxScan
+pub mod Settling

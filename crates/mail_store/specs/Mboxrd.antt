@@ -1,5 +1,5 @@
 -- Texts in an mboxrd file: how a line is quoted, what an entry is, and which texts a file stands for.
-use Rattle.std.specs.Prelude.{◌≡◌, ◌≢◌, ◌⊎◌, ◌==◌, ◌&&◌, ℕ, Bool, false, List, [], ◌∷◌, ◌++◌, true, map, length, take, if◌then◌else◌, codes, nat_eq}
+use Rattle.std.specs.Prelude.{◌≡◌, ◌⊎◌, ◌==◌, ◌&&◌, ℕ, Bool, false, List, [], ◌∷◌, ◌++◌, true, map, length, take, if◌then◌else◌, codes, nat_eq}
 use Rattle.std.specs.List.{flat_map, onto_first, starts_with, AllByRecursion}
 use Rattle.mail_terms.specs.Text.{IsWhole, HasNoLf}
 

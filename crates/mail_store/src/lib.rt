@@ -28,4 +28,5 @@ pub use mboxrd::entry::{
 };
 pub use mboxrd::quoting::{is_whole, quote, unquote, unquoting_undoes_quoting};
 pub use mboxrd::reading::read_mbox;
+pub use mboxrd::settling::{fronts_of_entries_are_settled, settle_file};
 pub use refusal::{admit, refuse};

@@ -3,3 +3,4 @@
 pub mod entry;
 pub mod quoting;
 pub mod reading;
+pub mod settling;

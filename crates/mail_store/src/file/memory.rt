@@ -100,7 +100,7 @@ fn edges_of(bytes: &[u8]) -> Edges
 }
 
 /// The bytes from a place on: none where it is at or past the end.
-fn bytes_from(bytes: &[u8], start: u64) -> &[u8]
+pub fn bytes_from(bytes: &[u8], start: u64) -> &[u8]
     ensures { result.now ≡ drop start bytes.now }
 {
     if start >= bytes.len() as u64 {

@@ -13,7 +13,7 @@ use crate::file::flat_file::{Edges, FlatFile};
 use crate::mboxrd::quoting::{put_quoted, quoted_len};
 use std::alloc::{AllocError, Global};
 
-const SEPARATOR: &[u8] = b"From MAILER-DAEMON Thu Jan  1 00:00:00 1970\n";
+pub const SEPARATOR: &[u8] = b"From MAILER-DAEMON Thu Jan  1 00:00:00 1970\n";
 
 /// Whether an entry may follow a file of this size and these ends: it is empty, or begins with
 /// `From ` and ends with LF LF.

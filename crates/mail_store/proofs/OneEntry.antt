@@ -1,0 +1,185 @@
+-- Whether a line but the first begins with `From `, looked for window by window.
+use Rattle.std.proofs.Common.{◌≡◌, ◌⊎◌, inl, inr, ℕ, zero, suc, ◌+◌, ◌≤◌, Bool, true, false, ◌||◌, ◌&&◌, List, [], ◌∷◌, ◌++◌, length, take, drop, refl, sym, ap, subst, ◌∙◌, arith, append_assoc, length-append}
+use Rattle.std.specs.Prelude.{not, ◌==◌}
+use Rattle.std.specs.List.{flat_map, list_all, onto_first}
+use Rattle.std.proofs.lemmas.Bool.{cases_Bool, true≢false}
+use Rattle.std.proofs.lemmas.Bool.Decides.{eqb_tells}
+use Rattle.std.proofs.Math.Seq.{drop-append_seam, take-append-add}
+use Rattle.std.proofs.lemmas.List.{take-append-drop}
+use Rattle.memchr.specs.Find.{OccursAt, Nowhere}
+use Rattle.memchr.proofs.lemmas.MatchLemmas.{OccursAt-split, OccursAt-from_part}
+use Rattle.mail_store.specs.Mboxrd.{lines_of, from_words, begins_entry}
+use Rattle.mail_store.specs.Settling.{is_one_entry}
+use Rattle.mail_store.proofs.MboxLines.{lines_joined}
+use Rattle.mail_store.proofs.MboxQuoting.{begins_with, begins_entry_by}
+
+-- an LF, and what a line begins with that begins an entry
+abbrev pub needle : List ℕ
+needle = 10 ∷ from_words
+
+abbrev pub holds_needle : List ℕ → Bool
+holds_needle [] = false
+holds_needle (byte ∷ rest) = (byte == 10 && begins_entry rest) || holds_needle rest
+
+both_ways : (a b : Bool) → (a ≡ true → b ≡ true) → (b ≡ true → a ≡ true) → a ≡ b
+both_ways true b to from = sym (to refl)
+both_ways false true to from = from refl
+both_ways false false to from = refl
+
+-- ---- lines and the needle
+
+from_first : (rest line : List ℕ) (lines : List (List ℕ)) → lines_of (from_words ++ rest) ≡ line ∷ lines → (more : List ℕ) × (line ≡ from_words ++ more)
+from_first rest line lines e = by (lines_of rest) e
+  where
+    by : (parts : List (List ℕ)) → onto_first 70 (onto_first 114 (onto_first 111 (onto_first 109 (onto_first 32 parts)))) ≡ line ∷ lines → (more : List ℕ) × (line ≡ from_words ++ more)
+    by [] f = ([], cc)
+    by (part ∷ parts) f = (part, cc)
+
+-- the first line begins as the bytes do
+first_begins : (bytes line : List ℕ) (lines : List (List ℕ)) → lines_of bytes ≡ line ∷ lines → begins_entry line ≡ begins_entry bytes
+first_begins bytes line lines e = both_ways (begins_entry line) (begins_entry bytes) to from
+  where
+    to : begins_entry line ≡ true → begins_entry bytes ≡ true
+    to is = begins_entry_by bytes (drop 5 line ++ flat_map (λ (l : List ℕ). l) lines) (
+        sym (lines_joined bytes) ∙ ap (flat_map (λ (l : List ℕ). l)) e ∙ ap (λ (l : List ℕ). l ++ flat_map (λ (l : List ℕ). l) lines) (begins_with line is)
+        ∙ append_assoc from_words (drop 5 line) (flat_map (λ (l : List ℕ). l) lines)
+        )
+
+    from : begins_entry bytes ≡ true → begins_entry line ≡ true
+    from is =
+        let f = from_first (drop 5 bytes) line lines (ap lines_of (sym (begins_with bytes is)) ∙ e) in
+        begins_entry_by line f.0 f.1
+
+-- no line begins an entry where the first doesn't, and no other
+lines_apart : (bytes : List ℕ) → list_all (λ line. not (begins_entry line)) (lines_of bytes) ≡ (not (begins_entry bytes) && is_one_entry bytes)
+lines_apart bytes = by (lines_of bytes) refl
+  where
+    by : (lines : List (List ℕ)) → lines_of bytes ≡ lines → list_all (λ line. not (begins_entry line)) lines ≡ (not (begins_entry bytes) && list_all (λ line. not (begins_entry line)) (drop 1 lines))
+    by [] e =
+        let none : bytes ≡ [] = sym (lines_joined bytes) ∙ ap (flat_map (λ (l : List ℕ). l)) e in
+        rw none refl
+    by (line ∷ lines) e = ap (λ (b : Bool). not b && list_all (λ line. not (begins_entry line)) lines) (first_begins bytes line lines e)
+
+and_is : (a b : Bool) → (not a && not b) ≡ not (a || b)
+and_is true b = refl
+and_is false b = refl
+
+onto_others : (byte : ℕ) (parts : List (List ℕ)) → drop 1 (onto_first byte parts) ≡ drop 1 parts
+onto_others byte [] = refl
+onto_others byte (part ∷ parts) = refl
+
+pub one_entry_is : (bytes : List ℕ) → is_one_entry bytes ≡ not (holds_needle bytes)
+one_entry_is [] = refl
+one_entry_is (byte ∷ rest) = elim (eqb_tells byte 10) [
+  | inl p ↦ rw p.0 (lines_apart rest ∙ ap (λ (b : Bool). not (begins_entry rest) && b) (one_entry_is rest) ∙ and_is (begins_entry rest) (holds_needle rest))
+  | inr p ↦ rw p.0 (ap (list_all (λ line. not (begins_entry line))) (onto_others byte (lines_of rest)) ∙ one_entry_is rest)
+]
+
+-- ---- where the needle stands
+
+or_left : (a b : Bool) → a ≡ true → (a || b) ≡ true
+or_left a b e = rw e refl
+
+or_right : (a b : Bool) → b ≡ true → (a || b) ≡ true
+or_right true b e = refl
+or_right false b e = e
+
+or_cases : (a b : Bool) → (a || b) ≡ true → (a ≡ true) ⊎ (b ≡ true)
+or_cases true b e = inl refl
+or_cases false b e = inr e
+
+and_parts : (a b : Bool) → (a && b) ≡ true → (a ≡ true) × (b ≡ true)
+and_parts true b e = (refl, e)
+and_parts false b e = absurd (true≢false (sym e))
+
+pub needle_split : (bytes : List ℕ) → holds_needle bytes ≡ true → (front : List ℕ) × (back : List ℕ) × (bytes ≡ front ++ (needle ++ back))
+needle_split [] e = absurd (true≢false (sym e))
+needle_split (byte ∷ rest) e = elim (or_cases (byte == 10 && begins_entry rest) (holds_needle rest) e) [
+  | inl here ↦
+      let parts = and_parts (byte == 10) (begins_entry rest) here in
+      elim (eqb_tells byte 10) [
+        | inl p ↦ ([], drop 5 rest, ap (λ (b : ℕ). b ∷ rest) p.1 ∙ ap (λ (l : List ℕ). 10 ∷ l) (begins_with rest parts.1))
+        | inr p ↦ absurd (true≢false (sym parts.0 ∙ p.0))
+      ]
+  | inr later ↦
+      let s = needle_split rest later in
+      (byte ∷ s.0, s.1, ap (λ (l : List ℕ). byte ∷ l) s.2)
+]
+
+pub needle_there : (front back : List ℕ) → holds_needle (front ++ (needle ++ back)) ≡ true
+needle_there [] back = rw (begins_entry_by (from_words ++ back) back refl) refl
+needle_there (byte ∷ front) back = or_right (byte == 10 && begins_entry (front ++ (needle ++ back))) (holds_needle (front ++ (needle ++ back))) (needle_there front back)
+
+pub needle_found : (bytes : List ℕ) (k : ℕ) → OccursAt bytes needle k → holds_needle bytes ≡ true
+needle_found bytes k occurs =
+    let split : bytes ≡ take k bytes ++ (needle ++ drop (k + 6) bytes) = sym (take-append-drop k bytes) ∙ ap (λ l. take k bytes ++ l) (OccursAt-split bytes needle k occurs) in
+    subst (λ (l : List ℕ). holds_needle l ≡ true) (sym split) (needle_there (take k bytes) (drop (k + 6) bytes))
+
+pub needle_nowhere : (bytes : List ℕ) → Nowhere (OccursAt bytes needle) 0 (length bytes + 1) → holds_needle bytes ≡ false
+needle_nowhere bytes none = elim (cases_Bool (holds_needle bytes)) [
+  | inl held ↦
+      let s = needle_split bytes held in
+      let size = ap length s.2 ∙ length-append s.0 (needle ++ s.1) in
+      let fits : length s.0 + 6 ≤ length bytes = omega (arith, size) in
+      let occurs : OccursAt bytes needle (length s.0) = OccursAt-from_part bytes needle (length s.0) fits (ap (λ l. take 6 (drop (length s.0) l)) s.2 ∙ ap (take 6) (drop-append_seam s.0 (needle ++ s.1))) in
+      absurd (none (length s.0) (omega arith) (omega arith) occurs)
+  | inr free ↦ free
+]
+
+-- so few bytes don't hold it
+pub needle_short : (bytes : List ℕ) → length bytes ≤ 5 → holds_needle bytes ≡ false
+needle_short bytes few = elim (cases_Bool (holds_needle bytes)) [
+  | inl held ↦ let s = needle_split bytes held in let size = ap length s.2 ∙ length-append s.0 (needle ++ s.1) in absurd (omega (arith, size))
+  | inr free ↦ free
+]
+
+-- ---- windows
+
+pub needle_in_front : (front back : List ℕ) → holds_needle front ≡ true → holds_needle (front ++ back) ≡ true
+needle_in_front front back is =
+    let s = needle_split front is in
+    let split : front ++ back ≡ s.0 ++ (needle ++ (s.1 ++ back)) = ap (λ (l : List ℕ). l ++ back) s.2 ∙ append_assoc s.0 (needle ++ s.1) back in
+    subst (λ (l : List ℕ). holds_needle l ≡ true) (sym split) (needle_there s.0 (s.1 ++ back))
+
+absorbed : (a b : Bool) → (a ≡ true → b ≡ true) → (a || b) ≡ b
+absorbed true b to = sym (to refl)
+absorbed false b to = refl
+
+-- a window at the front of the bytes tells nothing that they don't
+pub window_first : (n : ℕ) (bytes : List ℕ) → holds_needle bytes ≡ (holds_needle (take n bytes) || holds_needle bytes)
+window_first n bytes = sym (absorbed (holds_needle (take n bytes)) (holds_needle bytes) there)
+  where
+    there : holds_needle (take n bytes) ≡ true → holds_needle bytes ≡ true
+    there is = subst (λ (l : List ℕ). holds_needle l ≡ true) (take-append-drop n bytes) (needle_in_front (take n bytes) (drop n bytes) is)
+
+begins_by_five : (n : ℕ) (bytes : List ℕ) → begins_entry (take (n + 5) bytes) ≡ begins_entry bytes
+begins_by_five n bytes = both_ways (begins_entry (take (n + 5) bytes)) (begins_entry bytes) to from
+  where
+    to : begins_entry (take (n + 5) bytes) ≡ true → begins_entry bytes ≡ true
+    to is = begins_entry_by bytes (drop 5 (take (n + 5) bytes) ++ drop (n + 5) bytes) (
+        sym (take-append-drop (n + 5) bytes) ∙ ap (λ (l : List ℕ). l ++ drop (n + 5) bytes) (begins_with (take (n + 5) bytes) is)
+        ∙ append_assoc from_words (drop 5 (take (n + 5) bytes)) (drop (n + 5) bytes)
+        )
+
+    from : begins_entry bytes ≡ true → begins_entry (take (n + 5) bytes) ≡ true
+    from is =
+        let size : n + 5 ≡ length from_words + n = omega arith in
+        begins_entry_by (take (n + 5) bytes) (take n (drop 5 bytes)) (
+        ap (λ (k : ℕ). take k bytes) size ∙ ap (take (length from_words + n)) (begins_with bytes is) ∙ take-append-add from_words (drop 5 bytes) n
+        )
+
+or_assoc : (a b c : Bool) → ((a || b) || c) ≡ (a || (b || c))
+or_assoc true b c = refl
+or_assoc false b c = refl
+
+-- the needle stands in a window, or in what begins five bytes before the window's end
+pub window_next : (n : ℕ) (bytes : List ℕ) → holds_needle bytes ≡ (holds_needle (take (n + 5) bytes) || holds_needle (drop n bytes))
+window_next zero bytes = window_first 5 bytes
+window_next (suc n) [] = window_first (suc n + 5) []
+window_next (suc n) (byte ∷ rest) =
+    let step : suc n + 5 ≡ suc (n + 5) = omega arith in
+    rw step (
+    ap (λ (b : Bool). (byte == 10 && begins_entry rest) || b) (window_next n rest)
+    ∙ sym (or_assoc (byte == 10 && begins_entry rest) (holds_needle (take (n + 5) rest)) (holds_needle (drop n rest)))
+    ∙ ap (λ (b : Bool). ((byte == 10 && b) || holds_needle (take (n + 5) rest)) || holds_needle (drop n rest)) (sym (begins_by_five n rest))
+    )
