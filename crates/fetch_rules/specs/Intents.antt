@@ -1,31 +1,10 @@
--- An intent: what was about to be appended to a mailbox file when the record's file was last saved, and what
--- becomes of it by the file's size.
-use Rattle.std.specs.Prelude.{◌≡◌, ◌||◌, true, false, option_map, ℕ, ◌-◌, ◌==◌, ◌&&◌, nat_le, nat_lt, Bool, List, Option, Some, None, length, take, if◌then◌else◌}
+-- An intent: what was about to be appended to a mailbox file when the record's file was last saved.
+use Rattle.std.specs.Prelude.{◌≡◌, ◌||◌, true, false, option_map, ℕ, Bool, List, Option, Some, None, if◌then◌else◌}
 use Rattle.fetch_rules.specs.Record.{Row, Intent, Loaded, marked}
 use Rattle.fetch_rules.specs.RecordFile.{Version, One, Two}
 use Rattle.fetch_rules.specs.RecordMeaning.{Means, Rows}
 use Rattle.fetch_rules.specs.Outgrown.{IsOutgrown}
 use Rattle.fetch_rules.specs.declared.seen.OwnedIntent.{OwnedIntent}
-
--- whether a file of this size ends where the entry would
-abbrev pub ends_at : Intent → ℕ → Bool
-ends_at intent size = nat_le intent.start size && size - intent.start == intent.len
-
--- whether a file of this size holds a part of the entry, neither nothing of it nor all
-abbrev pub is_part_at : Intent → ℕ → Bool
-is_part_at intent size = nat_lt intent.start size && nat_lt (size - intent.start) intent.len
-
--- the rows once the intent is closed, by the file's size
-abbrev pub settled_rows : List Row → Option Intent → ℕ → List Row
-settled_rows rows None size = rows
-settled_rows rows (Some intent) size = if ends_at intent size then marked rows intent.uid else rows
-
--- the file once the intent is closed
-abbrev pub settled_file : Option Intent → List ℕ → List ℕ
-settled_file None file = file
-settled_file (Some intent) file = if is_part_at intent (length file) then take intent.start file else file
-
--- ---- the intent of a record in memory
 
 abbrev pub intent_of : OwnedIntent → Intent
 intent_of open' = record { uid = open'.uid.items; start = open'.start; len = open'.len }

@@ -22,7 +22,6 @@ mod Planned
 mod Records
 mod Replied
 mod Safety
-mod Settling
 mod Tells
 mod VisitKept
 mod Wants

@@ -10,14 +10,15 @@ use Rattle.mail_terms.specs.Text.{IsWhole}
 use Rattle.pop3_wire.specs.World.{Message, IsMessage, IsWorld}
 use Rattle.fetch_rules.specs.Record.{Row, is_delivered, has_row, marked, marked_all}
 use Rattle.fetch_rules.specs.Record.{Intent}
-use Rattle.fetch_rules.specs.Intents.{ends_at, settled_rows, settled_file}
+use Rattle.fetch_rules.specs.Intents.{closed_rows}
 use Rattle.fetch_rules.specs.Wanted.{DistinctAreFiltered, wanted, candidates}
 use Rattle.mail_terms.specs.Listing.{Item, has_item}
 use Rattle.mail_store.specs.Mboxrd.{entry_of, MboxFile, EntryAddsText}
+use Rattle.mail_store.specs.Settling.{stands_whole, settled_file, FrontsAreSettled}
 use Rattle.run_law.specs.Mails.{ids_of, item_of, is_selected, selected}
 use Rattle.run_law.specs.Steps.{IsHonest, AreTexts, ids_wanted}
 use Rattle.run_law.specs.Runs.{past_limit}
-use Rattle.run_law.specs.Mboxes.{MboxAccount, settled, mbox_rows, mbox_wanted, none_held, entries, intent_of, IsClosed, IsOpen, IsBroken, MboxLeaves, MboxStores}
+use Rattle.run_law.specs.Mboxes.{MboxAccount, is_stored, closed_file, settled, mbox_rows, mbox_wanted, none_held, entries, intent_of, IsClosed, IsOpen, IsBroken, MboxLeaves, MboxStores}
 use Rattle.run_law.specs.MboxRuns.{MboxSituation, MboxVisit, MboxFrame, MboxVisits, MboxKept, MboxEnds, MboxPromises, HasEntry, IsNextOpen, after_visit, mbox_shown, entries_of, MboxEvent, MboxVisited, MboxExpired, MboxHappens, MboxPromised, after_mbox_event, MboxKeptStaysKept, MboxKeptHolds, MboxStartsKept}
 use Rattle.run_law.proofs.Core as core
 use Rattle.run_law.proofs.Core.{Scene, IsScene, fetched}
@@ -25,7 +26,6 @@ use Rattle.run_law.proofs.Lists.{any-map, all_map, all_append, all_take, all_fil
 use Rattle.run_law.proofs.Ids.{ids_both, all_at, all_ids_at, bytes_same, bytes_self}
 use Rattle.run_law.proofs.Below.{RowLaws}
 use Rattle.run_law.proofs.MboxRows.{delivered_unheld, delivered_one, delivered_all, rows_marked}
-use Rattle.run_law.proofs.Settling.{settles}
 use Rattle.run_law.proofs.Wants.{num_item, snd, Placed, wants_by_number, wants_placed}
 
 -- ---- entries
@@ -56,24 +56,38 @@ or_swap false false = refl
 abbrev next_intent : MboxFrame → List Message → Message → Intent
 next_intent frame done m = intent_of (frame.start ++ entries_of done) m.uid m.text
 
-pub settle : RowLaws → (frame : MboxFrame) (state : MboxSituation) → (kept : MboxKept frame state) → IsSettled frame state.account kept.done
-settle laws frame state kept = elim kept.stands [
+all_back : (P : Message → Type 0) (xs ys : List Message) → AllByRecursion P (xs ++ ys) → AllByRecursion P ys
+all_back P [] ys h = h
+all_back P (x ∷ xs) ys h = all_back P xs ys h.1
+
+selected_whole : (frame : MboxFrame) → IsWorld frame.all → AllByRecursion (λ (m : Message). IsWhole m.text) (selected frame.max_size frame.all)
+selected_whole frame world = all_filter (λ (m : Message). IsWhole m.text) (is_selected frame.max_size) frame.all
+    (all_map IsMessage (λ (m : Message). IsWhole m.text) (λ m h. h.whole) frame.all world.messages)
+
+-- the text of a message that is still to come
+next_whole : (frame : MboxFrame) (state : MboxSituation) → IsWorld frame.all → (kept : MboxKept frame state) → (next : Message) (more : List Message) → kept.rest ≡ next ∷ more → IsWhole next.text
+next_whole frame state world kept next more is =
+    (all_back (λ (m : Message). IsWhole m.text) (frame.had ++ kept.done) (next ∷ more)
+    (subst (AllByRecursion (λ (m : Message). IsWhole m.text)) (kept.prefix ∙ ap (λ l. (frame.had ++ kept.done) ++ l) is) (selected_whole frame world))).0
+
+pub settle : FrontsAreSettled → RowLaws → (frame : MboxFrame) (state : MboxSituation) → IsWorld frame.all → (kept : MboxKept frame state) → IsSettled frame state.account kept.done
+settle fronts laws frame state world kept = elim kept.stands [
   | inl closed ↦ record {
     done = kept.done;
     rest = kept.rest;
     prefix = kept.prefix;
-    recorded = λ id. ap (λ i. is_delivered (settled_rows state.account.rows i (length state.account.file)) id) closed.intent ∙ kept.recorded id;
+    recorded = λ id. ap (λ i. is_delivered (closed_rows (is_stored i state.account.file) state.account.rows i) id) closed.intent ∙ kept.recorded id;
     more = λ id e. e;
-    file = ap (λ i. settled_file i state.account.file) closed.intent ∙ closed.file;
+    file = ap (λ i. closed_file i state.account.file) closed.intent ∙ closed.file;
   }
-  | inr opened ↦ by opened (settles (frame.start ++ entries_of kept.done) opened.next.uid (entry_of opened.next.text) opened.opened.front opened.opened.behind opened.opened.entry)
+  | inr opened ↦ by opened (fronts (frame.start ++ entries_of kept.done) opened.next.text opened.opened.front opened.opened.behind (next_whole frame state world kept opened.next opened.more opened.is_next) opened.opened.entry)
 ]
   where
     by : (o : IsNextOpen (frame.start ++ entries_of kept.done) kept.rest state.account)
-        → ((ends_at (next_intent frame kept.done o.next) (length ((frame.start ++ entries_of kept.done) ++ o.opened.front)) ≡ true)
-        × (settled_file (Some (next_intent frame kept.done o.next)) ((frame.start ++ entries_of kept.done) ++ o.opened.front) ≡ (frame.start ++ entries_of kept.done) ++ o.opened.front) × (o.opened.front ≡ entry_of o.next.text))
-        ⊎ ((ends_at (next_intent frame kept.done o.next) (length ((frame.start ++ entries_of kept.done) ++ o.opened.front)) ≡ false)
-        × (settled_file (Some (next_intent frame kept.done o.next)) ((frame.start ++ entries_of kept.done) ++ o.opened.front) ≡ frame.start ++ entries_of kept.done))
+        → ((stands_whole (length (frame.start ++ entries_of kept.done)) (length (entry_of o.next.text)) ((frame.start ++ entries_of kept.done) ++ o.opened.front) ≡ true)
+        × (settled_file (length (frame.start ++ entries_of kept.done)) (length (entry_of o.next.text)) ((frame.start ++ entries_of kept.done) ++ o.opened.front) ≡ (frame.start ++ entries_of kept.done) ++ o.opened.front) × (o.opened.front ≡ entry_of o.next.text))
+        ⊎ ((stands_whole (length (frame.start ++ entries_of kept.done)) (length (entry_of o.next.text)) ((frame.start ++ entries_of kept.done) ++ o.opened.front) ≡ false)
+        × (settled_file (length (frame.start ++ entries_of kept.done)) (length (entry_of o.next.text)) ((frame.start ++ entries_of kept.done) ++ o.opened.front) ≡ frame.start ++ entries_of kept.done))
         → IsSettled frame state.account kept.done
     by o (inl whole) = record {
       done = kept.done ++ o.next ∷ [];
@@ -81,8 +95,8 @@ settle laws frame state kept = elim kept.stands [
       prefix = kept.prefix ∙ ap (λ l. (frame.had ++ kept.done) ++ l) o.is_next ∙ sym (append_assoc (frame.had ++ kept.done) (o.next ∷ []) o.more)
           ∙ ap (λ l. l ++ o.more) (append_assoc frame.had kept.done (o.next ∷ []));
       recorded = λ id.
-          ap (λ i. is_delivered (settled_rows state.account.rows i (length state.account.file)) id) o.opened.intent
-          ∙ ap (λ (f : List ℕ). is_delivered (settled_rows state.account.rows (Some (next_intent frame kept.done o.next)) (length f)) id) o.opened.file
+          ap (λ i. is_delivered (closed_rows (is_stored i state.account.file) state.account.rows i) id) o.opened.intent
+          ∙ ap (λ (f : List ℕ). is_delivered (closed_rows (is_stored (Some (next_intent frame kept.done o.next)) f) state.account.rows (Some (next_intent frame kept.done o.next))) id) o.opened.file
           ∙ ap (λ b. is_delivered (cond b (marked state.account.rows o.next.uid) state.account.rows) id) whole.0
           ∙ delivered_one laws state.account.rows o.next.uid id o.row
           ∙ ap (λ b. b || bytes_eq id o.next.uid) (kept.recorded id)
@@ -90,7 +104,7 @@ settle laws frame state kept = elim kept.stands [
           ∙ ap (λ (ms : List Message). has_id (ids_of ms) id) (append_assoc frame.had kept.done (o.next ∷ []));
       more = λ id e. ap (λ (ms : List Message). has_id (ids_of ms) id) (sym (append_assoc frame.had kept.done (o.next ∷ [])))
           ∙ ids_both (frame.had ++ kept.done) (o.next ∷ []) id ∙ ap (λ b. b || has_id (ids_of (o.next ∷ [])) id) e;
-      file = ap (λ i. settled_file i state.account.file) o.opened.intent ∙ ap (settled_file (Some (next_intent frame kept.done o.next))) o.opened.file ∙ whole.1
+      file = ap (λ i. closed_file i state.account.file) o.opened.intent ∙ ap (closed_file (Some (next_intent frame kept.done o.next))) o.opened.file ∙ whole.1
           ∙ ap (λ l. (frame.start ++ entries_of kept.done) ++ l) (whole.2 ∙ sym (one_entry o.next))
           ∙ append_assoc frame.start (entries_of kept.done) (entries_of (o.next ∷ []))
           ∙ ap (λ l. frame.start ++ l) (sym (entries-append kept.done (o.next ∷ [])));
@@ -100,32 +114,33 @@ settle laws frame state kept = elim kept.stands [
       rest = kept.rest;
       prefix = kept.prefix;
       recorded = λ id.
-          ap (λ i. is_delivered (settled_rows state.account.rows i (length state.account.file)) id) o.opened.intent
-          ∙ ap (λ (f : List ℕ). is_delivered (settled_rows state.account.rows (Some (next_intent frame kept.done o.next)) (length f)) id) o.opened.file
+          ap (λ i. is_delivered (closed_rows (is_stored i state.account.file) state.account.rows i) id) o.opened.intent
+          ∙ ap (λ (f : List ℕ). is_delivered (closed_rows (is_stored (Some (next_intent frame kept.done o.next)) f) state.account.rows (Some (next_intent frame kept.done o.next))) id) o.opened.file
           ∙ ap (λ b. is_delivered (cond b (marked state.account.rows o.next.uid) state.account.rows) id) part.0
           ∙ kept.recorded id;
       more = λ id e. e;
-      file = ap (λ i. settled_file i state.account.file) o.opened.intent ∙ ap (settled_file (Some (next_intent frame kept.done o.next))) o.opened.file ∙ part.1;
+      file = ap (λ i. closed_file i state.account.file) o.opened.intent ∙ ap (closed_file (Some (next_intent frame kept.done o.next))) o.opened.file ∙ part.1;
     }
 
 -- ---- an account that is left, its file perhaps cut back
 
-reopened : (bytes uid text : List ℕ) (before after : MboxAccount) → IsOpen bytes uid text before → after.intent ≡ before.intent → after.file ≡ (settled before).file → IsOpen bytes uid text after
-reopened bytes uid text before after o i f = elim (settles bytes uid (entry_of text) o.front o.behind o.entry) [
+reopened : FrontsAreSettled → (bytes uid text : List ℕ) (before after : MboxAccount) → IsWhole text → IsOpen bytes uid text before → after.intent ≡ before.intent
+    → after.file ≡ (settled before).file → IsOpen bytes uid text after
+reopened fronts bytes uid text before after whole-text o i f = elim (fronts bytes text o.front o.behind whole-text o.entry) [
   | inl whole ↦ record { intent = i ∙ o.intent; front = o.front; behind = o.behind; entry = o.entry; file = cut ∙ whole.1 }
   | inr part ↦ record { intent = i ∙ o.intent; front = []; behind = entry_of text; entry = refl; file = cut ∙ part.1 ∙ sym (append-nil bytes) }
 ]
   where
-    cut : after.file ≡ settled_file (Some (intent_of bytes uid text)) (bytes ++ o.front)
-    cut = f ∙ ap (λ i. settled_file i before.file) o.intent ∙ ap (settled_file (Some (intent_of bytes uid text))) o.file
+    cut : after.file ≡ settled_file (length bytes) (length (entry_of text)) (bytes ++ o.front)
+    cut = f ∙ ap (λ i. closed_file i before.file) o.intent ∙ ap (closed_file (Some (intent_of bytes uid text))) o.file
 
 none_vanish : (ids : List (List ℕ)) (begun : List (List ℕ)) → begun ≡ [] → AllByRecursion (λ id. has_id begun id ≡ true) ids → ids ≡ []
 none_vanish [] begun e h = refl
 none_vanish (id ∷ ids) begun e h = absurd (both_ways false refl (sym (ap (λ l. has_id l id) e) ∙ h.0))
 
-left_kept : (frame : MboxFrame) (before : MboxSituation) (v : MboxVisit) → MboxKept frame before → MboxLeaves before.account v.effect v.after
+left_kept : FrontsAreSettled → (frame : MboxFrame) (before : MboxSituation) (v : MboxVisit) → IsWorld frame.all → MboxKept frame before → MboxLeaves before.account v.effect v.after
     → AllByRecursion (λ id. has_id v.effect.begun id ≡ true) v.vanished → MboxKept frame (after_visit before v)
-left_kept frame before v kept h vanished = record {
+left_kept fronts frame before v world kept h vanished = record {
   done = kept.done;
   rest = kept.rest;
   prefix = kept.prefix;
@@ -136,7 +151,7 @@ left_kept frame before v kept h vanished = record {
       intent = h.intent ∙ closed.intent;
       file = elim h.file [
         | inl same ↦ same ∙ closed.file
-        | inr cut ↦ cut ∙ ap (λ i. settled_file i before.account.file) closed.intent ∙ closed.file
+        | inr cut ↦ cut ∙ ap (λ i. closed_file i before.account.file) closed.intent ∙ closed.file
       ];
     })
     | inr o ↦ inr (record {
@@ -145,7 +160,7 @@ left_kept frame before v kept h vanished = record {
       is_next = o.is_next;
       opened = elim h.file [
         | inl same ↦ record { intent = h.intent ∙ o.opened.intent; front = o.opened.front; behind = o.opened.behind; entry = o.opened.entry; file = same ∙ o.opened.file }
-        | inr cut ↦ reopened (frame.start ++ entries_of kept.done) o.next.uid o.next.text before.account v.after o.opened h.intent cut
+        | inr cut ↦ reopened fronts (frame.start ++ entries_of kept.done) o.next.uid o.next.text before.account v.after (next_whole frame before world kept o.next o.more o.is_next) o.opened h.intent cut
       ];
       row = ap (λ r. has_row r o.next.uid) h.rows ∙ o.row;
     })
@@ -226,7 +241,7 @@ at_place drop' (q ∷ qs) (x ∷ texts) (suc n) message text h t w g =
 
 -- ---- one session that stored something
 
-module _ (laws : RowLaws) (filtered : DistinctAreFiltered) (frame : MboxFrame) (world : IsWorld frame.all) (before : MboxSituation) (v : MboxVisit) (kept : MboxKept frame before)
+module _ (fronts : FrontsAreSettled) (laws : RowLaws) (filtered : DistinctAreFiltered) (frame : MboxFrame) (world : IsWorld frame.all) (before : MboxSituation) (v : MboxVisit) (kept : MboxKept frame before)
     (same : v.settings.max_size ≡ frame.max_size) (only_new : v.settings.read_all ≡ false) (s : MboxStores v.settings before.account v.effect v.after)
     (honest : IsHonest (mbox_wanted v.settings before.account v.effect) (mbox_shown frame before v) v.effect) where
   abbrev rows : List Row
@@ -236,7 +251,7 @@ module _ (laws : RowLaws) (filtered : DistinctAreFiltered) (frame : MboxFrame) (
   here = mbox_shown frame before v
 
   origin : IsSettled frame before.account kept.done
-  origin = settle laws frame before kept
+  origin = settle fronts laws frame before world kept
 
   abbrev scene : Scene
   scene = record { all = frame.all; gone = before.gone; come = v.come; settings = v.settings; rows = rows; done = frame.had ++ origin.done; rest = origin.rest }
@@ -398,18 +413,18 @@ module _ (laws : RowLaws) (filtered : DistinctAreFiltered) (frame : MboxFrame) (
 
 -- ---- one session
 
-visited : RowLaws → DistinctAreFiltered → (frame : MboxFrame) (before : MboxSituation) (v : MboxVisit) → IsWorld frame.all → MboxKept frame before → MboxVisits frame before v
+visited : FrontsAreSettled → RowLaws → DistinctAreFiltered → (frame : MboxFrame) (before : MboxSituation) (v : MboxVisit) → IsWorld frame.all → MboxKept frame before → MboxVisits frame before v
     → MboxKept frame (after_visit before v) × MboxPromises frame before v
-visited laws filtered frame before v world kept h = elim h.step [
+visited fronts laws filtered frame before v world kept h = elim h.step [
   | inl left ↦ (
-    left_kept frame before v kept left h.vanished,
+    left_kept fronts frame before v world kept left h.vanished,
     record { ends = λ ended. absurd (both_ways v.effect.ended left.ended ended); begun = subst (AllByRecursion (λ id. (has_id (ids_of frame.had) id ≡ true) ⊎ HasEntry frame v.after.file id)) (sym left.begun) tt },
   )
   | inr (stores, honest) ↦
-      let next = stored_kept laws filtered frame world before v kept h.same h.only_new stores honest h.vanished in (
+      let next = stored_kept fronts laws filtered frame world before v kept h.same h.only_new stores honest h.vanished in (
         next,
         record {
-          ends = ends laws filtered frame world before v kept h.same h.only_new stores honest;
+          ends = ends fronts laws filtered frame world before v kept h.same h.only_new stores honest;
           begun = all_map (λ id. is_delivered v.after.rows id ≡ true) (λ id. (has_id (ids_of frame.had) id ≡ true) ⊎ HasEntry frame v.after.file id) (has_entry frame (after_visit before v) next) v.effect.begun stores.begun;
         },
       )
@@ -427,16 +442,16 @@ expired_kept frame before ids kept all = record {
   stands = kept.stands;
 }
 
-happened : RowLaws → DistinctAreFiltered → (frame : MboxFrame) (before : MboxSituation) (event : MboxEvent) → IsWorld frame.all → MboxKept frame before → MboxHappens frame before event
+happened : FrontsAreSettled → RowLaws → DistinctAreFiltered → (frame : MboxFrame) (before : MboxSituation) (event : MboxEvent) → IsWorld frame.all → MboxKept frame before → MboxHappens frame before event
     → MboxKept frame (after_mbox_event before event) × MboxPromised frame before event
-happened laws filtered frame before (MboxVisited v) world kept h = visited laws filtered frame before v world kept h
-happened laws filtered frame before (MboxExpired ids) world kept h = (expired_kept frame before ids kept h, tt)
+happened fronts laws filtered frame before (MboxVisited v) world kept h = visited fronts laws filtered frame before v world kept h
+happened fronts laws filtered frame before (MboxExpired ids) world kept h = (expired_kept frame before ids kept h, tt)
 
-pub mbox_kept_states : RowLaws → DistinctAreFiltered → MboxKeptStaysKept
-mbox_kept_states laws filtered frame start [] world kept run = (kept, tt)
-mbox_kept_states laws filtered frame start (event ∷ events) world kept run =
-    let one = happened laws filtered frame start event world kept run.0 in
-    let more = mbox_kept_states laws filtered frame (after_mbox_event start event) events world one.0 run.1 in
+pub mbox_kept_states : FrontsAreSettled → RowLaws → DistinctAreFiltered → MboxKeptStaysKept
+mbox_kept_states fronts laws filtered frame start [] world kept run = (kept, tt)
+mbox_kept_states fronts laws filtered frame start (event ∷ events) world kept run =
+    let one = happened fronts laws filtered frame start event world kept run.0 in
+    let more = mbox_kept_states fronts laws filtered frame (after_mbox_event start event) events world one.0 run.1 in
     (more.0, (one.1, one.0, more.1))
 
 -- ---- what a kept state holds
@@ -480,14 +495,9 @@ mbox_holds adds frame state world kept = record {
     front : take (length kept.done) (kept.done ++ kept.rest) ≡ kept.done
     front = take_at kept.done kept.rest (length kept.done) refl
 
-    all_back : (P : Message → Type 0) (xs ys : List Message) → AllByRecursion P (xs ++ ys) → AllByRecursion P ys
-    all_back P [] ys h = h
-    all_back P (x ∷ xs) ys h = all_back P xs ys h.1
-
     whole_done : AllByRecursion (λ (m : Message). IsWhole m.text) kept.done
     whole_done = core.all_front (λ (m : Message). IsWhole m.text) kept.done kept.rest (all_back (λ (m : Message). IsWhole m.text) frame.had (kept.done ++ kept.rest)
-        (subst (AllByRecursion (λ (m : Message). IsWhole m.text)) whole
-        (all_filter (λ (m : Message). IsWhole m.text) (is_selected frame.max_size) frame.all (all_map IsMessage (λ (m : Message). IsWhole m.text) (λ m h. h.whole) frame.all world.messages))))
+        (subst (AllByRecursion (λ (m : Message). IsWhole m.text)) whole (selected_whole frame world)))
 
     at_most : (tail.0 ≡ []) ⊎ ((next : Message) × (behind : List ℕ) × (slice_get (kept.done ++ kept.rest) (length kept.done) ≡ Some next) × (entry_of next.text ≡ tail.0 ++ behind))
     at_most = elim tail.2 [

@@ -1,6 +1,7 @@
 -- Sessions with an mboxrd over honest links.
 use Rattle.std.proofs.Common.{inl, inr, List, [], ◌∷◌, ◌++◌, take, ◌∙◌, ap, append_assoc}
-use Rattle.pop3_wire.specs.World.{Message, maildrop_of}
+use Rattle.pop3_wire.specs.World.{Message, IsWorld, maildrop_of}
+use Rattle.mail_store.specs.Settling.{FrontsAreSettled}
 use Rattle.run_law.specs.Mboxes.{settled, mbox_wanted, entries, MboxStores}
 use Rattle.run_law.specs.MboxRuns.{MboxFrame, MboxSituation, MboxVisits, MboxKept, MboxVisited, MboxKeptStaysKept}
 use Rattle.run_law.specs.MboxSessions.{MboxLink, MboxLinks, mbox_visit_of, after_mbox_link, SettlesFirst, MboxLinksKeep}
@@ -29,10 +30,10 @@ visits laws frame before link l = elim l.session.step [
       }
 ]
 
-settles_first : RowLaws → (frame : MboxFrame) (before : MboxSituation) (link : MboxLink) (l : MboxLinks frame before link) → MboxKept frame before
+settles_first : FrontsAreSettled → RowLaws → (frame : MboxFrame) (before : MboxSituation) (link : MboxLink) (l : MboxLinks frame before link) → IsWorld frame.all → MboxKept frame before
     → MboxStores link.settings before.account l.effect link.after → SettlesFirst frame before.account link.after
-settles_first rows frame before link l kept s =
-    let origin = settle rows frame before kept in
+settles_first fronts rows frame before link l world kept s =
+    let origin = settle fronts rows frame before world kept in
     elim s.ending [
       | inl closed ↦ record {
         done = origin.done;
@@ -50,9 +51,9 @@ settles_first rows frame before link l kept s =
       }
     ]
 
-pub mbox_links_keep : MboxKeptStaysKept → Readings → RowLaws → MboxLinksKeep
-mbox_links_keep stays laws rows frame start [] world kept run = kept
-mbox_links_keep stays laws rows frame start (link ∷ links) world kept run =
+pub mbox_links_keep : MboxKeptStaysKept → Readings → FrontsAreSettled → RowLaws → MboxLinksKeep
+mbox_links_keep stays laws fronts rows frame start [] world kept run = kept
+mbox_links_keep stays laws fronts rows frame start (link ∷ links) world kept run =
     let one = stays frame start (MboxVisited (mbox_visit_of link run.0.effect) ∷ []) world kept (visits laws frame start link run.0, tt) in (
       kept,
       record {
@@ -61,8 +62,8 @@ mbox_links_keep stays laws rows frame start (link ∷ links) world kept run =
         promises = one.1.0;
         settles = elim run.0.session.step [
           | inl (left, none) ↦ inl none
-          | inr (stores, reads) ↦ inr (settles_first rows frame start link run.0 kept stores)
+          | inr (stores, reads) ↦ inr (settles_first fronts rows frame start link run.0 world kept stores)
         ];
       },
-      mbox_links_keep stays laws rows frame (after_mbox_link start link) links world one.0 run.1,
+      mbox_links_keep stays laws fronts rows frame (after_mbox_link start link) links world one.0 run.1,
     )

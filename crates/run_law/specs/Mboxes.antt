@@ -4,10 +4,11 @@ use Rattle.std.specs.List.{flat_map, AllByRecursion}
 use Rattle.mail_terms.specs.Listing.{Item}
 use Rattle.fetch_rules.specs.Record.{Row, is_delivered, marked_all, merged}
 use Rattle.fetch_rules.specs.Record.{Intent}
-use Rattle.fetch_rules.specs.Intents.{settled_rows, settled_file}
+use Rattle.fetch_rules.specs.Intents.{closed_rows}
 use Rattle.fetch_rules.specs.Wanted.{wanted}
 use Rattle.rc_file.specs.declared.settings.Settings.{Settings}
 use Rattle.mail_store.specs.Mboxrd.{entry_of}
+use Rattle.mail_store.specs.Settling.{stands_whole, settled_file}
 use Rattle.run_law.specs.Steps.{Effect, ids_wanted}
 
 -- the rows of the record and its open intent, and the mailbox file
@@ -16,12 +17,22 @@ pub record MboxAccount : Type 0 where
   pub intent : Option Intent
   pub file : List ℕ
 
+-- whether the entry of an open intent stands whole in the file
+abbrev pub is_stored : Option Intent → List ℕ → Bool
+is_stored None file = false
+is_stored (Some intent) file = stands_whole intent.start intent.len file
+
+-- the file once the open intent is closed
+abbrev pub closed_file : Option Intent → List ℕ → List ℕ
+closed_file None file = file
+closed_file (Some intent) file = settled_file intent.start intent.len file
+
 -- the account once the open intent is closed
 abbrev pub settled : MboxAccount → MboxAccount
 settled account = record {
-  rows = settled_rows account.rows account.intent (length account.file);
+  rows = closed_rows (is_stored account.intent account.file) account.rows account.intent;
   intent = None;
-  file = settled_file account.intent account.file;
+  file = closed_file account.intent account.file;
 }
 
 -- nothing is held but by the record

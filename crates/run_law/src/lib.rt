@@ -19,7 +19,8 @@ use fetch_rules::{
     marked_keeps_rows,
 };
 use mail_store::{
-    entries_add_texts, flags_tell_what_is_held, marks_keep_the_base, names_are_bases, names_differ,
+    entries_add_texts, flags_tell_what_is_held, fronts_of_entries_are_settled, marks_keep_the_base,
+    names_are_bases, names_differ,
 };
 use pop3_wire::{
     only_one_body, only_one_line, only_one_list_of_commands, only_one_list_of_lines,
@@ -185,6 +186,7 @@ pub fn mbox_states_are_kept()
     ensures { MboxKeptStaysKept }
 {
     distinct_messages_are_filtered();
+    fronts_of_entries_are_settled();
     held_is_delivered();
     listed_has_row();
     marked_is_delivered();
@@ -211,6 +213,7 @@ pub fn mbox_links_keep()
     ensures { MboxLinksKeep }
 {
     mbox_states_are_kept();
+    fronts_of_entries_are_settled();
     only_one_list_of_commands();
     honest_is_granted();
     texts_are_messages();

@@ -4,7 +4,7 @@ use Rattle.run_law.proofs.Below.{RowLaws}
 use Rattle.run_law.proofs.mbox_links_keep.Goals as goal
 
 pub returns : goal.returns
-returns c = laws.mbox_links_keep c.mbox_states_are_kept.ensures readings rows
+returns c = laws.mbox_links_keep c.mbox_states_are_kept.ensures readings c.fronts_of_entries_are_settled.ensures rows
   where
     readings : Readings
     readings = record {

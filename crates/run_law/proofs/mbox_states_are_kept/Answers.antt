@@ -3,7 +3,7 @@ use Rattle.run_law.proofs.Below.{RowLaws}
 use Rattle.run_law.proofs.mbox_states_are_kept.Goals as goal
 
 pub returns : goal.returns
-returns c = laws.mbox_kept_states rows c.distinct_messages_are_filtered.ensures
+returns c = laws.mbox_kept_states c.fronts_of_entries_are_settled.ensures rows c.distinct_messages_are_filtered.ensures
   where
     rows : RowLaws
     rows = record {
