@@ -1,4 +1,4 @@
--- What the rows at the places of their numbers say of a listing.
+-- The rows of a listing, found by their numbers.
 use Rattle.std.proofs.Common.{◌≡◌, ℕ, ◌<◌, ◌≤◌, ◌-◌, List, length, get_or, map, sym, ◌∙◌, ap, subst, arith}
 use Rattle.std.proofs.lemmas.List.{get_or-map, length-map}
 use Rattle.mail_terms.specs.declared.listing.UidRow.{UidRow}
@@ -6,7 +6,7 @@ use Rattle.mail_terms.specs.declared.listing.ScanRow.{ScanRow}
 use Rattle.mail_terms.specs.Numbering.{IsNumbering, IsOrderOf}
 use Rattle.mail_terms.specs.Listing.{Item, AreAt, Joins}
 
--- the place of a row's number is the row's own
+-- the place that is found for a row's number is the row's own
 pub place_of_row : {Row : Type 0} (number : Row → ℕ) (n : ℕ) (rows : List Row) (places : List ℕ) → IsNumbering n (map number rows) → IsOrderOf n (map number rows) places
     → (k : ℕ) (row : Row) → k < length rows → (number (get_or rows k row) - 1 < n) × (get_or places (number (get_or rows k row) - 1) 0 ≡ k)
 place_of_row number n rows places numbering order k row inside =
@@ -36,7 +36,7 @@ Joins-from_places n uids sizes uid_places size_places items uid_numbers size_num
       rows.octets _ item row (omega (arith, there.0)) ∙ ap (λ (j : ℕ). (get_or sizes j row).size) there.1;
 }
 
--- the same, where the code has other names for the lists
+-- the same for lists that are equal to these
 pub Joins-from_same : (n : ℕ) (uids : List UidRow) (sizes : List ScanRow) (items : List Item) {us ss up sp up' sp' : List ℕ}
     → us ≡ map (λ row. row.number) uids → ss ≡ map (λ row. row.number) sizes → up' ≡ up → sp' ≡ sp
     → IsNumbering n us → IsNumbering n ss → IsOrderOf n us up → IsOrderOf n ss sp

@@ -1,4 +1,4 @@
--- What `parse` reads from a numeral, and that it is a text.
+-- What `parse` reads from a numeral, and that a numeral is a text.
 use Rattle.std.proofs.Common.{◌≡◌, ℕ, ◌<◌, ◌≤◌, List, [], ◌∷◌, length, Bool, true, ◌&&◌, Some, Result, Ok, Err, nat_lt, nat_le, ap, refl, sym, ◌∙◌, arith, inl, inr}
 use Rattle.std.proofs.lemmas.Bool.{and_parts, cases_lt, le-leb, lt-leb, ltb-true}
 use Rattle.std.proofs.lemmas.Bool.Decides.{nat_tests}

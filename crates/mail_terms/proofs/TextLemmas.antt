@@ -1,4 +1,4 @@
--- Texts cut into lines.
+-- Texts split into lines.
 use Rattle.std.proofs.Common.{◌≡◌, inl, inr, ℕ, zero, suc, ◌+◌, ◌<◌, List, [], ◌∷◌, ◌-◌, Option, Some, None, length, take, drop, refl, arith, sym}
 use Rattle.std.proofs.lemmas.Grind.{common_steps}
 use Rattle.std.specs.List.{position_or_len}
@@ -9,7 +9,7 @@ use Rattle.std.proofs.lemmas.List.Sums.{position_or_len_is}
 use Rattle.memchr.specs.Find.{IsFirstByte, is_byte}
 use Rattle.mail_terms.specs.Text.{is_line_feed, lines_of_text}
 
--- where a search found the first LF, or the end
+-- the end of the first line: where the first LF was found, or the text's end
 pub end_found : (text : List ℕ) (found : Option ℕ) → IsFirstByte (is_byte 10) text found → unwrap_or found (length text) ≡ position_or_len is_line_feed text
 end_found text None none =
     sym (position_or_len_is is_line_feed text (length text) 0 (omega arith) (λ k low. false_from_ne_true _ (none k (omega arith) low)) (λ low. absurd (omega (arith, low))))
@@ -43,7 +43,7 @@ first_text_line (byte ∷ rest) (suc n) h some = elim (eqb_tells byte 10) [
       rw (p.0, step, first_text_line rest n (omega arith) (omega arith)) refl
 ]
 
--- ---- no LF stands in a line of a text
+-- ---- a line of a text holds no LF
 
 pub to_end : (bytes : List ℕ) (n : ℕ) → take (length bytes - n) (drop n bytes) ≡ drop n bytes
 to_end bytes n = grind (arith, common_steps)

@@ -1,8 +1,8 @@
--- What USER and PASS take as their argument (RFC 1939, section 7).
+-- The arguments that USER and PASS take (RFC 1939, section 7).
 use Rattle.std.specs.Prelude.{ℕ, Bool, not, ◌==◌, ◌&&◌, nat_lt, nat_le, List, length}
 use Rattle.std.specs.List.{list_all}
 
--- neither CR, nor LF, nor NUL
+-- a byte other than CR, LF and NUL
 abbrev pub is_plain : ℕ → Bool
 is_plain byte = not (byte == 13) && not (byte == 10) && not (byte == 0)
 

@@ -1,6 +1,6 @@
--- Lists in which nothing stands twice.
+-- Lists without repetition.
 use Rattle.std.specs.Prelude.{◌≢◌, List, AllPairs}
 
--- no element stands at two places
+-- no two elements are equal
 abbrev pub AreDistinct : {A : Type 0} → List A → Type 0
 AreDistinct xs = AllPairs (λ a b. a ≢ b) xs

@@ -20,7 +20,7 @@ pub record Item : Type 0 where
 abbrev pub ids_of : List Item → List (List ℕ)
 ids_of listing = map (λ (item : Item). item.uid) listing
 
--- no id stands twice among the messages
+-- no two of the messages have the same id
 abbrev pub HasDistinctIds : List Item → Type 0
 HasDistinctIds listing = AreDistinct (ids_of listing)
 
@@ -48,7 +48,7 @@ is_flagged listing flags uid = list_any (λ flagged. flagged.1 && bytes_eq flagg
 abbrev pub Agree : ℕ → List UidRow → List ScanRow → Type 0
 Agree n uids sizes = IsNumbering n (map (λ row. row.number) uids) × IsNumbering n (map (λ row. row.number) sizes)
 
--- the items are the messages 1 to n in order, and each row speaks of the item of its number
+-- the items are the messages 1 to n in order, and each row gives the id, or the size, of the item of its number
 pub record Joins (n : ℕ) (uids : List UidRow) (sizes : List ScanRow) (items : List Item) : Type 0 where
   pub agree : Agree n uids sizes
   pub count : length items ≡ n

@@ -5,6 +5,6 @@ use Rattle.std.specs.List.{before_first}
 abbrev pub is_colon : ℕ → Bool
 is_colon byte = byte == 58
 
--- what stands before the first colon of a name: readers of a Maildir put their marks behind it
+-- the part of a name before the first colon; mail readers put their flags after it
 abbrev pub base : List ℕ → List ℕ
 base name = before_first is_colon name

@@ -1,15 +1,15 @@
--- Numbers 1 to n, each once and in any order, and the places at which they stand.
+-- The numbers 1 to n, each once and in any order, and their places in a list.
 use Rattle.std.specs.Prelude.{◌≡◌, ℕ, ◌<◌, ◌≤◌, ◌+◌, ◌-◌, List, Option, Some, None, length, slice_index, slice_index_or, All, Contains}
 use Rattle.mail_terms.specs.Distinct.{AreDistinct}
 
--- each number of 1 to n stands in the list, none stands there twice, and no other does
+-- the list holds each number of 1 to n once, and no other number
 pub record IsNumbering (n : ℕ) (numbers : List ℕ) : Type 0 where
   pub complete : (number : ℕ) → 1 ≤ number → number ≤ n → Contains numbers number
   pub distinct : AreDistinct numbers
   pub within : All (λ number. (1 ≤ number) × (number ≤ n)) numbers
 
--- the table has a slot for each number of 1 to n, and in it the place of that number among the
--- first i of the list, if it stands there
+-- the table has a slot for each number of 1 to n; the slot holds that number's place among the first i of the
+-- list, if it is there
 pub record HasPlaces (n : ℕ) (numbers : List ℕ) (i : ℕ) (slots : List (Option ℕ)) : Type 0 where
   pub room : length slots ≡ n
   pub within : (place : ℕ) → place < i → (1 ≤ slice_index numbers place) × (slice_index numbers place ≤ n)

@@ -1,4 +1,4 @@
--- Numerals of the protocol (RFC 1939, sections 5 and 7), and the greatest numbers that they give.
+-- Numerals of the protocol (RFC 1939, sections 5 and 7), and the greatest numbers.
 use Rattle.std.specs.Prelude.{ℕ, Bool, ◌&&◌, nat_lt, nat_le, List, length, Option, Some, None, if◌then◌else◌}
 use Rattle.std.specs.Char.{is_ascii_digit}
 use Rattle.std.specs.List.{list_all}
@@ -16,6 +16,6 @@ greatest_number = 4294967295
 abbrev pub greatest_size : ℕ
 greatest_size = 18446744073709551615
 
--- the number that a numeral stands for, where it isn't above the greatest size
+-- the number that a numeral stands for, if it isn't above the greatest size
 abbrev pub numeral_value : List ℕ → Option ℕ
 numeral_value field = if is_numeral field && nat_le (digits_value 10 field) greatest_size then Some (digits_value 10 field) else None

@@ -5,7 +5,7 @@ use Rattle.std.specs.List.{onto_first, AllByRecursion}
 abbrev pub is_line_feed : ℕ → Bool
 is_line_feed byte = byte == 10
 
--- no LF stands in it
+-- it holds no LF
 abbrev pub HasNoLf : List ℕ → Type 0
 HasNoLf bytes = AllByRecursion (λ byte. byte ≢ 10) bytes
 
@@ -18,7 +18,7 @@ lines_of_text (byte ∷ rest) = if byte == 10 then [] ∷ lines_of_text rest els
 abbrev pub IsWhole : List ℕ → Type 0
 IsWhole text = (text ≡ []) ⊎ ((front : List ℕ) × (text ≡ front ++ 10 ∷ []))
 
--- the text made whole: it gets one LF more where it has bytes and doesn't end in LF
+-- the text made whole: with an LF added if it isn't empty and doesn't end in LF
 abbrev pub whole_text : List ℕ → List ℕ
 whole_text [] = []
 whole_text (byte ∷ []) = if byte == 10 then byte ∷ [] else byte ∷ 10 ∷ []

@@ -17,7 +17,7 @@ IsLegalId id = IsTrue (is_legal_id id)
 abbrev pub has_id : List (List ℕ) → List ℕ → Bool
 has_id ids id = list_any (bytes_eq id) ids
 
--- the same by ranges: how long the id is, and which characters it holds
+-- the same by ranges: those of the id's length and of its characters
 pub record HasIdRanges (id : List ℕ) : Type 0 where
   pub some : 1 ≤ length id
   pub short : length id ≤ 70

@@ -1,9 +1,9 @@
--- What is known of calls one after another, where the link is sound after them.
+-- What is known of calls in a row, if the link is sound after them.
 use Rattle.pop3_wire.specs.declared.wire.Wire.{Ghosts}
 use Rattle.pop3_wire.specs.Link.{WhereSound}
 
 module _ {W : Type 0} (link : Ghosts W) where
-  -- what a call did, in other words
+  -- what follows from what a call did
   pub in_words : {a b : W} {P Q : Type 0} → WhereSound link.sound link.leads_to a b P → (P → Q) → WhereSound link.sound link.leads_to a b Q
   in_words did words sound = let all = did sound in (all.0, all.1, words all.2)
 
@@ -29,7 +29,7 @@ module _ {W : Type 0} (link : Ghosts W) where
       let start = first then.0 in
       (start.0, on _ _ _ start.1 (on _ _ _ then.1 last.1), all start.2 then.2 last.2)
 
-  -- what a call did, where nothing is asked of what the link leads to
+  -- what a call did, leaving out what the link leads to
   pub did_so : {a b : W} {P Q : Type 0} → WhereSound link.sound link.leads_to a b P → (P → Q) → link.sound b → link.sound a × Q
   did_so did words sound = let all = did sound in (all.0, words all.2)
 
@@ -40,14 +40,14 @@ module _ {W : Type 0} (link : Ghosts W) where
       let all = first then.0 in
       (all.0, both all.2 then.2)
 
-  -- so far, and then a call
+  -- what is known so far, and then a call
   pub so_far : {a b c : W} {P Q R : Type 0} → (link.sound b → link.sound a × P) → WhereSound link.sound link.leads_to b c Q → (P → Q → R) → link.sound c → link.sound a × R
   so_far first second both sound =
       let then = second sound in
       let all = first then.0 in
       (all.0, both all.1 then.2)
 
-  -- and then more
+  -- a call, and then what is known after it
   pub so_on : {a b c : W} {P Q R : Type 0} → WhereSound link.sound link.leads_to a b P → (link.sound c → link.sound b × Q) → (P → Q → R) → link.sound c → link.sound a × R
   so_on first second both sound =
       let then = second sound in

@@ -10,7 +10,7 @@ use Rattle.pop3_client.specs.Turns.{Turn, turn_bytes, asking, IsGood, most}
 use Rattle.pop3_client.specs.Conversation.{Talked, Stopped, most_of, Paced, ConversationsArePaced}
 use Rattle.pop3_client.proofs.MostLemmas.{reply_within}
 
--- the replies to some turns
+-- how many octets the replies to some turns have at most
 replies_within : (turns : List Turn) (replies : List WholeReply) → AllZip IsGood turns replies → length (flat_map reply_bytes replies) ≤ most_of turns
 replies_within [] [] good = omega arith
 replies_within [] (reply ∷ replies) good = absurd good
@@ -32,7 +32,7 @@ lengths_of a b c d e =
     let same : length (a ++ b) ≡ length (c ++ d) = ap length e in
     omega arith
 
--- all of the turns were talked
+-- all of the turns were completed
 whole : (turns : List Turn) (replies : List WholeReply) (old new : Place) → Talked turns replies old new → Paced turns old new
 whole turns replies old new talked =
     let size : length (flat_map reply_bytes replies) ≤ most_of turns = replies_within turns replies talked.good in
@@ -54,7 +54,7 @@ whole turns replies old new talked =
       within = omega arith;
     }
 
--- some were talked, and of the next one these octets were sent
+-- some were completed, and these octets of the next one were sent
 module _ (done later : List Turn) (next : Turn) (replies : List WholeReply) (old mid new : Place) (talked : Talked done replies old mid)
     (part more : List ℕ) (begun : turn_bytes next ≡ part ++ more) (sent : new.link.sent ≡ mid.link.sent ++ part) where
   ahead : asking (done ++ (next ∷ later)) ≡ (asking done ++ part) ++ (more ++ asking later)
@@ -69,7 +69,7 @@ module _ (done later : List Turn) (next : Turn) (replies : List WholeReply) (old
   most_of_all : most_of (done ++ (next ∷ later)) ≡ most_of done + (most next + most_of later)
   most_of_all = most_on done (next ∷ later)
 
-  -- and nothing came behind
+  -- and nothing came after them
   silent : new.link.got ≡ mid.link.got → new.waiting ≡ mid.waiting → Paced (done ++ (next ∷ later)) old new
   silent got waits =
       let size : length (flat_map reply_bytes replies) ≤ most_of done = replies_within done replies talked.good in
@@ -93,7 +93,7 @@ module _ (done later : List Turn) (next : Turn) (replies : List WholeReply) (old
         within = omega arith;
       }
 
-  -- and so much came behind
+  -- and these octets came after them
   broken : (gained used : List ℕ) → new.link.got ≡ mid.link.got ++ gained → mid.waiting ++ gained ≡ used ++ new.waiting → length used ≤ most next
       → Paced (done ++ (next ∷ later)) old new
   broken gained used got heard small =

@@ -122,7 +122,7 @@ module _ {R : Type 0} (turn : Turn) (StandsFor : List ℕ → R → Type 0) (old
           ∙ ap (λ (l : List ℕ). (flat_map ended now.lines ++ l) ++ after) (sym (append-nil (ended line)))
           ∙ ap (λ (l : List ℕ). l ++ after) (sym (flat_map-append ended now.lines (line ∷ [])))
 
-  -- a row waits, which isn't taken
+  -- a row waits that wasn't taken
   pub row_behind : (n : ℕ) → HasLine line_limit here.waiting n → take n here.waiting ≢ dot → RowBehind turn (old.waiting ++ now.gained) (take n here.waiting) (length rows)
   row_behind n has other = record {
     behind = drop (n + 2) here.waiting;
@@ -133,7 +133,7 @@ module _ {R : Type 0} (turn : Turn) (StandsFor : List ℕ → R → Type 0) (old
     short = line_short n here.waiting has;
   }
 
-  -- the rows end at one that waits
+  -- the rows stop at one that waits
   pub rows_stop : (fault : Fault) → RowsCause fault turn old.link here.link (old.waiting ++ now.gained) → NotTaken turn old here fault
   rows_stop fault cause = record { gained = now.gained; used = now.lines; drew = now.drew; cause = cause; has = now.has }
 
@@ -197,7 +197,7 @@ module _ {R : Type 0} (turn : Turn) (StandsFor : List ℕ → R → Type 0) (old
     now.read,
   )
 
--- no count is asked for with a listing
+-- a listing's first line doesn't have to give a count
 pub tells_no_count : (turn : Turn) → IsListing turn → tells_count turn ≡ false
 tells_no_count turn (inl is) = ap tells_count is
 tells_no_count turn (inr is) = ap tells_count is
@@ -210,7 +210,7 @@ most_of_listing : (turn : Turn) → IsListing turn → most turn ≡ line_limit 
 most_of_listing turn (inl is) = ap most is
 most_of_listing turn (inr is) = ap most is
 
--- the row behind a listing's first line is its reply's next line
+-- the next row of a listing is the next line of its reply
 next_line_of : (turn : Turn) (bytes after row : List ℕ) (rows : ℕ) → BeginsPositive bytes after → RowBehind turn after row rows → NextLine turn bytes row rows
 next_line_of turn bytes after row rows begins there = record {
   after = after;
@@ -223,7 +223,7 @@ next_line_of turn bytes after row rows begins there = record {
   short = there.short;
 }
 
--- why a listing isn't good, told of its whole reply
+-- why a listing isn't good, as a cause of its whole reply
 cause_of_rows : (fault : Fault) (turn : Turn) (old new : Link) (bytes after : List ℕ) → BeginsPositive bytes after → IsListing turn
     → RowsCause fault turn old new after → Cause fault turn old new bytes × ((to : Asked) → fault ≡ Refused to → ⊥)
 cause_of_rows ConnectionEnded turn old new bytes after begins listing why = ((why.0, inr (after, begins, part_of_body turn after listing why.1)), λ to is. cc)
@@ -257,7 +257,7 @@ lists_of turn IsThisRow line old mid new (Err fault) begun listing takes =
     let all : most turn ≡ line_limit + line_limit * (row_limit + 1) = most_of_listing turn listing in
     inr (inl (not_answered_behind turn line old mid new takes.gained (flat_map ended takes.used) fault begun takes.drew cause.0 takes.has.whole (omega arith) cause.1))
 
--- both listings were talked
+-- both listings were completed
 pub listed : (old mid new : Place) (uids : List UidRow) (sizes : List ScanRow) → ListsRows uidl IsUidLine old (Ok uids) mid → ListsRows list IsScanLine mid (Ok sizes) new → Listed old new uids sizes
 listed old mid new uids sizes first second = record {
   first = first.0;
@@ -267,7 +267,7 @@ listed old mid new uids sizes first second = record {
   octets = second.2;
 }
 
--- and joined or not
+-- and joined, or not
 pub lists_joined : (count : ℕ) (old new : Place) (uids : List UidRow) (sizes : List ScanRow) (result : Result (List Item) Fault) → Listed old new uids sizes
     → IfOk result (Joins count uids sizes) → IfErr result (λ fault. ((fault ≡ ListingsDisagree) × (Agree count uids sizes → ⊥)) ⊎ (fault ≡ NoMemory)) → GetsListing count old result new
 lists_joined count old new uids sizes (Ok items) all ok err = (uids, sizes, all, ok)

@@ -7,7 +7,7 @@ use Rattle.pop3_wire.specs.Reading.{WholeReply, reply_bytes, body_bytes}
 use Rattle.pop3_wire.specs.declared.command.Command.TheVariants.{User, Pass, Stat, UidlAll, UidlOne, ListAll, ListOne, Retr, Dele, Rset, Noop, Top, Quit}
 use Rattle.pop3_client.specs.Turns.{Turn, IsShort, IsBody, IsGood, line_limit, row_limit, most}
 
--- each turn may take a line
+-- each turn's reply may have a line
 pub most_least : (turn : Turn) → line_limit ≤ most turn
 most_least None = omega arith
 most_least (Some (User name)) = omega arith
@@ -24,7 +24,7 @@ most_least (Some Noop) = omega arith
 most_least (Some (Top number lines)) = omega arith
 most_least (Some Quit) = omega arith
 
--- so many lines are no more than so many octets
+-- how many octets so many lines have at most
 pub lines_within : (lines : List (List ℕ)) → AllByRecursion IsShort lines → length (flat_map ended lines) ≤ line_limit * length lines
 lines_within [] short = omega arith
 lines_within (line ∷ lines) short =
@@ -34,14 +34,14 @@ lines_within (line ∷ lines) short =
     let all : length (ended line ++ flat_map ended lines) ≡ length (ended line) + length (flat_map ended lines) = length-append (ended line) (flat_map ended lines) in
     omega arith
 
--- a listing, its end mark included
+-- the same for a listing, its end mark included
 pub listing_within : (lines : List (List ℕ)) → AllByRecursion IsShort lines → length lines ≤ row_limit → length (body_of lines) ≤ line_limit * (row_limit + 1)
 listing_within lines short few =
     let rows : length (flat_map ended lines) ≤ line_limit * length lines = lines_within lines short in
     let all : length (body_of lines) ≡ length (flat_map ended lines) + 3 = length-append (flat_map ended lines) (ended dot) in
     omega arith
 
--- the body of a turn's reply
+-- the same for the body of a turn's reply
 pub body_within : (turn : Turn) (lines : List (List ℕ)) → IsBody turn (Some lines) → line_limit + length (body_of lines) ≤ most turn
 body_within None lines body = absurd body.1
 body_within (Some (User name)) lines body = absurd body.1
@@ -62,7 +62,7 @@ body_within (Some Noop) lines body = absurd body.1
 body_within (Some (Top number amount)) lines body = absurd body.1
 body_within (Some Quit) lines body = absurd body.1
 
--- a good reply
+-- the same for a good reply
 pub reply_within : (turn : Turn) (reply : WholeReply) → IsGood turn reply → length (reply_bytes reply) ≤ most turn
 reply_within turn reply good = by reply.body good.body
   where

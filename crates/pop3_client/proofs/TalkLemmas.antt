@@ -1,4 +1,4 @@
--- How the parts of a turn make a turn, and turns a conversation.
+-- How the parts of a turn make a turn, and turns make a conversation.
 use Rattle.std.proofs.Common.{◌≡◌, inl, inr, ◌<◌, ◌≤◌, ◌+◌, ℕ, false, List, [], ◌∷◌, ◌++◌, length, take, drop, min, get_or, lit<, None, Some, Result, Ok, Err, refl, sym, ap, subst, ◌∙◌, arith, append_assoc, length-append, codes}
 use Rattle.std.proofs.lemmas.Bool.{false≢true}
 use Rattle.std.proofs.lemmas.List.{append-nil, take_all, length-take}
@@ -39,7 +39,7 @@ no_line_no_reply TooMany turn old new bytes why = absurd why
 no_line_no_reply TextTooLong turn old new bytes why = absurd why
 no_line_no_reply NoMemory turn old new bytes why = absurd why
 
--- a cause is told of the failures before it alone
+-- a cause depends on the old link only by its failure count
 pub cause_since : (fault : Fault) (turn : Turn) (old said new : Link) (bytes : List ℕ) → said.failures ≡ old.failures → Cause fault turn said new bytes → Cause fault turn old new bytes
 cause_since ConnectionEnded turn old said new bytes same why = why
 cause_since ReadFailed turn old said new bytes same why = (subst (λ (n : ℕ). n < new.failures) same why.0, why.1)
@@ -53,7 +53,7 @@ cause_since TooMany turn old said new bytes same why = why
 cause_since TextTooLong turn old said new bytes same why = why
 cause_since NoMemory turn old said new bytes same why = why
 
--- a line that waits is an ended line in front
+-- what waits begins with the line and its CR LF
 pub line_waits : (limit n : ℕ) (bytes : List ℕ) → HasLine limit bytes n → bytes ≡ ended (take n bytes) ++ drop (n + 2) bytes
 line_waits limit n bytes has = has.whole ∙ sym (append_assoc (take n bytes) crlf (drop (n + 2) bytes))
 
@@ -86,7 +86,7 @@ opened turn old said mid gained n rest is gains has steady positive fits =
       };
     }
 
--- what is used before a fault that is no refusal
+-- nothing is stated of what is used before a fault that is no refusal
 pub takes_other : (fault : Fault) (used : List ℕ) → ((to : Asked) → fault ≡ Refused to → ⊥) → TakesRefusal fault used
 takes_other ConnectionEnded used other = tt
 takes_other ReadFailed used other = tt
@@ -321,7 +321,7 @@ talked_body turn line old mid new lines gained begun drew steady heard is = reco
     heard_behind line old mid gained first e =
         sym (append_assoc old.waiting first gained) ∙ ap (λ (s : List ℕ). s ++ gained) e ∙ append_assoc (ended line) mid.waiting gained
 
--- a turn whose first line is good broke behind it
+-- a turn broke after its good first line
 pub not_answered_behind : (turn : Turn) (line : List ℕ) (old mid new : Place) (gained used : List ℕ) (fault : Fault) → Opened turn line old mid
     → Drew mid.link new.link gained → Cause fault turn mid.link new.link (ended line ++ (mid.waiting ++ gained))
     → mid.waiting ++ gained ≡ used ++ new.waiting → line_limit + length used ≤ most turn → ((to : Asked) → fault ≡ Refused to → ⊥) → NotAnswered turn old new fault
@@ -361,15 +361,15 @@ stopped_next turn turns reply a b new fault first then = record {
   broke = then.broke;
 }
 
--- but for STAT's, nothing is asked of the rest of a first line
+-- the rest of a first line has to give something only for STAT
 pub fits_other : (turn : Turn) (rest : List ℕ) → tells_count turn ≡ false → Fits turn rest
 fits_other turn rest other is = absurd (false≢true (sym other ∙ is))
 
--- a turn begins its reply
+-- a turn whose first line was taken has a reply that begins well
 pub begins_of : (turn : Turn) (line : List ℕ) (old mid : Place) (after : List ℕ) → Opened turn line old mid → BeginsPositive (ended line ++ after) after
 begins_of turn line old mid after begun = record { line = line; rest = begun.rest; is = begun.is; short = begun.short; whole = refl; positive = begun.positive }
 
--- a turn with a reply of one line was talked, or it broke
+-- a turn with a reply of one line was completed, or it broke
 pub asks_tells : (turn : Turn) (old new : Place) (result : Result (Unit {0}) Fault) → gives_body turn ≡ false → AsksTurn turn old result new → Tells turn old result new
 asks_tells turn old new (Ok done) none asks = (record { first = asks.0; body = None }, talked_line turn asks.0 old new asks.1 none)
 asks_tells turn old new (Err fault) none asks = asks
@@ -379,7 +379,7 @@ pub tells_talks : (turn : Turn) (old new : Place) (result : Result (Unit {0}) Fa
 tells_talks turn old new (Ok done) tells = (tells.0 ∷ [], tells.1)
 tells_talks turn old new (Err fault) tells = stopped_first turn [] old new fault tells
 
--- a turn in front of a conversation
+-- a turn before a conversation
 pub tells_then : (turn : Turn) (turns : List Turn) (old mid new : Place) (reply : WholeReply) (result : Result (Unit {0}) Fault)
     → Talked (turn ∷ []) (reply ∷ []) old mid → Talks turns mid result new → Talks (turn ∷ turns) old result new
 tells_then turn turns old mid new reply (Ok done) first then = (reply ∷ then.0, talked_on (turn ∷ []) turns (reply ∷ []) then.0 old mid new first then.1)

@@ -1,4 +1,4 @@
--- A text under way, told of its reply.
+-- A text that is being taken, and its reply.
 use Rattle.std.proofs.Common.{◌≡◌, inr, ◌<◌, ◌≤◌, ◌+◌, ℕ, List, ◌++◌, length, Some, Ok, refl, sym, ap, subst, ◌∙◌, arith}
 use Rattle.std.proofs.lemmas.List.{append_cancel_left}
 use Rattle.pop3_wire.specs.Line.{ended}
@@ -34,7 +34,7 @@ fetched number old new body text now done =
 pub dropped : (number : ℕ) (old new : Place) (body : Rest) (text : List ℕ) → Fetching (retr number) old new body text → body.spot ≡ Done → TakesRest (retr number) old (Ok tt) new
 dropped number old new body text now done = let whole = fetched number old new body text now done in (whole.0, whole.1)
 
--- a text under way broke
+-- the turn broke while its text was being taken
 module _ (number : ℕ) (start mid new : Place) (line : List ℕ) (begun : Opened (retr number) line start mid) (leaves : LeavesRest text_limit mid new) (gained : List ℕ)
     (drew : Drew mid.link new.link gained) where
   there : (fault : Fault) → Cause fault (retr number) mid.link new.link (ended line ++ (mid.waiting ++ gained)) → ((to : Asked) → fault ≡ Refused to → ⊥) → NotAnswered (retr number) start new fault

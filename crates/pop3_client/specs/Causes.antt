@@ -1,4 +1,4 @@
--- Why a reply isn't whole and good: what the octets that came of it show.
+-- Why a reply isn't whole and good, by the octets of it that have come.
 use Rattle.std.specs.Prelude.{◌≡◌, ◌⊎◌, ◌<◌, ◌≤◌, ℕ, true, List, ◌++◌, length, take, Some, Ok, IsOk}
 use Rattle.std.specs.List.{flat_map, AllByRecursion}
 use Rattle.pop3_wire.specs.Line.{IsLine, ended}
@@ -15,7 +15,7 @@ use Rattle.pop3_client.specs.declared.fault.Fault.TheVariants.{BadReply, Refused
 use Rattle.pop3_client.specs.declared.fault.Fault.TheVariants.{TooMany, TextTooLong, NoMemory}
 use Rattle.pop3_client.specs.Turns.{Turn, Names, tells_count, retr, line_limit, text_limit, row_limit, IsShort, IsListing, IsRow}
 
--- the octets begin with a positive first line, and this follows it
+-- the octets begin with a positive first line, and these follow it
 pub record BeginsPositive (bytes after : List ℕ) : Type 0 where
   pub line : List ℕ
   pub rest : List ℕ
@@ -24,7 +24,7 @@ pub record BeginsPositive (bytes after : List ℕ) : Type 0 where
   pub whole : bytes ≡ ended line ++ after
   pub positive : IsFirstLine line Positive rest
 
--- the octets begin with these rows of a listing, no more than can be, and this follows them
+-- the octets begin with these rows of a listing, no more than the limit, and these octets follow them
 pub record HasRows (turn : Turn) (bytes after : List ℕ) (lines : List (List ℕ)) : Type 0 where
   pub listing : IsListing turn
   pub content : AllByRecursion IsContent lines
@@ -33,7 +33,7 @@ pub record HasRows (turn : Turn) (bytes after : List ℕ) (lines : List (List �
   pub few : length lines ≤ row_limit
   pub whole : bytes ≡ flat_map ended lines ++ after
 
--- a line is under way, and may still end within the limit
+-- a line isn't whole yet, and may still end within the limit
 abbrev pub IsPartOfLine : List ℕ → Type 0
 IsPartOfLine bytes = IsLine bytes × (length bytes < line_limit)
 
@@ -41,22 +41,22 @@ IsPartOfLine bytes = IsLine bytes × (length bytes < line_limit)
 abbrev pub IsPartOfListing : Turn → List ℕ → Type 0
 IsPartOfListing turn bytes = (behind : List ℕ) × (lines : List (List ℕ)) × HasRows turn bytes behind lines × IsPartOfLine behind
 
--- a body is under way: all of it that has come is good, and it may still end within the limit
+-- a body isn't whole yet: all of it that has come is good, and it may still end within the limit
 abbrev pub IsPartOfBody : Turn → List ℕ → Type 0
 IsPartOfBody (Some UidlAll) bytes = IsPartOfListing (Some UidlAll) bytes
 IsPartOfBody (Some ListAll) bytes = IsPartOfListing (Some ListAll) bytes
 IsPartOfBody (Some (Retr number)) bytes = HasNoBody bytes × (length bytes < text_limit)
 IsPartOfBody _ bytes = ⊥
 
--- a reply is under way: its first line, or the body behind a positive one
+-- a reply isn't whole yet: its first line isn't, or the body after a positive one
 abbrev pub NotWhole : Turn → List ℕ → Type 0
 NotWhole turn bytes = IsPartOfLine bytes ⊎ ((after : List ℕ) × BeginsPositive bytes after × IsPartOfBody turn after)
 
--- where a line should stand, as many octets as its limit hold none
+-- no line ends within the limit, and at least so many octets are there
 abbrev pub IsOverlong : List ℕ → Type 0
 IsOverlong bytes = HasNoLine line_limit bytes × (line_limit ≤ length bytes)
 
--- a line that stands behind good rows of a listing, so many of them
+-- a line after so many good rows of a listing
 pub record NextLine (turn : Turn) (bytes row : List ℕ) (rows : ℕ) : Type 0 where
   pub after : List ℕ
   pub behind : List ℕ
@@ -67,14 +67,14 @@ pub record NextLine (turn : Turn) (bytes row : List ℕ) (rows : ℕ) : Type 0 w
   pub content : IsContent row
   pub short : IsShort row
 
--- the first line, where it stands whole
+-- the first line, if it is whole
 pub record FirstLine (bytes line : List ℕ) : Type 0 where
   pub after : List ℕ
   pub is : IsLine line
   pub short : IsShort line
   pub whole : bytes ≡ ended line ++ after
 
--- why a reply isn't good, where these octets have come of it
+-- why a reply isn't good, given the octets of it that have come
 abbrev pub Cause : Fault → Turn → Link → Link → List ℕ → Type 0
 Cause ConnectionEnded turn old new bytes = (new.ended ≡ true) × NotWhole turn bytes
 Cause ReadFailed turn old new bytes = (old.failures < new.failures) × NotWhole turn bytes

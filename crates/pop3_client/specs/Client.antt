@@ -19,12 +19,12 @@ link_of link client = link.seen client.wire.now
 abbrev pub HasSameLink : {W : Type 0} → Client W → Client W → Type 0
 HasSameLink old new = new.wire.ghost_name ≡ old.wire.ghost_name
 
--- the failure count of its link rises exactly where a call was refused, as far as it goes
+-- the failure count of its link rises by one, up to its greatest value, if a call was refused, and stays otherwise
 abbrev pub CountsRefusals : {W T : Type 0} → Ghosts W → Client W → Result T Fault → Client W → Type 0
 CountsRefusals link old result new = CountsRefusal is_refusal (link.seen old.wire.now) result (link.seen new.wire.now)
 
--- what is known of a call where the link is sound after it: it was sound before, this one leads on from that one, and the
--- call did this between the two places
+-- what is known of a call if the link is sound after it: it was sound before, the old link leads to the new
+-- one, and the call did this between the two places
 abbrev pub WhereLinkSound : {W : Type 0} → Ghosts W → Client W → Client W → (Place → Place → Type 0) → Type 0
 WhereLinkSound link old new did =
     WhereSound link.sound link.leads_to old.wire.now new.wire.now (did (place_of link old) (place_of link new))

@@ -1,4 +1,5 @@
--- A conversation: turns and the replies to them, whole and in order, or the place where it stopped (RFC 1939, section 3).
+-- A conversation: turns and the replies to them, whole and in order, or the turn at which it stopped (RFC
+-- 1939, section 3).
 use Rattle.std.specs.Prelude.{◌≡◌, ◌⊎◌, ◌+◌, ◌<◌, ◌≤◌, ℕ, Bool, true, false, List, [], ◌∷◌, ◌++◌, length, take, None}
 use Rattle.std.specs.Prelude.{Some, Result, Ok, Err, IsOk}
 use Rattle.std.specs.List.{flat_map, AllZip}
@@ -18,8 +19,8 @@ use Rattle.pop3_client.specs.Turns.{Turn, turn_bytes, asking, greeting, user, pa
 use Rattle.pop3_client.specs.Turns.{row_limit, IsShort, most, Fits, IsGood}
 use Rattle.pop3_client.specs.Causes.{IsPartOfLine, IsOverlong, Cause}
 
--- these were sent, and in order each was answered by its reply, whole and good; that none is sent before the reply to
--- the one before it shows where turns stop (`Stopped`)
+-- these turns were sent, and each was answered by its reply, whole and good, in order; that no turn is sent
+-- before the reply to the one before it is stated by `Stopped`
 pub record Talked (turns : List Turn) (replies : List WholeReply) (old new : Place) : Type 0 where
   pub gained : List ℕ
   pub sent : new.link.sent ≡ old.link.sent ++ asking turns
@@ -28,7 +29,7 @@ pub record Talked (turns : List Turn) (replies : List WholeReply) (old new : Pla
   pub good : AllZip IsGood turns replies
   pub steady : GoesOn old.link new.link
 
--- the turn was sent, and its first line, positive and of use, was taken
+-- the turn was sent, and its first line was taken, which is positive and fits the turn
 pub record Opened (turn : Turn) (line : List ℕ) (old new : Place) : Type 0 where
   pub gained : List ℕ
   pub rest : List ℕ
@@ -41,7 +42,7 @@ pub record Opened (turn : Turn) (line : List ℕ) (old new : Place) : Type 0 whe
   pub fits : Fits turn rest
   pub steady : GoesOn old.link new.link
 
--- whether memory may be wanting before the turn: not for what is sent as a constant, nor for USER and PASS, which are
+-- whether memory may run out before the turn: not for a constant line, nor for USER and PASS, whose lines are
 -- made before the greeting
 abbrev pub may_want : Turn → Bool
 may_want None = true
@@ -49,7 +50,7 @@ may_want (Some (Retr number)) = true
 may_want (Some (Dele number)) = true
 may_want _ = false
 
--- a negative reply is taken whole; of what was used before any other fault nothing more is said
+-- a negative reply is used whole; nothing is stated of what was used before any other fault
 abbrev pub TakesRefusal : Fault → List ℕ → Type 0
 TakesRefusal (Refused to) used = (line : List ℕ) × IsLine line × (used ≡ ended line)
 TakesRefusal _ used = Unit {0}
@@ -64,7 +65,8 @@ pub record SentInPart (turn : Turn) (old new : Place) : Type 0 where
   pub waiting : new.waiting ≡ old.waiting
   pub risen : old.link.failures < new.link.failures
 
--- the turn was sent whole, and its reply isn't whole or isn't good; so much of it was used, and the rest waits
+-- the turn was sent whole, and its reply isn't whole or isn't good; these octets of it were used, and the
+-- rest waits
 pub record NotAnswered (turn : Turn) (old new : Place) (fault : Fault) : Type 0 where
   pub gained : List ℕ
   pub used : List ℕ
@@ -75,14 +77,15 @@ pub record NotAnswered (turn : Turn) (old new : Place) (fault : Fault) : Type 0 
   pub cause : Cause fault turn old.link new.link (old.waiting ++ gained)
   pub takes : TakesRefusal fault used
 
--- a turn broke: not all of it was sent, it wasn't answered well, or memory was wanting before it, and nothing changed
+-- a turn broke: not all of it was sent; or it wasn't answered well; or memory ran out before it, and nothing
+-- changed
 abbrev pub Broke : Turn → Place → Place → Fault → Type 0
 Broke turn old new fault =
     ((fault ≡ WriteFailed) × SentInPart turn old new)
     ⊎ NotAnswered turn old new fault
     ⊎ ((fault ≡ NoMemory) × (may_want turn ≡ true) × (new ≡ old))
 
--- some of the turns were talked, and the next one broke
+-- some of the turns were completed, and the next one broke
 pub record Stopped (turns : List Turn) (old new : Place) (fault : Fault) : Type 0 where
   pub done : List Turn
   pub replies : List WholeReply
@@ -93,7 +96,7 @@ pub record Stopped (turns : List Turn) (old new : Place) (fault : Fault) : Type 
   pub talked : Talked done replies old mid
   pub broke : Broke next mid new fault
 
--- these turns were talked, or the conversation stopped at one of them
+-- these turns were completed, or the conversation stopped at one of them
 abbrev pub Talks : List Turn → Place → Result (Unit {0}) Fault → Place → Type 0
 Talks turns old (Ok done) new = (replies : List WholeReply) × Talked turns replies old new
 Talks turns old (Err fault) new = Stopped turns old new fault
@@ -103,12 +106,12 @@ abbrev pub AsksTurn : Turn → Place → Result (Unit {0}) Fault → Place → T
 AsksTurn turn old (Ok done) new = (line : List ℕ) × Opened turn line old new
 AsksTurn turn old (Err fault) new = Broke turn old new fault
 
--- a turn was talked, or it broke
+-- a turn was completed, or it broke
 abbrev pub Tells : Turn → Place → Result (Unit {0}) Fault → Place → Type 0
 Tells turn old (Ok done) new = (reply : WholeReply) × Talked (turn ∷ []) (reply ∷ []) old new
 Tells turn old (Err fault) new = Broke turn old new fault
 
--- STAT was talked, and its reply tells this count; or it broke
+-- STAT was completed, and its reply gives this count; or it broke
 abbrev pub CountsMessages : Place → Result ℕ Fault → Place → Type 0
 CountsMessages old (Ok count) new = (reply : WholeReply) × Talked (stat ∷ []) (reply ∷ []) old new × TellsCount reply count
 CountsMessages old (Err fault) new = Broke stat old new fault
@@ -117,28 +120,28 @@ CountsMessages old (Err fault) new = Broke stat old new fault
 abbrev pub login : List ℕ → List ℕ → List Turn
 login name password = greeting ∷ user name ∷ pass password ∷ []
 
--- the turns that are talked after a fault: QUIT after a refused command that isn't QUIT, nothing otherwise
+-- the turns after a fault: QUIT after a refused command other than QUIT, else none
 abbrev pub tail_of : Fault → List Turn
 tail_of (Refused ByQuit) = []
 tail_of (Refused asked) = quit ∷ []
 tail_of _ = []
 
--- the turns that undo what was marked, and end
+-- the turns that unmark all messages and end the session
 abbrev pub undoing : List Turn
 undoing = rset ∷ quit ∷ []
 
--- the most octets that are taken for the replies to these turns
+-- how many octets are taken at most for the replies to these turns
 abbrev pub most_of : List Turn → ℕ
 most_of [] = 0
 most_of (turn ∷ turns) = most turn + most_of turns
 
--- a front of the next of these turns' octets
+-- a prefix of the octets of the next of these turns
 abbrev pub IsFrontOfNext : List ℕ → List Turn → Type 0
 IsFrontOfNext part [] = part ≡ []
 IsFrontOfNext part (next ∷ later) = (more : List ℕ) × (turn_bytes next ≡ part ++ more)
 
--- what was sent is the octets of the first of these turns, to each of which its whole and good reply stands in what
--- came, and a front of the next one's; and no more was taken than the most of all of them
+-- what was sent is the octets of the first of these turns, each of which has its whole and good reply in what
+-- came, and a front of the next one's octets; no more was taken than all of the turns may take
 pub record Paced (turns : List Turn) (old new : Place) : Type 0 where
   pub done : List Turn
   pub rest : List Turn
@@ -162,7 +165,7 @@ ConversationsArePaced = (turns : List Turn) (old new : Place) (result : Result (
 
 -- ---- the parts of a turn
 
--- why no line waits, where these octets wait
+-- why no line waits, given the octets that wait
 abbrev pub NoLineCause : Fault → Link → Link → List ℕ → Type 0
 NoLineCause ConnectionEnded old new bytes = (new.ended ≡ true) × IsPartOfLine bytes
 NoLineCause ReadFailed old new bytes = (old.failures < new.failures) × IsPartOfLine bytes
@@ -174,7 +177,7 @@ abbrev pub Waits : Place → Result ℕ Fault → Place → Type 0
 Waits old (Ok n) new = HasLine line_limit new.waiting n × GoesOn old.link new.link
 Waits old (Err fault) new = NoLineCause fault old.link new.link new.waiting
 
--- a reply isn't good from its first line on: nothing was sent, and so much was used
+-- no positive first line came: nothing was sent, and these octets were used
 pub record NotHeard (turn : Turn) (old new : Place) (fault : Fault) : Type 0 where
   pub gained : List ℕ
   pub used : List ℕ
@@ -197,7 +200,7 @@ Sent bytes old (Ok done) new = new ≡ record old { sent = old.sent ++ bytes }
 Sent bytes old (Err fault) new = (fault ≡ WriteFailed)
     × ((front rest : List ℕ) × (bytes ≡ front ++ rest) × (new ≡ record old { sent = old.sent ++ front; failures = old.failures + 1 }))
 
--- a positive first line tells a count of at most 100,000 messages, or why it doesn't
+-- a positive first line gives a count of at most 100,000 messages, or why it doesn't
 abbrev pub TellsFew : List ℕ → Result ℕ Fault → Type 0
 TellsFew line (Ok count) = (rest : List ℕ) × (size : ℕ) × IsFirstLine line Positive rest
     × (number_and_size rest ≡ Ok (count, size)) × (count ≤ row_limit)

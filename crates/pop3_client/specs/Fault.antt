@@ -5,7 +5,7 @@ use Rattle.pop3_client.specs.declared.fault.Fault.TheVariants.{ConnectionEnded, 
 use Rattle.pop3_client.specs.declared.fault.Fault.TheVariants.{BadReply, Refused, BadListing, ListingsDisagree}
 use Rattle.pop3_client.specs.declared.fault.Fault.TheVariants.{TooMany, TextTooLong, NoMemory}
 
--- the number under which a fault is told
+-- the number that is shown for a fault
 abbrev pub number_of : Fault → ℕ
 number_of ConnectionEnded = 1
 number_of ReadFailed = 2

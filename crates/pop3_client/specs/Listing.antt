@@ -26,7 +26,7 @@ pub record Listed (old new : Place) (uids : List UidRow) (sizes : List ScanRow) 
   pub octets : HasListing IsScanLine second sizes
 
 -- both listings were taken, and these are the messages, joined; or the conversation stopped; or the listings don't
--- join with the count; or memory was wanting to join them, before anything else was sent
+-- agree with the count and with each other; or memory ran out while they were joined, and nothing else was sent
 abbrev pub GetsListing : ℕ → Place → Result (List Item) Fault → Place → Type 0
 GetsListing count old (Ok items) new = (uids : List UidRow) × (sizes : List ScanRow) × Listed old new uids sizes
     × Joins count uids sizes items
@@ -37,7 +37,7 @@ GetsListing count old (Err fault) new = Stopped (uidl ∷ list ∷ []) old new f
 
 -- ---- the parts of a listing
 
--- why no row and no end mark waits, where so many rows were taken before
+-- why neither a row nor the end mark waits, after so many rows were taken
 abbrev pub RowCause : Fault → ℕ → Link → Link → List ℕ → Type 0
 RowCause ConnectionEnded rows old new bytes = NoLineCause ConnectionEnded old new bytes
 RowCause ReadFailed rows old new bytes = NoLineCause ReadFailed old new bytes
@@ -54,7 +54,7 @@ NextRow rows old (Ok (Some n)) new = (gained : List ℕ) × Gains old new gained
     × HasLine line_limit new.waiting n × (take n new.waiting ≢ dot)
 NextRow rows old (Err fault) new = (gained : List ℕ) × Gains old new gained × RowCause fault rows old.link new.link new.waiting
 
--- a row behind so many others
+-- a row after so many others
 pub record RowBehind (turn : Turn) (after row : List ℕ) (rows : ℕ) : Type 0 where
   pub behind : List ℕ
   pub lines : List (List ℕ)
@@ -63,7 +63,7 @@ pub record RowBehind (turn : Turn) (after row : List ℕ) (rows : ℕ) : Type 0 
   pub content : IsContent row
   pub short : IsShort row
 
--- why a listing isn't good, where these octets follow its first line
+-- why a listing isn't good, given the octets after its first line
 abbrev pub RowsCause : Fault → Turn → Link → Link → List ℕ → Type 0
 RowsCause ConnectionEnded turn old new after = (new.ended ≡ true) × IsPartOfListing turn after
 RowsCause ReadFailed turn old new after = (old.failures < new.failures) × IsPartOfListing turn after
@@ -84,7 +84,7 @@ pub record TookLines (turn : Turn) (old new : Place) (lines : List (List ℕ)) :
   pub fit : LinesFit turn lines
   pub heard : old.waiting ++ gained ≡ body_of lines ++ new.waiting
 
--- why the rows behind a first line weren't taken; so much of them was used
+-- why the rows after a first line weren't taken; these of them were used
 pub record NotTaken (turn : Turn) (old new : Place) (fault : Fault) : Type 0 where
   pub gained : List ℕ
   pub used : List (List ℕ)
@@ -92,7 +92,7 @@ pub record NotTaken (turn : Turn) (old new : Place) (fault : Fault) : Type 0 whe
   pub cause : RowsCause fault turn old.link new.link (old.waiting ++ gained)
   pub has : HasRows turn (old.waiting ++ gained) new.waiting used
 
--- the rows behind a first line were taken, or why not
+-- the rows after a first line were taken, or why not
 abbrev pub TakesRows : {R : Type 0} → Turn → (List ℕ → R → Type 0) → Place → Result (List R) Fault → Place → Type 0
 TakesRows turn IsThisRow old (Ok rows) new = (lines : List (List ℕ)) × TookLines turn old new lines × AllZip IsThisRow lines rows
 TakesRows turn IsThisRow old (Err fault) new = NotTaken turn old new fault

@@ -18,19 +18,20 @@ body_text (Some lines) = text_of lines
 abbrev pub Fetched : Turn → Place → List ℕ → Place → Type 0
 Fetched turn old text new = (reply : WholeReply) × Talked (turn ∷ []) (reply ∷ []) old new × (text ≡ body_text reply.body)
 
--- a text is under way, or at its end: the first line of the reply was taken, and so much of its body, which gives this much of the text
+-- a text is being taken, or has ended: the first line of the reply was taken, and this part of its body,
+-- which gives this part of the text
 pub record Fetching (turn : Turn) (old new : Place) (body : Rest) (text : List ℕ) : Type 0 where
   pub line : List ℕ
   pub mid : Place
   pub opened : Opened turn line old mid
   pub under : UnderWay text_limit mid new body text
 
--- a text was asked for, and is under way; or its turn broke
+-- a text was asked for, and can be taken; or its turn broke
 abbrev pub Opens : Turn → Place → Result Rest Fault → Place → Type 0
 Opens turn old (Ok body) new = Fetching turn old new body []
 Opens turn old (Err fault) new = Broke turn old new fault
 
--- a text that is under way goes on, and is whole where it ended; or its turn broke
+-- the next piece of a text, which is whole after the last one; or its turn broke
 abbrev pub FetchesPiece : Turn → Place → List ℕ → Result Piece Fault → List ℕ → Place → Rest → Type 0
 FetchesPiece turn start text (Ok piece) out new body = Fetching turn start new body (text ++ take piece.put out)
     × (IsTrue piece.ended → Fetched turn start (text ++ take piece.put out) new)

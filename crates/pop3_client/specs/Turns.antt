@@ -16,7 +16,7 @@ use Rattle.pop3_client.specs.declared.fault.Asked.TheVariants.{Stat as ByStat, U
 use Rattle.pop3_client.specs.declared.fault.Asked.TheVariants.{Dele as ByDele, Quit as ByQuit}
 use Rattle.pop3_client.specs.declared.fault.Asked.TheVariants.{List as ByList}
 
--- a turn: the command that is sent, none for the greeting
+-- a turn: the command that is sent, or none for the greeting
 abbrev pub Turn : Type 0
 Turn = Option Command
 
@@ -59,7 +59,7 @@ rset = Some Rset
 abbrev pub quit : Turn
 quit = Some Quit
 
--- the turn whose refusal is told under this name; a refused RSET is told by nobody, and goes with QUIT
+-- the turn whose refusal has this name; a refused RSET, which is never shown, has QUIT's
 abbrev pub Names : Asked → Turn → Type 0
 Names ByGreeting turn = turn ≡ greeting
 Names ByUser turn = (name : List ℕ) × (turn ≡ user name)
@@ -80,15 +80,15 @@ line_limit = 2048
 abbrev pub text_limit : ℕ
 text_limit = 268435456
 
--- the most rows of a listing
+-- how many rows a listing may have
 abbrev pub row_limit : ℕ
 row_limit = 100000
 
--- with its CR LF a line stays within the limit
+-- a line that is within the limit, its CR LF included
 abbrev pub IsShort : List ℕ → Type 0
 IsShort line = length line + 2 ≤ line_limit
 
--- the most octets that are taken for a turn's reply: a listing's rows and its end mark are lines
+-- how many octets are taken at most for a turn's reply; a listing's rows and its end mark are lines
 abbrev pub most : Turn → ℕ
 most (Some UidlAll) = line_limit + line_limit * (row_limit + 1)
 most (Some ListAll) = line_limit + line_limit * (row_limit + 1)
@@ -97,12 +97,12 @@ most _ = line_limit
 
 -- ---- replies that let the session go on
 
--- whether the rest of a positive first line tells how many messages there are
+-- whether the rest of a positive first line has to give the number of messages
 abbrev pub tells_count : Turn → Bool
 tells_count (Some Stat) = true
 tells_count _ = false
 
--- what that rest has to be: it tells a count of at most 100,000 messages
+-- what that rest has to be: it gives a count of at most 100,000 messages
 abbrev pub Fits : Turn → List ℕ → Type 0
 Fits turn rest = tells_count turn ≡ true → (count size : ℕ) × (number_and_size rest ≡ Ok (count, size)) × (count ≤ row_limit)
 
@@ -123,7 +123,7 @@ LinesFit (Some ListAll) lines = (length lines ≤ row_limit) × AllByRecursion I
 LinesFit (Some (Retr number)) lines = length (body_of lines) ≤ text_limit
 LinesFit _ lines = ⊥
 
--- the body of a reply, where it has to have one
+-- the body of a reply, if it has to have one
 abbrev pub IsBody : Turn → Option (List (List ℕ)) → Type 0
 IsBody turn None = gives_body turn ≡ false
 IsBody turn (Some lines) = AllByRecursion IsContent lines × LinesFit turn lines

@@ -4,8 +4,8 @@ ghost use Rattle.pop3_wire.specs.Place.{most_waiting};
 
 use pop3_wire::{LineReader, Wire};
 
-/// A client of a link: it sends commands, and reads what the link answers. What the link gave and the
-/// client hasn't used yet waits in it.
+/// A client of a link: it sends commands, and reads what the link answers. What the link gave and
+/// the client hasn't used yet waits here.
 #[derive(Drop)]
 pub struct Client<'a, W> {
     pub(crate) wire: &'a mut W,
@@ -13,7 +13,7 @@ pub struct Client<'a, W> {
 }
 
 impl<'a, W: Wire> Client<'a, W> {
-    /// A client of this link, for which nothing waits.
+    /// A client of this link, with nothing waiting.
     pub fn new(wire: &'a mut W) -> Client<'a, W>
         ensures link { result.wire.ghost_name ≡ wire.entry.ghost_name }
         ensures place { (result.wire.now ≡ wire.old) × (result.reader ≡ []) }

@@ -1,4 +1,4 @@
-//! What a session asks, and why it is cut.
+//! What a session asks for, and why it is cut.
 ghost use Rattle.std.specs.Prelude.{◌≡◌};
 ghost use Rattle.pop3_client.specs.Fault.{number_of};
 
@@ -31,7 +31,7 @@ pub enum Asked {
 /// Why a session is cut. Each has a number, which `cut N` shows.
 #[derive(Clone, Copy, Debug, PartialEq, Eq, Error)]
 pub enum Fault {
-    /// 1: the link gave 0 octets, and the reply isn't whole.
+    /// 1: the link gave 0 octets before the reply was whole.
     #[error("connection ended by the server")]
     ConnectionEnded,
     /// 2: the link refused a `recv`.
@@ -43,7 +43,7 @@ pub enum Fault {
     /// 4: 2,048 octets hold no whole line.
     #[error("reply line too long")]
     ReplyTooLong,
-    /// 5: a first line is neither positive nor negative, or doesn't carry what STAT asks.
+    /// 5: a first line is neither positive nor negative, or STAT's doesn't give a count and a size.
     #[error("reply not understood")]
     BadReply,
     /// 6: the reply to this is negative.
@@ -52,7 +52,7 @@ pub enum Fault {
     /// 7: a row of a listing can't be read.
     #[error("listing not understood")]
     BadListing,
-    /// 8: both listings are whole, and don't fit the count and one another.
+    /// 8: both listings are whole, but don't agree with the count or with each other.
     #[error("listings disagree")]
     ListingsDisagree,
     /// 9: there are more than 100,000 messages.
@@ -61,7 +61,7 @@ pub enum Fault {
     /// 10: 268,435,456 octets hold no whole body.
     #[error("message too long")]
     TextTooLong,
-    /// 13: a growth was refused.
+    /// 13: out of memory.
     #[error("out of memory")]
     NoMemory,
 }
@@ -88,7 +88,7 @@ impl<T: Drop> From<AllocFailed<T>> for Fault {
     }
 }
 
-/// The number of a fault.
+/// The number of a fault, as `cut N` shows it.
 pub fn fault_number(fault: Fault) -> u8
     ensures { result ≡ number_of fault }
 {

@@ -17,7 +17,7 @@ use pop3_wire::{Wire, is_end_mark};
 use std::alloc::Global;
 use std::vec::Vec;
 
-/// The messages that both listings tell, which have to agree with the count and with one another.
+/// The messages of both listings, which have to agree with the count and with each other.
 fn joined(alloc: Global, count: u32, uids: &[UidRow], sizes: &[ScanRow]) -> Result<Listing, Fault>
     requires few { count ≤ row_limit }
     requires legal { All (λ row. IsLegalId row.uid.items) uids.now }
@@ -35,8 +35,9 @@ fn joined(alloc: Global, count: u32, uids: &[UidRow], sizes: &[ScanRow]) -> Resu
 }
 
 impl<'a, W: Wire> Client<'a, W> {
-    /// Waits for the next line of a listing of which `rows` rows were taken, and says how long it is; it
-    /// still waits then. None at the end mark, which is taken. A row past the 100,000th is TooMany.
+    /// Waits for the next line of a listing of which `rows` rows were taken, and returns its
+    /// length; the line isn't taken yet. None at the end mark, which is taken. TooMany for a row
+    /// after the 100,000th.
     fn next_row(&mut self, rows: usize) -> Result<Option<usize>, Fault>
         ensures link { HasSameLink self.old self.new }
         ensures counted { CountsRefusals W.Wire self.old result self.new }
@@ -58,7 +59,7 @@ impl<'a, W: Wire> Client<'a, W> {
         Ok(Some(length))
     }
 
-    /// Takes the rows of a listing, each judged when it is whole.
+    /// Takes the rows of a listing, and checks each when it is whole.
     fn rows<R: ListedRow>(&mut self, alloc: Global) -> Result<Vec<R>, Fault>
         ensures link { HasSameLink self.old self.new }
         ensures counted { CountsRefusals W.Wire self.old result self.new }
@@ -84,7 +85,7 @@ impl<'a, W: Wire> Client<'a, W> {
         }
     }
 
-    /// Asks for a listing.
+    /// Asks for a listing, and takes it.
     fn listing<R: ListedRow>(&mut self, alloc: Global) -> Result<Vec<R>, Fault>
         ensures link { HasSameLink self.old self.new }
         ensures counted { CountsRefusals W.Wire self.old result self.new }
@@ -98,8 +99,8 @@ impl<'a, W: Wire> Client<'a, W> {
         self.rows(alloc)
     }
 
-    /// Asks for the unique-ids and the sizes (UIDL, LIST) of so many messages. Each row is judged when it
-    /// is whole; both listings have to agree with the count and with one another.
+    /// Asks for the unique-ids and the sizes (UIDL, LIST) of `count` messages. Each row is
+    /// checked when it is whole; both listings have to agree with the count and with each other.
     pub fn list(&mut self, alloc: Global, count: u32) -> Result<Listing, Fault>
         requires { count ≤ row_limit }
         ensures link { HasSameLink self.old self.new }

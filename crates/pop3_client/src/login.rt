@@ -11,7 +11,6 @@ use pop3_wire::{Bytes, Command, Wire, command_bytes};
 use std::alloc::Global;
 use std::vec::Vec;
 
-/// The line of USER.
 fn user_line(alloc: Global, name: &[u8]) -> Result<Vec<u8>, Fault>
     requires { is_credential name.now ≡ true }
     ensures ok { IfOk result (λ line. line.items ≡ turn_bytes (user name.now)) }
@@ -26,7 +25,6 @@ fn user_line(alloc: Global, name: &[u8]) -> Result<Vec<u8>, Fault>
     }
 }
 
-/// The line of PASS.
 fn pass_line(alloc: Global, password: &[u8]) -> Result<Vec<u8>, Fault>
     requires { is_credential password.now ≡ true }
     ensures ok { IfOk result (λ line. line.items ≡ turn_bytes (pass password.now)) }
@@ -42,7 +40,7 @@ fn pass_line(alloc: Global, password: &[u8]) -> Result<Vec<u8>, Fault>
 }
 
 impl<'a, W: Wire> Client<'a, W> {
-    /// Takes the greeting and says the lines of USER and PASS.
+    /// Takes the greeting, sends the lines of USER and PASS, and takes their replies.
     fn log_in_by(&mut self, name_line: &[u8], password_line: &[u8]) -> Result<(), Fault>
         ensures link { HasSameLink self.old self.new }
         ensures counted { CountsRefusals W.Wire self.old result self.new }
@@ -59,7 +57,7 @@ impl<'a, W: Wire> Client<'a, W> {
         self.ask(Asked::Pass, password_line)
     }
 
-    /// Logs in. The lines are made before the greeting is taken.
+    /// Takes the greeting and logs in (USER, PASS). Both lines are made before the greeting is taken.
     pub fn log_in(&mut self, alloc: Global, name: &[u8], password: &[u8]) -> Result<(), Fault>
         requires name { is_credential name.now ≡ true }
         requires password { is_credential password.now ≡ true }

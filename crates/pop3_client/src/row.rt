@@ -1,4 +1,4 @@
-//! A row of a listing: UIDL's tells a unique-id, LIST's a size (RFC 1939, sections 5 and 7).
+//! A row of a listing: UIDL's gives a unique-id, LIST's a size (RFC 1939, sections 5 and 7).
 ghost use Rattle.std.specs.Prelude.{◌≡◌, ◌⊎◌, ℕ, List, IfOk, IfErr};
 ghost use Rattle.pop3_client.specs.Turns.{Turn, IsListing, IsRow, Names, turn_bytes};
 
@@ -19,7 +19,7 @@ pub(crate) trait ListedRow: Drop {
     // What every row that is read has to be.
     ghost is_fit: { Self → Type 0 };
 
-    /// What a refusal of the listing is told as.
+    /// The name of the listing in a fault, if it is refused.
     fn asked() -> Asked
         ensures { Names result turn };
 

@@ -8,7 +8,7 @@ use crate::client::Client;
 use crate::fault::{Asked, Fault};
 use pop3_wire::Wire;
 
-/// Whether QUIT is said after a fault: after each refused command but QUIT.
+/// Whether QUIT is sent after a fault: after each refused command but QUIT.
 fn says_quit(fault: Fault) -> bool
     ensures { tail_of fault ≡ (if result then quit_turn ∷ [] else []) }
 {
@@ -29,8 +29,9 @@ impl<'a, W: Wire> Client<'a, W> {
         self.ask(Asked::Quit, b"RSET\r\n")
     }
 
-    /// Leaves after a fault of the conversation: after a refused command QUIT is said, and its reply
-    /// read. After a refused QUIT and after any other fault the link is left alone. It takes no memory.
+    /// Leaves after a fault of the conversation. After a refused command it sends QUIT and reads
+    /// the reply; after a refused QUIT and after any other fault it leaves the link alone. It
+    /// allocates nothing.
     pub fn leave(&mut self, fault: Fault) -> Result<(), Fault>
         ensures link { HasSameLink self.old self.new }
         ensures counted { CountsRefusals W.Wire self.old result self.new }
@@ -42,8 +43,8 @@ impl<'a, W: Wire> Client<'a, W> {
         Ok(())
     }
 
-    /// Leaves after a fault that isn't the conversation's own: RSET is said, so that nothing that was
-    /// marked goes, and where it is answered positively QUIT. Their replies are read. It takes no memory.
+    /// Leaves after a fault that isn't the conversation's own: sends RSET, so that no marked message is
+    /// removed, and after a positive reply QUIT. It reads both replies, and allocates nothing.
     pub fn reset_and_quit(&mut self) -> Result<(), Fault>
         ensures link { HasSameLink self.old self.new }
         ensures counted { CountsRefusals W.Wire self.old result self.new }

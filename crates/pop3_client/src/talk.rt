@@ -16,8 +16,8 @@ use std::alloc::Global;
 /// The longest line of a reply in octets, its CR LF included.
 const LINE_LIMIT: usize = 2_048;
 
-/// The number of messages that a positive first line tells. BadReply where it tells none, TooMany
-/// where it is above 100,000.
+/// The number of messages that a positive first line gives. BadReply if it gives none, TooMany if
+/// it is above 100,000.
 fn count_of(line: &[u8]) -> Result<u32, Fault>
     requires { (rest : List ℕ) × IsFirstLine line.now Status.Positive rest }
     ensures { TellsFew line.now result }
@@ -37,7 +37,8 @@ fn count_of(line: &[u8]) -> Result<u32, Fault>
 }
 
 impl<'a, W: Wire> Client<'a, W> {
-    /// Takes from the link until a line of a reply waits, and says how long it is. It still waits then.
+    /// Takes from the link until a line of a reply waits, and returns its length; the line isn't
+    /// taken yet.
     pub(crate) fn next_line(&mut self) -> Result<usize, Fault>
         ensures link { HasSameLink self.old self.new }
         ensures counted { CountsRefusals W.Wire self.old result self.new }
@@ -66,8 +67,8 @@ impl<'a, W: Wire> Client<'a, W> {
         }
     }
 
-    /// Waits for a positive first line, and says how long it is. It still waits then. A negative one is
-    /// a whole reply, and is taken.
+    /// Waits for a positive first line, and returns its length; the line isn't taken yet. A
+    /// negative one is a whole reply, and is taken.
     fn hear(&mut self, asked: Asked) -> Result<usize, Fault>
         ensures link { HasSameLink self.old self.new }
         ensures counted { CountsRefusals W.Wire self.old result self.new }
@@ -104,8 +105,8 @@ impl<'a, W: Wire> Client<'a, W> {
         Ok(())
     }
 
-    /// Sends a command, and takes the first line of its reply. What a refusal is told as is `asked`. Only
-    /// STAT is asked in another way, since its first line has to tell a count.
+    /// Sends a command, and takes the first line of its reply. If the command is refused, the fault
+    /// names it as `asked`. STAT isn't sent this way, since its first line has to give a count.
     pub(crate) fn ask(&mut self, asked: Asked, bytes: &[u8]) -> Result<(), Fault>
         ensures link { HasSameLink self.old self.new }
         ensures counted { CountsRefusals W.Wire self.old result self.new }
@@ -147,8 +148,8 @@ impl<'a, W: Wire> Client<'a, W> {
         }
     }
 
-    /// Asks to mark a message as deleted (DELE). The line is made first, so that want of memory leaves
-    /// everything as it was.
+    /// Asks to mark a message as deleted (DELE). The line is made first, so that nothing has
+    /// changed if memory runs out.
     pub fn delete(&mut self, alloc: Global, number: u32) -> Result<(), Fault>
         ensures link { HasSameLink self.old self.new }
         ensures counted { CountsRefusals W.Wire self.old result self.new }
@@ -160,7 +161,7 @@ impl<'a, W: Wire> Client<'a, W> {
         self.ask(Asked::Dele(number), &line)
     }
 
-    /// Ends the session (QUIT). It takes no memory.
+    /// Ends the session (QUIT). It allocates nothing.
     pub fn quit(&mut self) -> Result<(), Fault>
         ensures link { HasSameLink self.old self.new }
         ensures counted { CountsRefusals W.Wire self.old result self.new }

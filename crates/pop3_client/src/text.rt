@@ -30,8 +30,8 @@ impl<'a, W: Wire> Client<'a, W> {
         Ok(BodyReader::new(TEXT_LIMIT))
     }
 
-    /// Asks for the text of a message (RETR), and takes the first line of the reply. The text is under
-    /// way then. The line is made first, so that want of memory leaves everything as it was.
+    /// Asks for the text of a message (RETR), and takes the first line of the reply; `next_piece`
+    /// takes the text. The line is made first, so that nothing has changed if memory runs out.
     pub fn open(&mut self, alloc: Global, number: u32) -> Result<BodyReader, Fault>
         ensures link { HasSameLink self.old self.new }
         ensures counted { CountsRefusals W.Wire self.old result self.new }
@@ -45,7 +45,8 @@ impl<'a, W: Wire> Client<'a, W> {
         self.open_by(number, &line)
     }
 
-    /// Takes one more piece of a text, and puts what it adds into the buffer. It takes no memory.
+    /// Takes one more piece of a text, and puts what it adds to the text into the buffer. It
+    /// allocates nothing.
     pub fn next_piece(
         &mut self,
         body: &mut BodyReader,
@@ -71,8 +72,8 @@ impl<'a, W: Wire> Client<'a, W> {
         }
     }
 
-    /// Takes what is left of a text, and drops it; of a text that was taken to its end nothing is left,
-    /// and the link stays as it is. It takes no memory.
+    /// Takes the rest of a text, and drops it. After a text's end nothing is left, and the link
+    /// stays as it is. It allocates nothing.
     pub fn drop_rest(&mut self, body: &mut BodyReader) -> Result<(), Fault>
         ensures link { HasSameLink self.old self.new }
         ensures counted { CountsRefusals W.Wire self.old result self.new }

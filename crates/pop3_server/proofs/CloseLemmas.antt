@@ -1,4 +1,4 @@
--- A server is closed by QUIT alone.
+-- Only QUIT closes a server.
 use Rattle.std.proofs.Common.{◌≡◌, inl, inr, ◌⊎◌, ℕ, Bool, true, false, cond, List, [], ◌∷◌, refl, ap, subst, ◌∙◌, Option, Some, None, Result, Ok}
 use Rattle.std.specs.Prelude.{◌&&◌, bytes_eq}
 use Rattle.std.specs.List.{AllByRecursion}

@@ -1,4 +1,4 @@
--- Lists in which no id stands twice, taken apart and put together.
+-- Lists without a repeated id, taken apart and put together.
 use Rattle.std.proofs.Common.{◌≢◌, ℕ, suc, ◌<◌, List, [], ◌∷◌, ◌++◌, length, sym, subst, arith}
 use Rattle.std.specs.List.{Contains}
 use Rattle.std.proofs.lemmas.List.Elements.{Contains-get_or}

@@ -8,25 +8,25 @@ use Rattle.pop3_server.specs.declared.state.State.TheVariants.{Authorization, Tr
 use Rattle.pop3_server.specs.Events.{event_of}
 use Rattle.pop3_server.specs.ServerMachine.{next_of}
 
--- where a state stays as it is, nothing did
+-- if a state stays as it is, nothing happened
 pub event_of_same : (state : State) (refused : ℕ) → event_of state state refused ≡ None
 event_of_same (Authorization None) refused = refl
 event_of_same (Authorization (Some name)) refused = refl
 event_of_same (Transaction rows) refused = refl
 event_of_same Closed refused = refl
 
--- rows that are changed are no event, and the rows before the session's end are those that were there before its last line
+-- a change of rows is no event, and the rows before the session's end are those from before its last line
 pub event_in_place : (old new : List MessageRow) (next : Option State) (refused : ℕ) → IfSome next (λ state. new ≡ old)
     → event_of (Transaction new) (next_of (Transaction new) next) refused ≡ event_of (Transaction old) (next_of (Transaction new) next) refused
 event_in_place old new None refused same = refl
 event_in_place old new (Some next) refused same = ap (λ (rows : List MessageRow). event_of (Transaction rows) next refused) same
 
--- what happened, where the state before and the count are known by other names
+-- the same if the state before and the count have other names
 pub event_is : (event : Option Event) (before after : State) (refused : ℕ) (first : State) (old new : ℕ) → event ≡ event_of before after refused
     → before ≡ first → refused ≡ new - old → event ≡ event_of first after (new - old)
 event_is event before after refused first old new made same count = made ∙ ap₂ (λ (s : State) (n : ℕ). event_of s after n) same count
 
--- what happened, where the rows were changed before the state was
+-- the same if the rows were changed before the state was
 pub event_after : (event : Option Event) (before after first : State) (old new : List MessageRow) (next : Option State) (refused : ℕ) → before ≡ Transaction new → first ≡ Transaction old
     → after ≡ next_of before next → IfSome next (λ state. new ≡ old) → event ≡ event_of before after refused → event ≡ event_of first after refused
 event_after event before after first old new next refused is was leads keeps made =

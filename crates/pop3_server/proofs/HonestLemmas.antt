@@ -25,7 +25,7 @@ use Rattle.pop3_server.specs.declared.rows.MessageRow.{MessageRow}
 use Rattle.pop3_server.specs.Maildrop.{entry_of, max_count, max_size}
 use Rattle.pop3_server.specs.ServerMachine.{said, is_left, left_count, left_size, left_total, unless_marked, row_at, mark_at, unmarked, row_of, scan_line, uid_line, lines_from, listed, IsSmall, KeepLimits}
 
--- what the laws of the wire say of what a server writes
+-- the laws of the wire on what a server writes
 pub record Written : Type 0 where
   pub first : FirstLinesAreRead
   pub numbers : NumbersAreRead
@@ -61,7 +61,7 @@ are_served ms rows messages limits is =
       few = omega arith;
     }
 
--- ---- the rows of messages under their marks
+-- ---- the rows of messages with their marks
 
 abbrev pub row_with : Message → Bool → MessageRow
 row_with message mark = record { entry = entry_of message; marked = mark }

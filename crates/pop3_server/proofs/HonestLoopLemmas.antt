@@ -1,4 +1,5 @@
--- What a link to a new server gives is honest: the lines that were answered are the first of the commands that were sent.
+-- What a link to a new server gives is honest: the lines that were answered are the first of the commands
+-- that were sent.
 use Rattle.std.proofs.Common.{◌≡◌, inl, inr, ℕ, Bool, List, [], ◌∷◌, ◌++◌, refl, sym, ap, subst, ◌∙◌, append_assoc}
 use Rattle.std.specs.Prelude.{codes}
 use Rattle.std.specs.List.{flat_map, AllByRecursion}
@@ -21,7 +22,7 @@ use Rattle.pop3_server.proofs.HonestLemmas.{Written, refused, granted}
 use Rattle.pop3_server.proofs.CloseLemmas.{closed_by_quit}
 use Rattle.pop3_server.proofs.HonestTurns.{Laws, answers_honestly, flat_lines, all_sendable, all_numbered}
 
--- lines in front of whole commands are the lines of the first of these
+-- the lines are those of the first of these commands, and the others wait
 pub record Cut (lines : List (List ℕ)) (commands : List Command) (waiting part : List ℕ) : Type 0 where
   pub first : List Command
   pub later : List Command

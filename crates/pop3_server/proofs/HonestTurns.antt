@@ -28,19 +28,19 @@ use Rattle.pop3_server.specs.HonestServer.{IsOfSession, IsAsked, lines_of, IsHon
 use Rattle.pop3_server.proofs.GoneLemmas.{there_some, none_gone, left_by_quit}
 use Rattle.pop3_server.proofs.HonestLemmas.{Written, AreServed, are_served, row_with, rows_with, fresh_rows, fresh_length, cleared_rows, cleared_length, marked_rows, marked_length, found, served_at, text_at, counted_left, total_left, no_lf_append, no_lf_decimal, granted, refused, scan_rows, uid_rows, lists_all}
 
--- what the laws of the wire say of what is written
+-- the laws of the wire on what is written
 pub record Laws : Type 0 where
   pub written : Written
   pub stuffed : StuffedIsBody
   pub read : ReadAsWritten
 
--- where the server stands with these messages, when these are marked
+-- the server's state with these messages, if these are marked
 abbrev pub Stands : List Message → State → Mail → List Bool → Type 0
 Stands ms (Authorization kept) mail marks = (there mail.slots ≡ ms) × (marks ≡ no_marks ms)
 Stands ms (Transaction rows) mail marks = (mail.slots ≡ map Some ms) × (length marks ≡ length ms) × (rows ≡ rows_with ms marks) × AreServed ms
 Stands ms Closed mail marks = AreLeft ms marks (there mail.slots)
 
--- a text that ends in LF gets no other
+-- a text that ends in LF stays as it is
 ended_stays : (front : List ℕ) → whole_text (front ++ 10 ∷ []) ≡ front ++ 10 ∷ []
 ended_stays [] = refl
 ended_stays (byte ∷ []) = refl
@@ -50,7 +50,7 @@ whole_stays : (text : List ℕ) → IsWhole text → whole_text text ≡ text
 whole_stays text (inl none) = subst (λ (t : List ℕ). whole_text t ≡ t) (sym none) refl
 whole_stays text (inr (front, is)) = subst (λ (t : List ℕ). whole_text t ≡ t) (sym is) (ended_stays front)
 
--- an honest reply, after which the server stands there
+-- an honest reply, after which the server is in that state
 abbrev pub Replied : List Message → List Bool → Command → List ℕ → State → Mail → Type 0
 Replied ms marks c answer next mail = (after : List Bool) × Reply ms marks c answer after × Stands ms next mail after
 
@@ -60,7 +60,7 @@ says_no : Laws → {D : Type 0} (mail : D → Mail) (ms : List Message) (marks :
 says_no laws mail ms marks c old answer after state next new does none stands =
     (marks, refused laws.written ms marks c answer after does.0 none, subst (λ (s : State). Stands ms s (mail new) marks) (sym does.1) (subst (λ d. Stands ms state (mail d) marks) (sym does.2) stands))
 
--- a line that says yes, where that is all that is asked
+-- a line that says yes, if no more is asked for
 says_yes : Laws → {D : Type 0} (mail : D → Mail) (ms : List Message) (marks after_marks : List Bool) (c : Command) (old : D) (answer after : List ℕ) (state next : State) (new : D)
     → (answer ≡ said (codes "+OK" ++ after)) × (next ≡ state) × (new ≡ old) → HoldsNoLf after
     → (SaysAnything Positive answer → Grants ms marks c answer after_marks) → Stands ms state (mail old) after_marks → Replied ms marks c answer next (mail new)

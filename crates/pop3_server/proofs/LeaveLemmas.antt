@@ -1,4 +1,4 @@
--- Removals one after another.
+-- Removals in a row.
 use Rattle.std.proofs.Common.{◌≡◌, ◌&&◌, ℕ, zero, suc, ◌+◌, ◌<◌, Bool, true, false, List, [], ◌∷◌, length, drop, get_or, Option, Some, None, slice_get, slice_set, refl, sym, ◌∙◌, ap, inl, inr, arith, add-one, drop-cons, if◌then◌else◌}
 use Rattle.pop3_wire.specs.World.{Message}
 use Rattle.pop3_server.specs.declared.rows.MessageRow.{MessageRow}
@@ -33,7 +33,7 @@ and_assoc false b c = refl
 pub count_stays : (row : MessageRow) (rows : List MessageRow) (count : ℕ) → row.marked ≡ false → with_marked (row ∷ rows) count ≡ with_marked rows count
 count_stays row rows count is = ap (λ marked. with_marked rows (if marked then counted_up count else count)) is
 
--- a marked row is asked for once
+-- a marked row asks for one removal
 pub count_goes : (row : MessageRow) (rows : List MessageRow) (count : ℕ) → row.marked ≡ true → with_marked (row ∷ rows) count ≡ with_marked rows (counted_up count)
 count_goes row rows count is = ap (λ marked. with_marked rows (if marked then counted_up count else count)) is
 

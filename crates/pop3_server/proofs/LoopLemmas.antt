@@ -16,7 +16,8 @@ use Rattle.pop3_server.specs.LoopLink.{Loop, Serves, IsAnswered}
 use Rattle.pop3_server.proofs.ServeLemmas.{run_one, turn_of}
 use Rattle.pop3_wire.specs.CommandLine.{command_of}
 
--- a link as it keeps itself: so many octets sent are answered, and so many octets of the greeting and the answers given
+-- a link by its own fields: how many octets sent are answered, and how many of the greeting and the answers
+-- were given
 abbrev pub kept : {D : Type 0} → Machine D → List ℕ → ℕ → List ℕ → ℕ → Bool → Bool → ℕ → Loop D
 kept machine sent used answers given over down failures = record {
   machine = machine;
@@ -30,7 +31,7 @@ kept machine sent used answers given over down failures = record {
 pub not_both : {A : Type 0} (b : Bool) → b ≡ false → b ≡ true → A
 not_both b off on = absurd (let e : true ≡ false = sym on ∙ off in cc)
 
--- the octets in front of a line's end, as the first line of what waits
+-- the octets before a line's end are the first line of what waits
 pub line_cut : (sent : List ℕ) (used octets : ℕ) → HasLine (length (drop used sent)) (drop used sent) octets
     → IsLine (take octets (drop used sent)) × (drop used sent ≡ ended (take octets (drop used sent)) ++ drop (used + (octets + 2)) sent)
 line_cut sent used octets has = (
@@ -42,7 +43,7 @@ line_cut sent used octets has = (
     drop_more : (a b : ℕ) (l : List ℕ) → drop b (drop a l) ≡ drop (a + b) l
     drop_more a b l = grind (arith, common_steps)
 
--- the server found no memory for an answer
+-- memory ran out for the server's answer
 pub serves_unanswered : {D : Type 0} (sound : D → Type 0) (mail : D → Mail) (m n : Machine D) (sent : List ℕ) (used : ℕ) (answers : List ℕ) (given : ℕ) (over down : Bool) (failures : ℕ)
     → down ≡ false → SameServer sound mail m n → Serves sound mail (kept m sent used answers given over down failures) (kept n sent used answers given over true failures)
 serves_unanswered sound mail m n sent used answers given over down failures up same = record {
@@ -62,7 +63,7 @@ serves_unanswered sound mail m n sent used answers given over down failures up s
   over = λ e. not_both down up e;
 }
 
--- an answer was made and could not be kept
+-- an answer was made, but couldn't be kept
 pub serves_lost : {D : Type 0} (sound : D → Type 0) (mail : D → Mail) (m n : Machine D) (sent : List ℕ) (used octets : ℕ) (answers kept_answers answer : List ℕ) (given : ℕ) (over down : Bool) (failures : ℕ)
     → (same : SameServer sound mail n n) → down ≡ false → kept_answers ≡ answers → HasLine (length (drop used sent)) (drop used sent) octets → AnswersLine sound mail m (take octets (drop used sent)) answer n
     → Serves sound mail (kept m sent used answers given over down failures) (kept n sent (used + (octets + 2)) kept_answers given over true failures)
@@ -106,7 +107,7 @@ serves_one sound mail m n sent used octets answers kept_answers answer given ove
       over = λ e. not_both down up e;
     }
 
--- more octets were sent, and the lines that they complete answered
+-- more octets were sent, and the lines that they complete were answered
 pub serves_sent : {D : Type 0} (sound : D → Type 0) (mail : D → Mail) (m : Machine D) (new : Loop D) (sent bytes longer : List ℕ) (used : ℕ) (answers : List ℕ) (given : ℕ) (over down : Bool) (failures : ℕ)
     → used ≤ length sent → longer ≡ sent ++ bytes → (new.down ≡ false → IsAnswered new) → Serves sound mail (kept m longer used answers given over down failures) new
     → Serves sound mail (kept m sent used answers given over down failures) new
@@ -130,7 +131,7 @@ serves_sent sound mail m new sent bytes longer used answers given over down fail
     longer_waits : drop used longer ≡ drop used sent ++ bytes
     longer_waits = ap (drop used) is ∙ drop-append-le used sent bytes within
 
--- the link went down behind that
+-- after that the link went down
 pub serves_down : {D : Type 0} (sound : D → Type 0) (mail : D → Mail) (old mid : Loop D) (failures : ℕ) → Serves sound mail old mid
     → Serves sound mail old (record mid { down = true; link = with_failures failures mid.link })
 serves_down sound mail old mid failures p = record {
@@ -202,7 +203,7 @@ turn_at sound mail m n seen sent used octets answer bytes opened who answers sam
 abbrev pub link_of : List ℕ → List ℕ → Bool → ℕ → Link
 link_of sent got over failures = record { sent = sent; got = got; ended = over; failures = failures }
 
--- new answers change nothing of what was given
+-- new answers don't change what was given
 pub same_link : (sent answers more kept_answers : List ℕ) (given : ℕ) (over : Bool) (failures : ℕ) → kept_answers ≡ answers ++ more → given ≤ length (greeting ++ answers)
     → link_of sent (take given (greeting ++ kept_answers)) over failures ≡ link_of sent (take given (greeting ++ answers)) over failures
 same_link sent answers more kept_answers given over failures is within =

@@ -1,4 +1,4 @@
--- What PASS finds where the maildrop lists its messages.
+-- What PASS finds if the maildrop lists its messages.
 use Rattle.std.proofs.Common.{◌≡◌, ℕ, zero, suc, List, [], ◌∷◌, ◌++◌, map, length, Some, Vec, Ok, slice_get, refl, ◌∙◌, ap, subst, inr}
 use Rattle.std.specs.Prelude.{codes}
 use Rattle.std.specs.Fmt.{decimal}

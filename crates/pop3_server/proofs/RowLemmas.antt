@@ -12,7 +12,7 @@ set_mark [] i row is fits = absurd (omega arith)
 set_mark (first ∷ rows) zero row is fits = ap (λ (r : MessageRow). marked r ∷ rows) is
 set_mark (first ∷ rows) (suc i) row is fits = ap (λ l. first ∷ l) (set_mark rows i row is (omega arith))
 
--- a row stands where one stood before
+-- each place that has a row had one before
 pub row_of_mark : (rows : List MessageRow) (i k : ℕ) (row : MessageRow) → slice_get (mark_at rows i) k ≡ Some row → (r : MessageRow) × (slice_get rows k ≡ Some r)
 row_of_mark [] i k row h = (row, h)
 row_of_mark (first ∷ rows) zero zero row h = (first, refl)

@@ -32,7 +32,7 @@ spliced part [] (suc n) first second = first
 spliced part (b ∷ octets) zero first second = IsLine-front (part ++ []) (b ∷ []) (subst IsLine (ap (λ (l : List ℕ). l ++ b ∷ []) (sym (append-nil part))) first)
 spliced part (b ∷ octets) (suc n) first second = splice part (take n octets) b first second
 
--- the octets of a line that is dropped piece by piece, so far
+-- the octets so far of a line that is dropped piece by piece
 pub record Dropping (before : Waiting) (now : Waiting) (gained part : List ℕ) : Type 0 where
   pub takes : Queues before part now gained
   pub line : IsLine (part ++ take 1 now.octets)

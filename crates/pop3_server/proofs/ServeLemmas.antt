@@ -1,4 +1,4 @@
--- How far a server has come that serves a link, and why it ends.
+-- How far a server that serves a link has come, and why it ends.
 use Rattle.std.proofs.Common.{◌≡◌, inl, inr, ◌<◌, ◌+◌, ℕ, true, false, List, [], ◌∷◌, ◌++◌, length, take, drop, refl, sym, ap, subst, ◌∙◌, arith, append_assoc, length-append, Ok, Err}
 use Rattle.std.specs.Prelude.{codes}
 use Rattle.std.specs.List.{flat_map, AllByRecursion}
@@ -20,7 +20,7 @@ use Rattle.pop3_server.specs.Got.{Waiting}
 use Rattle.pop3_server.specs.Serving.{Queues, AllSent, SendsAnswer, Served, WentOut}
 use Rattle.pop3_wire.specs.Bodies.{Drew}
 
--- the greeting and the answers to all lines that were got whole went out
+-- the greeting and the answers to all lines that came whole were sent
 pub record Progress {D : Type 0} (sound : D → Type 0) (mail : D → Mail) (old : Machine D) (before : Link) (server : Machine D) (link : Link) (waiting : Waiting) : Type 0 where
   pub gained : List ℕ
   pub lines : List (List ℕ)
@@ -32,7 +32,7 @@ pub record Progress {D : Type 0} (sound : D → Type 0) (mail : D → Mail) (old
   pub sent : link.sent ≡ before.sent ++ (greeting ++ answers)
   pub run : AnswersLines sound mail old lines answers server
 
--- the greeting went out
+-- the greeting was sent
 pub greeted : {D : Type 0} (sound : D → Type 0) (mail : D → Mail) (old server : Machine D) (before link : Link) (waiting : Waiting) (hello : List ℕ) → server ≡ old → hello ≡ greeting
     → link ≡ record before { sent = before.sent ++ hello } → waiting ≡ record { octets = []; left = 16777216 } → Progress sound mail old before server link waiting
 greeted sound mail old server before link waiting hello same is sends starts = record {
@@ -107,7 +107,7 @@ served_closed sound mail old server before link waiting p closed =
       ends = λ _. inl closed;
     }
 
--- one more line came, and of its answer so much went out before a fault
+-- one more line came, and so much of its answer was sent before a fault
 served_last : {D : Type 0} (sound : D → Type 0) (mail : D → Mail) (old server next : Machine D) (before link taken sent : Link) (waiting after : Waiting) (g line front : List ℕ) (fault : ServerFault)
     (p : Progress sound mail old before server link waiting) → Drew link taken g → waiting.octets ++ g ≡ ended line ++ after.octets → length g + after.left ≡ waiting.left → IsLine line
     → sent.got ≡ taken.got → sent.sent ≡ taken.sent ++ front
@@ -129,7 +129,7 @@ served_last sound mail old server next before link taken sent waiting after g li
       ends = λ e. cc;
     }
 
--- one more line came, and its answer went out in part
+-- one more line came, and its answer was sent in part
 pub served_unsent : {D : Type 0} (sound : D → Type 0) (mail : D → Mail) (old server next : Machine D) (before link taken sent : Link) (waiting after : Waiting) (g line answer front rest : List ℕ) (count : ℕ)
     → Progress sound mail old before server link waiting → Drew link taken g → waiting.octets ++ g ≡ ended line ++ after.octets → length g + after.left ≡ waiting.left → IsLine line
     → AnswersLine sound mail server line answer next → answer ≡ front ++ rest → sent ≡ record taken { sent = taken.sent ++ front; failures = count }
@@ -139,7 +139,7 @@ served_unsent sound mail old server next before link taken sent waiting after g 
     (ap (λ (l : Link). l.got) sends) (ap (λ (l : Link). l.sent) sends)
     (inl (inr (p.lines, line, greeting ++ p.answers, answer, front, rest, server, refl, all_sent sound mail old server before link waiting p, turn, part, refl)))
 
--- one more line came, and memory was wanting for its answer
+-- one more line came, and memory ran out for its answer
 served_unanswered : {D : Type 0} (sound : D → Type 0) (mail : D → Mail) (old server next : Machine D) (before link taken : Link) (waiting : Waiting) (g : List ℕ) (left : ℕ)
     → Progress sound mail old before server link waiting → Drew link taken g → length g + left ≡ waiting.left → SameServer sound mail server next → Served sound mail old before (Err NoMemory) next taken
 served_unanswered sound mail old server next before link taken waiting g left p took more same =
@@ -177,7 +177,7 @@ served_stopped sound mail old server next before link taken sent waiting after g
     subst (λ (l : Link). Served sound mail old before (Err NoMemory) next l) (sym none)
     (served_unanswered sound mail old server next before link taken waiting g after.left p took left same)
 
--- the greeting found no memory, or went out in part
+-- memory ran out for the greeting, or it was sent in part
 pub served_unmade : {D : Type 0} (sound : D → Type 0) (mail : D → Mail) (old server : Machine D) (before : Link) → server ≡ old → Served sound mail old before (Err NoMemory) server before
 served_unmade sound mail old server before same = record {
   gained = [];
@@ -231,7 +231,7 @@ open_removals sound mail Open old answer next new a opened = a.removals
 open_removals sound mail (Give rows i line top) old answer next new a opened = a.removals
 open_removals sound mail (Leave rows) old answer next new a opened = absurd (let e : false ≡ true = rw a.does.0 at opened in cc)
 
--- the line that waits, and what is left behind it
+-- the line that waits, and what is left after it
 pub line_octets : (before mid after : Waiting) (g seen : List ℕ) (n : ℕ) → Queues before [] mid g → HasLine 512 mid.octets n → seen ≡ mid.octets
     → after ≡ record { octets = drop (n + 2) mid.octets; left = mid.left }
     → (before.octets ++ g ≡ ended (take n seen) ++ after.octets) × (length g + after.left ≡ before.left) × IsLine (take n seen)

@@ -27,7 +27,7 @@ some_if false byte lines = some_onto byte lines
 some_lines : (byte : ℕ) (rest : List ℕ) → Some (lines_of_text (byte ∷ rest))
 some_lines byte rest = some_if (byte == 10) byte (lines_of_text rest)
 
--- a byte in front of some lines adds one octet, and an end of a line two
+-- a byte before some lines adds one octet, and an end of a line two
 size_more : (at_end : Bool) (byte : ℕ) (line : List ℕ) (lines : List (List ℕ))
     → length (flat_map ended (if at_end then [] ∷ (line ∷ lines) else onto_first byte (line ∷ lines))) ≡ (if at_end then 2 else 1) + length (flat_map ended (line ∷ lines))
 size_more true byte line lines = omega arith
@@ -67,7 +67,7 @@ CountsText-more count next text piece rest octets in_line none h counted open_no
   in_line = last ∙ open_now ∙ ap (λ b. is_open_after b piece) h.in_line ∙ sym (open_append false text piece);
 }
 
--- the size of what was counted, where the last line is open and where it isn't
+-- the size of what was counted, if the last line is open and if it isn't
 pub size-open : (count : SizeCount) (text : List ℕ) → CountsText count text → count.in_line ≡ true → capped (count.octets + 2) ≡ capped (size_of text)
 size-open count text h more = let open_text : ends_open text ≡ true = sym h.in_line ∙ more in
     let e = size_of-weights text in

@@ -1,4 +1,4 @@
--- The messages that stand at the places of a maildrop.
+-- The messages at the places of a maildrop.
 use Rattle.std.proofs.Common.{◌≡◌, ℕ, zero, suc, ◌+◌, ◌<◌, ◌≤◌, List, [], ◌∷◌, ◌++◌, map, take, length, get_or, Option, Some, None, slice_set, refl, sym, ◌∙◌, ap, subst, arith, inl, inr, is_some}
 use Rattle.std.specs.List.{Contains, filter}
 use Rattle.std.proofs.lemmas.List.{take_more, append-nil, map-append, length-append}
@@ -34,7 +34,7 @@ filter_there [] = refl
 filter_there (None ∷ slots) = filter_there slots
 filter_there (Some m ∷ slots) = ap (λ l. Some m ∷ l) (filter_there slots)
 
--- ---- ids that stand once
+-- ---- ids that occur once
 
 pub ids-push : (slots : List (Option Message)) (m : Message) → ids (slots ++ Some m ∷ []) ≡ ids slots ++ m.uid ∷ []
 ids-push slots m = ap (map (λ (x : Message). x.uid)) (there-append slots (Some m ∷ [])) ∙ map-append (λ (x : Message). x.uid) (there slots) (m ∷ [])
@@ -96,7 +96,7 @@ absent_some slots i slot m uid fits is some other absent h =
     let more : ids (take (i + 1) slots) ≡ ids (take i slots) ++ m.uid ∷ [] = ap (map (λ (x : Message). x.uid)) (there_some slots i slot m fits is some) ∙ map-append (λ (x : Message). x.uid) (there (take i slots)) (m ∷ []) in
     elim (Contains-push_cases (ids (take i slots)) m.uid uid (subst (λ us. Contains us uid) more h)) [ inl old ↦ absent old | inr same ↦ other same ]
 
--- a message was put behind the others
+-- a message was appended
 pub count-push : (slots : List (Option Message)) (m : Message) → length (there (slots ++ Some m ∷ [])) ≡ length (there slots) + 1
 count-push slots m = ap length (there-append slots (Some m ∷ [])) ∙ length-append (there slots) (m ∷ [])
 

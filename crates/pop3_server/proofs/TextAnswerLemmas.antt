@@ -1,4 +1,4 @@
--- Answers with a text that go out as the text is read.
+-- Answers with a text that are sent as the text is read.
 use Rattle.std.proofs.Common.{◌≡◌, ◌<◌, ◌+◌, ◌-◌, ◌^◌, ℕ, Bool, true, false, List, [], ◌++◌, length, take, drop, Option, Some, Result, Ok, Err, refl, sym, ap, subst, ◌∙◌, append_assoc, inl, inr, slice_get}
 use Rattle.std.proofs.lemmas.List.{append-nil}
 use Rattle.std.proofs.lemmas.Bool.{cases_Bool}
@@ -20,12 +20,12 @@ use Rattle.pop3_server.specs.TextBody.{GivesMore, GivesRest, still}
 use Rattle.pop3_server.specs.TextPart.{ArePart, BeginsTextAt}
 use Rattle.pop3_server.proofs.TextBodyLemmas.{gives_text, more_on, more_place, none_belongs, rest_on, still_none}
 
--- octets from the front of a text
+-- octets from the beginning of a text
 begins_at : (mail : Mail) (place i start : ℕ) (piece : List ℕ) → place ≡ i → start ≡ 0 → ArePart mail place start piece → BeginsTextAt mail i piece
 begins_at mail place i start piece same none (message, at, part) =
     (message, ap (slice_get mail.slots) (sym same) ∙ at, part ∙ ap (λ k. take (length piece) (drop k message.text)) none)
 
--- a link that sent two pieces, and the second not whole
+-- a link that sent two pieces, the second not whole
 went_on : (before sent after : Link) (bytes front : List ℕ) → sent ≡ record before { sent = before.sent ++ bytes } → after ≡ record sent { sent = sent.sent ++ front; failures = sent.failures + 1 }
     → after ≡ record before { sent = before.sent ++ (bytes ++ front); failures = before.failures + 1 }
 went_on before sent after bytes front first last =
@@ -39,12 +39,12 @@ sent_on before sent after bytes more reply first same last =
     last ∙ ap (λ (l : Link). record l { sent = l.sent ++ more }) first ∙ ap (λ (l : List ℕ). record before { sent = l }) (append_assoc before.sent bytes more)
     ∙ ap (λ (l : List ℕ). record before { sent = before.sent ++ (bytes ++ l) }) same
 
--- what a call answers where another one went well or not
+-- a call's result, by whether another call went well
 abbrev pub result_of : Result (Unit {0}) ServerFault → Bool → Result Bool ServerFault
 result_of (Ok done) closing = Ok closing
 result_of (Err fault) closing = Err fault
 
--- a text goes on behind what was made of an answer
+-- a text follows what was made of an answer
 pub record Started {D : Type 0} (sound : D → Type 0) (mail : D → Mail) (old : Machine D) (line bytes : List ℕ) (text : TextBody) (mid : Machine D) : Type 0 where
   pub was_open : is_open old.state ≡ true
   pub user : mid.user ≡ old.user
@@ -53,7 +53,7 @@ pub record Started {D : Type 0} (sound : D → Type 0) (mail : D → Mail) (old 
   pub begun : BeginsDeed sound mail (deed old.user old.pass old.state (command_of line)) old.drop bytes text mid.state mid.drop
 
 module _ {D : Type 0} (sound : D → Type 0) (mail : D → Mail) where
-  -- what was asked for, where a text goes on
+  -- what was asked for, if a text follows
   begun_give : (asked : Deed) (old : D) (bytes : List ℕ) (text : TextBody) (next : State) (new : D) → BeginsDeed sound mail asked old bytes text next new
       → (rows : List MessageRow) × (i : ℕ) × (head : List ℕ) × (top : Option ℕ) × (asked ≡ Give rows i head top) × (next ≡ Transaction rows)
       × BeginsText sound mail i head top old bytes text new
@@ -140,7 +140,7 @@ module _ {D : Type 0} (sound : D → Type 0) (mail : D → Mail) where
     begun = subst (λ (r : Option TextBody). AnswersOrBegins sound mail (deed old.user old.pass old.state (command_of line)) old.drop bytes r mid.state mid.drop) is begun;
   }
 
-  -- of what follows of a text, a front of the next octets went out
+  -- a prefix of the next octets of a text was sent
   pub rest_unsent : (first here next : D) (x y z : TextBody) (given reply front unsent : List ℕ) (more : Bool) (before link sent : Link) → GivesMore sound mail false first x given y here
       → (more ≡ true → GivesMore sound mail false here y reply z next) → (more ≡ false → GivesRest sound mail here y reply next)
       → link ≡ record before { sent = before.sent ++ given } → reply ≡ front ++ unsent → sent ≡ record link { sent = link.sent ++ front; failures = link.failures + 1 }
@@ -188,7 +188,7 @@ module _ {D : Type 0} (sound : D → Type 0) (mail : D → Mail) where
         });
       }
 
-  -- the front of the answer went out, and then what followed of the text, or not all of it
+  -- the beginning of the answer was sent, and then what followed of the text, or not all of it
   pub started_sent : (old mid new : Machine D) (line bytes : List ℕ) (text : TextBody) (before sent after : Link) (result : Result (Unit {0}) ServerFault) (closing : Bool)
       → Started sound mail old line bytes text mid → new ≡ record mid { drop = new.drop } → sent ≡ record before { sent = before.sent ++ bytes }
       → SendsRest sound mail mid.drop text sent result new.drop after → SendsAnswer sound mail old line before (result_of result closing) new after

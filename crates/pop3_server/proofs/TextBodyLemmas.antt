@@ -1,4 +1,4 @@
--- How far the body of a text comes by several parts.
+-- The body of a text, by several parts of the text.
 use Rattle.std.proofs.Common.{◌≡◌, ◌≤◌, ◌+◌, ℕ, zero, suc, Bool, true, false, List, [], ◌∷◌, ◌++◌, length, take, drop, Option, Some, None, Ok, refl, sym, ap, ap₂, subst, ◌∙◌, arith, append_assoc, inr, slice_get, length-append, length-take-le, take-append-drop}
 use Rattle.std.proofs.Math.Seq.{take-add}
 use Rattle.std.proofs.lemmas.List.{drop-drop}
@@ -20,12 +20,12 @@ use Rattle.pop3_server.proofs.TextTopLemmas.{none_taken, top_body}
 
 -- ---- octets of a body
 
--- nothing belongs to it of nothing
+-- if no octets come, none belong to it
 pub none_belongs : (top : Option Top) → belonging top [] ≡ []
 none_belongs None = refl
 none_belongs (Some top) = none_taken top.in_head top.in_line top.left
 
--- where nothing belongs to it, its end is still to come
+-- if nothing more belongs to it, only its end is to come
 pub still_none : (body : TextBody) (rest : List ℕ) → belonging body.top rest ≡ [] → still body rest ≡ sent_end body.stuffer.in_line
 still_none body rest none = ap (ended_body body.stuffer.in_line) none
 
@@ -42,7 +42,7 @@ still_on before after piece octets belong opened rest =
     ap (ended_body before.stuffer.in_line) (belong rest) ∙ ended_on before.stuffer.in_line octets (belonging after.top rest)
     ∙ ap (λ (b : Bool). sent_piece before.stuffer.in_line octets ++ ended_body b (belonging after.top rest)) (sym opened)
 
--- the whole body, where nothing has come
+-- the whole body, if nothing has come yet
 pub whole_of_all : (in_line : Bool) (text : List ℕ) → in_line ≡ false → ended_body in_line (belonging None text) ≡ text_body None text
 whole_of_all in_line text none = ap (λ (b : Bool). ended_body b text) none ∙ sent_whole text
 

@@ -1,4 +1,4 @@
--- Pieces of a text, cut at their first LF.
+-- Pieces of a text, split at their first LF.
 use Rattle.std.proofs.Common.{◌≡◌, ◌≢◌, ◌==◌, ◌≤◌, ℕ, Bool, true, false, not, List, [], ◌∷◌, ◌++◌, length, refl, sym, ap, ◌∙◌, append_assoc, arith, inl, inr, if◌then◌else◌}
 use Rattle.std.specs.List.{flat_map, onto_first}
 use Rattle.std.proofs.lemmas.Bool.Decides.{eqb_tells}
@@ -8,12 +8,12 @@ use Rattle.pop3_wire.specs.Body.{dot}
 use Rattle.pop3_wire.specs.Stuffed.{sent_line, stuffed_lines}
 use Rattle.pop3_server.specs.TextPiece.{is_open_after, sent_end, sent_piece, stuffing}
 
--- two pieces, one behind the other
+-- two pieces in a row
 pub open_append : (in_line : Bool) (one two : List ℕ) → is_open_after in_line (one ++ two) ≡ is_open_after (is_open_after in_line one) two
 open_append in_line [] two = refl
 open_append in_line (byte ∷ one) two = open_append (not (byte == 10)) one two
 
--- no line is open behind the end of one
+-- after the end of a line no line is open
 pub open_line : (in_line : Bool) (line after : List ℕ) → HasNoLf line → is_open_after in_line (line ++ 10 ∷ after) ≡ is_open_after false after
 open_line in_line [] after none = refl
 open_line in_line (byte ∷ line) after none = open_line (not (byte == 10)) line after none.1
@@ -25,11 +25,11 @@ open_on (byte ∷ rest) none = elim (eqb_tells byte 10) [
   | inr p ↦ rw p.0 (open_on rest none.1)
 ]
 
--- a line is open behind some octets without LF
+-- after some octets without LF a line is open
 pub open_rest : (in_line : Bool) (byte : ℕ) (rest : List ℕ) → HasNoLf (byte ∷ rest) → is_open_after in_line (byte ∷ rest) ≡ true
 open_rest in_line byte rest none = open_on (byte ∷ rest) none
 
--- behind some octets without LF a line is open; behind none it is as before
+-- the same for octets that aren't none
 pub open_some : (in_line : Bool) (rest : List ℕ) → HasNoLf rest → rest ≢ [] → is_open_after in_line rest ≡ true
 open_some in_line [] none some = absurd (some refl)
 open_some in_line (byte ∷ rest) none some = open_rest in_line byte rest none
@@ -79,7 +79,7 @@ sent_rest in_line (byte ∷ rest) none = elim (eqb_tells byte 10) [
       )
 ]
 
--- where a line begins with a full stop, one more stands there
+-- stuffing adds at most one octet, and none to an empty line
 pub stuffing_length : (in_line : Bool) (line : List ℕ) → (length (stuffing in_line line) ≤ 1) × (length (stuffing in_line line) ≤ length line)
 stuffing_length in_line [] = (omega arith, omega arith)
 stuffing_length true (byte ∷ line) = (omega arith, omega arith)
@@ -88,7 +88,7 @@ stuffing_length false (byte ∷ line) = elim (eqb_tells byte 46) [
   | inr p ↦ rw p.0 (omega arith, omega arith)
 ]
 
--- two pieces, one behind the other
+-- two pieces in a row
 pub sent_append : (in_line : Bool) (one two : List ℕ) → sent_piece in_line (one ++ two) ≡ sent_piece in_line one ++ sent_piece (is_open_after in_line one) two
 sent_append in_line [] two = refl
 sent_append in_line (byte ∷ one) two =
@@ -117,7 +117,7 @@ sent_first byte (line ∷ lines) = elim (eqb_tells byte 46) [
   | inr p ↦ rw p.0 refl
 ]
 
--- what is still to come, by whether a line is open
+-- what is to come, given whether a line is open
 abbrev lines_left : Bool → List (List ℕ) → List ℕ
 lines_left true lines = go_on lines
 lines_left false lines = flat_map sent_line lines
@@ -145,7 +145,7 @@ sent_whole text =
     sym (append_assoc (sent_piece false text) (if is_open_after false text then crlf else []) (ended dot))
     ∙ ap (λ (l : List ℕ). l ++ ended dot) (closed false text)
 
--- ---- what was put behind what stood
+-- ---- what was appended
 
 pub regroup : (before start line end after : List ℕ) → (((before ++ start) ++ line) ++ end) ++ after ≡ before ++ (((start ++ line) ++ end) ++ after)
 regroup [] start line end after = refl

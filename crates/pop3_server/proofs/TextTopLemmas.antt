@@ -12,17 +12,17 @@ use Rattle.pop3_server.proofs.TextPieceLemmas.{sent_whole}
 
 -- ---- its lines are the top of the text's lines
 
--- no more lines are wanted
+-- no more lines are needed
 top_from-none : (lines : List (List ℕ)) → top_from false 0 lines ≡ []
 top_from-none [] = refl
 top_from-none (line ∷ lines) = refl
 
--- of lines the first of which has begun
+-- the same for lines of which the first has begun
 abbrev from_open : ℕ → List (List ℕ) → List (List ℕ)
 from_open n [] = []
 from_open n (line ∷ lines) = line ∷ top_from true n lines
 
--- a line that an octet stands in isn't empty
+-- a line with an octet in it isn't empty
 some_octets : (k : ℕ) → (suc k == 0) ≡ false
 some_octets k = elim (eqb_tells (suc k) 0) [
   | inl p ↦ absurd (omega (arith, p.1))
@@ -41,7 +41,7 @@ behind_first : (n byte : ℕ) (lines : List (List ℕ)) → onto_first byte (top
 behind_first n byte [] = refl
 behind_first n byte (line ∷ lines) = refl
 
--- the lines that a text gives, by where in its top it stands
+-- the lines that a text gives, by its place in its top
 abbrev lines_at : Bool → Bool → ℕ → List (List ℕ) → List (List ℕ)
 lines_at true true n lines = from_open n lines
 lines_at true false n lines = top_from true n lines
@@ -71,7 +71,7 @@ lines_of_whole_top n text = lines_of_top true false n text
 
 -- ---- what it takes
 
--- octets without LF, where a line is open
+-- octets without LF, if a line is open
 head_rest : (n : ℕ) (piece rest : List ℕ) → HasNoLf piece → top_octets true true n (piece ++ rest) ≡ piece ++ top_octets true true n rest
 head_rest n [] rest none = refl
 head_rest n (byte ∷ piece) rest none = elim (eqb_tells byte 10) [
@@ -101,7 +101,7 @@ first_of_later n byte piece rest none = elim (eqb_tells byte 10) [
 some_open : (line : List ℕ) → not (suc (length line) == 0) ≡ true
 some_open line = ap not (some_octets (length line))
 
--- octets without LF, of a top of which more is to come
+-- octets without LF, if more of the top is to come
 pub takes_rest : (in_head in_line opened : Bool) (n : ℕ) (piece rest : List ℕ) → HasNoLf piece → (in_head ≡ false → 0 < n) → opened ≡ (in_line || not (length piece == 0))
     → top_octets in_head in_line n (piece ++ rest) ≡ piece ++ top_octets in_head opened n rest
 takes_rest true true opened n piece rest none more is = head_rest n piece rest none ∙ ap (λ b. piece ++ top_octets true b n rest) (sym is)
@@ -114,7 +114,7 @@ takes_rest false false opened (suc n) [] rest none more is = ap (λ b. top_octet
 takes_rest false false opened (suc n) (byte ∷ piece) rest none more is =
     first_of_later n byte piece rest none ∙ ap (λ b. (byte ∷ piece) ++ top_octets false b (suc n) rest) (sym (is ∙ some_open piece))
 
--- a line ends, and it was one of the head or behind that
+-- a line ends; it was one of the head, or came after it
 pub ends_head : (in_head in_line opened : Bool) (n left : ℕ) (line rest : List ℕ) → HasNoLf line → in_head ≡ true → opened ≡ (in_line || not (length line == 0)) → left ≡ n
     → top_octets in_head in_line n (line ++ 10 ∷ rest) ≡ line ++ 10 ∷ top_octets opened false left rest
 ends_head in_head in_line opened n left line rest none head is same =
@@ -131,7 +131,7 @@ ends_later in_head in_line opened n left line rest none later is some less =
     ∙ takes_rest false in_line (in_line || not (length line == 0)) (suc left) line (10 ∷ rest) none more refl
     ∙ ap (λ b. line ++ 10 ∷ top_octets b false left rest) (sym (is ∙ later))
 
--- of nothing it takes nothing, and once all has come
+-- it takes none of no octets, and none after all has come
 pub none_taken : (in_head in_line : Bool) (n : ℕ) → top_octets in_head in_line n [] ≡ []
 none_taken true in_line n = refl
 none_taken false in_line zero = refl
@@ -174,7 +174,7 @@ pub split_on : (piece front rest line after : List ℕ) → piece ≡ front ++ r
 split_on piece front rest line after before cut =
     before ∙ ap (λ (t : List ℕ). front ++ t) (cut ∙ sym (append_assoc line (10 ∷ []) after)) ∙ sym (append_assoc front (line ++ 10 ∷ []) after)
 
--- what stands before a rest
+-- what comes before a rest
 pub before_rest : (piece front rest : List ℕ) → piece ≡ front ++ rest → take (length piece - length rest) piece ≡ front
 before_rest piece front rest is =
     let many : length piece - length rest ≡ length front = omega (arith, ap (λ (t : List ℕ). length t) is, length-append front rest) in

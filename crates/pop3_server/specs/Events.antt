@@ -1,4 +1,4 @@
--- What one may want to know of a session while it goes on.
+-- The events of a session, for a log.
 use Rattle.std.specs.Prelude.{ℕ, zero, suc, ◌-◌, length, Option, Some, None}
 use Rattle.pop3_server.specs.declared.journal.Event.{Event}
 use Rattle.pop3_server.specs.declared.journal.Event.TheVariants.{LoggedIn, Refused, Unavailable, Left}
@@ -6,7 +6,7 @@ use Rattle.pop3_server.specs.declared.state.State.{State}
 use Rattle.pop3_server.specs.declared.state.State.TheVariants.{Authorization, Transaction, Closed}
 use Rattle.pop3_server.specs.ServerMachine.{left_count}
 
--- what happened where one state came after another, and the maildrop refused so many calls meanwhile
+-- the event between one state and the next, if the maildrop refused so many calls in between
 abbrev pub event_of : State → State → ℕ → Option Event
 event_of (Authorization kept) (Transaction rows) refused = Some (LoggedIn (length rows))
 event_of (Authorization (Some name)) (Authorization None) zero = Some Refused

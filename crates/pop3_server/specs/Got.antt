@@ -1,4 +1,4 @@
--- What a server has got and not used yet.
+-- What a server has got and hasn't used yet.
 use Rattle.std.specs.Prelude.{ℕ, List}
 
 -- the octets that wait, and how many more may be taken

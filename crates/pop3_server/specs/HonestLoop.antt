@@ -1,4 +1,4 @@
--- What a link to a new server gives is honest, also where its last answers are lost.
+-- What a link to a new server gives is honest, even if its last answers are lost.
 use Rattle.std.specs.Prelude.{◌≡◌, ℕ, Bool, List, [], ◌++◌, None}
 use Rattle.std.specs.List.{flat_map, AllByRecursion}
 use Rattle.pop3_wire.specs.declared.command.Command.{Command}
@@ -11,7 +11,7 @@ use Rattle.pop3_server.specs.ServerMachine.{greeting}
 use Rattle.pop3_server.specs.HonestServer.{IsAsked, Gone, IsClosedByQuit, lines_of}
 use Rattle.pop3_server.specs.LoopLink.{Loop, Serves}
 
--- a link to a new server, which was sent nothing yet
+-- a link to a new server, to which nothing was sent yet
 pub record IsNew {D : Type 0} (loop : Loop D) : Type 0 where
   pub state : loop.machine.state ≡ Authorization None
   pub sent : loop.link.sent ≡ []
@@ -20,7 +20,8 @@ pub record IsNew {D : Type 0} (loop : Loop D) : Type 0 where
   pub left : loop.left ≡ greeting
   pub waiting : loop.waiting ≡ []
 
--- where whole commands of a session and a part of one more were sent, what was got is honest, what is gone was marked, and QUIT alone closes the server
+-- if whole commands of a session and a part of one more were sent, what was got is honest, what is gone was
+-- marked, and only QUIT closes the server
 abbrev pub GivesHonest : {D : Type 0} → (D → Type 0) → (D → Mail) → Type 0
 GivesHonest {D} sound mail = (old new : Loop D) (commands : List Command) (part : List ℕ)
     → IsNew old → Serves sound mail old new → AllByRecursion IsAsked commands → IsLine part

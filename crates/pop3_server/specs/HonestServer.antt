@@ -1,4 +1,4 @@
--- Conversations of the server by the commands of a session are honest.
+-- If the commands are a session's, conversations of the server are honest.
 use Rattle.std.specs.Prelude.{◌≡◌, ◌⊎◌, ℕ, Bool, true, List, [], ◌∷◌, ◌++◌, map, None}
 use Rattle.std.specs.List.{flat_map, AllByRecursion}
 use Rattle.pop3_wire.specs.declared.command.Command.{Command}
@@ -39,7 +39,7 @@ pub record IsAsked (command : Command) : Type 0 where
 abbrev pub lines_of : List Command → List (List ℕ)
 lines_of commands = map line_of commands
 
--- of these messages those are there that aren't marked, and any of the marked ones, in their order
+-- those of these messages that aren't marked are there, and perhaps some of the marked ones, in their order
 abbrev pub AreLeft : List Message → List Bool → List Message → Type 0
 AreLeft [] marks after = after ≡ []
 AreLeft (m ∷ ms) [] after = ⊥
@@ -54,8 +54,8 @@ pub record Gone (before : List Message) (marks : List Bool) (state : State) (aft
 abbrev pub IsClosedByQuit : State → List Command → Type 0
 IsClosedByQuit state commands = (is_open state ≡ true) ⊎ ((front behind : List Command) × (commands ≡ front ++ Quit ∷ behind))
 
--- a new server's greeting and its answers to these commands are an honest conversation over its maildrop's messages,
--- and what is gone then was marked
+-- a new server's greeting and its answers to these commands are an honest conversation over its maildrop's
+-- messages, and what is gone afterwards was marked
 abbrev pub IsHonest : {D : Type 0} → (D → Type 0) → (D → Mail) → Type 0
 IsHonest {D} sound mail = (old new : Machine D) (commands : List Command) (answers : List ℕ)
     → old.state ≡ Authorization None → AllByRecursion IsAsked commands → AnswersLines sound mail old (lines_of commands) answers new

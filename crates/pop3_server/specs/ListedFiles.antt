@@ -4,7 +4,8 @@ use Rattle.std.specs.List.{Contains}
 use Rattle.pop3_server.specs.declared.listed_file.ListedFile.{ListedFile}
 use Rattle.pop3_server.specs.declared.maildir_names.MailFile.{MailFile}
 
--- one of these files has the folder, the name, the length and the time of change of the one that was found, and this size
+-- one of these files has the folder, the name, the length and the time of change of the one that was found,
+-- and this size
 pub record WasCounted (files : List ListedFile) (found : MailFile) (counted : ℕ) : Type 0 where
   pub file : ListedFile
   pub listed : Contains files file

@@ -1,4 +1,4 @@
--- A link whose answers are a server's: what it does in two calls is of the same kind.
+-- A link whose answers are a server's: two calls together do what one call may do.
 use Rattle.std.specs.Prelude.{◌≡◌, ℕ, true, false, List, [], ◌∷◌, ◌++◌}
 use Rattle.std.specs.List.{flat_map, AllByRecursion}
 use Rattle.std.proofs.Common.{refl, sym, ap, subst, ◌∙◌, append_assoc, inl, inr}
@@ -67,7 +67,7 @@ heard_on u v w lines others g h first second =
     ∙ ap (λ (l : List ℕ). flat_map ended lines ++ l) second ∙ sym (append_assoc (flat_map ended lines) (flat_map ended others) w.waiting)
     ∙ ap (λ (l : List ℕ). l ++ w.waiting) (sym (flat_map-append ended lines others))
 
--- while the middle link was up
+-- if the link was up in between
 on_up : {D : Type 0} (sound : D → Type 0) (mail : D → Mail) (u v w : Loop D) → v.down ≡ false → Serves sound mail u v → Serves sound mail v w → Serves sound mail u w
 on_up sound mail u v w up p q =
     let whole = p.whole up in
@@ -90,7 +90,7 @@ on_up sound mail u v w up p q =
       over = λ down. absurd (let e : true ≡ false = sym (p.over down).3 ∙ up in cc);
     }
 
--- after it was down
+-- if it was down in between
 on_down : {D : Type 0} (sound : D → Type 0) (mail : D → Mail) (u v w : Loop D) → v.down ≡ true → Serves sound mail u v → Serves sound mail v w → Serves sound mail u w
 on_down sound mail u v w down p q =
     let over = q.over down in

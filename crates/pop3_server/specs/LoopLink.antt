@@ -7,8 +7,8 @@ use Rattle.pop3_server.specs.Maildrop.{Mail}
 use Rattle.pop3_server.specs.ServerMachine.{Machine, greeting, is_open}
 use Rattle.pop3_server.specs.AnswersLines.{AnswersLines, SameServer}
 
--- a server and a link to it: its answers so far, what of the greeting and these is still to be given, what was sent and
--- isn't answered, and whether the link is down
+-- a server and a link to it: its answers so far, what is left to give of the greeting and these answers, what
+-- was sent and isn't answered, and whether the link is down
 pub record Loop (D : Type 0) : Type 0 where
   pub machine : Machine D
   pub link : Link
@@ -17,7 +17,7 @@ pub record Loop (D : Type 0) : Type 0 where
   pub waiting : List ℕ
   pub down : Bool
 
--- what was got, with what is left to give, is the greeting and the answers
+-- what was got, followed by what is left to give, is the greeting and the answers
 abbrev pub IsTold : {D : Type 0} → Loop D → Type 0
 IsTold loop = loop.link.got ++ loop.left ≡ greeting ++ loop.answers
 
@@ -25,7 +25,8 @@ IsTold loop = loop.link.got ++ loop.left ≡ greeting ++ loop.answers
 abbrev pub IsAnswered : {D : Type 0} → Loop D → Type 0
 IsAnswered loop = is_open loop.machine.state ≡ true → IsLine loop.waiting
 
--- meanwhile the server answered lines that were sent, in order; where the link went down, the last answers may be lost
+-- between the two the server answered lines that were sent, in order; if the link went down, the last answers
+-- may be lost
 pub record Serves {D : Type 0} (sound : D → Type 0) (mail : D → Mail) (old new : Loop D) : Type 0 where
   pub lines : List (List ℕ)
   pub more : List ℕ
@@ -41,5 +42,5 @@ pub record Serves {D : Type 0} (sound : D → Type 0) (mail : D → Mail) (old n
   pub heard : old.waiting ++ gained ≡ flat_map ended lines ++ new.waiting
   -- while the link is up nothing is lost, no whole line waits, and the server is the one that answered
   pub whole : new.down ≡ false → (lost ≡ []) × (new.machine ≡ last) × (IsAnswered old → IsAnswered new)
-  -- once it is down, nothing more is answered
+  -- after it went down, nothing more is answered
   pub over : old.down ≡ true → (lines ≡ []) × (more ≡ []) × (lost ≡ []) × (new.down ≡ true)

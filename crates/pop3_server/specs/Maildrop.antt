@@ -5,20 +5,20 @@ use Rattle.pop3_wire.specs.World.{Message}
 use Rattle.pop3_server.specs.declared.maildrop.DropFault.{DropFault}
 use Rattle.pop3_server.specs.declared.maildrop.DropFault.TheVariants.{Refused, NoMemory}
 
--- how many messages a listing may have, and of how many octets each
+-- how many messages a listing may have, and how many octets each may have
 abbrev pub max_count : ℕ
 max_count = 100000
 
 abbrev pub max_size : ℕ
 max_size = 134217728
 
--- what a listing says of a message
+-- a message's entry in a listing
 pub record Listed : Type 0 where
   pub uid : List ℕ
   pub size : ℕ
 
--- the messages by their places in the last listing, none where one was removed; how many calls were
--- refused; and how often a removal was asked for
+-- for each place of the last listing its message, or none if that was removed; how many calls were refused;
+-- and how often a removal was asked for
 pub record Mail : Type 0 where
   pub slots : List (Option Message)
   pub failures : ℕ
@@ -34,11 +34,11 @@ there (Some message ∷ slots) = message ∷ there slots
 abbrev pub ids : List (Option Message) → List (List ℕ)
 ids slots = map (λ (message : Message). message.uid) (there slots)
 
--- what a listing says of this message
+-- the entry of this message
 abbrev pub entry_of : Message → Listed
 entry_of message = record { uid = message.uid; size = message.size }
 
--- a message stands at this place
+-- there is a message at this place
 abbrev pub HasPlace : Mail → ℕ → Type 0
 HasPlace mail i = (message : Message) × (slice_get mail.slots i ≡ Some (Some message))
 
@@ -59,7 +59,7 @@ abbrev pub Denies : Mail → DropFault → Mail → Type 0
 Denies old Refused new = new ≡ refusing old
 Denies old NoMemory new = new ≡ old
 
--- the messages that are there were listed, and have these places from now on
+-- the messages that are there were listed, and these are their places from now on
 abbrev pub ListsMessages : {Z : Type 0} → Mail → Result (Vec Listed Z) DropFault → Mail → Type 0
 ListsMessages old (Ok entries) new =
     (new ≡ record old { slots = map Some (there old.slots) }) × (entries.items ≡ map entry_of (there old.slots))
@@ -71,8 +71,8 @@ Gives old i (Ok text) new =
     (new ≡ old) × ((message : Message) × (slice_get old.slots i ≡ Some (Some message)) × (text.items ≡ message.text))
 Gives old i (Err fault) new = Denies old fault new
 
--- so many octets of the text of the message at a place, from `start` on, stand in front of a piece; none only where none
--- are left
+-- a piece begins with so many octets of the text of the message at a place, from `start` on; with none only
+-- if none are left
 abbrev pub GivesPart : Mail → ℕ → ℕ → Result ℕ DropFault → List ℕ → Mail → Type 0
 GivesPart old i start (Ok n) piece new =
     (new ≡ old) × ((message : Message) × (slice_get old.slots i ≡ Some (Some message))
@@ -85,7 +85,7 @@ Removes old i (Ok done) new = new ≡ removed old i
 Removes old i (Err Refused) new = (new ≡ refusing (asked old)) ⊎ (new ≡ refusing (removed old i))
 Removes old i (Err NoMemory) new = ⊥
 
--- want of memory is told and not counted
+-- running out of memory is a fault, but isn't counted as a refusal
 abbrev pub is_refusal : DropFault → Bool
 is_refusal Refused = true
 is_refusal NoMemory = false

@@ -6,7 +6,7 @@ use Rattle.mail_terms.specs.MaildirName.{base}
 use Rattle.pop3_server.specs.MaildirNames.{id_of}
 use Rattle.pop3_server.specs.Maildrop.{Listed, Mail}
 
--- its path; the names of the files of the last good listing, by their places; and the two counts
+-- its path; the names of the files of the last listing that succeeded, by their places; and the two counts
 pub record RealMaildir : Type 0 where
   pub path : List ℕ
   pub names : List (List ℕ)
@@ -33,7 +33,7 @@ id_of_name name = id_of (base name)
 abbrev pub HaveIds : List Listed → List (List ℕ) → Type 0
 HaveIds entries names = map uid_of entries ≡ map id_of_name names
 
--- each place has the id of its file's name; after a fault each has the file that it had
+-- each place has the id of its file's name; after a fault each place has the file that it had
 abbrev pub ListsNames : {Z : Type 0} → RealMaildir → Result (Vec Listed Z) DropFault → RealMaildir → Type 0
 ListsNames old (Ok entries) new = HaveIds entries.items new.names
 ListsNames old (Err fault) new = new.names ≡ old.names

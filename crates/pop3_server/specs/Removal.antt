@@ -16,15 +16,15 @@ abbrev pub left_marked : ℕ → List MessageRow → Mail → ℕ
 left_marked i [] mail = 0
 left_marked i (row ∷ rows) mail = (if row.marked && holds (slice_get mail.slots i) then 1 else 0) + left_marked (i + 1) rows mail
 
--- of the marked messages at most as many are left as refusals were counted
+-- at most as many of the marked messages are left as refusals were counted
 abbrev pub FewAreLeft : Type 0
 FewAreLeft = (rows : List MessageRow) (old new : Mail) (all : Bool) → Empties 0 rows old all new → left_marked 0 rows new + old.failures ≤ new.failures
 
--- where all were removed, nothing was refused
+-- if all were removed, nothing was refused
 abbrev pub AllAreRemoved : Type 0
 AllAreRemoved = (rows : List MessageRow) (old new : Mail) → Empties 0 rows old true new → new.failures ≡ old.failures
 
--- where not all were removed, something was refused
+-- if not all were removed, something was refused
 abbrev pub SomeAreRefused : Type 0
 SomeAreRefused = (rows : List MessageRow) (old new : Mail) → Empties 0 rows old false new → old.failures < new.failures
 

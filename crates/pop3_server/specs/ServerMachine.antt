@@ -1,4 +1,4 @@
--- The server as a machine: a state and a line, the answer and the next state (RFC 1939, sections 4 to 7).
+-- The server as a machine: a state and a line lead to an answer and the next state (RFC 1939, sections 4 to 7).
 use Rattle.std.specs.Prelude.{◌≡◌, ◌⊎◌, ◌≤◌, ◌==◌, ℕ, zero, suc, ◌+◌, ◌-◌, Bool, true, false, not, ◌&&◌, List, [], ◌∷◌, ◌++◌, map, length, Option, Some, None, Result, Ok, Err, slice_get, codes, bytes_eq, if◌then◌else◌}
 use Rattle.std.specs.List.{All, count_by, sum_by}
 use Rattle.std.specs.Fmt.{decimal}
@@ -17,7 +17,7 @@ use Rattle.pop3_server.specs.declared.state.State.{State}
 use Rattle.pop3_server.specs.declared.state.State.TheVariants.{Authorization, Transaction, Closed}
 use Rattle.pop3_server.specs.Maildrop.{Listed, Mail, there, entry_of, HasPlace, refusing, asked, removed, max_count, max_size}
 
--- ---- the rows: the messages as PASS found them, and their marks
+-- ---- the rows: the messages that PASS found, and their marks
 
 abbrev pub is_left : MessageRow → Bool
 is_left row = not row.marked
@@ -68,14 +68,14 @@ pub record KeepLimits (rows : List MessageRow) : Type 0 where
 
 -- ---- the answers
 
--- one line
+-- a line with its CR LF
 abbrev pub said : List ℕ → List ℕ
 said text = text ++ crlf
 
 abbrev pub greeting : List ℕ
 greeting = said (codes "+OK popd ready")
 
--- a message's line in a listing, behind its number
+-- a message's line in a listing, with its number
 abbrev pub scan_line : ℕ → MessageRow → List ℕ
 scan_line k row = scan_row k row.entry.size
 
@@ -105,7 +105,7 @@ top_from false (suc n) (line ∷ lines) = line ∷ top_from false n lines
 abbrev pub top_lines : ℕ → List (List ℕ) → List (List ℕ)
 top_lines n lines = top_from true n lines
 
--- a text as a body, all of it or its top
+-- the body of a text, or of its top
 abbrev pub text_body : Option ℕ → List ℕ → List ℕ
 text_body None text = stuffed_lines (lines_of_text text)
 text_body (Some n) text = stuffed_lines (top_lines n (lines_of_text text))
@@ -113,11 +113,11 @@ text_body (Some n) text = stuffed_lines (top_lines n (lines_of_text text))
 -- ---- the table: what a state and a command ask for
 
 pub data Deed : Type 0 where
-  -- this answer, and this next state; the maildrop isn't asked
+  -- this answer, and this next state; the maildrop isn't called
   Say : List ℕ → State → Deed
   -- the maildrop is listed
   Open : Deed
-  -- the text at a place is given behind a first line, all of it or its top
+  -- the text at a place is given after a first line, all of it or its top
   Give : List MessageRow → ℕ → List ℕ → Option ℕ → Deed
   -- the marked messages are removed
   Leave : List MessageRow → Deed
@@ -159,7 +159,7 @@ in_transaction rows Rset = Say (said (codes "+OK")) (Transaction (map unmarked r
 in_transaction rows Noop = Say (said (codes "+OK")) (Transaction rows)
 in_transaction rows Quit = Leave rows
 
--- what a line asks for, by the command that it stands for or its fault; a closed server isn't asked
+-- what a line asks for, given its command or its fault; a closed server isn't asked
 abbrev pub deed : List ℕ → List ℕ → State → Result Command WireFault → Deed
 deed user pass state (Err fault) = Say (said (codes "-ERR bad command")) state
 deed user pass (Authorization kept) (Ok command) = in_authorization user pass kept command
@@ -168,16 +168,17 @@ deed user pass Closed (Ok command) = Say [] Closed
 
 -- ---- what is done
 
--- what follows of a maildrop's messages, under its premise
+-- what is known of a maildrop's messages if its premise holds
 abbrev pub Known : {D : Type 0} → (D → Type 0) → (D → Mail) → D → D → (Mail → Mail → Type 0) → Type 0
 Known sound mail old new Follows = sound new → sound old × Follows (mail old) (mail new)
 
--- the removal of the message at a place was tried, and done or not
+-- the removal of the message at a place was tried, and succeeded or was refused
 abbrev pub Tries : Mail → ℕ → Bool → Mail → Type 0
 Tries old i true new = new ≡ removed old i
 Tries old i false new = (new ≡ refusing (asked old)) ⊎ (new ≡ refusing (removed old i))
 
--- the marked messages from place i on were removed in order, each tried; the flag says whether all were
+-- the marked messages from place i on were removed in order, as far as each could be; the flag says whether
+-- all were
 pub data Empties : ℕ → List MessageRow → Mail → Bool → Mail → Type 0 where
   none : (i : ℕ) (old : Mail) → Empties i [] old true old
   stays : (i : ℕ) (row : MessageRow) (rows : List MessageRow) (old : Mail) (all : Bool) (new : Mail)
@@ -190,15 +191,15 @@ abbrev pub with_marked : List MessageRow → ℕ → ℕ
 with_marked [] count = count
 with_marked (row ∷ rows) count = with_marked rows (if row.marked then counted_up count else count)
 
--- removals are asked for at QUIT alone, one for each marked message; so it is of every maildrop
+-- removals are asked for only at QUIT, one for each marked message; this holds of every maildrop
 abbrev pub AsksRemovals : Mail → Deed → Mail → Type 0
 AsksRemovals old (Say bytes state) new = new.removals ≡ old.removals
 AsksRemovals old Open new = new.removals ≡ old.removals
 AsksRemovals old (Give rows i line top) new = new.removals ≡ old.removals
 AsksRemovals old (Leave rows) new = new.removals ≡ with_marked rows old.removals
 
--- the maildrop refused its listing; or there are as many rows as messages, nothing marked, and they keep to the limits
--- whatever the maildrop
+-- the maildrop refused its listing; or there are as many rows as messages, none marked, and with any maildrop
+-- they keep to the limits
 abbrev pub Opens : {D : Type 0} → (D → Type 0) → (D → Mail) → D → List ℕ → State → D → Type 0
 Opens sound mail old answer next new =
     ((answer ≡ said (codes "-ERR maildrop unavailable")) × (next ≡ Authorization None)
@@ -208,7 +209,7 @@ Opens sound mail old answer next new =
     × Known sound mail old new (λ before after. (after ≡ record before { slots = map Some (there before.slots) })
     × (rows ≡ map row_of (there before.slots))))
 
--- the text was refused, or stands in the answer
+-- the text was refused, or is in the answer
 abbrev pub GivesText : {D : Type 0} → (D → Type 0) → (D → Mail) → ℕ → List ℕ → Option ℕ → D → List ℕ → D → Type 0
 GivesText sound mail i line top old answer new =
     ((answer ≡ said (codes "-ERR message unavailable"))
@@ -235,7 +236,7 @@ pub record Answers {D : Type 0} (sound : D → Type 0) (mail : D → Mail) (aske
   pub removals : AsksRemovals (mail old) asked_for (mail new)
   pub does : Does sound mail asked_for old answer next new
 
--- nothing was answered for want of memory: no message changed and no count, whatever places there are
+-- memory ran out for the answer: no message and no count changed, but the places may be other ones
 pub record Unanswered {D : Type 0} (sound : D → Type 0) (mail : D → Mail) (old new : D) : Type 0 where
   pub failures : (mail new).failures ≡ (mail old).failures
   pub removals : (mail new).removals ≡ (mail old).removals
@@ -248,22 +249,22 @@ is_open (Authorization kept) = true
 is_open (Transaction rows) = true
 is_open Closed = false
 
--- each row's message is there, while there are rows
+-- each row has its message, while there are rows
 abbrev pub Tied : Type 0 → Mail → State → Type 0
 Tied sound mail (Authorization kept) = Unit {0}
 Tied sound mail (Transaction rows) = sound → (i : ℕ) (row : MessageRow) → slice_get rows i ≡ Some row → HasPlace mail i
 Tied sound mail Closed = Unit {0}
 
--- where a row stands now, one stood before
+-- each place that has a row now had one before
 abbrev pub SamePlaces : List MessageRow → List MessageRow → Type 0
 SamePlaces old new = (i : ℕ) (row : MessageRow) → slice_get new i ≡ Some row → (before : MessageRow) × (slice_get old i ≡ Some before)
 
--- the state after an answer, where none means that it stays as it is
+-- the state after an answer; none means that it stays as it is
 abbrev pub next_of : State → Option State → State
 next_of state None = state
 next_of state (Some next) = next
 
--- whom it lets in, where it stands, and its maildrop
+-- whom it lets in, its state, and its maildrop
 pub record Machine (D : Type 0) : Type 0 where
   pub user : List ℕ
   pub pass : List ℕ

@@ -1,4 +1,4 @@
--- What serving a link does: lines are got, and their answers sent.
+-- What serving a link does: lines come in, and their answers are sent.
 use Rattle.std.specs.Prelude.{◌≡◌, ◌⊎◌, ◌≤◌, ◌<◌, ◌+◌, ◌-◌, ℕ, Bool, true, false, List, [], ◌∷◌, ◌++◌, length, Result, Ok, Err}
 use Rattle.std.specs.List.{flat_map, AllByRecursion}
 use Rattle.pop3_wire.specs.Line.{IsLine, ended}
@@ -17,7 +17,7 @@ use Rattle.pop3_server.specs.declared.text_part.TextBody.{TextBody}
 use Rattle.pop3_server.specs.TextAnswer.{BeginsAnswer}
 use Rattle.pop3_server.specs.TextBody.{GivesMore, GivesRest}
 
--- how long a line may be, its CR LF included, and how many octets are read of one connection
+-- how long a line may be, its CR LF included, and how many octets are read from one connection
 abbrev pub max_line : ℕ
 max_line = 512
 
@@ -26,7 +26,7 @@ max_octets = 16777216
 
 -- ---- what comes in
 
--- the octets got wait behind those that waited, but for a line that was dropped in front
+-- the octets got wait after those that waited before, except for a line that was dropped in front
 pub record Queues (before : Waiting) (dropped : List ℕ) (after : Waiting) (gained : List ℕ) : Type 0 where
   pub octets : before.octets ++ gained ≡ dropped ++ after.octets
   pub left : length gained + after.left ≡ before.left
@@ -43,13 +43,13 @@ Hears old before (Ok End) new after =
 Hears old before (Err fault) new after =
     (fault ≡ ReadFailed) × ((gained dropped : List ℕ) × Drew old new gained × Queues before dropped after gained)
 
--- nothing more came because nothing comes any more, or because no more may be taken
+-- nothing more came because the link has ended, or because no more may be taken
 abbrev pub TakesMore : Result Bool ServerFault → ℕ → Link → Type 0
 TakesMore (Ok true) left link = Unit {0}
 TakesMore (Ok false) left link = (link.ended ≡ true) ⊎ (left ≡ 0)
 TakesMore (Err fault) left link = Unit {0}
 
--- where a line waits, it does so whatever is known of the link
+-- if a line waits, it does so whatever is known of the link
 abbrev pub Found : Heard → Waiting → Type 0
 Found (Line n) waiting = HasLine max_line waiting.octets n
 Found LongLine waiting = Unit {0}
@@ -57,11 +57,11 @@ Found End waiting = Unit {0}
 
 -- ---- what is sent
 
--- the greeting went out, and the answers to these lines
+-- the greeting was sent, and the answers to these lines
 abbrev pub AllSent : {D : Type 0} → (D → Type 0) → (D → Mail) → Machine D → List (List ℕ) → List ℕ → Machine D → Type 0
 AllSent sound mail old lines sent last = (answers : List ℕ) × AnswersLines sound mail old lines answers last × (sent ≡ greeting ++ answers)
 
--- the greeting went out in part alone, or the greeting and all answers did but the last, of which a part did
+-- only a part of the greeting was sent; or the greeting and all answers were sent, but only a part of the last
 abbrev pub PartSent : {D : Type 0} → (D → Type 0) → (D → Mail) → Machine D → List (List ℕ) → List ℕ → Machine D → Type 0
 PartSent {D} sound mail old lines sent last =
     ((rest : List ℕ) × (greeting ≡ sent ++ rest) × (lines ≡ []) × (last ≡ old))
@@ -69,30 +69,30 @@ PartSent {D} sound mail old lines sent last =
     × (lines ≡ before ++ line ∷ []) × AllSent sound mail old before whole mid × AnswersLine sound mail mid line answer last
     × (answer ≡ front ++ rest) × (sent ≡ whole ++ front))
 
--- the greeting and all answers went out but the last, with a text, of which all went out that was read
+-- the greeting and all answers were sent; the last has a text, of which all that was read was sent
 abbrev pub BegunSent : {D : Type 0} → (D → Type 0) → (D → Mail) → Bool → Machine D → List (List ℕ) → List ℕ → Machine D → Type 0
 BegunSent {D} sound mail refused old lines sent last =
     (before : List (List ℕ)) × (line whole answer : List ℕ) × (mid : Machine D)
     × (lines ≡ before ++ line ∷ []) × AllSent sound mail old before whole mid × BeginsAnswer sound mail refused mid line answer last
     × (sent ≡ whole ++ answer)
 
--- what went out for these lines, and which server is left, where this rest was got behind them
+-- what was sent for these lines, and the server that is left, if this rest was got after them
 abbrev pub WentOut : {D : Type 0} → (D → Type 0) → (D → Mail) → Machine D → List (List ℕ) → List ℕ → List ℕ → Result (Unit {0}) ServerFault → Machine D → Type 0
 -- all was answered while the server was open
 WentOut sound mail old lines rest sent (Ok done) new =
     AllSent sound mail old lines sent new × ((is_open new.state ≡ false) ⊎ IsLine rest)
 WentOut sound mail old lines rest sent (Err ReadFailed) new = AllSent sound mail old lines sent new
--- of a text that goes on, perhaps not all went out that was read
+-- if a text follows, perhaps not all that was read of it was sent
 WentOut sound mail old lines rest sent (Err WriteFailed) new =
     PartSent sound mail old lines sent new ⊎ ((unsent : List ℕ) × BegunSent sound mail false old lines (sent ++ unsent) new)
--- the maildrop refused a part of a text of which parts went out
+-- the maildrop refused a part of a text after other parts of it were sent
 WentOut sound mail old lines rest sent (Err MaildropFailed) new = BegunSent sound mail true old lines sent new
--- memory was wanting for the greeting, or for one more answer
+-- memory ran out for the greeting, or for one more answer
 WentOut {D} sound mail old lines rest sent (Err NoMemory) new =
     ((sent ≡ []) × (lines ≡ []) × (new ≡ old))
     ⊎ ((last : Machine D) × AllSent sound mail old lines sent last × SameServer sound mail last new)
 
--- what follows of a text went out, or a front of it
+-- what follows of a text was sent, or a prefix of it
 abbrev pub SendsRest : {D : Type 0} → (D → Type 0) → (D → Mail) → D → TextBody → Link → Result (Unit {0}) ServerFault → D → Link → Type 0
 SendsRest sound mail old text before (Ok done) new after =
     (given : List ℕ) × GivesRest sound mail old text given new × (after ≡ record before { sent = before.sent ++ given })
@@ -104,7 +104,7 @@ SendsRest sound mail old text before (Err MaildropFailed) new after =
     (given : List ℕ) × (next : TextBody) × GivesMore sound mail true old text given next new × (after ≡ record before { sent = before.sent ++ given })
 SendsRest sound mail old text before (Err NoMemory) new after = ⊥
 
--- a line was answered, or a front of its answer went out
+-- a line was answered, or a prefix of its answer was sent
 abbrev pub SendsAnswer : {D : Type 0} → (D → Type 0) → (D → Mail) → Machine D → List ℕ → Link → Result Bool ServerFault → Machine D → Link → Type 0
 SendsAnswer sound mail old line before (Ok closing) new after =
     (answer : List ℕ) × AnswersLine sound mail old line answer new × (after ≡ record before { sent = before.sent ++ answer })
@@ -128,10 +128,10 @@ pub record Served {D : Type 0} (sound : D → Type 0) (mail : D → Mail) (old :
   pub out : List ℕ
   pub sent : after.sent ≡ before.sent ++ out
   pub answered : WentOut sound mail old lines rest out result new
-  -- Ok only where the server is closed, nothing comes any more, or the bound is reached
+  -- Ok only if the server is closed, the link has ended, or the bound is reached
   pub ends : result ≡ Ok tt → (is_open new.state ≡ false) ⊎ ((after.ended ≡ true) ⊎ (length gained ≡ max_octets))
 
--- a fault of the link is a refused call of it; the others are none
+-- ReadFailed and WriteFailed are refused calls of the link; the others aren't
 abbrev pub is_refusal : ServerFault → Bool
 is_refusal ReadFailed = true
 is_refusal WriteFailed = true

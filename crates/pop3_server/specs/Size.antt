@@ -10,7 +10,7 @@ use Rattle.pop3_server.specs.declared.size.SizeCount.{SizeCount}
 abbrev pub size_of : List ℕ → ℕ
 size_of text = length (flat_map ended (lines_of_text text))
 
--- a number, as far as 64 bits go
+-- a number, or the greatest of 64 bits if it is above that
 abbrev pub capped : ℕ → ℕ
 capped number = min number (2 ^ 64 - 1)
 

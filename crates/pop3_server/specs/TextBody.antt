@@ -1,4 +1,4 @@
--- How far the body of a text has come.
+-- The place in the body of a text that comes in parts.
 use Rattle.std.specs.Prelude.{◌≡◌, ℕ, ◌+◌, Bool, true, false, List, ◌++◌, Option, Some, None, length, slice_get, drop}
 use Rattle.mail_terms.specs.FailureCount.{Tallies}
 use Rattle.pop3_wire.specs.World.{Message}
@@ -9,16 +9,16 @@ use Rattle.pop3_server.specs.ServerMachine.{Known}
 use Rattle.pop3_server.specs.TextPart.{ArePart}
 use Rattle.pop3_server.specs.TextPiece.{is_open_after, sent_end, sent_piece, taken}
 
--- of the octets that follow in a text those that belong to its body, or to that of its top
+-- those of the next octets of a text that belong to its body, or to that of its top
 abbrev pub belonging : Option Top → List ℕ → List ℕ
 belonging None rest = rest
 belonging (Some top) rest = taken top rest
 
--- the octets of a body, by whether a line is open before them, and the body's end
+-- what these octets of a text add to its body, and the body's end, given whether a line is open before them
 abbrev pub ended_body : Bool → List ℕ → List ℕ
 ended_body in_line octets = sent_piece in_line octets ++ sent_end (is_open_after in_line octets)
 
--- what is still to come of a body, where this is all that follows in its text
+-- the rest of a body, if this is all that follows in its text
 abbrev pub still : TextBody → List ℕ → List ℕ
 still body rest = ended_body body.stuffer.in_line (belonging body.top rest)
 
@@ -37,7 +37,7 @@ pub record GivesMore {D : Type 0} (sound : D → Type 0) (mail : D → Mail) (re
   pub removals : (mail new).removals ≡ (mail old).removals
   pub known : Known sound mail old new (λ m n. (n ≡ after_call refused m) × ArePart m before.place before.start piece)
 
--- for a piece of a text all that was to come of its body was given: the same as for all of the text
+-- for a piece of a text the rest of its body was given, which is the same as for all of the text
 pub record GivesRest {D : Type 0} (sound : D → Type 0) (mail : D → Mail) (old : D) (before : TextBody) (given : List ℕ) (new : D) : Type 0 where
   pub piece : List ℕ
   pub ends : given ≡ still before piece

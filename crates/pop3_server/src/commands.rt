@@ -19,22 +19,22 @@ use crate::text_part::TextBody;
 use pop3_wire::{Bytes, Command};
 use std::alloc::Global;
 
-/// A reply, or the front of one, and the text that goes on behind it.
+/// The octets of a reply, and the text that follows them if they aren't the whole reply.
 type Reply = (Vec<u8>, Option<TextBody>);
 
-/// What a command leads to.
+/// The result of a command.
 #[derive(Drop)]
 pub struct Step {
-    /// The octets of the reply, or of its front where a text goes on.
+    /// The octets of the reply, or of its beginning if a text follows.
     pub bytes: Vec<u8>,
-    /// The next state; none where the state stays.
+    /// The next state; none if the state stays.
     pub next: Option<State>,
-    /// The text that goes on behind these octets.
+    /// The text that follows these octets.
     pub rest: Option<TextBody>,
 }
 
 impl Step {
-    /// A whole reply, behind which the state stays.
+    /// A whole reply, after which the state stays.
     pub fn stay(bytes: Vec<u8>) -> Step
         ensures { result ≡ record { bytes = bytes; next = None; rest = None } }
     {
@@ -75,8 +75,8 @@ fn open<D: Maildrop>(alloc: Global, drop: &mut D) -> Result<Step, ServerFault>
     Ok(Step::go(reply, State::Transaction(rows)))
 }
 
-/// The text of the message at a place behind a first line: all of it, or its head and so many lines of
-/// what follows. The reply is made until it has more than `limit` octets.
+/// The reply with the text of the message at a place after its first line: all of the text, or
+/// its head and so many lines after it. It is made until it ends or has more than `limit` octets.
 fn give<D: Maildrop>(
     alloc: Global,
     drop: &mut D,
@@ -123,7 +123,7 @@ fn retr<D: Maildrop>(
     give(alloc, drop, reply, TextBody::new(i, None), limit)
 }
 
-/// TOP: the head of a message, and so many lines of what follows.
+/// TOP: the head of a message, and so many lines after it.
 fn top<D: Maildrop>(
     alloc: Global,
     drop: &mut D,
@@ -145,7 +145,7 @@ fn top<D: Maildrop>(
     give(alloc, drop, reply, TextBody::new(i, Some(count)), limit)
 }
 
-/// Removes one message, and says whether it was removed.
+/// Removes one message, and returns whether it was removed.
 fn remove_at<D: Maildrop>(drop: &mut D, i: usize) -> bool
     requires { D.sound drop.old → HasPlace (D.mail drop.old) i }
     ensures asks { (D.mail drop.new).removals ≡ counted_up (D.mail drop.old).removals }
@@ -157,7 +157,7 @@ fn remove_at<D: Maildrop>(drop: &mut D, i: usize) -> bool
     }
 }
 
-/// QUIT: removes the marked messages in order, each tried, and says whether all were removed.
+/// QUIT: tries to remove each of the marked messages, in order, and returns whether all were removed.
 fn leave<D: Maildrop>(drop: &mut D, rows: &[MessageRow]) -> bool
     requires { D.sound drop.old → (i : ℕ) (row : MessageRow) → slice_get rows.now i ≡ Some row → HasPlace (D.mail drop.old) i }
     ensures asks { (D.mail drop.new).removals ≡ with_marked rows.now (D.mail drop.old).removals }
@@ -174,7 +174,7 @@ fn leave<D: Maildrop>(drop: &mut D, rows: &[MessageRow]) -> bool
     all
 }
 
-/// Whether two texts are the same. The time that it takes is by their lengths alone, and doesn't tell
+/// Whether two texts are the same. The time that it takes depends only on their lengths, not on
 /// where they differ.
 fn are_same(one: &[u8], other: &[u8]) -> bool
     ensures { result ≡ bytes_eq one.now other.now }
@@ -189,7 +189,7 @@ fn are_same(one: &[u8], other: &[u8]) -> bool
     same
 }
 
-/// A command in AUTHORIZATION.
+/// A command in the AUTHORIZATION state.
 pub fn authorize<D: Maildrop>(
     alloc: Global,
     drop: &mut D,
@@ -273,7 +273,7 @@ fn dele(alloc: Global, rows: &mut Rows, number: u32) -> Result<Vec<u8>, ServerFa
     }
 }
 
-/// RSET: marks none.
+/// RSET: unmarks all messages.
 fn rset(alloc: Global, rows: &mut Rows) -> Result<Vec<u8>, ServerFault>
     ensures ok { IfOk result (λ reply. in_transaction rows.old Rset ≡ Say reply.items (Transaction rows.new)) }
     ensures same_places { SamePlaces rows.old rows.new }
@@ -284,7 +284,7 @@ fn rset(alloc: Global, rows: &mut Rows) -> Result<Vec<u8>, ServerFault>
     Ok(reply)
 }
 
-/// QUIT: removes the marked messages. Both replies are made before one is removed.
+/// QUIT: removes the marked messages. Both replies are made before a message is removed.
 fn quit<D: Maildrop>(
     alloc: Global,
     drop: &mut D,
@@ -299,7 +299,8 @@ fn quit<D: Maildrop>(
     if leave(drop, rows) { Ok(all) } else { Ok(some) }
 }
 
-/// A command in TRANSACTION. A reply with a text is made until it has more than `limit` octets.
+/// A command in the TRANSACTION state. A reply with a text is made until it ends or has more than
+/// `limit` octets.
 pub fn transact<D: Maildrop>(
     alloc: Global,
     drop: &mut D,

@@ -11,10 +11,10 @@ pub enum ServerFault {
     /// The link refused to write.
     #[error("write failed")]
     WriteFailed,
-    /// The maildrop refused a part of a text of which parts were sent.
+    /// The maildrop refused a part of a text after other parts of it were sent.
     #[error("maildrop failed")]
     MaildropFailed,
-    /// A growth was refused.
+    /// Out of memory.
     #[error("out of memory")]
     NoMemory,
 }

@@ -19,8 +19,8 @@ pub fn conversations_are_honest<D: Maildrop>()
     replies_are_read_as_written();
 }
 
-/// The same of a [`LoopWire`](crate::LoopWire) to a new server, for whole commands of a session and
-/// a part of one more, also if the link went down; and the server is open unless QUIT was sent whole.
+/// The same for a [`LoopWire`](crate::LoopWire) to a new server, for whole commands of a session and a
+/// part of one more, also if the link went down; and the server is open unless QUIT was sent whole.
 pub fn loops_are_honest<D: Maildrop>()
     ensures { GivesHonest D.sound D.mail }
 {

@@ -1,4 +1,4 @@
-//! A POP3 server as a machine of lines, over any maildrop (RFC 1939).
+//! A POP3 server that takes lines and gives answers, over any maildrop (RFC 1939).
 #![tactic(auto)]
 
 mod commands;

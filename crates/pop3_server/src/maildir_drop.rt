@@ -1,6 +1,5 @@
-//! A Maildir in a real folder as a maildrop. Its files are listed as they lie in `cur` and `new`,
-//! those whose names begin with a full stop left out (the Maildir format: a name up to its first
-//! colon stays, and flags follow).
+//! A Maildir in a real folder as a maildrop: the files of `cur` and `new` whose names don't begin with
+//! a full stop. In the Maildir format a name stays the same up to its first colon; flags follow.
 ghost use Rattle.std.specs.Prelude.{◌≡◌, ◌≤◌, ◌<◌, ◌+◌, ◌^◌, length, map, vec_len, IfOk, IfErr, []};
 ghost use Rattle.std.specs.String.{string_bytes};
 ghost use Rattle.mail_terms.specs.Distinct.{AreDistinct};
@@ -31,9 +30,9 @@ pub struct MaildirDrop<'a, R: Files + AllocGlobal + Clone + Drop> {
     listing: Listing,
     /// An earlier server's listing, until this one has its own.
     earlier: Listing,
-    /// The path of the file or folder that couldn't be read, where that refused a listing.
+    /// The path of the file or folder that couldn't be read, if that refused a listing.
     unread: Option<String>,
-    /// Where files were seen last that aren't where they were listed.
+    /// Where files were last seen that aren't where they were listed.
     last_seen: SeenFiles,
     /// The file of which a part was given last.
     open: Option<OpenText<R::File>>,
@@ -63,12 +62,12 @@ impl<'a, R: Files + AllocGlobal + Clone + Drop> Model for MaildirDrop<'a, R> {
     } };
 }
 
-/// No file is there.
+/// The error for a file that isn't there.
 fn missing() -> Unread {
     io::Error::from(ErrorKind::NotFound).into()
 }
 
-/// The messages found in a Maildir, and where their files lie.
+/// The messages found in a Maildir, and the places of their files.
 #[derive(Drop)]
 struct ListedMessages {
     entries: Vec<Entry>,
@@ -93,9 +92,8 @@ impl<'a, R: Files + Clock + RandomSource + AllocGlobal + Clone + Drop> MaildirDr
         }
     }
 
-    /// The same Maildir for another server, as at the start, but that the folders aren't looked through
-    /// again while the last listing stands, and sizes of files aren't counted again while these aren't
-    /// changed.
+    /// The same Maildir for another server, as at the start, except that the folders aren't searched
+    /// again while the last listing is valid, and the sizes of unchanged files aren't counted again.
     pub fn renewed(self) -> MaildirDrop<'a, R>
         ensures { result ≡ record { path = self.entry.path; names = []; failures = 0; removals = 0 } }
     {
@@ -117,7 +115,7 @@ impl<'a, R: Files + Clock + RandomSource + AllocGlobal + Clone + Drop> MaildirDr
         }
     }
 
-    /// The path of the file or folder that couldn't be read, where that refused a listing.
+    /// The path of the file or folder that couldn't be read, if that refused a listing.
     pub fn unread(&self) -> Option<&str> {
         match &self.unread {
             Some(path) => Some(path.as_str()),
@@ -125,7 +123,7 @@ impl<'a, R: Files + Clock + RandomSource + AllocGlobal + Clone + Drop> MaildirDr
         }
     }
 
-    /// The files of the Maildir: those of the earlier listing where it stands.
+    /// The files of the Maildir: those of the earlier listing, if it is still valid.
     fn find(&self, last_seen: &mut SeenFiles) -> Result<FoundFiles, Unread> {
         let look = self.folders.look()?;
         if self.earlier.look.stands_at(&look) {
@@ -141,7 +139,7 @@ impl<'a, R: Files + Clock + RandomSource + AllocGlobal + Clone + Drop> MaildirDr
         Ok(FoundFiles { look, files })
     }
 
-    /// The size of a file: the one that is known, or else it is read. None where it is gone.
+    /// The size of a file: the one that is known, or else the file is read. None if it is gone.
     fn size_of(
         &self,
         last_seen: &mut SeenFiles,
@@ -157,8 +155,8 @@ impl<'a, R: Files + Clock + RandomSource + AllocGlobal + Clone + Drop> MaildirDr
         }
     }
 
-    /// The messages of these files: of several with one id the first, none past the limits, and none
-    /// whose file is gone.
+    /// The messages of these files: only the first of several with one id, none above the limits,
+    /// and none whose file is gone.
     #[tactic(auto, using(crate::proofs::MaildirLemmas::ids_push))]
     fn list(&self, last_seen: &mut SeenFiles, found: FoundFiles) -> Result<ListedMessages, Unread>
         ensures within { IfOk result (λ listed. vec_len listed.entries ≤ MAX_COUNT) }
@@ -167,7 +165,7 @@ impl<'a, R: Files + Clock + RandomSource + AllocGlobal + Clone + Drop> MaildirDr
     {
         let alloc = self.rt.alloc();
         let FoundFiles { look, files: found } = found;
-        // By keys of random: the names of files may come from ids that a server chose.
+        // Random keys, since the names of files may come from ids that a server chose.
         let keys = RandomState::new(self.rt)?;
         let mut seen: HashSet<Vec<u8>, RandomState> = HashSet::with_capacity_and_hasher(
             alloc,
@@ -185,7 +183,7 @@ impl<'a, R: Files + Clock + RandomSource + AllocGlobal + Clone + Drop> MaildirDr
             let known = counted.size_of(&file);
             let uid = unique_id(alloc, base(file.name.as_str()).as_bytes())?;
             let key = Vec::from_slice(alloc, uid.as_slice())?;
-            // The size is the length at least.
+            // The size is at least the length.
             if seen.contains(&key) || file.stamp.length > MAX_SIZE {
                 continue;
             }
@@ -229,9 +227,9 @@ impl<'a, R: Files + Clock + RandomSource + AllocGlobal + Clone + Drop> MaildirDr
         }
     }
 
-    /// The bytes of the file at a place of the last listing. They go into room for one more than the
-    /// listing counted, so that the read that finds the end has room too: it grows only where the
-    /// file has grown.
+    /// The bytes of the file at a place of the last listing. The buffer has room for one octet
+    /// more than the listing counted, so that the read that finds the end fits too; it grows only
+    /// if the file has grown.
     fn read_file(&mut self, i: usize) -> Result<Vec<u8>, Unread>
         ensures same { self.new ≡ self.old }
     {
@@ -261,8 +259,8 @@ impl<'a, R: Files + Clock + RandomSource + AllocGlobal + Clone + Drop> MaildirDr
         })
     }
 
-    /// Reads a part of the file at a place. The file stays open until its end was read, so that it is
-    /// the same one from the first part on.
+    /// Reads a part of the file at a place. The file stays open until its end is read, so that
+    /// all parts are of the same file.
     fn read_part(&mut self, i: usize, start: usize, piece: &mut [u8]) -> Result<usize, Unread>
         ensures same { self.new ≡ self.old }
         ensures within { IfOk result (λ n. n ≤ length piece.new) }
@@ -289,7 +287,7 @@ impl<'a, R: Files + Clock + RandomSource + AllocGlobal + Clone + Drop> MaildirDr
         Ok(n)
     }
 
-    /// Removes the file at a place of the last listing. One that is gone already is removed.
+    /// Removes the file at a place of the last listing. One that is gone already counts as removed.
     fn remove_file(&mut self, i: usize) -> Result<(), Unread>
         ensures same { self.new ≡ self.old }
     {
@@ -302,7 +300,7 @@ impl<'a, R: Files + Clock + RandomSource + AllocGlobal + Clone + Drop> MaildirDr
             .remove(&mut self.last_seen, listed.folder, name)
     }
 
-    /// What a call answers after an error of the system: want of memory as such, anything else as a
+    /// The fault for an error of the system: NoMemory if memory ran out; any other error is a
     /// refusal, which is counted.
     fn refuse(&mut self, error: io::Error) -> DropFault
         ensures others { self.new ≡ record self.old { failures = self.new.failures } }

@@ -16,13 +16,13 @@ pub const MAX_SIZE: u64 = 134_217_728;
 /// The greatest number of messages that are listed.
 pub const MAX_COUNT: usize = 100_000;
 
-/// Why a maildrop did not do what it was asked.
+/// Why a maildrop didn't do what it was asked.
 #[derive(Clone, Copy, Debug, PartialEq, Eq, Error)]
 pub enum DropFault {
-    /// The device refused.
+    /// The maildrop's device refused the call.
     #[error("refused")]
     Refused,
-    /// A growth was refused.
+    /// Out of memory.
     #[error("out of memory")]
     NoMemory,
 }
@@ -49,8 +49,8 @@ impl<T: Drop> From<AllocFailed<T>> for DropFault {
     }
 }
 
-/// What a listing says of a message: its unique-id, a legal one, and its size in octets, each
-/// line's end counted as two, at most [`MAX_SIZE`].
+/// A message's entry in a listing: its unique-id, which is legal, and its size in octets, at most
+/// [`MAX_SIZE`]. Each line's end counts as two octets (RFC 1939, section 11).
 #[derive(Drop)]
 pub struct Entry {
     uid: Bytes,
@@ -70,7 +70,8 @@ impl Model for Entry {
 }
 
 impl Entry {
-    /// The entry of this id and size. `is_legal_id` tests the one condition.
+    /// The entry of this id and size. The id must be legal, which `is_legal_id` tests, and the
+    /// size at most [`MAX_SIZE`].
     pub fn new(uid: Bytes, size: u64) -> Entry
         requires legal { IsTrue (is_legal_id uid) }
         requires within { size ≤ MAX_SIZE }
@@ -105,8 +106,8 @@ pub trait Maildrop {
     // reached its greatest value. It is never true of a real folder.
     ghost sound: { Self → Type 0 };
 
-    /// Lists the messages, at most [`MAX_COUNT`], no id twice. From then on a message's place is
-    /// that in this list.
+    /// Lists the messages: at most [`MAX_COUNT`], and no id twice. From then on a message's place
+    /// is its place in this list. After a fault the places are as they were.
     fn entries(&mut self) -> Result<Vec<Entry>, DropFault>
         ensures within { IfOk result (λ entries. vec_len entries ≤ MAX_COUNT) }
         ensures distinct { IfOk result (λ entries. AreDistinct (map (λ (e : Listed). e.uid) entries.items)) }
@@ -114,16 +115,16 @@ pub trait Maildrop {
         ensures removes_none { (mail self.new).removals ≡ (mail self.old).removals }
         ensures lists { sound self.new → sound self.old × ListsMessages (mail self.old) result (mail self.new) };
 
-    /// The text of the message at a place, its lines ended by LF.
+    /// The text of the message at a place, its lines ended by LF. After a fault no message has changed.
     fn text(&mut self, i: usize) -> Result<Vec<u8>, DropFault>
         requires { sound self.old → HasPlace (mail self.old) i }
         ensures tally { Tallies (refuses is_refusal result) (mail self.old).failures (mail self.new).failures }
         ensures removes_none { (mail self.new).removals ≡ (mail self.old).removals }
         ensures gives { sound self.new → sound self.old × Gives (mail self.old) i result (mail self.new) };
 
-    /// Puts octets of the text of the message at a place, from the octet `start` on, in front of what
-    /// stands in `piece`, and says how many: 0 only where none are left. Behind the first part, want of
-    /// memory is a refusal as others are.
+    /// Puts octets of the text of the message at a place, from the octet `start` on, at the
+    /// beginning of `piece`, and returns how many: 0 only if none are left. After the first part
+    /// of a text, running out of memory is a refusal too.
     fn part(&mut self, i: usize, start: usize, piece: &mut [u8]) -> Result<usize, DropFault>
         requires place { sound self.old → HasPlace (mail self.old) i }
         requires room { 0 < length piece.old }
@@ -134,8 +135,8 @@ pub trait Maildrop {
         ensures removes_none { (mail self.new).removals ≡ (mail self.old).removals }
         ensures gives { sound self.new → sound self.old × GivesPart (mail self.old) i start result piece.new (mail self.new) };
 
-    /// Removes the message at a place. Where it is refused, the message may be gone or not; want of
-    /// memory is such a refusal.
+    /// Removes the message at a place. After a refusal the message may be gone or not. Running
+    /// out of memory is a refusal too.
     fn remove(&mut self, i: usize) -> Result<(), DropFault>
         requires { sound self.old → HasPlace (mail self.old) i }
         ensures err { IfErr result (λ e. e ≡ DropFault.Refused) }
@@ -143,7 +144,7 @@ pub trait Maildrop {
         ensures asks { (mail self.new).removals ≡ counted_up (mail self.old).removals }
         ensures removes { sound self.new → sound self.old × Removes (mail self.old) i result (mail self.new) };
 
-    /// How many calls were refused, as far as the count goes.
+    /// How many calls were refused, up to the greatest count.
     fn failures(&self) -> u64
         ensures { result ≡ (mail self.now).failures };
 }

@@ -49,7 +49,7 @@ impl Kept {
         })
     }
 
-    /// What a listing says of it.
+    /// Its entry in a listing.
     fn listed(&self, alloc: Global) -> Result<Entry, AllocError>
         ensures { IfOk result (λ entry. entry ≡ entry_of self.now) }
     {
@@ -64,8 +64,8 @@ impl Kept {
         self.entry.uid() == uid
     }
 
-    /// Puts its text from the octet `start` on into a piece, as much as there is room for, and says how
-    /// much that is.
+    /// Puts its text from the octet `start` on into a piece, as much as there is room for, and
+    /// returns how much that is.
     fn put_part(&self, start: usize, piece: &mut [u8]) -> usize
         requires { 0 < length piece.old }
         ensures within { result ≤ length piece.new }
@@ -83,7 +83,7 @@ impl Kept {
         n
     }
 
-    /// Its text.
+    /// A copy of its text.
     fn copied(&self, alloc: Global) -> Result<Vec<u8>, AllocError>
         ensures { IfOk result (λ text. text.items ≡ self.now.text) }
     {
@@ -106,7 +106,7 @@ fn count(slots: &[Option<Kept>]) -> usize
     count
 }
 
-/// What a listing says of the messages in these places.
+/// The entries of the messages in these places.
 fn list(alloc: Global, slots: &[Option<Kept>]) -> Result<Vec<Entry>, AllocError>
     ensures { IfOk result (λ entries. entries.items ≡ map entry_of (there slots.now)) }
 {
@@ -137,7 +137,7 @@ fn has_id(slots: &[Option<Kept>], uid: &[u8]) -> bool
     false
 }
 
-/// A maildrop in memory. It refuses nothing but for want of memory.
+/// A maildrop in memory. It refuses a call only if memory runs out.
 #[derive(Drop)]
 pub struct MemoryDrop {
     alloc: Global,
@@ -191,7 +191,7 @@ impl MemoryDrop {
         has_id(self.slots.as_slice(), uid)
     }
 
-    /// Whether a message stands at this place: what `text` and `remove` ask for.
+    /// Whether there is a message at this place, as `text` and `remove` need.
     pub fn has_place(&self, i: usize) -> bool
         ensures { IsTrue result ↔ HasPlace self.now i }
     {
@@ -202,8 +202,10 @@ impl MemoryDrop {
         }
     }
 
-    /// Puts a message behind the others. The conditions are tested by `is_legal_id`, `contains`,
-    /// `size_of` and `len`. A text whose last line has no LF is served with that line ended.
+    /// Appends a message. Its id must be legal and new, its size at most `MAX_SIZE`, and there
+    /// must be fewer than `MAX_COUNT` messages: `is_legal_id`, `contains`, `size_of` and `len`
+    /// test this. A text whose last line has no LF is served with that line ended. If memory runs
+    /// out, nothing is added.
     pub fn push(&mut self, uid: &[u8], text: &[u8]) -> Result<(), AllocError>
         requires legal { IsTrue (is_legal_id uid.now) }
         requires absent { Contains (ids self.old.slots) uid.now → ⊥ }

@@ -1,4 +1,4 @@
-//! What a server says: each reply whole, with its CR LF (RFC 1939, sections 5 to 7).
+//! The replies of a server, each whole, with its CR LF (RFC 1939, sections 5 to 7).
 ghost use Rattle.std.specs.Prelude.{◌≡◌, ◌≤◌, ◌<◌, ◌++◌, length, IfOk, IfErr, codes, vec_len};
 ghost use Rattle.std.specs.Fmt.{decimal};
 ghost use Rattle.pop3_server.specs.ServerMachine.{said, scan_line, uid_line, listed, lines_from, left_count, left_total, octets_line};
@@ -9,7 +9,7 @@ use crate::rows::{MessageRow, left};
 use crate::text_part::PART;
 use std::alloc::Global;
 
-/// One line.
+/// A reply of one line.
 pub fn say(alloc: Global, text: &[u8]) -> Result<Vec<u8>, ServerFault>
     ensures ok { IfOk result (λ reply. reply.items ≡ said text.now) }
     ensures err { IfErr result (λ e. e ≡ ServerFault.NoMemory) }
@@ -19,7 +19,7 @@ pub fn say(alloc: Global, text: &[u8]) -> Result<Vec<u8>, ServerFault>
     Ok(reply)
 }
 
-/// How many messages there are, in answer to PASS.
+/// The reply to PASS: how many messages there are.
 pub fn say_count(alloc: Global, count: usize) -> Result<Vec<u8>, ServerFault>
     ensures ok { IfOk result (λ reply. reply.items ≡ said (codes "+OK " ++ decimal count ++ codes " messages")) }
     ensures err { IfErr result (λ e. e ≡ ServerFault.NoMemory) }
@@ -27,7 +27,7 @@ pub fn say_count(alloc: Global, count: usize) -> Result<Vec<u8>, ServerFault>
     Ok(format!(in alloc; "+OK {count} messages\r\n")?.into_bytes())
 }
 
-/// How many messages aren't marked, and their octets.
+/// The reply to STAT: how many messages aren't marked, and their octets.
 pub fn say_left(alloc: Global, rows: &[MessageRow]) -> Result<Vec<u8>, ServerFault>
     requires { length rows.now ≤ MAX_COUNT }
     ensures ok { IfOk result (λ reply. reply.items
@@ -38,7 +38,7 @@ pub fn say_left(alloc: Global, rows: &[MessageRow]) -> Result<Vec<u8>, ServerFau
     Ok(format!(in alloc; "+OK {count} {total}\r\n")?.into_bytes())
 }
 
-/// A message's size, behind its number.
+/// The reply to LIST of one message: its number and its size.
 pub fn say_size(alloc: Global, number: u32, row: &MessageRow) -> Result<Vec<u8>, ServerFault>
     ensures ok { IfOk result (λ reply. reply.items ≡ said (codes "+OK " ++ scan_line number row.now)) }
     ensures err { IfErr result (λ e. e ≡ ServerFault.NoMemory) }
@@ -47,7 +47,7 @@ pub fn say_size(alloc: Global, number: u32, row: &MessageRow) -> Result<Vec<u8>,
     Ok(format!(in alloc; "+OK {number} {size}\r\n")?.into_bytes())
 }
 
-/// A message's unique-id, behind its number.
+/// The reply to UIDL of one message: its number and its unique-id.
 pub fn say_uid(alloc: Global, number: u32, row: &MessageRow) -> Result<Vec<u8>, ServerFault>
     ensures ok { IfOk result (λ reply. reply.items ≡ said (codes "+OK " ++ uid_line number row.now)) }
     ensures err { IfErr result (λ e. e ≡ ServerFault.NoMemory) }
@@ -58,7 +58,7 @@ pub fn say_uid(alloc: Global, number: u32, row: &MessageRow) -> Result<Vec<u8>, 
     Ok(reply)
 }
 
-/// Puts a message's line of LIST behind what stands there.
+/// Appends a message's line of LIST.
 fn put_size(
     reply: &mut Vec<u8>,
     alloc: Global,
@@ -74,7 +74,7 @@ fn put_size(
     Ok(())
 }
 
-/// Puts a message's line of UIDL behind what stands there.
+/// Appends a message's line of UIDL.
 fn put_uid(
     reply: &mut Vec<u8>,
     alloc: Global,
@@ -91,7 +91,7 @@ fn put_uid(
     Ok(())
 }
 
-/// The sizes of the messages that aren't marked.
+/// The reply to LIST: the sizes of the messages that aren't marked.
 pub fn say_sizes(alloc: Global, rows: &[MessageRow]) -> Result<Vec<u8>, ServerFault>
     requires { length rows.now ≤ MAX_COUNT }
     ensures ok { IfOk result (λ reply. reply.items ≡ listed scan_line rows.now) }
@@ -108,7 +108,7 @@ pub fn say_sizes(alloc: Global, rows: &[MessageRow]) -> Result<Vec<u8>, ServerFa
     Ok(reply)
 }
 
-/// The unique-ids of the messages that aren't marked.
+/// The reply to UIDL: the unique-ids of the messages that aren't marked.
 pub fn say_uids(alloc: Global, rows: &[MessageRow]) -> Result<Vec<u8>, ServerFault>
     requires { length rows.now ≤ MAX_COUNT }
     ensures ok { IfOk result (λ reply. reply.items ≡ listed uid_line rows.now) }
@@ -125,16 +125,16 @@ pub fn say_uids(alloc: Global, rows: &[MessageRow]) -> Result<Vec<u8>, ServerFau
     Ok(reply)
 }
 
-/// The line with a message's size, in answer to RETR, and room for its text behind it, as far as the
-/// reply is made up to a limit.
+/// The first line of the reply to RETR, with the message's size. There is room for the text after
+/// it, as far as a reply is made that ends soon after `limit` octets.
 pub fn begin_text(alloc: Global, row: &MessageRow, limit: usize) -> Result<Vec<u8>, ServerFault>
     ensures ok { IfOk result (λ reply. reply.items ≡ said (octets_line row.now)) }
     ensures err { IfErr result (λ e. e ≡ ServerFault.NoMemory) }
 {
     let size = row.entry.size();
     let mut reply = format!(in alloc; "+OK {size} octets\r\n")?.into_bytes();
-    // The size counts all that is sent but dots that are stuffed in and the end mark; the last part may
-    // go over the limit.
+    // The size counts all that is sent except stuffed dots and the end mark; the last part may go
+    // over the limit.
     let room = limit.saturating_add(PART).min(size as usize);
     reply.reserve(room + b".\r\n".len())?;
     Ok(reply)

@@ -43,7 +43,7 @@ impl Rows {
     {
         let mut rows = Vec::with_capacity(alloc, entries.len())?;
         for entry in entries {
-            // The clause states the limit that an entry's type keeps.
+            // The call states the limit that an entry's type keeps.
             let _size = entry.size();
             rows.push(MessageRow {
                 entry,

@@ -1,4 +1,4 @@
-//! The server: a machine that is given lines and gives answers (RFC 1939).
+//! The server: it takes lines and gives answers (RFC 1939).
 ghost use Rattle.std.specs.Prelude.{◌≡◌, ◌≤◌, ◌<◌, ◌+◌, ◌-◌, ◌^◌, ℕ, not, true, false, None, Ok, IfOk, IfErr, IfSome, vec_len, vec_capacity};
 ghost use Rattle.mail_terms.specs.FailureCount.{counted_up};
 ghost use Rattle.pop3_wire.specs.CommandLine.{command_of};
@@ -20,28 +20,28 @@ use pop3_wire::{Command, WireFault, read_command};
 use std::alloc::Global;
 use std::marker::Model;
 
-/// What a server says to a line.
+/// A server's answer to a line.
 #[derive(Drop)]
 pub struct Answer {
     /// All octets of the reply, its last CR LF included.
     pub bytes: Vec<u8>,
     /// Whether the session is over after it.
     pub closing: bool,
-    /// What happened by it that one may want to know of.
+    /// The event that a journal would note, if there is one.
     pub event: Option<Event>,
 }
 
-/// What a server says to a line, or the front of it where a text goes on behind.
+/// A server's answer to a line, or the beginning of one if a text follows.
 #[derive(Drop)]
 pub struct Begun {
-    /// All that was made.
+    /// What was made so far.
     pub answer: Answer,
-    /// The text that goes on.
+    /// The text that follows.
     pub rest: Option<TextBody>,
 }
 
-/// A server of one session, over a maildrop. Contracts see whom it lets in, where it stands, and
-/// the maildrop.
+/// A server of one session, over a maildrop. Contracts see whom it lets in, its state, and the
+/// maildrop.
 #[derive(Drop)]
 pub struct Server<D: Maildrop> {
     alloc: Global,
@@ -72,8 +72,8 @@ fn is_closed(state: &State) -> bool
     }
 }
 
-/// Goes to the state that a step leads to, and gives its answer. The maildrop refused so many calls
-/// in this step.
+/// Goes to the state that a step leads to, and returns its answer. The maildrop refused `refused`
+/// calls in this step.
 #[tactic(auto, using(crate::proofs::EventLemmas::event_of_same))]
 fn take(state: &mut State, step: Step, refused: u64) -> Begun
     ensures state { state.new ≡ next_of state.old step.next }
@@ -100,7 +100,7 @@ fn take(state: &mut State, step: Step, refused: u64) -> Begun
 
 impl<D: Maildrop> Server<D> {
     /// A server at the start of a session, which lets in this user with this password. An empty
-    /// name or password is never matched, as no command carries one.
+    /// name or password never matches, since no command carries one.
     pub fn new(alloc: Global, drop: D, user: Vec<u8>, pass: Vec<u8>) -> Server<D>
         ensures { result ≡ record { user = user.items; pass = pass.items; state = Authorization None; drop = drop } }
     {
@@ -120,7 +120,8 @@ impl<D: Maildrop> Server<D> {
         !is_closed(&self.state)
     }
 
-    /// What is said before the first line. NoMemory where a growth is refused.
+    /// The greeting, which is sent before the first line is read (RFC 1939, section 4). NoMemory if
+    /// memory runs out.
     pub fn greeting(&mut self) -> Result<Answer, ServerFault>
         ensures same { self.new ≡ self.old }
         ensures ok { IfOk result (λ answer. (answer.bytes.items ≡ greeting) × (answer.closing ≡ not (is_open self.old.state))) }
@@ -136,8 +137,9 @@ impl<D: Maildrop> Server<D> {
         })
     }
 
-    /// The answer to a line without its CR LF. `is_open` tests the condition. NoMemory where a
-    /// growth is refused: then the state is as it was, and no message and no count has changed.
+    /// The answer to a line, which is given without its CR LF (RFC 1939, sections 4 to 7). The server
+    /// must be open, which `is_open` tests. NoMemory if memory runs out: then the state is as it was,
+    /// and no message and no count has changed.
     pub fn answer(&mut self, line: &[u8]) -> Result<Answer, ServerFault>
         requires { is_open self.old.state ≡ true }
         ensures who { (self.new.user ≡ self.old.user) × (self.new.pass ≡ self.old.pass) }
@@ -157,9 +159,9 @@ impl<D: Maildrop> Server<D> {
         }
     }
 
-    /// Begins the answer to a line without its CR LF. It is whole unless it has a text and more than
-    /// `limit` octets: then `go_on` gives what follows. `is_open` tests the condition. NoMemory as by
-    /// `answer`.
+    /// Begins the answer to a line, which is given without its CR LF. The answer is whole unless
+    /// it has a text and more than `limit` octets: then `go_on` gives what follows. The server
+    /// must be open, which `is_open` tests. NoMemory as for `answer`.
     pub fn begin(&mut self, line: &[u8], limit: usize) -> Result<Begun, ServerFault>
         requires { is_open self.old.state ≡ true }
         ensures who { (self.new.user ≡ self.old.user) × (self.new.pass ≡ self.old.pass) }
@@ -220,9 +222,9 @@ impl<D: Maildrop> Server<D> {
         Ok(take(&mut self.state, step, refused))
     }
 
-    /// Puts what follows of a text into a reply that is empty, until the text has ended or the reply has
-    /// more than `limit` octets; says whether more may come. The reply needs room for `limit` and `ROOM`
-    /// octets; then the only fault is MaildropFailed, where the maildrop refused a part.
+    /// Puts what follows of a text into an empty reply, until the text has ended or the reply has more
+    /// than `limit` octets; returns whether more may follow. The reply must have room for `limit` and
+    /// `ROOM` octets together. The only fault is MaildropFailed, if the maildrop refuses a part.
     pub fn go_on(
         &mut self,
         text: &mut TextBody,
@@ -250,7 +252,7 @@ impl<D: Maildrop> Server<D> {
         }
     }
 
-    /// The maildrop.
+    /// The maildrop, given back.
     pub fn into_drop(self) -> D
         ensures { result ≡ self.drop }
     {

@@ -13,7 +13,7 @@ use crate::server::{Begun, Server};
 use crate::text_part::{ROOM, TextBody};
 use pop3_wire::Wire;
 
-/// How many octets of a text are gathered before they are sent, where more of it follows.
+/// How many octets of a text are gathered before they are sent, if more of it follows.
 const CHUNK: usize = 65_536;
 
 /// Sends bytes, all of them at once.
@@ -29,15 +29,15 @@ fn send<W: Wire>(wire: &mut W, bytes: &[u8]) -> Result<(), ServerFault>
     }
 }
 
-/// Tells a journal what happened, if anything did.
+/// Passes an event to a journal, if there is one.
 fn tell<J: Journal>(journal: &mut J, event: Option<Event>) {
     if let Some(event) = event {
         journal.note(event);
     }
 }
 
-/// Sends what follows of a text as it is read, each time some of it, by way of a buffer that has room for
-/// this. The faults are WriteFailed, and MaildropFailed where the maildrop refused a part.
+/// Sends what follows of a text as it is read, one buffer after another. The faults are
+/// WriteFailed, and MaildropFailed if the maildrop refused a part.
 fn send_rest<D: Maildrop, W: Wire>(
     server: &mut Server<D>,
     wire: &mut W,
@@ -70,7 +70,7 @@ fn send_rest<D: Maildrop, W: Wire>(
     }
 }
 
-/// Answers a line, and says whether the session is over. A text that is long is sent as it is read.
+/// Answers a line, and returns whether the session is over. A long text is sent as it is read.
 fn answer_line<D: Maildrop, W: Wire, J: Journal>(
     server: &mut Server<D>,
     wire: &mut W,
@@ -98,7 +98,7 @@ fn answer_line<D: Maildrop, W: Wire, J: Journal>(
             Err(fault) => Err(fault),
         };
     };
-    // Room for what follows is had before anything is sent.
+    // Room for what follows is reserved before anything is sent.
     let room = (CHUNK + ROOM).saturating_sub(bytes.len());
     if bytes.reserve(room).is_err() {
         return Err(ServerFault::NoMemory);
@@ -112,16 +112,18 @@ fn answer_line<D: Maildrop, W: Wire, J: Journal>(
     }
 }
 
-/// Serves a link: sends the greeting, then an answer to each line, until QUIT or the end of input.
-/// Each answer is sent whole before the link is asked for more, a long text as it is read, so that the
-/// memory that is wanted doesn't grow with it.
+/// Serves a link (RFC 1939): sends the greeting, then an answer to each line, until QUIT or the end
+/// of input. Each answer is sent whole before the link is asked for more. A long text is sent as it
+/// is read, so that the memory needed doesn't grow with it.
 ///
-/// A line longer than 512 octets, its CR LF included, is read to its CR LF and answered
-/// `-ERR bad command`. At most 16,777,216 octets are read; then it is as at the end of input.
-/// `Server::is_open` tests the condition. ReadFailed and WriteFailed where the link refused,
-/// MaildropFailed where the maildrop refused a part of a text of which parts were sent, NoMemory where
-/// a growth was refused, before anything of the answer was sent: after a fault nothing more is sent, and
-/// nothing is removed that QUIT hadn't removed.
+/// A line longer than 512 octets, its CR LF included, is read to its CR LF, and the answer is
+/// `-ERR bad command`. At most 16,777,216 octets are read; then it is as at the end of input. The
+/// server must be open, which `Server::is_open` tests.
+///
+/// ReadFailed or WriteFailed if the link refused a call; MaildropFailed if the maildrop refused a
+/// part of a text after other parts of it were sent; NoMemory if memory ran out, before anything
+/// of the answer was sent. After a fault nothing more is sent, and no message is removed that
+/// QUIT hadn't removed.
 pub fn serve<D: Maildrop, W: Wire>(server: &mut Server<D>, wire: &mut W) -> Result<(), ServerFault>
     requires { is_open server.old.state ≡ true }
     ensures counted { CountsRefusal is_refusal (W.seen wire.old) result (W.seen wire.new) }
@@ -133,8 +135,7 @@ pub fn serve<D: Maildrop, W: Wire>(server: &mut Server<D>, wire: &mut W) -> Resu
     serve_and_note(server, wire, &mut NoJournal)
 }
 
-/// Does what `serve` does, and tells a journal what happens, before the answer to the line that made it
-/// happen is sent.
+/// Does what `serve` does, and notes each event in a journal before the answer to its line is sent.
 pub fn serve_and_note<D: Maildrop, W: Wire, J: Journal>(
     server: &mut Server<D>,
     wire: &mut W,

@@ -62,7 +62,8 @@ impl SizeCount {
     }
 }
 
-/// The size of a text in octets, or the greatest number where it is above that.
+/// The size of a text in octets, each line's end counted as two (RFC 1939, section 11), or
+/// 18,446,744,073,709,551,615 if it is above that.
 pub fn size_of(text: &[u8]) -> u64
     ensures { result ≡ capped (size_of text.now) }
 {

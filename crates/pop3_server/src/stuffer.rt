@@ -5,21 +5,21 @@ ghost use Rattle.pop3_server.specs.TextPiece.{is_open_after, sent_end, sent_piec
 use crate::text_line::cut_line;
 use std::alloc::AllocError;
 
-/// How far the body of a text has come.
+/// The place in the body of a text that comes piece by piece.
 #[derive(Clone, Copy)]
 pub struct Stuffer {
     in_line: bool,
 }
 
 impl Stuffer {
-    /// Nothing has come yet.
+    /// At the start of a text.
     pub fn new() -> Stuffer
         ensures { result.in_line ≡ false }
     {
         Stuffer { in_line: false }
     }
 
-    /// Puts what stands in front of some octets of a line.
+    /// Appends the full stop that some octets of a line need in front of them, if they do.
     fn put_stuffing(self, body: &mut Vec<u8>, octets: &[u8]) -> Result<(), AllocError>
         ensures body { IfOk result (λ _. body.new.items ≡ body.old.items ++ stuffing self.in_line octets.now) }
         ensures len { IfOk result (λ _. vec_len body.new ≡ vec_len body.old + length (stuffing self.in_line octets.now)) }
@@ -35,7 +35,7 @@ impl Stuffer {
         Ok(())
     }
 
-    /// Puts what a piece of the text adds behind what stands in its body.
+    /// Appends what a piece of the text adds to its body.
     pub fn put(&mut self, body: &mut Vec<u8>, piece: &[u8]) -> Result<(), AllocError>
         ensures body { IfOk result (λ _. body.new.items ≡ body.old.items ++ sent_piece self.old.in_line piece.now) }
         ensures in_line { IfOk result (λ _. self.new.in_line ≡ is_open_after self.old.in_line piece.now) }
@@ -59,7 +59,7 @@ impl Stuffer {
         Ok(())
     }
 
-    /// Ends the body: the text's last line, where it has no LF, and the end mark.
+    /// Ends the body: ends the text's last line, if it has no LF, and appends the end mark.
     pub fn end(self, body: &mut Vec<u8>) -> Result<(), AllocError>
         ensures body { IfOk result (λ _. body.new.items ≡ body.old.items ++ sent_end self.in_line) }
         ensures capacity { vec_capacity body.old ≤ vec_capacity body.new }

@@ -1,4 +1,4 @@
-//! Texts of a maildrop, asked for part by part.
+//! Texts of a maildrop, read part by part.
 ghost use Rattle.std.specs.Prelude.{◌≡◌, ◌≤◌, ◌<◌, ◌+◌, ◌*◌, ◌^◌, ◌-◌, ◌++◌, ℕ, List, [], length, true, false, Ok, IsTrue, IfErr, vec_len, vec_capacity};
 ghost use Rattle.mail_terms.specs.FailureCount.{Tallies, refuses};
 ghost use Rattle.pop3_server.specs.Maildrop.{Denies, HasPlace, is_refusal};
@@ -12,24 +12,24 @@ use crate::text_top::Top;
 /// How many octets of a text are asked for at once.
 pub const PART: usize = 16_384;
 
-/// How much one part and the end of its body add to a reply at most: an octet gives two at most.
+/// How many octets one part and the end of its body add to a reply at most: each octet gives at
+/// most two.
 pub const ROOM: usize = 32_773;
 
-/// How far the body of a text has come, or that of its top.
+/// The place in the body of a text, or in that of its top.
 #[derive(Clone, Copy)]
 pub struct TextBody {
     // The place of its message.
     place: usize,
-    // So many octets of the text were given.
+    // How many octets of the text were given.
     start: usize,
-    // How far the top has come, where no more than that is asked for.
+    // The place in the top, if no more than the top is asked for.
     top: Option<Top>,
     stuffer: Stuffer,
 }
 
 impl TextBody {
-    /// Nothing has come yet of the text at a place: of all of it, or of its head and so many lines of
-    /// what follows.
+    /// The start of the text at a place: of all of it, or of its head and so many lines after it.
     pub fn new(place: usize, count: Option<u32>) -> TextBody
         ensures place { result.place ≡ place }
         ensures start { result.start ≡ 0 }
@@ -76,8 +76,8 @@ impl TextBody {
         octets
     }
 
-    /// Asks for the next part of the text, and puts what it adds to the body behind what stands in a
-    /// reply; says whether more may come. Where nothing more comes, the body is ended.
+    /// Asks for the next part of the text, and appends what it adds to the body to a reply;
+    /// returns whether more may follow. If nothing more follows, the body is ended.
     fn put_part<D: Maildrop>(
         &mut self,
         drop: &mut D,
@@ -113,11 +113,11 @@ impl TextBody {
         Ok(true)
     }
 
-    /// Asks for parts of the text, one at least, and puts the body behind what stands in a reply, until
-    /// it has ended or the reply has more than `limit` octets; says whether more may come. Of the text
-    /// no more than one part is kept at a time, and nothing is asked for once all that was wanted has
-    /// come. Where a reply within the limit has room for `limit` and `ROOM` octets, and this isn't the
-    /// first part of the text, the only fault is a refusal of the maildrop.
+    /// Asks for parts of the text, at least one, and appends the body to a reply, until it has
+    /// ended or the reply has more than `limit` octets; returns whether more may follow. No more
+    /// than one part of the text is kept at a time, and nothing is asked for after all that was
+    /// wanted has come. If a reply within the limit has room for `limit` and `ROOM` octets, and
+    /// this isn't the first part of the text, the only fault is a refusal by the maildrop.
     pub fn put<D: Maildrop>(
         &mut self,
         drop: &mut D,

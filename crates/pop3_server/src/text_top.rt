@@ -5,20 +5,20 @@ ghost use Rattle.pop3_server.specs.TextPiece.{taken, top_begun};
 
 use crate::text_line::cut_line;
 
-/// How far the top of a text has come: its lines up to and including the first empty one, and so many
+/// The place in the top of a text: its lines up to and including the first empty one, and so many
 /// lines more.
 #[derive(Clone, Copy)]
 pub struct Top {
-    // Whether the first empty line is still to come.
+    // Whether the first empty line hasn't come yet.
     in_head: bool,
     // Whether a line has begun.
     in_line: bool,
-    // How many lines are still to come behind the first empty one.
+    // How many lines are to come after the first empty one.
     left: u32,
 }
 
 impl Top {
-    /// Nothing has come yet.
+    /// At the start of a text.
     pub fn new(count: u32) -> Top
         ensures { result ≡ top_begun count }
     {
@@ -36,14 +36,14 @@ impl Top {
         !self.in_head && self.left == 0
     }
 
-    /// Whether a line is open behind some octets of it.
+    /// Whether a line is open after some octets of it.
     fn is_open_behind(&self, octets: &[u8]) -> bool
         ensures { result ≡ (self.now.in_line || not (length octets.now == 0)) }
     {
         self.in_line || !octets.is_empty()
     }
 
-    /// Ends a line of it, behind some octets of that line.
+    /// Ends a line of it, after some octets of that line.
     fn end_line(&mut self, octets: &[u8])
         requires { self.old.in_head ≡ false → 0 < self.old.left }
         ensures { HasNoLf octets.now → (rest : List ℕ)

@@ -1,4 +1,4 @@
--- What is shown of a body so far begins the text of every body that goes on from there.
+-- The text shown so far begins the text of every body that begins with the octets read.
 use Rattle.std.proofs.Common.{◌≡◌, ◌≢◌, ℕ, List, [], ◌∷◌, ◌++◌, refl, sym, ap, ◌∙◌, arith, append_assoc}
 use Rattle.std.proofs.lemmas.Grind.{flat_map-append}
 use Rattle.std.proofs.lemmas.List.{append-nil}
@@ -11,7 +11,7 @@ use Rattle.pop3_wire.specs.Unstuffing.{Partly, Reaches}
 use Rattle.pop3_wire.proofs.LineLemmas.{cons_same, first_line_same, same_cons, lf_is_not_cr, IsLine-back, IsLine-front}
 use Rattle.pop3_wire.proofs.BodyLemmas.{IsLine-dot, one_body}
 
--- the lines that were read are the first ones of every body that goes on from them
+-- the lines that were read are the first lines of every body that begins with them
 first_lines : (lines : List (List ℕ)) (rest : List ℕ) (others : List (List ℕ)) → AllByRecursion IsContent lines → AllByRecursion IsContent others
     → flat_map ended lines ++ rest ≡ body_of others → (later : List (List ℕ)) × (others ≡ lines ++ later) × (rest ≡ body_of later)
 first_lines [] rest others content content' e = (others, refl, e)
@@ -32,7 +32,7 @@ first_lines (line ∷ lines) rest (other ∷ others) content content' e =
     other_first : (ended other ++ flat_map ended others) ++ ended dot ≡ other ++ (crlf ++ (flat_map ended others ++ ended dot))
     other_first = simp append_assoc
 
--- no CR LF stands at the seam of the two
+-- no CR LF is split between the two
 Apart : List ℕ → List ℕ → Type 0
 Apart part rest = (front after : List ℕ) → part ≡ front ++ 13 ∷ [] → rest ≡ 10 ∷ after → ⊥
 
@@ -40,7 +40,7 @@ Apart-back : (byte : ℕ) (part rest : List ℕ) → Apart (byte ∷ part) rest 
 unfolding Apart
 Apart-back byte part rest apart front after e f = apart (byte ∷ front) after (ap (λ (l : List ℕ). byte ∷ l) e) f
 
--- a part that holds no CR LF isn't longer than the line
+-- a part that holds no CR LF begins the next line
 line_begins : (part rest line more : List ℕ) → IsLine part → Apart part rest → part ++ rest ≡ line ++ (crlf ++ more) → (behind : List ℕ) × (line ≡ part ++ behind)
 unfolding Apart
 line_begins [] rest line more is apart e = (line, refl)
@@ -56,7 +56,7 @@ line_begins (b ∷ part) rest (c ∷ line) more is apart e =
     let behind = line_begins part rest line more (IsLine-back (b ∷ []) part is) (Apart-back b part rest apart) heads.1 in
     (behind.0, cons_same c b line (part ++ behind.0) (sym heads.0) behind.1)
 
--- what is shown of a part begins what the lines stand for that begin with it
+-- what is shown of a part begins the text of the lines that begin with this part
 part_begins : (part rest : List ℕ) (later : List (List ℕ)) → part ≢ dot → IsLine part → Apart part rest → part ++ rest ≡ body_of later
     → (more : List ℕ) × (text_of later ≡ unstuffed part ++ more)
 part_begins [] rest later other is apart e = (text_of later, refl)
@@ -80,7 +80,7 @@ part_begins (b ∷ part) rest (line ∷ lines) other is apart e =
         ∙ append_assoc (unstuffed (b ∷ part) ++ behind) (10 ∷ []) (text_of lines)
         ∙ append_assoc (unstuffed (b ∷ part)) behind (10 ∷ [] ++ text_of lines)
 
--- the text of the lines, and what is shown of the part, begin the text
+-- the text of the lines, and what is shown of the part, begin the whole text
 text_begins : (bytes text part shown rest whole : List ℕ) → Partly bytes text part shown → Body (bytes ++ rest) whole
     → ((later : List (List ℕ)) → part ++ rest ≡ body_of later → (more : List ℕ) × (text_of later ≡ shown ++ more))
     → (more : List ℕ) × (whole ≡ text ++ more)

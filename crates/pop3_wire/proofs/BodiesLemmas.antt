@@ -12,7 +12,7 @@ use Rattle.pop3_wire.specs.declared.unstuffer.Spot.TheVariants.{Start, Done}
 use Rattle.pop3_wire.specs.Unstuffing.{Reaches}
 use Rattle.pop3_wire.proofs.UnstuffingLemmas.{reached_no_body, partly_none}
 
--- so far what was used is within the limit, and the rest waits
+-- what was used so far is within the limit, and the rest waits
 pub leaves : (limit : ℕ) (old new : Place) (body : Rest) (text : List ℕ) → UnderWay limit old new body text → LeavesRest limit old new
 leaves limit old new body text now =
     let sizes : length now.used + body.left ≡ limit = now.sizes in
@@ -30,7 +30,7 @@ under_way_none limit place = record {
   steady = record { ended = refl; failures = refl };
 }
 
--- at the end the body was read
+-- at the end the body has been read
 pub took_body : (limit : ℕ) (old new : Place) (body : Rest) (text : List ℕ) → UnderWay limit old new body text → body.spot ≡ Done → ReadsBody limit old (Ok text) new
 took_body limit old new body text now done =
     let sizes : length now.used + body.left ≡ limit = now.sizes in
@@ -53,7 +53,7 @@ heard_on w gained more used waits n e =
     ∙ ap (λ (l : List ℕ). used ++ l) (sym (take-append-drop n (waits ++ more)))
     ∙ sym (append_assoc used (take n (waits ++ more)) (drop n (waits ++ more)))
 
--- nothing of a body has come but what was used
+-- if nothing more came, all octets of the body that have come were used
 pub cause_of_nothing : (fault : BodyFault) (limit left : ℕ) (spot : Spot) (a b c : Link) (w gained used text : List ℕ)
     → Reaches spot used text → spot ≢ Done → length used + left ≡ limit → 0 < left → w ++ gained ≡ used ++ []
     → Drew a b gained → GoesOn a b → DrawsNothing fault b c
@@ -78,7 +78,7 @@ cause_of_nothing fault limit left spot a b c w gained used text reached other si
     cause TooLong n = absurd n
     cause NoMemory n = absurd n
 
--- the limit was reached in the body
+-- the limit was reached before the body ended
 pub cause_of_limit : (limit : ℕ) (spot : Spot) (w gained used waits text : List ℕ) → Reaches spot used text → spot ≢ Done
     → length used ≡ limit → w ++ gained ≡ used ++ waits
     → HasNoBody (take limit (w ++ gained)) × (limit ≤ length (w ++ gained))

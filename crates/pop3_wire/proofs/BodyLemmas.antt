@@ -22,7 +22,7 @@ IsLine-dot (b ∷ d ∷ front) rest e = cc
 ended_first : (line : List ℕ) (more rest : List ℕ) → (ended line ++ more) ++ rest ≡ line ++ (crlf ++ (more ++ rest))
 ended_first line more rest = simp append_assoc
 
--- lines that go on with a line that never ends hold no body
+-- lines of a body, followed by a line that never ends, hold no body
 no_body_in : (lines : List (List ℕ)) (rest : List ℕ) (others : List (List ℕ)) (more : List ℕ) → AllByRecursion IsContent lines → IsLine rest
     → AllByRecursion IsContent others → flat_map ended lines ++ rest ≡ body_of others ++ more → ⊥
 no_body_in [] rest [] more content line content' e = line dot more (e ∙ append_assoc dot crlf more)
@@ -46,7 +46,7 @@ pub no_body : (bytes rest text : List ℕ) → Reads bytes rest text → IsLine 
 no_body bytes rest text reads line body other more is e =
     no_body_in reads.lines rest is.lines more reads.content line is.content (sym reads.whole ∙ e ∙ ap (λ b. b ++ more) is.whole)
 
--- two bodies that bytes begin with are one
+-- bytes begin with at most one body
 pub same_lines : (lines others : List (List ℕ)) (x y : List ℕ) → AllByRecursion IsContent lines → AllByRecursion IsContent others
     → body_of lines ++ x ≡ body_of others ++ y → (lines ≡ others) × (x ≡ y)
 same_lines [] [] x y content content' e = (refl, append_cancel_left (ended dot) x y e)

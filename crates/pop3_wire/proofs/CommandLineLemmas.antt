@@ -1,4 +1,4 @@
--- Lines cut at spaces.
+-- Lines split at spaces.
 use Rattle.std.proofs.Common.{ℕ, ◌+◌, ◌-◌, ◌<◌, ◌≤◌, ◌≡◌, ◌≢◌, true, false, List, [], ◌∷◌, length, take, drop, get_or, refl, sym, ap, ◌∙◌, arith, Err}
 use Rattle.std.specs.List.{position_or_len, after_first, slice_split, count_by}
 use Rattle.std.proofs.lemmas.List.Sums.{fails_before_first, suffix_len_is}
@@ -24,11 +24,11 @@ first_word bytes n h lt = rw h (slice_split_first is_space bytes 0 (let e : posi
 pub to_end : (bytes : List ℕ) (n : ℕ) → take (length bytes - n) (drop n bytes) ≡ drop n bytes
 to_end bytes n = grind (arith, common_steps)
 
--- the spaces at the end are counted down
+-- the line without the spaces at its end, by counting them
 pub trimmed_at : (line : List ℕ) (n : ℕ) → n ≤ length line → ((k : ℕ) → n ≤ k → k < length line → is_space (get_or line k 0) ≡ true) → (0 < n → is_space (get_or line (n - 1) 0) ≡ false) → take n line ≡ trimmed line
 trimmed_at line n fits spaces stop = ap (λ k. take k line) (omega (arith, suffix_len_is is_space line n 0 fits spaces stop))
 
--- a line that is cut has at least one part
+-- a line that is split has at least one part
 pub some_part : (rest : List ℕ) → slice_split is_space rest ≢ []
 some_part rest h = let e : length (slice_split is_space rest) ≡ 0 = ap length h in let l : 0 ≡ count_by is_space rest + 1 = sym e ∙ length-slice_split is_space rest in absurd (omega arith)
 

@@ -41,7 +41,7 @@ no_space_at [] k e lt = absurd (omega arith)
 no_space_at (d ∷ ds) zero e lt = no_space d (and_parts (is_ascii_digit d) (list_all is_ascii_digit ds) e).0
 no_space_at (d ∷ ds) (suc k) e lt = no_space_at ds k (and_parts (is_ascii_digit d) (list_all is_ascii_digit ds) e).1 (omega arith)
 
--- no space stands in it
+-- it holds no space
 abbrev Word : List ℕ → Type 0
 Word ds = All (λ x. is_space x ≡ false) ds
 
@@ -74,7 +74,7 @@ read_number n few =
     and_from _ _ (and_from _ _ (and_from _ _ (lt-ltb 0 (length (decimal n)) some) (le-leb (length (decimal n)) 20 (omega arith))) (digits_of_decimal n (omega arith))) (le-leb _ _ fits) in
     cond-true _ _ _ (le-leb (length (decimal n)) 10 short) ∙ cond-true _ _ _ good ∙ ap (λ (v : ℕ). Ok v) value
 
--- a line that ends in no space is left as it is
+-- a line that doesn't end in a space stays as it is
 kept_end : (front ds : List ℕ) → Word ds → 0 < length ds → trimmed (front ++ ds) ≡ front ++ ds
 kept_end front ds none some =
     let size : length (front ++ ds) ≡ length front + length ds = length-append front ds in

@@ -1,4 +1,4 @@
--- What a link gives that repeats a pattern.
+-- What a link gives if it repeats a pattern.
 use Rattle.std.proofs.Common.{◌≡◌, ◌⊎◌, inl, inr, ◌<◌, ◌≤◌, ◌+◌, ◌-◌, ◌%◌, ◌++◌, ℕ, zero, suc, List, length, take, drop, sym, ap, ◌∙◌, arith, append_assoc, length-append, length-take-le, length-drop}
 use Rattle.std.specs.List.{repeat}
 use Rattle.std.proofs.lemmas.Bool.{cases_order}
@@ -26,7 +26,7 @@ repeat_more (suc n) d p =
     let sum : suc n + d ≡ suc (n + d) = omega arith in
     ap (λ (k : ℕ). repeat k p) sum ∙ ap (λ (l : List ℕ). p ++ l) (repeat_more n d p) ∙ sym (append_assoc p (repeat n p) (repeat d p))
 
--- past any number of octets of a repeated pattern the pattern goes on at its place
+-- after any number of octets of a repeated pattern, the pattern goes on
 pub repeat_at : (count place : ℕ) (p : List ℕ) → 0 < length p → place < count
     → (rest : List ℕ) × (drop place (repeat count p) ≡ drop (place % length p) p ++ rest)
 repeat_at zero place p some below = absurd (omega arith)
@@ -48,7 +48,7 @@ repeat_at (suc count) place p some below = elim (lt_cases place (length p)) [
       )
 ]
 
--- what was given goes on with the first octets of the piece that follows it
+-- what was given is followed by the first octets of the next piece
 pub given_on : (front p piece : List ℕ) (given n : ℕ) → 0 < length p → n ≤ length piece
     → (rest : List ℕ) × (drop given (front ++ repeat (given + n) p) ≡ piece ++ rest)
     → first_given front p (given + n) ≡ first_given front p given ++ take n piece
@@ -65,7 +65,7 @@ given_on front p piece given n some small follows =
     ∙ ap (λ (l : List ℕ). l ++ take n (drop given (front ++ repeat (given + n) p))) before
     ∙ ap (λ (l : List ℕ). first_given front p given ++ l) after
 
--- so many octets are as many
+-- the first `given` octets are that many
 pub given_length : (front p : List ℕ) (given : ℕ) → 0 < length p → length (first_given front p given) ≡ given
 given_length front p given some =
     let sum : length (front ++ repeat given p) ≡ length front + length (repeat given p) = length-append front (repeat given p) in
@@ -77,7 +77,7 @@ rest_whole place l =
     let size : length (drop place l) ≡ length l - place = length-drop place l in
     take_all (length l - place) (drop place l) (omega arith)
 
--- what follows within the front
+-- the next piece in the front
 pub front_follows : (front p : List ℕ) (given count : ℕ) → given < length front
     → (rest : List ℕ) × (drop given (front ++ repeat count p) ≡ take (length front - given) (drop given front) ++ rest)
 front_follows front p given count within = (
@@ -86,7 +86,7 @@ front_follows front p given count within = (
       ∙ ap (λ (l : List ℕ). l ++ repeat count p) (sym (rest_whole given front)),
 )
 
--- what follows behind the front
+-- the next piece after the front
 pub pattern_follows : (front p : List ℕ) (given count : ℕ) → 0 < length p → length front ≤ given → given < count
     → (rest : List ℕ) × (drop given (front ++ repeat count p)
     ≡ take (length p - (given - length front) % length p) (drop ((given - length front) % length p) p) ++ rest)
@@ -100,12 +100,12 @@ pattern_follows front p given count some past below =
           ∙ ap (λ (l : List ℕ). l ++ found.0) (sym (rest_whole ((given - length front) % length p) p)),
     )
 
--- so many octets are told by their number
+-- what was given is determined by its length
 pub is_first : (front p : List ℕ) (given : ℕ) → 0 < length p
     → first_given front p given ≡ first_given front p (length (first_given front p given))
 is_first front p given some = ap (first_given front p) (sym (given_length front p given some))
 
--- what was copied from the piece that follows goes on from what was given
+-- what was copied from the next piece follows what was given
 pub next_given : (front p piece copied rest : List ℕ) (given n : ℕ) → 0 < length p → 0 < n → n ≤ length piece → copied ≡ take n piece
     → ((count : ℕ) → given < count → (after : List ℕ) × (drop given (front ++ repeat count p) ≡ piece ++ after))
     → first_given front p given ++ take n (copied ++ rest) ≡ first_given front p (length (first_given front p given) + n)

@@ -1,4 +1,4 @@
--- Rows of listings as a server writes them are read as they were meant, and no line break stands in them.
+-- Rows of listings are read as a server means them, and hold no line break.
 use Rattle.std.proofs.Common.{ℕ, ◌^◌, ◌<◌, ◌≤◌, ◌≡◌, ◌≢◌, ◌∙◌, true, List, [], ◌∷◌, ◌++◌, length, refl, sym, ap, subst, append_assoc, arith, Ok, ne_eqb}
 use Rattle.std.specs.Prelude.{◌&&◌, Bool, codes}
 use Rattle.std.specs.List.{list_all}
@@ -66,7 +66,7 @@ uid_read k uid few legal = uid_form_read (decimal k ++ 32 ∷ uid) k uid (record
   over = refl;
 })
 
--- ---- no line break stands in these
+-- ---- these hold no line break
 
 pub line_without_lf : (line : List ℕ) → list_all is_no_lf line ≡ true → IsLine line
 line_without_lf [] e [] rest h = cc
@@ -92,7 +92,7 @@ no_lf_decimal n fits = all_pass is_ascii_digit is_no_lf (λ d e. grind (arith, n
 no_lf_id : (uid : List ℕ) → is_legal_id uid ≡ true → list_all is_no_lf uid ≡ true
 no_lf_id uid legal = all_pass is_id_byte is_no_lf (λ d e. grind (arith, nat_tests)) uid (bytes_of uid legal).1
 
--- a row begins with a digit, so that it is no end mark and has no full stop to be dropped
+-- a row begins with a digit, so it isn't the end mark and has no full stop to drop
 digit_first : (n : ℕ) → n < 2 ^ 64 → (d : ℕ) × (ds : List ℕ) × (decimal n ≡ d ∷ ds) × (is_ascii_digit d ≡ true)
 digit_first n fits = starts is_ascii_digit (decimal n) (decimal_nonempty n fits) (digits_of_decimal n fits)
 

@@ -13,7 +13,7 @@ last_split (x ∷ xs) = elim (last_split xs) [
   | inr some ↦ inr (x ∷ some.0, some.1, ap (λ l. x ∷ l) some.2)
 ]
 
--- the pair stands where the bytes are split at it
+-- the pair occurs at the place at which the bytes are split
 occurs_at_split : (front rest : List ℕ) → OccursAt (front ++ (crlf ++ rest)) crlf (length front)
 occurs_at_split front rest =
     let fits : length front + 2 ≤ length (front ++ (crlf ++ rest)) = omega (arith, length-append front (crlf ++ rest)) in
@@ -37,7 +37,7 @@ pub IsLine-back : (a b : List ℕ) → IsLine (a ++ b) → IsLine b
 IsLine-back a b line front rest e =
     line (a ++ front) rest (ap (λ l. a ++ l) e ∙ sym (append_assoc a front (crlf ++ rest)))
 
--- the first place of the pair cuts off a line
+-- the first place of the pair ends a line
 pub line_found : (bytes : List ℕ) (k : ℕ) → NoneBefore (OccursAt bytes crlf) 0 (length bytes + 1) k → OccursAt bytes crlf k
     → IsLine (take k bytes) × (bytes ≡ take k bytes ++ (crlf ++ drop (k + 2) bytes))
 line_found bytes k first occurs = (whole, split)
@@ -73,7 +73,7 @@ no_front c (d ∷ b) x y line e =
 pub cons_same : {A : Type 0} (c d : A) (a b : List A) → c ≡ d → a ≡ b → c ∷ a ≡ d ∷ b
 cons_same c d a b p q = cc
 
--- bytes begin with one ended line at most
+-- bytes begin with at most one ended line
 pub first_line_same : (a b x y : List ℕ) → IsLine a → IsLine b → a ++ (crlf ++ x) ≡ b ++ (crlf ++ y) → (a ≡ b) × (x ≡ y)
 first_line_same [] [] x y la lb e = (refl, (same_cons 10 10 x y ((same_cons 13 13 (10 ∷ x) (10 ∷ y) e).1)).1)
 first_line_same [] (c ∷ b) x y la lb e = absurd (no_front c b x y lb e)

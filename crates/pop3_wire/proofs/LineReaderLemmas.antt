@@ -1,4 +1,4 @@
--- What is known of the octets that wait: where the search for a line's end goes on, and what it finds.
+-- The octets that wait: where the search for a line's end goes on, and what it finds.
 use Rattle.std.proofs.Common.{◌≡◌, ◌⊎◌, inl, inr, ◌<◌, ◌≤◌, ◌+◌, ◌-◌, ℕ, List, ◌++◌, length, take, drop, min, max, refl, sym, ap, subst, ◌∙◌, arith, append_assoc, take-append-drop, length-append, length-take-le, length-drop}
 use Rattle.std.proofs.lemmas.Bool.{cases_order}
 use Rattle.std.proofs.lemmas.List.{take-take, take_all, take-append-le, drop-append-le, drop-take, drop-drop, take_at, drop_at}
@@ -42,7 +42,7 @@ no_line_skip n s w known = elim (le_cases n s) [
 pub no_line_behind : (s : ℕ) (w piece : List ℕ) → s ≤ length w → HasNoLine s w → HasNoLine s (w ++ piece)
 no_line_behind s w piece small known = record { none = subst IsLine (sym (take-append-le s w piece small)) known.none }
 
--- no line end stands in the first s octets, nor from the last of them on
+-- if neither the first s octets nor those from the last of them on hold a line end, there is none
 seam : (u : List ℕ) (s : ℕ) → HasNoLine s u → IsLine (drop (s - 1) u) → IsLine u
 seam u s known later front rest e = elim (le_cases (length (front ++ crlf)) s) [
   | inl early ↦
@@ -60,7 +60,7 @@ seam u s known later front rest e = elim (le_cases (length (front ++ crlf)) s) [
       later (drop (s - 1) front) rest split
 ]
 
--- the front of what is known holds no more than all of it
+-- if the first s octets hold no line end, a prefix of the octets holds none there either
 front_known : (s m : ℕ) (w : List ℕ) → HasNoLine s w → HasNoLine s (take m w)
 front_known s m w known = elim (le_cases s m) [
   | inl small ↦ record { none = subst IsLine (sym (take-take s m w small)) known.none }
@@ -105,7 +105,7 @@ line_end_found w limit searched until from line after is_until is_from known is_
     rest_is : drop (from + length line) w ≡ crlf ++ drop (from + length line + 2) w
     rest_is = tail_is ∙ ap (λ (l : List ℕ). crlf ++ l) (sym (sym (drop-drop 2 (from + length line) w) ∙ ap (drop 2) tail_is))
 
--- the search found none, and what it went over is known
+-- if the search found none, the octets that it went over hold none
 pub line_end_none : (w : List ℕ) (limit searched until from : ℕ)
     → until ≡ min limit (length w) → from ≡ min searched until - 1 → HasNoLine searched w
     → IsLine (take (until - from) (drop from w))
@@ -137,7 +137,7 @@ no_line_limit limit until w is_until found = elim (le_cases limit (length w)) [
       record { none = subst IsLine all found.none }
 ]
 
--- what waits once its front was used
+-- what waits after the first n octets were used
 pub window_skip : (bytes : List ℕ) (start end n : ℕ) → n ≤ length (take (end - start) (drop start bytes))
     → (n ≤ end - start) × (take (end - (start + n)) (drop (start + n) bytes) ≡ drop n (take (end - start) (drop start bytes)))
 window_skip bytes start end n fits =
@@ -148,7 +148,7 @@ window_skip bytes start end n fits =
           ∙ ap (λ (k : ℕ). drop n (take k (drop start bytes))) (omega (arith, small)),
     )
 
--- what waits once a piece was put behind it
+-- what waits after a piece was added
 pub window_fill : (a k n : ℕ) (bytes buf : List ℕ) → a ≤ length bytes → n ≤ length buf
     → take (a + n - 0) (put_mid a k bytes buf) ≡ take a bytes ++ take n buf
 window_fill a k n bytes buf low high =

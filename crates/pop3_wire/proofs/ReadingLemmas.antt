@@ -1,4 +1,4 @@
--- Octets are cut into replies in one way only.
+-- Octets split into replies in one way only.
 use Rattle.std.proofs.Common.{◌≡◌, ◌∙◌, ℕ, Bool, true, false, List, [], ◌∷◌, ◌++◌, Option, None, Some, refl, sym, ap, inl, inr, append_assoc, arith}
 use Rattle.std.specs.List.{flat_map, AllZip}
 use Rattle.pop3_wire.specs.Line.{crlf}
@@ -18,7 +18,7 @@ two_statuses line rest more good bad =
     differ : (a b : ℕ) → a ≡ 43 → b ≡ 45 → a ≡ b → ⊥
     differ a b p q e = absurd (omega arith)
 
--- the bodies of one shape that bytes begin with are one
+-- bytes begin with at most one body, if there is one, and with none if there isn't
 one_body_if : (with_body : Bool) (body other : Option (List (List ℕ))) (x y : List ℕ) → IsBodyIf with_body body → IsBodyIf with_body other
     → body_bytes body ++ x ≡ body_bytes other ++ y → (body ≡ other) × (x ≡ y)
 one_body_if true None other x y is is' e = absurd is
@@ -30,7 +30,7 @@ one_body_if false None None x y is is' e = (refl, e)
 one_body_if false None (Some others) x y is is' e = absurd is'
 one_body_if false (Some lines) other x y is is' e = absurd is
 
--- behind one first line there is one body
+-- after the same first line comes the same body
 one_rest : (asked : Option Command) (reply other : WholeReply) (x y : List ℕ) → IsReplyTo asked reply → IsReplyTo asked other → reply.first ≡ other.first
     → body_bytes reply.body ++ x ≡ body_bytes other.body ++ y → (reply.body ≡ other.body) × (x ≡ y)
 one_rest asked reply other x y is is' first e = elim is.status [

@@ -1,4 +1,4 @@
--- The rows that are read are those that have their form.
+-- The rows that are read are exactly those of the form.
 use Rattle.std.proofs.Common.{ℕ, suc, ◌≤◌, ◌<◌, ◌≡◌, ◌≢◌, true, false, List, [], ◌∷◌, ◌++◌, length, take, drop, refl, sym, ap, subst, ◌∙◌, arith, inl, inr, Result, Ok, Err, take-append-drop}
 use Rattle.std.specs.Prelude.{nat_lt, nat_le, ◌&&◌, ◌==◌, Bool, IsTrue, take_while}
 use Rattle.std.specs.List.{prefix_len, list_all}
@@ -13,7 +13,7 @@ use Rattle.mail_terms.specs.UniqueId.{is_id_byte, is_legal_id, IsLegalId}
 use Rattle.pop3_wire.specs.declared.fault.WireFault.{WireFault}
 use Rattle.pop3_wire.specs.Rows.{AreSpaces, StandsFor, HasNumber, HasScanForm, HasUidForm, ScanRowsHaveForm, UidRowsHaveForm}
 
--- ---- what passes in front, and what follows
+-- ---- the prefix of bytes that pass a test, and what follows
 
 split_at : (test : ℕ → Bool) (bytes : List ℕ) → bytes ≡ take_while test bytes ++ past test bytes
 split_at test bytes = sym (take-append-drop (prefix_len test bytes) bytes)
@@ -74,7 +74,7 @@ number_ok limit field n e = elim (cases_Bool (is_numeral field && nat_le (digits
 pair_same : {A B : Type 0} (p q : A × B) → p ≡ q → (p.0 ≡ q.0) × (p.1 ≡ q.1)
 pair_same {A} {B} p q e = (ap (λ (x : A × B). x.0) e, ap (λ (x : A × B). x.1) e)
 
--- a message number was read, and then the next field is there
+-- a message number was read, and another field follows it
 has_number : (line : List ℕ) (n : ℕ) (rest next : List ℕ) → message_number line ≡ Ok (n, rest) → next_field rest ≡ Ok next → HasNumber line n next
 has_number line n rest next e there =
     let first = bind_ok (next_field line) _ (n, rest) e in

@@ -1,4 +1,4 @@
--- The commands that were sent are told by the octets.
+-- The octets sent determine the commands.
 use Rattle.std.proofs.Common.{◌≡◌, ◌⊎◌, inl, inr, ◌<◌, ◌^◌, ℕ, List, [], ◌∷◌, ◌++◌, true, not, ◌==◌, refl, sym, ◌∙◌, ap, arith, append_assoc, Ok, Result}
 use Rattle.std.specs.Prelude.{codes}
 use Rattle.std.specs.List.{list_all, AllByRecursion}
@@ -81,9 +81,9 @@ pub one_list_of_commands : OneListOfCommands
 one_list_of_commands commands others sent asked again =
     same_commands commands others asked.part again.part asked.numbers again.numbers asked.sendable again.sendable asked.no_line again.no_line (sym asked.whole ∙ again.whole)
 
--- ---- octets that begin those of some commands
+-- ---- prefixes of the octets of some commands
 
--- of two lists that are cut in two, one first part goes on in the other
+-- if a list is split in two ways, one of the two first parts begins the other
 abbrev Meets : List ℕ → List ℕ → List ℕ → List ℕ → Type 0
 Meets a b c d = ((m : List ℕ) × (c ≡ a ++ m) × (b ≡ m ++ d)) ⊎ ((x : ℕ) × (m : List ℕ) × (a ≡ c ++ x ∷ m))
 
@@ -111,7 +111,7 @@ without_last (y ∷ a) m x z (w ∷ b) e =
     let later = without_last a m x z b same.1 in
     (later.0, ap (λ (l : List ℕ). w ∷ l) later.1 ∙ ap (λ (v : ℕ). v ∷ (a ++ later.0)) (sym same.0))
 
--- a command's line that isn't whole has no end
+-- a command's line that isn't sent whole holds no LF
 part_no_lf : (c : Command) (part m : List ℕ) (x : ℕ) → HasNumbers c → can_be_sent c ≡ true → ended (line_of c) ≡ part ++ x ∷ m → list_all is_no_lf part ≡ true
 part_no_lf c part m x h s e =
     let k = without_last part m x 10 (line_of c ++ 13 ∷ []) (sym e ∙ sym (append_assoc (line_of c) (13 ∷ []) (10 ∷ []))) in

@@ -1,4 +1,4 @@
--- Texts cut into lines, and the bodies of these.
+-- Texts split into lines, and their bodies.
 use Rattle.std.proofs.Common.{◌≡◌, ◌≢◌, inl, inr, ℕ, List, [], ◌∷◌, ◌++◌, refl, sym, ap, ◌∙◌, arith, map}
 use Rattle.std.specs.List.{flat_map, onto_first, AllByRecursion}
 use Rattle.std.proofs.lemmas.Bool.Decides.{eqb_tells}
@@ -8,7 +8,7 @@ use Rattle.mail_terms.specs.Text.{lines_of_text, whole_text, HasNoLf}
 use Rattle.pop3_wire.specs.Stuffed.{stuffed, sent_line, stuffed_lines, StuffedIsBody, StuffedIsRead, OneBody}
 use Rattle.pop3_wire.proofs.BodyLemmas.{one_body}
 
--- ---- no LF stands in a line of a text
+-- ---- a line of a text holds no LF
 
 all_onto_first : (byte : ℕ) (lines : List (List ℕ)) → byte ≢ 10 → AllByRecursion HasNoLf lines → AllByRecursion HasNoLf (onto_first byte lines)
 all_onto_first byte [] other all = ((other, tt), tt)

@@ -12,7 +12,7 @@ use Rattle.pop3_wire.specs.Unstuffing.{Partly, NoCr, InLine, AtCr, Reaches}
 use Rattle.pop3_wire.proofs.LineLemmas.{last_split, IsLine-nil, IsLine-front}
 use Rattle.pop3_wire.proofs.BodyLemmas.{Reads, no_body, reads_more, IsLine-dot}
 
--- one more octet keeps a line a line, unless it is LF behind CR
+-- one more octet keeps a line a line, unless it is an LF after a CR
 IsLine-push : (part : List ℕ) (byte : ℕ) → IsLine part → (byte ≢ 10) ⊎ NoCr part → IsLine (part ++ byte ∷ [])
 IsLine-push part byte line apart front rest e = elim (last_split rest) [
   | inl none ↦
@@ -205,7 +205,7 @@ partly_no_body : (bytes text part shown : List ℕ) → Partly bytes text part s
 partly_no_body bytes text part shown h =
     no_body bytes part (text_of h.lines) (record { lines = h.lines; content = h.content; whole = h.whole; read = refl }) h.line
 
--- before the end no prefix is a body
+-- before the end no prefix of the octets read is a body
 pub reached_no_body : (spot : Spot) (bytes text : List ℕ) → Reaches spot bytes text → spot ≢ Done → HasNoBody bytes
 reached_no_body Start bytes text h other = partly_no_body bytes text [] [] h
 reached_no_body Dot bytes text h other = partly_no_body bytes text dot [] h
@@ -222,7 +222,7 @@ reached_body Middle bytes text whole h is = absurd (reached_no_body Middle bytes
 reached_body Cr bytes text whole h is = absurd (reached_no_body Cr bytes text h (λ e. cc) bytes whole [] is (sym (append-nil bytes)))
 reached_body Done bytes text whole h is = refl
 
--- octets without CR go on with a line, as they are
+-- octets of a line without CR are shown as they are
 pub middle_run : (piece : List ℕ) (n : ℕ) → n ≤ length piece → ((k : ℕ) → k < n → get_or piece k 0 ≢ 13)
     → (bytes text : List ℕ) → InLine bytes text → InLine (bytes ++ take n piece) (text ++ take n piece)
 middle_run piece zero fits none bytes text h =
@@ -235,7 +235,7 @@ middle_run piece (suc n) fits none bytes text h =
     let text_is : (text ++ take n piece) ++ get_or piece n 0 ∷ [] ≡ text ++ take (suc n) piece = append_assoc text (take n piece) (get_or piece n 0 ∷ []) ∙ ap (λ (l : List ℕ). text ++ l) (sym more) in
     subst (λ (b : List ℕ). InLine b (text ++ take (suc n) piece)) bytes_are (subst (InLine ((bytes ++ take n piece) ++ get_or piece n 0 ∷ [])) text_is next)
 
--- the first octets of what is left of a piece were read
+-- the first of the octets left of a piece were read
 pub turn_on : (spot next : Spot) (bytes text piece : List ℕ) (used more : ℕ) (out out' : List ℕ)
     → Reaches spot (bytes ++ take used piece) (text ++ out)
     → ((b t : List ℕ) → Reaches spot b (t ++ out) → Reaches next (b ++ take more (take (length piece - used) (drop used piece))) (t ++ out'))

@@ -21,14 +21,14 @@ DrawsNothing Failed old new = Drew old new [] × (new.ended ≡ old.ended) × (n
 DrawsNothing TooLong old new = ⊥
 DrawsNothing NoMemory old new = ⊥
 
--- a body of this text was taken from what waited and was gained; the rest waits
+-- a body of this text was taken from the octets that waited and those that were gained; the rest waits
 pub record TookBody (limit : ℕ) (old new : Place) (text gained : List ℕ) : Type 0 where
   pub body : List ℕ
   pub is : Body body text
   pub within : length body ≤ limit
   pub heard : old.waiting ++ gained ≡ body ++ new.waiting
 
--- of what waited and was gained at most so many octets were used, and all that follows them waits
+-- at most so many of the octets that waited and were gained were used, and all that follow them wait
 pub record LeavesRest (limit : ℕ) (old new : Place) : Type 0 where
   pub gained : List ℕ
   pub used : List ℕ
@@ -36,7 +36,8 @@ pub record LeavesRest (limit : ℕ) (old new : Place) : Type 0 where
   pub within : length used ≤ limit
   pub heard : old.waiting ++ gained ≡ used ++ new.waiting
 
--- why there is no text, where these octets have come: nothing comes any more, a call was refused, the limit is reached, or memory is wanting
+-- why there is no text, given the octets that have come: the link has ended, a call was refused, the limit is
+-- reached, or memory ran out
 abbrev pub BodyCause : ℕ → BodyFault → Link → Link → List ℕ → Type 0
 BodyCause limit Ended old new bytes = HasNoBody bytes × (length bytes < limit) × (new.ended ≡ true) × (new.failures ≡ old.failures)
 BodyCause limit Failed old new bytes = HasNoBody bytes × (length bytes < limit) × (new.ended ≡ old.ended) × (new.failures ≡ old.failures + 1)
@@ -47,7 +48,7 @@ abbrev pub ReadsBody : ℕ → Place → Result (List ℕ) BodyFault → Place �
 ReadsBody limit old (Ok text) new = (gained : List ℕ) × Drew old.link new.link gained × GoesOn old.link new.link × TookBody limit old new text gained
 ReadsBody limit old (Err fault) new = (gained : List ℕ) × Drew old.link new.link gained × BodyCause limit fault old.link new.link (old.waiting ++ gained)
 
--- where in a body its reader stands, and how many octets it may still take
+-- a reader's spot in a body, and how many octets it may still take
 pub record Rest : Type 0 where
   pub spot : Spot
   pub left : ℕ
@@ -55,7 +56,8 @@ pub record Rest : Type 0 where
 abbrev pub rest_of : Spot → ℕ → Rest
 rest_of spot left = record { spot = spot; left = left }
 
--- a body is under way, or at its end: of what waited and was gained so much was used, it gives this much of the text, and the rest waits
+-- a body is being read, or has ended: of the octets that waited and were gained these were used, they give
+-- this part of the text, and the rest waits
 pub record UnderWay (limit : ℕ) (old new : Place) (body : Rest) (text : List ℕ) : Type 0 where
   pub used : List ℕ
   pub gained : List ℕ
@@ -65,13 +67,13 @@ pub record UnderWay (limit : ℕ) (old new : Place) (body : Rest) (text : List �
   pub drew : Drew old.link new.link gained
   pub steady : GoesOn old.link new.link
 
--- a body that is under way goes on: a piece of the text is put behind what was known, or there is none, and why
+-- the next piece of such a body: it is added to the text that was known; or there is none, for this cause
 abbrev pub TakesPiece : ℕ → Place → List ℕ → Result Piece BodyFault → List ℕ → Place → Rest → Type 0
 TakesPiece limit start text (Ok piece) out new body = UnderWay limit start new body (text ++ take piece.put out)
 TakesPiece limit start text (Err fault) out new body = LeavesRest limit start new
     × ((gained : List ℕ) × Drew start.link new.link gained × BodyCause limit fault start.link new.link (start.waiting ++ gained))
 
--- the items of a vector that a call gave
+-- the items of the vector that a call returned
 abbrev pub items_of : {A Z E : Type 0} → Result (Vec A Z) E → Result (List A) E
 items_of (Ok v) = Ok v.items
 items_of (Err e) = Err e

@@ -11,12 +11,12 @@ dot = 46 ∷ []
 abbrev pub IsContent : List ℕ → Type 0
 IsContent line = IsLine line × (line ≢ dot)
 
--- a line without its first full stop, where it begins with one
+-- a line without its first full stop, if it begins with one
 abbrev pub unstuffed : List ℕ → List ℕ
 unstuffed [] = []
 unstuffed (byte ∷ rest) = if byte == 46 then rest else byte ∷ rest
 
--- what a line of the body is in the text: a text's lines end at LF
+-- the line of the text for a line of the body; a text's lines end at LF
 abbrev pub kept : List ℕ → List ℕ
 kept line = unstuffed line ++ 10 ∷ []
 

@@ -14,7 +14,7 @@ use Rattle.pop3_wire.specs.Commands.{can_be_sent, line_of}
 use Rattle.pop3_wire.specs.Fields.{◌>>=◌, is_space, number}
 use Rattle.mail_terms.specs.Numeral.{greatest_number}
 
--- a keyword, in upper or lower case or both
+-- the keyword that a word is, in upper or lower case or both
 unfoldable pub keyword_of : List ℕ → Option Keyword
 keyword_of word =
     if str_eq_ignore_ascii_case word (codes "USER") then Some keyword.User
@@ -38,11 +38,11 @@ argument_number word = if nat_le (length word) 10 then number greatest_number wo
 abbrev pub trimmed : List ℕ → List ℕ
 trimmed line = take (length line - suffix_len is_space line) line
 
--- what stands between the spaces behind the keyword
+-- the words after the keyword: the trimmed line is split at each space
 unfoldable pub arguments : List ℕ → List (List ℕ)
 arguments line = drop 1 (slice_split is_space (trimmed line))
 
--- all that stands behind the keyword's space, spaces included
+-- all that follows the space after the keyword, spaces included
 abbrev pub rest_of : List ℕ → List ℕ
 rest_of line = after_first is_space line
 
@@ -50,7 +50,8 @@ rest_of line = after_first is_space line
 unfoldable pub text_argument : List ℕ → Result (List ℕ) WireFault
 text_argument text = if is_credential text then Ok text else Err BadArgument
 
--- no argument, one number, one number at most, and two numbers: the count of arguments is judged before their form
+-- no argument, one number, at most one number, and two numbers; the number of arguments is checked before
+-- their form
 unfoldable pub no_argument : List (List ℕ) → Result (Unit {0}) WireFault
 no_argument [] = Ok tt
 no_argument (word ∷ more) = Err BadArgument
@@ -76,12 +77,12 @@ two_numbers (word ∷ other ∷ []) = do
   Ok (n, k)
 two_numbers (word ∷ other ∷ third ∷ more) = Err BadArgument
 
--- a command of one message, or of all
+-- the command for one message, or for all
 abbrev pub one_or_all : (ℕ → Command) → Command → Option ℕ → Command
 one_or_all one all None = all
 one_or_all one all (Some n) = one n
 
--- what stands behind a keyword, and the command that it asks for
+-- what follows a keyword, and the command that it asks for
 pub data Form : Type 0 where
   -- all that follows the space, spaces included
   Text : (List ℕ → Command) → Form
@@ -89,7 +90,7 @@ pub data Form : Type 0 where
   Alone : Command → Form
   -- one number
   Number : (ℕ → Command) → Form
-  -- one number, or none where all are meant
+  -- one number, or none for all messages
   NumberOrNone : (ℕ → Command) → Command → Form
   -- two numbers
   TwoNumbers : (ℕ → ℕ → Command) → Form
@@ -108,7 +109,7 @@ form_of keyword.Noop = Alone Noop
 form_of keyword.Top = TwoNumbers Top
 form_of keyword.Quit = Alone Quit
 
--- the command of a form, of all that stands behind the keyword's space, and of the arguments there
+-- the command of a form, given all that follows the space after the keyword, and the arguments
 abbrev pub command_in : Form → List ℕ → List (List ℕ) → Result Command WireFault
 command_in (Text command) rest words = do
   text ← text_argument rest
@@ -126,16 +127,17 @@ command_in (TwoNumbers command) rest words = do
   which ← two_numbers words
   Ok (command which.0 which.1)
 
--- the command of a keyword, where it is one
+-- the command of a keyword, if there is one
 unfoldable pub command_by : Option Keyword → List ℕ → List (List ℕ) → Result Command WireFault
 command_by None rest words = Err BadCommand
 command_by (Some word) rest words = command_in (form_of word) rest words
 
--- the command that a line without its CR LF asks for, or its fault; the keyword is what stands before the first space
+-- the command that a line without its CR LF asks for, or its fault; the keyword is what comes before the
+-- first space
 unfoldable pub command_of : List ℕ → Result Command WireFault
 command_of line = if nat_lt 510 (length line) then Err BadCommand else command_by (keyword_of (before_first is_space line)) (rest_of line) (arguments line)
 
--- a command that carries bytes: those of USER and PASS
+-- a command that carries bytes: USER or PASS
 abbrev pub CarriesBytes : Command → Type 0
 CarriesBytes (User name) = Unit {0}
 CarriesBytes (Pass password) = Unit {0}
@@ -154,6 +156,6 @@ HasNumbers _ = Unit {0}
 abbrev pub ReadAsWritten : Type 0
 ReadAsWritten = (c : Command) → HasNumbers c → can_be_sent c ≡ true → command_of (line_of c) ≡ Ok c
 
--- what asks for a command is one line
+-- the line that asks for a command is one line
 abbrev pub CommandsAreLines : Type 0
 CommandsAreLines = (c : Command) → HasNumbers c → can_be_sent c ≡ true → IsLine (line_of c)

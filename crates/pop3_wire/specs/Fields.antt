@@ -1,4 +1,4 @@
--- Fields and numerals of reply lines (RFC 1939, sections 5 and 7), which stand apart by spaces.
+-- Fields and numerals of reply lines (RFC 1939, sections 5 and 7). Spaces separate the fields.
 use Rattle.std.specs.Prelude.{◌==◌, ◌&&◌, not, nat_le, ℕ, Bool, List, length, drop, take_while, if◌then◌else◌, Result, Ok, Err}
 use Rattle.std.specs.List.{prefix_len}
 use Rattle.std.specs.Char.{is_ascii_digit}
@@ -8,7 +8,7 @@ use Rattle.mail_terms.specs.UniqueId.{is_legal_id}
 use Rattle.pop3_wire.specs.declared.fault.WireFault.{WireFault}
 use Rattle.pop3_wire.specs.declared.fault.WireFault.TheVariants.{BadNumber, BadField}
 
--- the first step's fault, or what the next step makes of its answer
+-- the first step's fault, or what the next step makes of its result
 infixl 10 ◌>>=◌
 abbrev pub ◌>>=◌ : {A B E : Type 0} → Result A E → (A → Result B E) → Result B E
 (Ok x) >>= f = f x
@@ -20,15 +20,15 @@ is_space byte = byte == 32
 abbrev pub is_in_field : ℕ → Bool
 is_in_field byte = not (byte == 32)
 
--- what follows the bytes in front that pass
+-- what follows the longest prefix of bytes that pass the test
 abbrev pub past : (ℕ → Bool) → List ℕ → List ℕ
 past test bytes = drop (prefix_len test bytes) bytes
 
--- the number that a numeral stands for, where it isn't above the limit
+-- the number that a numeral stands for, if it isn't above the limit
 unfoldable pub number : ℕ → List ℕ → Result ℕ WireFault
 number limit field = if is_numeral field && nat_le (digits_value 10 field) limit then Ok (digits_value 10 field) else Err BadNumber
 
--- the bytes from the next field on, where there is one
+-- the bytes from the next field on, if there is one
 unfoldable pub next_field : List ℕ → Result (List ℕ) WireFault
 next_field bytes = if length (past is_space bytes) == 0 then Err BadField else Ok (past is_space bytes)
 
@@ -39,7 +39,7 @@ message_number line = do
   n ← number greatest_number (take_while is_in_field field)
   Ok (n, past is_in_field field)
 
--- a number and a size: what follows the size doesn't matter where it begins with no digit
+-- a number and a size; the size ends after its last digit, and what follows it is ignored
 unfoldable pub number_and_size : List ℕ → Result (ℕ × ℕ) WireFault
 number_and_size line = do
   first ← message_number line

@@ -21,7 +21,7 @@ pub record Says (status : Status) (bytes rest : List ℕ) : Type 0 where
   pub first : IsFirstLine line status rest
   pub whole : bytes ≡ ended line
 
--- a status and what is written behind it, without LF, are read as that status and what follows the space between the two
+-- a status and the text after it, without LF, are read as that status and the text after the space between the two
 abbrev pub FirstLinesAreRead : Type 0
 FirstLinesAreRead = (status : Status) (after : List ℕ) → HoldsNoLf after → Says status (ended (indicator status ++ after)) (without_space after)
 
@@ -42,8 +42,8 @@ unmarked_from number (message ∷ messages) [] = []
 unmarked_from number (message ∷ messages) (mark ∷ marks) =
     if mark then unmarked_from (number + 1) messages marks else (number, message) ∷ unmarked_from (number + 1) messages marks
 
--- the row tells of this message under this number, in LIST and in UIDL; a client's `IsScanLine` and `IsUidLine` say of a
--- line, dot-stuffed as it came, which row it stands for
+-- the row gives this message under this number, in LIST and in UIDL; `IsScanLine` and `IsUidLine` say which
+-- row a client's line, dot-stuffed as it came, stands for
 abbrev pub IsScanRow : ℕ × Message → List ℕ → Type 0
 IsScanRow numbered row = number_and_size row ≡ Ok (numbered.0, numbered.1.size)
 
@@ -59,7 +59,7 @@ pub record ListsAll (IsRow : ℕ × Message → List ℕ → Type 0) (messages :
   pub all : IsPermutation (unmarked_from 1 messages marks) numbered
   pub rows : AllZip IsRow numbered (map unstuffed lines)
 
--- a positive reply to a command, and the marks after it; a session sends none of the commands that have none here
+-- a positive reply to a command, and the marks after it; there is none to the commands that a session never sends
 abbrev pub Grants : List Message → List Bool → Command → List ℕ → List Bool → Type 0
 Grants messages marks (User name) bytes next = SaysAnything Positive bytes × (next ≡ marks)
 Grants messages marks (Pass password) bytes next = SaysAnything Positive bytes × (next ≡ marks)
@@ -81,12 +81,12 @@ Grants messages marks Noop bytes next = SaysAnything Positive bytes × (next ≡
 Grants messages marks (Top number lines) bytes next = ⊥
 Grants messages marks Quit bytes next = SaysAnything Positive bytes × (next ≡ marks)
 
--- a negative reply leaves the marks, a positive one carries what the command asks for
+-- a negative reply leaves the marks; a positive one has what the command asks for
 abbrev pub Reply : List Message → List Bool → Command → List ℕ → List Bool → Type 0
 Reply messages marks command bytes next =
     (SaysAnything Negative bytes × (next ≡ marks)) ⊎ Grants messages marks command bytes next
 
--- one reply after another to these commands, with the marks before the first and after the last
+-- a reply to each of these commands, in order, with the marks before the first and after the last
 abbrev pub Replies : List Message → List Bool → List Command → List ℕ → List Bool → Type 0
 Replies messages marks [] bytes last = (bytes ≡ []) × (last ≡ marks)
 Replies messages marks (command ∷ commands) bytes last =
@@ -105,22 +105,23 @@ pub record Asked (commands : List Command) (sent : List ℕ) : Type 0 where
   pub no_line : IsLine part
   pub whole : sent ≡ octets_of commands ++ part
 
--- what was sent tells which commands were sent whole
+-- the octets sent determine which commands were sent whole
 abbrev pub OneListOfCommands : Type 0
 OneListOfCommands = (commands others : List Command) (sent : List ℕ) → Asked commands sent → Asked others sent → commands ≡ others
 
--- the octets begin the line of the first of these commands, and are none where there is no command
+-- the octets begin the line of the first of these commands; without a command there are none
 abbrev pub BeginsNext : List Command → List ℕ → Type 0
 BeginsNext [] part = part ≡ []
 BeginsNext (command ∷ commands) part = (unsent : List ℕ) × (ended (line_of command) ≡ part ++ unsent)
 
--- octets that begin those of some commands are the first of these commands whole, and perhaps a part of the next
+-- a prefix of the octets of some commands is the first of these commands whole, and perhaps a part of the next
 abbrev pub FrontsAreAsked : Type 0
 FrontsAreAsked = (commands : List Command) (front rest : List ℕ) → AllByRecursion (λ command. can_be_sent command ≡ true) commands
     → AllByRecursion HasNumbers commands → octets_of commands ≡ front ++ rest
     → (whole later : List Command) × (commands ≡ whole ++ later) × (asked : Asked whole front) × BeginsNext later asked.part
 
--- what was got begins a greeting and one reply to each command that was sent whole; these are marked then
+-- what was got begins a greeting and one reply to each command that was sent whole; after these replies the
+-- marks are these
 pub record Honest (messages : List Message) (sent got : List ℕ) (marks : List Bool) : Type 0 where
   pub status : Status
   pub hello : List ℕ

@@ -6,7 +6,7 @@ use Rattle.std.specs.List.{list_all}
 abbrev pub crlf : List ℕ
 crlf = 13 ∷ 10 ∷ []
 
--- the pair CR LF stands nowhere in it; a lone CR or a lone LF may
+-- it holds the pair CR LF nowhere; it may hold a lone CR or a lone LF
 abbrev pub IsLine : List ℕ → Type 0
 IsLine line = (front rest : List ℕ) → line ≡ front ++ (crlf ++ rest) → ⊥
 
@@ -14,7 +14,7 @@ IsLine line = (front rest : List ℕ) → line ≡ front ++ (crlf ++ rest) → �
 abbrev pub ended : List ℕ → List ℕ
 ended line = line ++ crlf
 
--- bytes begin with one ended line at most
+-- bytes begin with at most one ended line
 abbrev pub OneLine : Type 0
 OneLine = (line other rest more : List ℕ) → IsLine line → IsLine other → ended line ++ rest ≡ ended other ++ more
     → (line ≡ other) × (rest ≡ more)
@@ -22,7 +22,7 @@ OneLine = (line other rest more : List ℕ) → IsLine line → IsLine other →
 abbrev pub is_no_lf : ℕ → Bool
 is_no_lf byte = not (byte == 10)
 
--- no LF stands in it, so that it is a line; a test, which words that are known pass by computing, where `HasNoLf` speaks of
--- each byte
+-- it holds no LF, so it is a line; this is a test, which can be computed for known words, while `HasNoLf`
+-- speaks of each byte
 abbrev pub HoldsNoLf : List ℕ → Type 0
 HoldsNoLf bytes = IsTrue (list_all is_no_lf bytes)

@@ -1,11 +1,11 @@
--- A link and what of its octets wait to be used, and what reading on gains.
+-- A link, those of its octets that wait to be used, and what reading on gains.
 use Rattle.std.specs.Prelude.{◌≡◌, ◌+◌, ◌<◌, ◌≤◌, ◌==◌, ◌||◌, ℕ, Bool, true, false, List, ◌++◌, length, take, drop, Result, Ok, Err}
 use Rattle.pop3_wire.specs.Line.{crlf, IsLine}
 use Rattle.pop3_wire.specs.Link.{Link}
 use Rattle.pop3_wire.specs.declared.line_reader.LineFault.{LineFault}
 use Rattle.pop3_wire.specs.declared.line_reader.LineFault.TheVariants.{Ended, Failed, TooLong}
 
--- a link, and the octets that it gave and nobody has used yet
+-- a link, and the octets that it gave and that nobody has used yet
 pub record Place : Type 0 where
   pub link : Link
   pub waiting : List ℕ
@@ -17,7 +17,7 @@ most_waiting = 4096
 abbrev pub at : Link → List ℕ → Place
 at link waiting = record { link = link; waiting = waiting }
 
--- one more piece was got; an empty one says that nothing comes any more
+-- one more piece was got; an empty one says that the link has ended
 abbrev pub GotPiece : Link → List ℕ → Link → Type 0
 GotPiece old piece new = new ≡ record old { got = old.got ++ piece; ended = old.ended || length piece == 0 }
 
@@ -25,7 +25,7 @@ GotPiece old piece new = new ≡ record old { got = old.got ++ piece; ended = ol
 abbrev pub WasRefused : Link → Link → Type 0
 WasRefused old new = new ≡ record old { failures = old.failures + 1 }
 
--- nothing was sent, and what was got waits behind what waited
+-- nothing was sent, and what was got waits after what waited before
 pub record Gains (old new : Place) (gained : List ℕ) : Type 0 where
   pub got : new.link.got ≡ old.link.got ++ gained
   pub waiting : new.waiting ≡ old.waiting ++ gained
@@ -52,7 +52,7 @@ is_refusal Ended = false
 is_refusal Failed = true
 is_refusal TooLong = false
 
--- a line waits, or why none does: nothing comes any more, a call was refused, or the limit is reached
+-- a line waits; or none does, because the link has ended, a call was refused, or the limit is reached
 abbrev pub ReadsLine : ℕ → Place → Result ℕ LineFault → Place → Type 0
 ReadsLine limit old (Ok n) new = HasLine limit new.waiting n × GoesOn old.link new.link
 ReadsLine limit old (Err Ended) new = HasNoLine limit new.waiting × (length new.waiting < limit)

@@ -1,4 +1,5 @@
--- Replies as a client reads them: a first line, and behind a positive one the body that its command asks for (RFC 1939, section 3).
+-- Replies as a client reads them: a first line, and after a positive one the body that its command asks for
+-- (RFC 1939, section 3).
 use Rattle.std.specs.Prelude.{◌≡◌, ◌⊎◌, ℕ, Bool, true, false, List, [], ◌++◌, Option, None, Some, Ok}
 use Rattle.std.specs.List.{flat_map, AllByRecursion, AllZip}
 use Rattle.pop3_wire.specs.Line.{IsLine, ended}
@@ -11,12 +12,12 @@ use Rattle.pop3_wire.specs.declared.reply.Status.TheVariants.{Positive, Negative
 use Rattle.pop3_wire.specs.declared.command.Command.{Command}
 use Rattle.pop3_wire.specs.declared.command.Command.TheVariants.{UidlAll, ListAll, Retr, Top}
 
--- a whole reply: its first line, and the lines of its body where it has one
+-- a whole reply: its first line, and the lines of its body if it has one
 pub record WholeReply : Type 0 where
   pub first : List ℕ
   pub body : Option (List (List ℕ))
 
--- the octets of the body that a reply has
+-- the octets of a reply's body
 abbrev pub body_bytes : Option (List (List ℕ)) → List ℕ
 body_bytes None = []
 body_bytes (Some lines) = body_of lines
@@ -32,31 +33,32 @@ has_body (Retr number) = true
 has_body (Top number lines) = true
 has_body _ = false
 
--- the same of what is replied to: a command, or none, where the greeting is
+-- the same for what is replied to: a command, or none for the greeting
 abbrev pub gives_body : Option Command → Bool
 gives_body None = false
 gives_body (Some command) = has_body command
 
--- a body of content lines where there is to be one, and none where there isn't
+-- a body of content lines if there has to be one, else none
 abbrev pub IsBodyIf : Bool → Option (List (List ℕ)) → Type 0
 IsBodyIf true None = ⊥
 IsBodyIf true (Some lines) = AllByRecursion IsContent lines
 IsBodyIf false None = Unit {0}
 IsBodyIf false (Some lines) = ⊥
 
--- a whole reply to a command, or the greeting: a negative line; or a positive one, with a body where the command asks for one
+-- a whole reply to a command, or the greeting: a negative line; or a positive one, with a body if the command
+-- asks for one
 pub record IsReplyTo (asked : Option Command) (reply : WholeReply) : Type 0 where
   pub line : IsLine reply.first
   pub status : (((rest : List ℕ) × IsFirstLine reply.first Negative rest) × IsBodyIf false reply.body)
       ⊎ (((rest : List ℕ) × IsFirstLine reply.first Positive rest) × IsBodyIf (gives_body asked) reply.body)
 
--- octets are cut into replies to these commands in one way only
+-- octets split into replies to these commands in one way only
 abbrev pub OneReading : Type 0
 OneReading = (asked : List (Option Command)) (replies others : List WholeReply) (rest more : List ℕ)
     → AllZip IsReplyTo asked replies → AllZip IsReplyTo asked others
     → flat_map reply_bytes replies ++ rest ≡ flat_map reply_bytes others ++ more → (replies ≡ others) × (rest ≡ more)
 
--- a body is cut into lines in one way only
+-- a body splits into lines in one way only
 abbrev pub OneListOfLines : Type 0
 OneListOfLines = (lines others : List (List ℕ)) (rest more : List ℕ) → AllByRecursion IsContent lines → AllByRecursion IsContent others
     → body_of lines ++ rest ≡ body_of others ++ more → (lines ≡ others) × (rest ≡ more)
@@ -72,6 +74,6 @@ IsScanLine line row = number_and_size (unstuffed line) ≡ Ok (row.number, row.s
 abbrev pub HasListing : {R : Type 0} → (List ℕ → R → Type 0) → WholeReply → List R → Type 0
 HasListing IsThisRow reply rows = (lines : List (List ℕ)) × (reply.body ≡ Some lines) × AllZip IsThisRow lines rows
 
--- a reply to STAT tells this count
+-- a reply to STAT gives this count
 abbrev pub TellsCount : WholeReply → ℕ → Type 0
 TellsCount reply count = (rest : List ℕ) × (size : ℕ) × IsFirstLine reply.first Positive rest × (number_and_size rest ≡ Ok (count, size))

@@ -8,7 +8,7 @@ abbrev pub indicator : Status → List ℕ
 indicator Positive = codes "+OK"
 indicator Negative = codes "-ERR"
 
--- one leading space is no part of the rest
+-- the text after a status indicator without its first space, if it begins with one
 abbrev pub without_space : List ℕ → List ℕ
 without_space [] = []
 without_space (byte ∷ rest) = if byte == 32 then rest else byte ∷ rest

@@ -19,7 +19,7 @@ pub record StandsFor (limit : ℕ) (digits : List ℕ) (number : ℕ) : Type 0 w
   pub value : number ≡ digits_value 10 digits
   pub within : number ≤ limit
 
--- spaces or none, a message number, one space or more, and the rest
+-- any spaces, a message number, one space or more, and the rest
 pub record HasNumber (line : List ℕ) (number : ℕ) (rest : List ℕ) : Type 0 where
   pub indent : List ℕ
   pub digits : List ℕ
@@ -30,7 +30,7 @@ pub record HasNumber (line : List ℕ) (number : ℕ) (rest : List ℕ) : Type 0
   pub apart : AreSpaces gap
   pub some : gap ≢ []
 
--- behind the message number a size, and whatever doesn't go on with a digit
+-- after the message number a size, and then anything that doesn't begin with a digit
 pub record HasScanForm (line : List ℕ) (number size : ℕ) : Type 0 where
   pub digits : List ℕ
   pub behind : List ℕ
@@ -38,32 +38,32 @@ pub record HasScanForm (line : List ℕ) (number size : ℕ) : Type 0 where
   pub sized : StandsFor greatest_size digits size
   pub over : (byte : ℕ) (rest : List ℕ) → behind ≡ byte ∷ rest → is_ascii_digit byte ≡ false
 
--- behind the message number a legal unique-id, and spaces or none
+-- after the message number a legal unique-id, and any spaces
 pub record HasUidForm (line : List ℕ) (number : ℕ) (uid : List ℕ) : Type 0 where
   pub behind : List ℕ
   pub front : HasNumber line number (uid ++ behind)
   pub legal : IsLegalId uid
   pub over : AreSpaces behind
 
--- the lines that are read are those of the form, with the numbers and the id that stand in it
+-- the lines that are read are exactly those of the form, with the numbers and the id that are in it
 abbrev pub ScanRowsHaveForm : Type 0
 ScanRowsHaveForm = (line : List ℕ) (number size : ℕ) → (number_and_size line ≡ Ok (number, size)) ↔ HasScanForm line number size
 
 abbrev pub UidRowsHaveForm : Type 0
 UidRowsHaveForm = (line : List ℕ) (number : ℕ) (uid : List ℕ) → (number_and_id line ≡ Ok (number, uid)) ↔ HasUidForm line number uid
 
--- a number, as it is written, stands for that number
+-- a number is written as a numeral that stands for it
 abbrev pub NumbersAreRead : Type 0
 NumbersAreRead = (limit number : ℕ) → number ≤ limit → number ≤ greatest_size → StandsFor limit (decimal number) number
 
--- the row of LIST, and STAT's rest, as it is written, and the row of UIDL
+-- the row of LIST, which is also STAT's rest, as it is written, and the row of UIDL
 abbrev pub scan_row : ℕ → ℕ → List ℕ
 scan_row number size = decimal number ++ codes " " ++ decimal size
 
 abbrev pub uid_row : ℕ → List ℕ → List ℕ
 uid_row number uid = decimal number ++ codes " " ++ uid
 
--- a line of a body that stands there as it is: it has no full stop to be doubled or dropped
+-- a line that is sent in a body as it is: it needs no stuffing
 abbrev pub IsSentAsIs : List ℕ → Type 0
 IsSentAsIs line = IsContent line × (unstuffed line ≡ line)
 

@@ -5,7 +5,7 @@ use Rattle.mail_terms.specs.Text.{lines_of_text, whole_text}
 use Rattle.pop3_wire.specs.Line.{ended}
 use Rattle.pop3_wire.specs.Body.{dot, Body}
 
--- a line with one more full stop in front, where it begins with one
+-- a line with one more full stop in front, if it begins with one
 abbrev pub stuffed : List ℕ → List ℕ
 stuffed [] = []
 stuffed (byte ∷ rest) = if byte == 46 then 46 ∷ byte ∷ rest else byte ∷ rest
@@ -17,16 +17,16 @@ sent_line line = ended (stuffed line)
 abbrev pub stuffed_lines : List (List ℕ) → List ℕ
 stuffed_lines lines = flat_map sent_line lines ++ ended dot
 
--- what a writer sends is a body of the text, its last line ended
+-- what a writer sends is a body of the text made whole
 abbrev pub StuffedIsBody : Type 0
 StuffedIsBody = (text : List ℕ) → Body (stuffed_lines (lines_of_text text)) (whole_text text)
 
--- whatever follows what a writer sends, a reader finds that body alone, and the text with its last line ended
+-- whatever follows what a writer sends, a reader finds exactly that body, and the text made whole
 abbrev pub StuffedIsRead : Type 0
 StuffedIsRead = (text more body read rest : List ℕ) → Body body read → stuffed_lines (lines_of_text text) ++ more ≡ body ++ rest
     → (body ≡ stuffed_lines (lines_of_text text)) × (read ≡ whole_text text) × (rest ≡ more)
 
--- no body begins another: bytes begin with one body at most
+-- no body begins another: bytes begin with at most one body
 abbrev pub OneBody : Type 0
 OneBody = (body other text read x y : List ℕ) → Body body text → Body other read → body ++ x ≡ other ++ y
     → (body ≡ other) × (text ≡ read) × (x ≡ y)

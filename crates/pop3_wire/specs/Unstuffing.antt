@@ -1,4 +1,4 @@
--- A body that is read octet by octet: what was read of it, and what of its text is known.
+-- A body that is read octet by octet: the octets that were read, and the part of the text that they give.
 use Rattle.std.specs.Prelude.{◌≡◌, ◌≢◌, ℕ, List, [], ◌∷◌, ◌++◌}
 use Rattle.std.specs.List.{flat_map, AllByRecursion}
 use Rattle.pop3_wire.specs.Line.{IsLine, ended}
@@ -8,7 +8,8 @@ use Rattle.pop3_wire.specs.declared.unstuffer.Spot.TheVariants.{Start, Dot, DotC
 use Rattle.pop3_wire.specs.declared.unstuffer.Given.{Given}
 use Rattle.pop3_wire.specs.declared.unstuffer.Given.TheVariants.{Nothing, One, CrAnd}
 
--- the bytes are whole lines of a body and then a part of one; the text is that of the lines, and then what is shown of the part
+-- the bytes are whole lines of a body and then a part of one; the text is that of the lines, and then what is
+-- shown of the part
 pub record Partly (bytes text part shown : List ℕ) : Type 0 where
   pub lines : List (List ℕ)
   pub content : AllByRecursion IsContent lines
@@ -20,7 +21,7 @@ pub record Partly (bytes text part shown : List ℕ) : Type 0 where
 abbrev pub NoCr : List ℕ → Type 0
 NoCr bytes = (front : List ℕ) → bytes ≡ front ++ 13 ∷ [] → ⊥
 
--- a part of a line that isn't the beginning of the end mark, all of it shown
+-- a part of a line that doesn't begin the end mark; all of it is shown
 pub record InLine (bytes text : List ℕ) : Type 0 where
   pub part : List ℕ
   pub some : part ≢ []

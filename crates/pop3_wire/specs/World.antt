@@ -21,6 +21,6 @@ pub record IsWorld (all : List Message) : Type 0 where
   pub messages : AllByRecursion IsMessage all
   pub distinct : AreDistinct (map (λ (m : Message). m.uid) all)
 
--- the maildrop once this many messages have come, without those that are gone
+-- the maildrop after this many messages have come, without those that are gone
 abbrev pub maildrop_of : List Message → ℕ → List (List ℕ) → List Message
 maildrop_of all come gone = filter (λ (m : Message). not (list_any (bytes_eq m.uid) gone)) (take come all)

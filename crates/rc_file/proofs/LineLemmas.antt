@@ -1,4 +1,4 @@
--- Where a line may be cut: beside a blank or a sign, which are ASCII.
+-- Where a line may be split: next to a blank or a sign, which are ASCII.
 use Rattle.std.proofs.Common.{◌≡◌, ℕ, ◌+◌, ◌-◌, ◌<◌, ◌≤◌, List, length, true, false, ◌==◌, get_or, arith, reverse, subst, sym, ap, ◌∙◌, refl, [], ◌∷◌, inl, inr, eqb, ltb, Some, None}
 use Rattle.std.proofs.lemmas.Bool.{or_cases, eqb-true, ltb-true, cases_eq, cases_lt, cases_Bool, both_ways}
 use Rattle.std.proofs.lemmas.List.{get_or-reverse, get_or-take}
@@ -16,7 +16,7 @@ sign_ascii : (byte : ℕ) → is_sign byte ≡ true → byte < 128
 sign_ascii byte h =
     elim (or_cases (byte == 61) (byte == 58) h) [ inl e ↦ omega (arith, eqb-true byte 61 e) | inr e ↦ omega (arith, eqb-true byte 58 e) ]
 
--- a text may be cut after the blanks in front
+-- a text may be split after the blanks in front
 pub front_boundary : (bs : List ℕ) → IsUtf8 bs → 0 < prefix_len is_blank bs → IsCharBoundary bs (prefix_len is_blank bs)
 front_boundary bs utf8 some =
     let within : prefix_len is_blank bs ≤ length bs = prefix_len-le-length is_blank bs in
@@ -50,7 +50,7 @@ past_sign_boundary bs utf8 within =
     let sign : is_sign (get_or bs (position_or_len is_sign bs) 0) ≡ true = passes_at_first is_sign bs 0 within in
     IsCharBoundary-after_ascii bs (position_or_len is_sign bs) utf8 within (sign_ascii _ sign)
 
--- what begins with no blank begins with the same byte without the blanks at its end
+-- a text that doesn't begin with a blank begins with the same byte without the blanks at its end
 pub before_blanks-first : (bs : List ℕ) → 0 < length bs → is_blank (get_or bs 0 0) ≡ false → get_or (before_blanks bs) 0 0 ≡ get_or bs 0 0
 before_blanks-first bs some first =
     let within : suffix_len is_blank bs ≤ length bs = suffix_len-le-length is_blank bs in
@@ -66,7 +66,7 @@ before_blanks-first bs some first =
     ] in
     get_or-take (length bs - suffix_len is_blank bs) bs 0 0 (omega arith)
 
--- where a sign is found
+-- the place of the first sign, if there is one
 pub sign_found : (bs : List ℕ) (i : ℕ) → position is_sign bs ≡ Some i → (i ≡ position_or_len is_sign bs) × (position_or_len is_sign bs < length bs)
 sign_found bs i e =
     elim (cases_Bool (ltb (position_or_len is_sign bs) (length bs))) [
@@ -80,7 +80,7 @@ sign_found bs i e =
     none_some : (a : ℕ) → None ≡ Some a → ⊥
     none_some a h = cc
 
--- the five rules, each where those before it don't fit
+-- the five rules, each for a line that the rules before it don't fit
 pub judge_bad : (bs : List ℕ) → (IsUtf8 bs → ⊥) → bad ≡ judge bs
 unfolding judge
 judge_bad bs other =
@@ -105,7 +105,7 @@ pub judge_key : (line bs : List ℕ) → line ≡ bs → IsUtf8 bs → is_skippe
 unfolding judge
 judge_key line bs same utf8 counts blank bracket = rw (← same, is_utf8-from_IsUtf8 line (rw (← same) at utf8), counts, blank, bracket)
 
--- what begins with '[' does so without the blanks at its end
+-- a line that begins with '[' still does without the blanks at its end
 pub begins_after_blanks : (line cut : List ℕ) → cut ≡ before_blanks line → eqb (get_or line 0 0) 91 ≡ true → get_or cut 0 0 ≡ 91
 begins_after_blanks line cut same bracket =
     let first : get_or line 0 0 ≡ 91 = eqb-true (get_or line 0 0) 91 bracket in

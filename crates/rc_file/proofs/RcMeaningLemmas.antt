@@ -37,7 +37,7 @@ too_long_meant bytes long =
 pub short : (bytes : List ℕ) → length bytes ≤ 65536 → too_long bytes ≡ None
 short bytes within = rw (le-ltb 65536 (length bytes) within)
 
--- the faults after those that aren't there
+-- each fault is the meaning's, if none of those before it is there
 pub bad_meant : (bytes : List ℕ) (fault : RcFault) → length bytes ≤ 65536 → first_bad (rows_of bytes) ≡ Some fault → fault_in (rc_meaning bytes) ≡ Some fault
 bad_meant bytes fault within found =
     sym (fault_meant bytes) ∙ first_fault-next (too_long bytes) _ (short bytes within) ∙ first_fault-here (first_bad (rows_of bytes)) _ fault found

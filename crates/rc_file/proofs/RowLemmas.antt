@@ -11,7 +11,7 @@ use Rattle.rc_file.specs.declared.fault.RcFault.TheVariants.{BadLine}
 use Rattle.rc_file.specs.declared.row.ReadRow.{ReadRow}
 use Rattle.rc_file.specs.declared.row.Entry.{Entry}
 
--- what is asked of the last of some rows
+-- the last of some rows
 
 pub continued-last : (rows : List RcRow) (row : RcRow) (text : List ℕ) → continued (rows ++ (row ∷ [])) text ≡ rows ++ (continued_row row text ∷ [])
 continued-last [] row text = refl
@@ -149,7 +149,7 @@ key_placed read slice row same some found =
     let at_end : suc (length slice - 1) ≡ length slice = omega arith in
     ap (λ (l : List ReadRow). last_section (rows_in l)) (sym same) ∙ last_section-read slice (length slice - 1) row found at_end
 
--- a line goes on with the last row's value
+-- a line continues the last row's value
 pub more_taken : (read : List ReadRow) (k : ℕ) (row new : ReadRow) (n : ℕ) (text : List ℕ) (result : Result (Unit {0}) RcFault)
     → row ≡ get_or read k row → suc k ≡ length read → AddsText (row_of row) n text result (row_of new) → TakesLine read n (more text) result (set read k new)
 more_taken read k row new n text (Ok done) same at_end h = λ lines.

@@ -1,4 +1,4 @@
--- What an answer to an rc file has to be.
+-- What the result for an rc file has to be.
 use Rattle.std.specs.Prelude.{◌≡◌, ◌⊎◌, List, map, Option, Some, None, Result, Ok, Err, Vec}
 use Rattle.std.specs.declared.alloc.Global.{Global}
 use Rattle.rc_file.specs.RcMeaning.{Warned}
@@ -9,7 +9,7 @@ use Rattle.rc_file.specs.declared.fault.RcFault.TheVariants.{NoMemory}
 use Rattle.rc_file.specs.declared.warning.Warning.{Warning}
 use Rattle.rc_file.specs.declared.settings.Settings.{Settings}
 
--- the fault is what is meant, or a growth was refused
+-- the fault is the one that is meant, or memory ran out
 abbrev pub IsFaultMeant : Option RcFault → RcFault → Type 0
 IsFaultMeant meant fault = (fault ≡ NoMemory) ⊎ (meant ≡ Some fault)
 
@@ -18,7 +18,7 @@ abbrev pub fault_in : {T : Type 0} → Result T RcFault → Option RcFault
 fault_in (Ok value) = None
 fault_in (Err fault) = Some fault
 
--- the settings and the warnings are what is meant, or the fault is, or a growth was refused
+-- the settings and the warnings are those that are meant, or the fault is, or memory ran out
 abbrev pub IsMeant : Result (Content × List Warned) RcFault → Result (Settings × Vec Warning Global) RcFault → Type 0
 IsMeant meaning (Ok read) = meaning ≡ Ok (content_of read.0, map warning_of read.1.items)
 IsMeant meaning (Err fault) = IsFaultMeant (fault_in meaning) fault

@@ -1,4 +1,4 @@
--- The rows of an rc file: its section lines, its keys with their values, and the lines that mean nothing where they stand.
+-- The rows of an rc file: its section lines, its keys with their values, and the lines that are bad in their place.
 use Rattle.std.specs.Prelude.{ℕ, ◌+◌, Bool, true, false, List, [], ◌∷◌, ◌++◌, map, Option, Some, None, is_some}
 use Rattle.std.specs.Char.{to_ascii_lowercase}
 use Rattle.rc_file.specs.LineRules.{RcLine, skipped, more, section, key, bad, file_lines, judge}
@@ -10,8 +10,8 @@ pub data RcRow : Type 0 where
   key_row : ℕ → List ℕ → List ℕ → List ℕ → RcRow
   bad_row : ℕ → RcRow
 
--- what these lines add to the value of the key before them: each line that goes on with it, after an LF, up to the next
--- section or key. Skipped lines don't end a value
+-- what these lines add to the value of the key before them: each line that continues it, after an LF, up to
+-- the next section, key or bad line. Skipped lines don't end a value
 abbrev pub added : List RcLine → List ℕ
 added [] = []
 added (skipped ∷ lines) = added lines
@@ -20,18 +20,18 @@ added (section name ∷ lines) = []
 added (key name value ∷ lines) = []
 added (bad ∷ lines) = []
 
--- a line that goes on with a value is bad where there is no key that it could belong to
+-- a line that continues a value is bad if there is no key that it could belong to
 abbrev pub more_rows : Bool → ℕ → List RcRow
 more_rows true n = []
 more_rows false n = bad_row n ∷ []
 
--- a key line is bad where no section line stands before it
+-- a key line is bad if no section line comes before it
 abbrev pub key_rows : Option (List ℕ) → ℕ → List ℕ → List ℕ → List RcRow
 key_rows (Some name) n word value = key_row n name (map to_ascii_lowercase word) value ∷ []
 key_rows None n word value = bad_row n ∷ []
 
--- the rows of lines that are numbered from n on, in the section before them, if there is one; `keyed` says that a key
--- stands there since the last section line
+-- the rows of lines that are numbered from n on, in the section before them, if there is one; `keyed` says
+-- whether a key has come since the last section line
 abbrev pub rows_from : Option (List ℕ) → Bool → ℕ → List RcLine → List RcRow
 rows_from within keyed n [] = []
 rows_from within keyed n (skipped ∷ lines) = rows_from within keyed (n + 1) lines

@@ -11,7 +11,7 @@ is_contradiction flags = flags.all && flags.new_only || flags.delete && flags.do
 abbrev pub switched : Bool → Bool → Bool → Bool
 switched on off value = if on then true else if off then false else value
 
--- quiet is 0; each -v adds one, up to 2
+-- `--quiet` gives 0; each `--verbose` adds one, up to 2
 abbrev pub louder : Bool → ℕ → ℕ → ℕ
 louder quiet more verbose = if quiet then 0 else if more == 0 then verbose else min (verbose + more) 2
 

@@ -1,4 +1,4 @@
--- A judged line of the program as a value.
+-- The program's kinds of lines as values.
 use Rattle.rc_file.specs.LineRules.{RcLine, skipped, more, section, key, bad}
 use Rattle.rc_file.specs.declared.line.JudgedLine.{JudgedLine}
 use Rattle.rc_file.specs.declared.line.JudgedLine.TheVariants.{Skipped, More, Section, Key, Bad}

@@ -13,8 +13,8 @@ use Rattle.rc_file.specs.declared.key.Key.TheVariants.{RetrieverKind, UseApop, S
 use Rattle.rc_file.specs.declared.fault.RcFault.{RcFault}
 use Rattle.rc_file.specs.declared.fault.RcFault.TheVariants.{UnknownType, BadValue, Unsupported, BadPath}
 
--- the form of a key's values: one of these words; a boolean; a boolean that may not be true; a number from low to high;
--- the name of a server; a username or a password; a path
+-- the form of a key's values: one of these words; a boolean; a boolean that may not be true; a number from
+-- low to high; the name of a server; a username or a password; a path
 pub data Form : Type 0 where
   kind : List (List ℕ) → Form
   boolean : Form
@@ -24,8 +24,8 @@ pub data Form : Type 0 where
   credential : Form
   path : Form
 
--- the section in which a key stands, its name there, the form of its values, and what counts where it has no row; with no
--- such default it must have one
+-- a key's section, its name there, the form of its values, and its default, if it has one; a key without a
+-- default is required
 pub record Rule : Type 0 where
   pub section : List ℕ
   pub name : List ℕ
@@ -38,7 +38,7 @@ without_default within word values = record { section = within; name = word; for
 abbrev pub with_default : List ℕ → List ℕ → Form → List ℕ → Rule
 with_default within word values text = record { section = within; name = word; form = values; default = Some text }
 
--- the sections in which keys stand
+-- the sections that have keys
 abbrev pub retriever_section : List ℕ
 retriever_section = codes "retriever"
 
@@ -48,7 +48,6 @@ destination_section = codes "destination"
 abbrev pub option_section : List ℕ
 option_section = codes "options"
 
--- the table
 abbrev pub rule : Key → Rule
 rule RetrieverKind = without_default retriever_section (codes "type") (kind (codes "SimplePOP3Retriever" ∷ []))
 rule UseApop = with_default retriever_section (codes "use_apop") never (codes "false")
@@ -65,7 +64,7 @@ rule MaxSize = with_default option_section (codes "max_message_size") (number 0 
 rule MaxCount = with_default option_section (codes "max_messages_per_session") (number 0 18446744073709551615) (codes "0")
 rule Verbose = with_default option_section (codes "verbose") (number 0 18446744073709551615) (codes "1")
 
--- the keys of the table, in the order in which they are judged
+-- the keys of the table, in the order in which they are checked
 abbrev pub retriever_keys : List Key
 retriever_keys = RetrieverKind ∷ UseApop ∷ Server ∷ Port ∷ Username ∷ Password ∷ []
 
@@ -78,7 +77,7 @@ option_keys = ReadAll ∷ Delete ∷ DeleteAfter ∷ MaxSize ∷ MaxCount ∷ Ve
 abbrev pub all_keys : List Key
 all_keys = retriever_keys ++ (destination_keys ++ option_keys)
 
--- the words for yes and for no, in any case
+-- the words for yes and for no, in upper or lower case
 abbrev pub is_word : List ℕ → List ℕ → Bool
 is_word text word = bytes_eq (map to_ascii_lowercase text) word
 

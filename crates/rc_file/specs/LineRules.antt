@@ -1,10 +1,10 @@
--- What each line of an rc file is, wherever it stands.
+-- What each line of an rc file is, whatever its place.
 use Rattle.std.specs.Prelude.{ℕ, Bool, not, ◌&&◌, ◌||◌, List, ◌-◌, length, take, drop, map, ◌==◌, nat_lt, slice_index, if◌then◌else◌}
 use Rattle.std.specs.List.{prefix_len, suffix_len, position_or_len, before_first, after_first}
 use Rattle.std.specs.Str.{is_utf8}
 use Rattle.bstr.specs.Text.{lines_of, without_terminator}
 
--- the lines of a file: each ends at LF, and one CR before the LF goes with it; a last line without LF counts
+-- the lines of a file: each ends at LF, and one CR before the LF is dropped; a last line without LF counts
 abbrev pub file_lines : List ℕ → List (List ℕ)
 file_lines bytes = map without_terminator (lines_of bytes)
 
@@ -32,7 +32,7 @@ is_sign byte = byte == 61 || byte == 58
 abbrev pub is_comment_sign : ℕ → Bool
 is_comment_sign byte = byte == 35 || byte == 59
 
--- a line, by the rule that it falls under
+-- a line, by the rule that fits it
 pub data RcLine : Type 0 where
   skipped : RcLine
   more : List ℕ → RcLine
@@ -49,7 +49,7 @@ abbrev pub section_line : List ℕ → RcLine
 section_line line =
     if nat_lt 2 (length line) && slice_index line (length line - 1) == 93 then section (take (length line - 2) (drop 1 line)) else bad
 
--- the key stands before the first sign and the value after it
+-- the key comes before the first sign and the value after it
 abbrev pub key_line : List ℕ → RcLine
 key_line line =
     if nat_lt (position_or_len is_sign line) (length line) && nat_lt 0 (length (trimmed (before_first is_sign line)))

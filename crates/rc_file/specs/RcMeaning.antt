@@ -1,4 +1,4 @@
--- What an rc file means: its rows are read first, and then each answer is a look-up in them.
+-- What an rc file means: its rows are read first, and then everything is looked up in them.
 use Rattle.std.specs.Prelude.{ℕ, Bool, false, not, ◌&&◌, List, [], ◌∷◌, length, map, min, nat_lt, if◌then◌else◌, Option, Some, None, Result, Ok, Err, codes}
 use Rattle.std.specs.List.{filter, filter_map, last_or, list_any}
 use Rattle.std.specs.Option.{unwrap_or}
@@ -25,7 +25,7 @@ first_bad (section_row line name ∷ rows) = first_bad rows
 first_bad (key_row line section key value ∷ rows) = first_bad rows
 first_bad (bad_row line ∷ rows) = Some (BadLine line)
 
--- a section is there where its line stands, with keys or without; names are compared exactly
+-- a file has a section if it has its line, with keys or without; names are compared exactly
 abbrev pub section_name : Section → List ℕ
 section_name Retriever = retriever_section
 section_name DestinationSection = destination_section
@@ -38,7 +38,7 @@ is_section name (bad_row line) = false
 abbrev pub missing_section : List RcRow → Section → Option RcFault
 missing_section rows section = if list_any (is_section (section_name section)) rows then None else Some (MissingSection section)
 
--- a row's value, where it is a row of the key
+-- a row's value, if it is a row of the key
 abbrev pub value_at : Key → RcRow → Option (List ℕ)
 value_at key (section_row line name) = None
 value_at key (key_row line section name value) =
@@ -81,7 +81,7 @@ faults_of bytes rows =
     too_long bytes ∷ first_bad rows ∷ missing_section rows Retriever ∷ missing_section rows DestinationSection
     ∷ map (fault_at rows) all_keys
 
--- the settings, where nothing is wrong
+-- the settings, if nothing is wrong
 abbrev pub destination_in : List RcRow → Destination
 destination_in rows = if is_folder rows then maildir (text_of rows Path) else mboxrd (text_of rows Path)
 
@@ -100,19 +100,19 @@ settings_in rows = record {
   verbose = min (number_of rows Verbose) 2;
 }
 
--- a warning as a value: its line, its section and, where it is about a key, the key
+-- a warning as a value: its line, its section and, if it is about a key, the key
 pub record Warned : Type 0 where
   pub line : ℕ
   pub section : List ℕ
   pub key : List ℕ
 
--- the row as a warning would tell it. A key is never empty
+-- the row as a warning gives it; a key is never empty
 abbrev pub warned : RcRow → Warned
 warned (section_row number name) = record { line = number; section = name; key = [] }
 warned (key_row number within word value) = record { line = number; section = within; key = word }
 warned (bad_row number) = record { line = number; section = []; key = [] }
 
--- a section in which a key of the table stands
+-- a section that has a key in the table
 abbrev pub is_known_section : List ℕ → Bool
 is_known_section name = list_any (λ key. bytes_eq name (rule key).section) all_keys
 
@@ -123,7 +123,8 @@ is_named section name key = bytes_eq section (rule key).section && bytes_eq name
 abbrev pub is_known_key : List ℕ → List ℕ → Bool
 is_known_key section name = list_any (is_named section name) all_keys
 
--- a section has no effect where it isn't one of the table's; a key where it isn't in the table, though its section is
+-- a section has no effect if the table doesn't have it; a key has none if the table has its section, but not
+-- the key
 abbrev pub has_no_effect : RcRow → Bool
 has_no_effect (section_row line name) = not (is_known_section name)
 has_no_effect (key_row line section key value) = is_known_section section && not (is_known_key section key)
@@ -133,13 +134,13 @@ has_no_effect (bad_row line) = false
 abbrev pub is_same : Warned → Warned → Bool
 is_same a b = bytes_eq a.section b.section && bytes_eq a.key b.key
 
--- each of the rows but those that stand for what an earlier one stands for
+-- the rows, each section and key once, without those in `told`
 abbrev pub firsts : List Warned → List Warned → List Warned
 firsts told [] = []
 firsts told (row ∷ rows) =
     if list_any (λ earlier. is_same earlier row) told then firsts told rows else row ∷ firsts (row ∷ told) rows
 
--- what has no effect is told once, at its first line, in the order of lines
+-- each section or key without effect is warned of once, at its first line, in the order of lines
 abbrev pub warnings_in : List RcRow → List Warned
 warnings_in rows = firsts [] (map warned (filter has_no_effect rows))
 

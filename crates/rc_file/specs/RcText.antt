@@ -1,4 +1,4 @@
--- How faults and warnings of an rc file are told.
+-- The texts of an rc file's faults and warnings.
 use Rattle.std.specs.Prelude.{ℕ, List, [], ◌++◌, length, ◌==◌, if◌then◌else◌, codes}
 use Rattle.std.specs.Fmt.{decimal}
 use Rattle.rc_file.specs.KeyTable.{rule}
@@ -24,7 +24,7 @@ rc_text BadPath = codes "destination.path has a bad form"
 rc_text Contradiction = codes "opposite flags"
 rc_text NoMemory = codes "out of memory"
 
--- what has no effect: a section, or a key with its section
+-- the warnings: for a section, and for a key with its section
 abbrev pub section_warning : ℕ → List ℕ → List ℕ
 section_warning line section = codes "warning: line " ++ (decimal line ++ (codes ": section [" ++ (section ++ codes "] has no effect")))
 

@@ -1,4 +1,4 @@
--- What the readers of the sections answer.
+-- What the readers of the sections return.
 use Rattle.std.specs.Prelude.{◌≡◌, ◌≤◌, ◌⊎◌, List, map, min, Option, None, Result, Ok, Err, false, IsTrue}
 use Rattle.std.specs.String.{string_bytes}
 use Rattle.mail_terms.specs.Credential.{is_credential}
@@ -21,7 +21,7 @@ use Rattle.rc_file.specs.declared.settings.Settings.{Settings}
 unfoldable pub key_fault : List RcRow → List Key → Option RcFault
 key_fault rows keys = first_fault (map (fault_at rows) keys)
 
--- the retriever's fields are what the rows give, and such as they may be
+-- the retriever's fields are what the rows give, and are valid
 pub record IsRetriever (rows : List RcRow) (retriever : Retriever) : Type 0 where
   pub sound : key_fault rows retriever_keys ≡ None
   pub server_is : string_bytes retriever.server ≡ text_of rows Server
@@ -33,7 +33,7 @@ pub record IsRetriever (rows : List RcRow) (retriever : Retriever) : Type 0 wher
   pub username_valid : IsTrue (is_credential (string_bytes retriever.username))
   pub password_valid : IsTrue (is_credential (string_bytes retriever.password))
 
--- the destination is this one, if its path is of the form that its type wants, or a growth was refused
+-- the destination is this one, if its path has the form that its type needs; or memory ran out
 abbrev pub MakesDestination : Destination → Result Dest RcFault → Type 0
 MakesDestination wanted (Ok dest) = (destination_of dest ≡ wanted) × IsTrue (is_destination wanted)
 MakesDestination wanted (Err fault) = (fault ≡ NoMemory) ⊎ ((fault ≡ BadPath) × (is_destination wanted ≡ false))

@@ -8,7 +8,7 @@ use Rattle.rc_file.specs.declared.settings.Settings.{Settings}
 use Rattle.rc_file.specs.declared.settings.Dest.{Dest}
 use Rattle.rc_file.specs.declared.settings.Dest.TheVariants.{Maildir, Mboxrd}
 
--- neither LF nor NUL
+-- a byte other than LF and NUL
 abbrev pub is_server_byte : ℕ → Bool
 is_server_byte byte = not (byte == 10) && not (byte == 0)
 
@@ -16,7 +16,7 @@ is_server_byte byte = not (byte == 10) && not (byte == 0)
 abbrev pub is_server : List ℕ → Bool
 is_server text = nat_lt 0 (length text) && list_all is_server_byte text
 
--- neither LF, NUL nor '$'
+-- a byte other than LF, NUL and '$'
 abbrev pub is_path_byte : ℕ → Bool
 is_path_byte byte = not (byte == 10) && not (byte == 0) && not (byte == 36)
 

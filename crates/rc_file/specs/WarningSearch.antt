@@ -1,4 +1,4 @@
--- A warning of the program as a value, and how warnings are found.
+-- The program's warnings as values, and how warnings are found.
 use Rattle.std.specs.Prelude.{◌≡◌, ℕ, Bool, ◌&&◌, List, ◌∷◌, ◌++◌}
 use Rattle.std.specs.Borrow.{Bor}
 use Rattle.std.specs.HashSet.{HashSet, contains}
@@ -20,12 +20,12 @@ Name = Bor (List ℕ) × Bor (List ℕ)
 abbrev pub name_eq : Name → Name → Bool
 name_eq a b = bytes_eq a.0.now b.0.now && bytes_eq a.1.now b.1.now
 
--- what is found so far, with what the rest gives, is all; the set has the names of what was met
+-- what was found so far, followed by what the rest gives, is all; the set has the names of the rows that were met
 pub record IsFinding (all rest found : List Warned) (told : HashSet Name (BuildHasherDefault FoldHasher)) : Type 0 where
   pub met : List Warned
   pub whole : all ≡ found ++ firsts met rest
   pub names : (name : Name) → contains name_eq told name ≡ list_any (λ earlier. bytes_eq earlier.section name.0.now && bytes_eq earlier.key name.1.now) met
 
--- a row is one of the rest no more
+-- a row was met, and is no longer one of the rest
 abbrev pub Tells : Warned → List Warned → HashSet Name (BuildHasherDefault FoldHasher) → List Warned → HashSet Name (BuildHasherDefault FoldHasher) → Type 0
 Tells row found old found' new = (all rest : List Warned) → IsFinding all (row ∷ rest) found old → IsFinding all rest found' new

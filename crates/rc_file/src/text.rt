@@ -72,7 +72,7 @@ fn key_warning(alloc: Global, line: u32, section: &str, key: &str) -> Result<Str
     format!(in alloc; "warning: line {line}: {section}.{key} has no effect")
 }
 
-/// A law: no warning depends on a value of the file, such as a password.
+/// No warning depends on a value of the file, such as a password.
 pub fn warnings_hide_values()
     ensures { (rows : List RcRow) → warnings_in (map without_value rows) ≡ warnings_in rows }
 {}

@@ -25,7 +25,7 @@ pub struct Warning {
     pub line: u32,
     /// The section's name.
     pub section: String,
-    /// The key, in ASCII lower case; empty where the whole section has no effect.
+    /// The key, in ASCII lower case; empty if the whole section has no effect.
     pub key: String,
 }
 

@@ -4,7 +4,7 @@ use Rattle.pop3_wire.specs.Unstuffing.{Partly, AtCr, Reaches}
 use Rattle.pop3_wire.proofs.UnstuffingLemmas.{start_cr, start_other, dot_cr, dot_other, dot_cr_cr, dot_cr_other, middle_cr, middle_other, cr_lf, cr_cr, cr_other}
 use Rattle.pop3_wire.proofs.unstuffer.step.Goals as goal
 
--- what is known at a spot, once the spot is known
+-- what is known at a spot, if it equals this one
 at_spot : (spot known : Spot) (bytes text : List ℕ) → spot ≡ known → Reaches spot bytes text → Reaches known bytes text
 at_spot spot known bytes text e h = subst (λ (s : Spot). Reaches s bytes text) e h
 

@@ -43,7 +43,7 @@ returns-in-Err-read-clause-takes g c =
       | inr unread ↦ subst P (sym unread.0) (take n here.waiting, length c.rows.rows.items, there, omega arith, subst (λ (l : List ℕ). IsRow turn (take n l) → ⊥) c.waiting.ensures.value unread.1)
     ]))
 
--- want of memory behind a good row
+-- out of memory after a good row
 pub returns-in-Err-push-clause-takes : goal.returns-in-Err-push-clause-takes
 returns-in-Err-push-clause-takes g c =
     let few : c.len.result < row_limit = rw c.in-Ok-Some.field-0-is at c.in-Ok-Some.ensures.few in

@@ -16,7 +16,7 @@ returns-in-Some-clause-found c =
     until from known c.in-Some.ensures.found.0
     (ap (λ (l : List ℕ). take (c.min-until.result - c.saturating_sub-from.result) (drop c.saturating_sub-from.result l)) (sym c.waiting-2.ensures.value) ∙ c.in-Some.ensures.found.1)
 
--- what the search went over holds no line's end
+-- the octets that the search went over hold no line end
 searched_over : (c : goal.After-self-1) → HasNoLine c.min-until.result c.args.self.now
 searched_over c =
     let known : HasNoLine c.self.inside.searched c.args.self.now = subst (HasNoLine c.self.inside.searched) c.self.view_is c.self.invariant.3 in
