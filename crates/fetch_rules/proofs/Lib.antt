@@ -1,6 +1,8 @@
+mod AscentLemmas
 mod BaseLemmas
 mod CountLemmas
 mod CutLemmas
+mod DeliveredLemmas
 mod DistinctLemmas
 mod FilterLemmas
 mod FirstLemmas

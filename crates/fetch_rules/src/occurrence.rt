@@ -1,15 +1,43 @@
 //! Which messages of a listing are the first, and which the last, with their ids. Each call takes
-//! n log n comparisons of ids.
+//! n log n comparisons of ids, or n where the ids ascend, as most servers' do.
 
 ghost use Rattle.std.specs.Prelude.{◌≡◌, map, IfOk};
-ghost use Rattle.mail_terms.specs.Listing.{numbered, is_first, is_last};
+ghost use Rattle.std.specs.Bool.{OnTrue};
+ghost use Rattle.std.specs.Cmp.Lexicographic.{slice_cmp};
+ghost use Rattle.std.specs.Ordering.{nat_cmp};
+ghost use Rattle.std.specs.declared.cmp.Ordering.TheVariants.{Less};
+ghost use Rattle.mail_terms.specs.Listing.{HasDistinctIds, numbered, is_first, is_last};
 
 use crate::id_set::IdSet;
+use crate::id_text::text_of;
 use mail_terms::Listing;
 use std::alloc::{AllocError, Global};
+use std::cmp::Ordering;
 
-/// For each message, whether no earlier one has its id.
-pub(crate) fn are_first(alloc: Global, listing: &Listing) -> Result<Vec<bool>, AllocError>
+/// Whether the first id is certain to come before the second in the order of texts.
+fn comes_before(first: &[u8], second: &[u8]) -> bool
+    ensures { OnTrue result (slice_cmp nat_cmp first.now second.now ≡ Less) }
+{
+    match (text_of(first), text_of(second)) {
+        (Some(first), Some(second)) => first.cmp(second) == Ordering::Less,
+        _ => false,
+    }
+}
+
+/// Whether each id comes after the one before it, so that none is there twice.
+fn do_ascend(listing: &Listing) -> bool
+    ensures { OnTrue result (HasDistinctIds listing.now) }
+{
+    for i in 1..listing.len() {
+        if !comes_before(listing.uid(i - 1), listing.uid(i)) {
+            return false;
+        }
+    }
+    true
+}
+
+/// For each message, whether no earlier one has its id, by a set of the earlier ids.
+fn firsts_by_set(alloc: Global, listing: &Listing) -> Result<Vec<bool>, AllocError>
     ensures { IfOk result (λ flags. flags.items ≡ map (is_first listing.now) (numbered listing.now)) }
 {
     let mut ids = IdSet::new(alloc);
@@ -21,8 +49,8 @@ pub(crate) fn are_first(alloc: Global, listing: &Listing) -> Result<Vec<bool>, A
     Ok(flags)
 }
 
-/// For each message, whether no later one has its id.
-pub(crate) fn are_last(alloc: Global, listing: &Listing) -> Result<Vec<bool>, AllocError>
+/// For each message, whether no later one has its id, by a set of the later ids.
+fn lasts_by_set(alloc: Global, listing: &Listing) -> Result<Vec<bool>, AllocError>
     ensures { IfOk result (λ flags. flags.items ≡ map (is_last listing.now) (numbered listing.now)) }
 {
     let mut ids = IdSet::new(alloc);
@@ -31,4 +59,26 @@ pub(crate) fn are_last(alloc: Global, listing: &Listing) -> Result<Vec<bool>, Al
         flags[i as usize] = ids.insert(listing.uid(i))?;
     }
     Ok(flags)
+}
+
+/// For each message, whether no earlier one has its id.
+pub(crate) fn are_first(alloc: Global, listing: &Listing) -> Result<Vec<bool>, AllocError>
+    ensures { IfOk result (λ flags. flags.items ≡ map (is_first listing.now) (numbered listing.now)) }
+{
+    if do_ascend(listing) {
+        let flags = vec![in alloc; true; listing.len() as usize]?;
+        return Ok(flags);
+    }
+    firsts_by_set(alloc, listing)
+}
+
+/// For each message, whether no later one has its id.
+pub(crate) fn are_last(alloc: Global, listing: &Listing) -> Result<Vec<bool>, AllocError>
+    ensures { IfOk result (λ flags. flags.items ≡ map (is_last listing.now) (numbered listing.now)) }
+{
+    if do_ascend(listing) {
+        let flags = vec![in alloc; true; listing.len() as usize]?;
+        return Ok(flags);
+    }
+    lasts_by_set(alloc, listing)
 }

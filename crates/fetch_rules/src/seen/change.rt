@@ -1,6 +1,6 @@
 //! How a listing changes the rows of a record.
 
-ghost use Rattle.std.specs.Prelude.{◌≡◌, ◌≢◌, ◌≤◌, ◌++◌, ◌&&◌, not, ℕ, List, length, map, take, OnOk, OnErr, IfOk};
+ghost use Rattle.std.specs.Prelude.{◌≡◌, ◌≢◌, ◌≤◌, ◌++◌, ◌&&◌, not, ℕ, List, length, map, take, All, true, OnOk, OnErr, IfOk};
 ghost use Rattle.std.specs.Bool.{OnTrue, OnFalse};
 ghost use Rattle.mail_terms.specs.Listing.{message_limit, is_flagged};
 ghost use Rattle.fetch_rules.specs.Record.{IsRecord, marked, with_held, new_ids, undelivered, is_delivered};
@@ -71,6 +71,19 @@ impl<H: BuildHasher> RowMap<H> {
         added
     }
 
+    /// Whether all rows are recorded as delivered.
+    fn are_delivered(&self) -> bool
+        ensures { OnTrue result (All (λ row. row.delivered ≡ true) self.now) }
+    {
+        for place in 0..self.len() {
+            let (_, state) = self.at(place);
+            if !state.delivered {
+                return false;
+            }
+        }
+        true
+    }
+
     /// Sets delivered for the held items' ids. Says whether this changed a row.
     pub(crate) fn mark_held(&mut self, listing: &Listing, held: &[bool]) -> bool
         requires { length held.now ≡ length listing.now }
@@ -81,6 +94,9 @@ impl<H: BuildHasher> RowMap<H> {
     {
         // For the proof alone: `len` says that the rows are a record, from which the loop starts.
         let _ = self.len();
+        if self.are_delivered() {
+            return false;
+        }
         let mut changed = false;
         for i in 0..listing.len() {
             if held[i as usize] {
@@ -123,6 +139,9 @@ impl<H: BuildHasher> RowMap<H> {
         requires within { count ≤ length self.now }
         ensures { IfOk result (λ bytes. bytes.items ≡ written (changed (take count self.now) (with_held listing.now held.now self.now))) }
     {
+        if count == self.len() && self.are_delivered() {
+            return Ok(Vec::new(alloc));
+        }
         let ids = self.held_anew(alloc, listing, held)?;
         let mut lines = Vec::new(alloc);
         let mut changes: usize = 0;

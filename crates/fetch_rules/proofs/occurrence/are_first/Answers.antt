@@ -1,12 +1,10 @@
-use Rattle.std.proofs.Common.{arith}
-use Rattle.fetch_rules.proofs.OccurrenceLemmas.{HasFirsts-more, HasFirsts-all, nobody}
+use Rattle.mail_terms.specs.Listing.{HasDistinctIds}
+use Rattle.fetch_rules.proofs.AscentLemmas.{from_true}
+use Rattle.fetch_rules.proofs.DistinctLemmas.{firsts-distinct}
 use Rattle.fetch_rules.proofs.occurrence.are_first.Goals as goal
 
-pub loop-i-preserved : goal.loop-i-preserved
-loop-i-preserved c =
-    rw c.in_ok-push.ensures.items
-    (HasFirsts-more c.args.listing.now c.loop-i.i c.loop-i.ids c.insert.new.self c.loop-i.flags.items c.uid.result.now c.in_ok-new.new c.loop-i.invariant (omega arith)
-    (c.uid.ensures.value nobody) c.in_ok-new.ensures.added c.in_ok-new.ensures.ids)
-
-pub returns : goal.returns
-returns c = HasFirsts-all c.args.listing.now c.loop-i.i c.loop-i.ids c.loop-i.flags.items c.loop-i.invariant (omega arith)
+pub returns-then-do_ascend : goal.returns-then-do_ascend
+returns-then-do_ascend c =
+    firsts-distinct c.args.listing.now _ c.in_ok-flags.flags.items
+    (from_true c.do_ascend.result (HasDistinctIds c.args.listing.now) c.do_ascend.ensures c.if-do_ascend.true)
+    c.len.ensures.count (c.in_ok-flags.ensures.items_if_clones_equal (λ y same. same))

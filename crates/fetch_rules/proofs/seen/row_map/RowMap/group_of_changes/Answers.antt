@@ -6,6 +6,8 @@ use Rattle.mail_terms.specs.Listing.{is_flagged}
 use Rattle.fetch_rules.specs.Record.{Row, is_delivered}
 use Rattle.fetch_rules.specs.Rows.{row_from}
 use Rattle.fetch_rules.specs.RecordFile.{line_of}
+use Rattle.fetch_rules.proofs.AscentLemmas.{from_true}
+use Rattle.fetch_rules.proofs.DeliveredLemmas.{AreDelivered, written-none}
 use Rattle.fetch_rules.proofs.RowLemmas.{is_delivered-at}
 use Rattle.fetch_rules.proofs.GrowthLemmas.{HasWritten-skips, HasWritten-adds, HasWritten-all}
 use Rattle.fetch_rules.proofs.seen.row_map.RowMap.group_of_changes.Goals as goal
@@ -79,3 +81,9 @@ pub returns : goal.returns
 returns g c =
     let all = HasWritten-all c.args.count (λ (row : Row). is_flagged c.args.listing.now c.args.held.now row.uid) c.args.self.now c.loop-place.place c.loop-place.changes c.loop-place.lines.items c.loop-place.invariant.0 (omega arith) in
     c.in_ok-bytes.ensures _ all.0 (all.1 ∙ sym c.deref.ensures.value)
+
+pub returns-then-are_delivered : goal.returns-then-are_delivered
+returns-then-are_delivered g c =
+    written-none c.args.listing.now c.args.held.now c.args.self.now c.args.count c.new.result.items
+    (from_true c.are_delivered.result (AreDelivered c.args.self.now) c.are_delivered.ensures c.if-are_delivered.true)
+    (omega (arith, c.if-count-len.true, c.len.ensures.count)) c.new.ensures.items

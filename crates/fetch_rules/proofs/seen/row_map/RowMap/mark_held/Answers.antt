@@ -1,4 +1,6 @@
-use Rattle.std.proofs.Common.{arith}
+use Rattle.std.proofs.Common.{sym, arith}
+use Rattle.fetch_rules.proofs.AscentLemmas.{from_true}
+use Rattle.fetch_rules.proofs.DeliveredLemmas.{AreDelivered, with_held-same}
 use Rattle.fetch_rules.proofs.MergeLemmas.{HasMarked-none, HasMarked-next_held, HasMarked-next_free, HasMarked-all}
 use Rattle.fetch_rules.proofs.seen.row_map.RowMap.mark_held.Goals as goal
 use Rattle.fetch_rules.proofs.seen.row_map.RowMap.mark_held.Goals.{then-held-i, else-held-i}
@@ -17,3 +19,8 @@ loop-i-preserved g c = elim c.if-held-i.branch [
 
 pub returns-clause-rows : goal.returns-clause-rows
 returns-clause-rows g c = HasMarked-all _ _ _ _ _ _ (omega arith) c.loop-i.invariant
+
+pub returns-then-are_delivered-clause-rows : goal.returns-then-are_delivered-clause-rows
+returns-then-are_delivered-clause-rows g c =
+    sym (with_held-same c.args.listing.now c.args.held.now c.args.self.now
+    (from_true c.are_delivered.result (AreDelivered c.args.self.now) c.are_delivered.ensures c.if-are_delivered.true))
