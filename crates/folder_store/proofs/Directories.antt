@@ -84,48 +84,45 @@ refused_add old new cur (Some name) n m up (other, e) f h = (
 )
 
 -- the file put under a name that led to none stands behind the others
-put_behind : (old cur : Directory) (b : Blob) (name : List ℕ) (n : ℕ) (f : File) → old.made ≡ Some b
-    → (maildir_in old cur (Some name) n).begun ≡ Some f → (IsInNew (maildir_in old cur (Some name) n) f.name → ⊥)
-    → maildir_in (put_in old (secured b.content) name) cur None n ≡ with_file (maildir_in old cur (Some name) n) f
-put_behind old cur b name n f made h free =
-    let told : file name b.content ≡ f =
-    ap (λ (m : Option Blob). file name (content_made m)) (sym made) ∙ file_is (file name (content_made old.made)) f h in
+put_behind : (old cur : Directory) (b : Blob) (title name : List ℕ) (n : ℕ) (f : File) → old.made ≡ Some b
+    → (maildir_in old cur (Some title) n).begun ≡ Some f → (IsInNew (maildir_in old cur (Some title) n) name → ⊥)
+    → maildir_in (put_in old (secured b.content) name) cur None n ≡ with_file (maildir_in old cur (Some title) n) (file name f.content)
+put_behind old cur b title name n f made h free =
+    let told : file name b.content ≡ file name f.content =
+    ap (λ (m : Option Blob). file name (content_made m)) (sym made) ∙ ap (λ (g : File). file name g.content) (file_is (file title (content_made old.made)) f h) in
     let nowhere : Contains (names_in old.entries) name → ⊥ = λ c.
-    free (subst (λ (names : List (List ℕ)). Contains names f.name) (sym (names_of-files_at old.entries))
-    (subst (λ (title : List ℕ). Contains (names_in old.entries) title) (begun_is old cur name n f h) c)) in
+    free (subst (λ (names : List (List ℕ)). Contains names name) (sym (names_of-files_at old.entries)) c) in
     ap (λ (files : List File). record (maildir_in old cur None n) { in_new = files })
     (ap files_at (placed_behind name (secured b.content) old.entries nowhere) ∙ files_at-push old.entries (entry name (secured b.content))
     ∙ ap (λ (g : File). files_at old.entries ++ g ∷ []) told)
 
-pub settled : (old new cur : Directory) (begun : Option (List ℕ)) (name : List ℕ) (n : ℕ) → begun ≡ Some name
+nothing_begun : {X : Type 0} (x : X) → None ≡ Some x → ⊥
+nothing_begun x e = cc
+
+pub settled : (old new cur : Directory) (begun : Option (List ℕ)) (name : List ℕ) (n : ℕ)
     → PutsFlushed {T = Unit {0}} old name (Ok tt) new
-    → (f : File) → (maildir_in old cur begun n).begun ≡ Some f → (IsInNew (maildir_in old cur begun n) f.name → ⊥)
-    → maildir_in new cur None n ≡ with_file (maildir_in old cur begun n) f
-settled old new cur begun name n titled (b, made, e) f h free =
-    let P : Option (List ℕ) → Type 0 = λ t. (maildir_in old cur t n).begun ≡ Some f → (IsInNew (maildir_in old cur t n) f.name → ⊥)
-    → maildir_in new cur None n ≡ with_file (maildir_in old cur t n) f in
-    subst P (sym titled) (λ h free. ap (λ (d : Directory). maildir_in d cur None n) e ∙ put_behind old cur b name n f made h free) h free
+    → (f : File) → (maildir_in old cur begun n).begun ≡ Some f → (IsInNew (maildir_in old cur begun n) name → ⊥)
+    → maildir_in new cur None n ≡ with_file (maildir_in old cur begun n) (file name f.content)
+settled old new cur None name n puts f h free = absurd (nothing_begun f h)
+settled old new cur (Some title) name n (b, made, e) f h free =
+    ap (λ (d : Directory). maildir_in d cur None n) e ∙ put_behind old cur b title name n f made h free
 
 -- a refused call left the file out of `new`, or in it and whole
-pub not_settled : (old d new cur : Directory) (begun : Option (List ℕ)) (name : List ℕ) (n m : ℕ) (fault : StoreFault) → begun ≡ Some name → m ≡ n + 1
+pub not_settled : (old d new cur : Directory) (begun : Option (List ℕ)) (name : List ℕ) (n m : ℕ) (fault : StoreFault) → m ≡ n + 1
     → PutsFlushed {T = Unit {0}} old name (Err fault) d → new ≡ making d None
-    → (f : File) → (maildir_in old cur begun n).begun ≡ Some f → (IsInNew (maildir_in old cur begun n) f.name → ⊥)
-    → (maildir_in new cur None m ≡ counted (dropped (maildir_in old cur begun n))) ⊎ (maildir_in new cur None m ≡ counted (with_file (maildir_in old cur begun n) f))
-not_settled old d new cur begun name n m fault titled up (inl (other, e)) gone f h free =
+    → (f : File) → (maildir_in old cur begun n).begun ≡ Some f → (IsInNew (maildir_in old cur begun n) name → ⊥)
+    → (maildir_in new cur None m ≡ counted (dropped (maildir_in old cur begun n)))
+    ⊎ (maildir_in new cur None m ≡ counted (with_file (maildir_in old cur begun n) (file name f.content)))
+not_settled old d new cur begun name n m fault up (inl (other, e)) gone f h free =
     inl (ap (λ (x : Directory). maildir_in x cur None m) (gone ∙ ap (λ (x : Directory). making x None) e) ∙ ap (λ (k : ℕ). maildir_in old cur None k) up)
-not_settled old d new cur begun name n m fault titled up (inr (b, made, which)) gone f h free =
-    let P : Option (List ℕ) → Type 0 = λ t. (maildir_in old cur t n).begun ≡ Some f → (IsInNew (maildir_in old cur t n) f.name → ⊥)
-    → maildir_in (put_in old (secured b.content) name) cur None n ≡ with_file (maildir_in old cur t n) f in
+not_settled old d new cur None name n m fault up (inr (b, made, which)) gone f h free = absurd (nothing_begun f h)
+not_settled old d new cur (Some title) name n m fault up (inr (b, made, which)) gone f h free =
     let same : maildir_in (making d None) cur None m ≡ maildir_in (put_in old (secured b.content) name) cur None m = elim which [
       | inl e ↦ ap (λ (x : Directory). maildir_in (making x None) cur None m) e
       | inr e ↦ ap (λ (x : Directory). maildir_in (making x None) cur None m) e
     ] in
     inr (ap (λ (x : Directory). maildir_in x cur None m) gone ∙ same ∙ ap (λ (k : ℕ). maildir_in (put_in old (secured b.content) name) cur None k) up
-    ∙ ap (λ (x : Maildir). counted x) (subst P (sym titled) (λ h free. put_behind old cur b name n f made h free) h free))
-
--- the file begun has a name that isn't in `new`
-pub free_of : (m : Maildir) (f : File) → m.begun ≡ Some f → ((g : File) × (m.begun ≡ Some g) × (IsInNew m g.name → ⊥)) → IsInNew m f.name → ⊥
-free_of m f h (g, k, free) = subst (λ (x : File). IsInNew m x.name → ⊥) (file_is g f (sym k ∙ h)) free
+    ∙ ap (λ (x : Maildir). counted x) (put_behind old cur b title name n f made h free))
 
 -- what `names` answers of `new`, and of `cur`
 pub lists_new : {A B : Type 0} (old cur new : Directory) (begun : Option (List ℕ)) (n m : ℕ) (r : Result (Vec (String A) B) StoreFault)
@@ -173,3 +170,9 @@ made_has old cur begun name n f titled h =
       begun_is old cur name n f k,
       λ b made. ap content_made (sym made) ∙ ap (λ (g : File). g.content) (file_is (file name (content_made old.made)) f k),
     )) h
+
+-- the same, whatever the name of the file begun
+pub begun_has : (old cur : Directory) (begun : Option (List ℕ)) (n : ℕ) (f : File) → (maildir_in old cur begun n).begun ≡ Some f
+    → (b : Blob) → old.made ≡ Some b → b.content ≡ f.content
+begun_has old cur None n f h = absurd (nothing_begun f h)
+begun_has old cur (Some name) n f h = (made_has old cur (Some name) name n f refl h).1

@@ -1,2 +1,5 @@
 mod Directories
 mod Files
+mod MemoryFiles
+mod MemoryLoss
+mod PowerLoss

@@ -1,7 +1,8 @@
 //! A file in a folder of a file system.
 
-ghost use Rattle.std.specs.Prelude.{◌≡◌, ◌<◌, ◌+◌};
-ghost use Rattle.mail_terms.specs.FailureCount.{greatest_count};
+ghost use Rattle.std.specs.Prelude.{◌≡◌, ◌≤◌, ◌<◌, ◌+◌, length, IfErr, IfOk, IsSome, OnOk};
+ghost use Rattle.mail_terms.specs.FailureCount.{Tallies, greatest_count, refuses};
+ghost use Rattle.mail_store.specs.Fault.{is_refusal, IsDeviceFault};
 
 use crate::device::FileFolder;
 use crate::host::HostFolder;
@@ -31,6 +32,7 @@ pub struct HostFile<'a, F: FileFolder + Drop> {
 
 impl<'a, F: FileFolder + Drop> HostFile<'a, F> {
     ghost use Rattle.folder_store.specs.HostFile.{Flushes, stored_in};
+    ghost use Rattle.folder_store.specs.PowerLoss.{IsKnown, IsOnDisk};
 
     /// The file of a name in a folder. There need be none.
     pub fn over(folder: F, name: &'a str, appending: Appending) -> HostFile<'a, F>
@@ -45,10 +47,26 @@ impl<'a, F: FileFolder + Drop> HostFile<'a, F> {
         }
     }
 
+    /// Gives the folder back.
+    pub fn into_folder(self) -> F
+        ensures { result ≡ self.entry.folder }
+    {
+        let HostFile {
+            folder,
+            name: _,
+            appending: _,
+            is_flushed: _,
+            failures: _,
+        } = self;
+        folder
+    }
+
     // Flushes the file and its name, unless they were flushed before.
     fn secure(&mut self) -> Result<(), StoreFault>
         ensures flushes { F.sound self.new.folder → F.sound self.old.folder
             × Flushes (F.directory self.old.folder) self.old.name.now (F.directory self.new.folder) }
+        ensures on_disk { F.sound self.new.folder → IsKnown self.old.is_flushed (F.directory self.old.folder) self.old.name.now
+            → OnOk result (IsOnDisk (F.directory self.new.folder) self.old.name.now) }
         ensures others { self.new ≡ record self.old { folder = self.new.folder; is_flushed = self.new.is_flushed } }
     {
         if self.is_flushed {
@@ -99,15 +117,27 @@ impl<'a, R: Files + Clock + AllocGlobal + Clone + Drop> HostFile<'a, HostFolder<
 }
 
 impl<'a, F: FileFolder + Drop> FlatFile for HostFile<'a, F> {
-    ghost use Rattle.std.specs.Prelude.{◌<◌};
-    ghost use Rattle.mail_terms.specs.FailureCount.{greatest_count};
+    ghost use Rattle.std.specs.Prelude.{◌≡◌, ◌≤◌, ◌<◌, length, IfErr, IfOk, IsSome};
+    ghost use Rattle.mail_terms.specs.FailureCount.{Tallies, greatest_count, refuses};
+    ghost use Rattle.mail_store.specs.Fault.{is_refusal, IsDeviceFault};
+    ghost use Rattle.mail_store.specs.FlatFile.{Appends, Cuts, HasBytes, Loads, Measures, ReadsAt, Replaces};
     ghost use Rattle.folder_store.specs.HostFile.{stored_in};
+    ghost use Rattle.folder_store.specs.PowerLoss.{AppendsForGood, CutsForGood, IsTold, ReplacesForGood};
 
     ghost stored = { λ f. stored_in (F.directory f.folder) f.name.now f.failures };
 
     ghost sound = { λ f. F.sound f.folder × (f.failures < greatest_count) };
 
-    fn load(&mut self) -> Result<Vec<u8>, StoreFault> {
+    fn load(&mut self) -> Result<Vec<u8>, StoreFault>
+        ensures loads { ⟦<HostFile<'a, F> as FlatFile>⟧.sound self.new → ⟦<HostFile<'a, F> as FlatFile>⟧.sound self.old
+            × Loads (⟦<HostFile<'a, F> as FlatFile>⟧.stored self.old) result (⟦<HostFile<'a, F> as FlatFile>⟧.stored self.new) }
+        ensures fault { IfErr result IsDeviceFault }
+        ensures count { Tallies (refuses is_refusal result) (⟦<HostFile<'a, F> as FlatFile>⟧.stored self.old).failures
+            (⟦<HostFile<'a, F> as FlatFile>⟧.stored self.new).failures }
+        ensures name { self.new.name ≡ self.old.name }
+        ensures power { F.sound self.new.folder → IsTold self.old.is_flushed (F.directory self.old.folder) self.old.name.now
+            result (F.directory self.new.folder) }
+    {
         admit(&self.failures)?;
         match self.folder.read(self.name) {
             Ok(bytes) => {
@@ -120,7 +150,16 @@ impl<'a, F: FileFolder + Drop> FlatFile for HostFile<'a, F> {
         }
     }
 
-    fn edges(&mut self) -> Result<Edges, StoreFault> {
+    fn edges(&mut self) -> Result<Edges, StoreFault>
+        ensures measures { ⟦<HostFile<'a, F> as FlatFile>⟧.sound self.new → ⟦<HostFile<'a, F> as FlatFile>⟧.sound self.old
+            × Measures (⟦<HostFile<'a, F> as FlatFile>⟧.stored self.old) result (⟦<HostFile<'a, F> as FlatFile>⟧.stored self.new) }
+        ensures fault { IfErr result IsDeviceFault }
+        ensures count { Tallies (refuses is_refusal result) (⟦<HostFile<'a, F> as FlatFile>⟧.stored self.old).failures
+            (⟦<HostFile<'a, F> as FlatFile>⟧.stored self.new).failures }
+        ensures name { self.new.name ≡ self.old.name }
+        ensures power { F.sound self.new.folder → IsTold self.old.is_flushed (F.directory self.old.folder) self.old.name.now
+            result (F.directory self.new.folder) }
+    {
         admit(&self.failures)?;
         match self.folder.edges(self.name) {
             Ok(edges) => {
@@ -133,7 +172,18 @@ impl<'a, F: FileFolder + Drop> FlatFile for HostFile<'a, F> {
         }
     }
 
-    fn read_at(&mut self, start: u64, buf: &mut [u8]) -> Result<usize, StoreFault> {
+    fn read_at(&mut self, start: u64, buf: &mut [u8]) -> Result<usize, StoreFault>
+        ensures within { IfOk result (λ count. count ≤ length buf.new) }
+        ensures reads { ⟦<HostFile<'a, F> as FlatFile>⟧.sound self.new → ⟦<HostFile<'a, F> as FlatFile>⟧.sound self.old
+            × ReadsAt (⟦<HostFile<'a, F> as FlatFile>⟧.stored self.old) start result buf.new
+            (⟦<HostFile<'a, F> as FlatFile>⟧.stored self.new) }
+        ensures fault { IfErr result IsDeviceFault }
+        ensures count { Tallies (refuses is_refusal result) (⟦<HostFile<'a, F> as FlatFile>⟧.stored self.old).failures
+            (⟦<HostFile<'a, F> as FlatFile>⟧.stored self.new).failures }
+        ensures name { self.new.name ≡ self.old.name }
+        ensures power { F.sound self.new.folder → IsTold self.old.is_flushed (F.directory self.old.folder) self.old.name.now
+            result (F.directory self.new.folder) }
+    {
         admit(&self.failures)?;
         match self.folder.read_at(self.name, start, buf) {
             Ok(count) => {
@@ -146,7 +196,17 @@ impl<'a, F: FileFolder + Drop> FlatFile for HostFile<'a, F> {
         }
     }
 
-    fn append(&mut self, bytes: &[u8]) -> Result<(), StoreFault> {
+    fn append(&mut self, bytes: &[u8]) -> Result<(), StoreFault>
+        requires { ⟦<HostFile<'a, F> as FlatFile>⟧.sound self.old → IsSome (⟦<HostFile<'a, F> as FlatFile>⟧.stored self.old).content }
+        ensures appends { ⟦<HostFile<'a, F> as FlatFile>⟧.sound self.new → ⟦<HostFile<'a, F> as FlatFile>⟧.sound self.old
+            × Appends (⟦<HostFile<'a, F> as FlatFile>⟧.stored self.old) bytes.now result (⟦<HostFile<'a, F> as FlatFile>⟧.stored self.new) }
+        ensures fault { IfErr result (λ e. e ≡ StoreFault.Refused) }
+        ensures count { Tallies (refuses is_refusal result) (⟦<HostFile<'a, F> as FlatFile>⟧.stored self.old).failures
+            (⟦<HostFile<'a, F> as FlatFile>⟧.stored self.new).failures }
+        ensures name { self.new.name ≡ self.old.name }
+        ensures power { F.sound self.new.folder → AppendsForGood (F.directory self.old.folder) self.old.name.now bytes.now
+            result (F.directory self.new.folder) }
+    {
         admit(&self.failures)?;
         match append_in(&mut self.folder, self.name, bytes, self.appending) {
             Ok(()) => Ok(()),
@@ -157,7 +217,17 @@ impl<'a, F: FileFolder + Drop> FlatFile for HostFile<'a, F> {
         }
     }
 
-    fn cut_to(&mut self, len: u64) -> Result<(), StoreFault> {
+    fn cut_to(&mut self, len: u64) -> Result<(), StoreFault>
+        requires { ⟦<HostFile<'a, F> as FlatFile>⟧.sound self.old → HasBytes (⟦<HostFile<'a, F> as FlatFile>⟧.stored self.old) len }
+        ensures cuts { ⟦<HostFile<'a, F> as FlatFile>⟧.sound self.new → ⟦<HostFile<'a, F> as FlatFile>⟧.sound self.old
+            × Cuts (⟦<HostFile<'a, F> as FlatFile>⟧.stored self.old) len result (⟦<HostFile<'a, F> as FlatFile>⟧.stored self.new) }
+        ensures fault { IfErr result (λ e. e ≡ StoreFault.Refused) }
+        ensures count { Tallies (refuses is_refusal result) (⟦<HostFile<'a, F> as FlatFile>⟧.stored self.old).failures
+            (⟦<HostFile<'a, F> as FlatFile>⟧.stored self.new).failures }
+        ensures name { self.new.name ≡ self.old.name }
+        ensures power { F.sound self.new.folder → CutsForGood (F.directory self.old.folder) self.old.name.now len
+            result (F.directory self.new.folder) }
+    {
         admit(&self.failures)?;
         match cut_flushed(&mut self.folder, self.name, len) {
             Ok(()) => Ok(()),
@@ -168,7 +238,17 @@ impl<'a, F: FileFolder + Drop> FlatFile for HostFile<'a, F> {
         }
     }
 
-    fn replace(&mut self, bytes: &[u8]) -> Result<(), StoreFault> {
+    fn replace(&mut self, bytes: &[u8]) -> Result<(), StoreFault>
+        ensures replaces { ⟦<HostFile<'a, F> as FlatFile>⟧.sound self.new → ⟦<HostFile<'a, F> as FlatFile>⟧.sound self.old
+            × Replaces (⟦<HostFile<'a, F> as FlatFile>⟧.stored self.old) bytes.now result
+            (⟦<HostFile<'a, F> as FlatFile>⟧.stored self.new) }
+        ensures fault { IfErr result (λ e. e ≡ StoreFault.Refused) }
+        ensures count { Tallies (refuses is_refusal result) (⟦<HostFile<'a, F> as FlatFile>⟧.stored self.old).failures
+            (⟦<HostFile<'a, F> as FlatFile>⟧.stored self.new).failures }
+        ensures name { self.new.name ≡ self.old.name }
+        ensures power { F.sound self.new.folder → ReplacesForGood (F.directory self.old.folder) self.old.name.now bytes.now
+            result (F.directory self.new.folder) }
+    {
         admit(&self.failures)?;
         match replace_flushed(&mut self.folder, self.name, bytes) {
             Ok(()) => {

@@ -44,6 +44,20 @@ impl<F: FileFolder + Drop> FolderMaildir<F> {
             failures: FailureCount::new(),
         }
     }
+
+    /// Gives the folders back, that of new files first.
+    pub fn into_folders(self) -> (F, F)
+        ensures { result ≡ (self.new_folder, self.cur_folder) }
+    {
+        let FolderMaildir {
+            alloc: _,
+            new_folder,
+            cur_folder,
+            begun: _,
+            failures: _,
+        } = self;
+        (new_folder, cur_folder)
+    }
 }
 
 impl<'a, R: Files + Clock + AllocGlobal + Clone + Drop> FolderMaildir<HostFolder<'a, R>> {
@@ -78,15 +92,31 @@ fn is_file_name(name: &str) -> bool {
 }
 
 impl<F: FileFolder + Drop> MaildirDisk for FolderMaildir<F> {
-    ghost use Rattle.std.specs.Prelude.{option_map, string_bytes, ◌<◌};
-    ghost use Rattle.mail_terms.specs.FailureCount.{greatest_count};
+    ghost use Rattle.std.specs.Prelude.{◌≡◌, ◌<◌, IfErr, IfOk, IsSome, None, OnErr, OnOk, Some, map, option_map, string_bytes};
+    ghost use Rattle.mail_terms.specs.Distinct.{AreDistinct};
+    ghost use Rattle.mail_terms.specs.FailureCount.{Tallies, greatest_count, refuses};
+    ghost use Rattle.mail_store.specs.Fault.{is_refusal, IsDeviceFault};
+    ghost use Rattle.mail_store.specs.Maildir.{Adds, Begins, File, IsInNew, Lists, Settles, dropped, name_begun};
+    ghost use Rattle.folder_store.specs.FileFolder.{ChangesMade};
     ghost use Rattle.folder_store.specs.FolderMaildir.{maildir_in};
+    ghost use Rattle.folder_store.specs.PowerLoss.{SettlesForGood, TellsWhatStays, of_folder};
 
     ghost maildir = { λ d. maildir_in (F.directory d.new_folder) (F.directory d.cur_folder) (option_map string_bytes d.begun) d.failures };
 
     ghost sound = { λ d. F.sound d.new_folder × F.sound d.cur_folder × (d.failures < greatest_count) };
 
-    fn names(&mut self, folder: Folder) -> Result<Vec<String>, StoreFault> {
+    fn names(&mut self, folder: Folder) -> Result<Vec<String>, StoreFault>
+        ensures lists { ⟦<FolderMaildir<F> as MaildirDisk>⟧.sound self.new → ⟦<FolderMaildir<F> as MaildirDisk>⟧.sound self.old
+            × Lists (⟦<FolderMaildir<F> as MaildirDisk>⟧.maildir self.old) folder result
+            (⟦<FolderMaildir<F> as MaildirDisk>⟧.maildir self.new) }
+        ensures once { ⟦<FolderMaildir<F> as MaildirDisk>⟧.sound self.new
+            → IfOk result (λ names. AreDistinct (map string_bytes names.items)) }
+        ensures fault { IfErr result IsDeviceFault }
+        ensures count { Tallies (refuses is_refusal result) (⟦<FolderMaildir<F> as MaildirDisk>⟧.maildir self.old).failures
+            (⟦<FolderMaildir<F> as MaildirDisk>⟧.maildir self.new).failures }
+        ensures power { ⟦<FolderMaildir<F> as MaildirDisk>⟧.sound self.new
+            → TellsWhatStays (of_folder (F.directory self.new.new_folder) (F.directory self.new.cur_folder) folder) result }
+    {
         admit(&self.failures)?;
         match folder {
             Folder::New => tally(&mut self.failures, told_names(&mut self.new_folder)),
@@ -94,7 +124,21 @@ impl<F: FileFolder + Drop> MaildirDisk for FolderMaildir<F> {
         }
     }
 
-    fn begin(&mut self, name: &str) -> Result<(), StoreFault> {
+    fn begin(&mut self, name: &str) -> Result<(), StoreFault>
+        requires { ⟦<FolderMaildir<F> as MaildirDisk>⟧.sound self.old
+            → (⟦<FolderMaildir<F> as MaildirDisk>⟧.maildir self.old).begun ≡ None }
+        ensures begins { ⟦<FolderMaildir<F> as MaildirDisk>⟧.sound self.new → ⟦<FolderMaildir<F> as MaildirDisk>⟧.sound self.old
+            × Begins (⟦<FolderMaildir<F> as MaildirDisk>⟧.maildir self.old) name.now result
+            (⟦<FolderMaildir<F> as MaildirDisk>⟧.maildir self.new) }
+        ensures begun { OnOk result (name_begun (⟦<FolderMaildir<F> as MaildirDisk>⟧.maildir self.new) ≡ Some name.now) }
+        ensures not_begun { OnErr result ((⟦<FolderMaildir<F> as MaildirDisk>⟧.maildir self.new).begun
+            ≡ (⟦<FolderMaildir<F> as MaildirDisk>⟧.maildir self.old).begun) }
+        ensures fault { IfErr result IsDeviceFault }
+        ensures count { Tallies (refuses is_refusal result) (⟦<FolderMaildir<F> as MaildirDisk>⟧.maildir self.old).failures
+            (⟦<FolderMaildir<F> as MaildirDisk>⟧.maildir self.new).failures }
+        ensures still { F.sound self.new.new_folder → ChangesMade (F.directory self.old.new_folder) (F.directory self.new.new_folder) }
+        ensures cur { self.new.cur_folder ≡ self.old.cur_folder }
+    {
         admit(&self.failures)?;
         if self.begun.is_some() || !is_file_name(name) {
             return Err(refuse(&mut self.failures));
@@ -112,7 +156,20 @@ impl<F: FileFolder + Drop> MaildirDisk for FolderMaildir<F> {
         }
     }
 
-    fn add(&mut self, bytes: &[u8]) -> Result<(), StoreFault> {
+    fn add(&mut self, bytes: &[u8]) -> Result<(), StoreFault>
+        requires { ⟦<FolderMaildir<F> as MaildirDisk>⟧.sound self.old
+            → IsSome (⟦<FolderMaildir<F> as MaildirDisk>⟧.maildir self.old).begun }
+        ensures adds { ⟦<FolderMaildir<F> as MaildirDisk>⟧.sound self.new → ⟦<FolderMaildir<F> as MaildirDisk>⟧.sound self.old
+            × Adds (⟦<FolderMaildir<F> as MaildirDisk>⟧.maildir self.old) bytes.now result
+            (⟦<FolderMaildir<F> as MaildirDisk>⟧.maildir self.new) }
+        ensures begun { name_begun
+            (⟦<FolderMaildir<F> as MaildirDisk>⟧.maildir self.new) ≡ name_begun (⟦<FolderMaildir<F> as MaildirDisk>⟧.maildir self.old) }
+        ensures fault { IfErr result (λ e. e ≡ StoreFault.Refused) }
+        ensures count { Tallies (refuses is_refusal result) (⟦<FolderMaildir<F> as MaildirDisk>⟧.maildir self.old).failures
+            (⟦<FolderMaildir<F> as MaildirDisk>⟧.maildir self.new).failures }
+        ensures still { F.sound self.new.new_folder → ChangesMade (F.directory self.old.new_folder) (F.directory self.new.new_folder) }
+        ensures cur { self.new.cur_folder ≡ self.old.cur_folder }
+    {
         admit(&self.failures)?;
         if self.begun.is_none() {
             return Err(refuse(&mut self.failures));
@@ -123,15 +180,33 @@ impl<F: FileFolder + Drop> MaildirDisk for FolderMaildir<F> {
         }
     }
 
-    fn settle(&mut self) -> Result<(), StoreFault> {
+    fn settle(&mut self, name: &str) -> Result<(), StoreFault>
+        requires begun { ⟦<FolderMaildir<F> as MaildirDisk>⟧.sound self.old
+            → IsSome (⟦<FolderMaildir<F> as MaildirDisk>⟧.maildir self.old).begun }
+        requires not_there { ⟦<FolderMaildir<F> as MaildirDisk>⟧.sound self.old
+            → IsInNew (⟦<FolderMaildir<F> as MaildirDisk>⟧.maildir self.old) name.now → ⊥ }
+        ensures settles { ⟦<FolderMaildir<F> as MaildirDisk>⟧.sound self.new → ⟦<FolderMaildir<F> as MaildirDisk>⟧.sound self.old
+            × Settles (⟦<FolderMaildir<F> as MaildirDisk>⟧.maildir self.old) name.now result
+            (⟦<FolderMaildir<F> as MaildirDisk>⟧.maildir self.new) }
+        ensures none_begun { (⟦<FolderMaildir<F> as MaildirDisk>⟧.maildir self.new).begun ≡ None }
+        ensures fault { IfErr result (λ e. e ≡ StoreFault.Refused) }
+        ensures count { Tallies (refuses is_refusal result) (⟦<FolderMaildir<F> as MaildirDisk>⟧.maildir self.old).failures
+            (⟦<FolderMaildir<F> as MaildirDisk>⟧.maildir self.new).failures }
+        ensures power { ⟦<FolderMaildir<F> as MaildirDisk>⟧.sound self.new → (f : File)
+            → (⟦<FolderMaildir<F> as MaildirDisk>⟧.maildir self.old).begun ≡ Some f
+            → SettlesForGood (F.directory self.old.new_folder) name.now f.content result (F.directory self.new.new_folder) }
+        ensures cur { self.new.cur_folder ≡ self.old.cur_folder }
+    {
         if let Err(fault) = admit(&self.failures) {
             self.abandon();
             return Err(fault);
         }
-        let Some(name) = self.begun.take() else {
+        let begun = self.begun.take();
+        if begun.is_none() || !is_file_name(name) {
+            self.new_folder.discard();
             return Err(refuse(&mut self.failures));
-        };
-        match put_where_none(&mut self.new_folder, name.as_str()) {
+        }
+        match put_where_none(&mut self.new_folder, name) {
             Ok(()) => Ok(()),
             Err(_) => {
                 self.new_folder.discard();
@@ -140,7 +215,15 @@ impl<F: FileFolder + Drop> MaildirDisk for FolderMaildir<F> {
         }
     }
 
-    fn abandon(&mut self) {
+    fn abandon(&mut self)
+        ensures drops { ⟦<FolderMaildir<F> as MaildirDisk>⟧.sound self.new → ⟦<FolderMaildir<F> as MaildirDisk>⟧.sound self.old
+            × (⟦<FolderMaildir<F> as MaildirDisk>⟧.maildir self.new ≡ dropped (⟦<FolderMaildir<F> as MaildirDisk>⟧.maildir self.old)) }
+        ensures none_begun { (⟦<FolderMaildir<F> as MaildirDisk>⟧.maildir self.new).begun ≡ None }
+        ensures count { (⟦<FolderMaildir<F> as MaildirDisk>⟧.maildir self.new).failures
+            ≡ (⟦<FolderMaildir<F> as MaildirDisk>⟧.maildir self.old).failures }
+        ensures still { F.sound self.new.new_folder → ChangesMade (F.directory self.old.new_folder) (F.directory self.new.new_folder) }
+        ensures cur { self.new.cur_folder ≡ self.old.cur_folder }
+    {
         if self.begun.take().is_some() {
             self.new_folder.discard();
         }

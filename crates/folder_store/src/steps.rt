@@ -3,7 +3,9 @@
 ghost use Rattle.std.specs.Prelude.{◌≡◌, IfErr, OnOk, true};
 ghost use Rattle.mail_store.specs.Fault.{IsDeviceFault};
 ghost use Rattle.folder_store.specs.FolderMaildir.{Tells, PutsFlushed};
+ghost use Rattle.folder_store.specs.FileFolder.{find};
 ghost use Rattle.folder_store.specs.HostFile.{AppendsPiece, AppendsFlushed, CutsFlushed, Flushes, ReplacesFlushed};
+ghost use Rattle.folder_store.specs.PowerLoss.{IsOnDisk, IsSure};
 
 use crate::device::FileFolder;
 use mail_store::StoreFault;
@@ -48,8 +50,7 @@ pub fn put_where_none<F: FileFolder>(folder: &mut F, name: &str) -> Result<(), S
     ensures { F.sound folder.new → F.sound folder.old
         × PutsFlushed (F.directory folder.old) name.now result (F.directory folder.new) }
 {
-    folder.flush_made()?;
-    if folder.has(name)? {
+    if folder.flush_made().is_err() || folder.has(name)? {
         return Err(StoreFault::Refused);
     }
     folder.put(name)?;
@@ -139,6 +140,8 @@ pub fn replace_flushed<F: FileFolder>(
 pub fn flush_both<F: FileFolder>(folder: &mut F, name: &str) -> Result<(), StoreFault>
     ensures flushes { F.sound folder.new → F.sound folder.old
         × Flushes (F.directory folder.old) name.now (F.directory folder.new) }
+    ensures on_disk { F.sound folder.new → IsSure (find name.now (F.directory folder.old).entries)
+        → OnOk result (IsOnDisk (F.directory folder.new) name.now) }
 {
     folder.flush(name)?;
     folder.flush_names()

@@ -1,6 +1,6 @@
 -- No two files of a folder have one name.
-use Rattle.std.proofs.Common.{◌≡◌, ℕ, zero, suc, ◌<◌, length, get_or, refl, List, [], ◌∷◌, ◌++◌, map, sym, ap, subst, ◌∙◌, arith, Option, Some, None, String, Vec, string_bytes}
-use Rattle.std.specs.Prelude.{Contains, ◌≢◌, option_map, AllPairs, remove}
+use Rattle.std.proofs.Common.{◌≡◌, ℕ, zero, suc, ◌<◌, length, get_or, refl, List, [], ◌∷◌, ◌++◌, map, sym, ap, subst, ◌∙◌, arith, String, Vec, string_bytes}
+use Rattle.std.specs.Prelude.{Contains, ◌≢◌, AllPairs, remove}
 use Rattle.std.proofs.lemmas.List.{get_or_default}
 use Rattle.std.proofs.lemmas.List.Kept.{AllPairs-cons}
 use Rattle.std.proofs.lemmas.List.Quantifiers.{all_pairs_push, all_pairs_remove}
@@ -52,20 +52,11 @@ module _ {Z Y : Type 0} where
       HaveDistinctNames-from_apart (remove pairs n)
       (all_pairs_remove (λ (p q : String Z × Vec ℕ Y). string_bytes p.0 ≢ string_bytes q.0) pairs n inside (AreApart-from_names pairs h))
 
--- the name of a file, if there is one
-name_or_nothing : Option File → List ℕ
-name_or_nothing None = []
-name_or_nothing (Some f) = f.name
-
--- the file begun, told of the device's state, has a name that isn't in `new`
-pub begun_is_new : {Z Y : Type 0} (view now : Maildir) (pairs : List (String Z × Vec ℕ Y)) (begun : Option (String Z × Vec ℕ Y))
-    (p : String Z × Vec ℕ Y) → view ≡ now → view.in_new ≡ map file_of pairs → view.begun ≡ option_map file_of begun → begun ≡ Some p
-    → (f : File) × (now.begun ≡ Some f) × (IsInNew now f.name → ⊥)
-    → Contains (names_of (map file_of pairs)) (string_bytes p.0) → ⊥
-unfolding name_or_nothing
-begun_is_new view now pairs begun p seen in_new is_begun is may h =
-    let titled : string_bytes p.0 ≡ may.0.name =
-    ap name_or_nothing (sym (is_begun ∙ ap (option_map file_of) is) ∙ ap (λ (m : Maildir). m.begun) seen ∙ may.1) in
-    may.2 (subst (λ (m : Maildir). IsInNew m may.0.name) seen
-    (subst (λ (files : List File). Contains (names_of files) may.0.name) (sym in_new)
-    (subst (λ (n : List ℕ). Contains (names_of (map file_of pairs)) n) titled h)))
+-- a name that isn't in `new`, told of the device's state
+pub name_is_new : {Z Y : Type 0} (view now : Maildir) (pairs : List (String Z × Vec ℕ Y)) (name text : List ℕ)
+    → view ≡ now → view.in_new ≡ map file_of pairs → text ≡ name → (IsInNew now name → ⊥)
+    → Contains (names_of (map file_of pairs)) text → ⊥
+name_is_new view now pairs name text seen in_new same free h =
+    free (subst (λ (m : Maildir). IsInNew m name) seen
+    (subst (λ (files : List File). Contains (names_of files) name) (sym in_new)
+    (subst (λ (n : List ℕ). Contains (names_of (map file_of pairs)) n) same h)))

@@ -1,18 +1,19 @@
--- What a set of bases says of the files whose names it came from.
+-- What a set of stems says of the files whose names it came from.
 use Rattle.std.proofs.Common.{◌≡◌, ℕ, ◌+◌, ◌<◌, Bool, true, false, cond, List, [], ◌∷◌, ◌++◌, length, take, get_or, map, refl, sym, ap, ◌∙◌, arith, inl, inr, String, string_bytes}
 use Rattle.std.specs.Prelude.{◌||◌, ◌&&◌, bytes_eq, IsPermutation, HoldsAt}
 use Rattle.std.specs.List.{list_any}
 use Rattle.std.proofs.lemmas.Bool.{cases_Bool, false_from_ne_true, true≢false}
-use Rattle.std.proofs.lemmas.List.{take_more, map-append, length-map, get_or-map}
+use Rattle.std.proofs.Math.Bool.{or_assoc}
+use Rattle.std.proofs.lemmas.List.{append_cancel_left, take_more, map-append, length-map, get_or-map}
 use Rattle.std.proofs.lemmas.List.Folds.{list_any-append, list_any_at}
 use Rattle.std.proofs.lemmas.List.Sorted.{list_any-IsPermutation}
 use Rattle.std.proofs.lemmas.Slice.Eq.{bytes_eq-Decides}
 use Rattle.mail_terms.specs.Listing.{Item, has_item, is_flagged}
 use Rattle.mail_terms.specs.UniqueId.{IsLegalId}
 use Rattle.mail_store.specs.Maildir.{Maildir, File, file, name_in, names_of, IsInNew, with_file}
-use Rattle.mail_terms.specs.MaildirName.{base}
-use Rattle.mail_store.specs.FileName.{name_of, names_id, is_held, IsAccountText}
-use Rattle.mail_store.proofs.NameLemmas.{HaveRanges, base-name_of, name_of-injective}
+use Rattle.mail_store.specs.FileName.{mail_file, name_of, stem, stem_of, names_id, is_held, IsAccountText}
+use Rattle.hex.specs.Hex.{encode_lower}
+use Rattle.mail_store.proofs.NameLemmas.{HaveRanges, stem-name_of, stem_of-injective, tail_of}
 use Rattle.mail_store.specs.Held.{flags_of}
 
 -- ---- one more name
@@ -26,20 +27,32 @@ bytes_eq-sym xs ys =
           ∙ sym apart
     ]
 
-or_step : (e o l : Bool) → cond e true (o || l) ≡ (o || (l || e))
-or_step true true l = refl
-or_step true false true = refl
-or_step true false false = refl
-or_step false true l = refl
-or_step false false true = refl
-or_step false false false = refl
+cond_or : (e old : Bool) → cond e true old ≡ (old || e)
+cond_or true true = refl
+cond_or true false = refl
+cond_or false true = refl
+cond_or false false = refl
 
--- a base was put into the set, and the names in front are one more
-pub one_more : (new old first last more : Bool) (key q : List ℕ) → new ≡ cond (bytes_eq key q) true old → old ≡ (first || last)
-    → more ≡ (last || bytes_eq q key) → new ≡ (first || more)
-one_more new old first last more key q n o m =
-    n ∙ ap (λ b. cond (bytes_eq key q) true b) o ∙ ap (λ e. cond e true (first || last)) (bytes_eq-sym key q)
-    ∙ or_step (bytes_eq q key) first last ∙ ap (λ b. first || b) (sym m)
+same_digits : (account a b : List ℕ) → bytes_eq (account ++ 46 ∷ a) (account ++ 46 ∷ b) ≡ bytes_eq b a
+same_digits account a b =
+    elim (cases_Bool (bytes_eq b a)) [
+      | inl same ↦ (bytes_eq-Decides (account ++ 46 ∷ a) (account ++ 46 ∷ b)).1 (ap (λ (xs : List ℕ). account ++ 46 ∷ xs) (sym ((bytes_eq-Decides b a).0 same))) ∙ sym same
+      | inr apart ↦
+          false_from_ne_true (bytes_eq (account ++ 46 ∷ a) (account ++ 46 ∷ b))
+          (λ same. true≢false (sym ((bytes_eq-Decides b a).1 (sym (ap tail_of (append_cancel_left account (46 ∷ a) (46 ∷ b) ((bytes_eq-Decides (account ++ 46 ∷ a) (account ++ 46 ∷ b)).0 same))))) ∙ apart))
+          ∙ sym apart
+    ]
+
+-- the digits in a name's stem were put into the set
+pub name_added : (account text digits q : List ℕ) (new old : Bool) → text ≡ account ++ 46 ∷ digits → new ≡ cond (bytes_eq digits q) true old
+    → new ≡ (old || bytes_eq (account ++ 46 ∷ q) text)
+name_added account text digits q new old is added =
+    added ∙ cond_or (bytes_eq digits q) old
+    ∙ ap (λ b. old || b) (sym (same_digits account q digits) ∙ ap (bytes_eq (account ++ 46 ∷ q)) (sym is))
+
+-- the names in front are one more
+pub one_more : (new old first last more test : Bool) → new ≡ (old || test) → old ≡ (first || last) → more ≡ (last || test) → new ≡ (first || more)
+one_more new old first last more test n o m = n ∙ ap (λ b. b || test) o ∙ or_assoc first last test ∙ ap (λ b. first || b) (sym m)
 
 -- ---- one more flag
 
@@ -74,21 +87,21 @@ names_tell test files names p =
     sym (any_map test string_bytes names) ∙ sym (list_any-IsPermutation test (names_of files) (map string_bytes names) p)
     ∙ any_map test name_in files
 
--- a set of the bases of the names of both folders tells which items are held
+-- a set of the digits in the stems of the names of both folders tells which items are held
 pub flags_found : {Z : Type 0} (account : List ℕ) (maildir : Maildir) (items : List Item) (flags : List Bool) (none some all : List ℕ → Bool)
     (new cur : List (String Z)) → ((q : List ℕ) → none q ≡ false)
-    → ((q : List ℕ) → some q ≡ (none q || list_any (λ name. bytes_eq q (base (string_bytes name))) new))
-    → ((q : List ℕ) → all q ≡ (some q || list_any (λ name. bytes_eq q (base (string_bytes name))) cur))
+    → ((q : List ℕ) → some q ≡ (none q || list_any (λ name. bytes_eq (account ++ 46 ∷ q) (stem (string_bytes name))) new))
+    → ((q : List ℕ) → all q ≡ (some q || list_any (λ name. bytes_eq (account ++ 46 ∷ q) (stem (string_bytes name))) cur))
     → IsPermutation (names_of maildir.in_new) (map string_bytes new)
     → IsPermutation (names_of maildir.in_cur) (map string_bytes cur)
-    → flags ≡ map (λ (item : Item). all (name_of account item.uid)) items → flags ≡ flags_of account maildir items
+    → flags ≡ map (λ (item : Item). all (encode_lower item.uid)) items → flags ≡ flags_of account maildir items
 flags_found {Z} account maildir items flags none some all new cur n s a in_new in_cur told =
-    told ∙ map_same (λ (item : Item). all (name_of account item.uid)) (λ (item : Item). is_held account maildir item.uid) items (λ item. held item.uid)
+    told ∙ map_same (λ (item : Item). all (encode_lower item.uid)) (λ (item : Item). is_held account maildir item.uid) items (λ item. held item.uid)
   where
-    held : (uid : List ℕ) → all (name_of account uid) ≡ is_held account maildir uid
+    held : (uid : List ℕ) → all (encode_lower uid) ≡ is_held account maildir uid
     held uid =
-        let q = name_of account uid in
-        let test : List ℕ → Bool = λ name. bytes_eq q (base name) in
+        let q = encode_lower uid in
+        let test : List ℕ → Bool = λ name. bytes_eq (stem_of account uid) (stem name) in
         a q ∙ ap (λ b. b || list_any (λ (name : String Z). test (string_bytes name)) cur)
         (s q ∙ ap (λ b. b || list_any (λ (name : String Z). test (string_bytes name)) new) (n q))
         ∙ ap (λ b. b || list_any (λ (name : String Z). test (string_bytes name)) cur) (names_tell test maildir.in_new new in_new)
@@ -98,28 +111,28 @@ flags_found {Z} account maildir items flags none some all new cur n s a in_new i
 -- ---- names in `new`
 
 -- an id is held where a file of `new` has its name
-pub held_where_in_new : (account uid : List ℕ) (maildir : Maildir) → IsAccountText account → IsInNew maildir (name_of account uid)
+pub held_where_in_new : (account uid : List ℕ) (size : ℕ) (maildir : Maildir) → IsAccountText account → IsInNew maildir (name_of account uid size)
     → is_held account maildir uid ≡ true
-held_where_in_new account uid maildir a c =
-    let q = name_of account uid in
+held_where_in_new account uid size maildir a c =
+    let q = name_of account uid size in
     let test : File → Bool = λ f. names_id account uid f.name in
     let nothing : File = file [] [] in
     let inside : c.0 < length maildir.in_new = omega (arith, c.1, length-map maildir.in_new name_in) in
     let named : (get_or maildir.in_new c.0 nothing).name ≡ q = sym (get_or-map name_in maildir.in_new c.0 nothing q inside) ∙ c.2 in
     let found : test (get_or maildir.in_new c.0 nothing) ≡ true =
-    ap (names_id account uid) named ∙ (bytes_eq-Decides q (base q)).1 (sym (base-name_of account uid a)) in
+    ap (names_id account uid) named ∙ (bytes_eq-Decides (stem_of account uid) (stem q)).1 (sym (stem-name_of account uid size a)) in
     list_any-append test maildir.in_new maildir.in_cur
     ∙ ap (λ b. b || list_any test maildir.in_cur) (list_any_at test maildir.in_new c.0 nothing inside found)
 
 -- ---- one more file
 
-name_eq : HaveRanges → (account a b : List ℕ) → IsLegalId a → IsLegalId b → bytes_eq (name_of account b) (name_of account a) ≡ bytes_eq b a
-name_eq ranges account a b la lb =
+stem_eq : HaveRanges → (account a b : List ℕ) → IsLegalId a → IsLegalId b → bytes_eq (stem_of account b) (stem_of account a) ≡ bytes_eq b a
+stem_eq ranges account a b la lb =
     elim (cases_Bool (bytes_eq b a)) [
-      | inl same ↦ (bytes_eq-Decides (name_of account b) (name_of account a)).1 (ap (name_of account) ((bytes_eq-Decides b a).0 same)) ∙ sym same
+      | inl same ↦ (bytes_eq-Decides (stem_of account b) (stem_of account a)).1 (ap (stem_of account) ((bytes_eq-Decides b a).0 same)) ∙ sym same
       | inr apart ↦
-          false_from_ne_true (bytes_eq (name_of account b) (name_of account a))
-          (λ same. true≢false (sym ((bytes_eq-Decides b a).1 (name_of-injective ranges account b a lb la ((bytes_eq-Decides (name_of account b) (name_of account a)).0 same))) ∙ apart))
+          false_from_ne_true (bytes_eq (stem_of account b) (stem_of account a))
+          (λ same. true≢false (sym ((bytes_eq-Decides b a).1 (stem_of-injective ranges account b a lb la ((bytes_eq-Decides (stem_of account b) (stem_of account a)).0 same))) ∙ apart))
           ∙ sym apart
     ]
 
@@ -135,13 +148,13 @@ or_shuffle false false false = refl
 
 -- a file that came into `new` under an id's name makes that id held, and no other
 pub held_with_file : HaveRanges → (account a b content : List ℕ) (maildir : Maildir) → IsAccountText account → IsLegalId a → IsLegalId b
-    → is_held account (with_file maildir (file (name_of account a) content)) b ≡ (is_held account maildir b || bytes_eq b a)
+    → is_held account (with_file maildir (mail_file account a content)) b ≡ (is_held account maildir b || bytes_eq b a)
 held_with_file ranges account a b content maildir h la lb =
     let test : File → Bool = λ (f : File). names_id account b f.name in
-    let f = file (name_of account a) content in
+    let f = mail_file account a content in
     let N = maildir.in_new in
     let C = maildir.in_cur in
-    let one : test f ≡ bytes_eq b a = ap (bytes_eq (name_of account b)) (base-name_of account a h) ∙ name_eq ranges account a b la lb in
+    let one : test f ≡ bytes_eq b a = ap (bytes_eq (stem_of account b)) (stem-name_of account a (length content) h) ∙ stem_eq ranges account a b la lb in
     list_any-append test (N ++ f ∷ []) C
     ∙ ap (λ k. k || list_any test C) (list_any-append test N (f ∷ []))
     ∙ ap (λ e. (list_any test N || (e || false)) || list_any test C) one

@@ -1,9 +1,12 @@
--- Names of files: they hold no colon, and different ids have different names.
-use Rattle.std.proofs.Common.{◌≡◌, ℕ, suc, ◌/◌, ◌%◌, ◌<◌, ◌≤◌, ◌+◌, Bool, true, false, cond, List, [], ◌∷◌, ◌++◌, length, take, get_or, slice_index, refl, sym, ap, ◌∙◌, arith, Ok, Err, Result, inl, inr}
-use Rattle.std.specs.Prelude.{All, MatchResult, IsOk, IfOk, IfNone, MatchOption, Option, Some, None, Vec, ◌≢◌, not}
+-- Names of files: which of them hold a colon or a comma, and that different ids have different stems.
+use Rattle.std.proofs.Common.{◌≡◌, ℕ, zero, suc, ◌/◌, ◌%◌, ◌^◌, ◌==◌, ◌<◌, ◌≤◌, ◌+◌, Bool, true, false, cond, List, [], ◌∷◌, ◌++◌, length, take, get_or, slice_index, refl, sym, ap, ◌∙◌, arith, Ok, Err, Result, inl, inr}
+use Rattle.std.specs.Prelude.{All, MatchResult, IsOk, IfOk, IfNone, MatchOption, Option, Some, None, Vec, ◌≢◌, not, nat_lt, codes}
 use Rattle.std.specs.Borrow.{Bor}
-use Rattle.std.specs.List.{AllPass, position_or_len}
+use Rattle.std.specs.List.{AllPass, before_first, position_or_len}
+use Rattle.std.specs.Fmt.{decimal, digits, digits_onto, digit_glyph}
+use Rattle.std.proofs.lemmas.Fmt.{length-decimal-le}
 use Rattle.std.specs.Str.{IsAscii}
+use Rattle.std.specs.Str.Pattern.{FindsTextPrefix, StripsPrefix}
 use Rattle.std.proofs.lemmas.Bool.{cases_lt}
 use Rattle.std.proofs.lemmas.List.{append_cancel_left, take_all, get_or_past, length-append, append_assoc}
 use Rattle.std.proofs.lemmas.List.Elements.{All-nil, All-cons, All-append}
@@ -13,7 +16,7 @@ use Rattle.hex.specs.declared.error.FromHexError.{FromHexError}
 use Rattle.hex.proofs.HexLemmas.{decode_of-encode_lower, length-encode_with}
 use Rattle.mail_terms.specs.UniqueId.{IsLegalId, HasIdRanges}
 use Rattle.mail_terms.specs.MaildirName.{base, is_colon}
-use Rattle.mail_store.specs.FileName.{is_lower_hex_digit, longest_name, name_of, IsAccountText}
+use Rattle.mail_store.specs.FileName.{is_comma, is_lower_hex_digit, longest_stem, name_of, sized, stem, stem_of, IsAccountText}
 
 -- ---- digits
 
@@ -37,69 +40,135 @@ digits_pass (b ∷ rest) h =
     (All-cons (λ x. is_lower_hex_digit x ≡ true) (slice_index lower_digits (b % 16)) (encode_lower rest)
     (digit_passes (b % 16) low) (digits_pass rest (λ k. h (suc k))))
 
--- ---- no colons
+-- ---- no colons and no commas
 
-abbrev NoColon : List ℕ → Type 0
-NoColon bytes = All (λ byte. is_colon byte ≡ false) bytes
+-- no byte ends a base or a stem
+IsPlain : ℕ → Type 0
+IsPlain byte = (is_colon byte ≡ false) × (is_comma byte ≡ false)
 
--- a digit is no colon
-digit_is_no_colon : (byte : ℕ) → is_lower_hex_digit byte ≡ true → is_colon byte ≡ false
-digit_is_no_colon byte h = grind arith
+-- a digit is none of them
+digit_is_plain : (byte : ℕ) → is_lower_hex_digit byte ≡ true → IsPlain byte
+unfolding IsPlain
+digit_is_plain byte h = (no_colon, no_comma)
+  where
+    no_colon : is_colon byte ≡ false
+    no_colon = grind arith
 
--- what a table gives past its end is no colon either
-table_has_no_colon : (k : ℕ) → is_colon (slice_index lower_digits k) ≡ false
-table_has_no_colon k =
+    no_comma : is_comma byte ≡ false
+    no_comma = grind arith
+
+-- what a table gives past its end isn't either
+table_is_plain : (k : ℕ) → IsPlain (slice_index lower_digits k)
+unfolding IsPlain
+table_is_plain k =
     elim (cases_lt k 16) [
-      | inl below ↦ digit_is_no_colon (slice_index lower_digits k) (digit_passes k below)
-      | inr past ↦ ap is_colon (get_or_past lower_digits k 0 past)
+      | inl below ↦ digit_is_plain (slice_index lower_digits k) (digit_passes k below)
+      | inr past ↦ let e = get_or_past lower_digits k 0 past in (ap is_colon e, ap is_comma e)
     ]
 
-digits_have_no_colon : (bytes : List ℕ) → NoColon (encode_lower bytes)
+digits_are_plain : (bytes : List ℕ) → All IsPlain (encode_lower bytes)
 unfolding encode_with
-digits_have_no_colon [] = All-nil (λ x. is_colon x ≡ false)
-digits_have_no_colon (b ∷ rest) =
-    All-cons (λ x. is_colon x ≡ false) (slice_index lower_digits (b / 16)) (slice_index lower_digits (b % 16) ∷ encode_lower rest)
-    (table_has_no_colon (b / 16))
-    (All-cons (λ x. is_colon x ≡ false) (slice_index lower_digits (b % 16)) (encode_lower rest)
-    (table_has_no_colon (b % 16)) (digits_have_no_colon rest))
+digits_are_plain [] = All-nil IsPlain
+digits_are_plain (b ∷ rest) =
+    All-cons IsPlain (slice_index lower_digits (b / 16)) (slice_index lower_digits (b % 16) ∷ encode_lower rest)
+    (table_is_plain (b / 16))
+    (All-cons IsPlain (slice_index lower_digits (b % 16)) (encode_lower rest)
+    (table_is_plain (b % 16)) (digits_are_plain rest))
 
--- what holds no colon is its own base
-base_without_colon : (name : List ℕ) → NoColon name → base name ≡ name
-base_without_colon name h =
-    ap (λ n. take n name) (position_or_len_is is_colon name (length name) 0 (omega arith) (λ k lt. h k 0 lt) (λ lt. absurd (omega arith)))
+-- what holds no such byte is there whole before the first
+all_before : (p : ℕ → Bool) (name : List ℕ) → All (λ byte. p byte ≡ false) name → before_first p name ≡ name
+all_before p name h =
+    ap (λ n. take n name) (position_or_len_is p name (length name) 0 (omega arith) (λ k lt. h k 0 lt) (λ lt. absurd (omega arith)))
     ∙ take_all (length name) name (omega arith)
 
-pub base-name_of : (account uid : List ℕ) → IsAccountText account → base (name_of account uid) ≡ name_of account uid
-base-name_of account uid h =
-    base_without_colon (name_of account uid)
-    (All-append (λ x. is_colon x ≡ false) account (46 ∷ encode_lower uid)
-    (λ k d lt. digit_is_no_colon (get_or account k d) (h.1 k d lt))
-    (All-cons (λ x. is_colon x ≡ false) 46 (encode_lower uid) refl (digits_have_no_colon uid)))
+stem_is_plain : (account uid : List ℕ) → IsAccountText account → All IsPlain (stem_of account uid)
+unfolding IsPlain
+stem_is_plain account uid h =
+    All-append IsPlain account (46 ∷ encode_lower uid)
+    (λ k d lt. digit_is_plain (get_or account k d) (h.1 k d lt))
+    (All-cons IsPlain 46 (encode_lower uid) (refl, refl) (digits_are_plain uid))
 
--- a colon in front leaves nothing, another byte stays
-base-cons : (x : ℕ) (xs : List ℕ) → base (x ∷ xs) ≡ cond (is_colon x) [] (x ∷ base xs)
-base-cons x xs = cut (is_colon x) (position_or_len is_colon xs)
+base-stem_of : (account uid : List ℕ) → IsAccountText account → base (stem_of account uid) ≡ stem_of account uid
+unfolding IsPlain
+base-stem_of account uid h = all_before is_colon (stem_of account uid) (λ k d lt. (stem_is_plain account uid h k d lt).0)
+
+pub stem-stem_of : (account uid : List ℕ) → IsAccountText account → stem (stem_of account uid) ≡ stem_of account uid
+unfolding IsPlain
+stem-stem_of account uid h =
+    ap (before_first is_comma) (base-stem_of account uid h)
+    ∙ all_before is_comma (stem_of account uid) (λ k d lt. (stem_is_plain account uid h k d lt).1)
+
+-- a decimal holds digits alone
+glyph_is_no_colon : (d : ℕ) → d < 10 → is_colon (digit_glyph false d) ≡ false
+glyph_is_no_colon d small = by (nat_lt d 10)
   where
-    cut : (colon : Bool) (n : ℕ) → take (cond (not colon) (1 + n) 0) (x ∷ xs) ≡ cond colon [] (x ∷ take n xs)
+    by : (b : Bool) → is_colon (cond b (48 + d) (87 + d)) ≡ false
+    by true = grind arith
+    by false = grind arith
+
+onto_has_no_colon : (k n : ℕ) (acc : List ℕ) → All (λ byte. is_colon byte ≡ false) acc → All (λ byte. is_colon byte ≡ false) (digits_onto k 10 false n acc)
+onto_has_no_colon zero n acc h = h
+onto_has_no_colon (suc k) n acc h =
+    let more = All-cons (λ byte. is_colon byte ≡ false) (digit_glyph false (n % 10)) acc (glyph_is_no_colon (n % 10) (omega arith)) h in
+    either (n / 10 == 0) _ _ more (onto_has_no_colon k (n / 10) (digit_glyph false (n % 10) ∷ acc) more)
+  where
+    either : (b : Bool) (xs ys : List ℕ) → All (λ byte. is_colon byte ≡ false) xs → All (λ byte. is_colon byte ≡ false) ys
+        → All (λ byte. is_colon byte ≡ false) (cond b xs ys)
+    either true xs ys p q = p
+    either false xs ys p q = q
+
+decimal_has_no_colon : (n : ℕ) → All (λ byte. is_colon byte ≡ false) (decimal n)
+unfolding digits
+decimal_has_no_colon n = onto_has_no_colon 64 n [] (All-nil (λ byte. is_colon byte ≡ false))
+
+pub base-name_of : (account uid : List ℕ) (size : ℕ) → IsAccountText account → base (name_of account uid size) ≡ name_of account uid size
+unfolding IsPlain
+base-name_of account uid size h =
+    all_before is_colon (name_of account uid size)
+    (All-append (λ byte. is_colon byte ≡ false) (stem_of account uid ++ codes ",S=") (decimal size)
+    (All-append (λ byte. is_colon byte ≡ false) (stem_of account uid) (codes ",S=")
+    (λ k d lt. (stem_is_plain account uid h k d lt).0)
+    (All-cons (λ byte. is_colon byte ≡ false) 44 (83 ∷ 61 ∷ []) refl
+    (All-cons (λ byte. is_colon byte ≡ false) 83 (61 ∷ []) refl
+    (All-cons (λ byte. is_colon byte ≡ false) 61 [] refl (All-nil (λ byte. is_colon byte ≡ false))))))
+    (decimal_has_no_colon size))
+
+-- a byte in front that passes leaves nothing, another stays
+before_first-cons : (p : ℕ → Bool) (x : ℕ) (xs : List ℕ) → before_first p (x ∷ xs) ≡ cond (p x) [] (x ∷ before_first p xs)
+before_first-cons p x xs = cut (p x) (position_or_len p xs)
+  where
+    cut : (passes : Bool) (n : ℕ) → take (cond (not passes) (1 + n) 0) (x ∷ xs) ≡ cond passes [] (x ∷ take n xs)
     cut true n = refl
     cut false n =
         let more : 1 + n ≡ suc n = omega arith in
         ap (λ (k : ℕ). take k (x ∷ xs)) more
 
+-- what stands behind a byte that passes doesn't matter
+before_first-cut : (p : ℕ → Bool) (front rest : List ℕ) (mark : ℕ) → p mark ≡ true → before_first p (front ++ mark ∷ rest) ≡ before_first p front
+before_first-cut p [] rest mark passes = before_first-cons p mark rest ∙ ap (λ b. cond b [] (mark ∷ before_first p rest)) passes
+before_first-cut p (x ∷ xs) rest mark passes =
+    before_first-cons p x (xs ++ mark ∷ rest) ∙ ap (λ (ys : List ℕ). cond (p x) [] (x ∷ ys)) (before_first-cut p xs rest mark passes)
+    ∙ sym (before_first-cons p x xs)
+
+pub stem-name_of : (account uid : List ℕ) (size : ℕ) → IsAccountText account → stem (name_of account uid size) ≡ stem_of account uid
+unfolding IsPlain
+stem-name_of account uid size h =
+    ap (before_first is_comma) (base-name_of account uid size h ∙ append_assoc (stem_of account uid) (codes ",S=") (decimal size))
+    ∙ before_first-cut is_comma (stem_of account uid) (83 ∷ 61 ∷ decimal size) 44 refl
+    ∙ all_before is_comma (stem_of account uid) (λ k d lt. (stem_is_plain account uid h k d lt).1)
+
 -- marks behind a name, from a colon on, are cut off with it
 pub base-marked : (name marks : List ℕ) → base (name ++ 58 ∷ marks) ≡ base name
-base-marked [] marks = refl
-base-marked (x ∷ xs) marks =
-    base-cons x (xs ++ 58 ∷ marks) ∙ ap (λ (ys : List ℕ). cond (is_colon x) [] (x ∷ ys)) (base-marked xs marks) ∙ sym (base-cons x xs)
+base-marked name marks = before_first-cut is_colon name marks 58 refl
 
 -- a base has no more to cut off
 pub base_base : (name : List ℕ) → base (base name) ≡ base name
 base_base [] = refl
-base_base (x ∷ xs) = ap base (base-cons x xs) ∙ by (is_colon x) refl (base_base xs) ∙ sym (base-cons x xs)
+base_base (x ∷ xs) = ap base (before_first-cons is_colon x xs) ∙ by (is_colon x) refl (base_base xs) ∙ sym (before_first-cons is_colon x xs)
   where
     by : (b : Bool) → is_colon x ≡ b → base (base xs) ≡ base xs → base (cond b [] (x ∷ base xs)) ≡ cond b [] (x ∷ base xs)
     by true e ih = refl
-    by false e ih = base-cons x (base xs) ∙ ap (λ b. cond b [] (x ∷ base (base xs))) e ∙ ap (λ t. x ∷ t) ih
+    by false e ih = before_first-cons is_colon x (base xs) ∙ ap (λ b. cond b [] (x ∷ base (base xs))) e ∙ ap (λ t. x ∷ t) ih
 
 -- ---- different names
 
@@ -119,13 +188,13 @@ bytes_or : List ℕ → Result (List ℕ) FromHexError → List ℕ
 bytes_or d (Ok bytes) = bytes
 bytes_or d (Err e) = d
 
-abbrev tail_of : List ℕ → List ℕ
+abbrev pub tail_of : List ℕ → List ℕ
 tail_of [] = []
 tail_of (x ∷ xs) = xs
 
-pub name_of-injective : HaveRanges → (account a b : List ℕ) → IsLegalId a → IsLegalId b → name_of account a ≡ name_of account b → a ≡ b
+pub stem_of-injective : HaveRanges → (account a b : List ℕ) → IsLegalId a → IsLegalId b → stem_of account a ≡ stem_of account b → a ≡ b
 unfolding bytes_or
-name_of-injective ranges account a b la lb same =
+stem_of-injective ranges account a b la lb same =
     let digits : 46 ∷ encode_lower a ≡ 46 ∷ encode_lower b = append_cancel_left account (46 ∷ encode_lower a) (46 ∷ encode_lower b) same in
     let texts : encode_lower a ≡ encode_lower b = ap tail_of digits in
     ap (bytes_or []) (sym (decode_of-encode_lower a (IsBytes-legal ranges a la)) ∙ ap decode_of texts ∙ decode_of-encode_lower b (IsBytes-legal ranges b lb))
@@ -150,9 +219,16 @@ IsOk-from_cases (Err e) P Q R h q = absurd (h.0 q)
 
 -- ---- lengths
 
-pub length-name_of : HaveRanges → (account uid : List ℕ) → IsAccountText account → IsLegalId uid → length (name_of account uid) ≤ longest_name
-length-name_of ranges account uid a legal =
+pub length-stem_of : HaveRanges → (account uid : List ℕ) → IsAccountText account → IsLegalId uid → length (stem_of account uid) ≤ longest_stem
+length-stem_of ranges account uid a legal =
     omega (arith, length-append account (46 ∷ encode_lower uid), length-encode_with lower_digits uid, a.0, (ranges uid legal).short)
+
+pub length-digits : HaveRanges → (uid : List ℕ) → IsLegalId uid → length (encode_lower uid) ≤ 140
+length-digits ranges uid legal = omega (arith, length-encode_with lower_digits uid, (ranges uid legal).short)
+
+pub length-sized : (text : List ℕ) (size : ℕ) → size < 2 ^ 64 → length (sized text size) ≤ length text + 23
+length-sized text size small =
+    omega (arith, length-append (text ++ codes ",S=") (decimal size), length-append text (codes ",S="), length-decimal-le 20 size (omega arith) (omega arith) small)
 
 -- ---- reading names back
 
@@ -187,10 +263,17 @@ pub digits_behind : (account name : List ℕ) (marked : List ℕ) (r : Option (B
 digits_behind account name marked None e h = λ digits same. h digits (append_cancel_left account marked (46 ∷ digits) (sym e ∙ same))
 digits_behind account name marked (Some rest) e h = e ∙ ap (λ (xs : List ℕ). account ++ xs) h
 
--- where no id has this text, no id has the name that ends in it
+-- what follows a front that was taken off a text
+pub text_behind_is : (text front : List ℕ) (r : Option (Bor (List ℕ)))
+    → MatchOption r (FindsTextPrefix front text None) (λ rest. StripsPrefix (FindsTextPrefix front) text rest.now)
+    → MatchOption r ((rest : List ℕ) → text ≢ front ++ rest) (λ rest. text ≡ front ++ rest.now)
+text_behind_is text front None h = h
+text_behind_is text front (Some rest) h = h.1.1 ∙ ap (λ (xs : List ℕ). front ++ xs) (sym h.2)
+
+-- where no id has this text, no id has the stem that ends in it
 pub none_named : {E : Type 0} {B : Type 0} (account name digits : List ℕ) (r : Result (Option (Vec ℕ B)) E) → name ≡ account ++ 46 ∷ digits
     → IfOk r (λ id. IfNone id ((uid : List ℕ) → IsLegalId uid → encode_lower uid ≢ digits))
-    → IfOk r (λ id. IfNone id ((uid : List ℕ) → IsLegalId uid → name_of account uid ≢ name))
+    → IfOk r (λ id. IfNone id ((uid : List ℕ) → IsLegalId uid → stem_of account uid ≢ name))
 none_named account name digits (Err e) same h = tt
 none_named account name digits (Ok (Some uid)) same h = tt
 none_named account name digits (Ok None) same h = λ uid legal e.

@@ -1,11 +1,12 @@
 -- The names of an account's files in a Maildir, and which ids they hold.
-use Rattle.std.specs.Prelude.{◌≡◌, ℕ, List, [], ◌∷◌, ◌++◌, length, Bool, nat_le, ◌&&◌, ◌||◌, bytes_eq, decimal}
-use Rattle.std.specs.List.{AllPass, list_any}
+use Rattle.std.specs.Prelude.{◌≡◌, ◌≤◌, ◌+◌, ◌==◌, ℕ, List, [], ◌∷◌, ◌++◌, length, Bool, nat_le, ◌&&◌, ◌||◌, bytes_eq, codes, decimal, String}
+use Rattle.std.specs.List.{AllPass, before_first, list_any}
+use Rattle.std.specs.String.{string_len, string_capacity}
 use Rattle.hex.specs.Hex.{encode_lower}
 use Rattle.sha2.specs.Sha256.{sha256}
 use Rattle.mail_terms.specs.MaildirName.{base}
 use Rattle.mail_terms.specs.UniqueId.{IsLegalId}
-use Rattle.mail_store.specs.Maildir.{Maildir, File}
+use Rattle.mail_store.specs.Maildir.{Maildir, File, file}
 
 -- the text by which accounts are told apart: the digest of server, NUL, port, NUL, user name in
 -- lower-case hexadecimal
@@ -21,26 +22,63 @@ is_lower_hex_digit byte = (nat_le 48 byte && nat_le byte 57) || (nat_le 97 byte 
 abbrev pub IsAccountText : List ℕ → Type 0
 IsAccountText text = (length text ≡ 64) × AllPass is_lower_hex_digit text
 
--- the name of the file that holds an id: the account's text, a full stop, the id in lower-case
--- hexadecimal
-abbrev pub name_of : List ℕ → List ℕ → List ℕ
-name_of account uid = account ++ 46 ∷ encode_lower uid
+abbrev pub is_comma : ℕ → Bool
+is_comma byte = byte == 44
 
--- two ids of one account have different names
-abbrev pub NamesDiffer : Type 0
-NamesDiffer = (account a b : List ℕ) → IsLegalId a → IsLegalId b → name_of account a ≡ name_of account b → a ≡ b
+-- what stands before the first comma of a name's base: what follows it tells of the file, as `,S=` does (Maildir++)
+abbrev pub stem : List ℕ → List ℕ
+stem name = before_first is_comma (base name)
+
+-- the stem of the files that hold an id: the account's text, a full stop, the id in lower-case hexadecimal
+abbrev pub stem_of : List ℕ → List ℕ → List ℕ
+stem_of account uid = account ++ 46 ∷ encode_lower uid
+
+-- a stem, `,S=` and a size in decimal
+abbrev pub sized : List ℕ → ℕ → List ℕ
+sized front size = front ++ codes ",S=" ++ decimal size
+
+-- the name of a file of so many bytes that holds an id. Earlier versions named it by its stem alone
+abbrev pub name_of : List ℕ → List ℕ → ℕ → List ℕ
+name_of account uid size = sized (stem_of account uid) size
+
+-- a text in a file whose name has this stem and tells its length, and the file of an id's text
+abbrev pub sized_file : List ℕ → List ℕ → File
+sized_file front text = file (sized front (length text)) text
+
+abbrev pub mail_file : List ℕ → List ℕ → List ℕ → File
+mail_file account uid text = sized_file (stem_of account uid) text
+
+-- two ids of one account have different stems
+abbrev pub StemsDiffer : Type 0
+StemsDiffer = (account a b : List ℕ) → IsLegalId a → IsLegalId b → stem_of account a ≡ stem_of account b → a ≡ b
+
+-- an id's stem holds no comma and no colon
+abbrev pub StemsAreStems : Type 0
+StemsAreStems = (account uid : List ℕ) → IsAccountText account → stem (stem_of account uid) ≡ stem_of account uid
+
+-- the stem of an id's name is the id's, whatever the size
+abbrev pub NamesHaveStems : Type 0
+NamesHaveStems = (account uid : List ℕ) (size : ℕ) → IsAccountText account → stem (name_of account uid size) ≡ stem_of account uid
 
 -- the base of an id's name is the name: it holds no colon
 abbrev pub NamesAreBases : Type 0
-NamesAreBases = (account uid : List ℕ) → IsAccountText account → base (name_of account uid) ≡ name_of account uid
+NamesAreBases = (account uid : List ℕ) (size : ℕ) → IsAccountText account → base (name_of account uid size) ≡ name_of account uid size
 
--- the bytes of the longest such name: 64 digits, a full stop, and two digits for each of 70 characters
+-- the bytes of the longest stem, 64 digits, a full stop, and two digits for each of 70 characters; and of the longest
+-- name: a stem, `,S=` and 20 digits
+abbrev pub longest_stem : ℕ
+longest_stem = 205
+
 abbrev pub longest_name : ℕ
-longest_name = 205
+longest_name = 228
 
--- whether the name's base is the name of the id's file
+-- `,S=` and any size fit behind it without more memory
+abbrev pub HasRoomForSize : {A : Type 0} → String A → Type 0
+HasRoomForSize text = string_len text + 23 ≤ string_capacity text
+
+-- whether the name's stem is that of the id's files
 abbrev pub names_id : List ℕ → List ℕ → List ℕ → Bool
-names_id account uid name = bytes_eq (name_of account uid) (base name)
+names_id account uid name = bytes_eq (stem_of account uid) (stem name)
 
 -- whether a file of `new` or `cur` holds the id
 abbrev pub is_held : List ℕ → Maildir → List ℕ → Bool

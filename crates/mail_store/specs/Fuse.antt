@@ -45,9 +45,9 @@ pub record Burns {D T : Type 0} (count : D → ℕ) (old : Fused D) (result : Re
   pub passed : 0 < old.passes_left → Tallies (refuses is_refusal result) (count old.device) (count new.device)
 
 -- a `settle` that the fuse refuses: the device settled the file, or gave it up
-abbrev pub SettlesBehind : Bool → Maildir → Maildir → Type 0
-SettlesBehind true old new = (answer : Result (Unit {0}) StoreFault) × Settles old answer new
-SettlesBehind false old new = new ≡ dropped old
+abbrev pub SettlesBehind : Bool → Maildir → List ℕ → Maildir → Type 0
+SettlesBehind true old name new = (answer : Result (Unit {0}) StoreFault) × Settles old name answer new
+SettlesBehind false old name new = new ≡ dropped old
 
 -- an `append` that the fuse refuses: the device appended the first half of the bytes, or nothing
 abbrev pub AppendsBehind : Bool → Stored → List ℕ → Stored → Type 0

@@ -102,13 +102,13 @@ Adds old bytes (Err fault) new =
     (f : File) → old.begun ≡ Some f
     → (content : List ℕ) × (new ≡ counted (record old { begun = Some (file f.name content) }))
 
--- `settle`: the file that is being written stands in `new`; a refused call leaves it out of `new`,
+-- `settle`: what was written stands in `new` under this name; a refused call leaves it out of `new`,
 -- or in it and whole
-abbrev pub Settles : {T : Type 0} → Maildir → Result T StoreFault → Maildir → Type 0
-Settles old (Ok done) new = (f : File) → old.begun ≡ Some f → new ≡ with_file old f
-Settles old (Err fault) new =
+abbrev pub Settles : {T : Type 0} → Maildir → List ℕ → Result T StoreFault → Maildir → Type 0
+Settles old name (Ok done) new = (f : File) → old.begun ≡ Some f → new ≡ with_file old (file name f.content)
+Settles old name (Err fault) new =
     (f : File) → old.begun ≡ Some f
-    → (new ≡ counted (dropped old)) ⊎ (new ≡ counted (with_file old f))
+    → (new ≡ counted (dropped old)) ⊎ (new ≡ counted (with_file old (file name f.content)))
 
 -- `deliver`: the file stands in `new`, or nothing changed, or, refused, one of the two
 abbrev pub Delivers : {T : Type 0} → Maildir → File → Result T StoreFault → Maildir → Type 0
@@ -116,7 +116,7 @@ Delivers old f (Ok done) new = new ≡ with_file old f
 Delivers old f (Err Missing) new = (old.there.tmp ≡ false) × (new ≡ old)
 Delivers old f (Err Refused) new = (new ≡ counted (dropped old)) ⊎ (new ≡ counted (with_file old f))
 Delivers old f (Err NotMbox) new = ⊥
-Delivers old f (Err NoMemory) new = ⊥
+Delivers old f (Err NoMemory) new = new ≡ old
 
 -- a file of `new` stands in `cur` instead, behind the others, with a suffix behind its name, which
 -- no file of `cur` had

@@ -106,7 +106,7 @@ impl<D: MaildirDisk> MaildirDisk for Fused<D> {
     ghost use Rattle.mail_terms.specs.FailureCount.{Tallies, refuses, greatest_count};
     ghost use Rattle.mail_terms.specs.Distinct.{AreDistinct};
     ghost use Rattle.mail_store.specs.Fault.{IsDeviceFault};
-    ghost use Rattle.mail_store.specs.Maildir.{File, IsInNew, Lists, Begins, Adds, Settles, dropped, name_begun};
+    ghost use Rattle.mail_store.specs.Maildir.{IsInNew, Lists, Begins, Adds, Settles, dropped, name_begun};
     ghost use Rattle.mail_store.specs.Fuse.{device_of, passes_left, effect_is_due, refusals, fused_maildir, FusedIsSound, Burns, SettlesBehind};
 
     ghost maildir = { λ f. fused_maildir D.maildir f };
@@ -161,32 +161,31 @@ impl<D: MaildirDisk> MaildirDisk for Fused<D> {
         self.tally(answer)
     }
 
-    fn settle(&mut self) -> Result<(), StoreFault>
-        requires { FusedIsSound D.sound self.old
-            → (f : File) × ((D.maildir (device_of self.old)).begun ≡ Some f)
-            × (IsInNew (D.maildir (device_of self.old)) f.name → ⊥) }
+    fn settle(&mut self, name: &str) -> Result<(), StoreFault>
+        requires begun { FusedIsSound D.sound self.old → IsSome (D.maildir (device_of self.old)).begun }
+        requires not_there { FusedIsSound D.sound self.old → IsInNew (D.maildir (device_of self.old)) name.now → ⊥ }
         ensures settles { FusedIsSound D.sound self.new → FusedIsSound D.sound self.old
-            × Settles (fused_maildir D.maildir self.old) result (fused_maildir D.maildir self.new) }
+            × Settles (fused_maildir D.maildir self.old) name.now result (fused_maildir D.maildir self.new) }
         ensures none_begun { (D.maildir (device_of self.new)).begun ≡ None }
         ensures fault { IfErr result (λ e. e ≡ StoreFault.Refused) }
         ensures count { Tallies (refuses is_refusal result) (refusals self.old) (refusals self.new) }
         ensures burns { refusals self.old < greatest_count → Burns (λ d. (D.maildir d).failures) self.old result self.new }
         ensures behind { passes_left self.old ≡ 0 → FusedIsSound D.sound self.new
-            → SettlesBehind (effect_is_due self.old) (D.maildir (device_of self.old)) (D.maildir (device_of self.new)) }
+            → SettlesBehind (effect_is_due self.old) (D.maildir (device_of self.old)) name.now (D.maildir (device_of self.new)) }
     {
         if let Err(fault) = admit(&self.failures) {
             self.abandon();
             return Err(fault);
         }
         if self.passes_left == 0 && self.takes_effect {
-            let _ = self.device.settle();
+            let _ = self.device.settle(name);
             return Err(self.blow());
         }
         if let Err(fault) = self.pass() {
             self.device.abandon();
             return Err(fault);
         }
-        let answer = self.device.settle();
+        let answer = self.device.settle(name);
         self.tally(answer)
     }
 

@@ -9,7 +9,7 @@ mod mbox;
 
 use anyhow::{Result, ensure};
 use folder_store::{FolderMaildir, HostFile, ProcessMark};
-use mail_store::{FlatFile, account_id, deliver, file_name, held};
+use mail_store::{FlatFile, account_id, deliver, file_stem, held};
 use mail_terms::{Listing, ScanRow, UidRow, have_legal_ids, is_legal_id};
 use std::alloc::Global;
 use std::env;
@@ -69,8 +69,8 @@ fn time_deliver(rt: &HostRuntime, path: &str, count: u32) -> Result<()> {
     for number in 1..=count {
         let id = id_of(alloc, number)?;
         ensure!(is_legal_id(id.as_bytes()), "an id of another form");
-        let name = file_name(alloc, &account, id.as_bytes())?;
-        deliver(&mut disk, name.as_str(), text.as_slice())?;
+        let stem = file_stem(alloc, &account, id.as_bytes())?;
+        deliver(alloc, &mut disk, stem.as_str(), text.as_slice())?;
     }
     let used = rt.process_cpu_time()?.saturating_sub(used);
     let passed = start.elapsed(rt)?;

@@ -14,13 +14,13 @@ pub enum Folder {
 /// A device that keeps a Maildir, and that can refuse any call.
 ///
 /// A file is begun in `tmp`, written there by any number of `add`, and then settled: only then it
-/// stands in `new`, whole. No other call changes `new` or `cur`.
+/// stands in `new`, whole, under the name that `settle` takes. No other call changes `new` or `cur`.
 pub trait MaildirDisk {
     ghost use Rattle.std.specs.Prelude.{◌≡◌, IfErr, IfOk, IsSome, OnErr, OnOk, Some, None, map, string_bytes};
     ghost use Rattle.mail_terms.specs.FailureCount.{Tallies, refuses};
     ghost use Rattle.mail_terms.specs.Distinct.{AreDistinct};
     ghost use Rattle.mail_store.specs.Fault.{is_refusal, IsDeviceFault};
-    ghost use Rattle.mail_store.specs.Maildir.{Maildir, File, IsInNew, Lists, Begins, Adds, Settles, dropped, name_begun};
+    ghost use Rattle.mail_store.specs.Maildir.{Maildir, IsInNew, Lists, Begins, Adds, Settles, dropped, name_begun};
 
     // What is known of the Maildir. Whether a file is begun, its name and the count of refusals are
     // known of every device, whatever else is.
@@ -61,14 +61,14 @@ pub trait MaildirDisk {
         ensures fault { IfErr result (λ e. e ≡ StoreFault.Refused) }
         ensures count { Tallies (refuses is_refusal result) (maildir self.old).failures (maildir self.new).failures };
 
-    /// Puts the file begun into `new`. The only fault is Refused: the file is then not in `new`, or
-    /// in `new` and whole. Either way none is begun afterwards. `names` tells whether a name is in
-    /// `new`.
-    fn settle(&mut self) -> Result<(), StoreFault>
-        requires { sound self.old
-            → (f : File) × ((maildir self.old).begun ≡ Some f) × (IsInNew (maildir self.old) f.name → ⊥) }
+    /// Puts the file begun into `new` under this name. The only fault is Refused: the file is then
+    /// not in `new`, or in `new` and whole. Either way none is begun afterwards. `names` tells whether
+    /// a name is in `new`.
+    fn settle(&mut self, name: &str) -> Result<(), StoreFault>
+        requires begun { sound self.old → IsSome (maildir self.old).begun }
+        requires not_there { sound self.old → IsInNew (maildir self.old) name.now → ⊥ }
         ensures settles { sound self.new → sound self.old
-            × Settles (maildir self.old) result (maildir self.new) }
+            × Settles (maildir self.old) name.now result (maildir self.new) }
         ensures none_begun { (maildir self.new).begun ≡ None }
         ensures fault { IfErr result (λ e. e ≡ StoreFault.Refused) }
         ensures count { Tallies (refuses is_refusal result) (maildir self.old).failures (maildir self.new).failures };

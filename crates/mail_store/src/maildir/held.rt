@@ -1,11 +1,11 @@
 //! Which messages of a listing a Maildir holds already.
 
-ghost use Rattle.std.specs.Prelude.{◌≡◌, List, ℕ, ◌++◌, ◌||◌, ◌&&◌, map, length, vec_len, string_bytes, bytes_eq, IfOk, OnOk, ◌≢◌};
+ghost use Rattle.std.specs.Prelude.{◌≡◌, List, ℕ, ◌∷◌, ◌++◌, ◌||◌, ◌&&◌, map, length, vec_len, string_bytes, bytes_eq, IfOk, OnOk, ◌≢◌};
 ghost use Rattle.std.specs.List.{list_any};
+ghost use Rattle.hex.specs.Hex.{encode_lower};
 ghost use Rattle.mail_terms.specs.FailureCount.{Tallies, refuses};
-ghost use Rattle.mail_terms.specs.MaildirName.{base};
 ghost use Rattle.mail_store.specs.Fault.{is_refusal};
-ghost use Rattle.mail_store.specs.FileName.{name_of, is_held};
+ghost use Rattle.mail_store.specs.FileName.{stem, is_held};
 ghost use Rattle.mail_terms.specs.Listing.{Item, has_item, is_flagged};
 ghost use Rattle.mail_store.specs.Maildir.{Maildir};
 ghost use Rattle.mail_store.specs.Held.{Finds, flags_of, has_text};
@@ -18,30 +18,49 @@ use mail_terms::Listing;
 use std::alloc::{AllocError, Global};
 use std::collections::BTreeSet;
 
-/// Adds the bases of some names.
-fn add_bases<'a>(bases: &mut BTreeSet<&'a str>, names: &'a [String]) -> Result<(), AllocError>
-    ensures { OnOk result ((q : List ℕ) → has_text bases.new q
-        ≡ (has_text bases.old q || list_any (λ name. bytes_eq q (base (string_bytes name))) names.now)) }
+/// Adds the digits of an id that stand in the stem of a name of the account's, if it is one.
+fn add_name<'a>(
+    found: &mut BTreeSet<&'a str>,
+    account: &str,
+    name: &'a str,
+) -> Result<(), AllocError>
+    ensures { OnOk result ((q : List ℕ) → has_text found.new q
+        ≡ (has_text found.old q || bytes_eq (account.now ++ 46 ∷ q) (stem name.now))) }
+{
+    let Some(digits) = names::id_digits(account, names::stem(name)) else {
+        return Ok(());
+    };
+    found.insert(digits)?;
+    Ok(())
+}
+
+/// Adds the digits of the ids that stand in the stems of the account's names among these.
+fn add_digits<'a>(
+    found: &mut BTreeSet<&'a str>,
+    account: &str,
+    names: &'a [String],
+) -> Result<(), AllocError>
+    ensures { OnOk result ((q : List ℕ) → has_text found.new q
+        ≡ (has_text found.old q || list_any (λ name. bytes_eq (account.now ++ 46 ∷ q) (stem (string_bytes name))) names.now)) }
 {
     for name in names {
-        bases.insert(mail_terms::base(name.as_str()))?;
+        add_name(found, account, name.as_str())?;
     }
     Ok(())
 }
 
-/// Whether the name of each item's file is among the bases, in order.
+/// Whether the digits of each item's id are among these, in order.
 fn flags_of(
     alloc: Global,
-    bases: &BTreeSet<&str>,
-    account: &AccountId,
+    found: &BTreeSet<&str>,
     listing: &Listing,
 ) -> Result<Vec<bool>, AllocError>
-    ensures { IfOk result (λ flags. flags.items ≡ map (λ item. has_text bases.now (name_of account.now item.uid)) listing.now) }
+    ensures { IfOk result (λ flags. flags.items ≡ map (λ item. has_text found.now (encode_lower item.uid)) listing.now) }
 {
     let mut flags = Vec::new(alloc);
     for i in 0..listing.len() {
-        let name = names::file_name(alloc, account, listing.uid(i))?;
-        flags.push(bases.contains(name.as_str()))?;
+        let digits = hex::encode(alloc, listing.uid(i))?;
+        flags.push(found.contains(digits.as_str()))?;
     }
     Ok(flags)
 }
@@ -52,8 +71,8 @@ pub fn flags_tell_what_is_held()
         → is_flagged items (flags_of account maildir items) uid ≡ (has_item items uid && is_held account maildir uid) }
 {}
 
-/// Whether the id of each item of the listing is held: its file name is the base of a name in `new`
-/// or `cur`. The flags are in the listing's order. Missing where `new` or `cur` isn't there,
+/// Whether the id of each item of the listing is held: its stem is that of a name in `new` or `cur`,
+/// whatever follows the stem. The flags are in the listing's order. Missing where `new` or `cur` isn't there,
 /// Refused where the device refused, NoMemory where memory ran out. The Maildir stays as it was.
 ///
 /// `new` is asked before `cur`, so that a file which a reader moves from the one to the other in
@@ -72,8 +91,10 @@ pub fn held<D: MaildirDisk>(
 {
     let new = disk.names(Folder::New)?;
     let cur = disk.names(Folder::Cur)?;
-    let mut bases = BTreeSet::new(alloc);
-    add_bases(&mut bases, &new)?;
-    add_bases(&mut bases, &cur)?;
-    Ok(flags_of(alloc, &bases, account, listing)?)
+    // All of the account's names begin alike, so only what follows is compared.
+    let digits = account.as_str();
+    let mut found = BTreeSet::new(alloc);
+    add_digits(&mut found, digits, &new)?;
+    add_digits(&mut found, digits, &cur)?;
+    Ok(flags_of(alloc, &found, listing)?)
 }

@@ -177,15 +177,18 @@ impl MaildirDisk for MemoryMaildir {
         }
     }
 
-    fn settle(&mut self) -> Result<(), StoreFault> {
+    fn settle(&mut self, name: &str) -> Result<(), StoreFault> {
         if let Err(fault) = admit(&self.failures) {
             self.abandon();
             return Err(fault);
         }
-        let Some(file) = self.begun.take() else {
+        let Some((_, content)) = self.begun.take() else {
             unreachable!()
         };
-        match self.in_new.push(file) {
+        let Ok(name) = String::from_str(self.alloc, name) else {
+            return Err(refuse(&mut self.failures));
+        };
+        match self.in_new.push((name, content)) {
             Ok(()) => Ok(()),
             Err(_) => Err(refuse(&mut self.failures)),
         }

@@ -4,36 +4,96 @@ ghost use Rattle.std.specs.Prelude.{◌≡◌, false, ℕ, ◌≢◌, ◌≤◌,
 ghost use Rattle.hex.specs.Hex.{encode_lower};
 ghost use Rattle.mail_terms.specs.UniqueId.{IsLegalId};
 ghost use Rattle.mail_terms.specs.MaildirName.{base};
-ghost use Rattle.mail_store.specs.FileName.{IsAccountText, NamesAreBases, NamesDiffer, is_held, longest_name, name_of};
-ghost use Rattle.mail_store.specs.Maildir.{Maildir, IsInNew, file, with_file};
+ghost use Rattle.mail_store.specs.FileName.{HasRoomForSize, IsAccountText, NamesAreBases, NamesHaveStems, StemsAreStems, StemsDiffer, is_held, longest_name, longest_stem, mail_file, name_of, sized, stem, stem_of};
+ghost use Rattle.mail_store.specs.Maildir.{Maildir, IsInNew, with_file};
 
 use crate::account::AccountId;
 use hex::FromHexError;
+use itoa::Buffer;
 use mail_terms::{base, is_legal_id, legal_ids_have_ranges};
 use std::alloc::{AllocError, Global};
 
-/// The name of the file that holds an id: the account's 64 digits, a full stop, and the id in
-/// lower-case hexadecimal. It has at most 205 bytes, and is its own base. `is_legal_id` tells
-/// whether an id is legal.
-pub fn file_name(alloc: Global, account: &AccountId, uid: &[u8]) -> Result<String, AllocError>
+/// The bytes of the longest name of an account's file.
+const LONGEST_NAME: usize = 228;
+
+/// The bytes of `,S=` and of the longest size.
+pub const SIZE_ROOM: usize = 23;
+
+/// The part of a name in `new` or `cur` before the first comma of its base. What follows tells of the
+/// file: its size after `,S=`, as Maildir++ has it.
+pub fn stem(name: &str) -> &str
+    ensures { result.now ≡ stem name.now }
+{
+    let base = base(name);
+    match base.split_once(',') {
+        Some((stem, _)) => stem,
+        None => base,
+    }
+}
+
+/// The stem of the files that hold an id: the account's 64 digits, a full stop, and the id in
+/// lower-case hexadecimal. It has at most 205 bytes, room for a size behind them, and holds no comma
+/// and no colon. Files of earlier versions have it for their whole name. `is_legal_id` tells whether
+/// an id is legal.
+pub fn file_stem(alloc: Global, account: &AccountId, uid: &[u8]) -> Result<String, AllocError>
     requires { IsLegalId uid.now }
-    ensures name { IfOk result (λ name. string_bytes name ≡ name_of account.now uid.now) }
-    ensures short { IfOk result (λ name. length (string_bytes name) ≤ longest_name) }
+    ensures stem { IfOk result (λ text. string_bytes text ≡ stem_of account.now uid.now) }
+    ensures short { IfOk result (λ text. length (string_bytes text) ≤ longest_stem) }
+    ensures room { IfOk result HasRoomForSize }
 {
     legal_ids_have_ranges();
     let digits = hex::encode(alloc, uid)?;
-    let mut name = String::from_str(alloc, account.as_str())?;
-    name.push('.')?;
-    name.push_str(digits.as_str())?;
+    let mut text = String::with_capacity(alloc, LONGEST_NAME)?;
+    text.push_str(account.as_str())?;
+    text.push('.')?;
+    text.push_str(digits.as_str())?;
+    Ok(text)
+}
+
+/// Puts `,S=` and a size behind a stem. It takes no memory: `file_stem` leaves room for it.
+pub fn add_size(text: &mut String, size: u64)
+    requires { HasRoomForSize text.old }
+    ensures { string_bytes text.new ≡ sized (string_bytes text.old) size }
+{
+    let mut buffer = Buffer::new();
+    text.push_str(",S=").unwrap();
+    text.push_str(buffer.format(size)).unwrap();
+}
+
+/// The name of the file that holds an id and has so many bytes: its stem, `,S=`, and the size in
+/// decimal (Maildir++). It has at most 228 bytes, and is its own base. `is_legal_id` tells whether an
+/// id is legal.
+pub fn file_name(
+    alloc: Global,
+    account: &AccountId,
+    uid: &[u8],
+    size: u64,
+) -> Result<String, AllocError>
+    requires { IsLegalId uid.now }
+    ensures name { IfOk result (λ name. string_bytes name ≡ name_of account.now uid.now size) }
+    ensures short { IfOk result (λ name. length (string_bytes name) ≤ longest_name) }
+{
+    let mut name = file_stem(alloc, account, uid)?;
+    add_size(&mut name, size);
     Ok(name)
 }
 
-/// Two ids of one account have different names.
-pub fn names_differ()
-    ensures { NamesDiffer }
+/// Two ids of one account have different stems.
+pub fn stems_differ()
+    ensures { StemsDiffer }
 {
     legal_ids_have_ranges();
 }
+
+/// An id's stem holds no comma and no colon.
+pub fn stems_are_stems()
+    ensures { StemsAreStems }
+{}
+
+/// The stem of an id's name is the id's.
+pub fn names_have_stems()
+    ensures { NamesHaveStems }
+{}
 
 /// The base of an id's name is the name: it holds no colon.
 pub fn names_are_bases()
@@ -46,18 +106,18 @@ pub fn marks_keep_the_base()
     ensures own { (name : List ℕ) → base (base name) ≡ base name }
 {}
 
-/// A file that comes into `new` under the name of an id makes that id held, and no other.
+/// A file of a text that comes into `new` for an id makes that id held, and no other.
 pub fn one_more_is_held()
     ensures { (account a b content : List ℕ) (maildir : Maildir) → IsAccountText account → IsLegalId a → IsLegalId b
-        → is_held account (with_file maildir (file (name_of account a) content)) b ≡ (is_held account maildir b || bytes_eq b a) }
+        → is_held account (with_file maildir (mail_file account a content)) b ≡ (is_held account maildir b || bytes_eq b a) }
 {
     legal_ids_have_ranges();
 }
 
-/// No file of `new` has the name of an id that isn't held, so a text may be delivered under it.
+/// No file of `new` has a name of an id that isn't held, so a text may be delivered under one.
 pub fn unheld_ids_are_not_in_new()
-    ensures { (account uid : List ℕ) (maildir : Maildir) → IsAccountText account → is_held account maildir uid ≡ false
-        → IsInNew maildir (name_of account uid) → ⊥ }
+    ensures { (account uid : List ℕ) (size : ℕ) (maildir : Maildir) → IsAccountText account → is_held account maildir uid ≡ false
+        → IsInNew maildir (name_of account uid size) → ⊥ }
 {}
 
 /// What stands behind `front` in bytes that begin with it.
@@ -73,6 +133,21 @@ fn digits_in<'a>(account: &AccountId, name: &'a [u8]) -> Option<&'a [u8]>
         (λ digits. name.now ≡ account.now ++ 46 ∷ digits.now) }
 {
     behind(b".", behind(account.as_str().as_bytes(), name)?)
+}
+
+/// What stands behind `front` in a text that begins with it.
+fn text_behind<'a>(front: &str, text: &'a str) -> Option<&'a str>
+    ensures { MatchOption result ((rest : List ℕ) → text.now ≢ front.now ++ rest) (λ rest. text.now ≡ front.now ++ rest.now) }
+{
+    text.strip_prefix(front)
+}
+
+/// What stands in a stem behind an account's digits and a full stop, if they are there.
+pub fn id_digits<'a>(account: &str, stem: &'a str) -> Option<&'a str>
+    ensures { MatchOption result ((digits : List ℕ) → stem.now ≢ account.now ++ 46 ∷ digits)
+        (λ digits. stem.now ≡ account.now ++ 46 ∷ digits.now) }
+{
+    text_behind(".", text_behind(account, stem)?)
 }
 
 /// The legal id whose hexadecimal text, in lower case, is this.
@@ -101,12 +176,12 @@ fn decode_id(alloc: Global, digits: &[u8]) -> Result<Option<Vec<u8>>, AllocError
     }
 }
 
-/// The legal id whose file name is the base of `name`, else None.
+/// The legal id whose stem is that of `name`, else None.
 pub fn uid_of(alloc: Global, account: &AccountId, name: &str) -> Result<Option<Vec<u8>>, AllocError>
-    ensures some { IfOk result (λ id. IfSome id (λ uid. IsLegalId uid.items × (name_of account.now uid.items ≡ base name.now))) }
-    ensures none { IfOk result (λ id. IfNone id ((uid : List ℕ) → IsLegalId uid → name_of account.now uid ≢ base name.now)) }
+    ensures some { IfOk result (λ id. IfSome id (λ uid. IsLegalId uid.items × (stem_of account.now uid.items ≡ stem name.now))) }
+    ensures none { IfOk result (λ id. IfNone id ((uid : List ℕ) → IsLegalId uid → stem_of account.now uid ≢ stem name.now)) }
 {
-    match digits_in(account, base(name).as_bytes()) {
+    match digits_in(account, stem(name).as_bytes()) {
         Some(digits) => decode_id(alloc, digits),
         None => Ok(None),
     }

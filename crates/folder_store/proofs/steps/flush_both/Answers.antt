@@ -1,22 +1,28 @@
 use Rattle.std.proofs.Common.{Err}
 use Rattle.folder_store.proofs.Files.{flushes_file, flushes_names, flushes_both}
+use Rattle.folder_store.proofs.PowerLoss.{both_on_disk}
 use Rattle.folder_store.proofs.steps.flush_both.Goals as goal
 
-pub returns-in_err-flush : goal.returns-in_err-flush
-returns-in_err-flush g c = record {
-  flushes = λ s. let d = g.F.FileFolder.directory in
-      let t = c.in_err-flush.ensures s in
-      (t.0, flushes_file (d c.args.folder.now) (d c.flush.new.self) c.args.name.now (Err c.in_err-flush.field-0.0) t.1);
-}
+pub returns-in_err-flush-clause-flushes : goal.returns-in_err-flush-clause-flushes
+returns-in_err-flush-clause-flushes g c = λ s.
+    let d = g.F.FileFolder.directory in
+    let t = c.in_err-flush.ensures s in
+    (t.0, flushes_file (d c.args.folder.now) (d c.flush.new.self) c.args.name.now (Err c.in_err-flush.field-0.0) t.1)
 
-pub returns : goal.returns
-returns g c = record {
-  flushes = λ s. let d = g.F.FileFolder.directory in
-      let names = c.flush_names.ensures s in
-      let t = c.flush.ensures names.0 in (
-        t.0,
-        flushes_both (d c.args.folder.now) (d c.flush.new.self) (d c.flush_names.new.self) c.args.name.now
-            (flushes_file (d c.args.folder.now) (d c.flush.new.self) c.args.name.now c.flush.result t.1)
-            (flushes_names (d c.flush.new.self) (d c.flush_names.new.self) c.args.name.now c.flush_names.result names.1),
-      );
-}
+pub returns-clause-flushes : goal.returns-clause-flushes
+returns-clause-flushes g c = λ s.
+    let d = g.F.FileFolder.directory in
+    let names = c.flush_names.ensures s in
+    let t = c.flush.ensures names.0 in (
+      t.0,
+      flushes_both (d c.args.folder.now) (d c.flush.new.self) (d c.flush_names.new.self) c.args.name.now
+          (flushes_file (d c.args.folder.now) (d c.flush.new.self) c.args.name.now c.flush.result t.1)
+          (flushes_names (d c.flush.new.self) (d c.flush_names.new.self) c.args.name.now c.flush_names.result names.1),
+    )
+
+pub returns-clause-on_disk : goal.returns-clause-on_disk
+returns-clause-on_disk g c = λ s sure.
+    let d = g.F.FileFolder.directory in
+    let names = c.flush_names.ensures s in
+    let t = c.in_ok-flush.ensures names.0 in
+    both_on_disk (d c.args.folder.now) (d c.flush.new.self) (d c.flush_names.new.self) c.args.name.now c.flush_names.result sure t.1 names.1

@@ -1,5 +1,6 @@
 use Rattle.std.proofs.Common.{Err}
 use Rattle.folder_store.proofs.Files.{appends}
+use Rattle.folder_store.proofs.PowerLoss.{appends_for_good}
 use Rattle.folder_store.proofs.file.HostFileFlatFile.append.Goals as goal
 
 pub returns-in-Err-clause-appends : goal.returns-in-Err-clause-appends
@@ -11,3 +12,8 @@ returns-in-Err-clause-appends g c = λ s.
       appends (d now.folder) (d c.append_in.new.folder) now.name.now c.args.bytes.now now.failures c.refuse.new.failures (Err c.in-Err.field-0) told.1
           c.refuse.ensures.counted,
     )
+
+pub returns-in-Err-clause-power : goal.returns-in-Err-clause-power
+returns-in-Err-clause-power g c = λ s.
+    let d = g.F.FileFolder.directory in
+    appends_for_good (d c.args.self.now.folder) (d c.append_in.new.folder) c.args.self.now.name.now c.args.bytes.now (Err c.refuse.result) (c.in-Err.ensures s).1

@@ -5,6 +5,8 @@ use Rattle.mail_store.specs.declared.maildir.disk.Folder.{Folder}
 use Rattle.mail_store.specs.Maildir.{Lists}
 use Rattle.folder_store.specs.FolderMaildir.{maildir_in}
 use Rattle.folder_store.proofs.Directories.{lists_new, lists_cur}
+use Rattle.folder_store.specs.PowerLoss.{TellsWhatStays, of_folder}
+use Rattle.folder_store.proofs.PowerLoss.{told_stay}
 use Rattle.folder_store.proofs.maildir.FolderMaildirMaildirDisk.names.Goals as goal
 
 pub returns-in-New-clause-lists : goal.returns-in-New-clause-lists
@@ -36,3 +38,19 @@ returns-in-Cur-clause-lists g c = λ s.
           (subst (λ (f : Folder). Lists (maildir_in other old begun now.failures) f c.told_names-in-Cur.result (maildir_in other new begun m)) (sym c.in-Cur.is)
           (lists_cur other old new begun now.failures m c.told_names-in-Cur.result told.1 c.tally-in-Cur.ensures.counted)),
     )
+
+pub returns-in-New-clause-power : goal.returns-in-New-clause-power
+returns-in-New-clause-power g c = λ s.
+    let d = g.F.FileFolder.directory in
+    let now = c.args.self.now in
+    subst (λ (r : Result (Vec (String Global) Global) StoreFault). TellsWhatStays (of_folder (d c.told_names.new.folder) (d now.cur_folder) c.args.folder) r) (sym c.tally.ensures.same)
+    (subst (λ (f : Folder). TellsWhatStays (of_folder (d c.told_names.new.folder) (d now.cur_folder) f) c.told_names.result) (sym c.in-New.is)
+    (told_stay (d now.new_folder) (d c.told_names.new.folder) c.told_names.result (c.told_names.ensures.tells s.0).1))
+
+pub returns-in-Cur-clause-power : goal.returns-in-Cur-clause-power
+returns-in-Cur-clause-power g c = λ s.
+    let d = g.F.FileFolder.directory in
+    let now = c.args.self.now in
+    subst (λ (r : Result (Vec (String Global) Global) StoreFault). TellsWhatStays (of_folder (d now.new_folder) (d c.told_names-in-Cur.new.folder) c.args.folder) r) (sym c.tally-in-Cur.ensures.same)
+    (subst (λ (f : Folder). TellsWhatStays (of_folder (d now.new_folder) (d c.told_names-in-Cur.new.folder) f) c.told_names-in-Cur.result) (sym c.in-Cur.is)
+    (told_stay (d now.cur_folder) (d c.told_names-in-Cur.new.folder) c.told_names-in-Cur.result (c.told_names-in-Cur.ensures.tells s.1).1))

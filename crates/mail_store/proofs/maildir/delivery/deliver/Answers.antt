@@ -1,23 +1,33 @@
-use Rattle.std.proofs.Common.{[]}
-use Rattle.mail_store.specs.Maildir.{file}
-use Rattle.mail_store.proofs.Deliveries.{delivered, written, may_settle}
+use Rattle.std.proofs.Common.{◌≡◌, [], length, rules, subst, sym, ◌∙◌}
+use Rattle.std.proofs.lemmas.Bool.{eqb-true}
+use Rattle.std.proofs.lemmas.List.{nil_from_length}
+use Rattle.mail_store.specs.Maildir.{Delivers, file}
+use Rattle.mail_store.specs.FileName.{sized}
+use Rattle.mail_store.proofs.Deliveries.{delivered, written, still_free}
 use Rattle.mail_store.proofs.maildir.delivery.deliver.Goals as goal
 
-pub settle-requires : goal.settle-requires
-settle-requires g c = λ k.
-    let begun = c.in_ok-begin.ensures.begins k in
-    may_settle (g.D.MaildirDisk.maildir c.args.disk.now) (g.D.MaildirDisk.maildir c.begin.new.self)
-    (file c.args.name.now []) begun.1.1 (c.requires.not_there begun.0)
+pub returns-then-is_empty-clause-delivers : goal.returns-then-is_empty-clause-delivers
+returns-then-is_empty-clause-delivers g c = λ k.
+    let settled = c.settle.ensures.settles k in
+    let begun = c.in_ok-begin.ensures.begins settled.0 in
+    let named : c.as_str.result.now ≡ sized c.args.stem.now (length c.args.text.now) = search rules in
+    let empty : [] ≡ c.args.text.now = sym (nil_from_length c.args.text.now (eqb-true (length c.args.text.now) 0 (sym c.is_empty.ensures ∙ c.if-is_empty.true))) in (
+      begun.0,
+      subst (λ bytes. Delivers (g.D.MaildirDisk.maildir c.args.disk.now) (file (sized c.args.stem.now (length c.args.text.now)) bytes) c.settle.result (g.D.MaildirDisk.maildir c.settle.new.self)) empty
+          (subst (λ name. Delivers (g.D.MaildirDisk.maildir c.args.disk.now) (file name []) c.settle.result (g.D.MaildirDisk.maildir c.settle.new.self)) named
+          (delivered (g.D.MaildirDisk.maildir c.args.disk.now) (g.D.MaildirDisk.maildir c.begin.new.self) (g.D.MaildirDisk.maildir c.settle.new.self)
+          c.args.stem.now c.as_str.result.now [] c.settle.result begun.1.1 c.settle.ensures.fault settled.1)),
+    )
 
-pub settle-requires-2 : goal.settle-requires-2
-settle-requires-2 g c = λ k.
+pub settle-requires-2-clause-not_there : goal.settle-requires-2-clause-not_there
+settle-requires-2-clause-not_there g c = λ k.
     let added = c.in_default.ensures.adds k in
     let begun = c.in_ok-begin.ensures.begins added.0 in
-    may_settle (g.D.MaildirDisk.maildir c.args.disk.now) (g.D.MaildirDisk.maildir c.add.new.self)
-    (file c.args.name.now c.args.text.now)
+    let named : c.as_str-2.result.now ≡ sized c.args.stem.now (length c.args.text.now) = search rules in
+    still_free (g.D.MaildirDisk.maildir c.args.disk.now) (g.D.MaildirDisk.maildir c.add.new.self) (file c.args.stem.now c.args.text.now)
+    (sized c.args.stem.now (length c.args.text.now)) c.as_str-2.result.now
     (written (g.D.MaildirDisk.maildir c.args.disk.now) (g.D.MaildirDisk.maildir c.begin.new.self)
-    (g.D.MaildirDisk.maildir c.add.new.self) c.args.name.now c.args.text.now begun.1.1 added.1)
-    (c.requires.not_there begun.0)
+    (g.D.MaildirDisk.maildir c.add.new.self) c.args.stem.now c.args.text.now begun.1.1 added.1) named (c.requires.not_there begun.0)
 
 pub returns-clause-delivers : goal.returns-clause-delivers
 returns-clause-delivers g c = λ k.
@@ -25,9 +35,11 @@ returns-clause-delivers g c = λ k.
     let added = c.in_default.ensures.adds settled.0 in
     let begun = c.in_ok-begin.ensures.begins added.0 in
     let before = g.D.MaildirDisk.maildir c.args.disk.now in
-    let written_to = g.D.MaildirDisk.maildir c.add.new.self in (
+    let written_to = g.D.MaildirDisk.maildir c.add.new.self in
+    let named : c.as_str-2.result.now ≡ sized c.args.stem.now (length c.args.text.now) = search rules in (
       begun.0,
-      delivered before written_to (g.D.MaildirDisk.maildir c.settle-2.new.self) (file c.args.name.now c.args.text.now) c.settle-2.result
-          (written before (g.D.MaildirDisk.maildir c.begin.new.self) written_to c.args.name.now c.args.text.now begun.1.1 added.1)
-          c.settle-2.ensures.fault settled.1,
+      subst (λ name. Delivers before (file name c.args.text.now) c.settle-2.result (g.D.MaildirDisk.maildir c.settle-2.new.self)) named
+          (delivered before written_to (g.D.MaildirDisk.maildir c.settle-2.new.self) c.args.stem.now c.as_str-2.result.now c.args.text.now c.settle-2.result
+          (written before (g.D.MaildirDisk.maildir c.begin.new.self) written_to c.args.stem.now c.args.text.now begun.1.1 added.1)
+          c.settle-2.ensures.fault settled.1),
     )

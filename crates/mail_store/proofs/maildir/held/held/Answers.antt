@@ -1,10 +1,10 @@
-use Rattle.std.proofs.Common.{◌≡◌, ◌∙◌, false, true, List, ℕ, ap, subst, map, Bor, String, Global, string_bytes}
+use Rattle.std.proofs.Common.{◌≡◌, ◌∷◌, ◌++◌, ◌∙◌, false, true, List, ℕ, ap, subst, map, Bor, String, Global, string_bytes}
 use Rattle.std.specs.Prelude.{◌||◌, bytes_eq, IsPermutation}
 use Rattle.std.specs.List.{list_any}
 use Rattle.std.specs.Ordering.{is_eq, nat_cmp}
 use Rattle.std.specs.Cmp.Lexicographic.{slice_cmp}
 use Rattle.mail_store.specs.Maildir.{Maildir, names_of}
-use Rattle.mail_terms.specs.MaildirName.{base}
+use Rattle.mail_store.specs.FileName.{stem}
 use Rattle.mail_store.proofs.HeldLemmas.{flags_found}
 use Rattle.mail_store.specs.Held.{has_text}
 use Rattle.mail_store.proofs.maildir.held.held.Goals as goal
@@ -14,17 +14,19 @@ returns-clause-finds g c = λ k.
     let cur = c.in_ok-cur.ensures.lists k in
     let new = c.in_ok-new.ensures.lists cur.0 in
     let before = g.D.MaildirDisk.maildir c.args.disk.now in
-    let nothing : (q : List ℕ) → has_text c.new-bases.result q ≡ false = λ q.
-    ap (λ (keys : List (Bor (List ℕ))). list_any (λ key. is_eq (slice_cmp nat_cmp q key.now)) keys) c.new-bases.ensures.empty in (
+    let nothing : (q : List ℕ) → has_text c.new-found.result q ≡ false = λ q.
+    ap (λ (keys : List (Bor (List ℕ))). list_any (λ key. is_eq (slice_cmp nat_cmp q key.now)) keys) c.new-found.ensures.empty in (
       new.0,
       (
         flags_found c.args.account.now before c.args.listing.now c.in_ok-flags_of.field-0.items
-            (λ q. has_text c.new-bases.result q) (λ q. has_text c.add_bases.new.bases q) (λ q. has_text c.add_bases-2.new.bases q)
+            (λ q. has_text c.new-found.result q) (λ q. has_text c.add_digits.new.found q) (λ q. has_text c.add_digits-2.new.found q)
             c.in_ok-new.new.items c.in_ok-cur.cur.items nothing
-            (λ q. c.in_ok-add_bases.ensures q
-            ∙ ap (λ (names : List (String Global)). has_text c.new-bases.result q || list_any (λ name. bytes_eq q (base (string_bytes name))) names) c.deref.ensures.value)
-            (λ q. c.in_ok-add_bases-2.ensures q
-            ∙ ap (λ (names : List (String Global)). has_text c.add_bases.new.bases q || list_any (λ name. bytes_eq q (base (string_bytes name))) names) c.deref-2.ensures.value)
+            (λ q. c.in_ok-add_digits.ensures q
+            ∙ ap (λ (names : List (String Global)). has_text c.new-found.result q || list_any (λ name. bytes_eq (c.as_str-digits.result.now ++ 46 ∷ q) (stem (string_bytes name))) names) c.deref.ensures.value
+            ∙ ap (λ (account : List ℕ). has_text c.new-found.result q || list_any (λ name. bytes_eq (account ++ 46 ∷ q) (stem (string_bytes name))) c.in_ok-new.new.items) c.as_str-digits.ensures.text)
+            (λ q. c.in_ok-add_digits-2.ensures q
+            ∙ ap (λ (names : List (String Global)). has_text c.add_digits.new.found q || list_any (λ name. bytes_eq (c.as_str-digits.result.now ++ 46 ∷ q) (stem (string_bytes name))) names) c.deref-2.ensures.value
+            ∙ ap (λ (account : List ℕ). has_text c.add_digits.new.found q || list_any (λ name. bytes_eq (account ++ 46 ∷ q) (stem (string_bytes name))) c.in_ok-cur.cur.items) c.as_str-digits.ensures.text)
             new.1.1 (subst (λ (m : Maildir). IsPermutation (names_of m.in_cur) (map string_bytes c.in_ok-cur.cur.items)) new.1.2 cur.1.1)
             c.in_ok-flags_of.ensures,
         cur.1.2 ∙ new.1.2,

@@ -1,0 +1,156 @@
+-- The files that a folder in memory keeps, as entries.
+use Rattle.std.proofs.Common.{◌≡◌, ℕ, zero, suc, ◌<◌, length, get_or, slice_set, refl, List, [], ◌∷◌, ◌++◌, cond, sym, ap, subst, ◌∙◌, arith, Bool, true, false, Option, Some, None, Result, Ok, Err, inl, inr, String, Global, string_bytes}
+use Rattle.std.specs.Prelude.{HoldsAt, bytes_eq, ◌⊎◌, ◌≢◌, Contains, ◌↔◌, IsTrue, is_some, OnOk, OnErr, option_map}
+use Rattle.std.proofs.lemmas.Slice.Eq.{bytes_eq-Decides}
+use Rattle.std.proofs.lemmas.Bool.{both_ways, false_from_ne_true, true≢false}
+use Rattle.std.proofs.lemmas.List.{map-append, get_or_default}
+use Rattle.std.proofs.lemmas.List.Quantifiers.{all_pairs_push}
+use Rattle.mail_terms.specs.Distinct.{AreDistinct}
+use Rattle.folder_store.specs.declared.memory.Kept.{Kept}
+use Rattle.mail_store.specs.declared.fault.StoreFault.{StoreFault}
+use Rattle.folder_store.specs.FileFolder.{Blob, Directory, Entry, entry, names_in, find, placed, appended, cut, flushed, changed, AppendsTo, CutsTo, FlushesFile}
+use Rattle.folder_store.specs.MemoryFolder.{blob_of, entry_of, entries_of}
+use Rattle.folder_store.proofs.Files.{some_is_not_none}
+use Rattle.folder_store.proofs.PowerLoss.{found}
+
+abbrev pub Pair : Type 0
+Pair = String Global × Kept
+
+not_ahead : (name first : List ℕ) (names : List (List ℕ)) → (Contains names name → ⊥) → bytes_eq name first ≡ false → (k : ℕ) → k < length (first ∷ names)
+    → get_or (first ∷ names) k name ≡ name → ⊥
+not_ahead name first names free apart zero inside is = true≢false (sym ((bytes_eq-Decides name first).1 (sym is)) ∙ apart)
+not_ahead name first names free apart (suc k) inside is = free (k, omega (arith, inside), is)
+
+-- the names once a file has one: the same, or one more that wasn't there
+names_placed : (name : List ℕ) (b : Blob) (es : List Entry)
+    → (names_in (placed name b es) ≡ names_in es) ⊎ ((names_in (placed name b es) ≡ names_in es ++ name ∷ []) × (Contains (names_in es) name → ⊥))
+names_placed name b [] = inr (refl, λ c. absurd (omega (arith, c.1)))
+names_placed name b (e ∷ es) = by (names_placed name b es) (bytes_eq name e.name) refl
+  where
+    by : (names_in (placed name b es) ≡ names_in es) ⊎ ((names_in (placed name b es) ≡ names_in es ++ name ∷ []) × (Contains (names_in es) name → ⊥))
+        → (v : Bool) → bytes_eq name e.name ≡ v
+        → (names_in (cond v (entry name b ∷ es) (e ∷ placed name b es)) ≡ e.name ∷ names_in es)
+        ⊎ ((names_in (cond v (entry name b ∷ es) (e ∷ placed name b es)) ≡ e.name ∷ (names_in es ++ name ∷ [])) × (Contains (e.name ∷ names_in es) name → ⊥))
+    by later true same = inl (ap (λ (n : List ℕ). n ∷ names_in es) ((bytes_eq-Decides name e.name).0 same))
+    by (inl is) false apart = inl (ap (λ (ns : List (List ℕ)). e.name ∷ ns) is)
+    by (inr (is, free)) false apart = inr (ap (λ (ns : List (List ℕ)). e.name ∷ ns) is, λ c. not_ahead name e.name (names_in es) free apart c.0 c.1 c.2)
+
+placed_distinct : (name : List ℕ) (b : Blob) (es : List Entry) → AreDistinct (names_in es) → AreDistinct (names_in (placed name b es))
+placed_distinct name b es h = elim (names_placed name b es) [
+  | inl same ↦ subst (λ (ns : List (List ℕ)). AreDistinct ns) (sym same) h
+  | inr more ↦ subst (λ (ns : List (List ℕ)). AreDistinct ns) (sym more.0)
+      (all_pairs_push (λ a b. a ≢ b) (names_in es) name h
+      (λ k d inside same. more.1 (k, inside, get_or_default (names_in es) k name d inside ∙ same)))
+]
+
+apart_of : (a b : List ℕ) → (b ≡ a → ⊥) → bytes_eq a b ≡ false
+apart_of a b differ = false_from_ne_true (bytes_eq a b) (λ same. differ (sym ((bytes_eq-Decides a b).0 same)))
+
+pub not_found : (files : List Pair) (name : List ℕ) → ((k : ℕ) (d : Pair) → k < length files → string_bytes (get_or files k d).0 ≡ name → ⊥)
+    → find name (entries_of files) ≡ None
+not_found [] name none = refl
+not_found (p ∷ files) name none =
+    ap (λ (v : Bool). cond v (Some (blob_of p.1)) (find name (entries_of files))) (apart_of name (string_bytes p.0) (none 0 p (omega arith)))
+    ∙ not_found files name (λ k d below. none (suc k) d (omega (arith, below)))
+
+pub found_at : (files : List Pair) (name : List ℕ) (i : ℕ) → i < length files → HoldsAt (λ (f : Pair). string_bytes f.0 ≡ name) files i
+    → ((k : ℕ) (d : Pair) → k < i → string_bytes (get_or files k d).0 ≡ name → ⊥) → (x : Pair)
+    → find name (entries_of files) ≡ Some (blob_of (get_or files i x).1)
+found_at [] name i below at first x = absurd (omega (arith, below))
+found_at (p ∷ files) name zero below at first x =
+    ap (λ (v : Bool). cond v (Some (blob_of p.1)) (find name (entries_of files))) ((bytes_eq-Decides name (string_bytes p.0)).1 (sym (at p)))
+found_at (p ∷ files) name (suc i) below at first x =
+    ap (λ (v : Bool). cond v (Some (blob_of p.1)) (find name (entries_of files))) (apart_of name (string_bytes p.0) (first 0 p (omega arith)))
+    ∙ found_at files name i (omega (arith, below)) at (λ k d before. first (suc k) d (omega (arith, before))) x
+
+pub set_placed : (files : List Pair) (name : List ℕ) (i : ℕ) → i < length files → HoldsAt (λ (f : Pair). string_bytes f.0 ≡ name) files i
+    → ((k : ℕ) (d : Pair) → k < i → string_bytes (get_or files k d).0 ≡ name → ⊥) → (q : Pair) → string_bytes q.0 ≡ name
+    → entries_of (slice_set files i q) ≡ placed name (blob_of q.1) (entries_of files)
+set_placed [] name i below at first q named = absurd (omega (arith, below))
+set_placed (p ∷ files) name zero below at first q named =
+    ap (λ (n : List ℕ). entry n (blob_of q.1) ∷ entries_of files) named
+    ∙ ap (λ (v : Bool). cond v (entry name (blob_of q.1) ∷ entries_of files) (entry_of p ∷ placed name (blob_of q.1) (entries_of files)))
+    (sym ((bytes_eq-Decides name (string_bytes p.0)).1 (sym (at p))))
+set_placed (p ∷ files) name (suc i) below at first q named =
+    ap (λ (es : List Entry). entry_of p ∷ es) (set_placed files name i (omega (arith, below)) at (λ k d before. first (suc k) d (omega (arith, before))) q named)
+    ∙ ap (λ (v : Bool). cond v (entry name (blob_of q.1) ∷ entries_of files) (entry_of p ∷ placed name (blob_of q.1) (entries_of files)))
+    (sym (apart_of name (string_bytes p.0) (first 0 p (omega arith))))
+
+placed_new : (name : List ℕ) (b : Blob) (es : List Entry) → find name es ≡ None → placed name b es ≡ es ++ entry name b ∷ []
+placed_new name b [] none = refl
+placed_new name b (e ∷ es) none = by (placed_new name b es) (bytes_eq name e.name) refl
+  where
+    by : (find name es ≡ None → placed name b es ≡ es ++ entry name b ∷ []) → (v : Bool) → bytes_eq name e.name ≡ v
+        → cond v (entry name b ∷ es) (e ∷ placed name b es) ≡ e ∷ (es ++ entry name b ∷ [])
+    by later true same = absurd (some_is_not_none e.blob (find name (e ∷ es)) none (ap (λ (v : Bool). cond v (Some e.blob) (find name es)) same))
+    by later false apart = ap (λ (xs : List Entry). e ∷ xs) (later (sym (ap (λ (v : Bool). cond v (Some e.blob) (find name es)) apart) ∙ none))
+
+pub push_placed : (files : List Pair) (q : Pair) → find (string_bytes q.0) (entries_of files) ≡ None
+    → entries_of (files ++ q ∷ []) ≡ placed (string_bytes q.0) (blob_of q.1) (entries_of files)
+push_placed files q none = map-append entry_of files (q ∷ []) ∙ sym (placed_new (string_bytes q.0) (blob_of q.1) (entries_of files) none)
+
+-- the names stay distinct, whatever `place` answered
+pub place_distinct : {T E : Type 0} (r : Result T E) (old new : List Pair) (name : List ℕ) (b : Blob)
+    → OnOk r (entries_of new ≡ placed name b (entries_of old)) → OnErr r (new ≡ old)
+    → AreDistinct (names_in (entries_of old)) → AreDistinct (names_in (entries_of new))
+place_distinct (Ok x) old new name b ok err h =
+    subst (λ (es : List Entry). AreDistinct (names_in es)) (sym ok) (placed_distinct name b (entries_of old) h)
+place_distinct (Err e) old new name b ok err h = subst (λ (fs : List Pair). AreDistinct (names_in (entries_of fs))) (sym err) h
+
+-- whether a name leads to a file
+found_name : (name : List ℕ) (es : List Entry) (b : Blob) → find name es ≡ Some b → Contains (names_in es) name
+found_name name [] b is = absurd (some_is_not_none b None refl is)
+found_name name (e ∷ es) b is = by (found_name name es b) (bytes_eq name e.name) refl
+  where
+    by : (find name es ≡ Some b → Contains (names_in es) name) → (v : Bool) → bytes_eq name e.name ≡ v → Contains (names_in (e ∷ es)) name
+    by later true same = (0, omega arith, sym ((bytes_eq-Decides name e.name).0 same))
+    by later false apart =
+        let rest = later (sym (ap (λ (v : Bool). cond v (Some e.blob) (find name es)) apart) ∙ is) in (suc rest.0, omega (arith, rest.1), rest.2)
+
+pub has_iff : {A : Type 0} (f : A → Blob) (o : Option A) (b : Bool) (name : List ℕ) (es : List Entry) → b ≡ is_some o → option_map f o ≡ find name es
+    → IsTrue b ↔ Contains (names_in es) name
+has_iff f None b name es e is = (λ t. absurd (both_ways b e t), λ h. absurd (found name es (sym is) h))
+has_iff f (Some x) b name es e is = (λ _. found_name name es (f x) (sym is), λ _. e)
+
+-- what `place` did where the name led to a file
+pub set_seen : (seen files : List Pair) (text name : List ℕ) (i : ℕ) → seen ≡ files → text ≡ name → i < length seen
+    → HoldsAt (λ (f : Pair). string_bytes f.0 ≡ text) seen i → ((k : ℕ) (d : Pair) → k < i → string_bytes (get_or seen k d).0 ≡ text → ⊥)
+    → (now : Pair) → now ≡ get_or files i now → (dest file : Kept) → dest ≡ file
+    → entries_of (slice_set files i (now.0, dest)) ≡ placed name (blob_of file) (entries_of files)
+set_seen seen files text name i e t inside at first now is dest file d =
+    let P : List Pair → Type 0 = λ fs. now ≡ get_or fs i now → entries_of (slice_set fs i (now.0, dest)) ≡ placed name (blob_of file) (entries_of fs) in
+    let Q : List ℕ → Type 0 = λ n. entries_of (slice_set seen i (now.0, dest)) ≡ placed n (blob_of file) (entries_of seen) in
+    let q : Pair = (now.0, dest) in
+    subst P e (λ was. subst Q t (set_placed seen text i inside at first q (ap (λ (p : Pair). string_bytes p.0) was ∙ at now)
+    ∙ ap (λ (k : Kept). placed text (blob_of k) (entries_of seen)) d)) is
+
+pub was_seen : (seen files : List Pair) (text name : List ℕ) (i : ℕ) → seen ≡ files → text ≡ name → i < length seen
+    → HoldsAt (λ (f : Pair). string_bytes f.0 ≡ text) seen i → ((k : ℕ) (d : Pair) → k < i → string_bytes (get_or seen k d).0 ≡ text → ⊥)
+    → (now : Pair) → now ≡ get_or files i now → (was : Kept) → was ≡ now.1
+    → Some (blob_of was) ≡ find name (entries_of files)
+was_seen seen files text name i e t inside at first now is was w =
+    let P : List Pair → Type 0 = λ fs. now ≡ get_or fs i now → Some (blob_of was) ≡ find name (entries_of fs) in
+    let Q : List ℕ → Type 0 = λ n. Some (blob_of was) ≡ find n (entries_of seen) in
+    subst P e (λ told. subst Q t (ap (λ (k : Kept). Some (blob_of k)) w ∙ ap (λ (p : Pair). Some (blob_of p.1)) told
+    ∙ sym (found_at seen text i inside at first now))) is
+
+pub none_seen : (seen files : List Pair) (text name : List ℕ) → seen ≡ files → text ≡ name → find text (entries_of seen) ≡ None → find name (entries_of files) ≡ None
+none_seen seen files text name e t none =
+    subst (λ (fs : List Pair). find name (entries_of fs) ≡ None) e (subst (λ (n : List ℕ). find n (entries_of seen) ≡ None) t none)
+
+-- what `change` did is what the calls promise
+module _ (old new : Directory) (name : List ℕ) (b file : Blob) where
+  pub change_appends : (bytes : List ℕ) (r : Result (Unit {0}) StoreFault) → find name old.entries ≡ Some b → file ≡ appended b bytes
+      → OnOk r (new ≡ changed old name file) → OnErr r (new ≡ old) → AppendsTo old name bytes r new
+  change_appends bytes (Ok done) at is ok err = (b, at, ok ∙ ap (λ (x : Blob). changed old name x) is)
+  change_appends bytes (Err e) at is ok err = inl err
+
+  pub change_cuts : (len : ℕ) (r : Result (Unit {0}) StoreFault) → find name old.entries ≡ Some b → file ≡ cut b len
+      → OnOk r (new ≡ changed old name file) → OnErr r (new ≡ old) → CutsTo old name len r new
+  change_cuts len (Ok done) at is ok err = (b, at, ok ∙ ap (λ (x : Blob). changed old name x) is)
+  change_cuts len (Err e) at is ok err = inl err
+
+  pub change_flushes : (r : Result (Unit {0}) StoreFault) → find name old.entries ≡ Some b → file ≡ flushed b
+      → OnOk r (new ≡ changed old name file) → OnErr r (new ≡ old) → FlushesFile old name r new
+  change_flushes (Ok done) at is ok err = (b, at, ok ∙ ap (λ (x : Blob). changed old name x) is)
+  change_flushes (Err e) at is ok err = inl err

@@ -1,0 +1,164 @@
+-- What a loss of power may leave of a folder, and what each call of a device leaves to it.
+use Rattle.std.specs.Prelude.{◌≡◌, ℕ, ◌≤◌, ◌<◌, ◌/◌, List, [], ◌∷◌, ◌++◌, length, take, map, slice_index, Bool, true, false, Option, Some, None, Result, Ok, Err, ◌⊎◌, OnOk, Vec, String, string_bytes, Contains}
+use Rattle.mail_store.specs.declared.fault.StoreFault.{StoreFault}
+use Rattle.mail_store.specs.declared.maildir.disk.Folder.{Folder}
+use Rattle.mail_store.specs.declared.maildir.disk.Folder.TheVariants.{New, Cur}
+use Rattle.mail_store.specs.Settling.{page_size}
+use Rattle.folder_store.specs.FileFolder.{Directory, Blob, Older, find, content_at, secured, ChangesMade}
+
+-- the byte at a place and all behind it in its page of the file are zeros
+abbrev pub IsZeroFrom : List ℕ → ℕ → Type 0
+IsZeroFrom left i = (j : ℕ) → i ≤ j → j < length left → j / page_size ≡ i / page_size → slice_index left j ≡ 0
+
+-- the byte at a place of what is left of a file: the one in memory, the one on the disk, or zero, as are then
+-- all behind it in its page
+abbrev pub IsByteLeft : List ℕ → List ℕ → List ℕ → ℕ → Type 0
+IsByteLeft content flushed left i =
+    ((i < length content) × (slice_index left i ≡ slice_index content i))
+    ⊎ (((i < length flushed) × (slice_index left i ≡ slice_index flushed i)) ⊎ ((i < length content) × IsZeroFrom left i))
+
+-- what is left of a file of which a part came on the disk: the bytes that were flushed and not cut off since, and
+-- others behind them. It has at most the bytes that it has in memory, or as many as on the disk.
+pub record IsTorn (content flushed : List ℕ) (uncut : ℕ) (left : List ℕ) : Type 0 where
+  pub behind : List ℕ
+  pub kept : left ≡ take uncut content ++ behind
+  pub most : (length left ≤ length content) ⊎ (length left ≡ length flushed)
+  pub each : (i : ℕ) → uncut ≤ i → i < length left → IsByteLeft content flushed left i
+
+-- a loss of power may leave these bytes of a file: those on the disk, those in memory, or a part of each
+abbrev pub IsLeft : Blob → List ℕ → Type 0
+IsLeft b left = (left ≡ b.flushed) ⊎ ((left ≡ b.content) ⊎ IsTorn b.content b.flushed b.uncut left)
+
+-- the same of a name: the file that it leads to, or none
+abbrev pub IsLeftOf : Option Blob → Option (List ℕ) → Type 0
+IsLeftOf (Some b) (Some left) = IsLeft b left
+IsLeftOf (Some b) None = ⊥
+IsLeftOf None (Some left) = ⊥
+IsLeftOf None None = Unit {0}
+
+-- the name led to this, since the names were last flushed
+abbrev pub WasOnce : List Older → List ℕ → Option (List ℕ) → Type 0
+WasOnce [] name left = ⊥
+WasOnce (o ∷ older) name left = ((o.name ≡ name) × IsLeftOf o.was left) ⊎ WasOnce older name left
+
+-- what a loss of power may leave under a name: the bytes of a file, or no file
+abbrev pub MayBe : Directory → List ℕ → Option (List ℕ) → Type 0
+MayBe d name left = IsLeftOf (find name d.entries) left ⊎ WasOnce d.older name left
+
+-- the file, if there is one, is as it was last flushed, and no flush of it was refused
+abbrev pub IsFlushed : Option Blob → Type 0
+IsFlushed None = Unit {0}
+IsFlushed (Some b) = b ≡ secured b.content
+
+-- no flush of the file was refused
+abbrev pub IsSure : Option Blob → Type 0
+IsSure None = Unit {0}
+IsSure (Some b) = b.is_doubted ≡ false
+
+-- what calls see under the name is on the disk
+pub record IsOnDisk (d : Directory) (name : List ℕ) : Type 0 where
+  pub named : d.older ≡ []
+  pub flushed : IsFlushed (find name d.entries)
+
+-- the folder after a loss of power: under each name stands what may, each name by itself, all of it is on the
+-- disk, and no file is being made
+pub record Loses (old new : Directory) : Type 0 where
+  pub is_there : new.is_there ≡ old.is_there
+  pub can_make : new.can_make ≡ old.can_make
+  pub each : (name : List ℕ) → MayBe old name (content_at new name)
+  pub on_disk : (name : List ℕ) → IsOnDisk new name
+  pub made : new.made ≡ None
+
+-- a loss of power leaves this under the name, and nothing else
+abbrev pub Stands : Directory → List ℕ → Option (List ℕ) → Type 0
+Stands d name bytes = (left : Option (List ℕ)) → MayBe d name left → left ≡ bytes
+
+-- a loss of power leaves some file under the name
+abbrev pub StaysNamed : Directory → List ℕ → Type 0
+StaysNamed d name = MayBe d name None → ⊥
+
+-- what calls see under the name outlives a loss of power
+abbrev pub DiskStands : Type 0
+DiskStands = (d : Directory) (name : List ℕ) → IsOnDisk d name → Stands d name (content_at d name)
+
+-- what stands is there after a loss of power
+abbrev pub OutlivesPower : Type 0
+OutlivesPower =
+    (old new : Directory) (name : List ℕ) (bytes : Option (List ℕ)) → Stands old name bytes → Loses old new → content_at new name ≡ bytes
+
+-- a name that stays leads to a file after it
+abbrev pub NamesOutlivePower : Type 0
+NamesOutlivePower = (old new : Directory) (name : List ℕ) → StaysNamed old name → Loses old new → content_at new name ≡ None → ⊥
+
+-- a loss of power is possible in each state
+abbrev pub PowerCanBeLost : Type 0
+PowerCanBeLost = (old : Directory) → (new : Directory) × Loses old new
+
+-- no flush of the file of this name was refused, as far as the device saw; and where it knows that the file is
+-- flushed, the file and the names are on the disk
+pub record IsKnown (is_flushed : Bool) (d : Directory) (name : List ℕ) : Type 0 where
+  pub sure : IsSure (find name d.entries)
+  pub on_disk : is_flushed ≡ true → IsOnDisk d name
+
+-- what is on the disk is known, whether or not the device knows it
+abbrev pub DiskIsKnown : Type 0
+DiskIsKnown = (is_flushed : Bool) (d : Directory) (name : List ℕ) → IsOnDisk d name → IsKnown is_flushed d name
+
+-- `load`, `edges` and `read_at`: what they tell of the file is on the disk
+abbrev pub IsTold : {T : Type 0} → Bool → Directory → List ℕ → Result T StoreFault → Directory → Type 0
+IsTold is_flushed old name r new = OnOk r (IsKnown is_flushed old name → IsOnDisk new name)
+
+-- what is left of a file behind whose bytes others were put: the old ones, and of the new ones each as it is, or zero,
+-- and then so are all behind it in its page of the file
+pub record IsTornBehind (was bytes left : List ℕ) : Type 0 where
+  pub behind : List ℕ
+  pub parts : left ≡ was ++ behind
+  pub most : length left ≤ length (was ++ bytes)
+  pub each : (i : ℕ) → length was ≤ i → i < length left → (slice_index left i ≡ slice_index (was ++ bytes) i) ⊎ IsZeroFrom left i
+
+abbrev pub LeavesBehind : List ℕ → List ℕ → Option (List ℕ) → Type 0
+LeavesBehind was bytes left = (text : List ℕ) × (left ≡ Some text) × IsTornBehind was bytes text
+
+-- `append`: whatever it answers, the old bytes and a part of the new ones are left, and after Ok all
+pub record AppendsForGood {T : Type 0} (old : Directory) (name bytes : List ℕ) (r : Result T StoreFault) (new : Directory) : Type 0 where
+  pub leaves : (was : List ℕ) (left : Option (List ℕ)) → IsOnDisk old name → content_at old name ≡ Some was → MayBe new name left → LeavesBehind was bytes left
+  pub outlives : OnOk r (IsOnDisk old name → IsOnDisk new name)
+
+-- `cut_to`: the old bytes are left, or the first of them, and after Ok only these
+pub record CutsForGood {T : Type 0} (old : Directory) (name : List ℕ) (len : ℕ) (r : Result T StoreFault) (new : Directory) : Type 0 where
+  pub leaves : (was : List ℕ) (left : Option (List ℕ)) → IsOnDisk old name → content_at old name ≡ Some was → MayBe new name left
+      → (left ≡ Some was) ⊎ (left ≡ Some (take len was))
+  pub outlives : OnOk r (IsOnDisk old name → IsOnDisk new name)
+
+-- `replace`: the old file, or none, is left, or the new bytes; after Ok only these, whatever was there before
+pub record ReplacesForGood {T : Type 0} (old : Directory) (name bytes : List ℕ) (r : Result T StoreFault) (new : Directory) : Type 0 where
+  pub leaves : (left : Option (List ℕ)) → IsOnDisk old name → MayBe new name left → (left ≡ content_at old name) ⊎ (left ≡ Some bytes)
+  pub outlives : OnOk r (IsOnDisk new name)
+
+-- a loss of power leaves nothing under a name that it wouldn't have left before
+abbrev pub LeavesNoMore : Directory → Directory → Type 0
+LeavesNoMore old new = (name : List ℕ) (left : Option (List ℕ)) → MayBe new name left → MayBe old name left
+
+-- a file that is made, written or given up changes nothing that a loss of power leaves
+abbrev pub MakingLeaves : Type 0
+MakingLeaves = (old new : Directory) → ChangesMade old new → LeavesNoMore old new
+
+-- the same, but that these bytes may stand under this name
+abbrev pub LeavesBut : Directory → List ℕ → List ℕ → Directory → Type 0
+LeavesBut old title bytes new =
+    (name : List ℕ) (left : Option (List ℕ)) → MayBe new name left → MayBe old name left ⊎ ((name ≡ title) × (left ≡ Some bytes))
+
+-- `settle`: whatever it answers, all that is new is these bytes, whole, under this name, and after Ok they stand there
+pub record SettlesForGood {T : Type 0} (old : Directory) (name bytes : List ℕ) (r : Result T StoreFault) (new : Directory) : Type 0 where
+  pub leaves : LeavesBut old name bytes new
+  pub outlives : OnOk r (Stands new name (Some bytes))
+
+-- the folder of readers
+abbrev pub of_folder : {D : Type 0} → D → D → Folder → D
+of_folder new cur New = new
+of_folder new cur Cur = cur
+
+-- `names`: each name that is told stays
+abbrev pub TellsWhatStays : {A B : Type 0} → Directory → Result (Vec (String A) B) StoreFault → Type 0
+TellsWhatStays d (Ok names) = (name : List ℕ) → Contains (map string_bytes names.items) name → StaysNamed d name
+TellsWhatStays d (Err fault) = Unit {0}

@@ -1,0 +1,34 @@
+//! Laws of what a loss of power leaves of a folder: a function here does nothing, and its contract is
+//! the law.
+
+ghost use Rattle.folder_store.specs.PowerLoss.{DiskIsKnown, DiskStands, MakingLeaves, NamesOutlivePower, OutlivesPower, PowerCanBeLost};
+
+/// Power can be lost in each state of a folder.
+pub fn power_can_be_lost()
+    ensures { PowerCanBeLost }
+{}
+
+/// Of a name whose file is on the disk, a loss of power leaves what calls see.
+pub fn disk_stands()
+    ensures { DiskStands }
+{}
+
+/// What alone a loss of power may leave under a name is there after one.
+pub fn outlives_power()
+    ensures { OutlivesPower }
+{}
+
+/// A name that a loss of power leaves leads to a file after one.
+pub fn names_outlive_power()
+    ensures { NamesOutlivePower }
+{}
+
+/// What is on the disk is known to be there, whether or not a device knows it.
+pub fn disk_is_known()
+    ensures { DiskIsKnown }
+{}
+
+/// What is made and has no name yet adds nothing to what a loss of power may leave.
+pub fn making_leaves()
+    ensures { MakingLeaves }
+{}

@@ -1,0 +1,480 @@
+//! A folder in memory.
+
+ghost use Rattle.std.specs.Prelude.{◌≡◌, ◌≢◌, ◌<◌, ◌++◌, ℕ, [], None, map, length, slice_index_or, string_bytes, HoldsAt, IfNone, IfOk, IfSome, OnErr, OnOk, option_map};
+ghost use Rattle.folder_store.specs.FileFolder.{find, names_in, placed};
+ghost use Rattle.folder_store.specs.MemoryFolder.{MayBeOf, Survive, blob_of, entries_of, entry_of, kept_of, older_of};
+
+use crate::device::FileFolder;
+use crate::reading::{bytes_from, edges_of, put_in_front};
+use mail_store::{Edges, StoreFault};
+use std::alloc::{AllocError, Global};
+use std::marker::Model;
+use std::mem;
+
+/// A file in memory: its bytes, those that were flushed last, and how many of these weren't cut off
+/// since.
+#[derive(Drop)]
+struct Kept {
+    content: Vec<u8>,
+    flushed: Vec<u8>,
+    uncut: usize,
+}
+
+/// What a loss of power leaves of a file that has a name.
+#[derive(Clone, Copy)]
+pub enum Left {
+    /// What calls see.
+    All,
+    /// What was flushed last.
+    Flushed,
+    /// The first so many octets of what calls see, if all that were flushed and not cut off since are
+    /// among them; else what calls see.
+    Front(usize),
+    /// The same, and zeros in the place of the others.
+    Zeros(usize),
+    /// What the name led to before it was changed last, if the names weren't flushed since: a file as
+    /// it was flushed, or none. Else what calls see.
+    Older,
+}
+
+/// A folder in memory. It refuses a call only where memory runs out, or where no file was made.
+#[derive(Drop)]
+pub struct MemoryFolder {
+    alloc: Global,
+    files: Vec<(String, Kept)>,
+    older: Vec<(String, Option<Kept>)>,
+    made: Option<Kept>,
+}
+
+impl Model for MemoryFolder {
+    ghost use Rattle.std.specs.Prelude.{map, option_map, true};
+    ghost use Rattle.mail_terms.specs.Distinct.{AreDistinct};
+    ghost use Rattle.folder_store.specs.FileFolder.{Directory, names_in};
+
+    ghost Value = { Directory };
+
+    ghost use Rattle.folder_store.specs.MemoryFolder.{blob_of, entries_of, older_of};
+
+    ghost view = { λ m. record {
+      is_there = true;
+      can_make = true;
+      entries = entries_of m.files.items;
+      older = map older_of m.older.items;
+      made = option_map blob_of m.made;
+    } };
+
+    ghost invariant = { λ m. AreDistinct (names_in (entries_of m.files.items)) };
+}
+
+/// The place of the file of this name, if there is one.
+fn place_of(files: &[(String, Kept)], name: &str) -> Option<usize>
+    ensures inside { IfSome result (λ i. i < length files.now) }
+    ensures named { IfSome result (λ i. HoldsAt (λ f. string_bytes f.0 ≡ name.now) files.now i) }
+    ensures first { IfSome result (λ i. (k : ℕ) (d : _) → k < i → string_bytes (slice_index_or files.now k d).0 ≢ name.now) }
+    ensures none { IfNone result (find name.now (entries_of files.now) ≡ None) }
+{
+    for (i, file) in files.iter().enumerate() {
+        if file.0.as_str() == name {
+            return Some(i);
+        }
+    }
+    None
+}
+
+/// The names of some files.
+fn names_of(alloc: Global, files: &[(String, Kept)]) -> Result<Vec<String>, AllocError>
+    ensures { IfOk result (λ names. map string_bytes names.items ≡ names_in (entries_of files.now)) }
+{
+    let mut names = Vec::new(alloc);
+    for (name, _) in files {
+        names.push(name.clone()?)?;
+    }
+    Ok(names)
+}
+
+/// The file of this name, if there is one.
+fn kept_at<'a>(files: &'a [(String, Kept)], name: &str) -> Option<&'a Kept>
+    ensures { option_map (λ k. blob_of k.now) result ≡ find name.now (entries_of files.now) }
+{
+    match place_of(files, name) {
+        Some(i) => Some(&files[i].1),
+        None => None,
+    }
+}
+
+/// Gives the name a file, and answers the one that it had.
+fn place(
+    files: &mut Vec<(String, Kept)>,
+    name: String,
+    file: Kept,
+) -> Result<Option<Kept>, AllocError>
+    ensures placed { OnOk result (entries_of files.new.items ≡ placed (string_bytes name) (blob_of file) (entries_of files.old.items)) }
+    ensures was { IfOk result (λ was. option_map blob_of was ≡ find (string_bytes name) (entries_of files.old.items)) }
+    ensures err { OnErr result (files.new.items ≡ files.old.items) }
+{
+    match place_of(files, name.as_str()) {
+        Some(i) => Ok(Some(mem::replace(&mut files[i].1, file))),
+        None => {
+            files.push((name, file))?;
+            Ok(None)
+        }
+    }
+}
+
+/// The place where what a name led to before it was changed last is kept.
+fn place_before(older: &[(String, Option<Kept>)], name: &str) -> Option<usize>
+    ensures inside { IfSome result (λ i. i < length older.now) }
+    ensures named { IfSome result (λ i. HoldsAt (λ o. string_bytes o.0 ≡ name.now) older.now i) }
+{
+    for (i, change) in older.iter().enumerate() {
+        if change.0.as_str() == name {
+            return Some(i);
+        }
+    }
+    None
+}
+
+/// What is left under the name of a file, as the choice says: its bytes, or no file.
+fn bytes_left(
+    file: &(String, Kept),
+    older: &[(String, Option<Kept>)],
+    left: Left,
+) -> Result<Option<Vec<u8>>, AllocError>
+    ensures { IfOk result (λ text. MayBeOf (map older_of older.now) (entry_of file.now) (option_map (λ bytes. bytes.items) text)) }
+{
+    if let Left::Older = left {
+        if let Some(i) = place_before(older, file.0.as_str()) {
+            return match &older[i].1 {
+                Some(was) => Ok(Some(was.left(Left::Flushed)?)),
+                None => Ok(None),
+            };
+        }
+    }
+    Ok(Some(file.1.left(left)?))
+}
+
+/// Puts what is left of a file behind others, on the disk, if it is still there.
+fn keep(
+    left: &mut Vec<(String, Kept)>,
+    file: &(String, Kept),
+    bytes: Option<Vec<u8>>,
+) -> Result<(), AllocError>
+    ensures { OnOk result (entries_of left.new.items
+        ≡ entries_of left.old.items ++ kept_of (string_bytes file.now.0) (option_map (λ bytes. bytes.items) bytes)) }
+{
+    match bytes {
+        Some(bytes) => {
+            left.push((file.0.clone()?, Kept::whole(bytes)?))?;
+            Ok(())
+        }
+        None => Ok(()),
+    }
+}
+
+/// What is left of some files, one by one.
+fn survivors(
+    alloc: Global,
+    files: &[(String, Kept)],
+    older: &[(String, Option<Kept>)],
+    choices: &[Left],
+) -> Result<Vec<(String, Kept)>, AllocError>
+    ensures { IfOk result (λ left. Survive (map older_of older.now) (entries_of files.now) (entries_of left.items)) }
+{
+    let mut left = Vec::new(alloc);
+    for (i, file) in files.iter().enumerate() {
+        let choice = choices.get(i).copied().unwrap_or(Left::All);
+        let bytes = bytes_left(file, older, choice)?;
+        keep(&mut left, file, bytes)?;
+    }
+    Ok(left)
+}
+
+impl Kept {
+    ghost use Rattle.std.specs.Prelude.{IfOk, OnErr, OnOk, ◌≡◌, [], ◌++◌, length, take};
+    ghost use Rattle.folder_store.specs.FileFolder.{appended, cut, empty_blob, flushed, secured};
+    ghost use Rattle.folder_store.specs.PowerLoss.{IsLeft};
+    ghost use Rattle.folder_store.specs.MemoryFolder.{IsZeroed, blob_of};
+
+    fn empty(alloc: Global) -> Kept
+        ensures { blob_of result ≡ empty_blob }
+    {
+        Kept {
+            content: Vec::new(alloc),
+            flushed: Vec::new(alloc),
+            uncut: 0,
+        }
+    }
+
+    fn whole(bytes: Vec<u8>) -> Result<Kept, AllocError>
+        ensures { IfOk result (λ kept. blob_of kept ≡ secured bytes.items) }
+    {
+        let flushed = bytes.clone()?;
+        let uncut = bytes.len();
+        Ok(Kept {
+            content: bytes,
+            flushed,
+            uncut,
+        })
+    }
+
+    fn all(&self) -> Result<Vec<u8>, AllocError>
+        ensures { IfOk result (λ bytes. bytes.items ≡ self.now.content.items) }
+    {
+        self.content.clone()
+    }
+
+    fn front(&self, len: usize) -> Result<Vec<u8>, AllocError>
+        ensures { IfOk result (λ bytes. bytes.items ≡ take len self.now.content.items) }
+    {
+        let mut bytes = self.content.clone()?;
+        bytes.truncate(len);
+        Ok(bytes)
+    }
+
+    // The first bytes, and zeros in the place of the others.
+    fn zeroed(&self, len: usize) -> Result<Vec<u8>, AllocError>
+        ensures { IfOk result (λ bytes. IsZeroed self.now.content.items len bytes.items) }
+    {
+        let size = self.content.len();
+        let mut bytes = self.front(len)?;
+        while bytes.len() < size {
+            bytes.push(0)?;
+        }
+        Ok(bytes)
+    }
+
+    // What is left of the file, as the choice says.
+    fn left(&self, left: Left) -> Result<Vec<u8>, AllocError>
+        ensures { IfOk result (λ bytes. IsLeft (blob_of self.now) bytes.items) }
+    {
+        match left {
+            Left::Flushed => self.flushed.clone(),
+            Left::Front(len) if len >= self.uncut => self.front(len),
+            Left::Zeros(len) if len >= self.uncut => self.zeroed(len),
+            _ => self.all(),
+        }
+    }
+
+    fn appended(&self, bytes: &[u8]) -> Result<Kept, AllocError>
+        ensures { IfOk result (λ kept. blob_of kept ≡ appended (blob_of self.now) bytes.now) }
+    {
+        let mut content = self.content.clone()?;
+        content.extend_from_slice(bytes)?;
+        Ok(Kept {
+            content,
+            flushed: self.flushed.clone()?,
+            uncut: self.uncut,
+        })
+    }
+
+    fn cut(&self, len: usize) -> Result<Kept, AllocError>
+        ensures { IfOk result (λ kept. blob_of kept ≡ cut (blob_of self.now) len) }
+    {
+        let mut content = self.content.clone()?;
+        content.truncate(len);
+        Ok(Kept {
+            content,
+            flushed: self.flushed.clone()?,
+            uncut: len.min(self.uncut),
+        })
+    }
+
+    fn flushed(&self) -> Result<Kept, AllocError>
+        ensures { IfOk result (λ kept. blob_of kept ≡ flushed (blob_of self.now)) }
+    {
+        Ok(Kept {
+            content: self.content.clone()?,
+            flushed: self.content.clone()?,
+            uncut: self.content.len(),
+        })
+    }
+}
+
+impl MemoryFolder {
+    ghost use Rattle.std.specs.Prelude.{[], ◌∷◌, None, true, OnErr, OnOk, IfOk, option_map};
+    ghost use Rattle.folder_store.specs.FileFolder.{changed, find, put_in};
+    ghost use Rattle.folder_store.specs.MemoryFolder.{blob_of};
+    ghost use Rattle.folder_store.specs.PowerLoss.{Loses};
+
+    /// A folder without files.
+    pub fn new(alloc: Global) -> MemoryFolder
+        ensures { result ≡ record { is_there = true; can_make = true; entries = []; older = []; made = None } }
+    {
+        MemoryFolder {
+            alloc,
+            files: Vec::new(alloc),
+            older: Vec::new(alloc),
+            made: None,
+        }
+    }
+
+    /// Loses the power: of each file is left what its choice says, in the order in which the files
+    /// came, and of those without one what calls see. The file that was made is gone. Refused where
+    /// memory runs out: then nothing is lost.
+    pub fn lose_power(&mut self, choices: &[Left]) -> Result<(), StoreFault>
+        ensures ok { OnOk result (Loses self.old self.new) }
+        ensures err { OnErr result (self.new ≡ self.old) }
+    {
+        match survivors(self.alloc, &self.files, &self.older, choices) {
+            Ok(files) => {
+                self.files = files;
+                self.older.clear();
+                self.made = None;
+                Ok(())
+            }
+            Err(_) => Err(StoreFault::Refused),
+        }
+    }
+
+    /// Gives the file of a name other bytes.
+    fn change(&mut self, name: &str, file: Kept) -> Result<(), StoreFault>
+        ensures ok { OnOk result (self.new ≡ changed self.old name.now (blob_of file)) }
+        ensures err { OnErr result (self.new ≡ self.old) }
+    {
+        let Ok(title) = String::from_str(self.alloc, name) else {
+            return Err(StoreFault::Refused);
+        };
+        match place(&mut self.files, title, file) {
+            Ok(_) => Ok(()),
+            Err(_) => Err(StoreFault::Refused),
+        }
+    }
+
+    /// Puts a file under a name, in the place of another, if there is one.
+    fn put_file(&mut self, name: &str, file: Kept) -> Result<(), AllocError>
+        requires { self.old.made ≡ None }
+        ensures ok { OnOk result (self.new ≡ put_in self.old (blob_of file) name.now) }
+        ensures err { OnErr result (self.new ≡ self.old) }
+    {
+        let title = String::from_str(self.alloc, name)?;
+        let link = String::from_str(self.alloc, name)?;
+        self.older.reserve(1)?;
+        let was = place(&mut self.files, title, file)?;
+        self.older.insert(0, (link, was)).unwrap();
+        Ok(())
+    }
+}
+
+impl FileFolder for MemoryFolder {
+    ghost directory = { λ m. m };
+
+    ghost sound = { λ _. Unit {0} };
+
+    fn list(&mut self) -> Result<Vec<String>, StoreFault> {
+        match names_of(self.alloc, &self.files) {
+            Ok(names) => Ok(names),
+            Err(_) => Err(StoreFault::Refused),
+        }
+    }
+
+    fn has(&mut self, name: &str) -> Result<bool, StoreFault> {
+        Ok(kept_at(&self.files, name).is_some())
+    }
+
+    fn make(&mut self, _name: &str) -> Result<(), StoreFault> {
+        self.made = Some(Kept::empty(self.alloc));
+        Ok(())
+    }
+
+    fn write(&mut self, bytes: &[u8]) -> Result<(), StoreFault> {
+        let Some(file) = &self.made else {
+            return Err(StoreFault::Refused);
+        };
+        let Ok(file) = file.appended(bytes) else {
+            return Err(StoreFault::Refused);
+        };
+        self.made = Some(file);
+        Ok(())
+    }
+
+    fn flush_made(&mut self) -> Result<(), StoreFault> {
+        let Some(file) = self.made.take() else {
+            return Err(StoreFault::Refused);
+        };
+        let Ok(file) = file.flushed() else {
+            return Err(StoreFault::Refused);
+        };
+        self.made = Some(file);
+        Ok(())
+    }
+
+    fn put(&mut self, name: &str) -> Result<(), StoreFault> {
+        let Some(file) = self.made.take() else {
+            return Err(StoreFault::Refused);
+        };
+        match self.put_file(name, file) {
+            Ok(()) => Ok(()),
+            Err(_) => Err(StoreFault::Refused),
+        }
+    }
+
+    fn discard(&mut self) {
+        self.made = None;
+    }
+
+    fn read(&mut self, name: &str) -> Result<Vec<u8>, StoreFault> {
+        let Some(file) = kept_at(&self.files, name) else {
+            return Err(StoreFault::Missing);
+        };
+        match file.content.clone() {
+            Ok(bytes) => Ok(bytes),
+            Err(_) => Err(StoreFault::Refused),
+        }
+    }
+
+    fn edges(&mut self, name: &str) -> Result<Edges, StoreFault> {
+        match kept_at(&self.files, name) {
+            Some(file) => Ok(edges_of(file.content.as_slice())),
+            None => Err(StoreFault::Missing),
+        }
+    }
+
+    fn read_at(&mut self, name: &str, start: u64, buf: &mut [u8]) -> Result<usize, StoreFault> {
+        match kept_at(&self.files, name) {
+            Some(file) => Ok(put_in_front(bytes_from(file.content.as_slice(), start), buf)),
+            None => Err(StoreFault::Missing),
+        }
+    }
+
+    fn size(&mut self, name: &str) -> Result<u64, StoreFault> {
+        match kept_at(&self.files, name) {
+            Some(file) => Ok(file.content.len() as u64),
+            None => Err(StoreFault::Missing),
+        }
+    }
+
+    fn append(&mut self, name: &str, bytes: &[u8]) -> Result<(), StoreFault> {
+        let Some(file) = kept_at(&self.files, name) else {
+            return Err(StoreFault::Missing);
+        };
+        match file.appended(bytes) {
+            Ok(file) => self.change(name, file),
+            Err(_) => Err(StoreFault::Refused),
+        }
+    }
+
+    fn cut_to(&mut self, name: &str, len: u64) -> Result<(), StoreFault> {
+        let Some(file) = kept_at(&self.files, name) else {
+            return Err(StoreFault::Missing);
+        };
+        match file.cut(len as usize) {
+            Ok(file) => self.change(name, file),
+            Err(_) => Err(StoreFault::Refused),
+        }
+    }
+
+    fn flush(&mut self, name: &str) -> Result<(), StoreFault> {
+        let Some(file) = kept_at(&self.files, name) else {
+            return Err(StoreFault::Missing);
+        };
+        match file.flushed() {
+            Ok(file) => self.change(name, file),
+            Err(_) => Err(StoreFault::Refused),
+        }
+    }
+
+    fn flush_names(&mut self) -> Result<(), StoreFault> {
+        self.older.clear();
+        Ok(())
+    }
+}
