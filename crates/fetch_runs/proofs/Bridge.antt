@@ -1,4 +1,4 @@
--- A session is a step: what it said and read, and what it left, in one.
+-- A session is a step: what it sent and read, and what it left, together.
 use Rattle.std.proofs.Common.{map, ◌≡◌, ◌⊎◌, inl, inr, ◌-◌, ℕ, Bool, true, false, List, [], ◌∷◌, ◌++◌, Option, Some, Result, Ok, Err, refl, sym, ap, subst, ◌∙◌}
 use Rattle.std.specs.Prelude.{◌↔◌, ◌||◌, bytes_eq, slice_get}
 use Rattle.std.specs.List.{list_any, AllByRecursion}
@@ -65,7 +65,7 @@ id_there items front behind number item at =
     ∙ ap (λ (b : Bool). b || list_any (bytes_eq item.uid) (deleted_by items behind)) ((bytes_eq-Decides item.uid item.uid).1 refl))
     ∙ or_true (list_any (bytes_eq item.uid) (deleted_by items front))
 
-begun_one : (account : List ℕ) (maildir : Maildir) (items : List Item) (tasks : List Task) → AllByRecursion (IsRight account maildir items) tasks → (command : Command)
+pub begun_one : (account : List ℕ) (maildir : Maildir) (items : List Item) (tasks : List Task) → AllByRecursion (IsRight account maildir items) tasks → (command : Command)
     → IsOfTask tasks command → IsBegun items (deleted_by items tasks) command
 begun_one account maildir items tasks right (Dele number) is =
     let at = right_at account maildir items is.0 is.1 (deletes number) (subst (AllByRecursion (IsRight account maildir items)) is.2 right) in
@@ -83,7 +83,7 @@ begun_one account maildir items tasks right Noop is = tt
 begun_one account maildir items tasks right (Top n k) is = tt
 begun_one account maildir items tasks right Quit is = tt
 
-begun_all : (account : List ℕ) (maildir : Maildir) (items : List Item) (tasks : List Task) → AllByRecursion (IsRight account maildir items) tasks → (commands : List Command)
+pub begun_all : (account : List ℕ) (maildir : Maildir) (items : List Item) (tasks : List Task) → AllByRecursion (IsRight account maildir items) tasks → (commands : List Command)
     → AllByRecursion (IsOfTask tasks) commands → AllByRecursion (IsBegun items (deleted_by items tasks)) commands
 begun_all account maildir items tasks right [] all = tt
 begun_all account maildir items tasks right (command ∷ commands) all = (begun_one account maildir items tasks right command all.0, begun_all account maildir items tasks right commands all.1)
@@ -94,17 +94,17 @@ abbrev is_end : Outcome → Bool
 is_end Ended = true
 is_end (WasCut fault) = false
 
-ended_if : (result : Result (Unit {0}) Cut) (outcome : Outcome) → outcome ≡ outcome_of result → (is_ended result ≡ true) ↔ (outcome ≡ Ended)
+pub ended_if : (result : Result (Unit {0}) Cut) (outcome : Outcome) → outcome ≡ outcome_of result → (is_ended result ≡ true) ↔ (outcome ≡ Ended)
 ended_if (Ok done) outcome is = (λ yes'. is, λ ended. refl)
 ended_if (Err cut) outcome is = (λ never. absurd (true≢false (sym never)), λ ended. absurd (true≢false (sym (ap is_end ended) ∙ ap is_end is)))
 
--- ---- both in one
+-- ---- both together
 
 refused_is : (result : Result (Unit {0}) Cut) (outcome : Outcome) → outcome ≡ outcome_of result → RefusedIn result → outcome ≡ WasCut (StoreRefused why.Refused)
 refused_is (Ok done) outcome is never = absurd never
 refused_is (Err cut) outcome is fault = is ∙ ap WasCut fault
 
-unsaved_is : (result : Result (Unit {0}) Cut) (outcome : Outcome) → outcome ≡ outcome_of result → UnsavedIn result → (outcome ≡ WasCut SeenRefused) ⊎ (outcome ≡ WasCut NoMemory)
+pub unsaved_is : (result : Result (Unit {0}) Cut) (outcome : Outcome) → outcome ≡ outcome_of result → UnsavedIn result → (outcome ≡ WasCut SeenRefused) ⊎ (outcome ≡ WasCut NoMemory)
 unsaved_is (Ok done) outcome is never = absurd never
 unsaved_is (Err cut) outcome is (inl fault) = inl (is ∙ ap WasCut fault)
 unsaved_is (Err cut) outcome is (inr fault) = inr (is ∙ ap WasCut fault)

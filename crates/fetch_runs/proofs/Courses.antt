@@ -1,4 +1,4 @@
--- How far a session came behind its listing.
+-- How far a session came after its listing.
 use Rattle.std.proofs.Common.{◌≡◌, inl, inr, ℕ, List, [], ◌∷◌, ◌++◌, map, ◌⊎◌, Result, Ok, Err}
 use Rattle.std.specs.List.{flat_map}
 use Rattle.pop3_wire.specs.Bodies.{Rest}
@@ -13,7 +13,7 @@ use Rattle.pop3_client.specs.Turns.{retr}
 use Rattle.mail_terms.specs.Listing.{Item}
 use Rattle.rc_file.specs.declared.settings.Settings.{Settings}
 use Rattle.mail_store.specs.Maildir.{Maildir}
-use Rattle.mail_store.specs.FileName.{name_of}
+use Rattle.mail_store.specs.FileName.{stem_of}
 use Rattle.mail_store.specs.FlatFile.{Stored}
 use Rattle.fetch_session.specs.declared.fault.Cut.{Cut}
 use Rattle.fetch_session.specs.declared.fault.Fault.{Fault}
@@ -21,12 +21,12 @@ use Rattle.fetch_session.specs.declared.report.Report.{Report}
 use Rattle.fetch_session.specs.declared.report.ReportLine.{ReportLine}
 use Rattle.fetch_session.specs.Task.{Task, stores, rereads, deletes, Done, tasks_of}
 use Rattle.fetch_session.specs.Store.{RefusesText}
-use Rattle.fetch_session.specs.Scene.{Scene, scene, Stops, Does, NotStored}
-use Rattle.fetch_session.specs.Plan.{tasks_ahead, Unprepared, Carried, Carries}
-use Rattle.fetch_session.specs.Session.{Kept, Noted, Dealt, Proceeds, Session}
+use Rattle.fetch_session.specs.Scene.{Scene}
+use Rattle.fetch_session.specs.Session.{Kept, Noted, Session}
+use Rattle.fetch_runs.proofs.Words.{scene, Stops, Does, NotStored, tasks_ahead, Unprepared, Carried, Carries, Dealt, Proceeds}
 
--- the joined listing; the tasks that were brought to their end, whatever became of the record's file; the task that
--- was begun and wasn't, if there is one; and the reply to that, where its text may be stored
+-- the joined listing; the tasks that were completed, whatever happened to the record's file; the task that
+-- was begun and not completed, if there is one; and the reply to that task, if its text may be stored
 pub record Course : Type 0 where
   pub items : List Item
   pub taken : List Done
@@ -45,7 +45,7 @@ pub data Way : Type 0 where
 abbrev pub stored_done : ℕ → List ℕ → WholeReply → Done
 stored_done number uid reply = record { task = stores number uid; replies = reply ∷ [] }
 
--- the reply of a text that the store refused, where its file may be there
+-- the reply with a text that the store refused, if its file may be there
 abbrev pub spare_in : (number : ℕ) (start new : Place) (rest : Rest) (text : List ℕ) (old now : Maildir) (name : List ℕ) (fault : Fault)
     → (rest.spot ≡ AtEnd → Fetched (retr number) start text new) → RefusesText old name rest text fault now → List WholeReply
 spare_in number start new rest text old now name fault whole (inl missing) = []
@@ -54,7 +54,7 @@ spare_in number start new rest text old now name fault whole (inr (is, inr (done
 
 abbrev pub spare_of : (account : List ℕ) (next : Task) (old new : Scene) (cut : Cut) → NotStored account next old new cut → List WholeReply
 spare_of account next old new cut refused =
-    spare_in refused.number old.place new.place refused.rest refused.text old.maildir new.maildir (name_of account refused.uid) cut.fault refused.whole refused.refuses
+    spare_in refused.number old.place new.place refused.rest refused.text old.store.maildir new.store.maildir (stem_of account refused.uid) cut.fault refused.whole refused.refuses
 
 abbrev pub course_stopped : (account : List ℕ) (items : List Item) (dones : List Done) (next : Task) (mid new : Scene) (cut : Cut) → Stops account next mid cut new → Course
 course_stopped account items dones next mid new cut (inl broken) = course items dones [] (next ∷ [])
@@ -119,7 +119,7 @@ found_of course = found_by course.taken ++ flat_map (λ (task : Task). found_in 
 abbrev pub begun_of : Course → List Task
 begun_of course = tasks_of course.taken ++ course.under
 
--- a DELE is the command of one of these tasks, and so is a RETR, of whichever
+-- one of these tasks asks for the DELE; for a RETR there is some task
 abbrev pub IsOfTask : List Task → Command → Type 0
 IsOfTask tasks (Dele number) = (front behind : List Task) × (tasks ≡ front ++ deletes number ∷ behind)
 IsOfTask tasks (Retr number) = (front : List Task) × (task : Task) × (behind : List Task) × (tasks ≡ front ++ task ∷ behind)

@@ -1,5 +1,6 @@
--- What follows from the headline: word for word where nothing is taken away, of what is taken away, and of a program that is stopped.
-use Rattle.std.proofs.Common.{◌≡◌, ◌⊎◌, inl, inr, ℕ, true, false, List, [], ◌∷◌, ◌++◌, refl, sym, ap, subst, ◌∙◌}
+-- What follows from the headline: the sentence word for word if nothing is taken away, what holds of what is
+-- taken away, and a program that is stopped.
+use Rattle.std.proofs.Common.{◌≡◌, ◌⊎◌, inl, inr, ℕ, true, false, List, [], ◌∷◌, ◌++◌, sym, ap, subst, ◌∙◌}
 use Rattle.std.specs.Prelude.{bytes_eq}
 use Rattle.std.specs.List.{AllByRecursion}
 use Rattle.std.proofs.lemmas.Bool.{true≢false, cases_Bool}
@@ -8,7 +9,7 @@ use Rattle.pop3_wire.specs.declared.command.Command.{Command}
 use Rattle.pop3_wire.specs.declared.command.Command.TheVariants.{User, Pass, Stat, UidlAll, UidlOne, ListAll, ListOne, Retr, Dele, Rset, Noop, Top, Quit}
 use Rattle.pop3_wire.specs.World.{Message}
 use Rattle.mail_terms.specs.UniqueId.{is_legal_id, has_id}
-use Rattle.mail_store.specs.FileName.{account_text, is_held, name_of, IsAccountText}
+use Rattle.mail_store.specs.FileName.{account_text, is_held, stem_of, IsAccountText}
 use Rattle.fetch_rules.specs.Record.{Row}
 use Rattle.fetch_session.specs.Record.{KeepsRows}
 use Rattle.fetch_session.specs.Session.{Kept}
@@ -17,7 +18,7 @@ use Rattle.run_law.specs.Accounts.{copies}
 use Rattle.run_law.specs.Runs.{MovesLeaveMail, NothingTakenHoldsExactly}
 use Rattle.run_law.specs.Sessions.{BeginsOne}
 use Rattle.fetch_runs.specs.Steps.{holds}
-use Rattle.fetch_runs.specs.Headline.{World, IsSound, account_of, State, Occasion, Event, Fetched, Moved, Between, Expired, TakenAway, maildrop_at, after_event, state_after, Follows, IsRun, frame_of, situation, contents_of, IsRecorded, HoldsAPrefix, HoldsExactlyAPrefix, IsHeldAfter, IsPastCount, IsForHeld, IsForOneHeld, IsWordForWord, Promised, SaysTheSentence, TakesNoneAway, ReadOnlyNew, IsKept, IsBetween, HasTheSameFiles, Headline, HeadlineWordForWord, StaysAway, NewProcessesAreBetween, StopsAreRuns}
+use Rattle.fetch_runs.specs.Headline.{World, IsSound, account_of, State, Occasion, Event, Fetched, Moved, Between, Expired, TakenAway, maildrop_at, after_event, state_after, Follows, IsRun, frame_of, situation, contents_of, IsRecorded, HoldsAPrefix, HoldsExactlyAPrefix, IsHeldAfter, IsPastCount, IsForHeld, IsForOneHeld, IsWordForWord, Promised, ReadOnlyNew, IsKept, Headline, HeadlineWordForWord, StaysAway, NewProcessesAreBetween, StopsAreRuns}
 use Rattle.fetch_runs.proofs.HeadlineLemmas.{sound_frame, with_rows}
 
 -- ---- one event
@@ -162,8 +163,8 @@ pub new_processes_are_between : NewProcessesAreBetween
 new_processes_are_between world before after same = record {
   record_is = λ rows keeps. subst (λ c. KeepsRows c rows) (sym same.content) keeps;
   mail = λ id legal.
-      ap (λ fs. copies (fs ++ after.maildir.in_new) (name_of (account_of world) id)) same.in_cur
-      ∙ ap (λ fs. copies (before.maildir.in_cur ++ fs) (name_of (account_of world) id)) same.in_new;
+      ap (λ fs. copies (fs ++ after.maildir.in_new) (stem_of (account_of world) id)) same.in_cur
+      ∙ ap (λ fs. copies (before.maildir.in_cur ++ fs) (stem_of (account_of world) id)) same.in_new;
 }
 
 pub stops_are_runs : StopsAreRuns

@@ -56,14 +56,14 @@ holds_prefix laws world state sound is =
 same_item : (a b : Item) → Some a ≡ Some b → a ≡ b
 same_item a b e = cc
 
--- the message that stands where its item does
-message_at : (drop : List Message) (place : ℕ) (item : Item) → slice_get (listing_of drop) place ≡ Some item
+-- the message at the place of its item
+pub message_at : (drop : List Message) (place : ℕ) (item : Item) → slice_get (listing_of drop) place ≡ Some item
     → (message : Message) × (slice_get drop place ≡ Some message) × (item_of message ≡ item)
 message_at [] place item e = absurd cc
 message_at (m ∷ drop) zero item e = (m, refl, same_item (item_of m) item e)
 message_at (m ∷ drop) (suc place) item e = message_at drop place item e
 
-held_in : (P : List ℕ → Type 0) (ids : List (List ℕ)) (id : List ℕ) → AllByRecursion P ids → has_id ids id ≡ true → P id
+pub held_in : (P : List ℕ → Type 0) (ids : List (List ℕ)) (id : List ℕ) → AllByRecursion P ids → has_id ids id ≡ true → P id
 held_in P [] id all is = absurd (true≢false (sym is))
 held_in P (x ∷ ids) id all is = elim (or_cases (bytes_eq id x) (has_id ids id) is) [
   | inl same ↦ subst P (sym ((bytes_eq-Decides id x).0 same)) all.0

@@ -2,6 +2,15 @@ mod Bridge
 mod Courses
 mod EventLemmas
 mod HeadlineLemmas
+mod MboxAdds
+mod MboxBridge
+mod MboxCases
+mod MboxCourses
+mod MboxHeadlineLemmas
+mod MboxPlans
+mod MboxState
+mod MboxTalk
+mod MboxTexts
 mod RunLemmas
 mod StateBuilt
 mod StateCases
@@ -22,3 +31,4 @@ mod TalkReplies
 mod TalkSessions
 mod TalkSpeech
 mod TalkTasks
+mod Words

@@ -1,4 +1,4 @@
--- What a session told the law over runs, from the tasks that it did.
+-- What a session did, as the law over runs takes it, from the tasks that it completed.
 use Rattle.std.proofs.Common.{arith, ◌≡◌, ◌⊎◌, inl, inr, ◌+◌, ℕ, Bool, true, false, List, [], ◌∷◌, ◌++◌, map, take, zip, length, Option, refl, sym, ap, subst, ◌∙◌}
 use Rattle.std.specs.List.{filter, AllByRecursion}
 use Rattle.std.proofs.lemmas.Bool.{true≢false}
@@ -14,7 +14,6 @@ use Rattle.pop3_wire.specs.Reading.{WholeReply}
 use Rattle.fetch_session.specs.Laws.{SteadyFilesKeep, UnsavedFilesKeep}
 use Rattle.fetch_session.specs.Task.{Task, Done, IsAnswered, tasks_of, ids_of, ids_ahead, files_of}
 use Rattle.fetch_session.specs.Record.{KeepsRows}
-use Rattle.fetch_session.specs.Plan.{tasks_ahead}
 use Rattle.fetch_session.specs.Report.{retrieved_in}
 use Rattle.fetch_session.specs.declared.report.ReportLine.{ReportLine}
 use Rattle.run_law.specs.Accounts.{Account}
@@ -24,6 +23,7 @@ use Rattle.fetch_runs.proofs.Courses.{Course, course, found_of, found_by, begun_
 use Rattle.fetch_runs.proofs.StatePlan.{PlansFetchWanted, key, IsRight, Safe, deleted_by, all_front, fetched_ahead, right_ahead, safe_ahead}
 use Rattle.fetch_runs.proofs.StateDone.{number_found, text_found, number_of, texts_by, fetched_first, fetched_all, numbers_first, files_first}
 use Rattle.fetch_runs.proofs.StateMarks.{HeldIsDelivered, ListedHasRow, MarkedIsDelivered, MarkedKeepsRows, FlagsTell, held_settled, marks_by, still_delivered, marked_delivered, ids_are, stored_has_row, held_delivered}
+use Rattle.fetch_runs.proofs.Words.{tasks_ahead}
 
 -- the laws of the crates below that are used
 pub record Laws : Type 0 where
@@ -40,7 +40,7 @@ pub record Laws : Type 0 where
 abbrev pub holds : List Row → Maildir → Account
 holds rows maildir = record { rows = rows; maildir = maildir }
 
--- what of a session the law over runs speaks of
+-- the parts of a session that the law over runs uses
 abbrev pub effect_of : ℕ → Bool → Course → Effect
 effect_of now ended course = record {
   now = now;
@@ -63,7 +63,7 @@ pub record Leads (settings : Settings) (account : List ℕ) (now : ℕ) (ended :
   pub recorded : Records settings account (holds rows maildir) (effect_of now ended course) told.j (holds rows' maildir')
       ⊎ ((rows' ≡ rows) × (found_of course ≡ []) × (begun_of course ≡ []) × (ended ≡ false))
 
--- a list of done tasks, and those behind it
+-- a list of done tasks, and those after it
 pub record Part (tasks : List Task) (dones : List Done) : Type 0 where
   pub rest : List Task
   pub split : tasks ≡ tasks_of dones ++ rest
@@ -79,7 +79,7 @@ module _ (laws : Laws) (settings : Settings) (account : List ℕ) (items : List 
   abbrev messages : List (ℕ × Item)
   messages = wanted settings all_rows items
 
-  -- what is recorded once these were done
+  -- what is recorded after these were done
   abbrev IsRecorded : List Done → List ℕ → Type 0
   IsRecorded dones uid = is_delivered (marked_all all_rows (ids_of dones)) uid ≡ true
 
@@ -88,7 +88,7 @@ module _ (laws : Laws) (settings : Settings) (account : List ℕ) (items : List 
       safe_ahead (IsRecorded dones) settings account items now maildir all_rows (λ uid known. still_delivered laws.marks all_rows (ids_of dones) uid known)
       (λ uid listed held. still_delivered laws.marks all_rows (ids_of dones) uid (held_delivered laws.held laws.flags account maildir items now rows uid listed held))
 
-  right_part : (dones : List Done) → Part tasks dones → AllByRecursion (IsRight account maildir items) (tasks_of dones)
+  pub right_part : (dones : List Done) → Part tasks dones → AllByRecursion (IsRight account maildir items) (tasks_of dones)
   right_part dones part =
       all_front (IsRight account maildir items) (tasks_of dones) part.rest
       (subst (AllByRecursion (IsRight account maildir items)) part.split (right_ahead settings account items now maildir all_rows))
@@ -104,14 +104,14 @@ module _ (laws : Laws) (settings : Settings) (account : List ℕ) (items : List 
   ids_of_keys (q ∷ qs) = ap (λ l. q.1.uid ∷ l) (ids_of_keys qs)
 
   -- the record is the merged one, with the first of the wanted messages marked
-  records_part : (dones : List Done) → Part tasks dones → marked_all all_rows (ids_of dones) ≡ marked_all all_rows (ids_wanted (take (length (found_by dones)) messages))
+  pub records_part : (dones : List Done) → Part tasks dones → marked_all all_rows (ids_of dones) ≡ marked_all all_rows (ids_wanted (take (length (found_by dones)) messages))
   records_part dones part =
       marks_by account maildir items dones all_rows (held_settled laws.flags account maildir items now rows) (right_part dones part)
       ∙ ap (λ (l : List (ℕ × List ℕ)). marked_all all_rows (map (λ (p : ℕ × List ℕ). p.1) l))
       (fetched_first tasks part.rest dones messages (fetched_ahead laws.plans settings account items now maildir all_rows) part.split part.answered)
       ∙ ap (marked_all all_rows) (ids_of_keys (take (length (found_by dones)) messages))
 
-  numbers_part : (dones : List Done) → Part tasks dones → map number_found (found_by dones) ≡ map number_of (take (length (found_by dones)) messages)
+  pub numbers_part : (dones : List Done) → Part tasks dones → map number_found (found_by dones) ≡ map number_of (take (length (found_by dones)) messages)
   numbers_part dones part = numbers_first tasks part.rest dones messages (fetched_ahead laws.plans settings account items now maildir all_rows) part.split part.answered
 
   pub wanted_all : (dones : List Done) → tasks ≡ tasks_of dones → AllByRecursion IsAnswered dones → length (found_by dones) ≡ length messages

@@ -9,7 +9,7 @@ use Rattle.rc_file.specs.declared.settings.Settings.{Settings}
 use Rattle.fetch_rules.specs.Record.{Row, Held, none_open, is_delivered, merged, marked, marked_all}
 use Rattle.mail_store.specs.Maildir.{Maildir, File, file}
 use Rattle.mail_store.specs.FlatFile.{Stored}
-use Rattle.mail_store.specs.FileName.{name_of}
+use Rattle.mail_store.specs.FileName.{stem_of, mail_file}
 use Rattle.mail_store.specs.Held.{flags_of}
 use Rattle.pop3_wire.specs.Reading.{WholeReply}
 use Rattle.pop3_client.specs.Turns.{IsGood, retr}
@@ -18,8 +18,7 @@ use Rattle.fetch_session.specs.declared.fault.Cut.{Cut}
 use Rattle.fetch_session.specs.Task.{Task, says, skips, rereads, deletes, Done, IsAnswered, stores, task_in, tasks_of, ids_in, ids_of, ids_ahead, files_in, files_of, file_from, lines_in, lines_of, delivered}
 use Rattle.fetch_session.specs.Store.{RefusesText, Gained}
 use Rattle.fetch_session.specs.Record.{Keeps, KeepsRows, Steady, Saves}
-use Rattle.fetch_session.specs.Scene.{Scene, Went, AllWent, Fell, Broken, NotStored, Stops, Does}
-use Rattle.fetch_session.specs.Plan.{tasks_ahead}
+use Rattle.fetch_session.specs.Scene.{Scene, Broken}
 use Rattle.fetch_runs.proofs.Courses.{course, stored_done, spare_in, spare_of, course_stopped, course_does, found_in, found_by, found_of}
 use Rattle.fetch_runs.proofs.StatePlan.{Safe, all_on, all_front, deleted_by}
 use Rattle.fetch_runs.proofs.StateMarks.{safe_next, safe_done}
@@ -30,6 +29,8 @@ use Rattle.fetch_session.specs.declared.fault.Why.TheVariants as why
 use Rattle.fetch_session.specs.declared.report.ReportLine.{ReportLine}
 use Rattle.fetch_session.specs.Report.{retrieved_in}
 use Rattle.fetch_runs.proofs.StateDone.{counted_by}
+use Rattle.fetch_session.specs.Target.{Stores}
+use Rattle.fetch_runs.proofs.Words.{Went, AllWent, Fell, NotStored, Stops, Does, tasks_ahead}
 
 -- without a reply nothing was found
 found_none : (task : Task) → found_in task [] ≡ []
@@ -39,14 +40,14 @@ found_none (says turn) = refl
 found_none (skips number size) = refl
 found_none (deletes number) = refl
 
-found_under : (items : List Item) (dones : List Done) (next : Task) → found_of (course items dones [] (next ∷ [])) ≡ found_by dones
+pub found_under : (items : List Item) (dones : List Done) (next : Task) → found_of (course items dones [] (next ∷ [])) ≡ found_by dones
 found_under items dones next = ap (λ (l : List (ℕ × List ℕ)). found_by dones ++ (l ++ [])) (found_none next) ∙ append-nil (found_by dones)
 
 abbrev pub is_ended : Result (Unit {0}) Cut → Bool
 is_ended (Ok done) = true
 is_ended (Err cut) = false
 
--- the store refused a text; the record's file was refused, or memory was wanting for it
+-- the store refused a text; the record's file was refused, or memory ran out for it
 abbrev pub RefusedIn : Result (Unit {0}) Cut → Type 0
 RefusedIn (Ok done) = ⊥
 RefusedIn (Err cut) = cut.fault ≡ StoreRefused why.Refused
@@ -59,7 +60,7 @@ UnsavedIn (Err cut) = (cut.fault ≡ SeenRefused) ⊎ (cut.fault ≡ NoMemory)
 none_is_open : (content : Option (List ℕ)) (rows : List Row) → Keeps content (none_open rows) → KeepsRows content rows
 none_is_open content rows is = (None, is)
 
-unsaved_why : (old : Stored) (was now : Held) (fault : Fault) (new : Stored) → Saves old was now (Err fault) new → (fault ≡ SeenRefused) ⊎ (fault ≡ NoMemory)
+pub unsaved_why : (old : Stored) (was now : Held) (fault : Fault) (new : Stored) → Saves old was now (Err fault) new → (fault ≡ SeenRefused) ⊎ (fault ≡ NoMemory)
 unsaved_why old was now SeenRefused new is = inl refl
 unsaved_why old was now NoMemory new is = inr refl
 unsaved_why old was now ConnectionEnded new never = absurd never
@@ -76,7 +77,7 @@ unsaved_why old was now (StoreRefused why) new never = absurd never
 unsaved_why old was now (BadSeen line) new never = absurd never
 
 module _ (laws : Laws) (settings : Settings) (account : List ℕ) (items : List Item) (now : ℕ) (maildir : Maildir) (rows : List Row) (old : Scene)
-    (same_maildir : old.maildir ≡ maildir) (same_rows : old.rows ≡ merged rows items (flags_of account maildir items) now) (same_lines : old.lines ≡ []) (steady : Steady old.file.content (none_open old.rows)) where
+    (same_maildir : old.store.maildir ≡ maildir) (same_rows : old.rows ≡ merged rows items (flags_of account maildir items) now) (same_lines : old.lines ≡ []) (steady : Steady old.file.content (none_open old.rows)) where
   abbrev all_rows : List Row
   all_rows = merged rows items (flags_of account maildir items) now
 
@@ -87,10 +88,10 @@ module _ (laws : Laws) (settings : Settings) (account : List ℕ) (items : List 
   same_tasks = ap (tasks_ahead settings account items now maildir) same_rows
 
   -- what stood after the tasks that were done
-  new_files : (dones : List Done) (mid : Scene) → Went account dones old mid → mid.maildir.in_new ≡ maildir.in_new ++ files_of account dones
+  new_files : (dones : List Done) (mid : Scene) → Went account dones old mid → mid.store.maildir.in_new ≡ maildir.in_new ++ files_of account dones
   new_files dones mid went = went.stored.in_new ∙ ap (λ (m : Maildir). m.in_new ++ files_of account dones) same_maildir
 
-  cur_files : (dones : List Done) (mid : Scene) → Went account dones old mid → mid.maildir.in_cur ≡ maildir.in_cur
+  cur_files : (dones : List Done) (mid : Scene) → Went account dones old mid → mid.store.maildir.in_cur ≡ maildir.in_cur
   cur_files dones mid went = went.stored.in_cur ∙ ap (λ (m : Maildir). m.in_cur) same_maildir
 
   mid_rows : (dones : List Done) (mid : Scene) → Went account dones old mid → mid.rows ≡ marked_all all_rows (ids_of dones)
@@ -104,9 +105,9 @@ module _ (laws : Laws) (settings : Settings) (account : List ℕ) (items : List 
 
   -- all went well
   all_went : (new : Scene) (went : AllWent account (tasks_ahead settings account items now maildir old.rows) old new)
-      → Leads settings account now true (course items went.dones [] []) rows maildir new.maildir new.file.content new.lines (RefusedIn (Ok tt)) (UnsavedIn (Ok tt))
+      → Leads settings account now true (course items went.dones [] []) rows maildir new.store.maildir new.file.content new.lines (RefusedIn (Ok tt)) (UnsavedIn (Ok tt))
   all_went new went =
-      lead laws settings account items now maildir rows true went.dones [] [] went.dones went.dones new.maildir new.file.content (length (found_by went.dones)) (append-nil (found_by went.dones))
+      lead laws settings account items now maildir rows true went.dones [] [] went.dones went.dones new.store.maildir new.file.content (length (found_by went.dones)) (append-nil (found_by went.dones))
       part part (inl refl) (inl refl) (new_files went.dones new went.went) (cur_files went.dones new went.went) (mid_keeps went.dones new went.went)
       (subst (λ (ts : List Task). AllByRecursion (λ (id : List ℕ). is_delivered (marked_all all_rows (ids_of went.dones)) id ≡ true) (deleted_by items ts)) (sym (append-nil (tasks_of went.dones)))
       (safe_done (λ (id : List ℕ). is_delivered (marked_all all_rows (ids_of went.dones)) id ≡ true) items (tasks_of went.dones) []
@@ -144,18 +145,18 @@ module _ (laws : Laws) (settings : Settings) (account : List ℕ) (items : List 
     not_ended never = absurd (true≢false (sym never))
 
     -- nothing came of the next task
-    stopped_bare : new.maildir.in_new ≡ fell.mid.maildir.in_new → new.maildir.in_cur ≡ fell.mid.maildir.in_cur → new.file ≡ fell.mid.file → new.lines ≡ fell.mid.lines
-        → Leads settings account now false (course items fell.dones [] (fell.next ∷ [])) rows maildir new.maildir new.file.content new.lines (RefusedIn (Err cut)) (UnsavedIn (Err cut))
+    stopped_bare : new.store.maildir.in_new ≡ fell.mid.store.maildir.in_new → new.store.maildir.in_cur ≡ fell.mid.store.maildir.in_cur → new.file ≡ fell.mid.file → new.lines ≡ fell.mid.lines
+        → Leads settings account now false (course items fell.dones [] (fell.next ∷ [])) rows maildir new.store.maildir new.file.content new.lines (RefusedIn (Err cut)) (UnsavedIn (Err cut))
     stopped_bare in_new in_cur file told =
-        lead laws settings account items now maildir rows false fell.dones [] (fell.next ∷ []) fell.dones fell.dones new.maildir new.file.content (length (found_by fell.dones))
+        lead laws settings account items now maildir rows false fell.dones [] (fell.next ∷ []) fell.dones fell.dones new.store.maildir new.file.content (length (found_by fell.dones))
         (found_under items fell.dones fell.next) dones_part dones_part (inl refl) (inl refl)
         (in_new ∙ new_files fell.dones fell.mid fell.went) (in_cur ∙ cur_files fell.dones fell.mid fell.went)
         (subst (λ (s : Stored). KeepsRows s.content (marked_all all_rows (ids_of fell.dones))) (sym file) (mid_keeps fell.dones fell.mid fell.went))
         (begun_next fell.dones dones_recorded) fell.later next_front not_ended
         new.lines (RefusedIn (Err cut)) (UnsavedIn (Err cut)) (ap retrieved_in told ∙ mid_count fell.dones fell.mid fell.went) (λ is. absurd (omega (arith, is))) (λ is. absurd (omega (arith, is)))
 
-    broken_leads : Broken fell.next fell.mid new cut → Leads settings account now false (course items fell.dones [] (fell.next ∷ [])) rows maildir new.maildir new.file.content new.lines (RefusedIn (Err cut)) (UnsavedIn (Err cut))
-    broken_leads broken = stopped_bare (ap (λ (m : Maildir). m.in_new) broken.maildir) (ap (λ (m : Maildir). m.in_cur) broken.maildir) broken.file broken.lines
+    broken_leads : Broken fell.next fell.mid new cut → Leads settings account now false (course items fell.dones [] (fell.next ∷ [])) rows maildir new.store.maildir new.file.content new.lines (RefusedIn (Err cut)) (UnsavedIn (Err cut))
+    broken_leads broken = stopped_bare (ap (λ (s : Stores). s.maildir.in_new) broken.store) (ap (λ (s : Stores). s.maildir.in_cur) broken.store) broken.file broken.lines
 
     -- the next task stored a text
     module _ (number : ℕ) (uid : List ℕ) (reply : WholeReply) (is : fell.next ≡ stores number uid) (answered : AllZip IsGood (retr number ∷ []) (reply ∷ [])) where
@@ -181,7 +182,7 @@ module _ (laws : Laws) (settings : Settings) (account : List ℕ) (items : List 
       one_more : length (found_by fell.dones) + 1 ≡ length (found_by (fell.dones ++ stored_done number uid reply ∷ []))
       one_more = sym (ap (λ (l : List (ℕ × List ℕ)). length l) full_found ∙ length-append (found_by fell.dones) ((number, body_text reply.body) ∷ []))
 
-      full_files : new.maildir.in_new ≡ fell.mid.maildir.in_new ++ file_from account uid reply ∷ [] → new.maildir.in_new ≡ maildir.in_new ++ files_of account (fell.dones ++ stored_done number uid reply ∷ [])
+      full_files : new.store.maildir.in_new ≡ fell.mid.store.maildir.in_new ++ file_from account uid reply ∷ [] → new.store.maildir.in_new ≡ maildir.in_new ++ files_of account (fell.dones ++ stored_done number uid reply ∷ [])
       full_files in_new =
           in_new ∙ ap (λ (l : List File). l ++ file_from account uid reply ∷ []) (new_files fell.dones fell.mid fell.went)
           ∙ append_assoc maildir.in_new (files_of account fell.dones) (file_from account uid reply ∷ [])
@@ -191,10 +192,10 @@ module _ (laws : Laws) (settings : Settings) (account : List ℕ) (items : List 
       full_ids = flat_map-append (λ (d : Done). ids_in d.task) fell.dones (stored_done number uid reply ∷ [])
 
       -- the store refused, and the file is there
-      spare_leads : new.maildir.in_new ≡ fell.mid.maildir.in_new ++ file_from account uid reply ∷ [] → new.maildir.in_cur ≡ fell.mid.maildir.in_cur → new.file ≡ fell.mid.file → new.lines ≡ fell.mid.lines
-          → cut.fault ≡ StoreRefused why.Refused → Leads settings account now false (course items fell.dones (reply ∷ []) (fell.next ∷ [])) rows maildir new.maildir new.file.content new.lines (RefusedIn (Err cut)) (UnsavedIn (Err cut))
+      spare_leads : new.store.maildir.in_new ≡ fell.mid.store.maildir.in_new ++ file_from account uid reply ∷ [] → new.store.maildir.in_cur ≡ fell.mid.store.maildir.in_cur → new.file ≡ fell.mid.file → new.lines ≡ fell.mid.lines
+          → cut.fault ≡ StoreRefused why.Refused → Leads settings account now false (course items fell.dones (reply ∷ []) (fell.next ∷ [])) rows maildir new.store.maildir new.file.content new.lines (RefusedIn (Err cut)) (UnsavedIn (Err cut))
       spare_leads in_new in_cur file told refuses =
-          lead laws settings account items now maildir rows false fell.dones (reply ∷ []) (fell.next ∷ []) (fell.dones ++ stored_done number uid reply ∷ []) fell.dones new.maildir new.file.content
+          lead laws settings account items now maildir rows false fell.dones (reply ∷ []) (fell.next ∷ []) (fell.dones ++ stored_done number uid reply ∷ []) fell.dones new.store.maildir new.file.content
           (length (found_by fell.dones))
           (ap (λ (t : Task). found_by fell.dones ++ (found_in t (reply ∷ []) ++ [])) is ∙ sym full_found) full_part dones_part (inr one_more) (inl refl)
           (full_files in_new) (in_cur ∙ cur_files fell.dones fell.mid fell.went)
@@ -205,12 +206,12 @@ module _ (laws : Laws) (settings : Settings) (account : List ℕ) (items : List 
       -- the file is there, and the record is one of two
       unsaved_leads : (noted : List Done) → Part (tasks_ahead settings account items now maildir (merged rows items (flags_of account maildir items) now)) noted
           → (length (found_by noted) ≡ length (found_by (fell.dones ++ stored_done number uid reply ∷ []))) ⊎ (length (found_by noted) + 1 ≡ length (found_by (fell.dones ++ stored_done number uid reply ∷ [])))
-          → new.maildir.in_new ≡ fell.mid.maildir.in_new ++ file_from account uid reply ∷ [] → new.maildir.in_cur ≡ fell.mid.maildir.in_cur
+          → new.store.maildir.in_new ≡ fell.mid.store.maildir.in_new ++ file_from account uid reply ∷ [] → new.store.maildir.in_cur ≡ fell.mid.store.maildir.in_cur
           → KeepsRows new.file.content (marked_all all_rows (ids_of noted)) → AllByRecursion (λ (id : List ℕ). is_delivered (marked_all all_rows (ids_of noted)) id ≡ true) (ids_ahead (tasks_of fell.dones))
           → new.lines ≡ fell.mid.lines ++ delivered number reply ∷ [] → (length (found_by noted) + 1 ≡ length (found_by (fell.dones ++ stored_done number uid reply ∷ [])) → UnsavedIn (Err cut))
-          → Leads settings account now false (course items (fell.dones ++ stored_done number uid reply ∷ []) [] []) rows maildir new.maildir new.file.content new.lines (RefusedIn (Err cut)) (UnsavedIn (Err cut))
+          → Leads settings account now false (course items (fell.dones ++ stored_done number uid reply ∷ []) [] []) rows maildir new.store.maildir new.file.content new.lines (RefusedIn (Err cut)) (UnsavedIn (Err cut))
       unsaved_leads noted part marks in_new in_cur keeps recorded told less =
-          lead laws settings account items now maildir rows false (fell.dones ++ stored_done number uid reply ∷ []) [] [] (fell.dones ++ stored_done number uid reply ∷ []) noted new.maildir new.file.content
+          lead laws settings account items now maildir rows false (fell.dones ++ stored_done number uid reply ∷ []) [] [] (fell.dones ++ stored_done number uid reply ∷ []) noted new.store.maildir new.file.content
           (length (found_by (fell.dones ++ stored_done number uid reply ∷ []))) (append-nil (found_by (fell.dones ++ stored_done number uid reply ∷ []))) full_part part (inl refl) marks
           (full_files in_new) (in_cur ∙ cur_files fell.dones fell.mid fell.went) keeps
           (subst (λ (ts : List Task). AllByRecursion (λ (id : List ℕ). is_delivered (marked_all all_rows (ids_of noted)) id ≡ true) (deleted_by items ts))
@@ -228,8 +229,8 @@ module _ (laws : Laws) (settings : Settings) (account : List ℕ) (items : List 
       last_mark r [] = refl
       last_mark r (id ∷ ids) = last_mark (marked r id) ids
 
-      not_saved_leads : Saves fell.mid.file (none_open fell.mid.rows) (none_open (marked fell.mid.rows uid)) (Err cut.fault) new.file → Gained fell.mid.maildir new.maildir (file_from account uid reply ∷ []) → new.lines ≡ fell.mid.lines ++ delivered number reply ∷ []
-          → Leads settings account now false (course items (fell.dones ++ stored_done number uid reply ∷ []) [] []) rows maildir new.maildir new.file.content new.lines (RefusedIn (Err cut)) (UnsavedIn (Err cut))
+      not_saved_leads : Saves fell.mid.file (none_open fell.mid.rows) (none_open (marked fell.mid.rows uid)) (Err cut.fault) new.file → Gained fell.mid.store.maildir new.store.maildir (file_from account uid reply ∷ []) → new.lines ≡ fell.mid.lines ++ delivered number reply ∷ []
+          → Leads settings account now false (course items (fell.dones ++ stored_done number uid reply ∷ []) [] []) rows maildir new.store.maildir new.file.content new.lines (RefusedIn (Err cut)) (UnsavedIn (Err cut))
       not_saved_leads saves stored told =
           elim (laws.unsaved fell.mid.file (none_open fell.mid.rows) (none_open (marked fell.mid.rows uid)) cut.fault new.file saves (fell.went.saved steady)) [
             | inl was ↦ unsaved_leads fell.dones dones_part (inr one_more) stored.in_new stored.in_cur
@@ -247,28 +248,28 @@ module _ (laws : Laws) (settings : Settings) (account : List ℕ) (items : List 
 
     -- the store refused a text
     not_stored_leads : (refused : NotStored account fell.next fell.mid new cut)
-        → Leads settings account now false (course items fell.dones (spare_of account fell.next fell.mid new cut refused) (fell.next ∷ [])) rows maildir new.maildir new.file.content new.lines (RefusedIn (Err cut)) (UnsavedIn (Err cut))
+        → Leads settings account now false (course items fell.dones (spare_of account fell.next fell.mid new cut refused) (fell.next ∷ [])) rows maildir new.store.maildir new.file.content new.lines (RefusedIn (Err cut)) (UnsavedIn (Err cut))
     not_stored_leads refused = by refused.refuses
       where
-        by : (refuses : RefusesText fell.mid.maildir (name_of account refused.uid) refused.rest refused.text cut.fault new.maildir)
+        by : (refuses : RefusesText fell.mid.store.maildir (stem_of account refused.uid) refused.rest refused.text cut.fault new.store.maildir)
             → Leads settings account now false
             (course items fell.dones
-            (spare_in refused.number fell.mid.place new.place refused.rest refused.text fell.mid.maildir new.maildir (name_of account refused.uid) cut.fault refused.whole refuses) (fell.next ∷ []))
-            rows maildir new.maildir new.file.content new.lines (RefusedIn (Err cut)) (UnsavedIn (Err cut))
+            (spare_in refused.number fell.mid.place new.place refused.rest refused.text fell.mid.store.maildir new.store.maildir (stem_of account refused.uid) cut.fault refused.whole refuses) (fell.next ∷ []))
+            rows maildir new.store.maildir new.file.content new.lines (RefusedIn (Err cut)) (UnsavedIn (Err cut))
         by (inl missing) = stopped_bare (ap (λ (m : Maildir). m.in_new) missing.2) (ap (λ (m : Maildir). m.in_cur) missing.2) refused.file refused.lines
         by (inr (is, inl same)) = stopped_bare (ap (λ (m : Maildir). m.in_new) same) (ap (λ (m : Maildir). m.in_cur) same) refused.file refused.lines
         by (inr (is, inr (done, there))) =
             let came = refused.whole done in
             spare_leads refused.number refused.uid came.0 refused.is came.1.good
-            (ap (λ (m : Maildir). m.in_new) there ∙ ap (λ (t : List ℕ). fell.mid.maildir.in_new ++ file (name_of account refused.uid) t ∷ []) came.2) (ap (λ (m : Maildir). m.in_cur) there) refused.file refused.lines is
+            (ap (λ (m : Maildir). m.in_new) there ∙ ap (λ (t : List ℕ). fell.mid.store.maildir.in_new ++ mail_file account refused.uid t ∷ []) came.2) (ap (λ (m : Maildir). m.in_cur) there) refused.file refused.lines is
 
     stopped_leads : (stops : Stops account fell.next fell.mid cut new)
-        → Leads settings account now false (course_stopped account items fell.dones fell.next fell.mid new cut stops) rows maildir new.maildir new.file.content new.lines (RefusedIn (Err cut)) (UnsavedIn (Err cut))
+        → Leads settings account now false (course_stopped account items fell.dones fell.next fell.mid new cut stops) rows maildir new.store.maildir new.file.content new.lines (RefusedIn (Err cut)) (UnsavedIn (Err cut))
     stopped_leads (inl broken) = broken_leads broken
     stopped_leads (inr (inl refused)) = not_stored_leads refused
     stopped_leads (inr (inr refused)) = not_saved_leads refused.number refused.uid refused.reply refused.is refused.talked.good refused.saves refused.stored refused.lines
 
   pub does_leads : (result : Result (Unit {0}) Cut) (new : Scene) (does : Does account (tasks_ahead settings account items now maildir old.rows) old result new)
-      → Leads settings account now (is_ended result) (course_does account items (tasks_ahead settings account items now maildir old.rows) old new result does) rows maildir new.maildir new.file.content new.lines (RefusedIn result) (UnsavedIn result)
+      → Leads settings account now (is_ended result) (course_does account items (tasks_ahead settings account items now maildir old.rows) old new result does) rows maildir new.store.maildir new.file.content new.lines (RefusedIn result) (UnsavedIn result)
   does_leads (Ok done) new went = all_went new went
   does_leads (Err cut) new fell = stopped_leads cut new fell fell.stops

@@ -1,12 +1,12 @@
--- What tasks that were done retrieved and stored, against what was wanted.
+-- What tasks that were done retrieved and stored, compared with what was wanted.
 use Rattle.std.proofs.Common.{◌≡◌, ℕ, Bool, true, false, not, cond, List, [], ◌∷◌, ◌++◌, map, take, zip, length, length-append, ◌+◌, refl, sym, ap, subst, ◌∙◌}
 use Rattle.std.specs.List.{filter, AllByRecursion, AllZip}
 use Rattle.std.proofs.lemmas.List.{take_at, take-map, length-map, map-append}
 use Rattle.std.proofs.lemmas.List.Concat.{flat_map-append}
 use Rattle.std.proofs.lemmas.List.Sums.{sum_by-append}
 use Rattle.mail_terms.specs.Listing.{Item}
-use Rattle.mail_store.specs.Maildir.{Maildir, File, file}
-use Rattle.mail_store.specs.FileName.{name_of, is_held}
+use Rattle.mail_store.specs.Maildir.{Maildir, File}
+use Rattle.mail_store.specs.FileName.{is_held, mail_file}
 use Rattle.pop3_wire.specs.Reading.{WholeReply}
 use Rattle.pop3_client.specs.Turns.{IsGood}
 use Rattle.pop3_client.specs.Texts.{body_text}
@@ -53,7 +53,7 @@ numbers_by (d ∷ dones) answered =
 
 -- the file of a fetched message and its text
 abbrev file_at : List ℕ → (ℕ × List ℕ) × List ℕ → File
-file_at account pair = file (name_of account pair.0.1) pair.1
+file_at account pair = mail_file account pair.0.1 pair.1
 
 abbrev is_free : List ℕ → Maildir → (ℕ × List ℕ) × List ℕ → Bool
 is_free account maildir pair = not (is_held account maildir pair.0.1)
@@ -98,11 +98,11 @@ by_messages account maildir (q ∷ qs) (text ∷ texts) = by (is_held account ma
 
     by : (held : Bool) → map (file_at account) keys ≡ map (file_for account) pairs → map (file_at account) (cond (not held) ((key q, text) ∷ keys) keys) ≡ map (file_for account) (cond (not held) ((q, text) ∷ pairs) pairs)
     by true ih = ih
-    by false ih = ap (λ l. file (name_of account q.1.uid) text ∷ l) ih
+    by false ih = ap (λ l. mail_file account q.1.uid text ∷ l) ih
 
--- ---- of a plan that fetches what is wanted, as far as it was done
+-- ---- a plan that fetches what is wanted, as far as it was done
 
-same_length : (dones : List Done) → AllByRecursion IsAnswered dones → length (fetched (tasks_of dones)) ≡ length (found_by dones)
+pub same_length : (dones : List Done) → AllByRecursion IsAnswered dones → length (fetched (tasks_of dones)) ≡ length (found_by dones)
 same_length dones answered =
     sym (length-map (fetched (tasks_of dones)) (λ (p : ℕ × List ℕ). p.0)) ∙ sym (ap (λ (l : List ℕ). length l) (numbers_by dones answered)) ∙ length-map (found_by dones) number_found
 
@@ -114,7 +114,7 @@ fetched_first tasks rest dones messages are split answered =
     ∙ ap (λ (l : List (ℕ × List ℕ)). take (length (found_by dones)) l) (sym (flat_map-append fetched_in (tasks_of dones) rest) ∙ ap fetched (sym split) ∙ are)
     ∙ take-map key (length (found_by dones)) messages
 
--- all of them, where nothing is left to do
+-- all of them, if nothing is left to do
 pub fetched_all : (tasks : List Task) (dones : List Done) (messages : List (ℕ × Item)) → fetched tasks ≡ map key messages → tasks ≡ tasks_of dones
     → AllByRecursion IsAnswered dones → length (found_by dones) ≡ length messages
 fetched_all tasks dones messages are all answered =
@@ -140,7 +140,7 @@ files_first account maildir items tasks rest dones messages are right split answ
     ∙ ap (λ (l : List (ℕ × List ℕ)). map (file_at account) (filter (is_free account maildir) (zip l (texts_by dones)))) (fetched_first tasks rest dones messages are split answered)
     ∙ by_messages account maildir (take (length (found_by dones)) messages) (texts_by dones)
 
--- ---- by the lines that tell of them
+-- ---- by their lines in the report
 
 counted_in : (task : Task) (replies : List WholeReply) → AllZip IsGood (turns_in task) replies → retrieved_in (lines_in task replies) ≡ length (found_in task replies)
 counted_in (stores number uid) [] answered = absurd answered

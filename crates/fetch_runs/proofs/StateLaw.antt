@@ -17,14 +17,16 @@ use Rattle.fetch_session.specs.declared.fault.Fault.TheVariants.{ConnectionEnded
 use Rattle.fetch_session.specs.declared.fault.Why.TheVariants as why
 use Rattle.fetch_session.specs.declared.report.Report.{Report}
 use Rattle.fetch_session.specs.declared.report.ReportLine.{ReportLine}
-use Rattle.fetch_session.specs.Record.{Keeps, KeepsRows, UnreadyCause, IsMergedAtMost}
+use Rattle.fetch_session.specs.Record.{Keeps, KeepsRows}
+use Rattle.fetch_session.specs.Readiness.{UnreadyCause}
 use Rattle.fetch_session.specs.Report.{retrieved_in}
-use Rattle.fetch_session.specs.Scene.{Scene, scene}
-use Rattle.fetch_session.specs.Plan.{tasks_ahead, Unprepared, Carried, Carries}
-use Rattle.fetch_session.specs.Session.{Kept, Noted, Proceeds, Session}
+use Rattle.fetch_session.specs.Scene.{Scene}
+use Rattle.fetch_session.specs.Session.{Keeping, Kept, kept, Noted, Session}
 use Rattle.fetch_runs.proofs.Courses.{Way, Idle, Deals, course, course_carried, course_cut, course_carries, way_proceeded, way_of}
 use Rattle.fetch_runs.proofs.StateBuilt.{Laws, Leads, Part, lead, lead_nothing}
 use Rattle.fetch_runs.proofs.StateCases.{is_ended, RefusedIn, UnsavedIn, does_leads}
+use Rattle.fetch_session.specs.Target.{Stores}
+use Rattle.fetch_runs.proofs.Words.{IsMergedAtMost, scene, tasks_ahead, Unprepared, Carried, Carries, Proceeds}
 
 -- the files are as they were
 abbrev SameFiles : Maildir → Maildir → Type 0
@@ -62,11 +64,11 @@ module _ (laws : Laws) (settings : Settings) (account : List ℕ) (items : List 
 
   -- nothing was planned
   unprepared_leads : (cut : Cut) (new : Scene) → Unprepared account items now place maildir file lines cut new
-      → Leads settings account now false (course items [] [] []) rows maildir new.maildir new.file.content new.lines (RefusedIn (Err cut)) (UnsavedIn (Err cut))
+      → Leads settings account now false (course items [] [] []) rows maildir new.store.maildir new.file.content new.lines (RefusedIn (Err cut)) (UnsavedIn (Err cut))
   unprepared_leads cut new is = by is.unready.content
     where
-      same : SameFiles maildir new.maildir
-      same = unready_files cut.fault maildir file new.maildir new.file is.unready.cause
+      same : SameFiles maildir new.store.maildir
+      same = unready_files cut.fault maildir file new.store.maildir new.file is.unready.cause
 
       nothing : Part (tasks_ahead settings account items now maildir (merged rows items (flags_of account maildir items) now)) []
       nothing = record { rest = tasks_ahead settings account items now maildir (merged rows items (flags_of account maildir items) now); split = refl; answered = tt }
@@ -74,28 +76,28 @@ module _ (laws : Laws) (settings : Settings) (account : List ℕ) (items : List 
       told : retrieved_in new.lines ≡ 0
       told = ap retrieved_in (is.lines_are ∙ no_lines)
 
-      by : IsMergedAtMost account items now maildir file new.file → Leads settings account now false (course items [] [] []) rows maildir new.maildir new.file.content new.lines (RefusedIn (Err cut)) (UnsavedIn (Err cut))
-      by (inl content) = lead_nothing laws settings account items now maildir rows new.maildir new.file.content same.0 same.1 (subst (λ (c : Option (List ℕ)). KeepsRows c rows) (sym content) keeps)
+      by : IsMergedAtMost account items now maildir file new → Leads settings account now false (course items [] [] []) rows maildir new.store.maildir new.file.content new.lines (RefusedIn (Err cut)) (UnsavedIn (Err cut))
+      by (inl content) = lead_nothing laws settings account items now maildir rows new.store.maildir new.file.content same.0 same.1 (subst (λ (c : Option (List ℕ)). KeepsRows c rows) (sym content) keeps)
           new.lines (RefusedIn (Err cut)) (UnsavedIn (Err cut)) told
-      by (inr (was, stood, inl stays)) =
-          lead_nothing laws settings account items now maildir rows new.maildir new.file.content same.0 same.1
+      by (inr (was, stood, settled, inl stays)) =
+          lead_nothing laws settings account items now maildir rows new.store.maildir new.file.content same.0 same.1
           (was.intent, subst (λ (r : List Row). FileStandsFor new.file.content r was.intent) (same_rows was stood) stays)
           new.lines (RefusedIn (Err cut)) (UnsavedIn (Err cut)) told
-      by (inr (was, stood, inr merges)) =
-          lead laws settings account items now maildir rows false [] [] [] [] [] new.maildir new.file.content 0 refl nothing nothing (inl refl) (inl refl)
+      by (inr (was, stood, settled, inr merges)) =
+          lead laws settings account items now maildir rows false [] [] [] [] [] new.store.maildir new.file.content 0 refl nothing nothing (inl refl) (inl refl)
           (same.0 ∙ sym (append-nil maildir.in_new)) same.1
           (None, subst (λ (r : List Row). FileStandsFor new.file.content (merged r items (flags_of account maildir items) now) None) (same_rows was stood) merges) tt (tasks_ahead settings account items now maildir (merged rows items (flags_of account maildir items) now)) refl
           (λ never. absurd (true≢false (sym never))) new.lines (RefusedIn (Err cut)) (UnsavedIn (Err cut)) told (λ never. absurd (omega (arith, never))) (λ never. absurd (omega (arith, never)))
 
   carried_leads : (result : Result (Unit {0}) Cut) (new : Scene) (skipped : ℕ) (is : Carried settings account items now place maildir file lines result new skipped)
-      → Leads settings account now (is_ended result) (course_carried settings account items now place maildir file lines result new skipped is) rows maildir new.maildir new.file.content new.lines (RefusedIn result) (UnsavedIn result)
+      → Leads settings account now (is_ended result) (course_carried settings account items now place maildir file lines result new skipped is) rows maildir new.store.maildir new.file.content new.lines (RefusedIn result) (UnsavedIn result)
   carried_leads result new skipped is =
-      does_leads laws settings account items now maildir rows is.mid is.prepared.maildir_is
+      does_leads laws settings account items now maildir rows is.mid (ap (λ (s : Stores). s.maildir) is.prepared.settles)
       (is.prepared.rows ∙ ap (λ (r : List Row). merged r items (flags_of account maildir items) now) (same_rows is.prepared.was is.prepared.stood)) (is.prepared.lines_are ∙ no_lines) is.prepared.saved result new is.does
 
   cut_leads : (cut : Cut) (new : Scene) (skipped : ℕ)
       (is : ((skipped ≡ 0) × Unprepared account items now place maildir file lines cut new) ⊎ Carried settings account items now place maildir file lines (Err cut) new skipped)
-      → Leads settings account now false (course_cut settings account items now place maildir file lines cut new skipped is) rows maildir new.maildir new.file.content new.lines (RefusedIn (Err cut)) (UnsavedIn (Err cut))
+      → Leads settings account now false (course_cut settings account items now place maildir file lines cut new skipped is) rows maildir new.store.maildir new.file.content new.lines (RefusedIn (Err cut)) (UnsavedIn (Err cut))
   cut_leads cut new skipped (inl is) = unprepared_leads cut new is.1
   cut_leads cut new skipped (inr is) = carried_leads (Err cut) new skipped is
 
@@ -116,8 +118,8 @@ way_leads : (laws : Laws) (settings : Settings) (account : List ℕ) (now : ℕ)
     → WayLeads settings account now result (way_proceeded settings account now old before result new after notes is) rows before after notes.lines
 way_leads laws settings account now old before (Ok done) new after notes rows keeps dealt =
     carries_leads laws settings account dealt.items now dealt.mid before.maildir before.file [] rows keeps refl (Ok done) new after.maildir after.file notes.lines notes.skipped dealt.carries
-way_leads laws settings account now old before (Err cut) new after notes rows keeps (inl stopped) = (refl, stopped.same, ap (λ (n : Noted). n.lines) stopped.nothing)
-way_leads laws settings account now old before (Err cut) new after notes rows keeps (inr (inl wanting)) = (refl, wanting.same, ap (λ (n : Noted). n.lines) wanting.nothing)
+way_leads laws settings account now old before (Err cut) new after notes rows keeps (inl stopped) = (refl, ap (λ (k : Keeping). kept k.store.maildir k.file) stopped.same, ap (λ (n : Noted). n.lines) stopped.nothing)
+way_leads laws settings account now old before (Err cut) new after notes rows keeps (inr (inl wanting)) = (refl, ap (λ (k : Keeping). kept k.store.maildir k.file) wanting.same, ap (λ (n : Noted). n.lines) wanting.nothing)
 way_leads laws settings account now old before (Err cut) new after notes rows keeps (inr (inr dealt)) =
     carries_leads laws settings account dealt.items now dealt.mid before.maildir before.file [] rows keeps refl (Err cut) new after.maildir after.file notes.lines notes.skipped dealt.carries
 

@@ -162,7 +162,7 @@ held_delivered law tell account maildir items now rows uid listed held =
 
 -- ---- deletions
 
--- a task more, whatever it is
+-- one more task of any kind
 pub safe_next : (D : List ℕ → Type 0) (items : List Item) (tasks later : List Task) (next : Task) → Safe D items (tasks ++ next ∷ later) → AllByRecursion D (ids_ahead tasks)
     → AllByRecursion D (deleted_by items (tasks ++ next ∷ []))
 safe_next D items [] later (deletes number) safe all = all_on D (deleted_in items (deletes number)) [] safe.0 tt

@@ -1,4 +1,4 @@
--- The tasks of a plan: what they fetch, whether it is held, and what stands before a deletion.
+-- The tasks of a plan: what they fetch, whether it is held, and what comes before a deletion.
 use Rattle.std.proofs.Common.{◌≡◌, ◌⊎◌, inl, inr, ◌+◌, ◌-◌, ℕ, Bool, true, false, cond, List, [], ◌∷◌, ◌++◌, map, zip, Option, None, Some, refl, sym, ap, subst, ◌∙◌, append_assoc, length, length-append, arith}
 use Rattle.std.specs.Prelude.{◌&&◌, ◌||◌, ◌<◌, bytes_eq, slice_get}
 use Rattle.std.specs.List.{flat_map, filter, AllByRecursion, enumerate_from}
@@ -17,7 +17,7 @@ use Rattle.mail_store.specs.FileName.{is_held}
 use Rattle.mail_store.specs.Held.{flags_of}
 use Rattle.pop3_client.specs.Turns.{quit}
 use Rattle.fetch_session.specs.Task.{Task, says, stores, rereads, deletes, fetching, deleting, tasks_in, tasks_planned}
-use Rattle.fetch_session.specs.Plan.{tasks_ahead}
+use Rattle.fetch_runs.proofs.Words.{tasks_ahead}
 
 abbrev pub second : ℕ × Item → Item
 second message = message.1
@@ -51,14 +51,15 @@ deleted_by items tasks = flat_map (deleted_in items) tasks
 abbrev pub IsAlone : List Item → ℕ × Item → Type 0
 IsAlone items message = (is_first items message && is_last items message) ≡ true
 
--- what a task fetches is listed, and stored only where it isn't held; what it deletes stands at its number, alone with its id
+-- what a task fetches is listed, and is stored only if it isn't held; what it deletes is at its number, and
+-- no other message has its id
 abbrev pub IsRight : List ℕ → Maildir → List Item → Task → Type 0
 IsRight account maildir items (stores number uid) = (is_held account maildir uid ≡ false) × (has_item items uid ≡ true)
 IsRight account maildir items (rereads number uid) = (is_held account maildir uid ≡ true) × (has_item items uid ≡ true)
 IsRight account maildir items (deletes number) = (item : Item) × (slice_get items (number - 1) ≡ Some item) × (0 < number) × IsAlone items (number, item)
 IsRight account maildir items _ = Unit {0}
 
--- whatever is so of each stored id, is so of an id when its message is deleted
+-- what holds of each stored id holds of an id when its message is deleted
 abbrev pub Safe : (List ℕ → Type 0) → List Item → List Task → Type 0
 Safe D items [] = Unit {0}
 Safe D items (stores number uid ∷ tasks) = D uid → Safe D items tasks
@@ -160,7 +161,7 @@ right_by account maildir items false false true n uid size held listed at = (tt,
 right_by account maildir items false true false n uid size held listed at = (tt, tt)
 right_by account maildir items false false false n uid size held listed at = (tt, tt)
 
--- a message stands at its number, which counts from 1, and is listed
+-- a message is at its number, which counts from 1, and is listed
 abbrev IsAt : List Item → ℕ × Item → Type 0
 IsAt items message = (slice_get items (message.0 - 1) ≡ Some message.1) × (has_item items message.1.uid ≡ true) × (0 < message.0)
 
@@ -168,7 +169,7 @@ or_right : (b : Bool) → (b || true) ≡ true
 or_right true = refl
 or_right false = refl
 
--- of a listing with some items before these
+-- an item is at the place after those before it, and is listed
 stands : (front behind : List Item) (item : Item) → (slice_get (front ++ item ∷ behind) (length front) ≡ Some item) × (has_item (front ++ item ∷ behind) item.uid ≡ true)
 stands [] behind item = (refl, ap (λ b. b || has_item behind item.uid) ((bytes_eq-Decides item.uid item.uid).1 refl))
 stands (x ∷ front) behind item =
@@ -198,7 +199,7 @@ right_all account maildir items f same alone (q ∷ qs) at =
     (λ is. subst (λ (n : ℕ). IsRight account maildir items (deletes n)) (sym (same q)) (q.1, at.0.0, at.0.2, alone q is)))
     (right_all account maildir items f same alone qs at.1)
 
--- a message is deleted only where no other has its id
+-- a message is deleted only if no other has its id
 deleted_alone : (settings : Settings) (rows : List Row) (items : List Item) (now : ℕ) (q : ℕ × Item) → (step_of settings rows items now q).delete ≡ true → IsAlone items q
 deleted_alone settings rows items now q is =
     let fetched = has_number (wanted settings rows items) q.0 in
@@ -238,7 +239,7 @@ safe_all D account maildir items f same due held (q ∷ qs) later at safe =
     (λ is. subst (λ (n : ℕ). AllByRecursion D (uids_in (slice_get items (n - 1)))) (sym (same q)) (subst (λ (o : Option Item). AllByRecursion D (uids_in o)) (sym at.0.0) (is, tt)))
     (safe_all D account maildir items f same due held qs later at.1 safe))
 
--- a message is deleted only where it is known or fetched
+-- a message is deleted only if it is known or fetched
 due_known : (settings : Settings) (rows : List Row) (items : List Item) (now : ℕ) (q : ℕ × Item) → (step_of settings rows items now q).delete ≡ true
     → ((step_of settings rows items now q).retrieve ≡ true) ⊎ (is_delivered rows q.1.uid ≡ true)
 due_known settings rows items now q is =
@@ -252,7 +253,7 @@ due_known settings rows items now q is =
       | inr taken ↦ inl taken
     ]
 
--- where what is recorded as delivered after the merge, or is held and listed, is so
+-- a plan is safe for what holds of each id that is recorded as delivered after the merge, or is held and listed
 pub safe_ahead : (D : List ℕ → Type 0) (settings : Settings) (account : List ℕ) (items : List Item) (now : ℕ) (maildir : Maildir) (rows : List Row)
     → ((uid : List ℕ) → is_delivered rows uid ≡ true → D uid) → ((uid : List ℕ) → has_item items uid ≡ true → is_held account maildir uid ≡ true → D uid)
     → Safe D items (tasks_ahead settings account items now maildir rows)

@@ -1,4 +1,4 @@
--- The commands that a conversation's octets tell.
+-- The commands in a conversation's octets.
 use Rattle.std.proofs.Common.{◌≡◌, inl, inr, ◌⊎◌, ℕ, List, [], ◌∷◌, ◌++◌, true, None, Some, refl, sym, ap, subst, ◌∙◌, append_assoc}
 use Rattle.std.specs.List.{flat_map, AllByRecursion}
 use Rattle.std.proofs.lemmas.List.{append-nil}
@@ -38,7 +38,7 @@ pub all_back : {A : Type 0} (P : A → Type 0) (xs ys : List A) → AllByRecursi
 all_back P [] ys all = all
 all_back P (x ∷ xs) ys all = all_back P xs ys all.1
 
--- two lists that are nothing together
+-- two lists that are empty together
 pub both_none : {A : Type 0} (xs ys : List A) → xs ++ ys ≡ [] → (xs ≡ []) × (ys ≡ [])
 both_none [] ys e = (refl, e)
 both_none {A} (x ∷ xs) ys e = absurd (never x (xs ++ ys) e)
@@ -46,7 +46,7 @@ both_none {A} (x ∷ xs) ys e = absurd (never x (xs ++ ys) e)
     never : (a : A) (as' : List A) → a ∷ as' ≡ [] → ⊥
     never a as' is = cc
 
--- of no octets, those of any commands may be begun
+-- if there are no octets, any commands may be next
 pub begins_any : (next : List Command) (part : List ℕ) → part ≡ [] → BeginsNext next part
 begins_any [] part e = e
 begins_any (command ∷ next) part e = (ended (line_of command), ap (λ (l : List ℕ). l ++ ended (line_of command)) (sym e))
@@ -66,7 +66,7 @@ numbers_in [] all = tt
 numbers_in (None ∷ turns) all = numbers_in turns all.1
 numbers_in (Some command ∷ turns) all = (all.0.1, numbers_in turns all.1)
 
--- commands behind others
+-- commands after others
 abbrev asked_behind : (first more : List Command) (octets : List ℕ) → AllByRecursion (λ command. can_be_sent command ≡ true) first → AllByRecursion HasNumbers first → Asked more octets
     → Asked (first ++ more) (octets_of first ++ octets)
 asked_behind first more octets sendable numbers asked = record {
@@ -78,11 +78,11 @@ asked_behind first more octets sendable numbers asked = record {
       ∙ ap (λ (l : List ℕ). l ++ asked.part) (sym (flat_map-append (λ (command : Command). ended (line_of command)) first more));
 }
 
--- octets behind which the next of these commands may have been begun
+-- octets after which the next of these commands may have been begun
 abbrev Spoken : List Command → List Command → List ℕ → Type 0
 Spoken commands next sent = (asked : Asked commands sent) × BeginsNext next asked.part
 
--- of these commands the first may be the one that was begun
+-- the command that was begun may be the first of these
 pub begins_one : (Is : Command → Type 0) (next : List Command) (part : List ℕ) → BeginsNext next part → AllByRecursion Is next → BeginsOne Is part
 begins_one Is [] part none all = inl none
 begins_one Is (command ∷ next) part (unsent, is) all = inr (command, unsent, is, all.0)
@@ -91,7 +91,7 @@ pub begins_of : (Is Other : Command → Type 0) → ((command : Command) → Is 
 begins_of Is Other on part (inl none) = inl none
 begins_of Is Other on part (inr (command, unsent, is, holds)) = inr (command, unsent, is, on command holds)
 
--- the commands that were sent whole: those of the turns that were talked, of the one begun, and of the tail
+-- the commands that were sent whole: those of the completed turns, of the one that was begun, and of the tail
 pub record Commanded (done begun tail : List Turn) (sent : List ℕ) : Type 0 where
   pub ahead : List Command
   pub unsaid : List Command

@@ -19,7 +19,7 @@ use Rattle.mail_terms.specs.declared.listing.ScanRow.{ScanRow}
 use Rattle.rc_file.specs.Settings.{IsValid}
 use Rattle.rc_file.specs.declared.settings.Settings.{Settings}
 use Rattle.fetch_rules.specs.Plan.{planned, step_of}
-use Rattle.mail_store.specs.FileName.{name_of}
+use Rattle.mail_store.specs.FileName.{stem_of}
 use Rattle.mail_store.specs.Maildir.{Maildir}
 use Rattle.mail_store.specs.FlatFile.{Stored}
 use Rattle.pop3_wire.specs.declared.command.Command.TheVariants.{Quit}
@@ -40,9 +40,8 @@ use Rattle.fetch_session.specs.Report.{Reports, is_taken}
 use Rattle.fetch_session.specs.Task.{Task, Done, turns_in, tasks_of, turns_of, lines_in, lines_of, delivered}
 use Rattle.fetch_session.specs.Tail.{tail, Left, turns_in as tail_turns}
 use Rattle.fetch_session.specs.Store.{RefusesText}
-use Rattle.fetch_session.specs.Scene.{Scene, scene, Went, Stops, Does}
-use Rattle.fetch_session.specs.Plan.{tasks_ahead, Carried, Carries}
-use Rattle.fetch_session.specs.Session.{Kept, Noted, Dealt, Proceeds, LeavesLink, outcome_of}
+use Rattle.fetch_session.specs.Scene.{Scene}
+use Rattle.fetch_session.specs.Session.{Kept, Noted, LeavesLink, outcome_of}
 use Rattle.fetch_runs.specs.Conversations.{Conversation, Converses, plan_turns, tail_behind, retrieved_by, CountsTexts, Opens, SpeaksByPlan, SessionsAreConversations}
 use Rattle.fetch_runs.proofs.Courses.{Course, stored_done, spare_in, course_stopped, course_does, course_carried, course_carries, course_dealt, begun_of}
 use Rattle.fetch_runs.proofs.TalkCommands.{commands_in, CanBeSaid, Commanded, commanded, both_none, all_append, all_front, all_back}
@@ -54,6 +53,7 @@ use Rattle.fetch_runs.proofs.TalkOpenings.{Replied, replied, few_items, listed, 
 use Rattle.fetch_runs.proofs.TalkSpeech.{IsTail, silent, is_tail, said_tail, Speaks, spoken}
 use Rattle.fetch_runs.proofs.TalkIdle.{Opens as Opening, opens_all, opens_cut}
 use Rattle.fetch_runs.proofs.TalkSessions.{Dealing, tail_for, dealing, dealing_whole}
+use Rattle.fetch_runs.proofs.Words.{scene, Went, Stops, Does, tasks_ahead, Carried, Carries, Dealt, Proceeds}
 
 -- ---- the lines that were noted are those of the tasks that were taken
 
@@ -85,7 +85,7 @@ module _ (settings : Settings) (account : List ℕ) (items : List Item) (now : �
   lines_carries (Err cut) place' maildir' file' lines' skipped (rows, inl (none, unprepared)) = unprepared.lines_are
   lines_carries (Err cut) place' maildir' file' lines' skipped (rows, inr is) = lines_carried (Err cut) (scene place' maildir' file' rows lines') skipped is
 
--- ---- a text is to spare only where the store refused it
+-- ---- there is a spare text only if the store refused it
 
 abbrev no_replies : List WholeReply
 no_replies = []
@@ -104,7 +104,7 @@ spare_stopped : (account : List ℕ) (items : List Item) (dones : List Done) (ne
     → (course_stopped account items dones next mid new cut stops).spare ≡ reply ∷ [] → cut.fault ≡ StoreRefused Refused
 spare_stopped account items dones next mid new cut (inl broken) reply e = absurd (no_spare reply e)
 spare_stopped account items dones next mid new cut (inr (inl refused)) reply e =
-    spare_refused refused.number mid.place new.place refused.rest refused.text mid.maildir new.maildir (name_of account refused.uid) cut.fault refused.whole refused.refuses reply e
+    spare_refused refused.number mid.place new.place refused.rest refused.text mid.store.maildir new.store.maildir (stem_of account refused.uid) cut.fault refused.whole refused.refuses reply e
 spare_stopped account items dones next mid new cut (inr (inr unsaved)) reply e = absurd (no_spare reply e)
 
 -- the store refused a text
@@ -174,7 +174,7 @@ module _ (joining : TurnsJoin) (paced : ConversationsArePaced) (law : FrontsAreA
   abbrev word : List ℕ
   word = string_bytes settings.password
 
-  -- the listing was joined, and this came of it
+  -- if the listing was joined
   by_plan : (c : Course) (items : List Item) (count : ℕ) (uids : List UidRow) (sizes : List ScanRow) (mid : Place) (turns : List Turn) → (opened : Opened name word (at link []) mid count uids sizes)
       → Joins count uids sizes items → length items ≤ 100000 → (by : Dealing settings account items now before.maildir before.file c mid turns link') → IsTail turns → turns ≡ tail_behind report.outcome
       → report.retrieved ≡ count_by is_taken notes.lines → notes.lines ≡ lines_of c.taken → (report.outcome ≡ Ended → (c.under ≡ []) × (by.ahead.0 ≡ []))
@@ -270,7 +270,7 @@ module _ (joining : TurnsJoin) (paced : ConversationsArePaced) (law : FrontsAreA
       (λ e. absurd (not_ended cut.fault (sym tells.outcome_is ∙ e)))
       (λ reply e. tells.outcome_is ∙ spare_carries settings account is.items now is.mid before.maildir before.file (Err cut) new after.maildir after.file notes.lines notes.skipped is.carries reply e)
 
-  -- it wasn't, or nothing was done with it
+  -- if it wasn't, or nothing was done with it
   abbrev Said : Type 0
   Said = (sent got : List ℕ) × (link'.sent ≡ link.sent ++ sent) × (link'.got ≡ link.got ++ got)
       × (Opens settings report sent got ⊎ SpeaksByPlan settings account now before report sent got)

@@ -1,4 +1,4 @@
--- What a link gains behind the opening, for each way that a session's tasks came out.
+-- What a link gains after the opening, for each way in which a session's tasks may end.
 use Rattle.std.proofs.Common.{◌≡◌, inl, inr, ◌⊎◌, ℕ, List, [], ◌∷◌, ◌++◌, Option, None, Some, Result, refl, sym, ap, subst, ◌∙◌}
 use Rattle.std.specs.List.{flat_map, AllByRecursion}
 use Rattle.std.proofs.lemmas.List.{append-nil, map-append}
@@ -15,22 +15,24 @@ use Rattle.pop3_client.specs.Turns.{Turn, retr}
 use Rattle.pop3_client.specs.Conversation.{Talked, Talks, ConversationsArePaced}
 use Rattle.pop3_client.specs.Texts.{body_text}
 use Rattle.mail_terms.specs.Listing.{Item}
-use Rattle.mail_store.specs.FileName.{name_of}
+use Rattle.mail_store.specs.FileName.{stem_of}
 use Rattle.run_law.specs.Readings.{Retrieves}
 use Rattle.fetch_session.specs.declared.fault.Cut.{Cut}
 use Rattle.fetch_session.specs.declared.fault.Fault.{Fault}
 use Rattle.fetch_session.specs.Task.{Task, stores, Done, task_in, turns_in, tasks_of, turns_of, replies_of, IsAnswered}
 use Rattle.fetch_session.specs.Store.{RefusesText}
 use Rattle.fetch_session.specs.Tail.{tail, LeftBy, Left, turns_in as tail_turns}
-use Rattle.fetch_session.specs.Scene.{Scene, Went, Stops, Broken, NotStored, NotSaved}
+use Rattle.fetch_session.specs.Scene.{Scene, Broken}
 use Rattle.fetch_session.specs.Laws.{TurnsJoin}
 use Rattle.fetch_runs.proofs.Courses.{Course, course, course_stopped, stored_done, spare_in, found_in, found_by, found_of, begun_of}
 use Rattle.fetch_runs.proofs.TalkParts.{Goes, Fronted, fronted, goes_tail, goes_nothing, goes_broke, goes_under}
 use Rattle.fetch_runs.proofs.TalkCommands.{commands_in, all_append, all_front, all_back}
 use Rattle.fetch_runs.proofs.TalkReplies.{IsPlain, commands_on, text_read, dones_read, nothing_found}
 use Rattle.fetch_runs.proofs.TalkTasks.{turns_on}
+use Rattle.fetch_runs.proofs.Words.{Went, Stops, NotStored, NotSaved}
 
--- the turns behind the opening that were talked, one that was begun, and what the link gained by them and the tail
+-- the turns that were completed after the opening, one that was begun, and what the link gained by them and
+-- the tail
 pub record Took (c : Course) (start : Place) (tail : List Turn) (link : Link) : Type 0 where
   pub done : List Turn
   pub replies : List WholeReply
@@ -58,7 +60,7 @@ read_dones dones others none plain each more =
 
 module _ (joining : TurnsJoin) (paced : ConversationsArePaced) (items : List Item) where
   -- the next turn was begun, and its text isn't stored
-  begun_next : (dones : List Done) (next : Task) (turn : Turn) (tail : List Turn) (first there : Place) (link : Link) → turns_in next ≡ turn ∷ []
+  pub begun_next : (dones : List Done) (next : Task) (turn : Turn) (tail : List Turn) (first there : Place) (link : Link) → turns_in next ≡ turn ∷ []
       → Talked (turns_of dones) (replies_of dones) first there → AllByRecursion IsPlain (tasks_of dones) → AllByRecursion IsAnswered dones → Goes (turn ∷ []) tail there.link link
       → Took (course items dones [] (next ∷ [])) first tail link
   begun_next dones next turn tail first there link takes talked plain each goes = record {
@@ -76,7 +78,7 @@ module _ (joining : TurnsJoin) (paced : ConversationsArePaced) (items : List Ite
     whole = λ none. absurd (cons_nil next [] none);
   }
 
-  took_broken : (dones : List Done) (next : Task) (first mid new : Scene) (cut : Cut) (last : Place) → Talked (turns_of dones) (replies_of dones) first.place mid.place
+  pub took_broken : (dones : List Done) (next : Task) (first mid new : Scene) (cut : Cut) (last : Place) → Talked (turns_of dones) (replies_of dones) first.place mid.place
       → AllByRecursion IsPlain (tasks_of dones) → AllByRecursion IsAnswered dones → Broken next mid new cut → Left cut new.place last
       → Took (course items dones [] (next ∷ [])) first.place (tail_turns (tail cut.fault)) last.link
   took_broken dones next first mid new cut last talked plain each broken left =
@@ -92,7 +94,7 @@ module _ (joining : TurnsJoin) (paced : ConversationsArePaced) (items : List Ite
       ended = fronted paced (tail_turns (tail cut.fault)) new.place last said.0 said.1
 
   -- the text was read to its end, and the store refused it
-  with_spare : (dones : List Done) (next : Task) (number : ℕ) (uid : List ℕ) (reply : WholeReply) (tail : List Turn) (first mid there : Place) (link : Link) → next ≡ stores number uid
+  pub with_spare : (dones : List Done) (next : Task) (number : ℕ) (uid : List ℕ) (reply : WholeReply) (tail : List Turn) (first mid there : Place) (link : Link) → next ≡ stores number uid
       → Talked (turns_of dones) (replies_of dones) first mid → Talked (retr number ∷ []) (reply ∷ []) mid there → AllByRecursion IsPlain (tasks_of dones) → AllByRecursion IsAnswered dones
       → Goes [] tail there.link link → Took (course items dones (reply ∷ []) (next ∷ [])) first tail link
   with_spare dones next number uid reply tail first mid there link is talked fetched plain each goes = record {
@@ -115,8 +117,8 @@ module _ (joining : TurnsJoin) (paced : ConversationsArePaced) (items : List Ite
 
   took_refused : (account : List ℕ) (dones : List Done) (next : Task) (first mid new : Scene) (cut : Cut) (last : Place) → Talked (turns_of dones) (replies_of dones) first.place mid.place
       → AllByRecursion IsPlain (tasks_of dones) → AllByRecursion IsAnswered dones → (refused : NotStored account next mid new cut) → Left cut new.place last
-      → (refuses : RefusesText mid.maildir (name_of account refused.uid) refused.rest refused.text cut.fault new.maildir)
-      → Took (course items dones (spare_in refused.number mid.place new.place refused.rest refused.text mid.maildir new.maildir (name_of account refused.uid) cut.fault refused.whole refuses) (next ∷ []))
+      → (refuses : RefusesText mid.store.maildir (stem_of account refused.uid) refused.rest refused.text cut.fault new.store.maildir)
+      → Took (course items dones (spare_in refused.number mid.place new.place refused.rest refused.text mid.store.maildir new.store.maildir (stem_of account refused.uid) cut.fault refused.whole refuses) (next ∷ []))
       first.place (tail_turns (tail cut.fault)) last.link
   took_refused account dones next first mid new cut last talked plain each refused left refuses = by refuses
     where
@@ -136,15 +138,15 @@ module _ (joining : TurnsJoin) (paced : ConversationsArePaced) (items : List Ite
           with_spare dones next refused.number refused.uid whole.0 (tail_turns (tail cut.fault)) first.place mid.place new.place last.link refused.is talked whole.1 plain each
           (goes_tail (tail_turns (tail cut.fault)) new.place.link last.link (fronted paced (tail_turns (tail cut.fault)) new.place last said.0 said.1))
 
-      by : (refuses : RefusesText mid.maildir (name_of account refused.uid) refused.rest refused.text cut.fault new.maildir)
-          → Took (course items dones (spare_in refused.number mid.place new.place refused.rest refused.text mid.maildir new.maildir (name_of account refused.uid) cut.fault refused.whole refuses) (next ∷ []))
+      by : (refuses : RefusesText mid.store.maildir (stem_of account refused.uid) refused.rest refused.text cut.fault new.store.maildir)
+          → Took (course items dones (spare_in refused.number mid.place new.place refused.rest refused.text mid.store.maildir new.store.maildir (stem_of account refused.uid) cut.fault refused.whole refuses) (next ∷ []))
           first.place (tail_turns (tail cut.fault)) last.link
       by (inl missing) = under
       by (inr (is, inl same)) = under
       by (inr (is, inr (done, there))) = spare done
 
   -- all that was begun was done
-  all_done : (dones : List Done) (tail : List Turn) (first there : Place) (link : Link) → Talked (turns_of dones) (replies_of dones) first there → AllByRecursion IsPlain (tasks_of dones)
+  pub all_done : (dones : List Done) (tail : List Turn) (first there : Place) (link : Link) → Talked (turns_of dones) (replies_of dones) first there → AllByRecursion IsPlain (tasks_of dones)
       → AllByRecursion IsAnswered dones → Goes [] tail there.link link → Took (course items dones [] []) first tail link
   all_done dones tail first there link talked plain each goes = record {
     done = turns_of dones;

@@ -1,4 +1,4 @@
--- The commands of a conversation are a front of the plan's, and a tail.
+-- The commands of a conversation are a prefix of the plan's, and a tail.
 use Rattle.std.proofs.Common.{◌≡◌, inl, inr, ℕ, List, [], ◌∷◌, ◌++◌, map, Some, refl, sym, ap, ◌∙◌, append_assoc}
 use Rattle.pop3_wire.specs.declared.command.Command.{Command}
 use Rattle.pop3_wire.specs.declared.command.Command.TheVariants.{Rset, Quit}

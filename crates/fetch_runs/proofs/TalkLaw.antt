@@ -20,7 +20,7 @@ use Rattle.fetch_session.specs.Laws.{TurnsJoin}
 use Rattle.fetch_session.specs.Fault.{fault_of}
 use Rattle.fetch_session.specs.declared.report.Report.{Report}
 use Rattle.fetch_session.specs.Tail.{tail, Left, turns_in as tail_turns}
-use Rattle.fetch_session.specs.Session.{Kept, Noted, Dealt, NotEntered, NoRoom, Proceeds, LeavesLink, Session}
+use Rattle.fetch_session.specs.Session.{Kept, Noted, LeavesLink, Session}
 use Rattle.fetch_runs.proofs.Courses.{Course, Way, Idle, Deals, course_dealt, way_proceeded, way_of, begun_of, IsOfTask}
 use Rattle.fetch_runs.proofs.TalkCommands.{all_front}
 use Rattle.fetch_runs.proofs.TalkReplies.{IsPlain}
@@ -29,8 +29,9 @@ use Rattle.fetch_runs.proofs.TalkOpenings.{replied, few_items}
 use Rattle.fetch_runs.proofs.TalkSpeech.{is_tail, Speaks, spoken}
 use Rattle.fetch_runs.proofs.TalkIdle.{Opens, opens_all, opens_cut, idle_said}
 use Rattle.fetch_runs.proofs.TalkSessions.{Dealing, tail_for, is_tail_for, dealing}
+use Rattle.fetch_runs.proofs.Words.{Dealt, Proceeds, NotEntered, NoRoom}
 
--- what the law over runs takes of what was said and read
+-- what the law over runs takes of what was sent and read
 abbrev pub Tells : Way → List Turn → List ℕ → List ℕ → Type 0
 Tells Idle turns sent got = (commands : List Command) × (asked : Asked commands sent) × AllByRecursion (IsOfTask []) commands × BeginsOne (IsOfTask []) asked.part
 Tells (Deals c) turns sent got = Speaks c turns sent got
@@ -112,7 +113,7 @@ module _ (joining : TurnsJoin) (paced : ConversationsArePaced) (law : FrontsAreA
   proceeded (Err cut) (inr (inl wanting)) leaves = no_room cut wanting leaves
   proceeded (Err cut) (inr (inr is)) leaves = dealt (Err cut) is leaves
 
--- what each session said and read
+-- what each session sent and read
 pub talks : TurnsJoin → ConversationsArePaced → FrontsAreAsked → (settings : Settings) (account : List ℕ) (now : ℕ) (link : Link) (before : Kept) (report : Report) (link' : Link) (after : Kept)
     → IsValid settings → (session : Session settings account now link before report link' after) → Gained (way_of settings account now link before report link' after session) (tail_for session.result) link link'
 talks joining paced law settings account now link before report link' after valid session =

@@ -44,7 +44,7 @@ no_body_in (Some lines) is = absurd is.1
 pub no_body : (hello : WholeReply) → IsGood greeting hello → hello.body ≡ None
 no_body hello good = no_body_in hello.body good.body
 
--- the opening can be said
+-- the opening can be sent
 pub said_opening : (name word : List ℕ) → is_credential name ≡ true → is_credential word ≡ true → AllByRecursion CanBeSaid (opening name word)
 said_opening name word n w = (tt, ((n, tt), ((w, tt), ((refl, tt), ((refl, tt), ((refl, tt), tt))))))
 

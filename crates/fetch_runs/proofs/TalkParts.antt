@@ -1,4 +1,4 @@
--- What a link gains behind turns that were talked.
+-- What a link gains after turns that were completed.
 use Rattle.std.proofs.Common.{◌≡◌, inl, inr, ℕ, List, [], ◌∷◌, ◌++◌, Result, refl, sym, ap, subst, ◌∙◌, append_assoc}
 use Rattle.std.specs.List.{flat_map}
 use Rattle.std.proofs.lemmas.List.{append-nil, append_cancel_left}
@@ -22,7 +22,7 @@ nothing_front (x ∷ front) rest e = absurd (never (front ++ rest) e)
     never : (l : List ℕ) → [] ≡ x ∷ l → ⊥
     never l e = cc
 
--- a front of these turns' octets was sent, and something got
+-- a prefix of these turns' octets was sent, and something was got
 pub record Fronted (turns : List Turn) (old new : Link) : Type 0 where
   pub part : List ℕ
   pub later : List ℕ
@@ -36,7 +36,7 @@ fronted paced turns old new result talks =
     let p = paced turns old new result talks in
     record { part = asking p.done ++ p.part; later = p.front.0; gained = p.gained; split = p.front.1; sent = p.sent; got = p.got }
 
--- what came behind turns that were talked
+-- what came after turns that were completed
 pub record Goes (begun tail : List Turn) (old new : Link) : Type 0 where
   pub gained : List ℕ
   pub got : new.got ≡ old.got ++ gained
@@ -53,7 +53,7 @@ pub goes_nothing : (tail : List Turn) (link : Link) → Goes [] tail link link
 goes_nothing tail link = record { gained = []; got = sym (append-nil link.got); behind = []; sent = sym (append-nil link.sent); way = inl ([], refl) }
 
 -- one turn, whole, and the tail
-goes_whole : (turn : Turn) (tail : List Turn) (old mid new : Link) (gained : List ℕ) → mid.sent ≡ old.sent ++ turn_bytes turn → mid.got ≡ old.got ++ gained → Fronted tail mid new
+pub goes_whole : (turn : Turn) (tail : List Turn) (old mid new : Link) (gained : List ℕ) → mid.sent ≡ old.sent ++ turn_bytes turn → mid.got ≡ old.got ++ gained → Fronted tail mid new
     → Goes (turn ∷ []) tail old new
 goes_whole turn tail old mid new gained sent got f = record {
   gained = gained ++ f.gained;
@@ -74,7 +74,7 @@ goes_part turn tail old mid new front rest split sent got f = record {
   way = inl (rest, append-nil (turn_bytes turn) ∙ split);
 }
 
--- a turn that broke, and the tail that belongs behind its fault
+-- a turn that broke, and the tail for its fault
 pub goes_broke : (turn : Turn) (old mid new : Place) (why : TalkFault) → Broke turn old mid why → Fronted (turns_in (tail (fault_of why))) mid.link new.link
     → Goes (turn ∷ []) (turns_in (tail (fault_of why))) old.link new.link
 goes_broke turn old mid new why (inl (is, said)) f =
@@ -117,7 +117,7 @@ goes_under paced turn tail old new result talks =
       way = under_way turn tail p.done p.rest p.part p.split p.begun p.front.0 p.front.1;
     }
 
--- turns that were talked, and what came behind them
+-- turns that were completed, and what came after them
 pub conversation : (done : List Turn) (replies : List WholeReply) (begun tail : List Turn) (start there : Place) (link : Link) → start.waiting ≡ [] → Talked done replies start there
     → Goes begun tail there.link link
     → (sent got : List ℕ) × (link.sent ≡ start.link.sent ++ sent) × (link.got ≡ start.link.got ++ got) × Conversation done replies begun tail sent got

@@ -17,7 +17,7 @@ use Rattle.fetch_session.specs.Task.{Task, says, skips, stores, rereads, deletes
 use Rattle.fetch_runs.specs.Conversations.{is_retrieval, retrieved_by}
 use Rattle.fetch_runs.proofs.TalkReplies.{IsPlain}
 
--- one step's tasks, and those behind
+-- one step's tasks, and those after them
 step_turns : (retrieve held delete : Bool) (number size : ℕ) (uid : List ℕ) (tasks last : List Task) (commands ends : List Command)
     → flat_map turns_in (tasks ++ last) ≡ map Some (commands ++ ends)
     → flat_map turns_in (((fetching retrieve held number uid size ++ deleting delete number) ++ tasks) ++ last) ≡ map Some (((asked_if retrieve (Retr number) ++ asked_if delete (Dele number)) ++ commands) ++ ends)

@@ -54,7 +54,7 @@ text_body number (Some lines) is = record { lines = lines; content = is.0; whole
 pub text_read : (number : ℕ) (reply : WholeReply) → IsGood (retr number) reply → Body (body_bytes reply.body) (body_text reply.body)
 text_read number reply good = text_body number reply.body good.body
 
--- a task of a plan, whose number is below 2 ^ 32: of turns that store nothing it has QUIT alone
+-- a task as a plan has it: its number is below 2 ^ 32, and a turn for no message is QUIT
 abbrev pub IsPlain : Task → Type 0
 IsPlain (says turn) = turn ≡ quit
 IsPlain (skips number size) = Unit {0}

@@ -1,4 +1,4 @@
--- What each session said and read, as the law over runs takes it.
+-- What each session sent and read, as the law over runs takes it.
 use Rattle.std.proofs.Common.{◌≡◌, ◌≤◌, ◌⊎◌, inl, inr, ℕ, List, [], ◌∷◌, ◌++◌, length, Result, Ok, Err, refl, sym, ap, subst, ◌∙◌, append_assoc}
 use Rattle.std.specs.List.{AllByRecursion}
 use Rattle.std.proofs.lemmas.List.{append-nil, map-append}
@@ -15,8 +15,7 @@ use Rattle.fetch_session.specs.declared.fault.Cut.{Cut}
 use Rattle.fetch_session.specs.declared.report.ReportLine.{ReportLine}
 use Rattle.fetch_session.specs.Task.{Task, stores, Done, task_in, tasks_of}
 use Rattle.fetch_session.specs.Tail.{tail, Left, turns_in as tail_turns}
-use Rattle.fetch_session.specs.Scene.{Scene, scene, Stops, Does}
-use Rattle.fetch_session.specs.Plan.{tasks_ahead, Unprepared, Carried, Carries}
+use Rattle.fetch_session.specs.Scene.{Scene}
 use Rattle.fetch_session.specs.Session.{LeavesLink}
 use Rattle.fetch_runs.specs.Conversations.{AreFound}
 use Rattle.fetch_runs.proofs.Courses.{Course, course, stored_done, course_stopped, course_does, course_carried, course_carries, begun_of}
@@ -26,8 +25,9 @@ use Rattle.fetch_runs.proofs.TalkTasks.{plain_ahead}
 use Rattle.fetch_session.specs.Laws.{TurnsJoin}
 use Rattle.fetch_runs.proofs.TalkCourses.{Took, took_stopped, took_all, took_nothing}
 use Rattle.fetch_runs.proofs.TalkSpeech.{IsTail, is_tail, silent}
+use Rattle.fetch_runs.proofs.Words.{scene, Stops, Does, tasks_ahead, Unprepared, Carried, Carries}
 
--- the turns behind a session up to its QUIT, or to where it was cut
+-- the turns after a session that ended or was cut
 abbrev pub tail_for : Result (Unit {0}) Cut → List Turn
 tail_for (Ok done) = []
 tail_for (Err cut) = tail_turns (tail cut.fault)
@@ -36,7 +36,7 @@ pub is_tail_for : (result : Result (Unit {0}) Cut) → IsTail (tail_for result)
 is_tail_for (Ok done) = silent
 is_tail_for (Err cut) = is_tail cut.fault
 
--- a course of these messages is a front of these tasks
+-- a course of these messages is a prefix of these tasks
 abbrev pub Ahead : List Item → List Task → Course → Type 0
 Ahead items tasks c = (later : List Task) × (c.items ≡ items) × (tasks ≡ begun_of c ++ later)
 
@@ -56,7 +56,7 @@ ahead_does : (account : List ℕ) (items : List Item) (tasks : List Task) (old n
 ahead_does account items tasks old new (Ok done) went = ([], refl, went.all ∙ sym (append-nil (tasks_of went.dones)) ∙ sym (append-nil (tasks_of went.dones ++ [])))
 ahead_does account items tasks old new (Err cut) fell = ahead_stopped account items tasks fell.later fell.dones fell.next fell.mid new cut fell.split fell.stops
 
--- what the link gained by a course that is a front of the planned tasks
+-- what the link gained by a course that is a prefix of the planned tasks
 pub record Dealing (settings : Settings) (account : List ℕ) (items : List Item) (now : ℕ) (maildir : Maildir) (file : Stored) (c : Course) (start : Place) (turns : List Turn) (link : Link) : Type 0 where
   pub rows : List Row
   pub ahead : Ahead items (tasks_ahead settings account items now maildir rows) c
@@ -103,7 +103,7 @@ module _ (joining : TurnsJoin) (paced : ConversationsArePaced) where
     dealing (Err cut) place' maildir' file' lines' skipped link (rows, inl (none, unprepared)) leaves = dealing_unprepared cut (scene place' maildir' file' rows lines') link unprepared leaves
     dealing (Err cut) place' maildir' file' lines' skipped link (rows, inr is) leaves = dealing_carried (Err cut) (scene place' maildir' file' rows lines') skipped link is leaves
 
-    -- where all was done nothing is left of the plan
+    -- if all was done, nothing is left of the plan
     pub dealing_whole : (done : Unit {0}) (place' : Place) (maildir' : Maildir) (file' : Stored) (lines' : List ReportLine) (skipped : ℕ) (link : Link)
         → (is : Carries settings account items now place maildir file lines (Ok done) place' maildir' file' lines' skipped) → (leaves : LeavesLink (Ok done) place' link)
         → (dealing (Ok done) place' maildir' file' lines' skipped link is leaves).ahead.0 ≡ []

@@ -1,4 +1,4 @@
--- What a session with a joined listing said and read, as the law over runs takes it.
+-- What a session with a joined listing sent and read, as the law over runs takes it.
 use Rattle.std.proofs.Common.{◌≡◌, inl, inr, ℕ, List, [], ◌∷◌, ◌++◌, map, true, Option, Some, refl, sym, ap, subst, ◌∙◌, append_assoc}
 use Rattle.std.specs.List.{flat_map, AllByRecursion}
 use Rattle.std.proofs.lemmas.List.{append-nil}
@@ -48,10 +48,10 @@ pub record Speaks (c : Course) (turns : List Turn) (sent got : List ℕ) : Type 
   pub retrieves : Retrieves (User name ∷ Pass word ∷ Stat ∷ UidlAll ∷ ListAll ∷ more) (user ∷ pass ∷ stat ∷ uidl ∷ list ∷ replies) (found_of c)
   pub deletes : AllByRecursion (IsOfTask (begun_of c)) (User name ∷ Pass word ∷ Stat ∷ UidlAll ∷ ListAll ∷ more)
   pub next : BeginsOne (IsOfTask (begun_of c)) talked.asked.part
-  -- where no task was begun, no more was said than the tail
+  -- if no task was begun, no more was sent than the tail
   pub stops : begun_of c ≡ [] → SaysOnly turns more talked.asked.part
 
--- the turns behind a fault
+-- the turns after a fault
 pub data IsTail : List Turn → Type 0 where
   silent : IsTail []
   leaves : IsTail (quit ∷ [])
@@ -96,7 +96,7 @@ of_tail_tasks tasks turns silent = tt
 of_tail_tasks tasks turns leaves = (tt, tt)
 of_tail_tasks tasks turns undoes = (tt, (tt, tt))
 
--- a RETR or DELE among what was said is a task's: a tail has none
+-- a RETR or DELE that was sent is a task's: a tail has none
 pub said_of_tasks : (tasks : List Task) (done begun turns : List Turn) (sent : List ℕ) → IsTail turns → (c : Commanded done begun turns sent)
     → AllByRecursion (IsOfTask tasks) (commands_in done ++ commands_in begun) → AllByRecursion (IsOfTask tasks) (commands_in done ++ (c.ahead ++ c.ends))
 said_of_tasks tasks done begun turns sent kind c all =
@@ -105,7 +105,7 @@ said_of_tasks tasks done begun turns sent kind c all =
     (all_front (IsOfTask tasks) c.ahead c.unsaid (subst (AllByRecursion (IsOfTask tasks)) c.of_begun (all_back (IsOfTask tasks) (commands_in done) (commands_in begun) all)))
     (all_front (IsOfTask tasks) c.ends c.unended (subst (AllByRecursion (IsOfTask tasks)) c.of_tail (of_tail_tasks tasks turns kind))))
 
--- so is one that was begun behind them
+-- so is one that was begun after them
 pub next_of_tasks : (tasks : List Task) (done begun turns : List Turn) (sent : List ℕ) → IsTail turns → (c : Commanded done begun turns sent)
     → AllByRecursion (IsOfTask tasks) (commands_in done ++ commands_in begun) → BeginsOne (IsOfTask tasks) c.asked.part
 next_of_tasks tasks done begun turns sent kind c all = begins_one (IsOfTask tasks) c.next c.asked.part c.begins by_kind

@@ -11,10 +11,10 @@ use Rattle.rc_file.specs.declared.settings.Settings.{Settings}
 use Rattle.mail_store.specs.Maildir.{Maildir}
 use Rattle.mail_store.specs.Held.{flags_of}
 use Rattle.fetch_session.specs.Task.{Task, says, skips, stores, rereads, deletes, Done, fetching, deleting, tasks_planned, turns_in, tasks_of, turns_of}
-use Rattle.fetch_session.specs.Plan.{tasks_ahead}
 use Rattle.fetch_runs.proofs.Courses.{IsOfTask}
 use Rattle.fetch_runs.proofs.TalkCommands.{said_in, commands_in, CanBeSaid, all_append}
 use Rattle.fetch_runs.proofs.TalkReplies.{IsCommand, IsPlain}
+use Rattle.fetch_runs.proofs.Words.{tasks_ahead}
 
 -- ---- the tasks of a plan
 
@@ -80,7 +80,7 @@ pub commands_tasks : (tasks : List Task) → AllByRecursion IsPlain tasks → Al
 commands_tasks [] plain = tt
 commands_tasks (task ∷ tasks) plain = commands_first task (flat_map turns_in tasks) plain.0 (commands_tasks tasks plain.1)
 
--- the turns of done tasks, and of others behind them
+-- the turns of done tasks, and of others after them
 pub turns_on : (dones : List Done) (tasks : List Task) → flat_map turns_in (tasks_of dones ++ tasks) ≡ turns_of dones ++ flat_map turns_in tasks
 turns_on [] tasks = refl
 turns_on (d ∷ dones) tasks = ap (λ (ts : List Turn). turns_in d.task ++ ts) (turns_on dones tasks) ∙ sym (append_assoc (turns_in d.task) (turns_of dones) (flat_map turns_in tasks))

@@ -1,4 +1,4 @@
--- The conversation of one session: the turns that were talked, the one behind them, and the tail.
+-- The conversation of one session: the turns that were completed, the one that was begun after them, and the tail.
 use Rattle.std.specs.Prelude.{◌≡◌, ◌⊎◌, ℕ, Bool, true, false, List, [], ◌∷◌, ◌++◌, map, None, Some}
 use Rattle.std.specs.String.{string_bytes}
 use Rattle.std.specs.List.{flat_map, count_by, AllZip}
@@ -27,16 +27,16 @@ use Rattle.fetch_session.specs.declared.report.Outcome.TheVariants.{Ended, Cut}
 use Rattle.fetch_session.specs.declared.report.Report.{Report}
 use Rattle.fetch_session.specs.Opening.{opening}
 use Rattle.fetch_session.specs.Tail.{tail, turns_in}
-use Rattle.fetch_session.specs.Session.{Kept, Session}
+use Rattle.fetch_session.specs.Session.{Kept, Session, MboxKept, MboxSession}
 
--- what was sent behind the turns that were talked: a front of the octets of the turn that was begun, if one was; or
--- these whole, and a front of the tail's
+-- what was sent after the completed turns: a prefix of the octets of the turn that was begun, if one was; or
+-- that turn whole, and a prefix of the tail's octets
 abbrev pub SentBehind : List Turn → List Turn → List ℕ → Type 0
 SentBehind begun tail sent = ((later : List ℕ) × (asking begun ≡ sent ++ later))
     ⊎ ((part later : List ℕ) × (asking tail ≡ part ++ later) × (sent ≡ asking begun ++ part))
 
--- of what a link gained: these turns were sent, each answered by its reply, whole and good, which stand at the front of
--- what was got; and behind them perhaps one turn was begun, and the tail
+-- of what a link gained: these turns were sent, and each was answered by its reply, whole and good; what was
+-- got begins with these replies; after them perhaps one turn was begun, and then the tail
 pub record Conversation (done : List Turn) (replies : List WholeReply) (begun tail : List Turn) (sent got : List ℕ) : Type 0 where
   pub good : AllZip IsGood done replies
   pub rest : List ℕ
@@ -45,7 +45,7 @@ pub record Conversation (done : List Turn) (replies : List WholeReply) (begun ta
   pub said : sent ≡ asking done ++ behind
   pub way : SentBehind begun tail behind
 
--- the conversation of a plan: its first turns were talked, at most the next was begun, and behind them the tail
+-- the conversation of a plan: its first turns were completed, at most the next one was begun, and then the tail
 pub record Converses (plan tail : List Turn) (sent got : List ℕ) : Type 0 where
   pub done : List Turn
   pub begun : List Turn
@@ -59,7 +59,7 @@ pub record Converses (plan tail : List Turn) (sent got : List ℕ) : Type 0 wher
 abbrev pub plan_turns : List ℕ → List ℕ → List Step → List Turn
 plan_turns name word steps = greeting ∷ map Some (plan_commands name word steps)
 
--- the turns that belong behind an outcome
+-- the turns that follow an outcome
 abbrev pub tail_behind : Outcome → List Turn
 tail_behind Ended = []
 tail_behind (Cut fault) = turns_in (tail fault)
@@ -73,13 +73,13 @@ is_retrieval (Some _) = false
 abbrev pub retrieved_by : List Turn → ℕ
 retrieved_by turns = count_by is_retrieval turns
 
--- the turns ask for as many texts as are counted; or for one more, by the last of them, where the store refused that text, and
--- behind it only the tail is begun
+-- the turns ask for as many texts as are counted; or the last of them asks for one more, if the store refused
+-- that text, and then only the tail is begun
 abbrev pub CountsTexts : Outcome → List Turn → List Turn → ℕ → Type 0
 CountsTexts outcome done begun count = (retrieved_by done ≡ count)
     ⊎ ((outcome ≡ Cut (StoreRefused Refused)) × ((front : List Turn) × (number : ℕ) × (done ≡ front ++ retr number ∷ []) × (retrieved_by front ≡ count) × (begun ≡ [])))
 
--- a session that came no further than its opening
+-- a session that didn't get past its opening
 pub record Opens (settings : Settings) (report : Report) (sent got : List ℕ) : Type 0 where
   pub said : Converses (opening (string_bytes settings.username) (string_bytes settings.password)) (tail_behind report.outcome) sent got
   pub commands : List Command
@@ -92,8 +92,8 @@ pub record AreFound (account : List ℕ) (now : ℕ) (maildir : Maildir) (file :
   pub stood : KeepsRows file.content was
   pub merged_is : rows ≡ merged was items (flags_of account maildir items) now
 
--- a session whose listing was joined spoke by the plan for it, the record and the Maildir that it found; or it didn't come to a plan, and
--- nothing was begun behind the opening but the tail
+-- a session whose listing was joined followed the plan for that listing, the record and the Maildir that it
+-- found; or it didn't come to a plan, and began nothing but the tail after the opening
 pub record SpeaksByPlan (settings : Settings) (account : List ℕ) (now : ℕ) (before : Kept) (report : Report) (sent got : List ℕ) : Type 0 where
   pub items : List Item
   pub rows : List Row
@@ -115,9 +115,22 @@ pub record SpeaksByPlan (settings : Settings) (account : List ℕ) (now : ℕ) (
   pub counts : CountsTexts report.outcome said.done said.begun report.retrieved
   pub ended : report.outcome ≡ Ended → (said.begun ≡ []) × (said.later ≡ [])
 
--- a law: what the link gained by a session is one conversation, of the opening where it came no further
+-- a law: what the link gained by a session is one conversation, of the opening alone if it didn't get further
 abbrev pub SessionsAreConversations : Type 0
 SessionsAreConversations = (settings : Settings) (account : List ℕ) (now : ℕ) (link : Link) (before : Kept) (report : Report) (link' : Link) (after : Kept)
     → IsValid settings → Session settings account now link before report link' after
     → (sent got : List ℕ) × (link'.sent ≡ link.sent ++ sent) × (link'.got ≡ link.got ++ got)
     × (Opens settings report sent got ⊎ SpeaksByPlan settings account now before report sent got)
+
+-- these octets are those of the first commands of a plan and of a tail, and perhaps a beginning of one more's line
+pub record FollowsPlan (settings : Settings) (sent : List ℕ) : Type 0 where
+  pub steps : List Step
+  pub commands : List Command
+  pub asked : Asked commands sent
+  pub front : IsFrontOfPlan (string_bytes settings.username) (string_bytes settings.password) steps commands
+
+-- a law: with a mailbox file, what was sent in a session follows a plan
+abbrev pub MboxSessionsFollowPlans : Type 0
+MboxSessionsFollowPlans = (settings : Settings) (now : ℕ) (link : Link) (before : MboxKept) (report : Report) (link' : Link) (after : MboxKept)
+    → IsValid settings → MboxSession settings now link before report link' after
+    → (sent : List ℕ) × (link'.sent ≡ link.sent ++ sent) × FollowsPlan settings sent

@@ -1,7 +1,7 @@
--- Where a server's unique-ids are distinct and persistent and its mail unchanged, after any list of sessions, each cut at
--- any reply or refused write, the Maildir holds exactly a prefix of the selected messages in maildrop order, each once,
--- byte for byte with lines ended by LF; an uncut session leaves out only what its limits exclude; and DELE was sent only
--- for messages held. What a reader took away is no fault of ours: it counts as held here.
+-- Where a server's unique-ids are distinct and persistent and its mail unchanged, after any list of sessions,
+-- each cut at any reply or refused write, the Maildir holds exactly a prefix of the selected messages in
+-- maildrop order, each once, byte for byte with lines ended by LF; an uncut session leaves out only what its
+-- limits exclude; and DELE was sent only for messages held. What a reader took away counts as held here.
 use Rattle.std.specs.Prelude.{◌≡◌, ◌≢◌, ◌⊎◌, ◌<◌, ◌-◌, ℕ, true, false, List, [], ◌∷◌, ◌++◌, Some, slice_get, bytes_eq}
 use Rattle.std.specs.String.{string_bytes}
 use Rattle.std.specs.List.{AllByRecursion}
@@ -15,7 +15,7 @@ use Rattle.rc_file.specs.Settings.{IsValid}
 use Rattle.rc_file.specs.declared.settings.Settings.{Settings}
 use Rattle.fetch_rules.specs.Record.{Row, is_delivered, merged}
 use Rattle.fetch_rules.specs.Wanted.{candidates}
-use Rattle.mail_store.specs.FileName.{account_text, name_of, is_held}
+use Rattle.mail_store.specs.FileName.{account_text, stem_of, is_held}
 use Rattle.mail_store.specs.Held.{flags_of}
 use Rattle.mail_store.specs.Maildir.{Maildir, File}
 use Rattle.fetch_session.specs.Account.{digits_of}
@@ -32,8 +32,8 @@ use Rattle.fetch_runs.specs.Steps.{holds}
 
 -- ---- the world: unique-ids are distinct and persistent, and the mail unchanged
 
--- whose mail it is: the server, the port and the user name, which make the account; the limit on sizes; and all mail that ever comes, in
--- order of arrival
+-- whose mail it is: the server, the port and the user name, which make the account; the limit on sizes; and
+-- all mail that ever comes, in order of arrival
 pub record World : Type 0 where
   pub server : List ℕ
   pub port : ℕ
@@ -41,7 +41,7 @@ pub record World : Type 0 where
   pub max_size : ℕ
   pub all : List Message
 
--- no unique-id stands twice
+-- unique-ids are legal and distinct, and texts are whole
 abbrev pub IsSound : World → Type 0
 IsSound world = IsWorld world.all
 
@@ -49,7 +49,7 @@ IsSound world = IsWorld world.all
 abbrev pub account_of : World → List ℕ
 account_of world = account_text world.server world.port world.username
 
--- settings such as an rc file gives, for this account and with this limit on sizes: the others are a session's own
+-- settings that an rc file can give, for this account and with this limit on sizes; the others are a session's own
 pub record AreSettings (world : World) (settings : Settings) : Type 0 where
   pub valid : IsValid settings
   pub server : string_bytes settings.server ≡ world.server
@@ -57,7 +57,8 @@ pub record AreSettings (world : World) (settings : Settings) : Type 0 where
   pub username : string_bytes settings.username ≡ world.username
   pub max_size : settings.max_size ≡ world.max_size
 
--- the Maildir and the record's file, which ids are gone from the server, and which messages were ever taken away from the Maildir
+-- the Maildir and the record's file, which ids are gone from the server, and which messages were ever taken
+-- away from the Maildir
 pub record State : Type 0 where
   pub kept : Kept
   pub gone : List (List ℕ)
@@ -65,8 +66,8 @@ pub record State : Type 0 where
 
 -- ---- any list of sessions
 
--- one session: its settings, when it was, what it told, its link before and after it, and what it left; how much mail had come by then,
--- and which ids went with its QUIT
+-- one session: its settings, its time, its report, its link before and after it, and what it left; how much
+-- mail had come by then, and which ids its QUIT removed from the server
 pub record Occasion : Type 0 where
   pub settings : Settings
   pub now : ℕ
@@ -77,8 +78,9 @@ pub record Occasion : Type 0 where
   pub come : ℕ
   pub vanished : List (List ℕ)
 
--- a session; a move of a file by a reader; whatever else leaves the record and the account's messages as they are; messages that are
--- gone from the server without a session; and a message that its reader throws away or files elsewhere
+-- a session; a move of a file by a reader; anything else that leaves the record and the account's messages as
+-- they are; messages that are gone from the server without a session; and a message that its reader throws
+-- away or files elsewhere
 pub data Event : Type 0 where
   Fetched : Occasion → Event
   Moved : Maildir → Event
@@ -97,21 +99,22 @@ pub record IsSession (world : World) (state : State) (occasion : Occasion) : Typ
   pub served : (sent got : List ℕ) → occasion.link'.sent ≡ occasion.link.sent ++ sent → occasion.link'.got ≡ occasion.link.got ++ got
       → Served (maildrop_at world state occasion) sent got occasion.vanished
 
--- the record's file stands for the rows that it stood for
+-- the record's file still stands for the rows that it stood for
 abbrev pub KeepsRecord : Kept → Kept → Type 0
 KeepsRecord before after = (rows : List Row) → KeepsRows before.file.content rows → KeepsRows after.file.content rows
 
--- what the files of an id's name hold, in `new` and `cur` together
+-- what the files with an id's stem hold, in `new` and `cur` together
 abbrev pub contents_of : World → Kept → List ℕ → List (List ℕ)
-contents_of world state id = copies (files (holds [] state.maildir)) (name_of (account_of world) id)
+contents_of world state id = copies (files (holds [] state.maildir)) (stem_of (account_of world) id)
 
--- and of each legal id the files hold what they held: the counts of refusals, the file that was begun, which folders are there, the
--- suffixes that readers put behind names, and files of other names may all have changed
+-- the record stays, and for each legal id the files hold what they held. All else may have changed: the
+-- counts of refusals, the file that was begun, which folders are there, the suffixes that readers put after
+-- names, and files of other names
 pub record IsBetween (world : World) (before after : Kept) : Type 0 where
   pub record_is : KeepsRecord before after
   pub mail : (id : List ℕ) → is_legal_id id ≡ true → contents_of world after id ≡ contents_of world before id
 
--- it was held, and is no more; and all else of the account is as it was
+-- it was held, and no longer is; all else of the account is as it was
 pub record IsTakenAway (world : World) (before : Kept) (id : List ℕ) (after : Kept) : Type 0 where
   pub legal : is_legal_id id ≡ true
   pub held : is_held (account_of world) before.maildir id ≡ true
@@ -146,12 +149,12 @@ IsRun world state (event ∷ events) = Follows world state event × IsRun world 
 abbrev pub frame_of : World → Frame
 frame_of world = record { account = account_of world; max_size = world.max_size; all = world.all }
 
--- an account whose record has these rows, and what became of its messages
+-- an account whose record has these rows, and which of its messages are gone or were taken away
 abbrev pub situation : List Row → State → Situation
 situation rows state = record { account = holds rows state.kept.maildir; gone = state.gone; taken = state.taken }
 
--- the Maildir holds exactly the first of the selected messages, each in one file with its text, but for those that were taken away, and no
--- other
+-- the Maildir holds exactly the first of the selected messages, each in one file with its text, except for
+-- those that were taken away, and no others
 abbrev pub HoldsAPrefix : World → State → Type 0
 HoldsAPrefix world state = HoldsWhatIsLeft (frame_of world) (situation [] state)
 
@@ -159,7 +162,7 @@ HoldsAPrefix world state = HoldsWhatIsLeft (frame_of world) (situation [] state)
 abbrev pub IsHeldAfter : World → State → Occasion → List ℕ → Type 0
 IsHeldAfter world state occasion id = (is_held (account_of world) occasion.after.maildir id ≡ true) ⊎ (has_id state.taken id ≡ true)
 
--- the message could be fetched, and others that could stand before it, as many as are fetched in one session
+-- the message could be fetched, but comes after as many others that could be fetched as one session fetches
 abbrev pub IsPastCount : World → State → Occasion → Message → Type 0
 IsPastCount world state occasion message =
     let listing = listing_of (maildrop_at world state occasion) in
@@ -167,7 +170,8 @@ IsPastCount world state occasion message =
     × (has_id (ids_wanted (past_limit occasion.settings.max_count
     (candidates occasion.settings (merged rows listing (flags_of (account_of world) state.kept.maildir listing) occasion.now) listing))) message.uid ≡ true)
 
--- each message of the maildrop is held after an uncut session, or was taken away, or is larger than the limit, or behind the first so many
+-- after an uncut session each message of the maildrop is held, or was taken away, or is larger than the
+-- limit, or comes after as many as one session fetches
 abbrev pub LeavesOutOnlyBeyondLimits : World → State → Occasion → Type 0
 LeavesOutOnlyBeyondLimits world state occasion = occasion.report.outcome ≡ Ended → AllByRecursion (λ (message : Message).
     IsHeldAfter world state occasion message.uid
@@ -175,13 +179,14 @@ LeavesOutOnlyBeyondLimits world state occasion = occasion.report.outcome ≡ End
     ⊎ IsPastCount world state occasion message)
     (maildrop_at world state occasion)
 
--- a DELE is for a message of the maildrop, counted from 1, that is held when the session returns, or was taken away
+-- a DELE gives the number, counted from 1, of a message of the maildrop that is held when the session
+-- returns, or was taken away
 abbrev pub IsForHeld : World → State → Occasion → Command → Type 0
 IsForHeld world state occasion (Dele number) = (0 < number) × (message : Message) × (slice_get (maildrop_at world state occasion) (number - 1) ≡ Some message)
     × IsHeldAfter world state occasion message.uid
 IsForHeld world state occasion _ = Unit {0}
 
--- the commands that were sent, the last perhaps in part
+-- each DELE that was sent, the last perhaps in part, is for such a message
 pub record DeletesOnlyHeld (world : World) (state : State) (occasion : Occasion) : Type 0 where
   pub sent : List ℕ
   pub sent_is : occasion.link'.sent ≡ occasion.link.sent ++ sent
@@ -194,22 +199,23 @@ pub record DeletesOnlyHeld (world : World) (state : State) (occasion : Occasion)
 abbrev pub OthersStay : World → State → State → Type 0
 OthersStay world before after = KeepsOthers (account_of world) (holds [] before.kept.maildir) (holds [] after.kept.maildir)
 
--- every file of `new` and `cur` is there as before, and what came stands behind those of `new`: so a session loses none
+-- every file of `new` and `cur` is there as before, and what was added comes after those of `new`: so a
+-- session loses none
 pub record FilesStay (before after : Maildir) : Type 0 where
   pub gained : List File
   pub in_new : after.in_new ≡ before.in_new ++ gained
   pub in_cur : after.in_cur ≡ before.in_cur
 
--- the record's file stands for a record that has the id as delivered
+-- the record's file stands for a record in which the id is delivered
 abbrev pub IsRecorded : Kept → List ℕ → Type 0
 IsRecorded state id = (rows : List Row) × KeepsRows state.file.content rows × (is_delivered rows id ≡ true)
 
--- where messages that were delivered aren't read again, none that is recorded as delivered is stored, and it stays recorded
+-- if delivered messages aren't read again, none that is recorded as delivered is stored, and it stays recorded
 abbrev pub StoresOnlyNew : World → State → Occasion → Type 0
 StoresOnlyNew world state occasion = occasion.settings.read_all ≡ false → (id : List ℕ) → is_legal_id id ≡ true → IsRecorded state.kept id
     → (contents_of world occasion.after id ≡ contents_of world state.kept id) × IsRecorded occasion.after id
 
--- of what others do nothing is promised, but that a reader's moves leave files of other names
+-- nothing is promised of what others do, except that a reader's moves leave files of other names
 abbrev pub Promised : World → State → Event → Type 0
 Promised world state (Fetched occasion) =
     LeavesOutOnlyBeyondLimits world state occasion × DeletesOnlyHeld world state occasion × OthersStay world state (after_event state (Fetched occasion))
@@ -217,14 +223,15 @@ Promised world state (Fetched occasion) =
 Promised world state (Moved maildir) = OthersStay world state (after_event state (Moved maildir))
 Promised world state _ = Unit {0}
 
--- before and after each event a prefix is held, and each event keeps what is promised of it
+-- a prefix is held before and after each event, and each event keeps its promises
 abbrev pub Promises : World → State → List Event → Type 0
 Promises world state [] = HoldsAPrefix world state
 Promises world state (event ∷ events) = HoldsAPrefix world state × Promised world state event × Promises world (after_event state event) events
 
--- ---- where it begins, and where it can go on
+-- ---- the states in which it can begin and go on
 
--- the record's file stands for a record that speaks only of messages that are held or were taken away, and so do the ids that are gone
+-- the record's file stands for a record that names only messages that are held or were taken away; the ids
+-- that are gone are also theirs
 abbrev pub IsKept : World → State → Type 0
 IsKept world state = (rows : List Row) × KeepsRows state.kept.file.content rows × IsKeptIn (frame_of world) (situation rows state)
 
@@ -232,12 +239,13 @@ abbrev pub state_after : State → List Event → State
 state_after state [] = state
 state_after state (event ∷ events) = state_after (after_event state event) events
 
--- the sentence: from a kept state, over any list of sessions, and of what happens between them
+-- the sentence: from a kept state, over any list of sessions and of what happens between them
 abbrev pub Headline : Type 0
 Headline = (world : World) (start : State) (events : List Event) → IsSound world → IsKept world start → IsRun world start events
     → Promises world start events × IsKept world (state_after start events)
 
--- the record's file isn't there or holds an empty record, no file is the account's own, nothing is gone, and nothing was taken away
+-- the record's file isn't there or holds an empty record, no file is the account's own, nothing is gone, and
+-- nothing was taken away
 pub record IsEmpty (world : World) (state : State) : Type 0 where
   pub record_is : KeepsRows state.kept.file.content []
   pub no_file : (id : List ℕ) → is_legal_id id ≡ true → contents_of world state.kept id ≡ []
@@ -252,14 +260,14 @@ EmptyIsKept = (world : World) (start : State) → IsEmpty world start → IsKept
 abbrev pub HeadlineFromEmpty : Type 0
 HeadlineFromEmpty = (world : World) (start : State) (events : List Event) → IsSound world → IsEmpty world start → IsRun world start events → Promises world start events
 
--- ---- where nothing is taken away
+-- ---- if nothing is taken away
 
 abbrev pub TakesNoneAway : List Event → Type 0
 TakesNoneAway [] = Unit {0}
 TakesNoneAway (TakenAway id after ∷ events) = ⊥
 TakesNoneAway (_ ∷ events) = TakesNoneAway events
 
--- the Maildir holds exactly the first of the selected messages, each in one file with its text, and no other
+-- the Maildir holds exactly the first of the selected messages, each in one file with its text, and no others
 abbrev pub HoldsExactlyAPrefix : World → State → Type 0
 HoldsExactlyAPrefix world state = HoldsExactly (frame_of world) (holds [] state.kept.maildir)
 
@@ -296,13 +304,13 @@ HeadlineWordForWord = (world : World) (start : State) (events : List Event) → 
 
 -- ---- what is taken away stays away
 
--- each session of these reads only what is new
+-- each of these sessions reads only what is new
 abbrev pub ReadOnlyNew : List Event → Type 0
 ReadOnlyNew [] = Unit {0}
 ReadOnlyNew (Fetched occasion ∷ events) = (occasion.settings.read_all ≡ false) × ReadOnlyNew events
 ReadOnlyNew (_ ∷ events) = ReadOnlyNew events
 
--- then a message that is recorded as delivered, and isn't held, is never stored again
+-- then a message that is recorded as delivered and isn't held is never stored again
 abbrev pub StaysAway : Type 0
 StaysAway = (world : World) (start : State) (events : List Event) (id : List ℕ) → IsSound world → IsKept world start → IsRun world start events
     → ReadOnlyNew events → is_legal_id id ≡ true → IsRecorded start.kept id → contents_of world start.kept id ≡ []
@@ -310,18 +318,20 @@ StaysAway = (world : World) (start : State) (events : List Event) (id : List ℕ
 
 -- ---- a program that starts anew, and one that is stopped
 
--- the same files of `new` and `cur`, and the same bytes of the record's file: what else is known of them is another process's
+-- the same files of `new` and `cur`, and the same bytes of the record's file; all else that is known of them
+-- may be another process's
 pub record HasTheSameFiles (before after : Kept) : Type 0 where
   pub in_new : after.maildir.in_new ≡ before.maildir.in_new
   pub in_cur : after.maildir.in_cur ≡ before.maildir.in_cur
   pub content : after.file.content ≡ before.file.content
 
--- a new process, whose counts begin at 0 and which has begun no file, and folders that were made, are between two sessions
+-- what a new process finds, whose counts begin at 0 and which has begun no file, and folders that were made,
+-- are changes between two sessions
 abbrev pub NewProcessesAreBetween : Type 0
 NewProcessesAreBetween = (world : World) (before after : Kept) → HasTheSameFiles before after → IsBetween world before after
 
--- a program was stopped in a session: the files are as that session leaves them if every call is refused from that moment on, the first of
--- them with or without effect. That is a session, which was cut
+-- a program was stopped in a session: the files are as that session leaves them if every call is refused from
+-- that moment on, the first of them with or without effect. That is a session that was cut
 pub record IsStopped (world : World) (state : State) (occasion : Occasion) (left : Kept) : Type 0 where
   pub session : IsSession world state occasion
   pub cut : occasion.report.outcome ≢ Ended

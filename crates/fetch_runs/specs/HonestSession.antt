@@ -1,4 +1,4 @@
--- What one session stores where its server is honest.
+-- What one session stores if its server is honest.
 use Rattle.std.specs.Prelude.{◌≡◌, ◌⊎◌, ℕ, Bool, List, ◌++◌}
 use Rattle.pop3_wire.specs.Honest.{Honest}
 use Rattle.pop3_wire.specs.Link.{Link}
@@ -13,8 +13,9 @@ use Rattle.run_law.specs.HonestSession.{BringsMessages}
 use Rattle.run_law.specs.Steps.{Leaves}
 use Rattle.fetch_runs.specs.Steps.{holds, IsStep}
 
--- a law: where all that the link gained is honest over this maildrop, a session left the account as it was, or its joined listing is the
--- maildrop's, and each file that it stored is a message's of it, with the message's text
+-- a law: if all that the link gained is honest for this maildrop, a session left the account as it was; or
+-- its joined listing is the maildrop's, and each file that it stored is that of one of the maildrop's
+-- messages, with the message's text
 abbrev pub HonestSessions : Type 0
 HonestSessions = (settings : Settings) (account : List ℕ) (now : ℕ) (link : Link) (before : Kept) (rows : List Row) (report : Report) (link' : Link) (after : Kept) (drop : List Message) (marks : List Bool)
     → IsValid settings → KeepsRows before.file.content rows → Session settings account now link before report link' after

@@ -2,5 +2,10 @@ pub mod AnyServer
 pub mod Conversations
 pub mod Headline
 pub mod HonestSession
+pub mod MboxAnyServer
+pub mod MboxHeadline
+pub mod MboxRuns
+pub mod MboxSteps
+pub mod MboxTexts
 pub mod Runs
 pub mod Steps

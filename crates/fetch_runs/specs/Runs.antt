@@ -1,4 +1,4 @@
--- Sessions one after another, each over its own link.
+-- Sessions in a row, each over its own link.
 use Rattle.std.specs.Prelude.{◌≡◌, ℕ, List, [], ◌∷◌, ◌++◌}
 use Rattle.std.specs.List.{AllByRecursion}
 use Rattle.std.specs.String.{string_bytes}
@@ -13,20 +13,26 @@ use Rattle.run_law.specs.Sessions.{Served}
 use Rattle.fetch_runs.specs.declared.run.Visit.{Visit}
 use Rattle.fetch_runs.specs.Headline.{World, State, Occasion, Fetched, after_event, HoldsAPrefix, Promised, IsKept}
 
--- the links of these visits keep the promises that are made of links
+-- the links of these visits do what is promised of links
 abbrev pub AreSound : {W : Type 0} → (W → Type 0) → List (Visit W) → Type 0
 AreSound {W} sound visits = AllByRecursion (λ (visit : Visit W). sound visit.wire) visits
 
+-- each visit was one of these sessions, in order, from what the one before left, and has its report
+abbrev pub RunsBy : {W K : Type 0} → (Visit W → K → Report → Visit W → K → Type 0) → List (Visit W) → K → List Report → List (Visit W) → K → Type 0
+RunsBy Made [] first [] [] last = last ≡ first
+RunsBy {K = K} Made (old ∷ olds) first (report ∷ reports) (new ∷ news) last = (between : K) × Made old first report new between × RunsBy Made olds between reports news last
+RunsBy Made [] first (report ∷ reports) news last = ⊥
+RunsBy Made [] first [] (new ∷ news) last = ⊥
+RunsBy Made (old ∷ olds) first [] news last = ⊥
+RunsBy Made (old ∷ olds) first (report ∷ reports) [] last = ⊥
+
+-- the visit was one session at its time
+abbrev pub WasMade : {W : Type 0} → (W → Link) → Settings → List ℕ → Visit W → Kept → Report → Visit W → Kept → Type 0
+WasMade seen settings account old before report new after = Session settings account old.now (seen old.wire) before report (seen new.wire) after × (new.now ≡ old.now)
+
 -- each visit was one session at its time, in order, from what the one before left, and has its report
 abbrev pub Runs : {W : Type 0} → (W → Link) → Settings → List ℕ → List (Visit W) → Kept → List Report → List (Visit W) → Kept → Type 0
-Runs seen settings account [] first [] [] last = last ≡ first
-Runs seen settings account (old ∷ olds) first (report ∷ reports) (new ∷ news) last =
-    (between : Kept) × Session settings account old.now (seen old.wire) first report (seen new.wire) between × (new.now ≡ old.now)
-    × Runs seen settings account olds between reports news last
-Runs seen settings account [] first (report ∷ reports) news last = ⊥
-Runs seen settings account [] first [] (new ∷ news) last = ⊥
-Runs seen settings account (old ∷ olds) first [] news last = ⊥
-Runs seen settings account (old ∷ olds) first (report ∷ reports) [] last = ⊥
+Runs seen settings account olds first reports news last = RunsBy (WasMade seen settings account) olds first reports news last
 
 -- ---- what is promised of them
 
@@ -64,7 +70,7 @@ AreServed seen all gone (old ∷ olds) (new ∷ news) (fact ∷ facts) =
     × AreServed seen all (gone ++ fact.vanished) olds news facts
 AreServed seen all gone olds news facts = ⊥
 
--- a prefix is held before and after each visit, each keeps what is promised of it, and the last state is kept
+-- a prefix is held before and after each visit, each visit keeps its promises, and the last state is kept
 abbrev pub ArePromised : {W : Type 0} → (W → Link) → Settings → World → State → List (Visit W) → List Report → List (Visit W) → List Fact → Kept → Type 0
 ArePromised seen settings world state [] [] [] [] last = HoldsAPrefix world state × IsKept world state × (state.kept ≡ last)
 ArePromised seen settings world state (old ∷ olds) (report ∷ reports) (new ∷ news) (fact ∷ facts) last =

@@ -1,4 +1,4 @@
--- A session of the code as one that the law over runs speaks of.
+-- A session of the code, as the law over runs takes it.
 use Rattle.std.specs.Prelude.{◌≡◌, ◌↔◌, ◌⊎◌, ◌+◌, ℕ, true, false, List, [], ◌∷◌, ◌++◌, map, length, Some}
 use Rattle.pop3_wire.specs.declared.command.Command.{Command}
 use Rattle.pop3_wire.specs.declared.command.Command.TheVariants.{User, Pass, Stat, UidlAll, ListAll}
@@ -26,13 +26,14 @@ use Rattle.fetch_runs.specs.Conversations.{tail_behind}
 abbrev pub holds : List Row → Maildir → Account
 holds rows maildir = record { rows = rows; maildir = maildir }
 
--- of these turns no more was said than the commands, which are the first of theirs, and a beginning of the next one's line
+-- of these turns no more was sent than these commands, which are their first ones, and a beginning of the
+-- next one's line
 pub record SaysOnly (turns : List Turn) (commands : List Command) (part : List ℕ) : Type 0 where
   pub later : List Command
   pub split : turns ≡ map Some (commands ++ later)
   pub begins : BeginsNext later part
 
--- nothing was said behind LIST but what belongs behind the outcome
+-- nothing was sent after LIST but the turns that follow the outcome
 pub record StopsAtList (outcome : Outcome) (commands : List Command) (part : List ℕ) : Type 0 where
   pub name : List ℕ
   pub word : List ℕ
@@ -40,9 +41,10 @@ pub record StopsAtList (outcome : Outcome) (commands : List Command) (part : Lis
   pub commands_are : commands ≡ User name ∷ Pass word ∷ Stat ∷ UidlAll ∷ ListAll ∷ more
   pub only : SaysOnly (tail_behind outcome) more part
 
--- the account as it was left, by how many texts the report counts and how many of these are recorded: a text more came whole and its
--- file may be there, only where the store refused it; a text less is recorded, only where the record wasn't saved; and the record is
--- the old one, only where the session was cut, and no command of the plan behind LIST was begun
+-- the account as it was left, by how many texts the report counts and how many of these are recorded: one
+-- more text came whole, and its file may be there, only if the store refused it; one fewer is recorded only
+-- if the record wasn't saved; and the record is the old one only if the session was cut and no command of the
+-- plan after LIST was begun
 pub record IsTold (settings : Settings) (account : List ℕ) (before : Account) (effect : Effect) (after : Account) (report : Report) (commands : List Command) (part : List ℕ) : Type 0 where
   pub told : Told settings account before effect after
   pub retrieved_is : report.retrieved ≡ told.k
@@ -66,7 +68,7 @@ pub record IsStep (settings : Settings) (account : List ℕ) (now : ℕ) (link :
   pub left : (Leaves (holds rows before.maildir) effect (holds rows' after.maildir) × (report.retrieved ≡ 0))
       ⊎ IsTold settings account (holds rows before.maildir) effect (holds rows' after.maildir) report stepped.commands stepped.asked.part
 
--- a law: where the record's file stood for these rows, a session is a step
+-- a law: if the record's file stood for these rows, a session is a step
 abbrev pub SessionIsAStep : Type 0
 SessionIsAStep = (settings : Settings) (account : List ℕ) (now : ℕ) (link : Link) (before : Kept) (rows : List Row) (report : Report) (link' : Link) (after : Kept)
     → IsValid settings → KeepsRows before.file.content rows → Session settings account now link before report link' after

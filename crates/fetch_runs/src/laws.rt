@@ -1,9 +1,13 @@
-//! Laws over what sessions said and left, for the programs and crates above: a function here does
+//! Laws over what sessions sent and left, for the programs and crates above: a function here does
 //! nothing, and its contract is the law.
 ghost use Rattle.fetch_runs.specs.AnyServer.{AnyServer};
-ghost use Rattle.fetch_runs.specs.Conversations.{SessionsAreConversations};
+ghost use Rattle.fetch_runs.specs.Conversations.{MboxSessionsFollowPlans, SessionsAreConversations};
 ghost use Rattle.fetch_runs.specs.Headline.{EmptyIsKept, Headline, HeadlineFromEmpty, HeadlineWordForWord, NewProcessesAreBetween, StaysAway, StopsAreRuns};
 ghost use Rattle.fetch_runs.specs.HonestSession.{HonestSessions};
+ghost use Rattle.fetch_runs.specs.MboxAnyServer.{MboxAnyServer};
+ghost use Rattle.fetch_runs.specs.MboxHeadline.{MboxHeadline, MboxHeadlineFromStart, MboxStartIsKept, MboxStopsAreRuns};
+ghost use Rattle.fetch_runs.specs.MboxSteps.{MboxSessionIsAStep};
+ghost use Rattle.fetch_runs.specs.MboxTexts.{MboxSessionsAddTexts};
 ghost use Rattle.fetch_runs.specs.Steps.{SessionIsAStep};
 
 use fetch_rules::{
@@ -11,21 +15,23 @@ use fetch_rules::{
     marked_keeps_rows, plans_fetch_wanted,
 };
 use fetch_session::{steady_files_keep, turns_join, unsaved_files_keep};
-use mail_store::{account_texts_are_digits, flags_tell_what_is_held};
+use mail_store::{account_texts_are_digits, entries_add_texts, flags_tell_what_is_held};
 use pop3_client::conversations_are_paced;
 use pop3_wire::fronts_are_asked;
 use run_law::{
     holds_exactly, holds_what_is_left, honest_sessions_bring_messages, kept_states,
-    links_are_visits, moves_leave_mail, sessions_are_safe, starts_kept, told_stores,
+    links_are_visits, mbox_holds_exactly, mbox_links_are_visits, mbox_sessions_are_safe,
+    mbox_starts_kept, mbox_states_are_kept, mbox_told_stores, moves_leave_mail, sessions_are_safe,
+    starts_kept, told_stores,
 };
 
-/// A law: what a link gains by a session is one conversation by the plan. What was sent is the octets
-/// of the plan's first turns, each of which is begun only where the replies to all before it stand whole
-/// and good in what was got, and then a front of the next one's; or, after a fault, these turns whole and
-/// a front of what belongs behind the fault. Where no listing was joined the plan is the opening alone.
-/// Behind the last of the texts that the report counts at most one more came whole, only where the store
-/// refused that text, and then nothing more of the plan was sent. A session that ended said the whole
-/// plan.
+/// What a link gains in a session is one conversation that follows the plan. What was sent is the
+/// octets of the plan's first turns and a prefix of the next one's; each turn is begun only after
+/// the whole and good replies to all before it have come. After a fault, what was sent is these
+/// turns whole and a prefix of the turns that follow that fault. If no listing was joined, the
+/// plan is the opening alone. After the last of the texts that the report counts at most one more
+/// came whole, only if the store refused that text, and then nothing more of the plan was sent. A
+/// session that ended sent the whole plan.
 pub fn sessions_are_conversations()
     ensures { SessionsAreConversations }
 {
@@ -34,8 +40,8 @@ pub fn sessions_are_conversations()
     fronts_are_asked();
 }
 
-/// A law: where the record's file stood for a record, a session is a step that the law over runs takes:
-/// its link gained a conversation by the plan, and it left the account as that conversation says.
+/// If the record's file stood for a record, a session is a step that the law over runs takes: its link
+/// gained a conversation that follows the plan, and it left the account as that conversation says.
 pub fn session_is_a_step()
     ensures { SessionIsAStep }
 {
@@ -54,10 +60,10 @@ pub fn session_is_a_step()
     fronts_are_asked();
 }
 
-/// A law: whatever its server says, a session loses and changes no file of `new` and `cur`, and each
-/// DELE that it sent is for a message whose unique-id was recorded as delivered before, or was held, or
-/// whose text it stored as it got it by the same number; where the record's file stood for a record.
-/// What it sent of one more command begins the line of such a DELE or of another command.
+/// If the record's file stood for a record, then, whatever its server says, a session loses and changes
+/// no file of `new` and `cur`, and each DELE that it sent is for a message whose unique-id was recorded
+/// as delivered before, or was held, or whose text it stored as it got it by the same number. What it
+/// sent of one more command begins the line of such a DELE or of another command.
 pub fn any_server()
     ensures { AnyServer }
 {
@@ -65,8 +71,9 @@ pub fn any_server()
     sessions_are_safe();
 }
 
-/// A law: over an honest server, whatever its maildrop, a session leaves the account as it was, or its joined
-/// listing is the maildrop's, and each file that it stores is a message's of it, with the message's text.
+/// If its server is honest, whatever its maildrop, a session leaves the account as it was; or its
+/// joined listing is the maildrop's, and each file that it stores is that of one of the
+/// maildrop's messages, with the message's text.
 pub fn honest_sessions()
     ensures { HonestSessions }
 {
@@ -79,10 +86,10 @@ pub fn honest_sessions()
 /// messages in maildrop order, each once, byte for byte with lines ended by LF; an uncut session leaves
 /// out only what its limits exclude; and DELE was sent only for messages held.
 ///
-/// Each session has settings of its own but for the server, the port, the user name and
-/// `max_message_size`. Between two of them a process may start anew, readers and other programs may do what
-/// they like with files that aren't the account's, and move or rename those that are; the server may let
-/// go what was fetched; and a reader may take a message away, which then counts as held.
+/// Each session has its own settings, except for the server, the port, the user name and
+/// `max_message_size`. Between two of them a process may start anew; readers and other programs may do
+/// anything to files that aren't the account's, and move or rename those that are; the server may
+/// remove what was fetched; and a reader may take a message away, which then counts as held.
 pub fn headline()
     ensures { Headline }
 {
@@ -94,7 +101,7 @@ pub fn headline()
     files_stand_for_one_record();
 }
 
-/// The headline without the words on what was taken away, of runs in which nothing is.
+/// The headline for runs in which nothing is taken away, without the words on that.
 pub fn headline_word_for_word()
     ensures { HeadlineWordForWord }
 {
@@ -102,8 +109,8 @@ pub fn headline_word_for_word()
     holds_exactly();
 }
 
-/// Where each session reads only what is new, a message that is recorded as delivered, and was taken away,
-/// is never stored again.
+/// If each session reads only what is new, a message that is recorded as delivered and was taken
+/// away is never stored again.
 pub fn recorded_stay_away()
     ensures { StaysAway }
 {
@@ -112,29 +119,124 @@ pub fn recorded_stay_away()
     account_texts_are_digits();
 }
 
-/// A law: what a new process finds, with the files as they were, is one of the things that may be between two
-/// sessions: its counts of refusals begin at 0, it has begun no file, and folders may have been made.
+/// What a new process finds, with the files as they were, is one of the things that may happen
+/// between two sessions: its counts of refusals begin at 0, it has begun no file, and folders may
+/// have been made.
 pub fn new_processes_are_between()
     ensures { NewProcessesAreBetween }
 {}
 
-/// A law: a program that is stopped, and leaves what a session leaves whose calls are all refused from
+/// A program that is stopped, and leaves what a session leaves if all its calls are refused from
 /// that moment on, is an event of a run, and the next process goes on from there.
 pub fn stops_are_runs()
     ensures { StopsAreRuns }
 {}
 
-/// A law: an account with an empty record and no file of its own is where the headline may begin.
+/// The headline may begin with an account that has an empty record and no file of its own.
 pub fn empty_account_is_kept()
     ensures { EmptyIsKept }
 {
     starts_kept();
 }
 
-/// The headline from the first session on, of an account with an empty record and no file of its own.
+/// The headline from the first session on, for an account with an empty record and no file of its own.
 pub fn headline_from_empty()
     ensures { HeadlineFromEmpty }
 {
     headline();
     empty_account_is_kept();
 }
+
+/// With an mboxrd file: what a link sends in a session is the first commands of a plan, perhaps the
+/// commands that follow a fault, and perhaps a beginning of one more.
+pub fn mbox_sessions_follow_plans()
+    ensures { MboxSessionsFollowPlans }
+{
+    turns_join();
+    conversations_are_paced();
+    fronts_are_asked();
+}
+
+/// With an mboxrd file: if the record's file stood for a record, a session is a step that the law
+/// over runs takes: its link gained a conversation that follows the plan, and it left the mailbox
+/// file and the record as that conversation says.
+pub fn mbox_session_is_a_step()
+    ensures { MboxSessionIsAStep }
+{
+    plans_fetch_wanted();
+    held_is_delivered();
+    listed_has_row();
+    marked_is_delivered();
+    marked_keeps_rows();
+    flags_tell_what_is_held();
+    files_stand_for_one_record();
+    steady_files_keep();
+    unsaved_files_keep();
+    mbox_told_stores();
+    turns_join();
+    conversations_are_paced();
+    fronts_are_asked();
+}
+
+/// With an mboxrd file: if the record's file stood for a record, after a session that ended a text
+/// came for each wanted message, and the file stands for the texts that it stood for once it was
+/// settled, and then for these, in order.
+pub fn mbox_sessions_add_texts()
+    ensures { MboxSessionsAddTexts }
+{
+    mbox_session_is_a_step();
+    entries_add_texts();
+}
+
+/// With an mboxrd file: if the record's file stood for a record, then, whatever its server says, a
+/// session keeps what the file holds, except for the rest of an entry that an open intent had begun,
+/// and each DELE that it sent is for a message that was recorded as delivered, or whose entry it
+/// appended as it got its text by the same number.
+pub fn mbox_any_server()
+    ensures { MboxAnyServer }
+{
+    mbox_session_is_a_step();
+    mbox_sessions_are_safe();
+}
+
+/// Where a server's unique-ids are distinct and persistent and its mail unchanged, after any list of
+/// sessions that read only what is new, each cut at any reply or refused write, an mboxrd file holds
+/// what it held before the first one, followed by the entries of exactly a prefix of the selected
+/// messages in maildrop order, each once, and by at most a front of the next one's entry, whose intent
+/// is then open; after an uncut session nothing of a next entry is left, and only what its limits
+/// exclude is left out; and DELE was sent only for messages whose entry stands whole.
+///
+/// Each session has its own settings, except for `max_message_size` and for `read_all`, which is
+/// false. Between two of them a process may start anew, and messages that were recorded may be gone
+/// from the server. What was recorded as delivered before the first session counts as entered.
+pub fn mbox_headline()
+    ensures { MboxHeadline }
+{
+    mbox_session_is_a_step();
+    mbox_links_are_visits();
+    mbox_states_are_kept();
+    mbox_holds_exactly();
+    files_stand_for_one_record();
+}
+
+/// The headline for an mboxrd file may begin with any file, and with a record that has no open intent
+/// and shows exactly a prefix of the selected messages as delivered, as an empty one does.
+pub fn mbox_start_is_kept()
+    ensures { MboxStartIsKept }
+{
+    mbox_starts_kept();
+}
+
+/// The headline for an mboxrd file from the first session on, with such a record.
+pub fn mbox_headline_from_start()
+    ensures { MboxHeadlineFromStart }
+{
+    mbox_headline();
+    mbox_start_is_kept();
+}
+
+/// With an mboxrd file: a program that is stopped, and leaves what a session leaves if all its calls
+/// are refused from that moment on, is an event of a run, and the next process goes on from there.
+pub fn mbox_stops_are_runs()
+    ensures { MboxStopsAreRuns }
+{}

@@ -1,13 +1,17 @@
 //! Sessions of an account, one after another, each over its own link.
 ghost use Rattle.std.specs.Prelude.{◌≡◌, ◌*◌, ℕ, List, length, IfErr, IfOk};
 ghost use Rattle.fetch_session.specs.Account.{digits_of};
-ghost use Rattle.fetch_session.specs.Session.{kept};
+ghost use Rattle.fetch_session.specs.Session.{kept, mbox_kept};
+ghost use Rattle.fetch_session.specs.Target.{IsSoundMaildir, IsSoundMbox, maildir_of, mbox_of};
 ghost use Rattle.fetch_runs.specs.Headline.{IsKept};
+ghost use Rattle.fetch_runs.specs.MboxHeadline.{AreSettings, IsMboxKept};
+ghost use Rattle.fetch_runs.specs.MboxRuns.{AreMboxPromised, MboxRuns, mbox_state};
 ghost use Rattle.fetch_runs.specs.Runs.{ArePromised, AreServed, AreSound, Runs, state_of, world_of};
 ghost use Rattle.pop3_wire.specs.World.{IsWorld, Message};
 ghost use Rattle.run_law.specs.Chains.{Fact};
+ghost use Rattle.run_law.specs.MboxRuns.{MboxFrame};
 
-use crate::laws::headline;
+use crate::laws::{headline, mbox_headline};
 use fetch_session::{Account, Report, session};
 use mail_store::{FlatFile, MaildirDisk};
 use pop3_wire::Wire;
@@ -22,11 +26,12 @@ pub struct Visit<W> {
     pub now: u64,
 }
 
-/// Runs one session for each visit, in order, and tells of each. Room for the reports is made first:
-/// where memory is wanting, no session was begun.
+/// Runs one session for each visit, in order, and returns a report for each. Room for the reports
+/// is made first: if memory runs out for it, no session was begun.
 ///
 /// From a kept account, over links to an honest server of one world, each session keeps what the
-/// headline promises, and the account that is left is kept.
+/// headline promises, and a kept account is left: with a Maildir, and with an mboxrd file if the
+/// settings ask only for what is new.
 pub fn run_sessions<W: Wire, D: MaildirDisk, F: FlatFile, H: BuildHasher>(
     alloc: Global,
     account: &mut Account<D, F, H>,
@@ -35,18 +40,38 @@ pub fn run_sessions<W: Wire, D: MaildirDisk, F: FlatFile, H: BuildHasher>(
     ensures begun { IfErr result (λ e. (account.new ≡ account.old) × (visits.new ≡ visits.old)) }
     ensures count { IfOk result (λ reports. length reports.items ≡ length visits.old) }
     ensures settings { account.new.settings ≡ account.old.settings }
-    ensures runs { IfOk result (λ reports. AreSound W.sound visits.new → D.sound account.new.disk → F.sound account.new.file
-        → AreSound W.sound visits.old × D.sound account.old.disk × F.sound account.old.file
-        × Runs W.seen account.old.settings (digits_of account.old.settings) visits.old (kept (D.maildir account.old.disk) (F.stored account.old.file))
-        reports.items visits.new (kept (D.maildir account.new.disk) (F.stored account.new.file))) }
-    ensures promised { IfOk result (λ reports. AreSound W.sound visits.new → D.sound account.new.disk → F.sound account.new.file
+    ensures runs { IfOk result (λ reports. AreSound W.sound visits.new
+        → IsSoundMaildir D.MaildirDisk account.new.store → F.sound account.new.file
+        → AreSound W.sound visits.old × IsSoundMaildir D.MaildirDisk account.old.store × F.sound account.old.file
+        × Runs W.seen account.old.settings (digits_of account.old.settings) visits.old
+        (kept (maildir_of D.MaildirDisk account.old.store) (F.stored account.old.file))
+        reports.items visits.new (kept (maildir_of D.MaildirDisk account.new.store) (F.stored account.new.file))) }
+    ensures promised { IfOk result (λ reports. AreSound W.sound visits.new
+        → IsSoundMaildir D.MaildirDisk account.new.store → F.sound account.new.file
         → (all : List Message) (gone taken : List (List ℕ)) (facts : List Fact) → IsWorld all
-        → IsKept (world_of account.old.settings all) (state_of (kept (D.maildir account.old.disk) (F.stored account.old.file)) gone taken)
+        → IsKept (world_of account.old.settings all)
+        (state_of (kept (maildir_of D.MaildirDisk account.old.store) (F.stored account.old.file)) gone taken)
         → AreServed W.seen all gone visits.old visits.new facts
-        → ArePromised W.seen account.old.settings (world_of account.old.settings all) (state_of (kept (D.maildir account.old.disk) (F.stored account.old.file)) gone taken)
-        visits.old reports.items visits.new facts (kept (D.maildir account.new.disk) (F.stored account.new.file))) }
+        → ArePromised W.seen account.old.settings (world_of account.old.settings all)
+        (state_of (kept (maildir_of D.MaildirDisk account.old.store) (F.stored account.old.file)) gone taken)
+        visits.old reports.items visits.new facts (kept (maildir_of D.MaildirDisk account.new.store) (F.stored account.new.file))) }
+    ensures mbox_runs { IfOk result (λ reports. AreSound W.sound visits.new
+        → IsSoundMbox F.FlatFile account.new.store → F.sound account.new.file
+        → AreSound W.sound visits.old × IsSoundMbox F.FlatFile account.old.store × F.sound account.old.file
+        × MboxRuns W.seen account.old.settings visits.old
+        (mbox_kept (mbox_of F.FlatFile account.old.store) (F.stored account.old.file))
+        reports.items visits.new (mbox_kept (mbox_of F.FlatFile account.new.store) (F.stored account.new.file))) }
+    ensures mbox_promised { IfOk result (λ reports. AreSound W.sound visits.new
+        → IsSoundMbox F.FlatFile account.new.store → F.sound account.new.file
+        → (frame : MboxFrame) (gone : List (List ℕ)) (facts : List Fact) → IsWorld frame.all → AreSettings frame account.old.settings
+        → IsMboxKept frame (mbox_state (mbox_kept (mbox_of F.FlatFile account.old.store) (F.stored account.old.file)) gone)
+        → AreServed W.seen frame.all gone visits.old visits.new facts
+        → AreMboxPromised W.seen account.old.settings frame
+        (mbox_state (mbox_kept (mbox_of F.FlatFile account.old.store) (F.stored account.old.file)) gone)
+        visits.old reports.items visits.new facts (mbox_kept (mbox_of F.FlatFile account.new.store) (F.stored account.new.file))) }
 {
     headline();
+    mbox_headline();
     let _ = account.settings();
     let mut reports = Vec::with_capacity(alloc, visits.len())?;
     for i in 0..visits.len() {

@@ -7,9 +7,10 @@ use Rattle.std.proofs.lemmas.Grind.{flat_map-append}
 use Rattle.std.proofs.lemmas.Slice.Eq.{bytes_eq-Decides}
 use Rattle.mail_terms.specs.UniqueId.{IsLegalId}
 use Rattle.mail_terms.specs.Listing.{Item}
+use Rattle.fetch_rules.specs.Record.{Row, has_row}
 use Rattle.fetch_rules.specs.declared.steps.Step.{Step}
-use Rattle.mail_store.specs.Maildir.{Maildir, File, file, with_file}
-use Rattle.mail_store.specs.FileName.{name_of, names_id, is_held, IsAccountText}
+use Rattle.mail_store.specs.Maildir.{Maildir, File, with_file}
+use Rattle.mail_store.specs.FileName.{mail_file, stem_of, names_id, is_held, IsAccountText}
 use Rattle.fetch_session.specs.Task.{Task, ids_in, ids_ahead, AreFresh, fetching, deleting, tasks_in, tasks_planned}
 use Rattle.fetch_session.specs.Store.{Grows, GrowsBy, Rests}
 
@@ -22,22 +23,22 @@ held_by_files account uid a b news curs =
 -- a file under the name of an id makes that id held, and no other
 abbrev pub OneMore : Type 0
 OneMore = (account a b content : List ℕ) (maildir : Maildir) → IsAccountText account → IsLegalId a → IsLegalId b
-    → is_held account (with_file maildir (file (name_of account a) content)) b ≡ (is_held account maildir b || bytes_eq b a)
+    → is_held account (with_file maildir (mail_file account a content)) b ≡ (is_held account maildir b || bytes_eq b a)
 
-still_free : OneMore → (account uid other : List ℕ) (a b : Maildir) → IsAccountText account → IsLegalId uid → IsLegalId other → other ≢ uid → Grows (name_of account uid) a b
+still_free : OneMore → (account uid other : List ℕ) (a b : Maildir) → IsAccountText account → IsLegalId uid → IsLegalId other → other ≢ uid → Grows (stem_of account uid) a b
     → is_held account a other ≡ false → is_held account b other ≡ false
 still_free law account uid other a b text legal legal' apart grows free =
     elim grows.in_new [
       | inl same ↦ held_by_files account other a b same grows.in_cur ∙ free
       | inr more ↦
-          held_by_files account other (with_file a (file (name_of account uid) more.0)) b more.1 grows.in_cur
+          held_by_files account other (with_file a (mail_file account uid more.0)) b more.1 grows.in_cur
           ∙ law account uid other more.0 a text legal legal'
           ∙ ap (λ (k : Bool). k || bytes_eq other uid) free
           ∙ false_from_ne_true (bytes_eq other uid) (λ same. apart ((bytes_eq-Decides other uid).0 same))
     ]
 
 fresh_grows : OneMore → (account uid : List ℕ) (uids : List (List ℕ)) (a b : Maildir) → IsAccountText account → IsLegalId uid → AllByRecursion (λ (other : List ℕ). other ≢ uid) uids
-    → Grows (name_of account uid) a b → AreFresh account a uids → AreFresh account b uids
+    → Grows (stem_of account uid) a b → AreFresh account a uids → AreFresh account b uids
 fresh_grows law account uid [] a b text legal apart grows fresh = tt
 fresh_grows law account uid (x ∷ xs) a b text legal apart grows fresh =
     (fresh.0, still_free law account uid x a b text legal fresh.0 apart.0 grows fresh.1, fresh.2, fresh_grows law account uid xs a b text legal apart.1 grows fresh.3)
@@ -109,6 +110,13 @@ item_is item uid size u s =
 
 pub no_item : Item
 no_item = record { uid = []; size = 0 }
+
+-- the i-th message has a row, where all have one
+pub row_at : (rows : List Row) (items : List Item) (i : ℕ) → i < length items → AllByRecursion (λ (item : Item). has_row rows item.uid ≡ true) items
+    → has_row rows (get_or items i no_item).uid ≡ true
+row_at rows [] i within all = absurd (omega arith)
+row_at rows (item ∷ items) zero within all = all.0
+row_at rows (item ∷ items) (suc i) within all = row_at rows items i (omega arith) all.1
 
 -- the i-th step, and the tasks after it
 abbrev pub step_at : List Step → ℕ → Step

@@ -13,6 +13,9 @@ use Rattle.pop3_client.specs.declared.fault.Fault.TheVariants as Talk
 use Rattle.pop3_client.specs.declared.fault.Asked.{Asked}
 use Rattle.pop3_client.specs.declared.fault.Asked.TheVariants.{Greeting as ByGreeting, User as ByUser, Pass as ByPass, Stat as ByStat, Uidl as ByUidl, List as ByList, Retr as ByRetr, Dele as ByDele, Quit as ByQuit}
 use Rattle.pop3_client.specs.Turns.{Turn, Names, retr, dele, quit}
+use Rattle.pop3_wire.specs.Line.{crlf, ended}
+use Rattle.pop3_client.specs.Texts.{Fetching}
+use Rattle.fetch_session.specs.Mbox.{HoldsText}
 use Rattle.pop3_client.specs.Conversation.{Talked, Talks, Tells, Broke, most_of, ConversationsArePaced}
 use Rattle.fetch_session.specs.declared.fault.Fault.{Fault}
 use Rattle.fetch_session.specs.declared.fault.Fault.TheVariants.{Refused}
@@ -145,6 +148,23 @@ pub ended_within : (messages : ℕ) (link : Link) (last : Place) → Took (openi
     → GotAtMost (session_limit messages) link last.link
 ended_within messages link last took short = let one = took.within in (took.gained, took.got, omega (arith, one, short))
 
+-- a text that was asked for, and is under way or at its end
+pub took_fetching : (number : ℕ) (start new : Place) (rest : Rest) (text : List ℕ) → Fetching (retr number) start new rest text → Took 268437504 start new
+took_fetching number start new rest text is =
+    let line_is : length start.waiting + length is.opened.gained ≡ length is.line + 2 + length is.mid.waiting =
+    sym (length-append start.waiting is.opened.gained) ∙ ap (λ (l : List ℕ). length l) is.opened.heard ∙ length-append (ended is.line) is.mid.waiting
+    ∙ ap (λ (n : ℕ). n + length is.mid.waiting) (length-append is.line crlf) in
+    let body_is : length is.mid.waiting + length is.under.gained ≡ length is.under.used + length new.waiting =
+    sym (length-append is.mid.waiting is.under.gained) ∙ ap (λ (l : List ℕ). length l) is.under.heard ∙ length-append is.under.used new.waiting in
+    let sizes : length is.under.used + rest.left ≡ 268435456 = is.under.sizes in
+    let short : length is.line + 2 ≤ 2048 = is.opened.short in
+    let both : length (is.opened.gained ++ is.under.gained) ≡ length is.opened.gained + length is.under.gained = length-append is.opened.gained is.under.gained in
+    record {
+      gained = is.opened.gained ++ is.under.gained;
+      got = is.under.drew.got ∙ ap (λ (l : List ℕ). l ++ is.under.gained) is.opened.got ∙ append_assoc start.link.got is.opened.gained is.under.gained;
+      within = omega (arith, line_is, body_is, sizes, short, both);
+    }
+
 -- ---- conversations
 
 module _ (paced : ConversationsArePaced) where
@@ -218,3 +238,11 @@ module _ (paced : ConversationsArePaced) where
       ended_within messages link last
       (took_less (before + most_of (tail_turns (tail cut.fault))) (opening_limit + (messages * step_limit + tail_limit)) (at link []) last small
       (took_leaving before cut.fault cut.rest (at link []) mid last took left)) short
+
+  -- a text that was to be kept whole
+  pub takes_held : (number : ℕ) (start : Place) (cut : Cut) (new : Place) → HoldsText number start (Err cut) new → TookTillCut 268437504 start (Err cut) new
+  takes_held number start cut new (none, why) =
+      subst (λ (rest : Option Rest). TookBefore 268437504 start rest new) (sym none) (elim why [
+        | inl (fault, is, broke) ↦ took_broke (retr number) start new fault broke
+        | inr (wants, (rest, text, fetching)) ↦ took_fetching number start new rest text fetching
+      ])

@@ -1,8 +1,11 @@
 mod CarryLemmas
 mod FreshLemmas
 mod IntakeLemmas
+mod MboxLemmas
 mod OpeningLemmas
 mod PlanLemmas
+mod PretendLemmas
+mod ProspectLemmas
 mod ReadLemmas
 mod ReadyLemmas
 mod RecordLemmas

@@ -1,6 +1,6 @@
 -- The tasks of a plan store each id once, and only ids that aren't held.
 use Rattle.std.proofs.Common.{◌≡◌, ◌≢◌, ℕ, Bool, true, false, List, [], ◌∷◌, ◌++◌, refl, sym, subst, ◌∙◌}
-use Rattle.std.specs.Prelude.{◌||◌, ◌&&◌, not, bytes_eq}
+use Rattle.std.specs.Prelude.{◌||◌, bytes_eq}
 use Rattle.std.specs.List.{AllByRecursion}
 use Rattle.std.proofs.lemmas.Bool.{true≢false}
 use Rattle.std.proofs.lemmas.List.Folds.{list_any-append}
@@ -8,6 +8,11 @@ use Rattle.std.proofs.lemmas.Slice.Eq.{bytes_eq-Decides}
 use Rattle.mail_terms.specs.UniqueId.{IsLegalId}
 use Rattle.mail_terms.specs.Listing.{Item}
 use Rattle.mail_terms.specs.Listing.{has_item}
+use Rattle.mail_store.specs.declared.maildir.disk.MaildirDisk.{Ghosts as DiskGhosts}
+use Rattle.mail_store.specs.declared.file.flat_file.FlatFile.{Ghosts as FileGhosts}
+use Rattle.fetch_session.specs.declared.account.Store.{Store}
+use Rattle.fetch_session.specs.declared.account.Store.TheVariants.{Maildir as InMaildir, Mboxrd as InMbox}
+use Rattle.fetch_session.specs.Target.{flags_in, stores_of, target_of}
 use Rattle.fetch_rules.specs.declared.steps.Step.{Step}
 use Rattle.mail_store.specs.Maildir.{Maildir}
 use Rattle.mail_store.specs.FileName.{is_held}
@@ -66,3 +71,9 @@ fresh_firsts account maildir front (s ∷ ss) (i ∷ is) firsts legal =
     (all_weaker (λ (id : List ℕ). has_item (front ++ i ∷ []) id ≡ false) (λ (other : List ℕ). other ≢ i.uid) (ids_ahead later)
     (λ id none. (has_item-last front i id none).1) (not_in (front ++ i ∷ []) ss is (flags_of account maildir is) firsts.1))
     (fresh_firsts account maildir (front ++ i ∷ []) ss is firsts.1 legal.1))
+
+-- the flags are those of the Maildir, if there is one: none is held in a mailbox file
+pub flags_same : {D F : Type 0} (disk : DiskGhosts D) (file : FileGhosts F) (store : Store D F) (account : List ℕ) (items : List Item)
+    → flags_in (target_of store account) (stores_of disk file store) items ≡ flags_of account (stores_of disk file store).maildir items
+flags_same disk file (InMaildir device) account items = refl
+flags_same disk file (InMbox device) account items = refl

@@ -1,35 +1,168 @@
 -- What a session is ready with, or why it isn't.
-use Rattle.std.proofs.Common.{◌≡◌, ◌⊎◌, inl, inr, ℕ, Bool, List, Ok, Err, sym, ap, subst, ◌∙◌, arith}
+use Rattle.std.proofs.Common.{◌≡◌, ◌⊎◌, inl, inr, ◌<◌, ◌+◌, ℕ, Bool, false, true, List, [], ◌∷◌, ◌++◌, append_assoc, Option, Some, Ok, Err, refl, sym, ap, subst, ◌∙◌, arith}
 use Rattle.mail_terms.specs.Listing.{Item}
-use Rattle.fetch_rules.specs.Record.{Row, Loaded, none_open, merged}
+use Rattle.std.specs.Prelude.{◌||◌}
+use Rattle.std.specs.List.{AllByRecursion}
+use Rattle.std.specs.Prelude.{bytes_eq}
+use Rattle.std.proofs.lemmas.List.Folds.{list_any-append}
+use Rattle.std.proofs.lemmas.Slice.Eq.{bytes_eq-Decides}
+use Rattle.mail_terms.specs.Listing.{has_item}
+use Rattle.fetch_rules.specs.Record.{Row, Held, Loaded, has_row, none_open, merged}
+use Rattle.fetch_rules.specs.Intents.{closed_rows}
 use Rattle.fetch_rules.specs.Plan.{planned}
 use Rattle.rc_file.specs.declared.settings.Settings.{Settings}
 use Rattle.mail_store.specs.Maildir.{Maildir}
 use Rattle.mail_store.specs.FlatFile.{Stored}
-use Rattle.mail_store.specs.Held.{flags_of}
 use Rattle.fetch_session.specs.declared.fault.Fault.{Fault}
 use Rattle.fetch_session.specs.declared.fault.Fault.TheVariants.{ConnectionEnded, ReadFailed, WriteFailed, ReplyTooLong, BadReply, Refused, BadListing, ListingsDisagree, TooMany, TextTooLong, StoreRefused, SeenRefused, NoMemory, BadSeen}
+use Rattle.fetch_session.specs.declared.fault.Why.TheVariants as why
+use Rattle.fetch_session.specs.declared.readiness.Found.{Found}
 use Rattle.fetch_session.specs.declared.readiness.Ready.{Ready}
-use Rattle.fetch_session.specs.Record.{Keeps, Steady, ReadAs, Merges, IsReady, Unready, held_in}
-use Rattle.fetch_session.proofs.RecordLemmas.{read_keeps, steady_keeps}
+use Rattle.fetch_session.specs.Mbox.{AsksMbox}
+use Rattle.fetch_session.specs.Readiness.{CausesUnready, FindsIn, FindsRefused, IsReady, IsSettledBy, MboxUnready, Settles, Unready, UnreadyCause, merged_in}
+use Rattle.fetch_session.specs.Record.{Keeps, Steady, ReadAs, Reads, Merges, held_in}
+use Rattle.fetch_session.specs.Target.{Target, AsFiles, AsEntries, Stores, closed_file, flags_in, is_stored, mail_in, rows_in}
+use Rattle.fetch_session.proofs.RecordLemmas.{read_keeps, steady_keeps, not_whole}
 
-module _ (settings : Settings) (account : List ℕ) (items : List Item) (now : ℕ) (maildir maildir' : Maildir) (file read new : Stored) (loaded : Loaded) (held : List Bool)
-    (stood : ReadAs file.content loaded) (same : read ≡ file) (held_are : held ≡ flags_of account maildir items) (maildir_is : maildir' ≡ maildir) where
+-- ---- what was found
+
+mail_is : (content : Option (List ℕ)) (bytes : List ℕ) → content ≡ Some bytes → mail_in content ≡ bytes
+mail_is content bytes is = ap mail_in is
+
+-- the rows that an intent leaves that was ended by what was found
+pub closed_by_found : (target : Target) (store store' : Stores) (items : List Item) (was : Held) (found : Found) → FindsIn target was.intent store items (Ok found) store'
+    → closed_rows found.stored was.rows was.intent ≡ rows_in target store was
+closed_by_found (AsFiles account) store store' items was found (held, stored, same) = ap (λ (b : Bool). closed_rows b was.rows was.intent) stored ∙ not_whole was.rows was.intent
+closed_by_found AsEntries store store' items was found (bytes, is, stored, now, goes_on, held) =
+    ap (λ (b : Bool). closed_rows b was.rows was.intent) (stored ∙ ap (is_stored was.intent) (sym (mail_is store.mbox.content bytes is)))
+
+pub flags_found : (target : Target) (store store' : Stores) (items : List Item) (was : Held) (found : Found) → FindsIn target was.intent store items (Ok found) store'
+    → found.held.items ≡ flags_in target store items
+flags_found (AsFiles account) store store' items was found (held, stored, same) = held
+flags_found AsEntries store store' items was found (bytes, is, stored, now, goes_on, held) = held
+
+pub settles_found : (target : Target) (store store' : Stores) (items : List Item) (was : Held) (found : Found) → FindsIn target was.intent store items (Ok found) store'
+    → Settles target was store store'
+settles_found (AsFiles account) store store' items was found (held, stored, same) = same
+settles_found AsEntries store store' items was found (bytes, is, stored, now, goes_on, held) = (bytes, is, now, goes_on)
+
+settled_at_most : (file : Stored) (store store' : Stores) (was : Held) → Keeps file.content was → Settles AsEntries was store store' → IsSettledBy file store.mbox store'.mbox
+settled_at_most file store store' was kept (bytes, is, now, goes_on) =
+    inr (was, kept, inr (bytes, is, ap (λ (s : Stored). s.content) now))
+
+-- ---- nothing was planned
+
+pub unread : (target : Target) (items : List Item) (now : ℕ) (store : Stores) (file new : Stored) (loaded : Loaded) (fault : Fault) → Reads file loaded (Err fault) new → Unready target items now store file fault store new
+unread target items now store file new loaded SeenRefused is = record { cause = refused target; content = inl (ap (λ (s : Stored). s.content) is) }
+  where
+    risen : file.failures < new.failures
+    risen = let up : new.failures ≡ file.failures + 1 = ap (λ (s : Stored). s.failures) is in omega arith
+
+    refused : (t : Target) → CausesUnready t SeenRefused store file store new
+    refused (AsFiles account) = (risen, refl)
+    refused AsEntries = (risen, inl refl)
+unread target items now store file new loaded (BadSeen line) is = record { cause = bad target; content = inl (ap (λ (s : Stored). s.content) is.3) }
+  where
+    bad : (t : Target) → CausesUnready t (BadSeen line) store file store new
+    bad (AsFiles account) = (is, refl)
+    bad AsEntries = (is, refl)
+unread target items now store file new loaded NoMemory is = record { cause = wants target; content = inl (ap (λ (s : Stored). s.content) is) }
+  where
+    wants : (t : Target) → CausesUnready t NoMemory store file store new
+    wants (AsFiles account) = refl
+    wants AsEntries = inl refl
+unread target items now store file new loaded ConnectionEnded never = absurd never
+unread target items now store file new loaded ReadFailed never = absurd never
+unread target items now store file new loaded WriteFailed never = absurd never
+unread target items now store file new loaded ReplyTooLong never = absurd never
+unread target items now store file new loaded BadReply never = absurd never
+unread target items now store file new loaded (Refused to) never = absurd never
+unread target items now store file new loaded BadListing never = absurd never
+unread target items now store file new loaded ListingsDisagree never = absurd never
+unread target items now store file new loaded TooMany never = absurd never
+unread target items now store file new loaded TextTooLong never = absurd never
+unread target items now store file new loaded (StoreRefused how) never = absurd never
+
+files_refused : (fault : Fault) (maildir : Maildir) (file : Stored) (maildir' : Maildir) (file' : Stored) → FindsRefused maildir fault maildir' → UnreadyCause fault maildir file maildir' file'
+files_refused (StoreRefused why.Missing) maildir file maildir' file' is = is
+files_refused (StoreRefused why.Refused) maildir file maildir' file' is = is
+files_refused NoMemory maildir file maildir' file' is = is
+files_refused (StoreRefused why.NotMbox) maildir file maildir' file' never = absurd never
+files_refused ConnectionEnded maildir file maildir' file' never = absurd never
+files_refused ReadFailed maildir file maildir' file' never = absurd never
+files_refused WriteFailed maildir file maildir' file' never = absurd never
+files_refused ReplyTooLong maildir file maildir' file' never = absurd never
+files_refused BadReply maildir file maildir' file' never = absurd never
+files_refused (Refused to) maildir file maildir' file' never = absurd never
+files_refused BadListing maildir file maildir' file' never = absurd never
+files_refused ListingsDisagree maildir file maildir' file' never = absurd never
+files_refused TooMany maildir file maildir' file' never = absurd never
+files_refused TextTooLong maildir file maildir' file' never = absurd never
+files_refused SeenRefused maildir file maildir' file' never = absurd never
+files_refused (BadSeen line) maildir file maildir' file' never = absurd never
+
+mbox_refused : (fault : Fault) (items : List Item) (was : Held) (mbox file mbox' file' : Stored) → Keeps file.content was → AsksMbox was.intent mbox items (Err fault) mbox' → MboxUnready fault mbox file mbox' file'
+mbox_refused (StoreRefused why.Missing) items was mbox file mbox' file' kept is = is
+mbox_refused (StoreRefused why.Refused) items was mbox file mbox' file' kept (up, most) =
+    (let risen : mbox'.failures ≡ mbox.failures + 1 = up in omega arith, inr (was, kept, most))
+mbox_refused (StoreRefused why.NotMbox) items was mbox file mbox' file' kept (bytes, is, other, now) =
+    ((closed_file was.intent bytes, ap (λ (s : Stored). s.content) now, other), inr (was, kept, inr (bytes, is, ap (λ (s : Stored). s.content) now)))
+mbox_refused NoMemory items was mbox file mbox' file' kept (same, most) = inr (was, kept, most)
+mbox_refused ConnectionEnded items was mbox file mbox' file' kept never = absurd never
+mbox_refused ReadFailed items was mbox file mbox' file' kept never = absurd never
+mbox_refused WriteFailed items was mbox file mbox' file' kept never = absurd never
+mbox_refused ReplyTooLong items was mbox file mbox' file' kept never = absurd never
+mbox_refused BadReply items was mbox file mbox' file' kept never = absurd never
+mbox_refused (Refused to) items was mbox file mbox' file' kept never = absurd never
+mbox_refused BadListing items was mbox file mbox' file' kept never = absurd never
+mbox_refused ListingsDisagree items was mbox file mbox' file' kept never = absurd never
+mbox_refused TooMany items was mbox file mbox' file' kept never = absurd never
+mbox_refused TextTooLong items was mbox file mbox' file' kept never = absurd never
+mbox_refused SeenRefused items was mbox file mbox' file' kept never = absurd never
+mbox_refused (BadSeen line) items was mbox file mbox' file' kept never = absurd never
+
+-- the store refused
+pub not_found : (target : Target) (items : List Item) (now : ℕ) (store store' : Stores) (file new : Stored) (loaded : Loaded) (fault : Fault) → ReadAs file.content loaded → new ≡ file
+    → FindsIn target loaded.intent store items (Err fault) store' → Unready target items now store file fault store' new
+not_found (AsFiles account) items now store store' file new loaded fault stood same finds =
+    record { cause = files_refused fault store.maildir file store'.maildir new finds; content = inl (ap (λ (s : Stored). s.content) same) }
+not_found AsEntries items now store store' file new loaded fault stood same finds =
+    record { cause = mbox_refused fault items (held_in loaded) store.mbox file store'.mbox new (read_keeps file.content loaded stood) finds; content = inl (ap (λ (s : Stored). s.content) same) }
+
+-- ---- the listing was merged
+
+module _ (settings : Settings) (target : Target) (items : List Item) (now : ℕ) (store store' : Stores) (file read new : Stored) (loaded : Loaded) (found : Found)
+    (stood : ReadAs file.content loaded) (same : read ≡ file) (finds : FindsIn target loaded.intent store items (Ok found) store') where
   kept : Keeps file.content (held_in loaded)
   kept = read_keeps file.content loaded stood
 
-  as_now : merged loaded.rows items held now ≡ merged loaded.rows items (flags_of account maildir items) now
-  as_now = ap (λ (flags : List Bool). merged loaded.rows items flags now) held_are
+  abbrev here : List Row
+  here = merged (closed_rows found.stored loaded.rows loaded.intent) items found.held.items now
+
+  as_now : here ≡ merged_in target store (held_in loaded) items now
+  as_now = ap (λ (flags : List Bool). merged (closed_rows found.stored loaded.rows loaded.intent) items flags now) (flags_found target store store' items (held_in loaded) found finds)
+      ∙ ap (λ (rows : List Row). merged rows items (flags_in target store items) now) (closed_by_found target store store' items (held_in loaded) found finds)
 
   failures_same : read.failures ≡ file.failures
   failures_same = ap (λ (s : Stored). s.failures) same
 
-  pub unsaved_merge : (fault : Fault) → Merges read (held_in loaded) (none_open (merged loaded.rows items held now)) (Err fault) new → Unready account items now maildir file fault maildir' new
+  settles : Settles target (held_in loaded) store store'
+  settles = settles_found target store store' items (held_in loaded) found finds
+
+  risen_cause : file.failures < new.failures → (t : Target) → Settles t (held_in loaded) store store' → CausesUnready t SeenRefused store file store' new
+  risen_cause risen (AsFiles account) is = (risen, ap (λ (s : Stores). s.maildir) is)
+  risen_cause risen AsEntries is = (risen, settled_at_most file store store' (held_in loaded) kept is)
+
+  wants_cause : (t : Target) → Settles t (held_in loaded) store store' → CausesUnready t NoMemory store file store' new
+  wants_cause (AsFiles account) is = ap (λ (s : Stores). s.maildir) is
+  wants_cause AsEntries is = settled_at_most file store store' (held_in loaded) kept is
+
+  pub unsaved_merge : (fault : Fault) → Merges read (held_in loaded) (none_open here) (Err fault) new → Unready target items now store file fault store' new
   unsaved_merge SeenRefused merges = record {
-    cause = (omega (arith, merges.0, failures_same), maildir_is);
-    content = inr (held_in loaded, kept, subst (λ (rows : List Row). Keeps new.content (held_in loaded) ⊎ Keeps new.content (none_open rows)) as_now merges.1);
+    cause = risen_cause (omega (arith, merges.0, failures_same)) target settles;
+    content = inr (held_in loaded, kept, settles, subst (λ (rows : List Row). Keeps new.content (held_in loaded) ⊎ Keeps new.content (none_open rows)) as_now merges.1);
   }
-  unsaved_merge NoMemory merges = record { cause = maildir_is; content = inl (ap (λ (s : Stored). s.content) (merges ∙ same)) }
+  unsaved_merge NoMemory merges = record { cause = wants_cause target settles; content = inl (ap (λ (s : Stored). s.content) (merges ∙ same)) }
   unsaved_merge ConnectionEnded never = absurd never
   unsaved_merge ReadFailed never = absurd never
   unsaved_merge WriteFailed never = absurd never
@@ -43,22 +176,45 @@ module _ (settings : Settings) (account : List ℕ) (items : List Item) (now : �
   unsaved_merge (StoreRefused why) never = absurd never
   unsaved_merge (BadSeen line) never = absurd never
 
-  pub saved_merge : (ready : Ready) (after : List Row) → Merges read (held_in loaded) (none_open (merged loaded.rows items held now)) (Ok tt) new → after ≡ merged loaded.rows items held now
-      → ready.held.items ≡ held → ready.steps.items ≡ planned settings after items now → IsReady settings account items now maildir file ready after maildir' new
+  pub saved_merge : (ready : Ready) (after : List Row) → Merges read (held_in loaded) (none_open here) (Ok tt) new → after ≡ here
+      → ready.held.items ≡ found.held.items → ready.steps.items ≡ planned settings after items now → IsReady settings target items now store file ready after store' new
   saved_merge ready after merges rows_are flags_are steps_are = record {
     was = held_in loaded;
     stood = kept;
-    held = flags_are ∙ held_are;
+    held = flags_are ∙ flags_found target store store' items (held_in loaded) found finds;
     rows = rows_are ∙ as_now;
     steps = steps_are;
     saved = subst (λ (rows : List Row). Steady new.content (none_open rows)) (sym rows_are) merges.1;
     file_count = merges.0 ∙ failures_same;
-    maildir_is = maildir_is;
+    settles = settles;
   }
 
   -- saved, and memory was wanting for the plan
-  pub no_plan : Merges read (held_in loaded) (none_open (merged loaded.rows items held now)) (Ok tt) new → Unready account items now maildir file NoMemory maildir' new
+  pub no_plan : Merges read (held_in loaded) (none_open here) (Ok tt) new → Unready target items now store file NoMemory store' new
   no_plan merges = record {
-    cause = maildir_is;
-    content = inr (held_in loaded, kept, inr (subst (λ (rows : List Row). Keeps new.content (none_open rows)) as_now (steady_keeps new.content (none_open (merged loaded.rows items held now)) merges.1)));
+    cause = wants_cause target settles;
+    content = inr (held_in loaded, kept, settles, inr (subst (λ (rows : List Row). Keeps new.content (none_open rows)) as_now (steady_keeps new.content (none_open here) merges.1)));
   }
+
+-- ---- every listed id has a row
+
+or_true : (b : Bool) → (b || true) ≡ true
+or_true true = refl
+or_true false = refl
+
+has_item-at : (front rest : List Item) (item : Item) → has_item (front ++ item ∷ rest) item.uid ≡ true
+has_item-at front rest item =
+    list_any-append (λ (i : Item). bytes_eq item.uid i.uid) front (item ∷ rest)
+    ∙ ap (λ (b : Bool). has_item front item.uid || (b || has_item rest item.uid)) ((bytes_eq-Decides item.uid item.uid).1 refl)
+    ∙ or_true (has_item front item.uid)
+
+all_listed : (rows : List Row) (items : List Item) → ((uid : List ℕ) → has_item items uid ≡ true → has_row rows uid ≡ true) → (front rest : List Item) → items ≡ front ++ rest
+    → AllByRecursion (λ (item : Item). has_row rows item.uid ≡ true) rest
+all_listed rows items each front [] split = tt
+all_listed rows items each front (item ∷ rest) split =
+    (each item.uid (subst (λ (l : List Item). has_item l item.uid ≡ true) (sym split) (has_item-at front rest item)), all_listed rows items each (front ++ item ∷ []) rest (split ∙ sym (append_assoc front (item ∷ []) rest)))
+
+pub all_have_rows : ((rows : List Row) (listing : List Item) (held : List Bool) (now : ℕ) (uid : List ℕ) → has_row (merged rows listing held now) uid ≡ (has_row rows uid || has_item listing uid))
+    → (rows : List Row) (items : List Item) (held : List Bool) (now : ℕ) (after : List Row) → after ≡ merged rows items held now → AllByRecursion (λ (item : Item). has_row after item.uid ≡ true) items
+all_have_rows law rows items held now after is =
+    all_listed after items (λ uid listed. ap (λ (r : List Row). has_row r uid) is ∙ law rows items held now uid ∙ ap (λ (b : Bool). has_row rows uid || b) listed ∙ or_true (has_row rows uid)) [] items refl

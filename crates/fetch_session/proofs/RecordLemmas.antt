@@ -3,8 +3,8 @@ use Rattle.std.proofs.Common.{◌≡◌, ◌≢◌, ◌⊎◌, inl, inr, ℕ, Bo
 use Rattle.std.specs.Prelude.{OnOk, ◌==◌, ◌||◌, true, if◌then◌else◌, length}
 use Rattle.std.proofs.lemmas.Bool.{true≢false}
 use Rattle.std.proofs.lemmas.List.{append-nil}
-use Rattle.fetch_rules.specs.Record.{Row, Intent, Held, Loaded, none_open, IntentHasRow, has_row, marked}
-use Rattle.fetch_rules.specs.RecordFile.{Version, One, Two, header, file_of}
+use Rattle.fetch_rules.specs.Record.{Row, Intent, Held, Loaded, none_open, IntentHasRow, IsIntent, has_row, marked}
+use Rattle.fetch_rules.specs.RecordFile.{Version, One, Two, header, file_of, intent_line}
 use Rattle.fetch_rules.specs.RecordMeaning.{Meaning, Rows, Fault as Faulty, Means, has_bytes, taken}
 use Rattle.fetch_rules.specs.RecordGrowth.{Updates, Grows, AppendedCounts, CutIsIgnored, taken_all}
 use Rattle.fetch_rules.specs.Intents.{has_intent, is_older, closed_rows, IsNoneOrOf}
@@ -70,7 +70,7 @@ read_steady content loaded is fresh =
       closed,
     )
 
-abbrev held : List Row → Option Intent → Held
+abbrev pub held : List Row → Option Intent → Held
 held rows intent = record { rows = rows; intent = intent }
 
 pub held_is : (loaded : Loaded) → loaded.intent ≡ None → none_open loaded.rows ≡ held_in loaded
@@ -184,15 +184,26 @@ still_some rows [] some = some
 still_some rows (row ∷ group) some = still_some (taken rows row) group (taken_by (has_row rows row.uid) rows row some)
 
 -- where an id's mark gives a group, the file has bytes
-pub mark_begun : (content : Option (List ℕ)) (was now : List Row) (after : Option Intent) (uid group : List ℕ) → Steady content (none_open was) → now ≡ marked was uid → Updates was None group now after → group ≢ [] → bytes_in content ≢ []
-mark_begun content was now after uid group steady marks (inl same) some none = some same.0
-mark_begun content was now after uid group steady marks (inr (rows, is, bytes, grown', closed)) some none =
-    let no_row : was ≡ [] = (empty_means Two was None false (subst (λ (b : List ℕ). Means b (Rows Two was None false)) none steady)).0 in
+pub mark_begun : (content : Option (List ℕ)) (was now : List Row) (before after : Option Intent) (uid group : List ℕ) → Steady content (held was before) → now ≡ marked was uid → Updates was before group now after → group ≢ [] → bytes_in content ≢ []
+mark_begun content was now before after uid group steady marks (inl same) some none = some same.0
+mark_begun content was now before after uid group steady marks (inr (rows, is, bytes, grown', closed)) some none =
+    let no_row : was ≡ [] = (empty_means Two was before false (subst (λ (b : List ℕ). Means b (Rows Two was before false)) none steady)).0 in
     by_rows rows is.count.0 (sym grown' ∙ marks ∙ ap (λ (r : List Row). marked r uid) no_row) no_row
   where
     by_rows : (rows : List Row) → 1 ≤ length rows → taken_all was rows ≡ [] → was ≡ [] → ⊥
     by_rows [] count nothing no_row = absurd (omega (arith, count))
     by_rows (row ∷ more) count nothing no_row = still_some (row ∷ []) more (λ e. no_cons e) (subst (λ (r : List Row). taken_all (taken r row) more ≡ []) no_row nothing)
+
+-- where an id has a row, the file has bytes
+pub row_begun : (content : Option (List ℕ)) (rows : List Row) (uid : List ℕ) → Steady content (none_open rows) → has_row rows uid ≡ true → bytes_in content ≢ []
+row_begun content rows uid steady has none =
+    let no_row : rows ≡ [] = (empty_means Two rows None false (subst (λ (b : List ℕ). Means b (Rows Two rows None false)) none steady)).0 in
+    true≢false (sym has ∙ ap (λ (r : List Row). has_row r uid) no_row)
+
+-- an intent's line opens it
+pub opens : (rows : List Row) (intent : Intent) (line : List ℕ) → IsIntent intent → has_row rows intent.uid ≡ true → line ≡ intent_line intent → Grows rows None line rows (Some intent)
+opens rows intent line is has line_is =
+    inr (record { intent = intent; is_one = is; row = has; closed = refl; bytes_are = line_is; same = refl; opened = refl })
 
 pub has_row_where_none : (rows : List Row) (intent : Option Intent) → intent ≡ None → IntentHasRow rows intent
 has_row_where_none rows intent closed = subst (λ (i : Option Intent). IntentHasRow rows i) (sym closed) tt

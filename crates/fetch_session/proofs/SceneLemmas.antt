@@ -1,8 +1,11 @@
 -- How what single tasks do makes what lists of tasks do.
-use Rattle.std.proofs.Common.{◌≡◌, ◌≤◌, ℕ, List, [], ◌∷◌, ◌++◌, Result, Ok, Err, OnOk, refl, sym, ap, subst, ◌∙◌, arith, append_assoc}
+use Rattle.std.proofs.Common.{◌≡◌, ◌≤◌, ℕ, List, [], ◌∷◌, ◌++◌, Option, None, Some, Result, Ok, Err, OnOk, refl, sym, ap, subst, ◌∙◌, arith, append_assoc}
 use Rattle.std.proofs.lemmas.List.{append-nil, map-append}
 use Rattle.std.proofs.lemmas.Grind.{flat_map-append}
-use Rattle.std.specs.List.{AllByRecursion}
+use Rattle.std.specs.List.{flat_map, AllByRecursion}
+use Rattle.std.specs.Prelude.{option_map}
+use Rattle.mail_store.specs.FlatFile.{Stored}
+use Rattle.mail_store.specs.Mboxrd.{entry_of}
 use Rattle.fetch_rules.specs.Record.{Row, marked, marked_all}
 use Rattle.mail_store.specs.Maildir.{Maildir, File}
 use Rattle.pop3_client.specs.Turns.{Turn}
@@ -11,8 +14,9 @@ use Rattle.pop3_client.specs.Conversation.{Talked}
 use Rattle.pop3_client.proofs.TalkLemmas.{talked_none, talked_on}
 use Rattle.fetch_session.specs.declared.fault.Cut.{Cut}
 use Rattle.fetch_session.specs.declared.report.ReportLine.{ReportLine}
-use Rattle.fetch_session.specs.Task.{Task, Done, IsAnswered, task_in, turns_in, ids_in, files_in, lines_in, tasks_of, turns_of, replies_of, ids_of, files_of, lines_of}
-use Rattle.fetch_session.specs.Store.{Gained}
+use Rattle.fetch_session.specs.Task.{Task, Done, IsAnswered, task_in, turns_in, ids_in, files_in, texts_in, lines_in, tasks_of, turns_of, replies_of, ids_of, files_of, texts_of, lines_of}
+use Rattle.fetch_session.specs.Store.{Gained, Appended, Brings}
+use Rattle.fetch_session.specs.Target.{Target, AsFiles, AsEntries, Stores}
 use Rattle.fetch_session.specs.Scene.{Scene, Went, AllWent, Fell, Stops, TakesTask, Does}
 
 pub gained_none : (m : Maildir) → Gained m m []
@@ -38,18 +42,57 @@ pub all_append : {A : Type 0} (P : A → Type 0) (xs ys : List A) → AllByRecur
 all_append P [] ys first then = then
 all_append P (x ∷ xs) ys first then = (first.0, all_append P xs ys first.1 then)
 
-pub went_none : (account : List ℕ) (s : Scene) → Went account [] s s
-went_none account s =
-    record { talked = talked_none s.place; each = tt; stored = gained_none s.maildir; rows = refl; saved = λ stands. stands; file_count = omega arith; lines = sym (append-nil s.lines) }
+-- ---- what texts bring
 
-pub went_on : (account : List ℕ) (xs ys : List Done) (a b c : Scene) → Went account xs a b → Went account ys b c → Went account (xs ++ ys) a c
-went_on account xs ys a b c first then = record {
+content_none : (content : Option (List ℕ)) → content ≡ option_map (λ (was : List ℕ). was ++ []) content
+content_none None = refl
+content_none (Some was) = ap Some (sym (append-nil was))
+
+content_on : (content : Option (List ℕ)) (xs ys : List (List ℕ))
+    → option_map (λ (was : List ℕ). was ++ flat_map entry_of ys) (option_map (λ (was : List ℕ). was ++ flat_map entry_of xs) content)
+    ≡ option_map (λ (was : List ℕ). was ++ flat_map entry_of (xs ++ ys)) content
+content_on None xs ys = refl
+content_on (Some was) xs ys =
+    ap Some (append_assoc was (flat_map entry_of xs) (flat_map entry_of ys) ∙ ap (λ (l : List ℕ). was ++ l) (sym (flat_map-append entry_of xs ys)))
+
+appended_none : (mbox : Stored) → Appended mbox mbox []
+appended_none mbox = record { content = content_none mbox.content; failures = refl }
+
+appended_on : (a b c : Stored) (xs ys : List (List ℕ)) → Appended a b xs → Appended b c ys → Appended a c (xs ++ ys)
+appended_on a b c xs ys first then = record {
+  content = then.content ∙ ap (option_map (λ (was : List ℕ). was ++ flat_map entry_of ys)) first.content ∙ content_on a.content xs ys;
+  failures = then.failures ∙ first.failures;
+}
+
+pub brings_none : (target : Target) (s : Stores) → Brings target [] s s
+brings_none (AsFiles account) s = gained_none s.maildir
+brings_none AsEntries s = appended_none s.mbox
+
+brings_on : (target : Target) (xs ys : List Done) (a b c : Stores) → Brings target xs a b → Brings target ys b c → Brings target (xs ++ ys) a c
+brings_on (AsFiles account) xs ys a b c first then =
+    subst (λ (fs : List File). Gained a.maildir c.maildir fs) (sym (flat_map-append (λ (d : Done). files_in account d.task d.replies) xs ys))
+    (gained_on a.maildir b.maildir c.maildir (files_of account xs) (files_of account ys) first then)
+brings_on AsEntries xs ys a b c first then =
+    subst (λ (ts : List (List ℕ)). Appended a.mbox c.mbox ts) (sym (flat_map-append (λ (d : Done). texts_in d.task d.replies) xs ys))
+    (appended_on a.mbox b.mbox c.mbox (texts_of xs) (texts_of ys) first then)
+
+-- a task that stored nothing
+pub brings_same : (target : Target) (done : Done) (s : Stores) → ((account : List ℕ) → files_in account done.task done.replies ≡ []) → texts_in done.task done.replies ≡ []
+    → Brings target (done ∷ []) s s
+brings_same (AsFiles account) done s files texts = subst (λ (fs : List File). Gained s.maildir s.maildir (fs ++ [])) (sym (files account)) (gained_none s.maildir)
+brings_same AsEntries done s files texts = subst (λ (ts : List (List ℕ)). Appended s.mbox s.mbox (ts ++ [])) (sym texts) (appended_none s.mbox)
+
+pub went_none : (target : Target) (s : Scene) → Went target [] s s
+went_none target s =
+    record { talked = talked_none s.place; each = tt; stored = brings_none target s.store; rows = refl; saved = λ stands. stands; file_count = omega arith; lines = sym (append-nil s.lines) }
+
+pub went_on : (target : Target) (xs ys : List Done) (a b c : Scene) → Went target xs a b → Went target ys b c → Went target (xs ++ ys) a c
+went_on target xs ys a b c first then = record {
   talked = subst (λ (ts : List Turn). Talked ts (replies_of (xs ++ ys)) a.place c.place) (sym (flat_map-append (λ (d : Done). turns_in d.task) xs ys))
       (subst (λ (rs : List WholeReply). Talked (turns_of xs ++ turns_of ys) rs a.place c.place) (sym (flat_map-append (λ (d : Done). d.replies) xs ys))
       (talked_on (turns_of xs) (turns_of ys) (replies_of xs) (replies_of ys) a.place b.place c.place first.talked then.talked));
   each = all_append IsAnswered xs ys first.each then.each;
-  stored = subst (λ (fs : List File). Gained a.maildir c.maildir fs) (sym (flat_map-append (λ (d : Done). files_in account d.task d.replies) xs ys))
-      (gained_on a.maildir b.maildir c.maildir (files_of account xs) (files_of account ys) first.stored then.stored);
+  stored = brings_on target xs ys a.store b.store c.store first.stored then.stored;
   rows = then.rows ∙ ap (λ (r : List Row). marked_all r (ids_of ys)) first.rows ∙ sym (marked_on a.rows (ids_of xs) (ids_of ys))
       ∙ ap (λ (is : List (List ℕ)). marked_all a.rows is) (sym (flat_map-append (λ (d : Done). ids_in d.task) xs ys));
   saved = λ stands. then.saved (first.saved stands);
@@ -58,12 +101,12 @@ went_on account xs ys a b c first then = record {
       ∙ ap (λ (l : List ReportLine). a.lines ++ l) (sym (flat_map-append (λ (d : Done). lines_in d.task d.replies) xs ys));
 }
 
-pub fell_first : (account : List ℕ) (task : Task) (later : List Task) (a new : Scene) (f : Cut) → Stops account task a f new → Fell account (task ∷ later) a f new
-fell_first account task later a new f stops =
-    record { dones = []; next = task; later = later; mid = a; split = refl; went = went_none account a; stops = stops }
+pub fell_first : (target : Target) (task : Task) (later : List Task) (a new : Scene) (f : Cut) → Stops target task a f new → Fell target (task ∷ later) a f new
+fell_first target task later a new f stops =
+    record { dones = []; next = task; later = later; mid = a; split = refl; went = went_none target a; stops = stops }
 
-pub fell_on : (account : List ℕ) (xs ys : List Task) (a b new : Scene) (f : Cut) → AllWent account xs a b → Fell account ys b f new → Fell account (xs ++ ys) a f new
-fell_on account xs ys a b new f first then = record {
+pub fell_on : (target : Target) (xs ys : List Task) (a b new : Scene) (f : Cut) → AllWent target xs a b → Fell target ys b f new → Fell target (xs ++ ys) a f new
+fell_on target xs ys a b new f first then = record {
   dones = first.dones ++ then.dones;
   next = then.next;
   later = then.later;
@@ -71,12 +114,12 @@ fell_on account xs ys a b new f first then = record {
   split = ap (λ (l : List Task). l ++ ys) first.all ∙ ap (λ (l : List Task). tasks_of first.dones ++ l) then.split
       ∙ sym (append_assoc (tasks_of first.dones) (tasks_of then.dones) (then.next ∷ then.later))
       ∙ ap (λ (l : List Task). l ++ then.next ∷ then.later) (sym (map-append task_in first.dones then.dones));
-  went = went_on account first.dones then.dones a b then.mid first.went then.went;
+  went = went_on target first.dones then.dones a b then.mid first.went then.went;
   stops = then.stops;
 }
 
-pub fell_before : (account : List ℕ) (xs ys : List Task) (a new : Scene) (f : Cut) → Fell account xs a f new → Fell account (xs ++ ys) a f new
-fell_before account xs ys a new f fell = record {
+pub fell_before : (target : Target) (xs ys : List Task) (a new : Scene) (f : Cut) → Fell target xs a f new → Fell target (xs ++ ys) a f new
+fell_before target xs ys a new f fell = record {
   dones = fell.dones;
   next = fell.next;
   later = fell.later ++ ys;
@@ -86,42 +129,42 @@ fell_before account xs ys a new f fell = record {
   stops = fell.stops;
 }
 
-pub all_none : (account : List ℕ) (s : Scene) → AllWent account [] s s
-all_none account s = record { dones = []; all = refl; went = went_none account s }
+pub all_none : (target : Target) (s : Scene) → AllWent target [] s s
+all_none target s = record { dones = []; all = refl; went = went_none target s }
 
-pub all_on : (account : List ℕ) (xs ys : List Task) (a b c : Scene) → AllWent account xs a b → AllWent account ys b c → AllWent account (xs ++ ys) a c
-all_on account xs ys a b c first then = record {
+pub all_on : (target : Target) (xs ys : List Task) (a b c : Scene) → AllWent target xs a b → AllWent target ys b c → AllWent target (xs ++ ys) a c
+all_on target xs ys a b c first then = record {
   dones = first.dones ++ then.dones;
   all = ap (λ (l : List Task). l ++ ys) first.all ∙ ap (λ (l : List Task). tasks_of first.dones ++ l) then.all
       ∙ sym (map-append task_in first.dones then.dones);
-  went = went_on account first.dones then.dones a b c first.went then.went;
+  went = went_on target first.dones then.dones a b c first.went then.went;
 }
 
-pub does_more : (account : List ℕ) (xs ys : List Task) (a b c : Scene) (r : Result (Unit {0}) Cut) → AllWent account xs a b → Does account ys b r c → Does account (xs ++ ys) a r c
-does_more account xs ys a b c (Ok done) first then = all_on account xs ys a b c first then
-does_more account xs ys a b c (Err f) first then = fell_on account xs ys a b c f first then
+pub does_more : (target : Target) (xs ys : List Task) (a b c : Scene) (r : Result (Unit {0}) Cut) → AllWent target xs a b → Does target ys b r c → Does target (xs ++ ys) a r c
+does_more target xs ys a b c (Ok done) first then = all_on target xs ys a b c first then
+does_more target xs ys a b c (Err f) first then = fell_on target xs ys a b c f first then
 
-pub takes_does : (account : List ℕ) (task : Task) (a b : Scene) (r : Result (Unit {0}) Cut) → TakesTask account task a r b → Does account (task ∷ []) a r b
-takes_does account task a b (Ok done) took = record { dones = record { task = task; replies = took.0 } ∷ []; all = refl; went = took.1 }
-takes_does account task a b (Err f) took = fell_first account task [] a b f took
+pub takes_does : (target : Target) (task : Task) (a b : Scene) (r : Result (Unit {0}) Cut) → TakesTask target task a r b → Does target (task ∷ []) a r b
+takes_does target task a b (Ok done) took = record { dones = record { task = task; replies = took.0 } ∷ []; all = refl; went = took.1 }
+takes_does target task a b (Err f) took = fell_first target task [] a b f took
 
 -- what is left to do from here, all tasks do from the start
-pub record Leads (account : List ℕ) (all : List Task) (start : Scene) (left : List Task) (now : Scene) : Type 0 where
-  pub on : (r : Result (Unit {0}) Cut) (new : Scene) → Does account left now r new → Does account all start r new
+pub record Leads (target : Target) (all : List Task) (start : Scene) (left : List Task) (now : Scene) : Type 0 where
+  pub on : (r : Result (Unit {0}) Cut) (new : Scene) → Does target left now r new → Does target all start r new
 
-pub leads_start : (account : List ℕ) (all : List Task) (start : Scene) → Leads account all start all start
-leads_start account all start = record { on = λ r new does. does }
+pub leads_start : (target : Target) (all : List Task) (start : Scene) → Leads target all start all start
+leads_start target all start = record { on = λ r new does. does }
 
-pub leads_on : (account : List ℕ) (all left xs ys : List Task) (start now mid : Scene) → left ≡ xs ++ ys → Leads account all start left now → AllWent account xs now mid → Leads account all start ys mid
-leads_on account all left xs ys start now mid split leads went =
-    record { on = λ r new does. leads.on r new (subst (λ (ts : List Task). Does account ts now r new) (sym split) (does_more account xs ys now mid new r went does)) }
+pub leads_on : (target : Target) (all left xs ys : List Task) (start now mid : Scene) → left ≡ xs ++ ys → Leads target all start left now → AllWent target xs now mid → Leads target all start ys mid
+leads_on target all left xs ys start now mid split leads went =
+    record { on = λ r new does. leads.on r new (subst (λ (ts : List Task). Does target ts now r new) (sym split) (does_more target xs ys now mid new r went does)) }
 
-pub leads_fell : (account : List ℕ) (all left xs ys : List Task) (start now new : Scene) (f : Cut) → left ≡ xs ++ ys → Leads account all start left now → Fell account xs now f new → Fell account all start f new
-leads_fell account all left xs ys start now new f split leads fell =
-    leads.on (Err f) new (subst (λ (ts : List Task). Fell account ts now f new) (sym split) (fell_before account xs ys now new f fell))
+pub leads_fell : (target : Target) (all left xs ys : List Task) (start now new : Scene) (f : Cut) → left ≡ xs ++ ys → Leads target all start left now → Fell target xs now f new → Fell target all start f new
+leads_fell target all left xs ys start now new f split leads fell =
+    leads.on (Err f) new (subst (λ (ts : List Task). Fell target ts now f new) (sym split) (fell_before target xs ys now new f fell))
 
-pub leads_end : (account : List ℕ) (all left : List Task) (start now : Scene) → left ≡ [] → Leads account all start left now → AllWent account all start now
-leads_end account all left start now none leads = leads.on (Ok tt) now (subst (λ (ts : List Task). AllWent account ts now now) (sym none) (all_none account now))
+pub leads_end : (target : Target) (all left : List Task) (start now : Scene) → left ≡ [] → Leads target all start left now → AllWent target all start now
+leads_end target all left start now none leads = leads.on (Ok tt) now (subst (λ (ts : List Task). AllWent target ts now now) (sym none) (all_none target now))
 
 pub on_any : {T E P : Type 0} (result : Result T E) → P → OnOk result P
 on_any (Ok done) p = p

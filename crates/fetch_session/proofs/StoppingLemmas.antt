@@ -5,7 +5,7 @@ use Rattle.std.proofs.lemmas.Grind.{flat_map-append}
 use Rattle.std.specs.List.{flat_map}
 use Rattle.pop3_wire.specs.Place.{Place}
 use Rattle.fetch_rules.specs.Record.{Row, Held, none_open, marked, marked_all}
-use Rattle.mail_store.specs.Maildir.{Maildir, File, file, dropped, counted}
+use Rattle.mail_store.specs.Maildir.{Maildir, File, dropped, counted}
 use Rattle.mail_store.specs.FlatFile.{Stored}
 use Rattle.pop3_client.specs.declared.fault.Fault.{Fault as TalkFault}
 use Rattle.pop3_client.specs.Turns.{Turn, retr}
@@ -21,9 +21,10 @@ use Rattle.fetch_session.specs.declared.report.ReportLine.{ReportLine}
 use Rattle.pop3_wire.specs.Bodies.{Rest}
 use Rattle.pop3_wire.specs.declared.unstuffer.Spot.TheVariants.{Done as AtEnd}
 use Rattle.pop3_client.specs.Texts.{Fetching}
-use Rattle.mail_store.specs.FileName.{name_of}
+use Rattle.mail_store.specs.FileName.{mail_file}
 use Rattle.fetch_session.specs.Record.{Keeps, Steady, Saves}
-use Rattle.fetch_session.specs.Scene.{Scene, Fell, Broken, NotStored, NotSaved}
+use Rattle.fetch_session.specs.Scene.{Scene, Fell, Broken, NoFile, FileNotSaved}
+use Rattle.fetch_session.specs.Target.{AsFiles, Stores}
 use Rattle.fetch_session.specs.Laws.{Stands, ExtraIs, MarksAre, CutShort}
 use Rattle.fetch_session.proofs.SceneLemmas.{marked_on}
 use Rattle.fetch_session.proofs.RecordLemmas.{keeps_at, steady_keeps}
@@ -46,7 +47,7 @@ stand turns replies old mid new more none talked is = (
     heard = ap (λ (l : List ℕ). l ++ talked.gained) (sym none) ∙ talked.heard
 
 -- the conversation broke
-short_broken : (account : List ℕ) (tasks : List Task) (old new : Scene) (cut : Cut) (fell : Fell account tasks old cut new) → old.place.waiting ≡ [] → Steady old.file.content (none_open old.rows)
+short_broken : (account : List ℕ) (tasks : List Task) (old new : Scene) (cut : Cut) (fell : Fell (AsFiles account) tasks old cut new) → old.place.waiting ≡ [] → Steady old.file.content (none_open old.rows)
     → Broken fell.next fell.mid new cut → CutShort account tasks old cut.fault new
 short_broken account tasks old new cut fell none stood broken =
     let more = broke_got broken.turn fell.mid.place new.place broken.why broken.broke in
@@ -59,8 +60,8 @@ short_broken account tasks old new cut fell none stood broken =
       good = fell.went.talked.good;
       got = stand (turns_of fell.dones) (replies_of fell.dones) old fell.mid new more.0 none fell.went.talked more.1;
       told = broken.lines ∙ fell.went.lines;
-      files = ap (λ (m : Maildir). m.in_new) broken.maildir ∙ fell.went.stored.in_new ∙ ap (λ (l : List File). old.maildir.in_new ++ l) (sym (append-nil (files_of account fell.dones)));
-      others = ap (λ (m : Maildir). m.in_cur) broken.maildir ∙ fell.went.stored.in_cur;
+      files = ap (λ (s : Stores). s.maildir.in_new) broken.store ∙ fell.went.stored.in_new ∙ ap (λ (l : List File). old.store.maildir.in_new ++ l) (sym (append-nil (files_of account fell.dones)));
+      others = ap (λ (s : Stores). s.maildir.in_cur) broken.store ∙ fell.went.stored.in_cur;
       extra_is = inl refl;
       marks_are = inl refl;
       record_is = keeps_at fell.mid.file new.file fell.mid.file.content (none_open (marked_all old.rows (ids_of fell.dones))) (ap (λ (s : Stored). s.content) broken.file)
@@ -70,8 +71,8 @@ short_broken account tasks old new cut fell none stood broken =
 -- the store refused: which files are there more
 pub record Extra (account : List ℕ) (taken : List Done) (next : List Task) (old : Scene) (fault : Fault) (new mid : Scene) : Type 0 where
   pub extra : List File
-  pub in_new : new.maildir.in_new ≡ mid.maildir.in_new ++ extra
-  pub in_cur : new.maildir.in_cur ≡ mid.maildir.in_cur
+  pub in_new : new.store.maildir.in_new ≡ mid.store.maildir.in_new ++ extra
+  pub in_cur : new.store.maildir.in_cur ≡ mid.store.maildir.in_cur
   pub extra_is : ExtraIs account taken next old fault new extra
 
 -- what came of a text
@@ -79,8 +80,8 @@ fetching_got : (n : ℕ) (start now : Place) (rest : Rest) (text : List ℕ) →
 fetching_got n start now rest text is =
     (is.opened.gained ++ is.under.gained, is.under.drew.got ∙ ap (λ (l : List ℕ). l ++ is.under.gained) is.opened.got ∙ append_assoc start.link.got is.opened.gained is.under.gained)
 
-short_not_stored : (account : List ℕ) (tasks : List Task) (old new : Scene) (cut : Cut) (fell : Fell account tasks old cut new) → old.place.waiting ≡ [] → Steady old.file.content (none_open old.rows)
-    → NotStored account fell.next fell.mid new cut → CutShort account tasks old cut.fault new
+short_not_stored : (account : List ℕ) (tasks : List Task) (old new : Scene) (cut : Cut) (fell : Fell (AsFiles account) tasks old cut new) → old.place.waiting ≡ [] → Steady old.file.content (none_open old.rows)
+    → NoFile account fell.next fell.mid new cut → CutShort account tasks old cut.fault new
 short_not_stored account tasks old new cut fell none stood refused = record {
   taken = fell.dones;
   next = fell.next ∷ fell.later;
@@ -90,7 +91,7 @@ short_not_stored account tasks old new cut fell none stood refused = record {
   good = fell.went.talked.good;
   got = stand (turns_of fell.dones) (replies_of fell.dones) old fell.mid new more.0 none fell.went.talked more.1;
   told = refused.lines ∙ fell.went.lines;
-  files = kept.in_new ∙ ap (λ (l : List File). l ++ kept.extra) fell.went.stored.in_new ∙ append_assoc old.maildir.in_new (files_of account fell.dones) kept.extra;
+  files = kept.in_new ∙ ap (λ (l : List File). l ++ kept.extra) fell.went.stored.in_new ∙ append_assoc old.store.maildir.in_new (files_of account fell.dones) kept.extra;
   others = kept.in_cur ∙ fell.went.stored.in_cur;
   extra_is = kept.extra_is;
   marks_are = inl refl;
@@ -102,7 +103,7 @@ short_not_stored account tasks old new cut fell none stood refused = record {
     more = fetching_got refused.number fell.mid.place new.place refused.rest refused.text refused.fetching
 
     -- the text came whole
-    whole : refused.rest.spot ≡ AtEnd → cut.fault ≡ StoreRefused DeviceRefused → ExtraIs account fell.dones (fell.next ∷ fell.later) old cut.fault new (file (name_of account refused.uid) refused.text ∷ [])
+    whole : refused.rest.spot ≡ AtEnd → cut.fault ≡ StoreRefused DeviceRefused → ExtraIs account fell.dones (fell.next ∷ fell.later) old cut.fault new (mail_file account refused.uid refused.text ∷ [])
     whole done is =
         let came = refused.whole done in
         inr (
@@ -113,27 +114,27 @@ short_not_stored account tasks old new cut fell none stood refused = record {
             fell.later,
             came.0,
             ap (λ (t : Task). t ∷ fell.later) refused.is,
-            ap (λ (t : List ℕ). file (name_of account refused.uid) t ∷ []) came.2,
+            ap (λ (t : List ℕ). mail_file account refused.uid t ∷ []) came.2,
             stand (turns_of fell.dones ++ retr refused.number ∷ []) (replies_of fell.dones ++ came.0 ∷ []) old new new [] none
                 (talked_on (turns_of fell.dones) (retr refused.number ∷ []) (replies_of fell.dones) (came.0 ∷ []) old.place fell.mid.place new.place fell.went.talked came.1)
                 (sym (append-nil new.place.link.got)),
           ),
         )
 
-    nothing_new : (m : Maildir) → new.maildir ≡ m → m.in_new ≡ fell.mid.maildir.in_new → m.in_cur ≡ fell.mid.maildir.in_cur → Extra account fell.dones (fell.next ∷ fell.later) old cut.fault new fell.mid
+    nothing_new : (m : Maildir) → new.store.maildir ≡ m → m.in_new ≡ fell.mid.store.maildir.in_new → m.in_cur ≡ fell.mid.store.maildir.in_cur → Extra account fell.dones (fell.next ∷ fell.later) old cut.fault new fell.mid
     nothing_new m is files cur = record {
       extra = [];
-      in_new = ap (λ (x : Maildir). x.in_new) is ∙ files ∙ sym (append-nil fell.mid.maildir.in_new);
+      in_new = ap (λ (x : Maildir). x.in_new) is ∙ files ∙ sym (append-nil fell.mid.store.maildir.in_new);
       in_cur = ap (λ (x : Maildir). x.in_cur) is ∙ cur;
       extra_is = inl refl;
     }
 
     kept : Extra account fell.dones (fell.next ∷ fell.later) old cut.fault new fell.mid
     kept = elim refused.refuses [
-      | inl missing ↦ nothing_new fell.mid.maildir missing.2 refl refl
-      | inr (is, inl same) ↦ nothing_new (counted (dropped fell.mid.maildir)) same refl refl
+      | inl missing ↦ nothing_new fell.mid.store.maildir missing.2 refl refl
+      | inr (is, inl same) ↦ nothing_new (counted (dropped fell.mid.store.maildir)) same refl refl
       | inr (is, inr (done, there)) ↦ record {
-        extra = file (name_of account refused.uid) refused.text ∷ [];
+        extra = mail_file account refused.uid refused.text ∷ [];
         in_new = ap (λ (m : Maildir). m.in_new) there;
         in_cur = ap (λ (m : Maildir). m.in_cur) there;
         extra_is = whole done is;
@@ -164,8 +165,8 @@ unsaved old was now (BadSeen line) new never = absurd never
 pub unsaved_keeps : (old : Stored) (was now : Held) (fault : Fault) (new : Stored) → Saves old was now (Err fault) new → Steady old.content was → Keeps new.content was ⊎ Keeps new.content now
 unsaved_keeps old was now fault new saves = (unsaved old was now fault new saves).content
 
-short_not_saved : (account : List ℕ) (tasks : List Task) (old new : Scene) (cut : Cut) (fell : Fell account tasks old cut new) → old.place.waiting ≡ [] → Steady old.file.content (none_open old.rows)
-    → NotSaved account fell.next fell.mid new cut → CutShort account tasks old cut.fault new
+short_not_saved : (account : List ℕ) (tasks : List Task) (old new : Scene) (cut : Cut) (fell : Fell (AsFiles account) tasks old cut new) → old.place.waiting ≡ [] → Steady old.file.content (none_open old.rows)
+    → FileNotSaved account fell.next fell.mid new cut → CutShort account tasks old cut.fault new
 short_not_saved account tasks old new cut fell none stood refused =
     elim (missed.content (fell.went.saved stood)) [
       | inl was ↦ with_marks (ids_of fell.dones) (inr (missed.why, (refused.uid, ids))) (subst (λ (r : List Row). Keeps new.file.content (none_open r)) fell.went.rows was)
@@ -215,8 +216,8 @@ short_not_saved account tasks old new cut fell none stood refused =
           ∙ append_assoc old.lines (lines_of fell.dones) (delivered refused.number refused.reply ∷ [])
           ∙ ap (λ (l : List ReportLine). old.lines ++ l) (sym (flat_map-append (λ (d : Done). lines_in d.task d.replies) fell.dones (last ∷ [])));
       files = refused.stored.in_new ∙ ap (λ (l : List File). l ++ file_from account refused.uid refused.reply ∷ []) fell.went.stored.in_new
-          ∙ append_assoc old.maildir.in_new (files_of account fell.dones) (file_from account refused.uid refused.reply ∷ [])
-          ∙ ap (λ (l : List File). old.maildir.in_new ++ l)
+          ∙ append_assoc old.store.maildir.in_new (files_of account fell.dones) (file_from account refused.uid refused.reply ∷ [])
+          ∙ ap (λ (l : List File). old.store.maildir.in_new ++ l)
           (sym (flat_map-append (λ (d : Done). files_in account d.task d.replies) fell.dones (last ∷ [])) ∙ sym (append-nil (files_of account (fell.dones ++ last ∷ []))));
       others = refused.stored.in_cur ∙ fell.went.stored.in_cur;
       extra_is = inl refl;
@@ -224,7 +225,7 @@ short_not_saved account tasks old new cut fell none stood refused =
       record_is = stands;
     }
 
-pub stopping_cuts_short : (account : List ℕ) (tasks : List Task) (old new : Scene) (cut : Cut) → Fell account tasks old cut new → old.place.waiting ≡ [] → Steady old.file.content (none_open old.rows) → CutShort account tasks old cut.fault new
+pub stopping_cuts_short : (account : List ℕ) (tasks : List Task) (old new : Scene) (cut : Cut) → Fell (AsFiles account) tasks old cut new → old.place.waiting ≡ [] → Steady old.file.content (none_open old.rows) → CutShort account tasks old cut.fault new
 stopping_cuts_short account tasks old new cut fell none stood =
     elim fell.stops [
       | inl broken ↦ short_broken account tasks old new cut fell none stood broken

@@ -2,6 +2,7 @@
 use Rattle.std.proofs.Common.{◌≡◌, inl, inr, ◌≤◌, ◌+◌, ℕ, List, [], ◌∷◌, ◌++◌, length, take, Option, None, Some, Result, Ok, Err, refl, sym, ap, subst, ◌∙◌, arith, length-append}
 use Rattle.std.proofs.lemmas.List.{length-take-le}
 use Rattle.mail_store.specs.Maildir.{Maildir, File, file, with_file, dropped, counted}
+use Rattle.mail_store.specs.FileName.{sized, sized_file}
 use Rattle.fetch_session.specs.declared.fault.Fault.{Fault}
 use Rattle.fetch_session.specs.declared.fault.Cut.{Cut}
 use Rattle.fetch_session.specs.Fault.{fault_of, cut_of}
@@ -24,9 +25,9 @@ gained_file old new f is =
       failures = omega arith;
     }
 
-grown : (old new mid : Maildir) (name content : List ℕ) → new ≡ mid → mid.begun ≡ None → mid.in_cur ≡ old.in_cur
-    → mid.in_new ≡ old.in_new ++ file name content ∷ [] → Grows name old new
-grown old new mid name content is calm cur more = record {
+grown : (old new mid : Maildir) (stem content : List ℕ) → new ≡ mid → mid.begun ≡ None → mid.in_cur ≡ old.in_cur
+    → mid.in_new ≡ old.in_new ++ sized_file stem content ∷ [] → Grows stem old new
+grown old new mid stem content is calm cur more = record {
   calm = ap (λ (m : Maildir). m.begun) is ∙ calm;
   in_cur = ap (λ (m : Maildir). m.in_cur) is ∙ cur;
   in_new = inr (content, ap (λ (m : Maildir). m.in_new) is ∙ more);
@@ -64,16 +65,25 @@ refused_piece old now new name text bytes more rest fault was puts =
 pub put_on : (old now new : Maildir) (name text bytes : List ℕ) → now ≡ begun_with old (file name text) → Puts now bytes (Ok tt) new → new ≡ begun_with old (file name (text ++ bytes))
 put_on old now new name text bytes was puts = puts (file name text) (ap (λ (m : Maildir). m.begun) was) ∙ ap (λ (m : Maildir). begun_with m (file name (text ++ bytes))) was
 
-pub settled : (old now new : Maildir) (name text : List ℕ) → now ≡ begun_with old (file name text) → Ends now (Ok tt) new → new ≡ with_file old (file name text)
-settled old now new name text was ends = ends (file name text) (ap (λ (m : Maildir). m.begun) was) ∙ ap (λ (m : Maildir). with_file m (file name text)) was
+-- what was written is in a file whose name tells its length
+pub settled : (old now new : Maildir) (stem text : List ℕ) (octets : ℕ) → now ≡ begun_with old (file stem text) → octets ≡ length text
+    → Ends now (sized stem octets) (Ok tt) new → new ≡ with_file old (sized_file stem text)
+settled old now new stem text octets was counted ends =
+    ends (file stem text) (ap (λ (m : Maildir). m.begun) was) ∙ ap (λ (m : Maildir). with_file m (file (sized stem octets) text)) was
+    ∙ ap (λ (n : ℕ). with_file old (file (sized stem n) text)) counted
 
-pub refused_end : (old now new : Maildir) (name text : List ℕ) (rest : Rest) (fault : Fault) → now ≡ begun_with old (file name text) → rest.spot ≡ Done → Ends now (Err fault) new → RefusesText old name rest text fault new
-refused_end old now new name text rest fault was done ends =
+pub refused_end : (old now new : Maildir) (stem text : List ℕ) (octets : ℕ) (rest : Rest) (fault : Fault) → now ≡ begun_with old (file stem text) → octets ≡ length text
+    → rest.spot ≡ Done → Ends now (sized stem octets) (Err fault) new → RefusesText old stem rest text fault new
+refused_end old now new stem text octets rest fault was counts done ends =
     inr (
       ends.0,
-      elim (ends.1 (file name text) (ap (λ (m : Maildir). m.begun) was)) [
+      elim (ends.1 (file stem text) (ap (λ (m : Maildir). m.begun) was)) [
         | inl is ↦ inl (is ∙ ap (λ (m : Maildir). counted (dropped m)) was)
-        | inr is ↦ inr (done, is ∙ ap (λ (m : Maildir). counted (with_file m (file name text))) was)
+        | inr is ↦ inr (
+          done,
+          is ∙ ap (λ (m : Maildir). counted (with_file m (file (sized stem octets) text))) was
+              ∙ ap (λ (n : ℕ). counted (with_file old (file (sized stem n) text))) counts,
+        )
       ],
     )
 
@@ -82,10 +92,10 @@ stops_grows old new name text fault None calm is = not_grown old new name calm i
 stops_grows old new name text fault (Some rest) calm (inl missing) = not_grown old new name calm missing.2
 stops_grows old new name text fault (Some rest) calm (inr (why, inl is)) =
     record { calm = ap (λ (m : Maildir). m.begun) is; in_cur = ap (λ (m : Maildir). m.in_cur) is; in_new = inl (ap (λ (m : Maildir). m.in_new) is) }
-stops_grows old new name text fault (Some rest) calm (inr (why, inr there)) = grown old new (counted (with_file old (file name text))) name text there.1 refl refl refl
+stops_grows old new name text fault (Some rest) calm (inr (why, inr there)) = grown old new (counted (with_file old (sized_file name text))) name text there.1 refl refl refl
 
 pub stores_grows : (old new : Maildir) (name text : List ℕ) (r : Result ℕ Cut) → old.begun ≡ None → StoresText name old text r new → Grows name old new
-stores_grows old new name text (Ok octets) calm is = grown old new (with_file old (file name text)) name text is.0 refl refl refl
+stores_grows old new name text (Ok octets) calm is = grown old new (with_file old (sized_file name text)) name text is.0 refl refl refl
 stores_grows old new name text (Err cut) calm is = stops_grows old new name text cut.fault cut.rest calm is
 
 -- a text that grew by the first of some bytes is so much longer

@@ -2,9 +2,9 @@
 use Rattle.std.proofs.Common.{◌≡◌, inl, inr, ℕ, Bool, true, false, List, [], ◌∷◌, ◌++◌, length, None, Some, Option, Ok, Err, refl, sym, ap, subst, ◌∙◌, arith}
 use Rattle.pop3_wire.specs.Place.{Place}
 use Rattle.fetch_rules.specs.Record.{Row, none_open, marked}
-use Rattle.mail_store.specs.Maildir.{Maildir, File, file, with_file}
+use Rattle.mail_store.specs.Maildir.{Maildir, File, with_file}
 use Rattle.mail_store.specs.FlatFile.{Stored}
-use Rattle.mail_store.specs.FileName.{name_of}
+use Rattle.mail_store.specs.FileName.{stem_of, sized_file, mail_file}
 use Rattle.pop3_client.specs.declared.fault.Fault.{Fault as TalkFault}
 use Rattle.pop3_client.specs.declared.fault.Fault.TheVariants.{NoMemory as NoTalkMemory}
 use Rattle.pop3_client.specs.Turns.{Turn, retr, dele}
@@ -25,13 +25,14 @@ use Rattle.fetch_session.specs.Scene.{scene, AllWent, Stops, TakesTask}
 use Rattle.std.specs.Prelude.{not}
 use Rattle.std.proofs.lemmas.Bool.{true≢false}
 use Rattle.pop3_client.proofs.TalkLemmas.{talked_none}
-use Rattle.fetch_session.proofs.SceneLemmas.{gained_none}
+use Rattle.fetch_session.proofs.SceneLemmas.{brings_same}
+use Rattle.fetch_session.specs.Target.{Target, AsFiles, Stores, in_maildir}
 use Rattle.fetch_session.proofs.StoreLemmas.{gained_file}
 
 -- the conversation broke
-pub text_broken : (account : List ℕ) (task : Task) (turn : Turn) (a b : Place) (maildir : Maildir) (file : Stored) (rows : List Row) (lines : List ReportLine) (why : TalkFault) (fault : Fault) (cut : Cut)
-    → turns_in task ≡ turn ∷ [] → cut ≡ cut_of fault None → fault ≡ fault_of why → Broke turn a b why → Stops account task (scene a maildir file rows lines) cut (scene b maildir file rows lines)
-text_broken account task turn a b maildir file rows lines why fault cut takes plain is broke =
+pub text_broken : (target : Target) (task : Task) (turn : Turn) (a b : Place) (store : Stores) (file : Stored) (rows : List Row) (lines : List ReportLine) (why : TalkFault) (fault : Fault) (cut : Cut)
+    → turns_in task ≡ turn ∷ [] → cut ≡ cut_of fault None → fault ≡ fault_of why → Broke turn a b why → Stops target task (scene a store file rows lines) cut (scene b store file rows lines)
+text_broken target task turn a b store file rows lines why fault cut takes plain is broke =
     inl (record {
       none = ap (λ (c : Cut). c.rest) plain;
       turn = turn;
@@ -39,7 +40,7 @@ text_broken account task turn a b maildir file rows lines why fault cut takes pl
       takes = takes;
       is = ap (λ (c : Cut). c.fault) plain ∙ is;
       broke = broke;
-      maildir = refl;
+      store = refl;
       file = refl;
       rows = refl;
       lines = refl;
@@ -47,20 +48,20 @@ text_broken account task turn a b maildir file rows lines why fault cut takes pl
 
 -- a line couldn't be made
 pub text_wanting : (account : List ℕ) (n : ℕ) (uid : List ℕ) (a : Place) (maildir : Maildir) (file : Stored) (rows : List Row) (lines : List ReportLine) (cut : Cut) → cut ≡ cut_of NoMemory None
-    → Stops account (stores n uid) (scene a maildir file rows lines) cut (scene a maildir file rows lines)
+    → Stops (AsFiles account) (stores n uid) (scene a (in_maildir maildir) file rows lines) cut (scene a (in_maildir maildir) file rows lines)
 text_wanting account n uid a maildir file rows lines cut plain =
-    text_broken account (stores n uid) (retr n) a a maildir file rows lines NoTalkMemory NoMemory cut refl plain refl (inr (inr (refl, refl, refl)))
+    text_broken (AsFiles account) (stores n uid) (retr n) a a (in_maildir maildir) file rows lines NoTalkMemory NoMemory cut refl plain refl (inr (inr (refl, refl, refl)))
 
 -- it wasn't stored
-pub text_stops : (account : List ℕ) (n : ℕ) (uid text name : List ℕ) (a b : Place) (maildir maildir' : Maildir) (file' : Stored) (rows : List Row) (lines : List ReportLine) (cut : Cut)
-    → name ≡ name_of account uid → StoresText name maildir text (Err cut) maildir' → ReadsText n a text (Err cut) b
-    → Stops account (stores n uid) (scene a maildir file' rows lines) cut (scene b maildir' file' rows lines)
-text_stops account n uid text name a b maildir maildir' file' rows lines cut named stores' reads = by_rest cut.fault cut.rest stores' reads
+pub text_stops : (account : List ℕ) (n : ℕ) (uid text stem : List ℕ) (a b : Place) (maildir maildir' : Maildir) (file' : Stored) (rows : List Row) (lines : List ReportLine) (cut : Cut)
+    → stem ≡ stem_of account uid → StoresText stem maildir text (Err cut) maildir' → ReadsText n a text (Err cut) b
+    → Stops (AsFiles account) (stores n uid) (scene a (in_maildir maildir) file' rows lines) cut (scene b (in_maildir maildir') file' rows lines)
+text_stops account n uid text stem a b maildir maildir' file' rows lines cut named stores' reads = by_rest cut.fault cut.rest stores' reads
   where
-    by_rest : (fault : Fault) (rest : Option Rest) → StopsStoring name maildir text fault rest maildir' → StopsReading n a text fault rest b
-        → Stops account (stores n uid) (scene a maildir file' rows lines) (cut_of fault rest) (scene b maildir' file' rows lines)
+    by_rest : (fault : Fault) (rest : Option Rest) → StopsStoring stem maildir text fault rest maildir' → StopsReading n a text fault rest b
+        → Stops (AsFiles account) (stores n uid) (scene a (in_maildir maildir) file' rows lines) (cut_of fault rest) (scene b (in_maildir maildir') file' rows lines)
     by_rest fault None same broke =
-        inl (record { none = refl; turn = retr n; why = broke.0; takes = refl; is = broke.1; broke = broke.2; maildir = same; file = refl; rows = refl; lines = refl })
+        inl (record { none = refl; turn = retr n; why = broke.0; takes = refl; is = broke.1; broke = broke.2; store = ap in_maildir same; file = refl; rows = refl; lines = refl })
     by_rest fault (Some rest) refuses reads =
         inr (inl (record {
           number = n;
@@ -81,20 +82,20 @@ text_stops account n uid text name a b maildir maildir' file' rows lines cut nam
 same_line : (n octets : ℕ) (text : List ℕ) (reply : WholeReply) → octets ≡ length text → text ≡ body_text reply.body → Delivered n octets ≡ delivered n reply
 same_line n octets text reply counted is = ap (λ (k : ℕ). Delivered n k) (counted ∙ ap (λ (t : List ℕ). length t) is)
 
-same_file : (account uid name text : List ℕ) (reply : WholeReply) → name ≡ name_of account uid → text ≡ body_text reply.body → file name text ≡ file_from account uid reply
-same_file account uid name text reply named is = ap (λ (k : List ℕ). file k text) named ∙ ap (λ (t : List ℕ). file (name_of account uid) t) is
+same_file : (account uid stem text : List ℕ) (reply : WholeReply) → stem ≡ stem_of account uid → text ≡ body_text reply.body → sized_file stem text ≡ file_from account uid reply
+same_file account uid stem text reply named is = ap (λ (k : List ℕ). sized_file k text) named ∙ ap (λ (t : List ℕ). mail_file account uid t) is
 
 -- it was stored, and marked
-pub text_stored : (account : List ℕ) (n octets : ℕ) (uid text name : List ℕ) (a b : Place) (maildir maildir' : Maildir) (file' file'' : Stored) (rows rows' : List Row) (lines lines' : List ReportLine)
-    → name ≡ name_of account uid → StoresText name maildir text (Ok octets) maildir' → ReadsText n a text (Ok octets) b → rows' ≡ marked rows uid → Saves file' (none_open rows) (none_open (marked rows uid)) (Ok tt) file''
+pub text_stored : (account : List ℕ) (n octets : ℕ) (uid text stem : List ℕ) (a b : Place) (maildir maildir' : Maildir) (file' file'' : Stored) (rows rows' : List Row) (lines lines' : List ReportLine)
+    → stem ≡ stem_of account uid → StoresText stem maildir text (Ok octets) maildir' → ReadsText n a text (Ok octets) b → rows' ≡ marked rows uid → Saves file' (none_open rows) (none_open (marked rows uid)) (Ok tt) file''
     → lines' ≡ lines ++ Delivered n octets ∷ []
-    → TakesTask account (stores n uid) (scene a maildir file' rows lines) (Ok tt) (scene b maildir' file'' rows' lines')
-text_stored account n octets uid text name a b maildir maildir' file' file'' rows rows' lines lines' named stored reads mark saves told = (
+    → TakesTask (AsFiles account) (stores n uid) (scene a (in_maildir maildir) file' rows lines) (Ok tt) (scene b (in_maildir maildir') file'' rows' lines')
+text_stored account n octets uid text stem a b maildir maildir' file' file'' rows rows' lines lines' named stored reads mark saves told = (
   reads.0 ∷ [],
   record {
     talked = reads.1;
     each = (reads.1.good, tt);
-    stored = gained_file maildir maildir' (file_from account uid reads.0) (stored.0 ∙ ap (λ (f : File). with_file maildir f) (same_file account uid name text reads.0 named reads.2));
+    stored = gained_file maildir maildir' (file_from account uid reads.0) (stored.0 ∙ ap (λ (f : File). with_file maildir f) (same_file account uid stem text reads.0 named reads.2));
     rows = mark;
     saved = λ stood. subst (λ (r : List Row). Steady file''.content (none_open r)) (sym mark) (saves.1 stood);
     file_count = let same : file''.failures ≡ file'.failures = saves.0 in omega arith;
@@ -103,11 +104,11 @@ text_stored account n octets uid text name a b maildir maildir' file' file'' row
 )
 
 -- it was stored, and the record wasn't saved
-pub text_not_saved : (account : List ℕ) (n octets : ℕ) (uid text name : List ℕ) (a b : Place) (maildir maildir' : Maildir) (file' file'' : Stored) (rows rows' : List Row) (lines lines' : List ReportLine) (fault : Fault) (cut : Cut)
-    → name ≡ name_of account uid → StoresText name maildir text (Ok octets) maildir' → ReadsText n a text (Ok octets) b → Saves file' (none_open rows) (none_open (marked rows uid)) (Err fault) file''
+pub text_not_saved : (account : List ℕ) (n octets : ℕ) (uid text stem : List ℕ) (a b : Place) (maildir maildir' : Maildir) (file' file'' : Stored) (rows rows' : List Row) (lines lines' : List ReportLine) (fault : Fault) (cut : Cut)
+    → stem ≡ stem_of account uid → StoresText stem maildir text (Ok octets) maildir' → ReadsText n a text (Ok octets) b → Saves file' (none_open rows) (none_open (marked rows uid)) (Err fault) file''
     → cut ≡ cut_of fault None → lines' ≡ lines ++ Delivered n octets ∷ []
-    → Stops account (stores n uid) (scene a maildir file' rows lines) cut (scene b maildir' file'' rows' lines')
-text_not_saved account n octets uid text name a b maildir maildir' file' file'' rows rows' lines lines' fault cut named stored reads saves plain told =
+    → Stops (AsFiles account) (stores n uid) (scene a (in_maildir maildir) file' rows lines) cut (scene b (in_maildir maildir') file'' rows' lines')
+text_not_saved account n octets uid text stem a b maildir maildir' file' file'' rows rows' lines lines' fault cut named stored reads saves plain told =
     inr (inr (record {
       none = ap (λ (c : Cut). c.rest) plain;
       number = n;
@@ -115,7 +116,7 @@ text_not_saved account n octets uid text name a b maildir maildir' file' file'' 
       reply = reads.0;
       is = refl;
       talked = reads.1;
-      stored = gained_file maildir maildir' (file_from account uid reads.0) (stored.0 ∙ ap (λ (f : File). with_file maildir f) (same_file account uid name text reads.0 named reads.2));
+      stored = gained_file maildir maildir' (file_from account uid reads.0) (stored.0 ∙ ap (λ (f : File). with_file maildir f) (same_file account uid stem text reads.0 named reads.2));
       saves = subst (λ (c : Cut). Saves file' (none_open rows) (none_open (marked rows uid)) (Err c.fault) file'') (sym plain) saves;
       lines = told ∙ ap (λ (l : ReportLine). lines ++ l ∷ []) (same_line n octets text reads.0 stored.1 reads.2);
     }))
@@ -123,28 +124,28 @@ text_not_saved account n octets uid text name a b maildir maildir' file' file'' 
 -- ---- the other tasks
 
 -- nothing is done for a message passed over
-pub skipped : (account : List ℕ) (number size : ℕ) (a : Place) (maildir : Maildir) (file : Stored) (rows : List Row) (lines lines' : List ReportLine) → lines' ≡ lines ++ Skipped number size ∷ []
-    → AllWent account (skips number size ∷ []) (scene a maildir file rows lines) (scene a maildir file rows lines')
-skipped account number size a maildir file rows lines lines' told = record {
+pub skipped : (target : Target) (number size : ℕ) (a : Place) (store : Stores) (file : Stored) (rows : List Row) (lines lines' : List ReportLine) → lines' ≡ lines ++ Skipped number size ∷ []
+    → AllWent target (skips number size ∷ []) (scene a store file rows lines) (scene a store file rows lines')
+skipped target number size a store file rows lines lines' told = record {
   dones = record { task = skips number size; replies = [] } ∷ [];
   all = refl;
-  went = record { talked = talked_none a; each = (tt, tt); stored = gained_none maildir; rows = refl; saved = λ stands. stands; file_count = omega arith; lines = told };
+  went = record { talked = talked_none a; each = (tt, tt); stored = brings_same target (record { task = skips number size; replies = [] }) store (λ account. refl) refl; rows = refl; saved = λ stands. stands; file_count = omega arith; lines = told };
 }
 
-pub deleted : (account : List ℕ) (number : ℕ) (reply : WholeReply) (a b : Place) (maildir : Maildir) (file : Stored) (rows : List Row) (lines lines' : List ReportLine) → Talked (dele number ∷ []) (reply ∷ []) a b
+pub deleted : (target : Target) (number : ℕ) (reply : WholeReply) (a b : Place) (store : Stores) (file : Stored) (rows : List Row) (lines lines' : List ReportLine) → Talked (dele number ∷ []) (reply ∷ []) a b
     → lines' ≡ lines ++ Deleted number ∷ []
-    → AllWent account (deletes number ∷ []) (scene a maildir file rows lines) (scene b maildir file rows lines')
-deleted account number reply a b maildir file rows lines lines' talked told = record {
+    → AllWent target (deletes number ∷ []) (scene a store file rows lines) (scene b store file rows lines')
+deleted target number reply a b store file rows lines lines' talked told = record {
   dones = record { task = deletes number; replies = reply ∷ [] } ∷ [];
   all = refl;
-  went = record { talked = talked; each = (talked.good, tt); stored = gained_none maildir; rows = refl; saved = λ stands. stands; file_count = omega arith; lines = told };
+  went = record { talked = talked; each = (talked.good, tt); stored = brings_same target (record { task = deletes number; replies = reply ∷ [] }) store (λ account. refl) refl; rows = refl; saved = λ stands. stands; file_count = omega arith; lines = told };
 }
 
-pub reread_taken : (account : List ℕ) (number octets : ℕ) (uid : List ℕ) (a b : Place) (maildir : Maildir) (file : Stored) (rows : List Row) (lines lines' : List ReportLine) → PassesText number a (Ok octets) b
+pub reread_taken : (target : Target) (number octets : ℕ) (uid : List ℕ) (a b : Place) (store : Stores) (file : Stored) (rows : List Row) (lines lines' : List ReportLine) → PassesText number a (Ok octets) b
     → lines' ≡ lines ++ Held number octets ∷ []
-    → TakesTask account (rereads number uid) (scene a maildir file rows lines) (Ok tt) (scene b maildir file rows lines')
-reread_taken account number octets uid a b maildir file rows lines lines' passes told =
-    (passes.0 ∷ [], record { talked = passes.1; each = (passes.1.good, tt); stored = gained_none maildir; rows = refl; saved = λ stands. stands; file_count = omega arith; lines = told ∙ ap (λ (k : ℕ). lines ++ Held number k ∷ []) passes.2 })
+    → TakesTask target (rereads number uid) (scene a store file rows lines) (Ok tt) (scene b store file rows lines')
+reread_taken target number octets uid a b store file rows lines lines' passes told =
+    (passes.0 ∷ [], record { talked = passes.1; each = (passes.1.good, tt); stored = brings_same target (record { task = rereads number uid; replies = passes.0 ∷ [] }) store (λ account. refl) refl; rows = refl; saved = λ stands. stands; file_count = omega arith; lines = told ∙ ap (λ (k : ℕ). lines ++ Held number k ∷ []) passes.2 })
 
 pub no_deletes : (wanted : Bool) (number : ℕ) → wanted ≡ false → deleting wanted number ≡ []
 no_deletes true number e = absurd (true≢false e)

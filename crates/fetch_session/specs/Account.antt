@@ -4,16 +4,11 @@ use Rattle.std.specs.String.{string_bytes}
 use Rattle.rc_file.specs.declared.settings.Settings.{Settings}
 use Rattle.mail_store.specs.FileName.{account_text}
 use Rattle.fetch_session.specs.declared.account.Store.{Store}
-use Rattle.fetch_session.specs.declared.account.Store.TheVariants.{Maildir}
 
--- the Maildir of a store
-abbrev pub disk_of : {D : Type 0} → Store D → D
-disk_of (Maildir disk) = disk
-
--- the settings, the Maildir and the record's file
+-- the settings, the store and the record's file
 pub record Holding (D F : Type 0) : Type 0 where
   pub settings : Settings
-  pub disk : D
+  pub store : Store D F
   pub file : F
 
 -- the digits that stand in the names of the account's files

@@ -15,6 +15,7 @@ use Rattle.fetch_session.specs.declared.fault.Why.TheVariants.{Refused}
 use Rattle.fetch_session.specs.Task.{Task, Done, stores, tasks_of, turns_of, replies_of, ids_of, files_of, file_from, lines_of}
 use Rattle.fetch_session.specs.Record.{Keeps, Steady, Saves}
 use Rattle.fetch_session.specs.Scene.{Scene, Fell}
+use Rattle.fetch_session.specs.Target.{AsFiles}
 
 -- these replies stand whole at the front of what was got
 abbrev pub Stands : List WholeReply → Scene → Scene → Type 0
@@ -32,7 +33,7 @@ abbrev pub MarksAre : List (List ℕ) → Fault → List (List ℕ) → Type 0
 MarksAre taken fault marks = (marks ≡ taken) ⊎ (((fault ≡ SeenRefused) ⊎ (fault ≡ NoMemory))
     × ((uid : List ℕ) × (taken ≡ marks ++ uid ∷ [])))
 
--- what tasks that were cut short leave
+-- what tasks that were cut short leave of an account with a Maildir
 pub record CutShort (account : List ℕ) (tasks : List Task) (old : Scene) (fault : Fault) (new : Scene) : Type 0 where
   pub taken : List Done
   pub next : List Task
@@ -42,8 +43,8 @@ pub record CutShort (account : List ℕ) (tasks : List Task) (old : Scene) (faul
   pub good : AllZip IsGood (turns_of taken) (replies_of taken)
   pub got : Stands (replies_of taken) old new
   pub told : new.lines ≡ old.lines ++ lines_of taken
-  pub files : new.maildir.in_new ≡ old.maildir.in_new ++ (files_of account taken ++ extra)
-  pub others : new.maildir.in_cur ≡ old.maildir.in_cur
+  pub files : new.store.maildir.in_new ≡ old.store.maildir.in_new ++ (files_of account taken ++ extra)
+  pub others : new.store.maildir.in_cur ≡ old.store.maildir.in_cur
   pub extra_is : ExtraIs account taken next old fault new extra
   pub marks_are : MarksAre (ids_of taken) fault marks
   pub record_is : Keeps new.file.content (none_open (marked_all old.rows marks))
@@ -51,7 +52,7 @@ pub record CutShort (account : List ℕ) (tasks : List Task) (old : Scene) (faul
 -- where a list of tasks stopped, it leaves what tasks that were cut short leave
 abbrev pub StoppingCutsShort : Type 0
 StoppingCutsShort = (account : List ℕ) (tasks : List Task) (old new : Scene) (cut : Cut)
-    → Fell account tasks old cut new → old.place.waiting ≡ [] → Steady old.file.content (none_open old.rows)
+    → Fell (AsFiles account) tasks old cut new → old.place.waiting ≡ [] → Steady old.file.content (none_open old.rows)
     → CutShort account tasks old cut.fault new
 
 -- a file that stands for a record without a torn end stands for it

@@ -10,7 +10,13 @@ pub mod Report
 pub mod Opening
 pub mod Session
 pub mod Account
+pub mod Target
+pub mod Mbox
+pub mod Readiness
 pub mod Text
 pub mod Intake
 pub mod Refusal
 pub mod Work
+pub mod Prospect
+pub mod Pretend
+pub mod Telling

@@ -2,61 +2,61 @@
 use Rattle.std.specs.Prelude.{◌≡◌, ◌⊎◌, ℕ, List, [], ◌∷◌, ◌++◌, None, Result, Ok, Err}
 use Rattle.pop3_wire.specs.Place.{Place}
 use Rattle.mail_terms.specs.Listing.{Item}
-use Rattle.fetch_rules.specs.Record.{Row, Held, none_open, merged}
+use Rattle.fetch_rules.specs.Record.{Row, Held, none_open}
 use Rattle.fetch_rules.specs.Plan.{planned}
 use Rattle.rc_file.specs.declared.settings.Settings.{Settings}
-use Rattle.mail_store.specs.Maildir.{Maildir}
 use Rattle.mail_store.specs.FlatFile.{Stored}
-use Rattle.mail_store.specs.Held.{flags_of}
 use Rattle.pop3_client.specs.Turns.{quit}
 use Rattle.fetch_session.specs.declared.report.ReportLine.{ReportLine}
 use Rattle.fetch_session.specs.declared.fault.Cut.{Cut}
 use Rattle.fetch_session.specs.Task.{Task, says, tasks_planned}
-use Rattle.fetch_session.specs.Record.{Keeps, Steady, Unready}
+use Rattle.fetch_session.specs.Readiness.{Settles, Unready, merged_in}
+use Rattle.fetch_session.specs.Record.{Keeps, Steady}
+use Rattle.fetch_session.specs.Target.{Target, Stores, flags_in}
 use Rattle.fetch_session.specs.Report.{skipped_in}
 use Rattle.fetch_session.specs.Scene.{Scene, scene, Does}
 
 -- what a session does once its record is ready: the planned tasks, then QUIT
-abbrev pub tasks_ahead : Settings → List ℕ → List Item → ℕ → Maildir → List Row → List Task
-tasks_ahead settings account items now maildir rows = tasks_planned (planned settings rows items now) items
-    (flags_of account maildir items) ++ says quit ∷ []
+abbrev pub tasks_ahead : Settings → Target → List Item → ℕ → Stores → List Row → List Task
+tasks_ahead settings target items now store rows = tasks_planned (planned settings rows items now) items
+    (flags_in target store items) ++ says quit ∷ []
 
 -- the record was read, merged with the listing and saved
-pub record Prepared (account : List ℕ) (items : List Item) (now : ℕ) (place : Place) (maildir : Maildir)
+pub record Prepared (target : Target) (items : List Item) (now : ℕ) (place : Place) (store : Stores)
     (file : Stored) (lines : List ReportLine) (mid : Scene) : Type 0 where
   pub was : Held
   pub stood : Keeps file.content was
-  pub rows : mid.rows ≡ merged was.rows items (flags_of account maildir items) now
+  pub rows : mid.rows ≡ merged_in target store was items now
   pub saved : Steady mid.file.content (none_open mid.rows)
   pub file_count : mid.file.failures ≡ file.failures
   pub place_is : mid.place ≡ place
-  pub maildir_is : mid.maildir ≡ maildir
+  pub settles : Settles target was store mid.store
   pub lines_are : mid.lines ≡ lines
 
 -- it wasn't: nothing was said
-pub record Unprepared (account : List ℕ) (items : List Item) (now : ℕ) (place : Place) (maildir : Maildir)
+pub record Unprepared (target : Target) (items : List Item) (now : ℕ) (place : Place) (store : Stores)
     (file : Stored) (lines : List ReportLine) (cut : Cut) (new : Scene) : Type 0 where
   pub none : cut.rest ≡ None
-  pub unready : Unready account items now maildir file cut.fault new.maildir new.file
+  pub unready : Unready target items now store file cut.fault new.store new.file
   pub place_is : new.place ≡ place
   pub lines_are : new.lines ≡ lines
 
 -- what was planned was done, or as much as went well
-pub record Carried (settings : Settings) (account : List ℕ) (items : List Item) (now : ℕ) (place : Place)
-    (maildir : Maildir) (file : Stored) (lines : List ReportLine) (result : Result (Unit {0}) Cut) (new : Scene)
+pub record Carried (settings : Settings) (target : Target) (items : List Item) (now : ℕ) (place : Place)
+    (store : Stores) (file : Stored) (lines : List ReportLine) (result : Result (Unit {0}) Cut) (new : Scene)
     (skipped : ℕ) : Type 0 where
   pub mid : Scene
-  pub prepared : Prepared account items now place maildir file lines mid
-  pub does : Does account (tasks_ahead settings account items now maildir mid.rows) mid result new
+  pub prepared : Prepared target items now place store file lines mid
+  pub does : Does target (tasks_ahead settings target items now store mid.rows) mid result new
   pub skips : skipped ≡ skipped_in (planned settings mid.rows items now)
 
 -- the listing's steps were prepared and carried out, or as far as went well
-abbrev pub Carries : Settings → List ℕ → List Item → ℕ → Place → Maildir → Stored → List ReportLine
-    → Result (Unit {0}) Cut → Place → Maildir → Stored → List ReportLine → ℕ → Type 0
-Carries settings account items now place maildir file lines (Ok done) place' maildir' file' lines' skipped =
+abbrev pub Carries : Settings → Target → List Item → ℕ → Place → Stores → Stored → List ReportLine
+    → Result (Unit {0}) Cut → Place → Stores → Stored → List ReportLine → ℕ → Type 0
+Carries settings target items now place store file lines (Ok done) place' store' file' lines' skipped =
     (rows : List Row)
-    × Carried settings account items now place maildir file lines (Ok done) (scene place' maildir' file' rows lines') skipped
-Carries settings account items now place maildir file lines (Err cut) place' maildir' file' lines' skipped =
+    × Carried settings target items now place store file lines (Ok done) (scene place' store' file' rows lines') skipped
+Carries settings target items now place store file lines (Err cut) place' store' file' lines' skipped =
     (rows : List Row)
-    × (((skipped ≡ 0) × Unprepared account items now place maildir file lines cut (scene place' maildir' file' rows lines'))
-    ⊎ Carried settings account items now place maildir file lines (Err cut) (scene place' maildir' file' rows lines') skipped)
+    × (((skipped ≡ 0) × Unprepared target items now place store file lines cut (scene place' store' file' rows lines'))
+    ⊎ Carried settings target items now place store file lines (Err cut) (scene place' store' file' rows lines') skipped)

@@ -1,21 +1,14 @@
 -- What is done to the record and its file.
-use Rattle.std.specs.Prelude.{◌≡◌, ◌≢◌, ◌⊎◌, ◌<◌, ◌+◌, ℕ, Bool, false, List, [], Option, None, Some, Result, Ok, Err, Vec}
-use Rattle.mail_terms.specs.Listing.{Item}
-use Rattle.fetch_rules.specs.Record.{Row, Intent, Held, Loaded, none_open, merged}
+use Rattle.std.specs.Prelude.{◌≡◌, ◌≢◌, ◌⊎◌, ◌+◌, ℕ, Bool, false, List, [], Option, None, Some, Result, Ok, Err, Vec}
+use Rattle.fetch_rules.specs.Record.{Row, Intent, Held, Loaded}
 use Rattle.fetch_rules.specs.RecordFile.{Two, file_of}
 use Rattle.fetch_rules.specs.RecordMeaning.{Means, Rows, Fault as Faulty, FileStandsFor}
 use Rattle.fetch_rules.specs.Intents.{ReadAs as BytesReadAs}
-use Rattle.fetch_rules.specs.Plan.{planned}
 use Rattle.fetch_rules.specs.declared.seen.SeenFault.{SeenFault}
 use Rattle.fetch_rules.specs.declared.seen.SeenFault.TheVariants.{BadHeader, BadRow, RepeatedId, NoMemory as WantsMemory}
-use Rattle.rc_file.specs.declared.settings.Settings.{Settings}
 use Rattle.mail_store.specs.FlatFile.{Stored, holding, counted}
-use Rattle.mail_store.specs.Maildir.{Maildir}
-use Rattle.mail_store.specs.Held.{flags_of}
 use Rattle.fetch_session.specs.declared.fault.Fault.{Fault}
-use Rattle.fetch_session.specs.declared.fault.Fault.TheVariants.{StoreRefused, SeenRefused, BadSeen, NoMemory}
-use Rattle.fetch_session.specs.declared.fault.Why.TheVariants.{Missing, Refused}
-use Rattle.fetch_session.specs.declared.readiness.Ready.{Ready}
+use Rattle.fetch_session.specs.declared.fault.Fault.TheVariants.{SeenRefused, BadSeen, NoMemory}
 
 -- the bytes of a file: one that isn't there has none
 abbrev pub bytes_in : Option (List ℕ) → List ℕ
@@ -41,6 +34,14 @@ ReadAs content loaded = BytesReadAs (bytes_in content) loaded
 -- what is kept of a record in memory
 abbrev pub held_in : Loaded → Held
 held_in loaded = record { rows = loaded.rows; intent = loaded.intent }
+
+-- the intent of appending so many octets for an id, at this size of the mailbox file
+abbrev pub intent_at : List ℕ → ℕ → ℕ → Intent
+intent_at uid start len = record { uid = uid; start = start; len = len }
+
+-- rows, and this intent open
+abbrev pub with_open : List Row → Intent → Held
+with_open rows intent = record { rows = rows; intent = Some intent }
 
 -- the record was written whole; or, refused, the file is as it was or has the record; or memory was wanting
 abbrev pub Writes : Stored → Held → Result (Unit {0}) Fault → Stored → Type 0
@@ -96,50 +97,3 @@ abbrev pub IsLineFault : SeenFault → Fault → Type 0
 IsLineFault why (BadSeen line) = LineOf why line
 IsLineFault why NoMemory = why ≡ WantsMemory
 IsLineFault why _ = ⊥
-
--- which messages are held was found; or a folder isn't there, or a call was refused
-abbrev pub FindsHeld : {Z : Type 0} → List ℕ → Maildir → List Item → Result (Vec Bool Z) Fault → Maildir → Type 0
-FindsHeld account old items (Ok flags) new = (flags.items ≡ flags_of account old items) × (new ≡ old)
-FindsHeld account old items (Err (StoreRefused Missing)) new = ((old.there.new ≡ false) ⊎ (old.there.cur ≡ false)) × (new ≡ old)
-FindsHeld account old items (Err (StoreRefused Refused)) new = new ≡ Rattle.mail_store.specs.Maildir.counted old
-FindsHeld account old items (Err NoMemory) new = new ≡ old
-FindsHeld account old items (Err _) new = ⊥
-
--- the record was read, merged and saved, and the plan made; no intent is open any more
-pub record IsReady (settings : Settings) (account : List ℕ) (items : List Item) (now : ℕ) (maildir : Maildir)
-    (file : Stored) (ready : Ready) (after : List Row) (maildir' : Maildir) (file' : Stored) : Type 0 where
-  pub was : Held
-  pub stood : Keeps file.content was
-  pub held : ready.held.items ≡ flags_of account maildir items
-  pub rows : after ≡ merged was.rows items (flags_of account maildir items) now
-  pub steps : ready.steps.items ≡ planned settings after items now
-  pub saved : Steady file'.content (none_open after)
-  pub file_count : file'.failures ≡ file.failures
-  pub maildir_is : maildir' ≡ maildir
-
--- why it isn't ready
-abbrev pub UnreadyCause : Fault → Maildir → Stored → Maildir → Stored → Type 0
-UnreadyCause SeenRefused maildir file maildir' file' = (file.failures < file'.failures) × (maildir' ≡ maildir)
-UnreadyCause (BadSeen line) maildir file maildir' file' = Misread file line file' × (maildir' ≡ maildir)
-UnreadyCause (StoreRefused Missing) maildir file maildir' file' = ((maildir.there.new ≡ false)
-    ⊎ (maildir.there.cur ≡ false)) × (maildir' ≡ maildir)
-UnreadyCause (StoreRefused Refused) maildir file maildir' file' = maildir' ≡ Rattle.mail_store.specs.Maildir.counted maildir
-UnreadyCause NoMemory maildir file maildir' file' = maildir' ≡ maildir
-UnreadyCause _ maildir file maildir' file' = ⊥
-
--- the file is as it was, or stands for the merged record
-abbrev pub IsMergedAtMost : List ℕ → List Item → ℕ → Maildir → Stored → Stored → Type 0
-IsMergedAtMost account items now maildir file file' = (file'.content ≡ file.content)
-    ⊎ ((was : Held) × Keeps file.content was × (Keeps file'.content was
-    ⊎ Keeps file'.content (none_open (merged was.rows items (flags_of account maildir items) now))))
-
-pub record Unready (account : List ℕ) (items : List Item) (now : ℕ) (maildir : Maildir) (file : Stored)
-    (fault : Fault) (maildir' : Maildir) (file' : Stored) : Type 0 where
-  pub cause : UnreadyCause fault maildir file maildir' file'
-  pub content : IsMergedAtMost account items now maildir file file'
-
-abbrev pub Readies : Settings → List ℕ → List Item → ℕ → Maildir → Stored → Result Ready Fault → List Row → Maildir → Stored → Type 0
-Readies settings account items now maildir file
-    (Ok ready) after maildir' file' = IsReady settings account items now maildir file ready after maildir' file'
-Readies settings account items now maildir file
-    (Err fault) after maildir' file' = Unready account items now maildir file fault maildir' file'

@@ -3,7 +3,6 @@ use Rattle.std.specs.Prelude.{◌≡◌, ◌⊎◌, ◌≤◌, ℕ, List, [], �
 use Rattle.pop3_wire.specs.Place.{Place}
 use Rattle.std.specs.List.{AllByRecursion}
 use Rattle.fetch_rules.specs.Record.{Row, none_open, marked, marked_all}
-use Rattle.mail_store.specs.Maildir.{Maildir}
 use Rattle.mail_store.specs.FlatFile.{Stored}
 use Rattle.pop3_client.specs.declared.fault.Fault.{Fault as TalkFault}
 use Rattle.pop3_client.specs.Turns.{Turn, retr}
@@ -14,29 +13,32 @@ use Rattle.fetch_session.specs.declared.fault.Cut.{Cut}
 use Rattle.fetch_session.specs.Fault.{fault_of}
 use Rattle.pop3_wire.specs.Bodies.{Rest}
 use Rattle.pop3_wire.specs.declared.unstuffer.Spot.TheVariants.{Done as AtEnd}
-use Rattle.pop3_client.specs.Texts.{Fetching, Fetched}
-use Rattle.mail_store.specs.FileName.{name_of}
+use Rattle.pop3_client.specs.Texts.{Fetching, Fetched, body_text}
+use Rattle.mail_store.specs.FileName.{stem_of}
 use Rattle.fetch_session.specs.Task.{Task, stores, Done, IsAnswered, turns_in, tasks_of, turns_of, replies_of, ids_of}
-use Rattle.fetch_session.specs.Task.{files_of, file_from, delivered, lines_of}
-use Rattle.fetch_session.specs.Store.{RefusesText, Gained}
+use Rattle.fetch_session.specs.Task.{file_from, delivered, lines_of}
+use Rattle.fetch_session.specs.Store.{RefusesText, Gained, Appended, Brings}
+use Rattle.fetch_session.specs.Target.{Target, AsFiles, AsEntries, Stores}
+use Rattle.fetch_session.specs.Mbox.{RefusesEntry, MarksEntry}
+use Rattle.fetch_session.specs.declared.fault.Fault.TheVariants.{NoMemory}
 use Rattle.fetch_session.specs.Record.{Steady, Saves}
 
--- the link and what waits, the Maildir, the record's file, the record, and what was told so far
+-- the link and what waits, what the store holds, the record's file, the record, and what was told so far
 pub record Scene : Type 0 where
   pub place : Place
-  pub maildir : Maildir
+  pub store : Stores
   pub file : Stored
   pub rows : List Row
   pub lines : List ReportLine
 
-abbrev pub scene : Place → Maildir → Stored → List Row → List ReportLine → Scene
-scene place maildir file rows lines = record { place = place; maildir = maildir; file = file; rows = rows; lines = lines }
+abbrev pub scene : Place → Stores → Stored → List Row → List ReportLine → Scene
+scene place store file rows lines = record { place = place; store = store; file = file; rows = rows; lines = lines }
 
 -- these tasks were done: their turns talked, each with its own reply, their texts stored, and their ids marked and saved
-pub record Went (account : List ℕ) (dones : List Done) (old new : Scene) : Type 0 where
+pub record Went (target : Target) (dones : List Done) (old new : Scene) : Type 0 where
   pub talked : Talked (turns_of dones) (replies_of dones) old.place new.place
   pub each : AllByRecursion IsAnswered dones
-  pub stored : Gained old.maildir new.maildir (files_of account dones)
+  pub stored : Brings target dones old.store new.store
   pub rows : new.rows ≡ marked_all old.rows (ids_of dones)
   pub saved : Steady old.file.content (none_open old.rows) → Steady new.file.content (none_open new.rows)
   pub file_count : old.file.failures ≤ new.file.failures
@@ -50,13 +52,13 @@ pub record Broken (next : Task) (old new : Scene) (cut : Cut) : Type 0 where
   pub takes : turns_in next ≡ turn ∷ []
   pub is : cut.fault ≡ fault_of why
   pub broke : Broke turn old.place new.place why
-  pub maildir : new.maildir ≡ old.maildir
+  pub store : new.store ≡ old.store
   pub file : new.file ≡ old.file
   pub rows : new.rows ≡ old.rows
   pub lines : new.lines ≡ old.lines
 
 -- the text is under way, or was read, and the store refused it: only where it was read it may be there nevertheless
-pub record NotStored (account : List ℕ) (next : Task) (old new : Scene) (cut : Cut) : Type 0 where
+pub record NoFile (account : List ℕ) (next : Task) (old new : Scene) (cut : Cut) : Type 0 where
   pub number : ℕ
   pub uid : List ℕ
   pub rest : Rest
@@ -65,55 +67,104 @@ pub record NotStored (account : List ℕ) (next : Task) (old new : Scene) (cut :
   pub under_way : cut.rest ≡ Some rest
   pub fetching : Fetching (retr number) old.place new.place rest text
   pub whole : rest.spot ≡ AtEnd → Fetched (retr number) old.place text new.place
-  pub refuses : RefusesText old.maildir (name_of account uid) rest text cut.fault new.maildir
+  pub refuses : RefusesText old.store.maildir (stem_of account uid) rest text cut.fault new.store.maildir
   pub file : new.file ≡ old.file
   pub rows : new.rows ≡ old.rows
   pub lines : new.lines ≡ old.lines
 
 -- the text was stored, and the record wasn't saved: it may be there nevertheless
-pub record NotSaved (account : List ℕ) (next : Task) (old new : Scene) (cut : Cut) : Type 0 where
+pub record FileNotSaved (account : List ℕ) (next : Task) (old new : Scene) (cut : Cut) : Type 0 where
   pub none : cut.rest ≡ None
   pub number : ℕ
   pub uid : List ℕ
   pub reply : WholeReply
   pub is : next ≡ stores number uid
   pub talked : Talked (retr number ∷ []) (reply ∷ []) old.place new.place
-  pub stored : Gained old.maildir new.maildir (file_from account uid reply ∷ [])
+  pub stored : Gained old.store.maildir new.store.maildir (file_from account uid reply ∷ [])
   pub saves : Saves old.file (none_open old.rows) (none_open (marked old.rows uid)) (Err cut.fault) new.file
   pub lines : new.lines ≡ old.lines ++ delivered number reply ∷ []
 
+-- memory was wanting for a text as it came, and nothing of it was stored
+pub record NoRoom (next : Task) (old new : Scene) (cut : Cut) : Type 0 where
+  pub none : cut.rest ≡ None
+  pub number : ℕ
+  pub uid : List ℕ
+  pub rest : Rest
+  pub text : List ℕ
+  pub is : next ≡ stores number uid
+  pub wants : cut.fault ≡ NoMemory
+  pub fetching : Fetching (retr number) old.place new.place rest text
+  pub store : new.store ≡ old.store
+  pub file : new.file ≡ old.file
+  pub rows : new.rows ≡ old.rows
+  pub lines : new.lines ≡ old.lines
+
+-- the text was read, and it wasn't appended: its intent may be open, and behind the file's bytes there may be a front of its entry
+pub record NoEntry (next : Task) (old new : Scene) (cut : Cut) : Type 0 where
+  pub none : cut.rest ≡ None
+  pub number : ℕ
+  pub uid : List ℕ
+  pub reply : WholeReply
+  pub is : next ≡ stores number uid
+  pub talked : Talked (retr number ∷ []) (reply ∷ []) old.place new.place
+  pub refuses : RefusesEntry old.store.mbox old.file old.rows uid (body_text reply.body) cut.fault new.store.mbox new.file
+  pub rows : new.rows ≡ old.rows
+  pub lines : new.lines ≡ old.lines
+
+-- its entry was appended, and the mark that ends its intent wasn't saved: it may be there nevertheless
+pub record EntryNotSaved (next : Task) (old new : Scene) (cut : Cut) : Type 0 where
+  pub none : cut.rest ≡ None
+  pub number : ℕ
+  pub uid : List ℕ
+  pub reply : WholeReply
+  pub is : next ≡ stores number uid
+  pub talked : Talked (retr number ∷ []) (reply ∷ []) old.place new.place
+  pub stored : Appended old.store.mbox new.store.mbox (body_text reply.body ∷ [])
+  pub saves : MarksEntry old.store.mbox old.file old.rows uid (body_text reply.body) cut.fault new.file
+  pub lines : new.lines ≡ old.lines ++ delivered number reply ∷ []
+
+-- the text wasn't stored
+abbrev pub NotStored : Target → Task → Scene → Scene → Cut → Type 0
+NotStored (AsFiles account) next old new cut = NoFile account next old new cut
+NotStored AsEntries next old new cut = NoRoom next old new cut ⊎ NoEntry next old new cut
+
+-- it was stored, and the record wasn't saved
+abbrev pub NotSaved : Target → Task → Scene → Scene → Cut → Type 0
+NotSaved (AsFiles account) next old new cut = FileNotSaved account next old new cut
+NotSaved AsEntries next old new cut = EntryNotSaved next old new cut
+
 -- a task was begun, and not brought to its end
-abbrev pub Stops : List ℕ → Task → Scene → Cut → Scene → Type 0
-Stops account next old cut new = Broken next old new cut ⊎ (NotStored account next old new cut ⊎ NotSaved account next old new cut)
+abbrev pub Stops : Target → Task → Scene → Cut → Scene → Type 0
+Stops target next old cut new = Broken next old new cut ⊎ (NotStored target next old new cut ⊎ NotSaved target next old new cut)
 
 -- some of the tasks went well, and the next one stopped
-pub record Fell (account : List ℕ) (tasks : List Task) (old : Scene) (cut : Cut) (new : Scene) : Type 0 where
+pub record Fell (target : Target) (tasks : List Task) (old : Scene) (cut : Cut) (new : Scene) : Type 0 where
   pub dones : List Done
   pub next : Task
   pub later : List Task
   pub mid : Scene
   pub split : tasks ≡ tasks_of dones ++ (next ∷ later)
-  pub went : Went account dones old mid
-  pub stops : Stops account next mid cut new
+  pub went : Went target dones old mid
+  pub stops : Stops target next mid cut new
 
 -- a list of tasks was done
-pub record AllWent (account : List ℕ) (tasks : List Task) (old new : Scene) : Type 0 where
+pub record AllWent (target : Target) (tasks : List Task) (old new : Scene) : Type 0 where
   pub dones : List Done
   pub all : tasks ≡ tasks_of dones
-  pub went : Went account dones old new
+  pub went : Went target dones old new
 
 -- one task
-abbrev pub TakesTask : List ℕ → Task → Scene → Result (Unit {0}) Cut → Scene → Type 0
-TakesTask account task old (Ok done) new = (replies : List WholeReply)
-    × Went account (record { task = task; replies = replies } ∷ []) old new
-TakesTask account task old (Err cut) new = Stops account task old cut new
+abbrev pub TakesTask : Target → Task → Scene → Result (Unit {0}) Cut → Scene → Type 0
+TakesTask target task old (Ok done) new = (replies : List WholeReply)
+    × Went target (record { task = task; replies = replies } ∷ []) old new
+TakesTask target task old (Err cut) new = Stops target task old cut new
 
 -- a list of tasks
-abbrev pub Does : List ℕ → List Task → Scene → Result (Unit {0}) Cut → Scene → Type 0
-Does account tasks old (Ok done) new = AllWent account tasks old new
-Does account tasks old (Err cut) new = Fell account tasks old cut new
+abbrev pub Does : Target → List Task → Scene → Result (Unit {0}) Cut → Scene → Type 0
+Does target tasks old (Ok done) new = AllWent target tasks old new
+Does target tasks old (Err cut) new = Fell target tasks old cut new
 
--- what is known of a call where the link, the Maildir and the record's file are sound after it: they were sound
+-- what is known of a call where the link, the store and the record's file are sound after it: they were sound
 -- before, the link leads on from what it was, and the call did this
 abbrev pub WhereAllSound : {W D F : Type 0} → (W → Type 0) → (W → W → Type 0) → (D → Type 0) → (F → Type 0) → W → W
     → D → D → F → F → Type 0 → Type 0

@@ -19,6 +19,7 @@ use Rattle.fetch_session.specs.Opening.{Enters}
 use Rattle.fetch_session.specs.Plan.{Carries}
 use Rattle.fetch_session.specs.Tail.{Left}
 use Rattle.fetch_session.specs.Report.{Reports}
+use Rattle.fetch_session.specs.Target.{Target, AsFiles, AsEntries, Stores, in_maildir, in_mbox}
 
 -- what a session noted: how many messages were listed, how many its plan passes over, and what was done
 pub record Noted : Type 0 where
@@ -29,7 +30,15 @@ pub record Noted : Type 0 where
 abbrev pub noted : ℕ → ℕ → List ReportLine → Noted
 noted total skipped lines = record { total = total; skipped = skipped; lines = lines }
 
--- the store and the record's file
+-- what the store holds, and the record's file
+pub record Keeping : Type 0 where
+  pub store : Stores
+  pub file : Stored
+
+abbrev pub keeping : Stores → Stored → Keeping
+keeping store file = record { store = store; file = file }
+
+-- a Maildir and the record's file
 pub record Kept : Type 0 where
   pub maildir : Maildir
   pub file : Stored
@@ -37,11 +46,14 @@ pub record Kept : Type 0 where
 abbrev pub kept : Maildir → Stored → Kept
 kept maildir file = record { maildir = maildir; file = file }
 
+abbrev pub keeps_files : Kept → Keeping
+keeps_files account = keeping (in_maildir account.maildir) account.file
+
 abbrev pub Enters_with : Settings → Place → Result (List Item) TalkFault → Place → Type 0
 Enters_with settings old result new = Enters (string_bytes settings.username) (string_bytes settings.password) old result new
 
 -- the conversation stopped before a listing was known: nothing was stored
-pub record NotEntered (settings : Settings) (old : Place) (before : Kept) (cut : Cut) (new : Place) (after : Kept)
+pub record NotEntered (settings : Settings) (old : Place) (before : Keeping) (cut : Cut) (new : Place) (after : Keeping)
     (notes : Noted) : Type 0 where
   pub why : TalkFault
   pub is : cut ≡ cut_of (fault_of why) None
@@ -50,7 +62,7 @@ pub record NotEntered (settings : Settings) (old : Place) (before : Kept) (cut :
   pub nothing : notes ≡ noted 0 0 []
 
 -- memory was wanting for the notes on what the listing names
-pub record NoRoom (settings : Settings) (old : Place) (before : Kept) (cut : Cut) (new : Place) (after : Kept)
+pub record NoRoom (settings : Settings) (old : Place) (before : Keeping) (cut : Cut) (new : Place) (after : Keeping)
     (notes : Noted) : Type 0 where
   pub items : List Item
   pub is : cut ≡ cut_of NoMemory None
@@ -59,20 +71,20 @@ pub record NoRoom (settings : Settings) (old : Place) (before : Kept) (cut : Cut
   pub nothing : notes ≡ noted (length items) 0 []
 
 -- the listing was known, and its messages were dealt with, or as far as went well
-pub record Dealt (settings : Settings) (account : List ℕ) (now : ℕ) (old : Place) (before : Kept)
-    (result : Result (Unit {0}) Cut) (new : Place) (after : Kept) (notes : Noted) : Type 0 where
+pub record Dealt (settings : Settings) (target : Target) (now : ℕ) (old : Place) (before : Keeping)
+    (result : Result (Unit {0}) Cut) (new : Place) (after : Keeping) (notes : Noted) : Type 0 where
   pub items : List Item
   pub mid : Place
   pub enters : Enters_with settings old (Ok items) mid
   pub total : notes.total ≡ length items
-  pub carries : Carries settings account items now mid before.maildir before.file
-      [] result new after.maildir after.file notes.lines notes.skipped
+  pub carries : Carries settings target items now mid before.store before.file
+      [] result new after.store after.file notes.lines notes.skipped
 
 -- a session up to its QUIT, or to where it was cut
-abbrev pub Proceeds : Settings → List ℕ → ℕ → Place → Kept → Result (Unit {0}) Cut → Place → Kept → Noted → Type 0
-Proceeds settings account now old before (Ok done) new after notes = Dealt settings account now old before (Ok done) new after notes
-Proceeds settings account now old before (Err cut) new after notes = NotEntered settings old before cut new after notes
-    ⊎ (NoRoom settings old before cut new after notes ⊎ Dealt settings account now old before (Err cut) new after notes)
+abbrev pub Proceeds : Settings → Target → ℕ → Place → Keeping → Result (Unit {0}) Cut → Place → Keeping → Noted → Type 0
+Proceeds settings target now old before (Ok done) new after notes = Dealt settings target now old before (Ok done) new after notes
+Proceeds settings target now old before (Err cut) new after notes = NotEntered settings old before cut new after notes
+    ⊎ (NoRoom settings old before cut new after notes ⊎ Dealt settings target now old before (Err cut) new after notes)
 
 -- how a session came out
 abbrev pub outcome_of : Result (Unit {0}) Cut → Outcome
@@ -85,11 +97,32 @@ LeavesLink (Ok done) mid link = link ≡ mid.link
 LeavesLink (Err cut) mid link = (new : Place) × Left cut mid new × (link ≡ new.link)
 
 -- a whole session, from a link of which nothing waits to be used
-pub record Session (settings : Settings) (account : List ℕ) (now : ℕ) (link : Link) (before : Kept) (report : Report)
-    (link' : Link) (after : Kept) : Type 0 where
+pub record SessionIn (settings : Settings) (target : Target) (now : ℕ) (link : Link) (before : Keeping) (report : Report)
+    (link' : Link) (after : Keeping) : Type 0 where
   pub result : Result (Unit {0}) Cut
   pub mid : Place
   pub notes : Noted
-  pub proceeds : Proceeds settings account now (at link []) before result mid after notes
+  pub proceeds : Proceeds settings target now (at link []) before result mid after notes
   pub leaves : LeavesLink result mid link'
   pub reports : Reports (outcome_of result) notes.total notes.skipped notes.lines report
+
+-- a session of an account with a Maildir
+abbrev pub Session : Settings → List ℕ → ℕ → Link → Kept → Report → Link → Kept → Type 0
+Session settings account now link before report link' after =
+    SessionIn settings (AsFiles account) now link (keeps_files before) report link' (keeps_files after)
+
+-- a mailbox file and the record's file
+pub record MboxKept : Type 0 where
+  pub mbox : Stored
+  pub file : Stored
+
+abbrev pub mbox_kept : Stored → Stored → MboxKept
+mbox_kept mbox file = record { mbox = mbox; file = file }
+
+abbrev pub keeps_entries : MboxKept → Keeping
+keeps_entries account = keeping (in_mbox account.mbox) account.file
+
+-- a session of an account with a mailbox file
+abbrev pub MboxSession : Settings → ℕ → Link → MboxKept → Report → Link → MboxKept → Type 0
+MboxSession settings now link before report link' after =
+    SessionIn settings AsEntries now link (keeps_entries before) report link' (keeps_entries after)

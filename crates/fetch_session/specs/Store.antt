@@ -1,8 +1,13 @@
 -- What storing one text does.
-use Rattle.std.specs.Prelude.{◌≡◌, ◌⊎◌, ◌≤◌, ℕ, false, List, [], ◌∷◌, ◌++◌, length, Option, None, Some, Result, Ok, Err}
+use Rattle.std.specs.Prelude.{◌≡◌, ◌⊎◌, ◌≤◌, ℕ, false, List, [], ◌∷◌, ◌++◌, length, Option, None, Some, Result, Ok, Err, option_map}
+use Rattle.std.specs.List.{flat_map}
+use Rattle.mail_store.specs.FlatFile.{Stored}
+use Rattle.mail_store.specs.Mboxrd.{entry_of}
+use Rattle.fetch_session.specs.Target.{Target, AsFiles, AsEntries, Stores}
+use Rattle.fetch_session.specs.Task.{Done, files_of, texts_of}
 use Rattle.pop3_wire.specs.Place.{Place}
 use Rattle.pop3_wire.specs.Bodies.{Rest}
-use Rattle.pop3_wire.specs.declared.unstuffer.Spot.TheVariants.{Done}
+use Rattle.pop3_wire.specs.declared.unstuffer.Spot.TheVariants.{Done as AtEnd}
 use Rattle.pop3_client.specs.declared.fault.Fault.{Fault as TalkFault}
 use Rattle.pop3_wire.specs.Reading.{WholeReply}
 use Rattle.pop3_client.specs.Conversation.{Talked, Broke}
@@ -11,7 +16,7 @@ use Rattle.pop3_client.specs.Texts.{Fetching, Fetched, body_text}
 use Rattle.fetch_session.specs.Fault.{fault_of}
 use Rattle.fetch_session.specs.declared.fault.Cut.{Cut}
 use Rattle.mail_store.specs.Maildir.{Maildir, File, file, with_file, dropped, counted}
-use Rattle.mail_store.specs.FileName.{name_of}
+use Rattle.mail_store.specs.FileName.{stem_of, sized_file}
 use Rattle.fetch_session.specs.declared.fault.Fault.{Fault}
 use Rattle.fetch_session.specs.declared.fault.Fault.TheVariants.{StoreRefused}
 use Rattle.fetch_session.specs.declared.fault.Why.TheVariants.{Missing, Refused}
@@ -24,11 +29,21 @@ pub record Gained (old new : Maildir) (files : List File) : Type 0 where
   pub calm : old.begun ≡ None → new.begun ≡ None
   pub failures : old.failures ≤ new.failures
 
--- at most a file of this name came into `new`, and none is begun
-pub record Grows (name : List ℕ) (old new : Maildir) : Type 0 where
+-- these texts were appended, each as an entry, and nothing else changed
+pub record Appended (old new : Stored) (texts : List (List ℕ)) : Type 0 where
+  pub content : new.content ≡ option_map (λ (was : List ℕ). was ++ flat_map entry_of texts) old.content
+  pub failures : new.failures ≡ old.failures
+
+-- what the texts of tasks that are done brought
+abbrev pub Brings : Target → List Done → Stores → Stores → Type 0
+Brings (AsFiles account) dones old new = Gained old.maildir new.maildir (files_of account dones)
+Brings AsEntries dones old new = Appended old.mbox new.mbox (texts_of dones)
+
+-- at most a file with this stem and its length in its name came into `new`, and none is begun
+pub record Grows (stem : List ℕ) (old new : Maildir) : Type 0 where
   pub calm : new.begun ≡ None
   pub in_cur : new.in_cur ≡ old.in_cur
-  pub in_new : (new.in_new ≡ old.in_new) ⊎ ((content : List ℕ) × (new.in_new ≡ old.in_new ++ file name content ∷ []))
+  pub in_new : (new.in_new ≡ old.in_new) ⊎ ((content : List ℕ) × (new.in_new ≡ old.in_new ++ sized_file stem content ∷ []))
 
 -- nothing came into `new`, and none is begun
 pub record Rests (old new : Maildir) : Type 0 where
@@ -39,7 +54,7 @@ pub record Rests (old new : Maildir) : Type 0 where
 -- at most a file of this id came into `new`, if there is one
 abbrev pub GrowsBy : List ℕ → List (List ℕ) → Maildir → Maildir → Type 0
 GrowsBy account [] old new = Rests old new
-GrowsBy account (uid ∷ []) old new = Grows (name_of account uid) old new
+GrowsBy account (uid ∷ []) old new = Grows (stem_of account uid) old new
 GrowsBy account (uid ∷ other ∷ more) old new = ⊥
 
 -- ---- a text, piece by piece
@@ -59,32 +74,32 @@ abbrev pub Puts : Maildir → List ℕ → Result (Unit {0}) Fault → Maildir �
 Puts old bytes (Ok done) new = (f : File) → old.begun ≡ Some f → new ≡ begun_with old (file f.name (f.content ++ bytes))
 Puts old bytes (Err fault) new = (fault ≡ StoreRefused Refused) × ((f : File) → old.begun ≡ Some f → new ≡ counted (dropped old))
 
--- the file that is being written stands in `new`, or, refused, it may
-abbrev pub Ends : Maildir → Result (Unit {0}) Fault → Maildir → Type 0
-Ends old (Ok done) new = (f : File) → old.begun ≡ Some f → new ≡ with_file old f
-Ends old (Err fault) new = (fault ≡ StoreRefused Refused) × ((f : File) → old.begun ≡ Some f
-    → (new ≡ counted (dropped old)) ⊎ (new ≡ counted (with_file old f)))
+-- what was written stands in `new` under this name, or, refused, it may
+abbrev pub Ends : Maildir → List ℕ → Result (Unit {0}) Fault → Maildir → Type 0
+Ends old name (Ok done) new = (f : File) → old.begun ≡ Some f → new ≡ with_file old (file name f.content)
+Ends old name (Err fault) new = (fault ≡ StoreRefused Refused) × ((f : File) → old.begun ≡ Some f
+    → (new ≡ counted (dropped old)) ⊎ (new ≡ counted (with_file old (file name f.content))))
 
 -- the store refused a text of which this much has come: nothing came into `new`, or, only where the text had come whole, the file
 abbrev pub RefusesText : Maildir → List ℕ → Rest → List ℕ → Fault → Maildir → Type 0
-RefusesText old name rest text fault new = ((fault ≡ StoreRefused Missing) × (old.there.tmp ≡ false) × (new ≡ old))
+RefusesText old stem rest text fault new = ((fault ≡ StoreRefused Missing) × (old.there.tmp ≡ false) × (new ≡ old))
     ⊎ ((fault ≡ StoreRefused Refused) × ((new ≡ counted (dropped old))
-    ⊎ ((rest.spot ≡ Done) × (new ≡ counted (with_file old (file name text))))))
+    ⊎ ((rest.spot ≡ AtEnd) × (new ≡ counted (with_file old (sized_file stem text))))))
 
 -- the link stopped, and nothing was stored; or the store refused
 abbrev pub StopsStoring : List ℕ → Maildir → List ℕ → Fault → Option Rest → Maildir → Type 0
-StopsStoring name old text fault None new = new ≡ old
-StopsStoring name old text fault (Some rest) new = RefusesText old name rest text fault new
+StopsStoring stem old text fault None new = new ≡ old
+StopsStoring stem old text fault (Some rest) new = RefusesText old stem rest text fault new
 
 abbrev pub StoresText : List ℕ → Maildir → List ℕ → Result ℕ Cut → Maildir → Type 0
-StoresText name old text (Ok octets) new = (new ≡ with_file old (file name text)) × (octets ≡ length text)
-StoresText name old text (Err cut) new = StopsStoring name old text cut.fault cut.rest new
+StoresText stem old text (Ok octets) new = (new ≡ with_file old (sized_file stem text)) × (octets ≡ length text)
+StoresText stem old text (Err cut) new = StopsStoring stem old text cut.fault cut.rest new
 
 -- the conversation broke; or the reply is under way, or whole
 abbrev pub StopsReading : ℕ → Place → List ℕ → Fault → Option Rest → Place → Type 0
 StopsReading number start text fault None new = (why : TalkFault) × (fault ≡ fault_of why) × Broke (retr number) start new why
 StopsReading number start text fault (Some rest) new = Fetching (retr number) start new rest text
-    × (rest.spot ≡ Done → Fetched (retr number) start text new)
+    × (rest.spot ≡ AtEnd → Fetched (retr number) start text new)
 
 abbrev pub ReadsText : ℕ → Place → List ℕ → Result ℕ Cut → Place → Type 0
 ReadsText number start text (Ok octets) new = Fetched (retr number) start text new

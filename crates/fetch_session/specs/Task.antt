@@ -4,8 +4,8 @@ use Rattle.std.specs.List.{flat_map, AllByRecursion, AllZip}
 use Rattle.mail_terms.specs.UniqueId.{IsLegalId}
 use Rattle.mail_terms.specs.Listing.{Item}
 use Rattle.fetch_rules.specs.declared.steps.Step.{Step}
-use Rattle.mail_store.specs.Maildir.{Maildir, File, file}
-use Rattle.mail_store.specs.FileName.{name_of, is_held}
+use Rattle.mail_store.specs.Maildir.{Maildir, File}
+use Rattle.mail_store.specs.FileName.{mail_file, is_held}
 use Rattle.pop3_client.specs.Turns.{Turn, IsGood, retr, dele}
 use Rattle.pop3_wire.specs.Reading.{WholeReply}
 use Rattle.pop3_client.specs.Texts.{body_text}
@@ -91,7 +91,7 @@ ids_of dones = flat_map (λ (d : Done). ids_in d.task) dones
 
 -- the file of a text stored for the account
 abbrev pub file_from : List ℕ → List ℕ → WholeReply → File
-file_from account uid reply = file (name_of account uid) (body_text reply.body)
+file_from account uid reply = mail_file account uid (body_text reply.body)
 
 -- the files that a task brought
 abbrev pub files_in : List ℕ → Task → List WholeReply → List File
@@ -100,6 +100,14 @@ files_in account _ replies = []
 
 abbrev pub files_of : List ℕ → List Done → List File
 files_of account dones = flat_map (λ (d : Done). files_in account d.task d.replies) dones
+
+-- the texts that a task stored
+abbrev pub texts_in : Task → List WholeReply → List (List ℕ)
+texts_in (stores number uid) replies = map (λ (reply : WholeReply). body_text reply.body) replies
+texts_in _ replies = []
+
+abbrev pub texts_of : List Done → List (List ℕ)
+texts_of dones = flat_map (λ (d : Done). texts_in d.task d.replies) dones
 
 -- the line of a text that was stored, and of one that was held
 abbrev pub delivered : ℕ → WholeReply → ReportLine

@@ -1,9 +1,9 @@
 //! The account that sessions are for.
-ghost use Rattle.std.specs.Prelude.{◌≡◌, None};
+ghost use Rattle.std.specs.Prelude.{◌≡◌};
 ghost use Rattle.rc_file.specs.Settings.{IsValid};
-ghost use Rattle.fetch_session.specs.Account.{disk_of};
+ghost use Rattle.fetch_session.specs.Target.{IsCalm};
 
-use crate::work::Work;
+use crate::work::{Ledger, Work};
 use fetch_rules::{Seen, Settings};
 use mail_store::{AccountId, FlatFile, MaildirDisk, account_id};
 use std::alloc::Global;
@@ -12,9 +12,12 @@ use std::marker::Model;
 use std::vec::Vec;
 
 /// Where texts are stored.
-pub enum Store<D> {
-    /// A Maildir.
+#[derive(Drop)]
+pub enum Store<D, F> {
+    /// A Maildir: each text is a file of its own.
     Maildir(D),
+    /// An mboxrd file: each text is an entry at its end. Nobody else writes it meanwhile.
+    Mboxrd(F),
 }
 
 /// An account: its settings, its store and the file of its record.
@@ -28,19 +31,20 @@ pub struct Account<D: MaildirDisk, F: FlatFile, H: BuildHasher> {
 }
 
 impl<D: MaildirDisk, F: FlatFile, H: BuildHasher> Model for Account<D, F, H> {
-    ghost use Rattle.std.specs.Prelude.{◌≡◌, None};
+    ghost use Rattle.std.specs.Prelude.{◌≡◌};
     ghost use Rattle.rc_file.specs.Settings.{IsValid};
     ghost use Rattle.mail_store.specs.FileName.{IsAccountText, account_text};
     ghost use Rattle.std.specs.String.{string_bytes};
     ghost use Rattle.fetch_session.specs.Account.{Holding};
+    ghost use Rattle.fetch_session.specs.Target.{IsCalm};
 
     ghost Value = { Holding D F };
 
-    ghost view = { λ a. record { settings = a.settings; disk = a.work.disk; file = a.work.file } };
+    ghost view = { λ a. record { settings = a.settings; store = a.work.store; file = a.work.ledger.file } };
 
     ghost invariant = { λ a. IsValid a.settings
         × (a.id ≡ account_text (string_bytes a.settings.server) a.settings.port (string_bytes a.settings.username))
-        × (D.sound a.work.disk → (D.maildir a.work.disk).begun ≡ None) };
+        × IsCalm D.MaildirDisk F.FlatFile a.work.store };
 }
 
 impl<D: MaildirDisk, F: FlatFile, H: BuildHasher> Account<D, F, H> {
@@ -49,29 +53,30 @@ impl<D: MaildirDisk, F: FlatFile, H: BuildHasher> Account<D, F, H> {
     pub fn new(
         alloc: Global,
         settings: Settings,
-        store: Store<D>,
+        store: Store<D, F>,
         seen_file: F,
         hasher: H,
     ) -> Account<D, F, H>
         requires valid { IsValid settings }
-        requires calm { D.sound (disk_of store) → (D.maildir (disk_of store)).begun ≡ None }
-        ensures { result ≡ record { settings = settings; disk = disk_of store; file = seen_file } }
+        requires calm { IsCalm D.MaildirDisk F.FlatFile store }
+        ensures { result ≡ record { settings = settings; store = store; file = seen_file } }
     {
         let id = account_id(
             settings.server.as_str(),
             settings.port,
             settings.username.as_str(),
         );
-        let Store::Maildir(disk) = store;
         Account {
             settings,
             id,
             work: Work {
-                alloc,
-                disk,
-                file: seen_file,
-                seen: Seen::new(alloc, hasher),
-                lines: Vec::new(alloc),
+                store,
+                ledger: Ledger {
+                    alloc,
+                    file: seen_file,
+                    seen: Seen::new(alloc, hasher),
+                    lines: Vec::new(alloc),
+                },
             },
         }
     }
@@ -85,19 +90,19 @@ impl<D: MaildirDisk, F: FlatFile, H: BuildHasher> Account<D, F, H> {
     }
 
     /// Takes the account apart.
-    pub fn into_parts(self) -> (Settings, Store<D>, F)
+    pub fn into_parts(self) -> (Settings, Store<D, F>, F)
     where
         H: Drop,
-        ensures parts { (result.0 ≡ self.settings) × (disk_of result.1 ≡ self.disk) × (result.2 ≡ self.file) }
+        ensures parts { (result.0 ≡ self.settings) × (result.1 ≡ self.store) × (result.2 ≡ self.file) }
         ensures valid { IsValid result.0 }
-        ensures calm { D.sound (disk_of result.1) → (D.maildir (disk_of result.1)).begun ≡ None }
+        ensures calm { IsCalm D.MaildirDisk F.FlatFile result.1 }
     {
         let Account {
             settings,
             id: _,
             work,
         } = self;
-        let Work { disk, file, .. } = work;
-        (settings, Store::Maildir(disk), file)
+        let Work { store, ledger } = work;
+        (settings, store, ledger.file)
     }
 }

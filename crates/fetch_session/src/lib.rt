@@ -2,17 +2,21 @@
 #![tactic(auto)]
 
 mod account;
+mod appending;
 mod fault;
 mod laws;
 mod one_session;
 mod opening;
 mod plan;
+mod preview;
+mod prospect;
 mod readiness;
 mod record;
 mod report;
 mod step;
 mod storing;
 mod tail;
+mod telling;
 mod terms;
 mod text;
 mod work;
@@ -21,5 +25,8 @@ pub use account::{Account, Store};
 pub use fault::{Cut, Fault, Why};
 pub use laws::{steady_files_keep, stopping_cuts_short, turns_join, unsaved_files_keep};
 pub use one_session::session;
+pub use preview::{Preview, pretend};
+pub use prospect::{Fate, Prospect};
 pub use report::{Outcome, Report, ReportLine};
+pub use telling::preview_text;
 pub use text::{fault_number, fault_text, report_text};

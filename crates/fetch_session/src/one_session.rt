@@ -10,7 +10,9 @@ ghost use Rattle.fetch_session.specs.Account.{digits_of};
 ghost use Rattle.fetch_session.specs.Intake.{GotAtMost, session_limit, TookWithTail, opening_limit, step_limit, tail_limit};
 ghost use Rattle.fetch_session.specs.Refusal.{RefusesTillCut, RefusesByOutcome};
 ghost use Rattle.fetch_session.specs.Report.{Reports, most_lines};
-ghost use Rattle.fetch_session.specs.Session.{Proceeds, Session, noted, kept};
+ghost use Rattle.fetch_session.specs.Session.{MboxSession, Proceeds, Session, SessionIn, keeping, kept, mbox_kept, noted};
+ghost use Rattle.fetch_session.specs.Target.{IsCalm, IsSoundMaildir, IsSoundMbox};
+ghost use Rattle.fetch_session.specs.Target.{is_sound, kind_of, maildir_of, mbox_of, stores_of, target_of};
 
 use crate::account::Account;
 use crate::fault::{Cut, Fault, plain, told};
@@ -53,26 +55,30 @@ fn proceed<W: Wire, D: MaildirDisk, F: FlatFile, H: BuildHasher>(
 ) -> Result<(), Cut>
     requires valid { IsValid terms.settings.now }
     requires digits { IsAccountText terms.account.now }
-    requires calm { D.sound work.old.disk → (D.maildir work.old.disk).begun ≡ None }
-    requires nothing { (counts.old.total ≡ 0) × (counts.old.skipped ≡ 0) × (work.old.lines.items ≡ []) × (vec_len work.old.lines ≡ 0) }
+    requires calm { IsCalm D.MaildirDisk F.FlatFile work.old.store }
+    requires nothing { (counts.old.total ≡ 0) × (counts.old.skipped ≡ 0)
+        × (work.old.ledger.lines.items ≡ []) × (vec_len work.old.ledger.lines ≡ 0) }
     ensures link { HasSameLink client.old client.new }
     ensures counted { RefusesTillCut (link_of W.Wire client.old) result (link_of W.Wire client.new) }
-    ensures few { vec_len work.new.lines ≤ most_lines }
-    ensures calm { D.sound work.new.disk → D.sound work.old.disk × ((D.maildir work.new.disk).begun ≡ None) }
+    ensures few { vec_len work.new.ledger.lines ≤ most_lines }
+    ensures kind { kind_of work.new.store ≡ kind_of work.old.store }
+    ensures calm { is_sound D.MaildirDisk F.FlatFile work.new.store → is_sound D.MaildirDisk F.FlatFile work.old.store
+        × ((stores_of D.MaildirDisk F.FlatFile work.new.store).maildir.begun ≡ None) }
     ensures proceeds { WhereWorkSound W.Wire D.MaildirDisk F.FlatFile client.old work.old client.new work.new
-        (λ old new. Proceeds terms.entry.settings.now terms.entry.account.now terms.entry.now old.place (kept old.maildir old.file) result
-        new.place (kept new.maildir new.file) (noted counts.new.total counts.new.skipped new.lines)) }
+        (λ old new. Proceeds terms.entry.settings.now (target_of work.old.store terms.entry.account.now) terms.entry.now old.place
+        (keeping old.store old.file) result
+        new.place (keeping new.store new.file) (noted counts.new.total counts.new.skipped new.lines)) }
     ensures took { W.sound client.new.wire.now → W.sound client.old.wire.now
         × TookWithTail (opening_limit + (counts.new.total * step_limit + tail_limit)) (place_of W.Wire client.old) result
         (place_of W.Wire client.new) }
 {
     conversations_are_paced();
-    let listing = match enter(work.alloc, terms.settings, client) {
+    let listing = match enter(work.ledger.alloc, terms.settings, client) {
         Ok(listing) => listing,
         Err(fault) => return Err(plain(told(fault))),
     };
     counts.total = listing.len();
-    if let Err(_) = work.lines.reserve(2 * listing.len() as usize) {
+    if let Err(_) = work.ledger.lines.reserve(2 * listing.len() as usize) {
         return Err(plain(Fault::NoMemory));
     }
     carry_out(client, work, terms, &listing, &mut counts.skipped)
@@ -88,11 +94,22 @@ fn session_over<W: Wire, D: MaildirDisk, F: FlatFile, H: BuildHasher>(
     ensures link { HasSameLink client.old client.new }
     ensures counted { RefusesByOutcome (link_of W.Wire client.old) result.outcome (link_of W.Wire client.new) }
     ensures settings { account.new.settings ≡ account.old.settings }
-    ensures session { WhereAllSound W.sound W.leads_to D.sound F.sound client.old.wire.now client.new.wire.now
-        account.old.disk account.new.disk account.old.file account.new.file
+    ensures kind { kind_of account.new.store ≡ kind_of account.old.store }
+    ensures session { WhereAllSound W.sound W.leads_to (is_sound D.MaildirDisk F.FlatFile) F.sound client.old.wire.now client.new.wire.now
+        account.old.store account.new.store account.old.file account.new.file
+        (SessionIn account.old.settings (target_of account.old.store (digits_of account.old.settings)) now (link_of W.Wire client.old)
+        (keeping (stores_of D.MaildirDisk F.FlatFile account.old.store) (F.stored account.old.file)) result (link_of W.Wire client.new)
+        (keeping (stores_of D.MaildirDisk F.FlatFile account.new.store) (F.stored account.new.file))) }
+    ensures files { WhereAllSound W.sound W.leads_to (IsSoundMaildir D.MaildirDisk) F.sound client.old.wire.now client.new.wire.now
+        account.old.store account.new.store account.old.file account.new.file
         (Session account.old.settings (digits_of account.old.settings) now (link_of W.Wire client.old)
-        (kept (D.maildir account.old.disk) (F.stored account.old.file)) result (link_of W.Wire client.new)
-        (kept (D.maildir account.new.disk) (F.stored account.new.file))) }
+        (kept (maildir_of D.MaildirDisk account.old.store) (F.stored account.old.file)) result (link_of W.Wire client.new)
+        (kept (maildir_of D.MaildirDisk account.new.store) (F.stored account.new.file))) }
+    ensures entries { WhereAllSound W.sound W.leads_to (IsSoundMbox F.FlatFile) F.sound client.old.wire.now client.new.wire.now
+        account.old.store account.new.store account.old.file account.new.file
+        (MboxSession account.old.settings now (link_of W.Wire client.old)
+        (mbox_kept (mbox_of F.FlatFile account.old.store) (F.stored account.old.file)) result (link_of W.Wire client.new)
+        (mbox_kept (mbox_of F.FlatFile account.new.store) (F.stored account.new.file))) }
     ensures bounded { W.sound client.new.wire.now
         → GotAtMost (session_limit result.total) (link_of W.Wire client.old) (link_of W.Wire client.new) }
 {
@@ -101,7 +118,7 @@ fn session_over<W: Wire, D: MaildirDisk, F: FlatFile, H: BuildHasher>(
         total: 0,
         skipped: 0,
     };
-    account.work.lines = Vec::new(account.work.alloc);
+    account.work.ledger.lines = Vec::new(account.work.ledger.alloc);
     let terms = Terms {
         settings: &account.settings,
         account: &account.id,
@@ -111,16 +128,26 @@ fn session_over<W: Wire, D: MaildirDisk, F: FlatFile, H: BuildHasher>(
         let outcome = Outcome::Cut(cut.fault);
         leave(client, cut);
         prove!(client.waiting().len() <= 4096);
-        let lines = mem::replace(&mut account.work.lines, Vec::new(account.work.alloc));
+        let lines = mem::replace(
+            &mut account.work.ledger.lines,
+            Vec::new(account.work.ledger.alloc),
+        );
         return tell(outcome, counts, lines);
     }
     prove!(client.waiting().len() <= 4096);
-    let lines = mem::replace(&mut account.work.lines, Vec::new(account.work.alloc));
+    let lines = mem::replace(
+        &mut account.work.ledger.lines,
+        Vec::new(account.work.ledger.alloc),
+    );
     tell(Outcome::Ended, counts, lines)
 }
 
 /// Runs one session of an account over a link: it logs in, lists, stores what is wanted and isn't
 /// held, deletes what is due, and quits. `now` is in seconds since 1970.
+///
+/// A Maildir's text goes piece by piece into a file. A text for an mboxrd file is read whole, the record
+/// is told what is about to be appended, and then its entry is appended; an entry whose session was cut
+/// is cut off or counted by the next one, before it asks for a text.
 ///
 /// The first fault cuts it. Whatever the server sends and whichever call is refused, no text that is
 /// stored is lost or changed. Of the link it takes, with n messages, at most 2,048 octets for each of
@@ -133,11 +160,17 @@ pub fn session<W: Wire, D: MaildirDisk, F: FlatFile, H: BuildHasher>(
 ) -> Report
     ensures counted { RefusesByOutcome (W.seen wire.old) result.outcome (W.seen wire.new) }
     ensures settings { account.new.settings ≡ account.old.settings }
-    ensures session { WhereAllSound W.sound W.leads_to D.sound F.sound wire.old wire.new
-        account.old.disk account.new.disk account.old.file account.new.file
+    ensures kind { kind_of account.new.store ≡ kind_of account.old.store }
+    ensures session { WhereAllSound W.sound W.leads_to (IsSoundMaildir D.MaildirDisk) F.sound wire.old wire.new
+        account.old.store account.new.store account.old.file account.new.file
         (Session account.old.settings (digits_of account.old.settings) now (W.seen wire.old)
-        (kept (D.maildir account.old.disk) (F.stored account.old.file)) result (W.seen wire.new)
-        (kept (D.maildir account.new.disk) (F.stored account.new.file))) }
+        (kept (maildir_of D.MaildirDisk account.old.store) (F.stored account.old.file)) result (W.seen wire.new)
+        (kept (maildir_of D.MaildirDisk account.new.store) (F.stored account.new.file))) }
+    ensures mbox_session { WhereAllSound W.sound W.leads_to (IsSoundMbox F.FlatFile) F.sound wire.old wire.new
+        account.old.store account.new.store account.old.file account.new.file
+        (MboxSession account.old.settings now (W.seen wire.old)
+        (mbox_kept (mbox_of F.FlatFile account.old.store) (F.stored account.old.file)) result (W.seen wire.new)
+        (mbox_kept (mbox_of F.FlatFile account.new.store) (F.stored account.new.file))) }
     ensures bounded { W.sound wire.new
         → GotAtMost (session_limit result.total) (W.seen wire.old) (W.seen wire.new) }
 {

@@ -5,6 +5,7 @@ ghost use Rattle.mail_terms.specs.Listing.{message_limit};
 ghost use Rattle.mail_terms.specs.UniqueId.{IsLegalId};
 ghost use Rattle.mail_store.specs.FileName.{IsAccountText};
 ghost use Rattle.pop3_client.specs.Client.{HasSameLink, place_of, link_of};
+ghost use Rattle.fetch_session.specs.Target.{IsCalm, is_sound, kind_of, stores_of, target_of};
 ghost use Rattle.fetch_session.specs.Work.{WhereWorkSound};
 ghost use Rattle.fetch_session.specs.Intake.{TookWithTail, step_limit, tail_limit};
 ghost use Rattle.fetch_session.specs.Plan.{Carries};
@@ -33,30 +34,32 @@ pub fn carry_out<W: Wire, D: MaildirDisk, F: FlatFile, H: BuildHasher>(
     skipped: &mut u32,
 ) -> Result<(), Cut>
     requires digits { IsAccountText terms.account.now }
-    requires room { HasRoom work.old.lines (2 * length listing.now) }
-    requires calm { D.sound work.old.disk → (D.maildir work.old.disk).begun ≡ None }
+    requires room { HasRoom work.old.ledger.lines (2 * length listing.now) }
+    requires calm { IsCalm D.MaildirDisk F.FlatFile work.old.store }
     requires legal { AllByRecursion (λ item. IsLegalId item.uid) listing.now }
     requires none_skipped { skipped.old ≡ 0 }
     requires few { length listing.now ≤ message_limit }
     ensures link { HasSameLink client.old client.new }
     ensures counted { RefusesTillCut (link_of W.Wire client.old) result (link_of W.Wire client.new) }
-    ensures few { Adds work.old.lines (2 * length listing.now) work.new.lines }
-    ensures calm { D.sound work.new.disk → D.sound work.old.disk × ((D.maildir work.new.disk).begun ≡ None) }
+    ensures few { Adds work.old.ledger.lines (2 * length listing.now) work.new.ledger.lines }
+    ensures kind { kind_of work.new.store ≡ kind_of work.old.store }
+    ensures calm { is_sound D.MaildirDisk F.FlatFile work.new.store → is_sound D.MaildirDisk F.FlatFile work.old.store
+        × ((stores_of D.MaildirDisk F.FlatFile work.new.store).maildir.begun ≡ None) }
     ensures carries { WhereWorkSound W.Wire D.MaildirDisk F.FlatFile client.old work.old client.new work.new
-        (λ old new. Carries terms.entry.settings.now terms.entry.account.now listing.now terms.entry.now
-        old.place old.maildir old.file old.lines result
-        new.place new.maildir new.file new.lines skipped.new) }
+        (λ old new. Carries terms.entry.settings.now (target_of work.old.store terms.entry.account.now) listing.now terms.entry.now
+        old.place old.store old.file old.lines result
+        new.place new.store new.file new.lines skipped.new) }
     ensures took { W.sound client.new.wire.now → W.sound client.old.wire.now
         × TookWithTail (length listing.now * step_limit + tail_limit) (place_of W.Wire client.old) result (place_of W.Wire client.new) }
 {
     conversations_are_paced();
     firsts_are_fetched();
     let ready = match prepare(
-        work.alloc,
+        work.ledger.alloc,
         terms,
-        &mut work.disk,
-        &mut work.file,
-        &mut work.seen,
+        &mut work.store,
+        &mut work.ledger.file,
+        &mut work.ledger.seen,
         listing,
     ) {
         Ok(ready) => ready,

@@ -1,16 +1,22 @@
-//! What a session knows before its plan is carried out: the record, and what the Maildir holds.
-ghost use Rattle.std.specs.Prelude.{◌≡◌, ◌≢◌, ℕ, List, [], false, true, None, Some, length, OnOk, IfOk};
-ghost use Rattle.fetch_rules.specs.Record.{none_open, merged};
+//! What a session knows before its plan is carried out: the record, and what the store holds.
+ghost use Rattle.std.specs.Prelude.{◌≡◌, ◌≢◌, ℕ, Bool, List, [], false, true, map, None, Some, length, OnOk, IfOk};
+ghost use Rattle.std.specs.List.{AllByRecursion};
+ghost use Rattle.fetch_rules.specs.Intents.{closed_rows};
+ghost use Rattle.fetch_rules.specs.Record.{Loaded, has_row, none_open, merged};
 ghost use Rattle.fetch_rules.specs.RecordFile.{file_of};
 ghost use Rattle.fetch_rules.specs.Plan.{planned};
-ghost use Rattle.mail_store.specs.Held.{flags_of};
-ghost use Rattle.fetch_session.specs.Record.{Gets, Reads, ReadAs, Merges, Readies, IsLineFault, FindsHeld, Steady, bytes_in, held_in};
+ghost use Rattle.fetch_session.specs.Mbox.{AsksMbox, SettlesIntent};
+ghost use Rattle.fetch_session.specs.Target.{flags_in, is_sound, kind_of, stores_of, target_of};
+ghost use Rattle.fetch_session.specs.Readiness.{FindsHeld, FindsIn, Readies};
+ghost use Rattle.fetch_session.specs.Record.{Gets, Reads, ReadAs, Merges, IsLineFault, Steady, bytes_in, held_in};
 
+use crate::account::Store;
+use crate::appending::refused;
 use crate::fault::{Fault, Why};
 use crate::record::{grow, save};
 use crate::terms::Terms;
-use fetch_rules::{Listing, Seen, SeenFault, Step, plan};
-use mail_store::{AccountId, FlatFile, MaildirDisk, StoreFault, held};
+use fetch_rules::{Listing, Seen, SeenFault, Step, listed_has_row, plan};
+use mail_store::{AccountId, FlatFile, MaildirDisk, StoreFault, check_mbox, held, settle_file};
 use std::alloc::Global;
 use std::hash::BuildHasher;
 use std::vec::Vec;
@@ -18,10 +24,19 @@ use std::vec::Vec;
 /// What a session goes by.
 #[derive(Drop)]
 pub struct Ready {
-    /// For each message, whether the Maildir holds it.
+    /// For each message, whether the store holds it. Of an mboxrd file that isn't known.
     pub held: Vec<bool>,
     /// What is done with each message.
     pub steps: Vec<Step>,
+}
+
+/// What was found in the store.
+#[derive(Drop)]
+pub struct Found {
+    /// For each message, whether the store holds it.
+    pub held: Vec<bool>,
+    /// Whether the entry of the record's open intent stands whole in the mailbox file.
+    pub stored: bool,
 }
 
 /// The line of the record's file that a fault speaks of.
@@ -49,7 +64,7 @@ fn load<F: FlatFile>(alloc: Global, file: &mut F) -> Result<Vec<u8>, Fault>
 }
 
 /// Reads the record, and says whether its file is missing or empty.
-fn read<F: FlatFile, H: BuildHasher>(
+pub(crate) fn read<F: FlatFile, H: BuildHasher>(
     alloc: Global,
     file: &mut F,
     seen: &mut Seen<H>,
@@ -67,8 +82,8 @@ fn read<F: FlatFile, H: BuildHasher>(
     }
 }
 
-/// Asks which messages are held.
-fn ask_held<D: MaildirDisk>(
+/// Asks which messages a Maildir holds.
+pub(crate) fn ask_held<D: MaildirDisk>(
     alloc: Global,
     disk: &mut D,
     account: &AccountId,
@@ -87,30 +102,103 @@ fn ask_held<D: MaildirDisk>(
     }
 }
 
-/// Takes in a listing and what is held of it, and saves what that changed: the whole record if the
-/// file is missing, empty or must be written anew, else what is appended. An open intent is ended: it
-/// is of an mboxrd, and of that nothing is asked here.
+/// Settles the open intent of the record in the mailbox file, and says whether its entry stands there
+/// whole. With no open intent the file isn't asked.
+fn settle<F: FlatFile, H: BuildHasher>(mbox: &mut F, seen: &Seen<H>) -> Result<bool, Fault>
+    ensures settles { F.sound mbox.new → F.sound mbox.old
+        × SettlesIntent seen.now.intent (F.stored mbox.old) result (F.stored mbox.new) }
+{
+    let Some(intent) = seen.intent() else {
+        return Ok(false);
+    };
+    match settle_file(mbox, intent.start, intent.len) {
+        Ok(whole) => Ok(whole),
+        Err(fault) => Err(refused(fault)),
+    }
+}
+
+/// Settles the mailbox file, and sees whether an entry may follow it. None of the messages is held but
+/// by the record.
+fn ask_mbox<F: FlatFile, H: BuildHasher>(
+    alloc: Global,
+    mbox: &mut F,
+    seen: &Seen<H>,
+    listing: &Listing,
+) -> Result<Found, Fault>
+    ensures length { IfOk result (λ found. length found.held.items ≡ length listing.now) }
+    ensures asks { F.sound mbox.new → F.sound mbox.old
+        × AsksMbox seen.now.intent (F.stored mbox.old) listing.now result (F.stored mbox.new) }
+{
+    let stored = match settle(mbox, seen) {
+        Ok(stored) => stored,
+        Err(fault) => return Err(fault),
+    };
+    if let Err(fault) = check_mbox(mbox) {
+        return Err(refused(fault));
+    }
+    let Ok(held) = vec![in alloc; false; listing.len() as usize] else {
+        return Err(Fault::NoMemory);
+    };
+    Ok(Found { held, stored })
+}
+
+/// Asks the store which messages it holds. An intent that is open in the record is settled in the
+/// mailbox file; of a Maildir it can't be, and has no entry.
+fn ask_store<D: MaildirDisk, F: FlatFile, H: BuildHasher>(
+    alloc: Global,
+    store: &mut Store<D, F>,
+    seen: &Seen<H>,
+    account: &AccountId,
+    listing: &Listing,
+) -> Result<Found, Fault>
+    ensures kind { kind_of store.new ≡ kind_of store.old }
+    ensures length { IfOk result (λ found. length found.held.items ≡ length listing.now) }
+    ensures stays { is_sound D.MaildirDisk F.FlatFile store.new → is_sound D.MaildirDisk F.FlatFile store.old
+        × ((stores_of D.MaildirDisk F.FlatFile store.new).maildir.begun ≡ (stores_of D.MaildirDisk F.FlatFile store.old).maildir.begun)
+        × IfOk result (λ found. found.held.items
+        ≡ flags_in (target_of store.old account.now) (stores_of D.MaildirDisk F.FlatFile store.new) listing.now) }
+    ensures finds { is_sound D.MaildirDisk F.FlatFile store.new → is_sound D.MaildirDisk F.FlatFile store.old
+        × FindsIn (target_of store.old account.now) seen.now.intent (stores_of D.MaildirDisk F.FlatFile store.old) listing.now result
+        (stores_of D.MaildirDisk F.FlatFile store.new) }
+{
+    match store {
+        Store::Maildir(disk) => match ask_held(alloc, disk, account, listing) {
+            Ok(held) => Ok(Found {
+                held,
+                stored: false,
+            }),
+            Err(fault) => Err(fault),
+        },
+        Store::Mboxrd(mbox) => ask_mbox(alloc, mbox, seen, listing),
+    }
+}
+
+/// Takes in a listing and what was found of it in the store, and saves what that changed: the whole
+/// record if the file is missing, empty or must be written anew, else what is appended. An open intent
+/// is ended, by what was found of its entry.
 fn take_in<F: FlatFile, H: BuildHasher>(
     file: &mut F,
     seen: &mut Seen<H>,
     listing: &Listing,
-    held: &[bool],
+    found: &Found,
     now: u64,
     is_new: bool,
 ) -> Result<(), Fault>
-    requires lengths { length held.now ≡ length listing.now }
+    requires lengths { length found.now.held.items ≡ length listing.now }
     requires stands { F.sound file.old → ReadAs (F.stored file.old).content seen.old }
     requires begun { F.sound file.old → is_new ≡ false → bytes_in (F.stored file.old).content ≢ [] }
-    ensures rows { OnOk result (seen.new.rows ≡ merged seen.old.rows listing.now held.now now) }
+    ensures rows { OnOk result (seen.new.rows ≡ merged (closed_rows found.now.stored seen.old.rows seen.old.intent) listing.now
+        found.now.held.items now) }
     ensures closed { OnOk result (seen.new.intent ≡ None) }
     ensures renewed { F.sound file.new → seen.old.stale ≡ true
         → OnOk result ((F.stored file.new).content ≡ Some (file_of seen.new.rows None)) }
     ensures merges { F.sound file.new → F.sound file.old
         × Merges (F.stored file.old) (held_in seen.old) (none_open
-        (merged seen.old.rows listing.now held.now now)) result (F.stored file.new) }
+        (merged (closed_rows found.now.stored seen.old.rows seen.old.intent) listing.now found.now.held.items now)) result
+        (F.stored file.new) }
 {
-    seen.close(false);
-    let Ok(group) = seen.merge_rows(listing, held, now) else {
+    seen.close(found.stored);
+    let Ok(group) = seen.merge_rows(listing, &found.held, now) else {
         return Err(Fault::NoMemory);
     };
     if seen.needs_rewrite() {
@@ -122,41 +210,50 @@ fn take_in<F: FlatFile, H: BuildHasher>(
     grow(file, &group)
 }
 
-/// Reads the record, takes in the listing and what the Maildir holds of it, saves the record where
-/// that changed it, and makes the plan.
+/// Reads the record, settles its open intent, takes in the listing and what the store holds of it,
+/// saves the record where that changed it, and makes the plan.
 pub fn prepare<D: MaildirDisk, F: FlatFile, H: BuildHasher>(
     alloc: Global,
     terms: Terms<'_>,
-    disk: &mut D,
+    store: &mut Store<D, F>,
     file: &mut F,
     seen: &mut Seen<H>,
     listing: &Listing,
 ) -> Result<Ready, Fault>
+    ensures kind { kind_of store.new ≡ kind_of store.old }
     ensures lengths { IfOk result (λ ready. (length ready.steps.items ≡ length listing.now)
         × (length ready.held.items ≡ length listing.now)) }
     ensures plans { IfOk result (λ ready. ready.steps.items ≡ planned terms.entry.settings.now seen.new.rows listing.now terms.entry.now) }
-    ensures stays { D.sound disk.new → D.sound disk.old
-        × ((D.maildir disk.new).begun ≡ (D.maildir disk.old).begun)
-        × IfOk result (λ ready. ready.held.items ≡ flags_of terms.entry.account.now (D.maildir disk.new) listing.now) }
+    ensures rows { OnOk result (AllByRecursion (λ item. has_row seen.new.rows item.uid ≡ true) listing.now) }
+    ensures stays { is_sound D.MaildirDisk F.FlatFile store.new → is_sound D.MaildirDisk F.FlatFile store.old
+        × ((stores_of D.MaildirDisk F.FlatFile store.new).maildir.begun ≡ (stores_of D.MaildirDisk F.FlatFile store.old).maildir.begun)
+        × IfOk result (λ ready. ready.held.items
+        ≡ flags_in (target_of store.old terms.entry.account.now) (stores_of D.MaildirDisk F.FlatFile store.new) listing.now) }
     ensures steady { F.sound file.new → F.sound file.old × OnOk result (Steady (F.stored file.new).content (none_open seen.new.rows)) }
     ensures closed { OnOk result (seen.new.intent ≡ None) }
-    ensures readies { D.sound disk.new → F.sound file.new → D.sound disk.old × F.sound file.old
-        × Readies terms.entry.settings.now terms.entry.account.now listing.now terms.entry.now (D.maildir disk.old)
-        (F.stored file.old) result seen.new.rows (D.maildir disk.new) (F.stored file.new) }
+    ensures readies { is_sound D.MaildirDisk F.FlatFile store.new → F.sound file.new
+        → is_sound D.MaildirDisk F.FlatFile store.old × F.sound file.old
+        × Readies terms.entry.settings.now (target_of store.old terms.entry.account.now) listing.now terms.entry.now
+        (stores_of D.MaildirDisk F.FlatFile store.old) (F.stored file.old) result seen.new.rows
+        (stores_of D.MaildirDisk F.FlatFile store.new) (F.stored file.new) }
 {
+    listed_has_row();
     let is_new = match read(alloc, file, seen) {
         Ok(is_new) => is_new,
         Err(fault) => return Err(fault),
     };
-    let flags = match ask_held(alloc, disk, terms.account, listing) {
-        Ok(flags) => flags,
+    let found = match ask_store(alloc, store, seen, terms.account, listing) {
+        Ok(found) => found,
         Err(fault) => return Err(fault),
     };
-    if let Err(fault) = take_in(file, seen, listing, &flags, terms.now, is_new) {
+    if let Err(fault) = take_in(file, seen, listing, &found, terms.now, is_new) {
         return Err(fault);
     }
     match plan(alloc, terms.settings, seen, listing, terms.now) {
-        Ok(steps) => Ok(Ready { held: flags, steps }),
+        Ok(steps) => Ok(Ready {
+            held: found.held,
+            steps,
+        }),
         Err(_) => Err(Fault::NoMemory),
     }
 }

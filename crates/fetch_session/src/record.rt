@@ -1,10 +1,12 @@
 //! The record and its file.
-ghost use Rattle.std.specs.Prelude.{◌≡◌, ◌≢◌, [], false, None, OnOk};
-ghost use Rattle.fetch_rules.specs.Record.{Held, none_open, marked};
+ghost use Rattle.std.specs.Prelude.{◌≡◌, ◌≢◌, [], false, true, None, Some, OnOk};
+ghost use Rattle.mail_terms.specs.UniqueId.{IsLegalId};
+ghost use Rattle.fetch_rules.specs.Intents.{IsNoneOrOf};
+ghost use Rattle.fetch_rules.specs.Record.{Held, has_row, none_open, marked};
 ghost use Rattle.fetch_rules.specs.RecordFile.{Two, file_of};
 ghost use Rattle.fetch_rules.specs.RecordMeaning.{Means, Rows};
 ghost use Rattle.fetch_rules.specs.RecordGrowth.{Grows};
-ghost use Rattle.fetch_session.specs.Record.{Writes, Saves, Steady, bytes_in, held_in};
+ghost use Rattle.fetch_session.specs.Record.{Writes, Saves, Steady, bytes_in, held_in, intent_at, with_open};
 
 use crate::fault::Fault;
 use fetch_rules::{Seen, appended_counts, bytes_stand, cut_is_ignored};
@@ -46,19 +48,47 @@ pub(crate) fn grow<F: FlatFile>(file: &mut F, group: &[u8]) -> Result<(), Fault>
     }
 }
 
-/// Marks an id as delivered, and appends the row to the file where that changed it.
+/// Writes down that the entry of an id's text is about to be appended to a mailbox file: at which size
+/// of the file, and how long the entry is.
+pub(crate) fn intend<F: FlatFile, H: BuildHasher>(
+    file: &mut F,
+    seen: &mut Seen<H>,
+    uid: &[u8],
+    start: u64,
+    len: u64,
+) -> Result<(), Fault>
+    requires legal { IsLegalId uid.now }
+    requires row { has_row seen.old.rows uid.now ≡ true }
+    requires closed { seen.old.intent ≡ None }
+    requires steady { F.sound file.old → Steady (F.stored file.old).content (none_open seen.old.rows) }
+    ensures rows { seen.new.rows ≡ seen.old.rows }
+    ensures opened { OnOk result (seen.new.intent ≡ Some (intent_at uid.now start len)) }
+    ensures steady { F.sound file.new → F.sound file.old
+        × OnOk result (Steady (F.stored file.new).content (with_open seen.old.rows (intent_at uid.now start len))) }
+    ensures saves { F.sound file.new → F.sound file.old
+        × Saves (F.stored file.old) (none_open seen.old.rows) (with_open seen.old.rows (intent_at uid.now start len)) result
+        (F.stored file.new) }
+{
+    let Ok(line) = seen.intend(uid, start, len) else {
+        return Err(Fault::NoMemory);
+    };
+    grow(file, &line)
+}
+
+/// Marks an id as delivered, and appends the row to the file where that changed it. That ends the
+/// intent of the id, if it is open.
 pub(crate) fn remember<F: FlatFile, H: BuildHasher>(
     file: &mut F,
     seen: &mut Seen<H>,
     uid: &[u8],
 ) -> Result<(), Fault>
-    requires steady { F.sound file.old → Steady (F.stored file.old).content (none_open seen.old.rows) }
-    requires closed { seen.old.intent ≡ None }
+    requires steady { F.sound file.old → Steady (F.stored file.old).content (held_in seen.old) }
+    requires own { IsNoneOrOf uid.now seen.old.intent }
     ensures rows { OnOk result (seen.new.rows ≡ marked seen.old.rows uid.now) }
     ensures steady { F.sound file.new → F.sound file.old × OnOk result (Steady (F.stored file.new).content (none_open seen.new.rows)) }
     ensures closed { OnOk result (seen.new.intent ≡ None) }
     ensures saves { F.sound file.new → F.sound file.old
-        × Saves (F.stored file.old) (none_open seen.old.rows) (none_open (marked seen.old.rows uid.now)) result (F.stored file.new) }
+        × Saves (F.stored file.old) (held_in seen.old) (none_open (marked seen.old.rows uid.now)) result (F.stored file.new) }
 {
     let Ok(group) = seen.mark_rows(uid) else {
         return Err(Fault::NoMemory);

@@ -1,29 +1,32 @@
 //! What is done with each message.
-ghost use Rattle.std.specs.Prelude.{◌≡◌, ◌*◌, ℕ, List, None, false, length, OnOk};
+ghost use Rattle.std.specs.Prelude.{◌≡◌, ◌*◌, ℕ, List, None, false, true, length, OnOk};
 ghost use Rattle.mail_terms.specs.UniqueId.{IsLegalId};
-ghost use Rattle.mail_store.specs.FileName.{is_held, name_of, IsAccountText};
+ghost use Rattle.mail_store.specs.FileName.{is_held, stem_of, IsAccountText};
 ghost use Rattle.mail_store.specs.FlatFile.{Stored};
-ghost use Rattle.mail_store.specs.Maildir.{Maildir};
-ghost use Rattle.fetch_rules.specs.Record.{Row};
+ghost use Rattle.fetch_rules.specs.Record.{Row, has_row};
 ghost use Rattle.pop3_wire.specs.Link.{WhereSound};
 ghost use Rattle.pop3_client.specs.Client.{HasSameLink, place_of, link_of};
 ghost use Rattle.pop3_client.specs.Turns.{most, retr, dele};
-ghost use Rattle.fetch_session.specs.Work.{IsReady, WhereWorkSound};
+ghost use Rattle.std.specs.List.{AllByRecursion};
+ghost use Rattle.fetch_session.specs.Target.{AsFiles, Target, Stores, in_maildir, is_sound, kind_of, stores_of, target_of};
+ghost use Rattle.fetch_session.specs.Work.{IsReady, IsWritten, KeepsIds, WhereWorkSound};
 ghost use Rattle.fetch_session.specs.Store.{Grows, GrowsBy};
 ghost use Rattle.fetch_session.specs.Task.{stores, rereads, fetching, deleting, tasks_in, tasks_planned, ids_ahead, AreFresh};
 ghost use Rattle.fetch_session.specs.Refusal.{RefusesTillCut};
 ghost use Rattle.fetch_session.specs.Report.{HasRoom, Adds};
-ghost use Rattle.fetch_session.specs.Scene.{scene, TakesTask, Does};
+ghost use Rattle.fetch_session.specs.Scene.{scene, TakesTask, Does, WhereAllSound};
 ghost use Rattle.fetch_session.specs.Intake.{TookTillCut, step_limit};
 
+use crate::account::Store;
+use crate::appending::take_into_mbox;
 use crate::fault::{Cut, Fault, plain, told};
 use crate::record::remember;
 use crate::report::{ReportLine, note};
 use crate::storing::{pass_text, store_text};
-use crate::work::Work;
-use fetch_rules::{Listing, Step};
+use crate::work::{Ledger, Work};
+use fetch_rules::{Listing, Step, marked_keeps_rows};
 use mail_store::{
-    AccountId, FlatFile, MaildirDisk, file_name, one_more_is_held, unheld_ids_are_not_in_new,
+    AccountId, FlatFile, MaildirDisk, file_stem, one_more_is_held, unheld_ids_are_not_in_new,
 };
 use pop3_client::{Client, conversations_are_paced};
 use pop3_wire::Wire;
@@ -40,6 +43,59 @@ struct PlannedMessage<'a> {
     held: bool,
 }
 
+/// Takes one text: it is read, stored in the Maildir and marked.
+fn take_into_maildir<W: Wire, D: MaildirDisk, F: FlatFile, H: BuildHasher>(
+    client: &mut Client<'_, W>,
+    disk: &mut D,
+    ledger: &mut Ledger<F, H>,
+    account: &AccountId,
+    number: u32,
+    uid: &[u8],
+) -> Result<(), Cut>
+    requires digits { IsAccountText account.now }
+    requires legal { IsLegalId uid.now }
+    requires room { HasRoom ledger.old.lines 1 }
+    requires calm { D.sound disk.old → (D.maildir disk.old).begun ≡ None }
+    requires ready { IsWritten F.FlatFile ledger.old }
+    requires free { D.sound disk.old → is_held account.now (D.maildir disk.old) uid.now ≡ false }
+    ensures link { HasSameLink client.old client.new }
+    ensures counted { RefusesTillCut (link_of W.Wire client.old) result (link_of W.Wire client.new) }
+    ensures few { Adds ledger.old.lines 1 ledger.new.lines }
+    ensures ready { OnOk result (IsWritten F.FlatFile ledger.new) }
+    ensures rows { OnOk result (KeepsIds ledger.old.seen.rows ledger.new.seen.rows) }
+    ensures grows { D.sound disk.new → D.sound disk.old
+        × Grows (stem_of account.now uid.now) (D.maildir disk.old) (D.maildir disk.new) }
+    ensures takes { WhereAllSound W.sound W.leads_to D.sound F.sound client.old.wire.now client.new.wire.now disk.old disk.new
+        ledger.old.file ledger.new.file (TakesTask (AsFiles account.now) (stores number uid.now)
+        (scene (place_of W.Wire client.old) (in_maildir (D.maildir disk.old)) (F.stored ledger.old.file) ledger.old.seen.rows
+        ledger.old.lines.items) result
+        (scene (place_of W.Wire client.new) (in_maildir (D.maildir disk.new)) (F.stored ledger.new.file) ledger.new.seen.rows
+        ledger.new.lines.items)) }
+    ensures took { W.sound client.new.wire.now → W.sound client.old.wire.now
+        × TookTillCut (most (retr number)) (place_of W.Wire client.old) result (place_of W.Wire client.new) }
+{
+    conversations_are_paced();
+    marked_keeps_rows();
+    unheld_ids_are_not_in_new();
+    let stem = match file_stem(ledger.alloc, account, uid) {
+        Ok(stem) => stem,
+        Err(_) => return Err(plain(Fault::NoMemory)),
+    };
+    let body = match client.open(ledger.alloc, number) {
+        Ok(body) => body,
+        Err(fault) => return Err(plain(told(fault))),
+    };
+    let length = match store_text(client, disk, stem, body) {
+        Ok(length) => length,
+        Err(cut) => return Err(cut),
+    };
+    note(&mut ledger.lines, ReportLine::Delivered { number, length });
+    match remember(&mut ledger.file, &mut ledger.seen, uid) {
+        Ok(()) => Ok(()),
+        Err(fault) => Err(plain(fault)),
+    }
+}
+
 /// Takes one text: it is read, stored and marked.
 fn take<W: Wire, D: MaildirDisk, F: FlatFile, H: BuildHasher>(
     client: &mut Client<'_, W>,
@@ -50,38 +106,30 @@ fn take<W: Wire, D: MaildirDisk, F: FlatFile, H: BuildHasher>(
 ) -> Result<(), Cut>
     requires digits { IsAccountText account.now }
     requires legal { IsLegalId uid.now }
-    requires room { HasRoom work.old.lines 1 }
+    requires room { HasRoom work.old.ledger.lines 1 }
     requires ready { IsReady D.MaildirDisk F.FlatFile work.old }
-    requires free { D.sound work.old.disk → is_held account.now (D.maildir work.old.disk) uid.now ≡ false }
+    requires free { is_sound D.MaildirDisk F.FlatFile work.old.store
+        → is_held account.now (stores_of D.MaildirDisk F.FlatFile work.old.store).maildir uid.now ≡ false }
+    requires row { has_row work.old.ledger.seen.rows uid.now ≡ true }
     ensures link { HasSameLink client.old client.new }
     ensures counted { RefusesTillCut (link_of W.Wire client.old) result (link_of W.Wire client.new) }
-    ensures few { Adds work.old.lines 1 work.new.lines }
+    ensures few { Adds work.old.ledger.lines 1 work.new.ledger.lines }
+    ensures kind { kind_of work.new.store ≡ kind_of work.old.store }
     ensures ready { OnOk result (IsReady D.MaildirDisk F.FlatFile work.new) }
-    ensures grows { D.sound work.new.disk → D.sound work.old.disk
-        × Grows (name_of account.now uid.now) (D.maildir work.old.disk) (D.maildir work.new.disk) }
+    ensures rows { OnOk result (KeepsIds work.old.ledger.seen.rows work.new.ledger.seen.rows) }
+    ensures grows { is_sound D.MaildirDisk F.FlatFile work.new.store → is_sound D.MaildirDisk F.FlatFile work.old.store
+        × Grows (stem_of account.now uid.now) (stores_of D.MaildirDisk F.FlatFile work.old.store).maildir
+        (stores_of D.MaildirDisk F.FlatFile work.new.store).maildir }
     ensures takes { WhereWorkSound W.Wire D.MaildirDisk F.FlatFile client.old work.old client.new work.new
-        (λ old new. TakesTask account.now (stores number uid.now) old result new) }
+        (λ old new. TakesTask (target_of work.old.store account.now) (stores number uid.now) old result new) }
     ensures took { W.sound client.new.wire.now → W.sound client.old.wire.now
         × TookTillCut (most (retr number)) (place_of W.Wire client.old) result (place_of W.Wire client.new) }
 {
-    conversations_are_paced();
-    unheld_ids_are_not_in_new();
-    let name = match file_name(work.alloc, account, uid) {
-        Ok(name) => name,
-        Err(_) => return Err(plain(Fault::NoMemory)),
-    };
-    let body = match client.open(work.alloc, number) {
-        Ok(body) => body,
-        Err(fault) => return Err(plain(told(fault))),
-    };
-    let length = match store_text(client, &mut work.disk, name.as_str(), body) {
-        Ok(length) => length,
-        Err(cut) => return Err(cut),
-    };
-    note(&mut work.lines, ReportLine::Delivered { number, length });
-    match remember(&mut work.file, &mut work.seen, uid) {
-        Ok(()) => Ok(()),
-        Err(fault) => Err(plain(fault)),
+    match &mut work.store {
+        Store::Maildir(disk) => {
+            take_into_maildir(client, disk, &mut work.ledger, account, number, uid)
+        }
+        Store::Mboxrd(mbox) => take_into_mbox(client, mbox, &mut work.ledger, number, uid),
     }
 }
 
@@ -96,11 +144,11 @@ fn reread<W: Wire>(
     ensures link { HasSameLink client.old client.new }
     ensures counted { RefusesTillCut (link_of W.Wire client.old) result (link_of W.Wire client.new) }
     ensures few { Adds lines.old 1 lines.new }
-    ensures rereads { (account uid : List ℕ) (maildir : Maildir) (file : Stored) (rows : List Row)
+    ensures rereads { (target : Target) (uid : List ℕ) (store : Stores) (file : Stored) (rows : List Row)
         → WhereSound W.sound W.leads_to client.old.wire.now client.new.wire.now
-        (TakesTask account (rereads number uid)
-        (scene (place_of W.Wire client.old) maildir file rows lines.old.items) result
-        (scene (place_of W.Wire client.new) maildir file rows lines.new.items)) }
+        (TakesTask target (rereads number uid)
+        (scene (place_of W.Wire client.old) store file rows lines.old.items) result
+        (scene (place_of W.Wire client.new) store file rows lines.new.items)) }
     ensures took { W.sound client.new.wire.now → W.sound client.old.wire.now
         × TookTillCut (most (retr number)) (place_of W.Wire client.old) result (place_of W.Wire client.new) }
 {
@@ -130,11 +178,11 @@ fn delete_if<W: Wire>(
     ensures link { HasSameLink client.old client.new }
     ensures counted { RefusesTillCut (link_of W.Wire client.old) result (link_of W.Wire client.new) }
     ensures few { Adds lines.old 1 lines.new }
-    ensures deletes { (account : List ℕ) (maildir : Maildir) (file : Stored) (rows : List Row)
+    ensures deletes { (target : Target) (store : Stores) (file : Stored) (rows : List Row)
         → WhereSound W.sound W.leads_to client.old.wire.now client.new.wire.now
-        (Does account (deleting wanted number)
-        (scene (place_of W.Wire client.old) maildir file rows lines.old.items) result
-        (scene (place_of W.Wire client.new) maildir file rows lines.new.items)) }
+        (Does target (deleting wanted number)
+        (scene (place_of W.Wire client.old) store file rows lines.old.items) result
+        (scene (place_of W.Wire client.new) store file rows lines.new.items)) }
     ensures took { W.sound client.new.wire.now → W.sound client.old.wire.now
         × TookTillCut (most (dele number)) (place_of W.Wire client.old) result (place_of W.Wire client.new) }
 {
@@ -160,20 +208,25 @@ fn fetch_if<W: Wire, D: MaildirDisk, F: FlatFile, H: BuildHasher>(
 ) -> Result<(), Cut>
     requires digits { IsAccountText account.now }
     requires legal { IsLegalId message.uid.now }
-    requires room { HasRoom work.old.lines 1 }
+    requires room { HasRoom work.old.ledger.lines 1 }
     requires ready { IsReady D.MaildirDisk F.FlatFile work.old }
-    requires free { D.sound work.old.disk → AreFresh account.now (D.maildir work.old.disk)
+    requires free { is_sound D.MaildirDisk F.FlatFile work.old.store
+        → AreFresh account.now (stores_of D.MaildirDisk F.FlatFile work.old.store).maildir
         (ids_ahead (fetching message.step.retrieve message.held message.step.number message.uid.now message.size)) }
+    requires row { has_row work.old.ledger.seen.rows message.uid.now ≡ true }
     ensures link { HasSameLink client.old client.new }
     ensures counted { RefusesTillCut (link_of W.Wire client.old) result (link_of W.Wire client.new) }
-    ensures few { Adds work.old.lines 1 work.new.lines }
+    ensures few { Adds work.old.ledger.lines 1 work.new.ledger.lines }
+    ensures kind { kind_of work.new.store ≡ kind_of work.old.store }
+    ensures rows { OnOk result (KeepsIds work.old.ledger.seen.rows work.new.ledger.seen.rows) }
     ensures ready { OnOk result (IsReady D.MaildirDisk F.FlatFile work.new) }
-    ensures grows { D.sound work.new.disk → D.sound work.old.disk × GrowsBy account.now
+    ensures grows { is_sound D.MaildirDisk F.FlatFile work.new.store → is_sound D.MaildirDisk F.FlatFile work.old.store
+        × GrowsBy account.now
         (ids_ahead (fetching message.entry.step.retrieve message.entry.held message.entry.step.number message.entry.uid.now
         message.entry.size))
-        (D.maildir work.old.disk) (D.maildir work.new.disk) }
+        (stores_of D.MaildirDisk F.FlatFile work.old.store).maildir (stores_of D.MaildirDisk F.FlatFile work.new.store).maildir }
     ensures does { WhereWorkSound W.Wire D.MaildirDisk F.FlatFile client.old work.old client.new work.new
-        (λ old new. Does account.now
+        (λ old new. Does (target_of work.old.store account.now)
         (fetching message.entry.step.retrieve message.entry.held message.entry.step.number message.entry.uid.now
         message.entry.size) old result new) }
     ensures took { W.sound client.new.wire.now → W.sound client.old.wire.now
@@ -187,11 +240,11 @@ fn fetch_if<W: Wire, D: MaildirDisk, F: FlatFile, H: BuildHasher>(
     } = message;
     let number = step.number;
     if !step.retrieve {
-        note(&mut work.lines, ReportLine::Skipped { number, size });
+        note(&mut work.ledger.lines, ReportLine::Skipped { number, size });
         return Ok(());
     }
     if held {
-        return reread(work.alloc, client, &mut work.lines, number);
+        return reread(work.ledger.alloc, client, &mut work.ledger.lines, number);
     }
     take(client, work, account, number, uid)
 }
@@ -205,20 +258,25 @@ fn do_step<W: Wire, D: MaildirDisk, F: FlatFile, H: BuildHasher>(
 ) -> Result<(), Cut>
     requires digits { IsAccountText account.now }
     requires legal { IsLegalId message.uid.now }
-    requires room { HasRoom work.old.lines 2 }
+    requires room { HasRoom work.old.ledger.lines 2 }
     requires ready { IsReady D.MaildirDisk F.FlatFile work.old }
-    requires free { D.sound work.old.disk → AreFresh account.now (D.maildir work.old.disk)
+    requires free { is_sound D.MaildirDisk F.FlatFile work.old.store
+        → AreFresh account.now (stores_of D.MaildirDisk F.FlatFile work.old.store).maildir
         (ids_ahead (fetching message.step.retrieve message.held message.step.number message.uid.now message.size)) }
+    requires row { has_row work.old.ledger.seen.rows message.uid.now ≡ true }
     ensures link { HasSameLink client.old client.new }
     ensures counted { RefusesTillCut (link_of W.Wire client.old) result (link_of W.Wire client.new) }
-    ensures few { Adds work.old.lines 2 work.new.lines }
+    ensures few { Adds work.old.ledger.lines 2 work.new.ledger.lines }
+    ensures kind { kind_of work.new.store ≡ kind_of work.old.store }
+    ensures rows { OnOk result (KeepsIds work.old.ledger.seen.rows work.new.ledger.seen.rows) }
     ensures ready { OnOk result (IsReady D.MaildirDisk F.FlatFile work.new) }
-    ensures grows { D.sound work.new.disk → D.sound work.old.disk × GrowsBy account.now
+    ensures grows { is_sound D.MaildirDisk F.FlatFile work.new.store → is_sound D.MaildirDisk F.FlatFile work.old.store
+        × GrowsBy account.now
         (ids_ahead (fetching message.entry.step.retrieve message.entry.held message.entry.step.number message.entry.uid.now
         message.entry.size))
-        (D.maildir work.old.disk) (D.maildir work.new.disk) }
+        (stores_of D.MaildirDisk F.FlatFile work.old.store).maildir (stores_of D.MaildirDisk F.FlatFile work.new.store).maildir }
     ensures does { WhereWorkSound W.Wire D.MaildirDisk F.FlatFile client.old work.old client.new work.new
-        (λ old new. Does account.now
+        (λ old new. Does (target_of work.old.store account.now)
         (tasks_in message.entry.step (record { uid = message.entry.uid.now; size = message.entry.size }) message.entry.held)
         old result new) }
     ensures took { W.sound client.new.wire.now → W.sound client.old.wire.now
@@ -229,9 +287,9 @@ fn do_step<W: Wire, D: MaildirDisk, F: FlatFile, H: BuildHasher>(
         return Err(cut);
     }
     delete_if(
-        work.alloc,
+        work.ledger.alloc,
         client,
-        &mut work.lines,
+        &mut work.ledger.lines,
         step.delete,
         step.number,
     )
@@ -247,18 +305,22 @@ pub fn do_steps<W: Wire, D: MaildirDisk, F: FlatFile, H: BuildHasher>(
     held: &[bool],
 ) -> Result<(), Cut>
     requires digits { IsAccountText account.now }
-    requires room { HasRoom work.old.lines (2 * length listing.now) }
+    requires room { HasRoom work.old.ledger.lines (2 * length listing.now) }
     requires all_steps { length steps.now ≡ length listing.now }
     requires all_flags { length held.now ≡ length listing.now }
     requires ready { IsReady D.MaildirDisk F.FlatFile work.old }
-    requires free { D.sound work.old.disk
-        → AreFresh account.now (D.maildir work.old.disk) (ids_ahead (tasks_planned steps.now listing.now held.now)) }
+    requires free { is_sound D.MaildirDisk F.FlatFile work.old.store
+        → AreFresh account.now (stores_of D.MaildirDisk F.FlatFile work.old.store).maildir
+        (ids_ahead (tasks_planned steps.now listing.now held.now)) }
+    requires rows { AllByRecursion (λ item. has_row work.old.ledger.seen.rows item.uid ≡ true) listing.now }
     ensures link { HasSameLink client.old client.new }
     ensures counted { RefusesTillCut (link_of W.Wire client.old) result (link_of W.Wire client.new) }
-    ensures few { Adds work.old.lines (2 * length listing.now) work.new.lines }
-    ensures calm { D.sound work.new.disk → D.sound work.old.disk × ((D.maildir work.new.disk).begun ≡ None) }
+    ensures few { Adds work.old.ledger.lines (2 * length listing.now) work.new.ledger.lines }
+    ensures kind { kind_of work.new.store ≡ kind_of work.old.store }
+    ensures calm { is_sound D.MaildirDisk F.FlatFile work.new.store → is_sound D.MaildirDisk F.FlatFile work.old.store
+        × ((stores_of D.MaildirDisk F.FlatFile work.new.store).maildir.begun ≡ None) }
     ensures does { WhereWorkSound W.Wire D.MaildirDisk F.FlatFile client.old work.old client.new work.new
-        (λ old new. Does account.now (tasks_planned steps.now listing.now held.now) old result new) }
+        (λ old new. Does (target_of work.old.store account.now) (tasks_planned steps.now listing.now held.now) old result new) }
     ensures took { W.sound client.new.wire.now → W.sound client.old.wire.now
         × TookTillCut (length listing.now * step_limit) (place_of W.Wire client.old) result (place_of W.Wire client.new) }
 {

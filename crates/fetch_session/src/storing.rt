@@ -1,17 +1,18 @@
 //! How a text is taken: stored, or passed over where it is held already.
-ghost use Rattle.std.specs.Prelude.{◌≡◌, ◌≢◌, ◌≤◌, ℕ, List, [], None, IsSome, Some};
+ghost use Rattle.std.specs.Prelude.{◌≡◌, ◌≢◌, ◌≤◌, ℕ, List, [], None, IsSome, string_bytes};
 ghost use Rattle.pop3_client.specs.Client.{HasSameLink, CountsRefusals, place_of, link_of};
 ghost use Rattle.pop3_wire.specs.Link.{WhereSound};
 ghost use Rattle.pop3_wire.specs.Place.{Place};
 ghost use Rattle.pop3_wire.specs.declared.unstuffer.Spot.TheVariants.{Done};
 ghost use Rattle.pop3_client.specs.Turns.{retr, text_limit};
 ghost use Rattle.pop3_client.specs.Texts.{Fetching};
-ghost use Rattle.mail_store.specs.Maildir.{File, IsInNew, file};
+ghost use Rattle.mail_store.specs.FileName.{HasRoomForSize, sized};
+ghost use Rattle.mail_store.specs.Maildir.{IsInNew};
 ghost use Rattle.fetch_session.specs.Refusal.{RefusesTillCut};
 ghost use Rattle.fetch_session.specs.Store.{Starts, Puts, Ends, StoresText, ReadsText, PassesText};
 
 use crate::fault::{Cut, Fault, Why, plain, told};
-use mail_store::{MaildirDisk, StoreFault};
+use mail_store::{MaildirDisk, StoreFault, add_size};
 use pop3_client::{Client, Fault as TalkFault};
 use pop3_wire::{BodyReader, Wire};
 
@@ -47,35 +48,40 @@ fn put_piece<D: MaildirDisk>(disk: &mut D, bytes: &[u8]) -> Result<(), Fault>
     }
 }
 
-/// Puts the file begun into `new`.
-fn settle_file<D: MaildirDisk>(disk: &mut D) -> Result<(), Fault>
-    requires { D.sound disk.old
-        → (f : File) × ((D.maildir disk.old).begun ≡ Some f) × (IsInNew (D.maildir disk.old) f.name → ⊥) }
+/// Puts the file begun into `new`, under the name of this stem and size. It takes no memory.
+fn settle_file<D: MaildirDisk>(disk: &mut D, stem: String, size: u64) -> Result<(), Fault>
+    requires room { HasRoomForSize stem }
+    requires begun { D.sound disk.old → IsSome (D.maildir disk.old).begun }
+    requires not_there { D.sound disk.old → IsInNew (D.maildir disk.old) (sized (string_bytes stem) size) → ⊥ }
     ensures ends { D.sound disk.new → D.sound disk.old
-        × Ends (D.maildir disk.old) result (D.maildir disk.new) }
+        × Ends (D.maildir disk.old) (sized (string_bytes stem) size) result (D.maildir disk.new) }
 {
-    match disk.settle() {
+    let mut name = stem;
+    add_size(&mut name, size);
+    match disk.settle(name.as_str()) {
         Ok(()) => Ok(()),
         Err(_) => Err(Fault::StoreRefused(Why::Refused)),
     }
 }
 
-/// Takes a text that is under way, stores it piece by piece under a name, and says how long it is,
-/// in bytes, lines ended by LF. It goes through two arrays, and is never kept whole.
+/// Takes a text that is under way, stores it piece by piece in a file with this stem, and says how
+/// long it is, in bytes, lines ended by LF. It goes through two arrays, and is never kept whole. The
+/// stem has room for that length, so that nothing can be wanting once the text has come.
 pub(crate) fn store_text<W: Wire, D: MaildirDisk>(
     client: &mut Client<'_, W>,
     disk: &mut D,
-    name: &str,
+    stem: String,
     body: BodyReader,
 ) -> Result<u64, Cut>
+    requires room { HasRoomForSize stem }
     requires open { body.spot ≢ Done }
     requires within { body.left ≤ text_limit }
     requires calm { D.sound disk.old → (D.maildir disk.old).begun ≡ None }
-    requires not_there { D.sound disk.old → IsInNew (D.maildir disk.old) name.now → ⊥ }
+    requires not_there { D.sound disk.old → (size : ℕ) → IsInNew (D.maildir disk.old) (sized (string_bytes stem) size) → ⊥ }
     ensures link { HasSameLink client.old client.new }
     ensures counted { RefusesTillCut (link_of W.Wire client.old) result (link_of W.Wire client.new) }
     ensures stores { D.sound disk.new → D.sound disk.old
-        × ((text : List ℕ) × StoresText name.now (D.maildir disk.old) text result (D.maildir disk.new)
+        × ((text : List ℕ) × StoresText (string_bytes stem) (D.maildir disk.old) text result (D.maildir disk.new)
         × WhereSound W.sound W.leads_to client.old.wire.now client.new.wire.now
         ((number : ℕ) (start : Place) → Fetching (retr number) start (place_of W.Wire client.old) body []
         → ReadsText number start text result (place_of W.Wire client.new))) }
@@ -84,7 +90,7 @@ pub(crate) fn store_text<W: Wire, D: MaildirDisk>(
         → (text : List ℕ) × ReadsText number start text result (place_of W.Wire client.new)) }
 {
     let mut rest = body;
-    if let Err(fault) = begin_file(disk, name) {
+    if let Err(fault) = begin_file(disk, stem.as_str()) {
         return Err(Cut {
             fault,
             rest: Some(rest),
@@ -108,7 +114,7 @@ pub(crate) fn store_text<W: Wire, D: MaildirDisk>(
         }
         length += piece.put as u64;
         if piece.ended {
-            return match settle_file(disk) {
+            return match settle_file(disk, stem, length) {
                 Ok(()) => Ok(length),
                 Err(fault) => Err(Cut {
                     fault,

@@ -84,7 +84,7 @@ pub fn fault_number(outcome: &Outcome) -> u8
 }
 
 /// The report's first line: whose mail it is.
-fn heading(alloc: Global, settings: &Settings) -> Result<String, AllocError>
+pub(crate) fn heading(alloc: Global, settings: &Settings) -> Result<String, AllocError>
     ensures { IfOk result (λ text. string_bytes text ≡ heading settings.now) }
 {
     let username = settings.username.as_str();

@@ -10,23 +10,24 @@ use Rattle.pop3_wire.specs.Link.{Link}
 use Rattle.pop3_wire.specs.Commands.{line_of, can_be_sent}
 use Rattle.pop3_wire.specs.CommandLine.{HasNumbers}
 use Rattle.pop3_wire.specs.Honest.{Asked}
-use Rattle.pop3_wire.specs.World.{Message, IsMessage}
+use Rattle.pop3_wire.specs.World.{Message, IsMessage, maildrop_of}
 use Rattle.run_law.specs.Sessions.{IsMarked, Served}
 use Rattle.rc_file.specs.Settings.{IsValid}
 use Rattle.rc_file.specs.declared.settings.Settings.{Settings}
 use Rattle.fetch_rules.specs.Plan.{planned}
 use Rattle.fetch_rules.specs.declared.steps.Step.{Step}
+use Rattle.fetch_session.specs.Account.{digits_of}
 use Rattle.fetch_session.specs.declared.report.Outcome.{Outcome}
 use Rattle.fetch_session.specs.declared.report.Outcome.TheVariants.{Ended, Cut as WasCut}
 use Rattle.fetch_session.specs.Refusal.{RefusesByOutcome}
 use Rattle.fetch_session.specs.declared.report.Report.{Report}
-use Rattle.fetch_session.specs.Session.{Kept, Session}
-use Rattle.fetch_runs.specs.Conversations.{Opens, SpeaksByPlan, SessionsAreConversations}
+use Rattle.fetch_session.specs.Session.{Kept, MboxKept, Session, MboxSession}
+use Rattle.fetch_runs.specs.Conversations.{Opens, SpeaksByPlan, SessionsAreConversations, FollowsPlan, MboxSessionsFollowPlans}
 use Rattle.pop3_server.specs.Maildrop.{Mail, there}
 use Rattle.pop3_server.specs.ServerMachine.{Machine}
 use Rattle.pop3_server.specs.HonestLoop.{IsNew, GivesHonest}
 use Rattle.pop3_server.specs.LoopLink.{Loop, Serves}
-use Rattle.local_fetch.specs.Local.{AreSessions, AreWithout, FetchesFrom, loop_to, unused}
+use Rattle.local_fetch.specs.Local.{AreSessions, AreMboxSessions, AreWithout, FetchesBy, FetchesFrom, MboxFetchesFrom, loop_to, unused}
 use Rattle.run_law.specs.Plans.{asked_if, step_commands, plan_commands, IsTail, IsFrontOfPlan}
 use Rattle.pop3_server.specs.HonestServer.{IsOfSession, IsAsked, IsClosedByQuit, AreLeft, Gone, lines_of}
 
@@ -134,28 +135,25 @@ vanishing before marks after machine commands gone (inr quits) =
     let more = missing before marks after gone.left in
     record { vanished = more.ids; quits = inr quits; marked = more.marked; left = more.left }
 
--- some commands were sent whole, of a plan and a tail
-record Sends (settings : Settings) (sent : List ℕ) : Type 0 where
-  steps : List Step
-  commands : List Command
-  asked : Asked commands sent
-  front : IsFrontOfPlan (string_bytes settings.username) (string_bytes settings.password) steps commands
+-- what was sent follows a plan
+follows : (settings : Settings) (account : List ℕ) (now : ℕ) (before : Kept) (report : Report) (sent got : List ℕ) → Opens settings report sent got ⊎ SpeaksByPlan settings account now before report sent got
+    → FollowsPlan settings sent
+follows settings account now before report sent got (inl said) = record { steps = []; commands = said.commands; asked = said.asked; front = said.front }
+follows settings account now before report sent got (inr said) = record { steps = planned settings said.rows said.items now; commands = said.commands; asked = said.asked; front = said.front }
 
-sends : (settings : Settings) (account : List ℕ) (now : ℕ) (before : Kept) (report : Report) (sent got : List ℕ) → Opens settings report sent got ⊎ SpeaksByPlan settings account now before report sent got
-    → Sends settings sent
-sends settings account now before report sent got (inl said) = record { steps = []; commands = said.commands; asked = said.asked; front = said.front }
-sends settings account now before report sent got (inr said) = record { steps = planned settings said.rows said.items now; commands = said.commands; asked = said.asked; front = said.front }
+-- all that a new link sent follows a plan
+abbrev Sends : Settings → Link → Type 0
+Sends settings link = (sent : List ℕ) × (link.sent ≡ sent) × FollowsPlan settings sent
 
-module _ {M : Type 0} (sound : M → Type 0) (mail : M → Mail) (conversations : SessionsAreConversations) (honesty : GivesHonest sound mail) where
-  from_new : (settings : Settings) (account : List ℕ) (now : ℕ) (server : Machine M) (loop : Loop M) (before : Kept) (report : Report) (after : Kept) → IsNew (loop_to server) → IsValid settings
-      → Serves sound mail (loop_to server) loop → Session settings account now unused before report loop.link after → sound loop.machine.drop
-      → AllByRecursion IsMessage (there (mail server.drop).slots) → FetchesFrom mail settings account now server loop.machine loop.link before report after
-  from_new settings account now server loop before report after is_new valid serves session sound' messages =
-      let said = conversations settings account now unused before report loop.link after valid session in
-      let s = sends settings account now before report said.0 said.1 said.4 in
+module _ {M : Type 0} (sound : M → Type 0) (mail : M → Mail) (honesty : GivesHonest sound mail) where
+  from_new : (Made : Type 0) (settings : Settings) (server : Machine M) (loop : Loop M) → Sends settings loop.link → IsNew (loop_to server)
+      → Serves sound mail (loop_to server) loop → Made → sound loop.machine.drop
+      → AllByRecursion IsMessage (there (mail server.drop).slots) → FetchesBy mail Made server loop.machine loop.link
+  from_new Made settings server loop said is_new serves session sound' messages =
+      let s = said.2 in
       let all = honesty (loop_to server) loop s.commands s.asked.part is_new serves
       (are_asked (string_bytes settings.username) (string_bytes settings.password) s.steps s.commands said.0 s.front s.asked) s.asked.no_line
-      (said.2 ∙ s.asked.whole ∙ ap (λ (l : List ℕ). l ++ s.asked.part) (sym (lines_same s.commands))) sound' messages in
+      (said.1 ∙ s.asked.whole ∙ ap (λ (l : List ℕ). l ++ s.asked.part) (sym (lines_same s.commands))) sound' messages in
       let messages_were = there (mail server.drop).slots in
       let gone = vanishing messages_were all.0 (there (mail loop.machine.drop).slots) loop.machine all.1.commands all.2 all.3 in
       record {
@@ -165,21 +163,54 @@ module _ {M : Type 0} (sound : M → Type 0) (mail : M → Mail) (conversations 
         left = gone.left;
       }
 
-  pub fetches : (settings : Settings) (account : List ℕ) (now : ℕ) (server new : Machine M) (start loop : Loop M) (before : Kept) (report : Report) (after : Kept) → start ≡ loop_to server
-      → new ≡ loop.machine → IsNew (loop_to server) → IsValid settings → Serves sound mail start loop → Session settings account now start.link before report loop.link after → sound new.drop
-      → AllByRecursion IsMessage (there (mail server.drop).slots) → FetchesFrom mail settings account now server new loop.link before report after
-  fetches settings account now server new start loop before report after first last is_new valid serves session sound' messages =
-      subst (λ (m : Machine M). FetchesFrom mail settings account now server m loop.link before report after) (sym last)
-      (from_new settings account now server loop before report after is_new valid (subst (λ (l : Loop M). Serves sound mail l loop) first serves)
-      (subst (λ (l : Loop M). Session settings account now l.link before report loop.link after) first session)
+  -- the session is over the link that the server's is
+  over : (Made : Link → Type 0) (settings : Settings) (server new : Machine M) (start loop : Loop M) → start ≡ loop_to server → new ≡ loop.machine
+      → (Made unused → Sends settings loop.link) → IsNew (loop_to server) → Serves sound mail start loop → Made start.link → sound new.drop
+      → AllByRecursion IsMessage (there (mail server.drop).slots) → FetchesBy mail (Made unused) server new loop.link
+  over Made settings server new start loop first last sends is_new serves session sound' messages =
+      let made = subst (λ (l : Loop M). Made l.link) first session in
+      subst (λ (m : Machine M). FetchesBy mail (Made unused) server m loop.link) (sym last)
+      (from_new (Made unused) settings server loop (sends made) is_new (subst (λ (l : Loop M). Serves sound mail l loop) first serves) made
       (subst (λ (m : Machine M). sound m.drop) last sound') messages)
+
+  pub fetches : SessionsAreConversations → (settings : Settings) (account : List ℕ) (now : ℕ) (server new : Machine M) (start loop : Loop M) (before : Kept) (report : Report) (after : Kept)
+      → start ≡ loop_to server → new ≡ loop.machine → IsNew (loop_to server) → IsValid settings → Serves sound mail start loop
+      → Session settings account now start.link before report loop.link after → sound new.drop
+      → AllByRecursion IsMessage (there (mail server.drop).slots) → FetchesFrom mail settings account now server new loop.link before report after
+  fetches conversations settings account now server new start loop before report after first last is_new valid =
+      over (λ (l : Link). Session settings account now l before report loop.link after) settings server new start loop first last sends is_new
+    where
+      sends : Session settings account now unused before report loop.link after → Sends settings loop.link
+      sends session = let said = conversations settings account now unused before report loop.link after valid session in (said.0, said.2, follows settings account now before report said.0 said.1 said.4)
+
+  pub mbox_fetches : MboxSessionsFollowPlans → (settings : Settings) (now : ℕ) (server new : Machine M) (start loop : Loop M) (before : MboxKept) (report : Report) (after : MboxKept)
+      → start ≡ loop_to server → new ≡ loop.machine → IsNew (loop_to server) → IsValid settings → Serves sound mail start loop
+      → MboxSession settings now start.link before report loop.link after → sound new.drop
+      → AllByRecursion IsMessage (there (mail server.drop).slots) → MboxFetchesFrom mail settings now server new loop.link before report after
+  mbox_fetches plans settings now server new start loop before report after first last is_new valid =
+      over (λ (l : Link). MboxSession settings now l before report loop.link after) settings server new start loop first last
+      (plans settings now unused before report loop.link after valid) is_new
+
+-- ---- such sessions are those of the headlines
+
+module _ {M : Type 0} (mail : M → Mail) (Made : Type 0) (messages : List Message) (old new : Machine M) (link : Link) (local : FetchesBy mail Made old new link)
+    (drop : there (mail old.drop).slots ≡ messages) where
+  served : (sent got : List ℕ) → link.sent ≡ sent → link.got ≡ got → Served messages sent got local.vanished
+  served sent got sent_is got_is =
+      subst (λ (ms : List Message). Served ms sent got local.vanished) drop
+      (subst (λ (s : List ℕ). Served (there (mail old.drop).slots) s got local.vanished) sent_is
+      (subst (λ (g : List ℕ). Served (there (mail old.drop).slots) link.sent g local.vanished) got_is local.served))
 
 pub are_sessions : {M : Type 0} (mail : M → Mail) → AreSessions mail
 are_sessions mail world state settings now come old new link report after are local drop = record {
   settings = are;
   session = local.session;
-  served = λ sent got sent_is got_is.
-      subst (λ (ms : List Message). Served ms sent got local.vanished) drop
-      (subst (λ (s : List ℕ). Served (there (mail old.drop).slots) s got local.vanished) sent_is
-      (subst (λ (g : List ℕ). Served (there (mail old.drop).slots) link.sent g local.vanished) got_is local.served));
+  served = served mail (Session settings (digits_of settings) now unused state.kept report link after) (maildrop_of world.all come state.gone) old new link local drop;
+}
+
+pub are_mbox_sessions : {M : Type 0} (mail : M → Mail) → AreMboxSessions mail
+are_mbox_sessions mail frame state settings now come old new link report after are local drop = record {
+  settings = are;
+  session = local.session;
+  served = served mail (MboxSession settings now unused state.kept report link after) (maildrop_of frame.all come state.gone) old new link local drop;
 }

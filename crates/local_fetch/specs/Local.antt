@@ -9,8 +9,10 @@ use Rattle.pop3_server.specs.ServerMachine.{Machine, greeting}
 use Rattle.pop3_server.specs.LoopLink.{Loop}
 use Rattle.fetch_session.specs.Account.{digits_of}
 use Rattle.fetch_session.specs.declared.report.Report.{Report}
-use Rattle.fetch_session.specs.Session.{Kept, Session}
+use Rattle.fetch_session.specs.Session.{Kept, MboxKept, Session, MboxSession}
 use Rattle.fetch_runs.specs.Headline.{World, State, AreSettings, IsSession}
+use Rattle.fetch_runs.specs.MboxHeadline.{MboxState, AreSettings as AreMboxSettings, IsMboxSession}
+use Rattle.run_law.specs.MboxRuns.{MboxFrame}
 
 -- a link that was used for nothing yet
 abbrev pub unused : Link
@@ -26,13 +28,21 @@ AreWithout [] vanished after = (vanished ≡ []) × (after ≡ [])
 AreWithout (m ∷ before) vanished after = ((rest : List Message) × (after ≡ m ∷ rest) × AreWithout before vanished rest)
     ⊎ ((more : List (List ℕ)) × (vanished ≡ m.uid ∷ more) × AreWithout before more after)
 
--- over a new server's link a session was run, and it was served as an honest server serves it whose maildrop this is: what
+-- over a new server's link this session was run, and it was served as an honest server serves it whose maildrop this is: what
 -- was got is honest, and what vanished was marked, and vanished with a QUIT
-pub record FetchesFrom {M : Type 0} (mail : M → Mail) (settings : Settings) (account : List ℕ) (now : ℕ) (old new : Machine M) (link : Link) (before : Kept) (report : Report) (after : Kept) : Type 0 where
-  pub session : Session settings account now unused before report link after
+pub record FetchesBy {M : Type 0} (mail : M → Mail) (Made : Type 0) (old new : Machine M) (link : Link) : Type 0 where
+  pub session : Made
   pub vanished : List (List ℕ)
   pub served : Served (there (mail old.drop).slots) link.sent link.got vanished
   pub left : AreWithout (there (mail old.drop).slots) vanished (there (mail new.drop).slots)
+
+-- a session of an account with a Maildir
+abbrev pub FetchesFrom : {M : Type 0} → (M → Mail) → Settings → List ℕ → ℕ → Machine M → Machine M → Link → Kept → Report → Kept → Type 0
+FetchesFrom mail settings account now old new link before report after = FetchesBy mail (Session settings account now unused before report link after) old new link
+
+-- a session of an account with a mailbox file
+abbrev pub MboxFetchesFrom : {M : Type 0} → (M → Mail) → Settings → ℕ → Machine M → Machine M → Link → MboxKept → Report → MboxKept → Type 0
+MboxFetchesFrom mail settings now old new link before report after = FetchesBy mail (MboxSession settings now unused before report link after) old new link
 
 -- a law: over the maildrop of a world such a session is one of those that the headline speaks of
 abbrev pub AreSessions : {M : Type 0} → (M → Mail) → Type 0
@@ -41,3 +51,11 @@ AreSessions {M} mail = (world : World) (state : State) (settings : Settings) (no
     → (local : FetchesFrom mail settings (digits_of settings) now old new link state.kept report after)
     → there (mail old.drop).slots ≡ maildrop_of world.all come state.gone
     → IsSession world state (record { settings = settings; now = now; report = report; link = unused; link' = link; after = after; come = come; vanished = local.vanished })
+
+-- a law: with a mailbox file, such a session is one of those that the second headline speaks of
+abbrev pub AreMboxSessions : {M : Type 0} → (M → Mail) → Type 0
+AreMboxSessions {M} mail = (frame : MboxFrame) (state : MboxState) (settings : Settings) (now come : ℕ) (old new : Machine M) (link : Link) (report : Report) (after : MboxKept)
+    → AreMboxSettings frame settings
+    → (local : MboxFetchesFrom mail settings now old new link state.kept report after)
+    → there (mail old.drop).slots ≡ maildrop_of frame.all come state.gone
+    → IsMboxSession frame state (record { settings = settings; now = now; report = report; link = unused; link' = link; after = after; come = come; vanished = local.vanished })

@@ -5,10 +5,11 @@ ghost use Rattle.pop3_wire.specs.World.{IsMessage};
 ghost use Rattle.pop3_server.specs.Maildrop.{there};
 ghost use Rattle.pop3_server.specs.HonestLoop.{IsNew};
 ghost use Rattle.fetch_session.specs.Account.{digits_of};
-ghost use Rattle.fetch_session.specs.Session.{kept};
-ghost use Rattle.local_fetch.specs.Local.{FetchesFrom, loop_to};
+ghost use Rattle.fetch_session.specs.Session.{kept, mbox_kept};
+ghost use Rattle.fetch_session.specs.Target.{IsSoundMaildir, IsSoundMbox, maildir_of, mbox_of};
+ghost use Rattle.local_fetch.specs.Local.{FetchesFrom, MboxFetchesFrom, loop_to};
 
-use fetch_runs::sessions_are_conversations;
+use fetch_runs::{mbox_sessions_follow_plans, sessions_are_conversations};
 use fetch_session::{Account, Report, session};
 use mail_store::{FlatFile, MaildirDisk};
 use pop3_server::{LoopWire, Maildrop, Server, loops_are_honest};
@@ -28,13 +29,21 @@ pub fn fetch_local<D: MaildirDisk, F: FlatFile, H: BuildHasher, M: Maildrop>(
 ) -> (Report, LoopWire<M>)
     requires new { IsNew (loop_to server) }
     ensures settings { account.new.settings ≡ account.old.settings }
-    ensures fetches { D.sound account.new.disk → F.sound account.new.file → M.sound result.1.machine.drop
+    ensures fetches { IsSoundMaildir D.MaildirDisk account.new.store → F.sound account.new.file → M.sound result.1.machine.drop
         → AllByRecursion IsMessage (there (M.mail server.drop).slots)
-        → D.sound account.old.disk × F.sound account.old.file
+        → IsSoundMaildir D.MaildirDisk account.old.store × F.sound account.old.file
         × FetchesFrom M.mail account.old.settings (digits_of account.old.settings) now server result.1.machine result.1.link
-        (kept (D.maildir account.old.disk) (F.stored account.old.file)) result.0 (kept (D.maildir account.new.disk) (F.stored account.new.file)) }
+        (kept (maildir_of D.MaildirDisk account.old.store) (F.stored account.old.file)) result.0
+        (kept (maildir_of D.MaildirDisk account.new.store) (F.stored account.new.file)) }
+    ensures mbox_fetches { IsSoundMbox F.FlatFile account.new.store → F.sound account.new.file → M.sound result.1.machine.drop
+        → AllByRecursion IsMessage (there (M.mail server.drop).slots)
+        → IsSoundMbox F.FlatFile account.old.store × F.sound account.old.file
+        × MboxFetchesFrom M.mail account.old.settings now server result.1.machine result.1.link
+        (mbox_kept (mbox_of F.FlatFile account.old.store) (F.stored account.old.file)) result.0
+        (mbox_kept (mbox_of F.FlatFile account.new.store) (F.stored account.new.file)) }
 {
     sessions_are_conversations();
+    mbox_sessions_follow_plans();
     loops_are_honest::<M>();
     let _ = account.settings();
     let mut wire = LoopWire::new(alloc, server);

@@ -1,5 +1,5 @@
 //! Laws over what sessions over a server in memory did.
-ghost use Rattle.local_fetch.specs.Local.{AreSessions};
+ghost use Rattle.local_fetch.specs.Local.{AreMboxSessions, AreSessions};
 
 use pop3_server::Maildrop;
 
@@ -7,4 +7,10 @@ use pop3_server::Maildrop;
 /// those that the headline speaks of.
 pub fn local_sessions_are_sessions<M: Maildrop>()
     ensures { AreSessions M.mail }
+{}
+
+/// A law: over the maildrop of a world, what [`fetch_local`](crate::fetch_local) did with an mboxrd file is
+/// a session of those that the second headline speaks of.
+pub fn local_mbox_sessions_are_sessions<M: Maildrop>()
+    ensures { AreMboxSessions M.mail }
 {}

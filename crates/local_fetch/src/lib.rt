@@ -5,4 +5,4 @@ mod fetch;
 mod laws;
 
 pub use fetch::fetch_local;
-pub use laws::local_sessions_are_sessions;
+pub use laws::{local_mbox_sessions_are_sessions, local_sessions_are_sessions};

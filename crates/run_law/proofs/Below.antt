@@ -1,4 +1,4 @@
--- What the laws of the crates below say, of names, plans and records.
+-- The laws of the crates below that are used here: of names, plans and records.
 use Rattle.std.proofs.Common.{◌≡◌, ℕ, List, ◌∷◌, ◌++◌, Bool, ◌&&◌, ◌||◌}
 use Rattle.std.specs.Prelude.{bytes_eq}
 use Rattle.mail_terms.specs.Listing.{Item, has_item, is_flagged}
@@ -6,7 +6,7 @@ use Rattle.mail_terms.specs.MaildirName.{base}
 use Rattle.fetch_rules.specs.Record.{Row, has_row, is_delivered, marked, merged}
 use Rattle.fetch_rules.specs.Wanted.{DistinctAreFiltered}
 use Rattle.mail_store.specs.Maildir.{Maildir}
-use Rattle.mail_store.specs.FileName.{NamesAreBases, NamesDiffer, is_held}
+use Rattle.mail_store.specs.FileName.{NamesAreBases, NamesHaveStems, StemsDiffer, is_held}
 use Rattle.mail_store.specs.Held.{flags_of}
 
 -- of records and what is held
@@ -18,14 +18,15 @@ pub record Records : Type 0 where
   pub marks : (rows : List Row) (uid other : List ℕ)
       → is_delivered (marked rows uid) other ≡ (is_delivered rows other || (has_row rows other && bytes_eq uid other))
 
--- of the marks that a reader puts behind names
+-- of the flags that a reader puts after names
 pub record Marks : Type 0 where
   pub kept : (name marks : List ℕ) → base (name ++ 58 ∷ marks) ≡ base name
   pub own : (name : List ℕ) → base (base name) ≡ base name
 
 -- of all that a session stores and a reader moves
 pub record Below : Type 0 where
-  pub differ : NamesDiffer
+  pub differ : StemsDiffer
+  pub stems : NamesHaveStems
   pub bases : NamesAreBases
   pub marks : Marks
   pub filtered : DistinctAreFiltered

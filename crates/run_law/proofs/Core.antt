@@ -1,4 +1,4 @@
--- What a session fetches, where a prefix of the selected messages is done, is the next of them: this knows nothing of stores.
+-- If a prefix of the selected messages is done, a session fetches the next of them. Stores don't come in here.
 use Rattle.std.proofs.Common.{◌≡◌, ◌≤◌, ◌⊎◌, inl, inr, ℕ, zero, suc, List, [], ◌∷◌, ◌++◌, Bool, true, false, not, cond, ◌&&◌, ◌||◌, ◌==◌, length, take, drop, map, refl, sym, ◌∙◌, ap, subst, arith, append_assoc, take-append-drop}
 use Rattle.std.specs.Prelude.{bytes_eq, zip}
 use Rattle.std.specs.List.{filter, AllByRecursion}
@@ -10,7 +10,7 @@ use Rattle.pop3_wire.specs.World.{Message, IsMessage, IsWorld, maildrop_of}
 use Rattle.rc_file.specs.declared.settings.Settings.{Settings}
 use Rattle.fetch_rules.specs.Record.{Row, is_delivered}
 use Rattle.fetch_rules.specs.Wanted.{DistinctAreFiltered, at_most, wanted, candidates}
-use Rattle.run_law.specs.Mails.{ids_of, listing_of, is_selected, selected, texts_of}
+use Rattle.run_law.specs.Mails.{ids_of, listing_of, is_selected, selected}
 use Rattle.run_law.specs.Steps.{AreTexts, ids_wanted}
 use Rattle.run_law.specs.Runs.{past_limit}
 use Rattle.run_law.proofs.Lists.{filter-filter, all_map, all_both, all_filter, all_take}
@@ -22,7 +22,7 @@ pub or_true : (b : Bool) → (b || true) ≡ true
 or_true true = refl
 or_true false = refl
 
--- where a test passes, the id stays
+-- a message that passes a test keeps its id in the filtered list
 pub passing_in : (p : Message → Bool) (ms : List Message) → AllByRecursion (λ (m : Message). p m ≡ true → has_id (ids_of (filter p ms)) m.uid ≡ true) ms
 passing_in p [] = tt
 passing_in p (m ∷ ms) = (
@@ -74,8 +74,8 @@ pub all_front : {X : Type 0} (P : X → Type 0) (xs ys : List X) → AllByRecurs
 all_front P [] ys h = tt
 all_front P (x ∷ xs) ys h = (h.0, all_front P xs ys h.1)
 
--- all mail, what is gone and how much has come; the settings, and the record once it was merged; what is done of the selected
--- messages, and what isn't
+-- all mail, what is gone and how much has come; the settings, and the merged record; which of the selected
+-- messages are done, and which aren't
 pub record Scene : Type 0 where
   pub all : List Message
   pub gone : List (List ℕ)
@@ -91,7 +91,7 @@ here s = maildrop_of s.all s.come s.gone
 abbrev pub is_done : Scene → List ℕ → Bool
 is_done s id = has_id (ids_of s.done) id
 
--- what is done is a prefix of the selected messages; and what is gone, or of the maildrop is recorded, is done
+-- what is done is a prefix of the selected messages; what is gone, or is recorded in the maildrop, is done
 pub record IsScene (s : Scene) : Type 0 where
   pub world : IsWorld s.all
   pub prefix : selected s.settings.max_size s.all ≡ s.done ++ s.rest
@@ -102,7 +102,7 @@ pub record IsScene (s : Scene) : Type 0 where
 abbrev pub fetched : Scene → List Message
 fetched s = wants s.settings s.rows (here s)
 
--- the first n of them that aren't done yet
+-- the first n of them, without those that are done already
 abbrev pub added : Scene → ℕ → List Message
 added s n = filter (λ (m : Message). not (is_done s m.uid)) (take n (fetched s))
 
@@ -226,7 +226,7 @@ module _ (s : Scene) (is : IsScene s) where
   pub prefix_after : (n : ℕ) → selected s.settings.max_size s.all ≡ (s.done ++ added s n) ++ (added_begins n).0
   prefix_after n = is.prefix ∙ ap (λ l. s.done ++ l) (added_begins n).1 ∙ sym (append_assoc s.done (added s n) (added_begins n).0)
 
-  -- where only what is new is read, nothing of what is wanted is recorded
+  -- if only what is new is read, no wanted message is recorded
   pub none_recorded : s.settings.read_all ≡ false → AllByRecursion (λ (m : Message). is_delivered s.rows m.uid ≡ false) ws
   none_recorded only_new = all_map (λ (m : Message). asked s.settings s.rows m ≡ true) (λ (m : Message). is_delivered s.rows m.uid ≡ false)
       (λ m a. new (fit m) s.settings.read_all (is_delivered s.rows m.uid) only_new a) ws fetched_asked
@@ -240,7 +240,7 @@ module _ (s : Scene) (is : IsScene s) where
           by false h = both_ways false refl h
       new f false false e a = refl
 
-  -- and where all that is done is recorded, nothing of it is done
+  -- and if all that is done is recorded, no wanted message is done
   pub all_added : ((id : List ℕ) → is_done s id ≡ true → is_delivered s.rows id ≡ true) → s.settings.read_all ≡ false → (n : ℕ) → added s n ≡ take n ws
   all_added exact only_new n = filter_all undone (take n ws) (all_take (λ (m : Message). undone m ≡ true) n ws
       (all_map (λ (m : Message). is_delivered s.rows m.uid ≡ false) (λ (m : Message). undone m ≡ true)

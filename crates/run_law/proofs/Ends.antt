@@ -1,4 +1,4 @@
--- A session can end in every situation: so the law speaks of something.
+-- A session can end in every situation, so the law isn't empty.
 use Rattle.std.proofs.Common.{◌≡◌, inr, ℕ, List, [], ◌∷◌, ◌++◌, true, length, map, take, not, refl, sym, ◌∙◌, ap, subst, arith}
 use Rattle.std.specs.Prelude.{zip}
 use Rattle.std.specs.List.{AllByRecursion, filter}

@@ -1,13 +1,13 @@
 -- Files of a Maildir: which ids they hold, what a delivery adds, and what a reader's move leaves.
 use Rattle.std.proofs.Common.{◌≡◌, ◌≤◌, ◌+◌, inl, inr, ℕ, List, [], ◌∷◌, ◌++◌, Bool, true, false, cond, ◌&&◌, length, map, refl, sym, ◌∙◌, ap, subst, arith, append_assoc, length-append}
 use Rattle.std.specs.Prelude.{bytes_eq}
-use Rattle.std.specs.List.{filter, list_any, AllByRecursion}
+use Rattle.std.specs.List.{before_first, filter, list_any, AllByRecursion}
 use Rattle.std.proofs.lemmas.Bool.{both_ways, cases_Bool, false_from_ne_true}
 use Rattle.mail_terms.specs.UniqueId.{is_legal_id, has_id}
 use Rattle.pop3_wire.specs.World.{Message}
 use Rattle.mail_store.specs.Maildir.{Maildir, File, file}
 use Rattle.mail_terms.specs.MaildirName.{base}
-use Rattle.mail_store.specs.FileName.{NamesAreBases, NamesDiffer, name_of, names_id, is_held, IsAccountText}
+use Rattle.mail_store.specs.FileName.{NamesAreBases, NamesHaveStems, StemsDiffer, is_comma, mail_file, name_of, names_id, stem, stem_of, is_held, IsAccountText}
 use Rattle.run_law.specs.Mails.{ids_of, texts_of}
 use Rattle.std.proofs.lemmas.List.Elements.{filter-append}
 use Rattle.run_law.specs.Accounts.{Account, files, copies, TakesOut, Renames, Moves, count_files, IsOther, KeepsOthers}
@@ -17,7 +17,7 @@ use Rattle.run_law.proofs.Ids.{bytes_same, bytes_self, has_texts}
 
 -- ---- held
 
-pub held_copies : (account : List ℕ) (state : Account) (id : List ℕ) → is_held account state.maildir id ≡ is_some (copies (files state) (name_of account id))
+pub held_copies : (account : List ℕ) (state : Account) (id : List ℕ) → is_held account state.maildir id ≡ is_some (copies (files state) (stem_of account id))
 held_copies account state id =
     let p : File → Bool = λ (f : File). names_id account id f.name in
     any-append p state.maildir.in_new state.maildir.in_cur
@@ -26,7 +26,7 @@ held_copies account state id =
     ∙ any_filter p (λ (f : File). f.content) (files state)
 
 -- what is held is what is done
-pub held_done : (account : List ℕ) (state : Account) (done : List Message) (id : List ℕ) → copies (files state) (name_of account id) ≡ texts_of done id
+pub held_done : (account : List ℕ) (state : Account) (done : List Message) (id : List ℕ) → copies (files state) (stem_of account id) ≡ texts_of done id
     → is_held account state.maildir id ≡ has_id (ids_of done) id
 held_done account state done id e = held_copies account state id ∙ ap is_some e ∙ sym (has_texts done id)
 
@@ -34,40 +34,40 @@ held_done account state done id e = held_copies account state id ∙ ap is_some 
 
 pub copies-append : (fs gs : List File) (name : List ℕ) → copies (fs ++ gs) name ≡ copies fs name ++ copies gs name
 copies-append [] gs name = refl
-copies-append (f ∷ fs) gs name = by (bytes_eq name (base f.name)) (copies-append fs gs name)
+copies-append (f ∷ fs) gs name = by (bytes_eq name (stem f.name)) (copies-append fs gs name)
   where
     test : File → Bool
-    test g = bytes_eq name (base g.name)
+    test g = bytes_eq name (stem g.name)
 
     by : (b : Bool) → copies (fs ++ gs) name ≡ copies fs name ++ copies gs name
-        → map (λ (g : File). g.content) (cond b (f ∷ filter (λ (g : File). bytes_eq name (base g.name)) (fs ++ gs)) (filter (λ (g : File). bytes_eq name (base g.name)) (fs ++ gs)))
-        ≡ map (λ (g : File). g.content) (cond b (f ∷ filter (λ (g : File). bytes_eq name (base g.name)) fs) (filter (λ (g : File). bytes_eq name (base g.name)) fs)) ++ copies gs name
+        → map (λ (g : File). g.content) (cond b (f ∷ filter (λ (g : File). bytes_eq name (stem g.name)) (fs ++ gs)) (filter (λ (g : File). bytes_eq name (stem g.name)) (fs ++ gs)))
+        ≡ map (λ (g : File). g.content) (cond b (f ∷ filter (λ (g : File). bytes_eq name (stem g.name)) fs) (filter (λ (g : File). bytes_eq name (stem g.name)) fs)) ++ copies gs name
     by true ih = ap (λ l. f.content ∷ l) ih
     by false ih = ih
 
 -- the file of a message
 abbrev pub message_file : List ℕ → Message → File
-message_file account m = file (name_of account m.uid) m.text
+message_file account m = mail_file account m.uid m.text
 
-pub same_name : NamesDiffer → NamesAreBases → (account a b : List ℕ) → IsAccountText account → is_legal_id a ≡ true → is_legal_id b ≡ true
-    → bytes_eq (name_of account a) (base (name_of account b)) ≡ bytes_eq a b
-same_name differ bases account a b text la lb =
-    ap (bytes_eq (name_of account a)) (bases account b text)
+pub same_stem : StemsDiffer → NamesHaveStems → (account a b : List ℕ) (size : ℕ) → IsAccountText account → is_legal_id a ≡ true → is_legal_id b ≡ true
+    → bytes_eq (stem_of account a) (stem (name_of account b size)) ≡ bytes_eq a b
+same_stem differ stems account a b size text la lb =
+    ap (bytes_eq (stem_of account a)) (stems account b size text)
     ∙ elim (cases_Bool (bytes_eq a b)) [
-      | inl same ↦ ap (λ x. bytes_eq (name_of account a) (name_of account x)) (sym (bytes_same a b same)) ∙ bytes_self (name_of account a) ∙ sym same
+      | inl same ↦ ap (λ x. bytes_eq (stem_of account a) (stem_of account x)) (sym (bytes_same a b same)) ∙ bytes_self (stem_of account a) ∙ sym same
       | inr other ↦ false_from_ne_true _ (λ t. both_ways (bytes_eq a b) other
           (ap (bytes_eq a) (sym (differ account a b la lb (bytes_same _ _ t))) ∙ bytes_self a)) ∙ sym other
     ]
 
-pub copies_messages : NamesDiffer → NamesAreBases → (account : List ℕ) (ms : List Message) (id : List ℕ) → IsAccountText account → is_legal_id id ≡ true
-    → AllByRecursion (λ (m : Message). is_legal_id m.uid ≡ true) ms → copies (map (message_file account) ms) (name_of account id) ≡ texts_of ms id
-copies_messages differ bases account [] id text l h = refl
-copies_messages differ bases account (m ∷ ms) id text l h =
-    ap (λ b. map (λ (g : File). g.content) (cond b (message_file account m ∷ rest) rest)) (same_name differ bases account id m.uid text l h.0)
-    ∙ by (bytes_eq id m.uid) (copies_messages differ bases account ms id text l h.1)
+pub copies_messages : StemsDiffer → NamesHaveStems → (account : List ℕ) (ms : List Message) (id : List ℕ) → IsAccountText account → is_legal_id id ≡ true
+    → AllByRecursion (λ (m : Message). is_legal_id m.uid ≡ true) ms → copies (map (message_file account) ms) (stem_of account id) ≡ texts_of ms id
+copies_messages differ stems account [] id text l h = refl
+copies_messages differ stems account (m ∷ ms) id text l h =
+    ap (λ b. map (λ (g : File). g.content) (cond b (message_file account m ∷ rest) rest)) (same_stem differ stems account id m.uid (length m.text) text l h.0)
+    ∙ by (bytes_eq id m.uid) (copies_messages differ stems account ms id text l h.1)
   where
     rest : List File
-    rest = filter (λ (g : File). bytes_eq (name_of account id) (base g.name)) (map (message_file account) ms)
+    rest = filter (λ (g : File). bytes_eq (stem_of account id) (stem g.name)) (map (message_file account) ms)
 
     by : (b : Bool) → map (λ (g : File). g.content) rest ≡ texts_of ms id
         → map (λ (g : File). g.content) (cond b (message_file account m ∷ rest) rest)
@@ -80,9 +80,9 @@ copies_messages differ bases account (m ∷ ms) id text l h =
 copies_around : (front back : List File) (f : File) (name : List ℕ) → copies (front ++ f ∷ back) name ≡ copies front name ++ (copies (f ∷ []) name ++ copies back name)
 copies_around front back f name = copies-append front (f ∷ back) name ∙ ap (λ k. copies front name ++ k) (copies-append (f ∷ []) back name)
 
-copies_renamed : (f g : File) (name : List ℕ) → base f.name ≡ base g.name → f.content ≡ g.content → copies (f ∷ []) name ≡ copies (g ∷ []) name
+copies_renamed : (f g : File) (name : List ℕ) → stem f.name ≡ stem g.name → f.content ≡ g.content → copies (f ∷ []) name ≡ copies (g ∷ []) name
 copies_renamed f g name b c =
-    ap (λ n. map (λ (k : File). k.content) (cond (bytes_eq name n) (f ∷ []) [])) b ∙ by (bytes_eq name (base g.name))
+    ap (λ n. map (λ (k : File). k.content) (cond (bytes_eq name n) (f ∷ []) [])) b ∙ by (bytes_eq name (stem g.name))
   where
     by : (t : Bool) → map (λ (k : File). k.content) (cond t (f ∷ []) []) ≡ map (λ (k : File). k.content) (cond t (g ∷ []) [])
     by true = ap (λ x. x ∷ []) c
@@ -96,12 +96,12 @@ inserted a b c d x e l =
     let total : length (c ++ (x ++ d)) ≤ 1 = omega (arith, l, length-append a (x ++ b), length-append x b, length-append c (x ++ d), length-append x d, ap length e, length-append a b, length-append c d) in
     insert_last c d x total ∙ ap (λ k. k ++ x) (sym e) ∙ sym (insert_last a b x l)
 
--- a file is taken out and put anywhere, with the same base and content
+-- a file is taken out and put in anywhere, with the same base and content
 pub copies_moved : (front back first last : List File) (f g : File) (name : List ℕ) → front ++ back ≡ first ++ last → base f.name ≡ base g.name → f.content ≡ g.content
     → length (copies (front ++ f ∷ back) name) ≤ 1 → copies (first ++ g ∷ last) name ≡ copies (front ++ f ∷ back) name
 copies_moved front back first last f g name e b c l =
     copies_around first last g name
-    ∙ ap (λ k. copies first name ++ (k ++ copies last name)) (sym (copies_renamed f g name b c))
+    ∙ ap (λ k. copies first name ++ (k ++ copies last name)) (sym (copies_renamed f g name (ap (before_first is_comma) b) c))
     ∙ inserted (copies front name) (copies back name) (copies first name) (copies last name) (copies (f ∷ []) name)
     (sym (copies-append front back name) ∙ ap (λ k. copies k name) e ∙ copies-append first last name)
     (subst (λ (k : List (List ℕ)). length k ≤ 1) (copies_around front back f name) l)
@@ -199,19 +199,27 @@ moves_keep account before after o name content other =
         let f : count_files (o.old ∷ []) name content ≡ count_files (o.new ∷ []) name content = count_same o.old o.new name content o.base_same o.content_same in
         omega arith
 
-none_counted : NamesAreBases → (account : List ℕ) (ms : List Message) (name content : List ℕ) → IsAccountText account → IsOther account name
-    → AllByRecursion (λ (m : Message). is_legal_id m.uid ≡ true) ms → count_files (map (message_file account) ms) name content ≡ 0
-none_counted bases account [] name content text other h = refl
-none_counted bases account (m ∷ ms) name content text other h =
-    ap (λ b. length (cond (b && bytes_eq content m.text) (message_file account m ∷ filter (is_counted name content) (map (message_file account) ms)) (filter (is_counted name content) (map (message_file account) ms))))
-    (ap (bytes_eq name) (bases account m.uid text) ∙ other m.uid h.0)
-    ∙ none_counted bases account ms name content text other h.1
+-- the name of a message's file isn't another one
+not_other : NamesHaveStems → NamesAreBases → (account name uid : List ℕ) (size : ℕ) → IsAccountText account → IsOther account name
+    → is_legal_id uid ≡ true → bytes_eq name (base (name_of account uid size)) ≡ false
+not_other stems bases account name uid size text other legal =
+    ap (bytes_eq name) (bases account uid size text)
+    ∙ false_from_ne_true _ (λ t. both_ways (bytes_eq (stem name) (stem_of account uid)) (other uid legal)
+    (ap (λ x. bytes_eq x (stem_of account uid)) (ap stem (bytes_same name (name_of account uid size) t) ∙ stems account uid size text) ∙ bytes_self (stem_of account uid)))
 
-pub deliveries_keep : NamesAreBases → (account : List ℕ) (before after : Account) (ms : List Message) → IsAccountText account
+none_counted : NamesHaveStems → NamesAreBases → (account : List ℕ) (ms : List Message) (name content : List ℕ) → IsAccountText account → IsOther account name
+    → AllByRecursion (λ (m : Message). is_legal_id m.uid ≡ true) ms → count_files (map (message_file account) ms) name content ≡ 0
+none_counted stems bases account [] name content text other h = refl
+none_counted stems bases account (m ∷ ms) name content text other h =
+    ap (λ b. length (cond (b && bytes_eq content m.text) (message_file account m ∷ filter (is_counted name content) (map (message_file account) ms)) (filter (is_counted name content) (map (message_file account) ms))))
+    (not_other stems bases account name m.uid (length m.text) text other h.0)
+    ∙ none_counted stems bases account ms name content text other h.1
+
+pub deliveries_keep : NamesHaveStems → NamesAreBases → (account : List ℕ) (before after : Account) (ms : List Message) → IsAccountText account
     → AllByRecursion (λ (m : Message). is_legal_id m.uid ≡ true) ms → files after ≡ files before ++ map (message_file account) ms → KeepsOthers account before after
-deliveries_keep bases account before after ms text h is name content other =
+deliveries_keep stems bases account before after ms text h is name content other =
     let a : count_files (files before ++ map (message_file account) ms) name content ≡ count_files (files before) name content + count_files (map (message_file account) ms) name content =
     count-append (files before) (map (message_file account) ms) name content in
-    let b : count_files (map (message_file account) ms) name content ≡ 0 = none_counted bases account ms name content text other h in
+    let b : count_files (map (message_file account) ms) name content ≡ 0 = none_counted stems bases account ms name content text other h in
     let c : count_files (files after) name content ≡ count_files (files before ++ map (message_file account) ms) name content = ap (λ fs. count_files fs name content) is in
     omega arith

@@ -1,25 +1,25 @@
 -- What a kept state says of each id: what is held is done, and what is done is held or was taken away.
-use Rattle.std.proofs.Common.{◌≡◌, ◌≤◌, ◌⊎◌, inl, inr, ℕ, List, [], ◌∷◌, Bool, true, false, ◌||◌, length, refl, sym, ◌∙◌, ap, subst, arith}
+use Rattle.std.proofs.Common.{◌≡◌, ◌≤◌, ◌⊎◌, inl, inr, ℕ, List, [], Bool, true, false, ◌||◌, length, refl, sym, ◌∙◌, ap, subst, arith}
 use Rattle.std.specs.Prelude.{bytes_eq}
 use Rattle.std.specs.List.{AllByRecursion}
-use Rattle.std.proofs.lemmas.Bool.{both_ways, or_cases, cases_Bool}
+use Rattle.std.proofs.lemmas.Bool.{both_ways, cases_Bool}
 use Rattle.mail_terms.specs.UniqueId.{is_legal_id, has_id}
 use Rattle.pop3_wire.specs.World.{Message}
-use Rattle.mail_store.specs.FileName.{is_held, name_of}
+use Rattle.mail_store.specs.FileName.{is_held, stem_of}
 use Rattle.fetch_rules.specs.Record.{is_delivered}
-use Rattle.run_law.specs.Mails.{ids_of, is_selected, selected, texts_of}
+use Rattle.run_law.specs.Mails.{ids_of, selected}
 use Rattle.run_law.specs.Accounts.{Account, files, copies}
-use Rattle.run_law.specs.Runs.{Frame, IsFrame, Situation, HoldsOf, IsHeldOrTaken, Kept, LeavesMail, TakesAway, Expired, Between, TakenAway, after_event, StartsKept}
+use Rattle.run_law.specs.Runs.{Frame, Situation, HoldsOf, IsHeldOrTaken, Kept, LeavesMail, TakesAway, Expired, Between, TakenAway, after_event, StartsKept}
 use Rattle.run_law.proofs.Lists.{is_some, all_map, all_append}
-use Rattle.run_law.proofs.Ids.{Distinct, distinct_take, distinct_filter, distinct_is, lone, bytes_same, bytes_self, all_ids_at}
+use Rattle.run_law.proofs.Ids.{Distinct, lone, bytes_same, all_ids_at}
 use Rattle.run_law.proofs.Files.{held_done, held_copies}
 
 module _ (frame : Frame) (state : Situation) where
   abbrev held : List ℕ → Bool
   held id = is_held frame.account state.account.maildir id
 
-  -- no file is there: it isn't held
-  pub unheld_if : (id : List ℕ) → copies (files state.account) (name_of frame.account id) ≡ [] → held id ≡ false
+  -- no file has the id's stem, so it isn't held
+  pub unheld_if : (id : List ℕ) → copies (files state.account) (stem_of frame.account id) ≡ [] → held id ≡ false
   unheld_if id none = held_copies frame.account state.account id ∙ ap is_some none
 
   pub held_is_done : (done : List Message) (id : List ℕ) → HoldsOf frame state done id → held id ≡ true → has_id (ids_of done) id ≡ true
@@ -31,7 +31,7 @@ module _ (frame : Frame) (state : Situation) where
   done_is_held done id (inl e) h = inl (held_done frame.account state.account done id e ∙ h)
   done_is_held done id (inr taken) h = inr taken.0
 
-  pub one_file : (done : List Message) (id : List ℕ) → Distinct (ids_of done) → HoldsOf frame state done id → length (copies (files state.account) (name_of frame.account id)) ≤ 1
+  pub one_file : (done : List Message) (id : List ℕ) → Distinct (ids_of done) → HoldsOf frame state done id → length (copies (files state.account) (stem_of frame.account id)) ≤ 1
   one_file done id d (inl e) = subst (λ (c : List (List ℕ)). length c ≤ 1) (sym e) (lone done id d)
   one_file done id d (inr taken) = subst (λ (c : List (List ℕ)). length c ≤ 1) (sym taken.1) (omega arith)
 
@@ -87,7 +87,7 @@ taken_kept frame before id after kept takes = record {
     by : (other : List ℕ) → is_legal_id other ≡ true → (bytes_eq other id ≡ true) ⊎ (bytes_eq other id ≡ false) → HoldsOf frame state kept.done other
     by other l (inl same) = inr (
       ap (λ b. b || has_id before.taken other) same,
-      ap (λ (x : List ℕ). copies (files after) (name_of frame.account x)) (bytes_same other id same) ∙ takes.none,
+      ap (λ (x : List ℕ). copies (files after) (stem_of frame.account x)) (bytes_same other id same) ∙ takes.none,
     )
     by other l (inr apart) = elim (kept.holds other l) [
       | inl e ↦ inl (takes.others other l apart ∙ e)
@@ -97,7 +97,7 @@ taken_kept frame before id after kept takes = record {
       )
     ]
 
--- ---- where it begins
+-- ---- the first state
 
 pub starts_kept : StartsKept
 starts_kept frame account rows none = record {

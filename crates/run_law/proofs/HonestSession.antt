@@ -1,17 +1,15 @@
--- What one session stores where its server is honest.
-use Rattle.std.proofs.Common.{◌≡◌, inl, inr, ◌-◌, ℕ, zero, suc, List, [], ◌∷◌, Bool, take, map, refl, sym, ◌∙◌, ap, subst, Some, slice_get}
+-- What one session stores if its server is honest.
+use Rattle.std.proofs.Common.{◌≡◌, inl, inr, ◌-◌, ℕ, zero, suc, List, [], ◌∷◌, take, map, refl, sym, ◌∙◌, ap, subst}
 use Rattle.std.specs.Prelude.{zip}
 use Rattle.std.specs.List.{filter, AllByRecursion}
 use Rattle.pop3_wire.specs.World.{Message}
 use Rattle.mail_terms.specs.Listing.{Item}
-use Rattle.mail_store.specs.Maildir.{File, file}
-use Rattle.mail_store.specs.FileName.{name_of}
+use Rattle.mail_store.specs.FileName.{mail_file}
 use Rattle.run_law.specs.Mails.{item_of, listing_of}
-use Rattle.run_law.specs.Accounts.{Account}
-use Rattle.run_law.specs.Steps.{Effect, AreTexts, file_for, is_unheld, wanted_at, merged_rows}
+use Rattle.run_law.specs.Steps.{AreTexts, file_for, is_unheld, wanted_at, merged_rows}
 use Rattle.run_law.specs.Sessions.{Served}
 use Rattle.run_law.specs.HonestSession.{IsFileOf, HonestSession}
-use Rattle.run_law.proofs.Lists.{all_map, all_filter}
+use Rattle.run_law.proofs.Lists.{all_filter}
 use Rattle.run_law.proofs.Safety.{IsFirstAt, wanted_first}
 use Rattle.run_law.proofs.Linked.{Readings, item_at, same_item, session_honest}
 
@@ -30,7 +28,7 @@ pairs account drop (w ∷ wanted) (text ∷ texts) (suc n) first are =
         w.0 - 1,
         are.0.0,
         are.0.1,
-        ap (λ (i : Item). file (name_of account i.uid) text) same ∙ ap (λ (t : List ℕ). file (name_of account are.0.0.uid) t) are.0.2,
+        ap (λ (i : Item). mail_file account i.uid text) same ∙ ap (λ (t : List ℕ). mail_file account are.0.0.uid t) are.0.2,
       ),
       pairs account drop wanted texts n first.1 are.1,
     )

@@ -1,4 +1,4 @@
--- Ids of messages, and what a filter or a front keeps of them.
+-- Ids of messages, and what a filter or a prefix keeps of them.
 use Rattle.std.proofs.Common.{◌≡◌, ◌≤◌, inl, inr, ℕ, zero, suc, List, [], ◌∷◌, ◌++◌, Bool, true, false, cond, ◌&&◌, ◌||◌, length, take, map, refl, sym, ◌∙◌, ap, subst, arith}
 use Rattle.std.specs.Prelude.{bytes_eq, Contains}
 use Rattle.std.specs.List.{filter, AllByRecursion}
@@ -23,7 +23,7 @@ bytes_swap a b = elim (cases_Bool (bytes_eq a b)) [
   | inr f ↦ f ∙ sym (false_from_ne_true _ (λ t. both_ways (bytes_eq a b) f ((bytes_eq-Decides a b).1 (sym (bytes_same b a t)))))
 ]
 
--- ---- is an id among these
+-- ---- whether an id is among these
 
 has_cond : (q : Bool) (x : List ℕ) (f : List (List ℕ)) (id : List ℕ) → has_id (cond q (x ∷ f) f) id ≡ cond q (bytes_eq id x || has_id f id) (has_id f id)
 has_cond true x f id = refl
@@ -186,7 +186,7 @@ texts_filtered p (m ∷ ms) id =
     (λ e. ap p (sym (bytes_same id m.uid e))) (texts_filtered p ms id)
     ∙ ap (λ l. cond (p id) l []) (sym (texts_cond true m ms id))
 
--- an id of the part has there all the texts that it has in the whole
+-- an id of the part has all its texts there
 abbrev pub HasTextsOf : List Message → List Message → List ℕ → Type 0
 HasTextsOf part ms id = has_id (ids_of part) id ≡ true → texts_of part id ≡ texts_of ms id
 

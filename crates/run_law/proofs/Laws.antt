@@ -7,7 +7,7 @@ use Rattle.std.proofs.lemmas.List.{append-nil, take_at}
 use Rattle.mail_terms.specs.UniqueId.{is_legal_id, has_id}
 use Rattle.pop3_wire.specs.World.{Message}
 use Rattle.fetch_rules.specs.Record.{is_delivered}
-use Rattle.mail_store.specs.FileName.{is_held, name_of}
+use Rattle.mail_store.specs.FileName.{is_held, stem_of}
 use Rattle.run_law.specs.Mails.{ids_of, is_selected, selected, texts_of}
 use Rattle.run_law.specs.Accounts.{Account, files, copies, count_files}
 use Rattle.run_law.specs.Steps.{Leaves}
@@ -36,8 +36,8 @@ left_kept frame before v kept h vanished = record {
   done = kept.done;
   rest = kept.rest;
   prefix = kept.prefix;
-  holds = λ id l. let same : copies (files v.after) (name_of frame.account id) ≡ copies (files before.account) (name_of frame.account id) =
-      ap (λ f. copies f (name_of frame.account id)) (same_files before.account v.after (h.in_new, h.in_cur)) in
+  holds = λ id l. let same : copies (files v.after) (stem_of frame.account id) ≡ copies (files before.account) (stem_of frame.account id) =
+      ap (λ f. copies f (stem_of frame.account id)) (same_files before.account v.after (h.in_new, h.in_cur)) in
       elim (kept.holds id l) [
         | inl e ↦ inl (same ∙ e)
         | inr taken ↦ inr (taken.0, same ∙ taken.1)
@@ -53,7 +53,7 @@ left_promises frame before v h = (
   subst (AllByRecursion (λ id. (is_held frame.account v.after.maildir id ≡ true) ⊎ (has_id before.taken id ≡ true))) (sym h.begun) tt,
   (λ name content other. ap (λ fs. count_files fs name content) (same_files before.account v.after (h.in_new, h.in_cur))),
   λ only_new id l recorded. (
-    ap (λ f. copies f (name_of frame.account id)) (same_files before.account v.after (h.in_new, h.in_cur)),
+    ap (λ f. copies f (stem_of frame.account id)) (same_files before.account v.after (h.in_new, h.in_cur)),
     ap (λ r. is_delivered r id) h.rows ∙ recorded,
   ),
 )
@@ -72,13 +72,13 @@ done_distinct frame is done rest e =
     front [] ys d = tt
     front (x ∷ xs) ys d = (none xs ys x.uid d.0, front xs ys d.1)
 
-one_copy : (frame : Frame) (state : Situation) → IsFrame frame → (kept : Kept frame state) → (id : List ℕ) → is_legal_id id ≡ true → length (copies (files state.account) (name_of frame.account id)) ≤ 1
+one_copy : (frame : Frame) (state : Situation) → IsFrame frame → (kept : Kept frame state) → (id : List ℕ) → is_legal_id id ≡ true → length (copies (files state.account) (stem_of frame.account id)) ≤ 1
 one_copy frame state is kept id l = one_file frame state kept.done id (done_distinct frame is kept.done kept.rest kept.prefix) (kept.holds id l)
 
 move_leaves : (frame : Frame) (before : Situation) (after : Account) → IsFrame frame → Kept frame before → OneMoves before.account after → LeavesMail frame.account before.account after
 move_leaves frame before after is kept o = record {
   rows = o.rows;
-  same = λ id l. copies_after before.account after o (name_of frame.account id) (one_copy frame before is kept id l);
+  same = λ id l. copies_after before.account after o (stem_of frame.account id) (one_copy frame before is kept id l);
 }
 
 pub moves_leave_mail : Marks → MovesLeaveMail
@@ -144,7 +144,7 @@ holds_exactly frame state holds none = record {
   once = holds.once;
 }
   where
-    texts : (id : List ℕ) → is_legal_id id ≡ true → copies (files state.account) (name_of frame.account id) ≡ texts_of (take holds.j (selected frame.max_size frame.all)) id
+    texts : (id : List ℕ) → is_legal_id id ≡ true → copies (files state.account) (stem_of frame.account id) ≡ texts_of (take holds.j (selected frame.max_size frame.all)) id
     texts id l = elim (holds.contents id l) [
       | inl e ↦ e
       | inr taken ↦ absurd (both_ways false refl (sym (ap (λ ids. has_id ids id) none) ∙ taken.0))
@@ -154,8 +154,8 @@ holds_exactly frame state holds none = record {
 
 -- what is recorded and not held is so after each event
 still_away : Below → (frame : Frame) (before : Situation) (event : Event) (id : List ℕ) → IsFrame frame → Kept frame before → Happens frame before event
-    → ReadOnlyNew (event ∷ []) → is_legal_id id ≡ true → is_delivered before.account.rows id ≡ true → copies (files before.account) (name_of frame.account id) ≡ []
-    → (is_delivered (after_event before event).account.rows id ≡ true) × (copies (files (after_event before event).account) (name_of frame.account id) ≡ [])
+    → ReadOnlyNew (event ∷ []) → is_legal_id id ≡ true → is_delivered before.account.rows id ≡ true → copies (files before.account) (stem_of frame.account id) ≡ []
+    → (is_delivered (after_event before event).account.rows id ≡ true) × (copies (files (after_event before event).account) (stem_of frame.account id) ≡ [])
 still_away laws frame before (Visited v) id is kept h new l recorded none =
     let promised = (visited laws frame before v is kept h).1.3 new.0 id l recorded in
     (promised.1, promised.0 ∙ none)
@@ -167,7 +167,7 @@ still_away laws frame before (Expired ids) id is kept h new l recorded none = (r
 still_away laws frame before (TakenAway other after) id is kept h new l recorded none = (
   ap (λ r. is_delivered r id) h.rows ∙ recorded,
   elim (cases_Bool (bytes_eq id other)) [
-    | inl same ↦ ap (λ (x : List ℕ). copies (files after) (name_of frame.account x)) (bytes_same id other same) ∙ h.none
+    | inl same ↦ ap (λ (x : List ℕ). copies (files after) (stem_of frame.account x)) (bytes_same id other same) ∙ h.none
     | inr apart ↦ h.others id l apart ∙ none
   ],
 )

@@ -31,7 +31,7 @@ none_true [] place e = absurd cc
 none_true (x ∷ xs) zero e = absurd cc
 none_true (x ∷ xs) (suc place) e = none_true xs place e
 
--- a mark was there before, or a DELE of its number is among the commands
+-- the number was marked before, or a DELE of it is among the commands
 abbrev IsAsked : List Command → ℕ → Type 0
 IsAsked commands place = (front behind : List Command) × (number : ℕ) × (commands ≡ front ++ Dele number ∷ behind) × (number - 1 ≡ place)
 
@@ -75,7 +75,7 @@ marks_are_asked drop sent got marks honest place e = elim (marks_from drop (no_m
   | inr asked ↦ asked
 ]
 
--- ---- what went was begun
+-- ---- for each message that was removed a DELE was begun
 
 begun_at : (listing : List Item) (begun : List (List ℕ)) (front behind : List Command) (number : ℕ) → AllByRecursion (IsBegun listing begun) (front ++ Dele number ∷ behind)
     → (item : Item) × (slice_get listing (number - 1) ≡ Some item) × (has_id begun item.uid ≡ true)
@@ -90,7 +90,7 @@ item_at (x ∷ drop) (suc place) m e = item_at drop place m e
 pub same_item : (a b : Item) → Some a ≡ Some b → a ≡ b
 same_item a b e = cc
 
--- what is said of octets
+-- the laws of octets that are used
 pub record Readings : Type 0 where
   pub commands : OneListOfCommands
   pub granted : HonestIsGranted
@@ -102,7 +102,7 @@ module _ (laws : Readings) (sent got : List ℕ) (effect : Effect) (drop : List 
   same : served.honest.commands ≡ commands
   same = laws.commands served.honest.commands commands sent served.honest.asked sent_are
 
-  -- where the listing is the maildrop's, or nothing was begun
+  -- if the listing is the maildrop's, or nothing was begun
   went_begun : (listing_is : (effect.begun ≡ []) ⊎ (effect.listing ≡ listing_of drop)) (id : List ℕ) → IsMarked drop served.marks id → has_id effect.begun id ≡ true
   went_begun listing_is id m =
       let asked = marks_are_asked drop sent got served.marks served.honest m.0 m.2 in

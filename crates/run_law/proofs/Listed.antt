@@ -76,7 +76,7 @@ counted bs = is_count_by unmarked_count not refl (λ x xs. refl) bs
 pub fresh_count : (ms : List Message) → count_by not (no_marks ms) ≡ length ms
 fresh_count ms = sym (counted (no_marks ms)) ∙ all_unmarked ms
 
--- rows of UIDL in the words of the session, against those of the server, over the same lines
+-- rows of UIDL as the session reads them, and as the server wrote them, over the same lines
 abbrev uid_pair : ℕ → List ℕ → ℕ × List ℕ
 uid_pair n x = (n, x)
 
@@ -95,7 +95,7 @@ ok_scan p = Ok p
 same_scan : (n m x y : ℕ) → ok_scan (n, x) ≡ ok_scan (m, y) → (n ≡ m) × (x ≡ y)
 same_scan n m x y e = let both : scan_pair n x ≡ scan_pair m y = cc in (ap (λ (p : ℕ × ℕ). p.0) both, ap (λ (p : ℕ × ℕ). p.1) both)
 
--- a row says its message's number and what a listing tells of it
+-- a row has its message's number, and what a listing says of it
 abbrev Tells : {R V : Type 0} → (R → ℕ) → (R → V) → (Message → V) → ℕ × Message → R → Type 0
 Tells number value of q row = (number row ≡ q.0) × (value row ≡ of q.1)
 
@@ -117,7 +117,7 @@ uid_in m = m.uid
 abbrev size_in : Message → ℕ
 size_in m = m.size
 
--- rows as the session reads them, against those that the server wrote, over the same lines
+-- rows as the session reads them, and as the server wrote them, over the same lines
 both_read : {R V : Type 0} (IsLineOf : List ℕ → R → Type 0) (IsRowOf : ℕ × Message → List ℕ → Type 0) (number : R → ℕ) (value : R → V) (of : Message → V)
     → ((q : ℕ × Message) (line : List ℕ) (row : R) → IsRowOf q (unstuffed line) → IsLineOf line row → Tells number value of q row)
     → (numbered : List (ℕ × Message)) (lines : List (List ℕ)) (rows : List R) → AllZip IsRowOf numbered (map unstuffed lines) → AllZip IsLineOf lines rows
@@ -137,7 +137,7 @@ zip_at P (x ∷ xs) (row ∷ rows) h zero d l = (row, omega arith, refl, h.0)
 zip_at P (x ∷ xs) (row ∷ rows) h (suc j) d l =
     let r = zip_at P xs rows h.1 j d (omega (arith, l)) in (r.0, (let b = r.1 in omega (arith, b)), r.2, r.3)
 
--- each message has a row, wherever it stands
+-- each message has a row, whatever its place
 abbrev pair_of : ℕ → Message → ℕ × Message
 pair_of n m = (n, m)
 

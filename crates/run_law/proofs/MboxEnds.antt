@@ -1,4 +1,4 @@
--- A session with an mboxrd can end in every situation: so the law speaks of something.
+-- A session with an mboxrd can end in every situation, so the law isn't empty.
 use Rattle.std.proofs.Common.{◌≡◌, inl, inr, ℕ, List, [], ◌++◌, true, false, not, length, map, take, refl, sym, ◌∙◌, ap, subst, arith, None}
 use Rattle.std.proofs.lemmas.List.{length-map}
 use Rattle.pop3_wire.specs.World.{Message, IsWorld, maildrop_of}

@@ -1,5 +1,5 @@
 -- Sessions with an mboxrd lead from kept states to kept ones.
-use Rattle.std.proofs.Common.{◌≡◌, ◌≤◌, ◌⊎◌, inl, inr, ℕ, zero, suc, List, [], ◌∷◌, ◌++◌, Bool, true, false, cond, ◌||◌, length, take, map, refl, sym, ◌∙◌, ap, subst, arith, append_assoc, length-append, Some, slice_get}
+use Rattle.std.proofs.Common.{◌≡◌, ◌≤◌, ◌⊎◌, inl, inr, ℕ, zero, suc, List, [], ◌∷◌, ◌++◌, Bool, true, false, cond, ◌||◌, length, take, map, refl, sym, ◌∙◌, ap, subst, arith, append_assoc, length-append, None, Some, slice_get}
 use Rattle.std.specs.Prelude.{bytes_eq}
 use Rattle.std.specs.List.{AllByRecursion}
 use Rattle.std.proofs.lemmas.Bool.{both_ways, or_cases}
@@ -38,7 +38,7 @@ one_entry m = append-nil (entry_of m.text)
 
 -- ---- a state that is settled
 
--- no intent is open: the file ends behind the entries of what is recorded
+-- no intent is open: the file ends after the entries of what is recorded
 pub record IsSettled (frame : MboxFrame) (account : MboxAccount) (old : List Message) : Type 0 where
   pub done : List Message
   pub rest : List Message
@@ -52,7 +52,7 @@ or_swap true b = refl
 or_swap false true = refl
 or_swap false false = refl
 
--- the intent of appending the next entry behind those of what is done
+-- the intent to append the next entry, after those of what is done
 abbrev next_intent : MboxFrame → List Message → Message → Intent
 next_intent frame done m = intent_of (frame.start ++ entries_of done) m.uid m.text
 
@@ -64,7 +64,7 @@ selected_whole : (frame : MboxFrame) → IsWorld frame.all → AllByRecursion (�
 selected_whole frame world = all_filter (λ (m : Message). IsWhole m.text) (is_selected frame.max_size) frame.all
     (all_map IsMessage (λ (m : Message). IsWhole m.text) (λ m h. h.whole) frame.all world.messages)
 
--- the text of a message that is still to come
+-- the text of the next message is whole
 next_whole : (frame : MboxFrame) (state : MboxSituation) → IsWorld frame.all → (kept : MboxKept frame state) → (next : Message) (more : List Message) → kept.rest ≡ next ∷ more → IsWhole next.text
 next_whole frame state world kept next more is =
     (all_back (λ (m : Message). IsWhole m.text) (frame.had ++ kept.done) (next ∷ more)
@@ -167,7 +167,7 @@ left_kept fronts frame before v world kept h vanished = record {
   ];
 }
 
--- ---- which entries stand
+-- ---- which entries are there
 
 split_at : (ms : List Message) (id : List ℕ) → has_id (ids_of ms) id ≡ true → (front : List Message) × (m : Message) × (back : List Message) × (ms ≡ front ++ m ∷ back) × (m.uid ≡ id)
 split_at [] id e = absurd (both_ways false refl e)
@@ -176,12 +176,13 @@ split_at (m ∷ ms) id e = elim (or_cases (bytes_eq id m.uid) (has_id (ids_of ms
   | inr more ↦ let r = split_at ms id more in (m ∷ r.0, r.1, r.2, ap (λ l. m ∷ l) r.3, r.4)
 ]
 
--- what stands behind the entries of what is done
+-- what comes after the entries of what is done
 pub rest_of : (frame : MboxFrame) (state : MboxSituation) → (kept : MboxKept frame state) → (rest : List ℕ) × (state.account.file ≡ (frame.start ++ entries_of kept.done) ++ rest)
-    × ((rest ≡ []) ⊎ ((next : Message) × (behind : List ℕ) × (more : List Message) × (kept.rest ≡ next ∷ more) × (entry_of next.text ≡ rest ++ behind)))
+    × (((state.account.intent ≡ None) × (rest ≡ [])) ⊎ ((next : Message) × (behind : List ℕ) × (more : List Message) × (kept.rest ≡ next ∷ more) × (entry_of next.text ≡ rest ++ behind)
+    × (state.account.intent ≡ Some (intent_of (frame.start ++ entries_of kept.done) next.uid next.text))))
 rest_of frame state kept = elim kept.stands [
-  | inl closed ↦ ([], closed.file ∙ sym (append-nil (frame.start ++ entries_of kept.done)), inl refl)
-  | inr o ↦ (o.opened.front, o.opened.file, inr (o.next, o.opened.behind, o.more, o.is_next, o.opened.entry))
+  | inl closed ↦ ([], closed.file ∙ sym (append-nil (frame.start ++ entries_of kept.done)), inl (closed.intent, refl))
+  | inr o ↦ (o.opened.front, o.opened.file, inr (o.next, o.opened.behind, o.more, o.is_next, o.opened.entry, o.opened.intent))
 ]
 
 pub has_entry : (frame : MboxFrame) (state : MboxSituation) → MboxKept frame state → (id : List ℕ) → is_delivered state.account.rows id ≡ true
@@ -279,7 +280,7 @@ module _ (fronts : FrontsAreSettled) (laws : RowLaws) (filtered : DistinctAreFil
   texts_are : AreTexts here (map num_item qs) v.effect.texts
   texts_are = subst (λ w. AreTexts here w v.effect.texts) wanted_is honest.texts
 
-  -- the first of what is wanted are the next of the selected messages
+  -- the first of the wanted messages are the next of the selected ones
   prefix_of : (n : ℕ) → selected frame.max_size frame.all ≡ (frame.had ++ (origin.done ++ take n ws)) ++ (core.added_begins scene is_scene n).0
   prefix_of n = ap (λ k. selected k frame.all) (sym same) ∙ core.prefix_after scene is_scene n
       ∙ ap (λ l. ((frame.had ++ origin.done) ++ l) ++ (core.added_begins scene is_scene n).0) (core.all_added scene is_scene (λ id d. known id ∙ d) only_new n)
@@ -478,6 +479,7 @@ mbox_holds adds frame state world kept = record {
   file = tail.1 ∙ ap (λ (ms : List Message). (frame.start ++ entries_of ms) ++ tail.0) (sym front);
   at_most = at_most;
   ids = λ id. kept.recorded id ∙ ap (λ (ms : List Message). has_id (ids_of (frame.had ++ ms)) id) (sym front);
+  entered = has_entry frame state kept;
   texts = λ none first stands.
       subst (λ (ms : List Message). MboxFile state.account.file (first ++ map (λ (m : Message). m.text) ms)) (sym front)
       (subst (λ f. MboxFile f (first ++ map (λ (m : Message). m.text) kept.done))
@@ -489,7 +491,8 @@ mbox_holds adds frame state world kept = record {
     whole = kept.prefix ∙ append_assoc frame.had kept.done kept.rest
 
     tail : (rest : List ℕ) × (state.account.file ≡ (frame.start ++ entries_of kept.done) ++ rest)
-        × ((rest ≡ []) ⊎ ((next : Message) × (behind : List ℕ) × (more : List Message) × (kept.rest ≡ next ∷ more) × (entry_of next.text ≡ rest ++ behind)))
+        × (((state.account.intent ≡ None) × (rest ≡ [])) ⊎ ((next : Message) × (behind : List ℕ) × (more : List Message) × (kept.rest ≡ next ∷ more) × (entry_of next.text ≡ rest ++ behind)
+        × (state.account.intent ≡ Some (intent_of (frame.start ++ entries_of kept.done) next.uid next.text))))
     tail = rest_of frame state kept
 
     front : take (length kept.done) (kept.done ++ kept.rest) ≡ kept.done
@@ -499,10 +502,17 @@ mbox_holds adds frame state world kept = record {
     whole_done = core.all_front (λ (m : Message). IsWhole m.text) kept.done kept.rest (all_back (λ (m : Message). IsWhole m.text) frame.had (kept.done ++ kept.rest)
         (subst (AllByRecursion (λ (m : Message). IsWhole m.text)) whole (selected_whole frame world)))
 
-    at_most : (tail.0 ≡ []) ⊎ ((next : Message) × (behind : List ℕ) × (slice_get (kept.done ++ kept.rest) (length kept.done) ≡ Some next) × (entry_of next.text ≡ tail.0 ++ behind))
+    at_most : ((state.account.intent ≡ None) × (tail.0 ≡ [])) ⊎ ((next : Message) × (behind : List ℕ) × (slice_get (kept.done ++ kept.rest) (length kept.done) ≡ Some next) × (entry_of next.text ≡ tail.0 ++ behind)
+        × (state.account.intent ≡ Some (intent_of (frame.start ++ entries_of (take (length kept.done) (kept.done ++ kept.rest))) next.uid next.text)))
     at_most = elim tail.2 [
       | inl none ↦ inl none
-      | inr (next, behind, more, is, entry) ↦ inr (next, behind, ap (λ (l : List Message). slice_get (kept.done ++ l) (length kept.done)) is ∙ at_length kept.done next more, entry)
+      | inr (next, behind, more, is, entry, opened) ↦ inr (
+        next,
+        behind,
+        ap (λ (l : List Message). slice_get (kept.done ++ l) (length kept.done)) is ∙ at_length kept.done next more,
+        entry,
+        opened ∙ ap (λ (ms : List Message). Some (intent_of (frame.start ++ entries_of ms) next.uid next.text)) (sym front),
+      )
     ]
 
 pub mbox_starts : MboxStartsKept

@@ -3,8 +3,8 @@ use Rattle.std.proofs.Common.{inl, inr, List, [], ◌∷◌, ◌++◌, take, ◌
 use Rattle.pop3_wire.specs.World.{Message, IsWorld, maildrop_of}
 use Rattle.mail_store.specs.Settling.{FrontsAreSettled}
 use Rattle.run_law.specs.Mboxes.{settled, mbox_wanted, entries, MboxStores}
-use Rattle.run_law.specs.MboxRuns.{MboxFrame, MboxSituation, MboxVisits, MboxKept, MboxVisited, MboxKeptStaysKept}
-use Rattle.run_law.specs.MboxSessions.{MboxLink, MboxLinks, mbox_visit_of, after_mbox_link, SettlesFirst, MboxLinksKeep}
+use Rattle.run_law.specs.MboxRuns.{MboxFrame, MboxSituation, MboxKept, MboxVisited, MboxKeptStaysKept}
+use Rattle.run_law.specs.MboxSessions.{MboxLink, MboxLinks, mbox_visit_of, after_mbox_link, SettlesFirst, MboxLinksAreVisits, MboxLinksKeep}
 use Rattle.run_law.proofs.Below.{RowLaws}
 use Rattle.run_law.proofs.Linked.{Readings, vanished_begun, session_honest}
 use Rattle.run_law.proofs.MboxKept.{settle}
@@ -12,7 +12,7 @@ use Rattle.run_law.proofs.MboxKept.{settle}
 abbrev drop_at : MboxFrame → MboxSituation → MboxLink → List Message
 drop_at frame before link = maildrop_of frame.all link.come before.gone
 
-visits : Readings → (frame : MboxFrame) (before : MboxSituation) (link : MboxLink) → (l : MboxLinks frame before link) → MboxVisits frame before (mbox_visit_of link l.effect)
+pub visits : Readings → MboxLinksAreVisits
 visits laws frame before link l = elim l.session.step [
   | inl (left, none) ↦ record {
     same = l.same;
@@ -51,10 +51,10 @@ settles_first fronts rows frame before link l world kept s =
       }
     ]
 
-pub mbox_links_keep : MboxKeptStaysKept → Readings → FrontsAreSettled → RowLaws → MboxLinksKeep
-mbox_links_keep stays laws fronts rows frame start [] world kept run = kept
-mbox_links_keep stays laws fronts rows frame start (link ∷ links) world kept run =
-    let one = stays frame start (MboxVisited (mbox_visit_of link run.0.effect) ∷ []) world kept (visits laws frame start link run.0, tt) in (
+pub mbox_links_keep : MboxKeptStaysKept → MboxLinksAreVisits → FrontsAreSettled → RowLaws → MboxLinksKeep
+mbox_links_keep stays visited fronts rows frame start [] world kept run = kept
+mbox_links_keep stays visited fronts rows frame start (link ∷ links) world kept run =
+    let one = stays frame start (MboxVisited (mbox_visit_of link run.0.effect) ∷ []) world kept (visited frame start link run.0, tt) in (
       kept,
       record {
         effect = run.0.effect;
@@ -65,5 +65,5 @@ mbox_links_keep stays laws fronts rows frame start (link ∷ links) world kept r
           | inr (stores, reads) ↦ inr (settles_first fronts rows frame start link run.0 world kept stores)
         ];
       },
-      mbox_links_keep stays laws fronts rows frame (after_mbox_link start link) links world one.0 run.1,
+      mbox_links_keep stays visited fronts rows frame (after_mbox_link start link) links world one.0 run.1,
     )

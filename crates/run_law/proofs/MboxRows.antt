@@ -1,4 +1,5 @@
--- What a record says of an id once a listing was merged with nothing held, and once ids that have rows were marked.
+-- What a record says of an id after a listing was merged with nothing held, and after ids that have rows were
+-- marked.
 use Rattle.std.proofs.Common.{◌≡◌, inl, inr, ℕ, List, [], ◌∷◌, Bool, true, false, ◌&&◌, ◌||◌, refl, sym, ◌∙◌, ap}
 use Rattle.std.specs.Prelude.{bytes_eq}
 use Rattle.std.specs.List.{AllByRecursion}
@@ -19,13 +20,13 @@ or_false : (b : Bool) → (b || false) ≡ b
 or_false true = refl
 or_false false = refl
 
--- an id is recorded after such a merge where it was before
+-- after such a merge an id is recorded exactly if it was before
 pub delivered_unheld : RowLaws → (rows : List Row) (listing : List Item) (now : ℕ) (id : List ℕ)
     → is_delivered (merged rows listing (none_held listing) now) id ≡ is_delivered rows id
 delivered_unheld laws rows listing now id = laws.held rows listing (none_held listing) now id
     ∙ ap (λ b. is_delivered rows id || b) (none_flagged listing id) ∙ or_false (is_delivered rows id)
 
--- an id is recorded after a mark where it was before, or is the one that was marked
+-- after a mark an id is recorded exactly if it was before, or is the one that was marked
 pub delivered_one : RowLaws → (rows : List Row) (uid id : List ℕ) → has_row rows uid ≡ true → is_delivered (marked rows uid) id ≡ (is_delivered rows id || bytes_eq id uid)
 delivered_one laws rows uid id has = laws.marks rows uid id ∙ ap (λ b. is_delivered rows id || b) (elim (cases_Bool (bytes_eq id uid)) [
   | inl same ↦ ap (λ b. has_row rows id && b) (bytes_swap uid id ∙ same) ∙ ap (λ b. b && true) (ap (has_row rows) (bytes_same id uid same) ∙ has) ∙ sym same
@@ -40,7 +41,7 @@ pub rows_marked : RowLaws → (rows : List Row) (uids : List (List ℕ)) (id : L
 rows_marked laws rows [] id = refl
 rows_marked laws rows (uid ∷ uids) id = rows_marked laws (marked rows uid) uids id ∙ laws.keeps rows uid id
 
--- the same of several ids
+-- the same for several ids
 pub delivered_all : RowLaws → (rows : List Row) (uids : List (List ℕ)) (id : List ℕ) → AllByRecursion (λ uid. has_row rows uid ≡ true) uids
     → is_delivered (marked_all rows uids) id ≡ (is_delivered rows id || has_id uids id)
 delivered_all laws rows [] id h = sym (or_false (is_delivered rows id))

@@ -36,7 +36,7 @@ marked_ids laws rows (uid ∷ uids) id e = elim (marked_ids laws (marked rows ui
     or_true true = refl
     or_true false = refl
 
--- the entry of a wanted message's text stands among the entries
+-- the entry of a wanted message's text is among the entries
 record HasText (qs : List (ℕ × Item)) (texts : List (List ℕ)) (id bytes : List ℕ) : Type 0 where
   message : ℕ × Item
   text : List ℕ
@@ -65,7 +65,7 @@ found (suc n) (q ∷ qs) (t ∷ ts) id less is = elim (or_cases (bytes_eq id q.1
       }
 ]
 
--- what stands behind the entries
+-- what comes after the entries
 tail_of : (settings : Settings) (before : MboxAccount) (effect : Effect) (after : MboxAccount) → (s : MboxStores settings before effect after)
     → (rest : List ℕ) × (after.file ≡ (settled before).file ++ (entries (take s.stored effect.texts) ++ rest))
 tail_of settings before effect after s = elim s.ending [

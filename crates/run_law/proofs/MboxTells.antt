@@ -1,4 +1,4 @@
--- A session with an mboxrd told with its numbers is one that the law takes.
+-- A session with an mboxrd, given by its numbers, is one that the law takes.
 use Rattle.std.proofs.Common.{◌≡◌, ◌≤◌, ◌⊎◌, inl, inr, ◌+◌, ℕ, zero, suc, List, [], ◌∷◌, ◌++◌, Some, take, length, sym, ◌∙◌, ap, subst, arith, append_assoc, slice_get}
 use Rattle.std.proofs.lemmas.List.{append-nil}
 use Rattle.std.proofs.lemmas.Grind.{flat_map-append}

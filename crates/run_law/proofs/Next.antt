@@ -62,7 +62,8 @@ nexts fit left done (m ∷ ms) later rest d e h = by (fit m) refl (λ done' rest
         ∙ ih done rest (ap (λ b. cond b (m ∷ filter fit ms) (filter fit ms) ++ later) (sym t) ∙ e) h.1
         ∙ ap (λ b. drop (length done) (cond b (m ∷ filter fit ms) (filter fit ms))) (sym t)
 
--- where gone is done, and where what isn't gone is known as it is done: what isn't known fits and isn't done
+-- if what is gone is done, and what isn't gone is known exactly if it is done, then what is left fits and
+-- isn't done
 new_is : (f r g k d : Bool) → r ≡ false → (g ≡ true → d ≡ true) → (not g ≡ true → k ≡ d) → (not g && (f && (r || not k))) ≡ (f && not d)
 new_is f true g k d e p q = absurd (both_ways true e refl)
 new_is true false true k true e p q = refl

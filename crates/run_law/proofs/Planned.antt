@@ -27,7 +27,7 @@ fst_found p = p.0
 abbrev fst_item : ℕ × Item → ℕ
 fst_item p = p.0
 
--- what was found are the first RETRs
+-- the messages that were found are those of the first RETRs
 abbrev Firsts : List Command → List (ℕ × List ℕ) → Type 0
 Firsts commands found = (rest : List ℕ) × (numbers_in commands ≡ map fst_found found ++ rest)
 

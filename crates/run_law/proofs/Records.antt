@@ -1,4 +1,4 @@
--- What a record says of an id once it was merged and marked.
+-- What a record says of an id after it was merged and marked.
 use Rattle.std.proofs.Common.{◌≡◌, ◌⊎◌, inl, inr, ℕ, List, [], ◌∷◌, Bool, true, false, ◌&&◌, ◌||◌, refl, sym, ◌∙◌, ap}
 use Rattle.std.specs.Prelude.{bytes_eq}
 use Rattle.std.proofs.lemmas.Bool.{or_cases, and_parts}
@@ -27,7 +27,7 @@ delivered_marked laws rows (uid ∷ uids) id e = elim (delivered_marked laws (ma
     or_true true = refl
     or_true false = refl
 
--- an id is recorded after a merge where it was before, or is listed and held
+-- after a merge an id is recorded exactly if it was before, or is listed and held
 pub delivered_merged : Records → (account : List ℕ) (maildir : Maildir) (rows : List Row) (items : List Item) (now : ℕ) (id : List ℕ)
     → is_delivered (merged rows items (flags_of account maildir items) now) id ≡ (is_delivered rows id || (has_item items id && is_held account maildir id))
 delivered_merged laws account maildir rows items now id =

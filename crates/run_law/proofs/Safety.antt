@@ -9,8 +9,8 @@ use Rattle.mail_terms.specs.Listing.{Item, has_item, numbered, is_first, is_last
 use Rattle.fetch_rules.specs.Wanted.{is_asked_for, is_candidate, candidates, wanted}
 use Rattle.rc_file.specs.declared.settings.Settings.{Settings}
 use Rattle.fetch_rules.specs.Record.{Row, is_delivered}
-use Rattle.mail_store.specs.Maildir.{Maildir, File, file}
-use Rattle.mail_store.specs.FileName.{name_of, is_held}
+use Rattle.mail_store.specs.Maildir.{Maildir, File}
+use Rattle.mail_store.specs.FileName.{is_held, mail_file}
 use Rattle.mail_terms.specs.UniqueId.{has_id}
 use Rattle.run_law.specs.Accounts.{Account}
 use Rattle.run_law.specs.Steps.{Effect, Leaves, Stores, file_for, is_unheld, ids_wanted, wanted_at, merged_rows}
@@ -27,14 +27,14 @@ use Rattle.run_law.proofs.Records.{delivered_marked, delivered_merged}
 -- a text of the id was stored, by whichever number
 abbrev StoredBy : Settings → List ℕ → Account → Effect → List File → List ℕ → Type 0
 StoredBy settings account before effect gained id = (message : ℕ × Item) × (text : List ℕ) × IsAmong (message, text) (zip (wanted_at settings account before effect) effect.texts)
-    × (message.1.uid ≡ id) × IsAmong (file (name_of account id) text) gained
+    × (message.1.uid ≡ id) × IsAmong (mail_file account id text) gained
 
 abbrev KeptBy : Settings → List ℕ → Account → Effect → List File → List ℕ → Type 0
 KeptBy settings account before effect gained id = (is_delivered before.rows id ≡ true) ⊎ (is_held account before.maildir id ≡ true) ⊎ StoredBy settings account before effect gained id
 
 -- ---- one message of an id
 
--- a message stands at its number, and is the first with its id
+-- a message is at its number, and is the first with its id
 abbrev pub IsFirstAt : List Item → ℕ × Item → Type 0
 IsFirstAt listing message = (0 < message.0) × (slice_get listing (message.0 - 1) ≡ Some message.1) × (is_first listing message ≡ true)
 
@@ -45,7 +45,7 @@ has_before (x ∷ listing) zero (suc n) item at less =
     let same : x ≡ item = cc in ap (λ b. b || has_item (take n listing) item.uid) (ap (bytes_eq item.uid) (ap (λ (i : Item). i.uid) same) ∙ bytes_self item.uid)
 has_before (x ∷ listing) (suc k) (suc n) item at less = ap (λ b. bytes_eq item.uid x.uid || b) (has_before listing k n item at (omega (arith, less))) ∙ or-true (bytes_eq item.uid x.uid)
 
--- nobody before a first message has its id
+-- no message before the first with an id has that id
 not_before : (listing : List Item) (m n : ℕ × Item) → IsFirstAt listing m → IsFirstAt listing n → m.1.uid ≡ n.1.uid → m.0 < n.0 → ⊥
 not_before listing m n (counted, at, first) (counted', at', first') same less =
     true≢false (sym (ap not (sym (ap (has_item (take (n.0 - 1) listing)) (sym same) ∙ has_before listing (m.0 - 1) (n.0 - 1) m.1 at (omega (arith, less, counted)))) ∙ first'))
@@ -59,7 +59,7 @@ one_number listing m n at at' same = elim (cases_lt m.0 n.0) [
   ]
 ]
 
--- ---- what is wanted stands at its number
+-- ---- a wanted message is at its number
 
 numbered_from : (all items : List Item) (k : ℕ) → ((i : ℕ) (x : Item) → slice_get items i ≡ Some x → slice_get all (k + i) ≡ Some x)
     → AllByRecursion (λ (q : ℕ × Item). (0 < q.0) × (slice_get all (q.0 - 1) ≡ Some q.1)) (enumerate_from (k + 1) items)
@@ -113,7 +113,7 @@ pub record KeepsAll (settings : Settings) (account : List ℕ) (before : Account
 pub behind_one : {X : Type 0} (x y : X) (xs : List X) → IsAmong x xs → IsAmong x (y ∷ xs)
 behind_one x y xs (front, behind, is) = (y ∷ front, behind, ap (λ l. y ∷ l) is)
 
--- fewer of these ids
+-- the ids of fewer wanted messages are among those of more
 take_fewer : (m n : ℕ) (qs : List (ℕ × Item)) (id : List ℕ) → m ≤ n → has_id (ids_wanted (take m qs)) id ≡ true → has_id (ids_wanted (take n qs)) id ≡ true
 take_fewer zero n qs id less never = absurd (true≢false (sym never))
 take_fewer (suc m) zero qs id less is = let no : ⊥ = omega (arith, less) in absurd no
@@ -134,7 +134,7 @@ brought account maildir pairs = map (file_for account) (filter (is_unheld accoun
 
 found : (account : List ℕ) (maildir : Maildir) (n : ℕ) (qs : List (ℕ × Item)) (texts : List (List ℕ)) (id : List ℕ) → length (take n qs) ≤ length texts → has_id (ids_wanted (take n qs)) id ≡ true
     → is_held account maildir id ≡ false
-    → (message : ℕ × Item) × (text : List ℕ) × IsAmong (message, text) (zip qs texts) × (message.1.uid ≡ id) × IsAmong (file (name_of account id) text) (brought account maildir (zip (take n qs) texts))
+    → (message : ℕ × Item) × (text : List ℕ) × IsAmong (message, text) (zip qs texts) × (message.1.uid ≡ id) × IsAmong (mail_file account id text) (brought account maildir (zip (take n qs) texts))
 found account maildir zero qs texts id less never free = absurd (true≢false (sym never))
 found account maildir (suc n) [] texts id less never free = absurd (true≢false (sym never))
 found account maildir (suc n) (q ∷ qs) [] id less is free = let no : ⊥ = omega (arith, less) in absurd no
@@ -155,12 +155,12 @@ found account maildir (suc n) (q ∷ qs) (t ∷ ts) id less is free =
     later : List ((ℕ × Item) × List ℕ)
     later = filter (is_unheld account maildir) (zip (take n qs) ts)
 
-    first : id ≡ q.1.uid → (b : Bool) → b ≡ true → IsAmong (file (name_of account id) t) (map (file_for account) (cond b ((q, t) ∷ later) later))
-    first same true e = ([], map (file_for account) later, ap (λ (i : List ℕ). file (name_of account i) t ∷ map (file_for account) later) (sym same))
+    first : id ≡ q.1.uid → (b : Bool) → b ≡ true → IsAmong (mail_file account id t) (map (file_for account) (cond b ((q, t) ∷ later) later))
+    first same true e = ([], map (file_for account) later, ap (λ (i : List ℕ). mail_file account i t ∷ map (file_for account) later) (sym same))
     first same false e = absurd (true≢false (sym e))
 
-    next : (text : List ℕ) → IsAmong (file (name_of account id) text) (map (file_for account) later) → (b : Bool) → IsAmong (file (name_of account id) text) (map (file_for account) (cond b ((q, t) ∷ later) later))
-    next text there true = behind_one (file (name_of account id) text) (file_for account (q, t)) (map (file_for account) later) there
+    next : (text : List ℕ) → IsAmong (mail_file account id text) (map (file_for account) later) → (b : Bool) → IsAmong (mail_file account id text) (map (file_for account) (cond b ((q, t) ∷ later) later))
+    next text there true = behind_one (mail_file account id text) (file_for account (q, t)) (map (file_for account) later) there
     next text there false = there
 
 module _ (laws : Records) (settings : Settings) (account : List ℕ) (before : Account) (effect : Effect) (after : Account) (stores : Stores settings account before effect after) where

@@ -9,7 +9,7 @@ use Rattle.pop3_wire.specs.World.{Message, IsMessage}
 use Rattle.fetch_rules.specs.Record.{Row, is_delivered}
 use Rattle.fetch_rules.specs.Wanted.{wanted, candidates}
 use Rattle.mail_terms.specs.Listing.{Item, has_item}
-use Rattle.mail_store.specs.FileName.{is_held, name_of}
+use Rattle.mail_store.specs.FileName.{is_held, stem_of}
 use Rattle.run_law.specs.Mails.{ids_of, item_of, is_selected, selected, texts_of}
 use Rattle.run_law.specs.Accounts.{files, copies, KeepsOthers}
 use Rattle.run_law.specs.Steps.{Stores, IsHonest, AreTexts, wanted_at, merged_rows, ids_wanted, file_for, is_unheld}
@@ -78,7 +78,8 @@ module _ (laws : Below) (frame : Frame) (is : IsFrame frame) (before : Situation
   zipped_is = ap (λ w. zip (take s.stored w) v.effect.texts) wanted_is
       ∙ core.zipped_is scene is_scene v.effect.texts s.stored (subst (λ w. AreTexts here w v.effect.texts) wanted_is honest.texts) s.fetched
 
-  -- what counts as done, and what is stored: beside what wasn't done that is what was taken away and isn't recorded
+  -- what counts as done from now on, and what is delivered: these messages, and those that were taken away
+  -- and aren't recorded
   abbrev stored : List Message
   stored = added scene s.stored
 
@@ -99,12 +100,12 @@ module _ (laws : Below) (frame : Frame) (is : IsFrame frame) (before : Situation
   files_are = ap (λ c. c ++ v.after.maildir.in_new) s.in_cur ∙ ap (λ n. before.account.maildir.in_cur ++ n) new_is
       ∙ sym (append_assoc before.account.maildir.in_cur before.account.maildir.in_new (map (message_file frame.account) delivered))
 
-  copies_are : (id : List ℕ) → is_legal_id id ≡ true → copies (files v.after) (name_of frame.account id)
-      ≡ copies (files before.account) (name_of frame.account id) ++ cond (not (held id)) (texts_of (take s.stored (fetched scene)) id) []
-  copies_are id l = ap (λ f. copies f (name_of frame.account id)) files_are
-      ∙ copies-append (files before.account) (map (message_file frame.account) delivered) (name_of frame.account id)
-      ∙ ap (λ t. copies (files before.account) (name_of frame.account id) ++ t)
-      (copies_messages laws.differ laws.bases frame.account delivered id is.account l legal_delivered
+  copies_are : (id : List ℕ) → is_legal_id id ≡ true → copies (files v.after) (stem_of frame.account id)
+      ≡ copies (files before.account) (stem_of frame.account id) ++ cond (not (held id)) (texts_of (take s.stored (fetched scene)) id) []
+  copies_are id l = ap (λ f. copies f (stem_of frame.account id)) files_are
+      ∙ copies-append (files before.account) (map (message_file frame.account) delivered) (stem_of frame.account id)
+      ∙ ap (λ t. copies (files before.account) (stem_of frame.account id) ++ t)
+      (copies_messages laws.differ laws.stems frame.account delivered id is.account l legal_delivered
       ∙ texts_filtered (λ x. not (held x)) (take s.stored (fetched scene)) id)
 
   holds_after : (id : List ℕ) → is_legal_id id ≡ true → HoldsOf frame (after_event before (Visited v)) (kept.done ++ stored) id
@@ -117,12 +118,12 @@ module _ (laws : Below) (frame : Frame) (is : IsFrame frame) (before : Situation
     | inr taken ↦ again taken.0 taken.1 (cases_Bool (has_id (ids_of (take s.stored (fetched scene))) id))
   ]
     where
-      again : has_id before.taken id ≡ true → copies (files before.account) (name_of frame.account id) ≡ []
+      again : has_id before.taken id ≡ true → copies (files before.account) (stem_of frame.account id) ≡ []
           → (has_id (ids_of (take s.stored (fetched scene))) id ≡ true) ⊎ (has_id (ids_of (take s.stored (fetched scene))) id ≡ false)
           → HoldsOf frame (after_event before (Visited v)) (kept.done ++ stored) id
       again taken none asked =
           let is_done : core.is_done scene id ≡ true = all_ids_at (λ x. core.is_done scene x ≡ true) before.taken id kept.taken taken in
-          let now : copies (files v.after) (name_of frame.account id) ≡ texts_of (take s.stored (fetched scene)) id =
+          let now : copies (files v.after) (stem_of frame.account id) ≡ texts_of (take s.stored (fetched scene)) id =
           copies_are id l ∙ ap (λ t. t ++ cond (not (held id)) (texts_of (take s.stored (fetched scene)) id) []) none
           ∙ ap (λ b. cond (not b) (texts_of (take s.stored (fetched scene)) id) []) (unheld_if frame before id none) in
           elim asked [
@@ -176,14 +177,14 @@ module _ (laws : Below) (frame : Frame) (is : IsFrame frame) (before : Situation
   deletes_held = all_map (λ id. is_done_after id ≡ true) (λ id. (is_held frame.account v.after.maildir id ≡ true) ⊎ (has_id before.taken id ≡ true)) held_after v.effect.begun begun_done
 
   pub keeps_others : KeepsOthers frame.account before.account v.after
-  keeps_others = deliveries_keep laws.bases frame.account before.account v.after delivered is.account legal_delivered files_are
+  keeps_others = deliveries_keep laws.stems laws.bases frame.account before.account v.after delivered is.account legal_delivered files_are
 
   pub stores_only_new : StoresOnlyNew frame before v
   stores_only_new only_new id l recorded = (
     copies_are id l
-        ∙ ap (λ t. copies (files before.account) (name_of frame.account id) ++ cond (not (held id)) t []) (no_texts (take s.stored (fetched scene)) id unasked)
-        ∙ ap (λ t. copies (files before.account) (name_of frame.account id) ++ t) (none (not (held id)))
-        ∙ append-nil (copies (files before.account) (name_of frame.account id)),
+        ∙ ap (λ t. copies (files before.account) (stem_of frame.account id) ++ cond (not (held id)) t []) (no_texts (take s.stored (fetched scene)) id unasked)
+        ∙ ap (λ t. copies (files before.account) (stem_of frame.account id) ++ t) (none (not (held id)))
+        ∙ append-nil (copies (files before.account) (stem_of frame.account id)),
     elim s.rows [
       | inl old ↦ ap (λ r. is_delivered r id) old ∙ recorded
       | inr new ↦ ap (λ r. is_delivered r id) new

@@ -98,7 +98,7 @@ offered_snd settings rows ms = snds (asked settings rows) 1 ms
 pub wants_snd : (settings : Settings) (rows : List Row) (ms : List Message) → map snd (wants_by_number settings rows ms) ≡ wants settings rows ms
 wants_snd settings rows ms = sym (at_most-map snd settings.max_count (offered_by_number settings rows ms)) ∙ ap (at_most settings.max_count) (offered_snd settings rows ms)
 
--- ---- each stands at its number
+-- ---- each is at its number
 
 abbrev pub Placed : List Message → ℕ × Message → Type 0
 Placed ms q = slice_get ms (q.0 - 1) ≡ Some q.1
@@ -159,7 +159,7 @@ stored_files account maildir qs =
 pub ids_are : (qs : List (ℕ × Message)) → ids_wanted (map num_item qs) ≡ ids_of (map snd qs)
 ids_are qs = map-map (λ (p : ℕ × Item). p.1.uid) num_item qs ∙ sym (map-map (λ (m : Message). m.uid) snd qs)
 
--- ---- fronts
+-- ---- prefixes
 
 pub begins : {X : Type 0} (n limit : ℕ) (xs : List X) → take n (at_most limit xs) ++ (drop n (at_most limit xs) ++ past_limit limit xs) ≡ xs
 begins n limit xs =

@@ -1,10 +1,10 @@
--- What an account stands for between sessions, and what readers of its Maildir do to it.
+-- What an account holds between sessions, and what readers of its Maildir do to it.
 use Rattle.std.specs.Prelude.{◌≡◌, ◌⊎◌, ◌&&◌, ℕ, true, false, List, ◌∷◌, ◌++◌, map, length, bytes_eq}
 use Rattle.std.specs.List.{filter}
 use Rattle.fetch_rules.specs.Record.{Row}
 use Rattle.mail_store.specs.Maildir.{Maildir, File, file, Takes}
 use Rattle.mail_terms.specs.MaildirName.{base}
-use Rattle.mail_store.specs.FileName.{name_of}
+use Rattle.mail_store.specs.FileName.{stem, stem_of}
 use Rattle.mail_terms.specs.UniqueId.{is_legal_id}
 
 -- the rows of the record, and the Maildir
@@ -12,15 +12,15 @@ pub record Account : Type 0 where
   pub rows : List Row
   pub maildir : Maildir
 
--- the files of `cur` and `new`: what is delivered comes last
+-- the files of `cur` and of `new`; delivered files come last
 abbrev pub files : Account → List File
 files account = account.maildir.in_cur ++ account.maildir.in_new
 
--- the contents of the files of which this name is the base
+-- the contents of the files whose names have this stem
 abbrev pub copies : List File → List ℕ → List (List ℕ)
-copies fs name = map (λ (f : File). f.content) (filter (λ (f : File). bytes_eq name (base f.name)) fs)
+copies fs front = map (λ (f : File). f.content) (filter (λ (f : File). bytes_eq front (stem f.name)) fs)
 
--- a reader takes a file out of `new` into `cur` and puts a suffix, which begins with a colon, behind its name
+-- a reader takes a file from `new` to `cur` and adds a suffix, which begins with a colon, to its name
 pub record TakesOut (before after : Account) : Type 0 where
   pub name : List ℕ
   pub suffix : List ℕ
@@ -48,10 +48,10 @@ Moves before after = TakesOut before after ⊎ Renames before after
 abbrev pub count_files : List File → List ℕ → List ℕ → ℕ
 count_files fs name content = length (filter (λ (f : File). bytes_eq name (base f.name) && bytes_eq content f.content) fs)
 
--- a name that stands for no id of the account
+-- a name whose stem isn't that of any id of the account
 abbrev pub IsOther : List ℕ → List ℕ → Type 0
-IsOther account name = (id : List ℕ) → is_legal_id id ≡ true → bytes_eq name (name_of account id) ≡ false
+IsOther account name = (id : List ℕ) → is_legal_id id ≡ true → bytes_eq (stem name) (stem_of account id) ≡ false
 
--- files of other names are there as before, in whichever folder and with whatever suffix
+-- files of other names are the same as before, in whichever folder and with whatever suffix
 abbrev pub KeepsOthers : List ℕ → Account → Account → Type 0
 KeepsOthers account before after = (name content : List ℕ) → IsOther account name → count_files (files after) name content ≡ count_files (files before) name content

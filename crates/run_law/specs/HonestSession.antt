@@ -1,21 +1,22 @@
--- What one session stores where its server is honest, whatever its maildrop.
+-- What one session stores if its server is honest, whatever its maildrop.
 use Rattle.std.specs.Prelude.{◌≡◌, ◌⊎◌, ℕ, Bool, List, ◌++◌, Some, slice_get}
 use Rattle.std.specs.List.{AllByRecursion}
 use Rattle.pop3_wire.specs.Honest.{Honest}
 use Rattle.pop3_wire.specs.World.{Message}
 use Rattle.rc_file.specs.declared.settings.Settings.{Settings}
-use Rattle.mail_store.specs.Maildir.{File, file}
-use Rattle.mail_store.specs.FileName.{name_of}
+use Rattle.mail_store.specs.Maildir.{File}
+use Rattle.mail_store.specs.FileName.{mail_file}
 use Rattle.run_law.specs.Mails.{listing_of}
 use Rattle.run_law.specs.Accounts.{Account}
 use Rattle.run_law.specs.Steps.{Effect, Leaves}
 use Rattle.run_law.specs.Sessions.{Session}
 
--- the file is a message's of this maildrop: its name is that of the message's id, and it holds the message's text
+-- the file is that of a message of this maildrop: its name is that of the message's id, and it holds the
+-- message's text
 abbrev pub IsFileOf : List ℕ → List Message → File → Type 0
-IsFileOf account drop f = (place : ℕ) × (message : Message) × (slice_get drop place ≡ Some message) × (f ≡ file (name_of account message.uid) message.text)
+IsFileOf account drop f = (place : ℕ) × (message : Message) × (slice_get drop place ≡ Some message) × (f ≡ mail_file account message.uid message.text)
 
--- the joined listing is the maildrop's, and each file that came into the Maildir is one of its messages'
+-- the joined listing is the maildrop's, and each file that was added to the Maildir is that of one of its messages
 pub record BringsMessages (account : List ℕ) (drop : List Message) (before : Account) (effect : Effect) (after : Account) : Type 0 where
   pub listing : effect.listing ≡ listing_of drop
   pub gained : List File
@@ -23,7 +24,8 @@ pub record BringsMessages (account : List ℕ) (drop : List Message) (before : A
   pub in_cur : after.maildir.in_cur ≡ before.maildir.in_cur
   pub each : AllByRecursion (IsFileOf account drop) gained
 
--- a law: where the conversation is honest, a session left the account as it was, or brought messages of the maildrop and nothing else
+-- a law: if the conversation is honest, a session left the account as it was, or brought messages of the
+-- maildrop and nothing else
 abbrev pub HonestSession : Type 0
 HonestSession = (settings : Settings) (account : List ℕ) (before : Account) (sent got : List ℕ) (effect : Effect) (after : Account) (drop : List Message) (marks : List Bool)
     → Honest drop sent got marks → Session settings account before sent got effect after

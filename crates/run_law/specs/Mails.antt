@@ -15,7 +15,7 @@ item_of m = record { uid = m.uid; size = m.size }
 abbrev pub listing_of : List Message → List Item
 listing_of ms = map item_of ms
 
--- the messages whose listed size is within the limit, where 0 sets none
+-- the messages whose listed size is within the limit; 0 is no limit
 abbrev pub is_selected : ℕ → Message → Bool
 is_selected limit m = is_within limit m.size
 

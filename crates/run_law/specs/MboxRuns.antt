@@ -10,14 +10,15 @@ use Rattle.pop3_wire.specs.World.{Message, IsWorld, maildrop_of}
 use Rattle.run_law.specs.Mails.{ids_of, is_selected, selected}
 use Rattle.run_law.specs.Steps.{Effect, IsHonest, ids_wanted}
 use Rattle.run_law.specs.Runs.{past_limit}
-use Rattle.run_law.specs.Mboxes.{MboxAccount, mbox_rows, mbox_wanted, entries, IsClosed, IsOpen, MboxLeaves, MboxStores}
+use Rattle.run_law.specs.Mboxes.{MboxAccount, mbox_rows, mbox_wanted, entries, intent_of, IsClosed, IsOpen, MboxLeaves, MboxStores}
 
 -- an account, and the ids that are gone from the server
 pub record MboxSituation : Type 0 where
   pub account : MboxAccount
   pub gone : List (List ℕ)
 
--- one session: its settings, how much mail had come, what it did, which ids went with its QUIT, and the account that it left
+-- one session: its settings, how much mail had come, what it did, which ids its QUIT removed from the server,
+-- and the account that it left
 pub record MboxVisit : Type 0 where
   pub settings : Settings
   pub come : ℕ
@@ -28,8 +29,8 @@ pub record MboxVisit : Type 0 where
 abbrev pub after_visit : MboxSituation → MboxVisit → MboxSituation
 after_visit before visit = record { account = visit.after; gone = before.gone ++ visit.vanished }
 
--- what stays throughout: the file before the first session, the messages that the record had as delivered then, whose entries aren't
--- looked for, the limit on sizes, and all mail
+-- what stays throughout: the file before the first session, the messages that were recorded as delivered
+-- then, whose entries aren't looked for, the limit on sizes, and all mail
 pub record MboxFrame : Type 0 where
   pub start : List ℕ
   pub had : List Message
@@ -47,8 +48,8 @@ pub record MboxVisits (frame : MboxFrame) (before : MboxSituation) (visit : Mbox
       × IsHonest (mbox_wanted visit.settings before.account visit.effect) (mbox_shown frame before visit) visit.effect)
   pub vanished : AllByRecursion (λ id. has_id visit.effect.begun id ≡ true) visit.vanished
 
--- a session; or messages that are gone from the server without one. Nothing else happens to an account of an mboxrd between two sessions:
--- its record, its intent and its file's bytes are as they were
+-- a session; or messages that are gone from the server without one. Nothing else happens to an account with
+-- an mboxrd between two sessions: its record, its intent and its file's bytes stay as they were
 pub data MboxEvent : Type 0 where
   MboxVisited : MboxVisit → MboxEvent
   MboxExpired : List (List ℕ) → MboxEvent
@@ -82,9 +83,9 @@ pub record IsNextOpen (bytes : List ℕ) (rest : List Message) (account : MboxAc
   pub opened : IsOpen bytes next.uid next.text account
   pub row : has_row account.rows next.uid ≡ true
 
--- what is recorded is just a prefix of the selected messages: those that were recorded before the first session, and some more. The
--- file is the first one, followed by the entries of these, and by a front of the next entry only where its intent is open. What is gone
--- is recorded
+-- the recorded messages are exactly a prefix of the selected ones: those that were recorded before the first
+-- session, and some more. The file is the one before the first session, followed by the entries of these
+-- others, and by a prefix of the next entry only if its intent is open. What is gone is recorded
 pub record MboxKept (frame : MboxFrame) (state : MboxSituation) : Type 0 where
   pub done : List Message
   pub rest : List Message
@@ -93,7 +94,7 @@ pub record MboxKept (frame : MboxFrame) (state : MboxSituation) : Type 0 where
   pub gone : AllByRecursion (λ id. has_id (ids_of (frame.had ++ done)) id ≡ true) state.gone
   pub stands : IsClosed (frame.start ++ entries_of done) state.account ⊎ IsNextOpen (frame.start ++ entries_of done) rest state.account
 
--- an uncut session leaves out only what its limits exclude, and leaves no rest
+-- an uncut session leaves out only what its limits exclude, and leaves no intent open
 pub record MboxEnds (frame : MboxFrame) (before : MboxSituation) (visit : MboxVisit) : Type 0 where
   pub closed : visit.after.intent ≡ None
   pub leaves_out : AllByRecursion (λ (m : Message). (is_delivered visit.after.rows m.uid ≡ true) ⊎ (is_selected frame.max_size m ≡ false)
@@ -101,7 +102,7 @@ pub record MboxEnds (frame : MboxFrame) (before : MboxSituation) (visit : MboxVi
       (candidates visit.settings (mbox_rows before.account visit.effect) visit.effect.listing))) m.uid ≡ true))
       (mbox_shown frame before visit)
 
--- the whole entry of a message of this id stands in the file
+-- the file has the whole entry of a message with this id
 pub record HasEntry (frame : MboxFrame) (file id : List ℕ) : Type 0 where
   pub message : Message
   pub id_is : message.uid ≡ id
@@ -111,13 +112,13 @@ pub record HasEntry (frame : MboxFrame) (file id : List ℕ) : Type 0 where
   pub behind : List ℕ
   pub file_is : file ≡ frame.start ++ (entries_of before ++ (entry_of message.text ++ behind))
 
--- what a session promises: an uncut one ends so; each DELE begun is for a message whose entry stands whole, or that was recorded
--- before the first session
+-- what a session promises: an uncut one ends in this way; each DELE begun is for a message whose whole entry
+-- is in the file, or that was recorded before the first session
 pub record MboxPromises (frame : MboxFrame) (before : MboxSituation) (visit : MboxVisit) : Type 0 where
   pub ends : visit.effect.ended ≡ true → MboxEnds frame before visit
   pub begun : AllByRecursion (λ id. (has_id (ids_of frame.had) id ≡ true) ⊎ HasEntry frame visit.after.file id) visit.effect.begun
 
--- of what the server does by itself nothing is promised
+-- nothing is promised of what the server does by itself
 abbrev pub MboxPromised : MboxFrame → MboxSituation → MboxEvent → Type 0
 MboxPromised frame before (MboxVisited visit) = MboxPromises frame before visit
 MboxPromised frame before (MboxExpired ids) = Unit {0}
@@ -127,13 +128,14 @@ AllMboxPromised frame before [] = Unit {0}
 AllMboxPromised frame before (event ∷ events) = MboxPromised frame before event × MboxKept frame (after_mbox_event before event)
     × AllMboxPromised frame (after_mbox_event before event) events
 
--- the law
+-- the law: from a kept state any events lead to a kept state, and each keeps its promises
 abbrev pub MboxKeptStaysKept : Type 0
 MboxKeptStaysKept = (frame : MboxFrame) (start : MboxSituation) (events : List MboxEvent) → IsWorld frame.all → MboxKept frame start → MboxRun frame start events
     → MboxKept frame (after_mbox_events start events) × AllMboxPromised frame start events
 
--- behind those that were recorded before the first session the file holds the entries of the next j of the selected messages, in order,
--- and a front of the next entry at most
+-- the file is the one before the first session, followed by the entries of the next j of the selected messages
+-- after those that were recorded before the first session, in order, each once, and by at most a prefix of the
+-- next entry, which may be all of it and whose intent is then open. The recorded messages are exactly these
 pub record MboxHolds (frame : MboxFrame) (account : MboxAccount) : Type 0 where
   pub j : ℕ
   pub later : List Message
@@ -141,23 +143,27 @@ pub record MboxHolds (frame : MboxFrame) (account : MboxAccount) : Type 0 where
   pub below : j ≤ length later
   pub rest : List ℕ
   pub file : account.file ≡ (frame.start ++ entries_of (take j later)) ++ rest
-  pub at_most : (rest ≡ []) ⊎ ((next : Message) × (behind : List ℕ) × (slice_get later j ≡ Some next) × (entry_of next.text ≡ rest ++ behind))
+  pub at_most : ((account.intent ≡ None) × (rest ≡ []))
+      ⊎ ((next : Message) × (behind : List ℕ) × (slice_get later j ≡ Some next) × (entry_of next.text ≡ rest ++ behind)
+      × (account.intent ≡ Some (intent_of (frame.start ++ entries_of (take j later)) next.uid next.text)))
   pub ids : (id : List ℕ) → is_delivered account.rows id ≡ has_id (ids_of (frame.had ++ take j later)) id
-  -- where nothing is left of a next entry, a first file that stands for texts still does, with these messages' behind them
+  pub entered : (id : List ℕ) → is_delivered account.rows id ≡ true → (has_id (ids_of frame.had) id ≡ true) ⊎ HasEntry frame account.file id
+  -- if nothing of a next entry is left, and the first file holds texts, this file holds the same and then
+  -- those of these messages
   pub texts : rest ≡ [] → (first : List (List ℕ)) → MboxFile frame.start first
       → MboxFile account.file (first ++ map (λ (m : Message). m.text) (take j later))
 
 abbrev pub MboxKeptHolds : Type 0
 MboxKeptHolds = (frame : MboxFrame) (state : MboxSituation) → IsWorld frame.all → MboxKept frame state → MboxHolds frame state.account
 
--- an account of which no intent is open, and whose record has just a prefix of the selected messages as delivered, is kept with any
--- file: so is one with an empty record, and one whose record is of version 1
+-- an account without an open intent that records exactly a prefix of the selected messages as delivered is
+-- kept with any file: so is one with an empty record, and one whose record is of version 1
 abbrev pub MboxStartsKept : Type 0
 MboxStartsKept = (frame : MboxFrame) (rows : List Row) (rest : List Message) (gone : List (List ℕ)) → selected frame.max_size frame.all ≡ frame.had ++ rest
     → ((id : List ℕ) → is_delivered rows id ≡ has_id (ids_of frame.had) id) → AllByRecursion (λ id. has_id (ids_of frame.had) id ≡ true) gone
     → MboxKept frame (record { account = record { rows = rows; intent = None; file = frame.start }; gone = gone })
 
--- in every situation a session can end
+-- in every situation there is a session that ends
 abbrev pub MboxCanEnd : Type 0
 MboxCanEnd = (frame : MboxFrame) (before : MboxSituation) (settings : Settings) (come now : ℕ) → IsWorld frame.all → settings.max_size ≡ frame.max_size → settings.read_all ≡ false
     → (visit : MboxVisit) × MboxVisits frame before visit × (visit.effect.ended ≡ true) × (visit.come ≡ come)

@@ -1,5 +1,5 @@
--- What no server can make a session with an mboxrd do: lose or change what the file holds but for the rest of an open intent's entry,
--- or delete a message that isn't known.
+-- What no server can make a session with an mboxrd do: lose or change what the file holds, except for the
+-- rest of an open intent's entry, or delete a message that isn't known.
 use Rattle.std.specs.Prelude.{◌≡◌, ◌⊎◌, ◌<◌, ◌-◌, ℕ, true, List, ◌++◌, zip, Some, slice_get}
 use Rattle.std.specs.List.{AllByRecursion}
 use Rattle.rc_file.specs.declared.settings.Settings.{Settings}
@@ -15,8 +15,8 @@ use Rattle.pop3_wire.specs.declared.command.Command.{Command}
 use Rattle.pop3_wire.specs.declared.command.Command.TheVariants.{Dele}
 use Rattle.mail_terms.specs.Listing.{Item}
 
--- the wanted message of this number has the id, and the entry of the text that the session got by that number stands whole behind what
--- the settled file held
+-- the wanted message of this number has the id, and the whole entry of the text that the session got by that
+-- number comes after what the settled file held
 pub record WasAppended (settings : Settings) (before : MboxAccount) (effect : Effect) (after : MboxAccount) (number : ℕ) (id : List ℕ) : Type 0 where
   pub message : ℕ × Item
   pub text : List ℕ
@@ -27,16 +27,16 @@ pub record WasAppended (settings : Settings) (before : MboxAccount) (effect : Ef
   pub behind : List ℕ
   pub stands : after.file ≡ (settled before).file ++ (front ++ (entry_of text ++ behind))
 
--- a DELE asks by its number, which counts from 1, for a message that the settled record has as delivered, or whose entry the session
--- appended; no other command deletes
+-- a DELE gives the number, counted from 1, of a message that the settled record shows as delivered, or whose
+-- entry the session appended; no other command deletes
 abbrev pub MboxDeletesKept : Settings → MboxAccount → Effect → MboxAccount → Command → Type 0
 MboxDeletesKept settings before effect after (Dele number) =
     (0 < number) × (item : Item) × (slice_get effect.listing (number - 1) ≡ Some item)
     × ((is_delivered (settled before).rows item.uid ≡ true) ⊎ WasAppended settings before effect after number item.uid)
 MboxDeletesKept settings before effect after _ = Unit {0}
 
--- the file is as it was, or what it held once it was settled stands at its front; and each DELE that was sent, the last perhaps in
--- part, asks for such a message
+-- the file is as it was, or begins with what it held after it was settled; and each DELE that was sent, the
+-- last perhaps in part, asks for such a message
 pub record MboxIsSafe (settings : Settings) (before : MboxAccount) (sent : List ℕ) (effect : Effect) (after : MboxAccount) : Type 0 where
   pub file : (after.file ≡ before.file) ⊎ ((more : List ℕ) × (after.file ≡ (settled before).file ++ more))
   pub commands : List Command
@@ -44,7 +44,7 @@ pub record MboxIsSafe (settings : Settings) (before : MboxAccount) (sent : List 
   pub deletes : AllByRecursion (MboxDeletesKept settings before effect after) commands
   pub next : BeginsOne (MboxDeletesKept settings before effect after) asked.part
 
--- a law: so is every session, whatever its server says
+-- a law: every session is safe in this way, whatever its server says
 abbrev pub MboxSessionsAreSafe : Type 0
 MboxSessionsAreSafe = (settings : Settings) (before : MboxAccount) (sent got : List ℕ) (effect : Effect) (after : MboxAccount)
     → MboxSession settings before sent got effect after → MboxIsSafe settings before sent effect after

@@ -1,4 +1,4 @@
--- Sessions with an mboxrd told by what their links gained, and runs of them over one world.
+-- Sessions with an mboxrd, given by what their links gained, and runs of them over one world.
 use Rattle.std.specs.Prelude.{◌≡◌, ◌⊎◌, ℕ, false, List, [], ◌∷◌, ◌++◌}
 use Rattle.std.specs.List.{AllByRecursion}
 use Rattle.pop3_wire.specs.declared.command.Command.{Command}
@@ -10,7 +10,7 @@ use Rattle.run_law.specs.Mails.{selected}
 use Rattle.run_law.specs.Steps.{Effect}
 use Rattle.run_law.specs.Sessions.{IsBegun, Reads, BeginsOne, Served}
 use Rattle.run_law.specs.Mboxes.{MboxAccount, mbox_wanted, MboxLeaves, MboxStores}
-use Rattle.run_law.specs.MboxRuns.{MboxFrame, MboxSituation, MboxVisit, MboxKept, MboxPromises, entries_of}
+use Rattle.run_law.specs.MboxRuns.{MboxFrame, MboxSituation, MboxVisit, MboxVisits, MboxKept, MboxPromises, entries_of}
 
 -- neither RETR nor DELE
 abbrev pub AsksForNoMessage : Command → Type 0
@@ -22,13 +22,13 @@ AsksForNoMessage _ = Unit {0}
 abbrev pub AsksForNone : List Command → List ℕ → Type 0
 AsksForNone commands part = AllByRecursion AsksForNoMessage commands × BeginsOne AsksForNoMessage part
 
--- a session by what its link gained: it asked for no message and left the account, or it settled the account, read the replies and
--- appended texts
+-- a session by what its link gained: it asked for no message and left the account, or it settled the account,
+-- read the replies and appended texts
 pub record MboxSession (settings : Settings) (before : MboxAccount) (sent got : List ℕ) (effect : Effect) (after : MboxAccount) : Type 0 where
   pub commands : List Command
   pub asked : Asked commands sent
   pub begun : AllByRecursion (IsBegun effect.listing effect.begun) commands
-  -- what was sent behind these commands begins one more
+  -- what was sent after these commands begins one more
   pub next : BeginsOne (IsBegun effect.listing effect.begun) asked.part
   pub step : (MboxLeaves before effect after × AsksForNone commands asked.part)
       ⊎ (MboxStores settings before effect after × Reads (mbox_wanted settings before effect) commands sent got effect)
@@ -42,7 +42,7 @@ pub record MboxLink : Type 0 where
   pub vanished : List (List ℕ)
   pub after : MboxAccount
 
--- a session that its code did, over an honest link
+-- a session of the code, over an honest link
 pub record MboxLinks (frame : MboxFrame) (before : MboxSituation) (link : MboxLink) : Type 0 where
   pub same : link.settings.max_size ≡ frame.max_size
   pub only_new : link.settings.read_all ≡ false
@@ -60,7 +60,12 @@ abbrev pub MboxLinkRun : MboxFrame → MboxSituation → List MboxLink → Type 
 MboxLinkRun frame before [] = Unit {0}
 MboxLinkRun frame before (link ∷ links) = MboxLinks frame before link × MboxLinkRun frame (after_mbox_link before link) links
 
--- what an earlier session left of a next entry was cut away, or counts as a whole one: what was appended stands behind whole entries
+-- a law: a session over an honest link is a visit of the law over runs
+abbrev pub MboxLinksAreVisits : Type 0
+MboxLinksAreVisits = (frame : MboxFrame) (before : MboxSituation) (link : MboxLink) → (l : MboxLinks frame before link) → MboxVisits frame before (mbox_visit_of link l.effect)
+
+-- what an earlier session left of a next entry was cut off, or counts as a whole entry: what was appended
+-- comes after whole entries
 pub record SettlesFirst (frame : MboxFrame) (before after : MboxAccount) : Type 0 where
   pub done : List Message
   pub rest : List Message

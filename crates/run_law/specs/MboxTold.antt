@@ -1,4 +1,4 @@
--- A session with an mboxrd told with its numbers: how many texts count as retrieved, and how many are recorded.
+-- A session with an mboxrd, given by its numbers: how many texts count as retrieved, and how many are recorded.
 use Rattle.std.specs.Prelude.{◌≡◌, ◌⊎◌, ◌+◌, ℕ, true, List, [], ◌++◌, take, length, Some, None, slice_get}
 use Rattle.std.specs.List.{AllByRecursion}
 use Rattle.mail_terms.specs.Listing.{Item}
@@ -8,7 +8,7 @@ use Rattle.mail_store.specs.Mboxrd.{entry_of}
 use Rattle.run_law.specs.Steps.{Effect, ids_wanted}
 use Rattle.run_law.specs.Mboxes.{MboxAccount, settled, mbox_rows, mbox_wanted, entries, intent_of, MboxStores}
 
--- the first n of the wanted messages are appended
+-- the settled file, with the entries of the first n texts appended
 abbrev pub bytes_at : MboxAccount → Effect → ℕ → List ℕ
 bytes_at before effect n = (settled before).file ++ entries (take n effect.texts)
 
@@ -19,8 +19,8 @@ pub record OpensAt (settings : Settings) (before : MboxAccount) (effect : Effect
   pub got : slice_get effect.texts n ≡ Some text
   pub intent : after.intent ≡ Some (intent_of (bytes_at before effect n) message.1.uid text)
 
--- k texts are appended, and as many recorded: no intent is open and nothing follows, or the next one's is open, and a front of its entry
--- follows
+-- k texts are appended, and as many recorded: no intent is open and nothing follows, or the next one's is
+-- open and a prefix of its entry follows
 pub record AllRecorded (settings : Settings) (before : MboxAccount) (effect : Effect) (k : ℕ) (after : MboxAccount) : Type 0 where
   pub text : List ℕ
   pub front : List ℕ
@@ -28,7 +28,7 @@ pub record AllRecorded (settings : Settings) (before : MboxAccount) (effect : Ef
   pub file : after.file ≡ bytes_at before effect k ++ front
   pub ending : ((after.intent ≡ None) × (front ≡ [])) ⊎ (OpensAt settings before effect k text after × (entry_of text ≡ front ++ behind))
 
--- k texts are appended, and one less recorded: the last one's intent is open
+-- k texts are appended, and one fewer recorded: the last one's intent is open
 pub record LastUnrecorded (settings : Settings) (before : MboxAccount) (effect : Effect) (k j : ℕ) (after : MboxAccount) : Type 0 where
   pub one_less : j + 1 ≡ k
   pub text : List ℕ
@@ -44,6 +44,6 @@ pub record MboxTold (settings : Settings) (before : MboxAccount) (effect : Effec
   pub begun : AllByRecursion (λ id. is_delivered after.rows id ≡ true) effect.begun
   pub ended : effect.ended ≡ true → (j ≡ length (mbox_wanted settings before effect)) × (after.intent ≡ None)
 
--- a law: a session so told is one that the law over runs takes
+-- a law: a session given by these numbers is one that the law over runs takes
 abbrev pub MboxToldStores : Type 0
 MboxToldStores = (settings : Settings) (before : MboxAccount) (effect : Effect) (after : MboxAccount) → MboxTold settings before effect after → MboxStores settings before effect after

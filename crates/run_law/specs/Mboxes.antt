@@ -1,4 +1,4 @@
--- What an account of an mboxrd stands for between sessions, and what one session does to it.
+-- What an account with an mboxrd holds between sessions, and what one session does to it.
 use Rattle.std.specs.Prelude.{◌≡◌, ◌⊎◌, ◌≤◌, ℕ, Bool, true, false, List, [], ◌++◌, map, take, length, Option, Some, None, slice_get}
 use Rattle.std.specs.List.{flat_map, AllByRecursion}
 use Rattle.mail_terms.specs.Listing.{Item}
@@ -17,17 +17,17 @@ pub record MboxAccount : Type 0 where
   pub intent : Option Intent
   pub file : List ℕ
 
--- whether the entry of an open intent stands whole in the file
+-- whether the whole entry of an open intent is in the file
 abbrev pub is_stored : Option Intent → List ℕ → Bool
 is_stored None file = false
 is_stored (Some intent) file = stands_whole intent.start intent.len file
 
--- the file once the open intent is closed
+-- the file after the open intent is closed
 abbrev pub closed_file : Option Intent → List ℕ → List ℕ
 closed_file None file = file
 closed_file (Some intent) file = settled_file intent.start intent.len file
 
--- the account once the open intent is closed
+-- the account after the open intent is closed
 abbrev pub settled : MboxAccount → MboxAccount
 settled account = record {
   rows = closed_rows (is_stored account.intent account.file) account.rows account.intent;
@@ -35,11 +35,11 @@ settled account = record {
   file = closed_file account.intent account.file;
 }
 
--- nothing is held but by the record
+-- no message counts as held; only the record knows them
 abbrev pub none_held : List Item → List Bool
 none_held listing = map (λ _. false) listing
 
--- the record once it was settled and the listing merged into it
+-- the record after it was settled and the listing was merged into it
 abbrev pub mbox_rows : MboxAccount → Effect → List Row
 mbox_rows before effect = merged (settled before).rows effect.listing (none_held effect.listing) effect.now
 
@@ -50,7 +50,7 @@ mbox_wanted settings before effect = wanted settings (mbox_rows before effect) e
 abbrev pub entries : List (List ℕ) → List ℕ
 entries texts = flat_map entry_of texts
 
--- the intent of appending the entry of a text to these bytes
+-- the intent to append the entry of a text to these bytes
 abbrev pub intent_of : List ℕ → List ℕ → List ℕ → Intent
 intent_of bytes uid text = record { uid = uid; start = length bytes; len = length (entry_of text) }
 
@@ -59,8 +59,8 @@ pub record IsClosed (bytes : List ℕ) (account : MboxAccount) : Type 0 where
   pub intent : account.intent ≡ None
   pub file : account.file ≡ bytes
 
--- the intent of appending the entry of this text is open, and the file is these bytes and a front of the entry:
--- none of it and all of it are fronts too
+-- the intent to append the entry of this text is open, and the file is these bytes and a prefix of the entry,
+-- which may be empty or the whole entry
 pub record IsOpen (bytes uid text : List ℕ) (account : MboxAccount) : Type 0 where
   pub intent : account.intent ≡ Some (intent_of bytes uid text)
   pub front : List ℕ
@@ -76,7 +76,7 @@ pub record MboxLeaves (before : MboxAccount) (effect : Effect) (after : MboxAcco
   pub begun : effect.begun ≡ []
   pub ended : effect.ended ≡ false
 
--- of the wanted messages the next one's entry was about to be appended
+-- the entry of the next wanted message was about to be appended
 pub record IsBroken (settings : Settings) (before : MboxAccount) (effect : Effect) (stored : ℕ) (after : MboxAccount) : Type 0 where
   pub message : ℕ × Item
   pub text : List ℕ
@@ -84,7 +84,7 @@ pub record IsBroken (settings : Settings) (before : MboxAccount) (effect : Effec
   pub got : slice_get effect.texts stored ≡ Some text
   pub opened : IsOpen ((settled before).file ++ entries (take stored effect.texts)) message.1.uid text after
 
--- the account was settled, the listing merged, and as many of the wanted messages were appended and recorded
+-- the account was settled, the listing merged, and so many of the wanted messages were appended and recorded
 pub record MboxStores (settings : Settings) (before : MboxAccount) (effect : Effect) (after : MboxAccount) : Type 0 where
   pub stored : ℕ
   pub fetched : stored ≤ length effect.texts

@@ -26,7 +26,7 @@ plan_commands name word steps = User name ∷ Pass word ∷ Stat ∷ UidlAll ∷
 abbrev pub IsTail : List Command → Type 0
 IsTail tail = (tail ≡ []) ⊎ (tail ≡ Quit ∷ []) ⊎ (tail ≡ Rset ∷ []) ⊎ (tail ≡ Rset ∷ Quit ∷ [])
 
--- a front of the plan, and a tail
+-- a prefix of the plan, and a tail
 pub record IsFrontOfPlan (name word : List ℕ) (steps : List Step) (commands : List Command) : Type 0 where
   pub front : List Command
   pub behind : List Command

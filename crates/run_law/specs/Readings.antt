@@ -1,4 +1,4 @@
--- What a session reads in what it got, and what an honest server told it by that.
+-- What a session reads in what it got, and what that says if its server is honest.
 use Rattle.std.specs.Prelude.{◌≡◌, ◌-◌, ℕ, Bool, true, List, [], ◌∷◌, ◌++◌, Some, slice_get}
 use Rattle.std.specs.List.{flat_map, AllByRecursion}
 use Rattle.pop3_wire.specs.declared.command.Command.{Command}
@@ -28,7 +28,7 @@ AreGood commands [] = Unit {0}
 AreGood [] (reply ∷ replies) = ⊥
 AreGood (command ∷ commands) (reply ∷ replies) = IsGood command reply × AreGood commands replies
 
--- these commands were sent whole, and what was got is a greeting, these replies to the first of them, and a rest
+-- these commands were sent whole, and what was got is a greeting, these replies to the first of them, and the rest
 pub record Talked (commands : List Command) (replies : List WholeReply) (sent got : List ℕ) : Type 0 where
   pub asked : Asked commands sent
   pub hello : List ℕ
@@ -37,14 +37,14 @@ pub record Talked (commands : List Command) (replies : List WholeReply) (sent go
   pub rest : List ℕ
   pub whole : got ≡ ended hello ++ (flat_map reply_bytes replies ++ rest)
 
--- each reply grants its command, marks carried along
+-- each reply grants its command, and the marks are passed on
 abbrev pub AreGranted : List Message → List Bool → List Command → List WholeReply → Type 0
 AreGranted drop marks commands [] = Unit {0}
 AreGranted drop marks [] (reply ∷ replies) = ⊥
 AreGranted drop marks (command ∷ commands) (reply ∷ replies) =
     (next : List Bool) × Grants drop marks command (reply_bytes reply) next × AreGranted drop next commands replies
 
--- of an honest conversation each whole and positive reply is what the command asks of the maildrop
+-- in an honest conversation each whole and positive reply is what the command asks of the maildrop
 abbrev pub HonestIsGranted : Type 0
 HonestIsGranted = (drop : List Message) (sent got : List ℕ) (marks : List Bool) (commands : List Command) (replies : List WholeReply)
     → (honest : Honest drop sent got marks) → Talked commands replies sent got
@@ -66,7 +66,7 @@ abbrev pub TextsAreMessages : Type 0
 TextsAreMessages = (drop : List Message) (marks : List Bool) (commands : List Command) (replies : List WholeReply) (found : List (ℕ × List ℕ))
     → AreGood commands replies → AreGranted drop marks commands replies → Retrieves commands replies found → AllByRecursion (IsNumbered drop) found
 
--- the listing that the replies to STAT, UIDL and LIST join to
+-- the listing that the replies to STAT, UIDL and LIST give together
 pub record IsListed (stat uidl list : WholeReply) (items : List Item) : Type 0 where
   pub count : ℕ
   pub uids : List UidRow
@@ -83,7 +83,7 @@ ListingIsMaildrop = (drop : List Message) (name word : List ℕ) (commands : Lis
     → AreGranted drop (no_marks drop) (User name ∷ Pass word ∷ Stat ∷ UidlAll ∷ ListAll ∷ commands) (user ∷ pass ∷ stat ∷ uidl ∷ list ∷ replies)
     → IsListed stat uidl list items → items ≡ listing_of drop
 
--- what the marks at the end say: a DELE of that number was sent whole
+-- a law: if a message is marked at the end, a DELE of its number was sent whole
 abbrev pub MarksAreAsked : Type 0
 MarksAreAsked = (drop : List Message) (sent got : List ℕ) (marks : List Bool) → (honest : Honest drop sent got marks) → (place : ℕ) → slice_get marks place ≡ Some true
     → (front behind : List Command) × (number : ℕ) × (honest.commands ≡ front ++ Dele number ∷ behind) × (number - 1 ≡ place)

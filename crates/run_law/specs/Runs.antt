@@ -5,7 +5,7 @@ use Rattle.fetch_rules.specs.Record.{is_delivered, merged}
 use Rattle.mail_terms.specs.Listing.{Item}
 use Rattle.fetch_rules.specs.Wanted.{at_most, candidates, wanted}
 use Rattle.rc_file.specs.declared.settings.Settings.{Settings}
-use Rattle.mail_store.specs.FileName.{name_of, is_held, IsAccountText}
+use Rattle.mail_store.specs.FileName.{stem_of, is_held, IsAccountText}
 use Rattle.mail_store.specs.Held.{flags_of}
 use Rattle.mail_terms.specs.UniqueId.{is_legal_id, has_id}
 use Rattle.pop3_wire.specs.World.{Message, IsWorld, maildrop_of}
@@ -13,13 +13,15 @@ use Rattle.run_law.specs.Mails.{ids_of, listing_of, is_selected, selected, texts
 use Rattle.run_law.specs.Accounts.{Account, files, copies, Moves, KeepsOthers}
 use Rattle.run_law.specs.Steps.{Effect, Leaves, Stores, IsHonest, merged_rows, wanted_at, ids_wanted}
 
--- an account, the ids that are gone from the server, and those of the messages that were ever taken away from the Maildir
+-- an account, the ids that are gone from the server, and those of the messages that were ever taken away from
+-- the Maildir
 pub record Situation : Type 0 where
   pub account : Account
   pub gone : List (List ℕ)
   pub taken : List (List ℕ)
 
--- one session: its settings, how much mail had come, what it did, which ids went with its QUIT, and the account that it left
+-- one session: its settings, how much mail had come, what it did, which ids its QUIT removed from the server,
+-- and the account that it left
 pub record Visit : Type 0 where
   pub settings : Settings
   pub come : ℕ
@@ -27,8 +29,8 @@ pub record Visit : Type 0 where
   pub vanished : List (List ℕ)
   pub after : Account
 
--- a session; a reader's move; anything else that leaves the record and the messages of the account as they are; messages that the
--- server lets go by itself; and a message that its reader throws away or files elsewhere
+-- a session; a reader's move; anything else that leaves the record and the messages of the account as they are;
+-- messages that the server removes by itself; and a message that its reader throws away or files elsewhere
 pub data Event : Type 0 where
   Visited : Visit → Event
   Moved : Account → Event
@@ -64,23 +66,24 @@ pub record Visits (frame : Frame) (before : Situation) (visit : Visit) : Type 0 
       × IsHonest (wanted_at visit.settings frame.account before.account visit.effect) (shown frame before visit) visit.effect)
   pub vanished : AllByRecursion (λ id. has_id visit.effect.begun id ≡ true) visit.vanished
 
--- the record has the same rows, and for each legal id the files of its name hold what they held
+-- the record has the same rows, and for each legal id the files of its stem hold what they held
 pub record LeavesMail (account : List ℕ) (before after : Account) : Type 0 where
   pub rows : after.rows ≡ before.rows
-  pub same : (id : List ℕ) → is_legal_id id ≡ true → copies (files after) (name_of account id) ≡ copies (files before) (name_of account id)
+  pub same : (id : List ℕ) → is_legal_id id ≡ true → copies (files after) (stem_of account id) ≡ copies (files before) (stem_of account id)
 
 -- the message was held, or was taken away before
 abbrev pub IsHeldOrTaken : List ℕ → Situation → List ℕ → Type 0
 IsHeldOrTaken account state id = (is_legal_id id ≡ true) × ((is_held account state.account.maildir id ≡ true) ⊎ (has_id state.taken id ≡ true))
 
--- the message was held and is no more; the record has the same rows, and for each other legal id the files hold what they held
+-- the message was held and no longer is; the record has the same rows, and for each other legal id the files
+-- hold what they held
 pub record TakesAway (account : List ℕ) (before : Account) (id : List ℕ) (after : Account) : Type 0 where
   pub legal : is_legal_id id ≡ true
   pub held : is_held account before.maildir id ≡ true
-  pub none : copies (files after) (name_of account id) ≡ []
+  pub none : copies (files after) (stem_of account id) ≡ []
   pub rows : after.rows ≡ before.rows
   pub others : (other : List ℕ) → is_legal_id other ≡ true → bytes_eq other id ≡ false
-      → copies (files after) (name_of account other) ≡ copies (files before) (name_of account other)
+      → copies (files after) (stem_of account other) ≡ copies (files before) (stem_of account other)
 
 abbrev pub Happens : Frame → Situation → Event → Type 0
 Happens frame before (Visited visit) = Visits frame before visit
@@ -89,7 +92,7 @@ Happens frame before (Between after) = LeavesMail frame.account before.account a
 Happens frame before (Expired ids) = AllByRecursion (IsHeldOrTaken frame.account before) ids
 Happens frame before (TakenAway id after) = TakesAway frame.account before.account id after
 
--- the events happen one after the other
+-- the events happen in this order
 abbrev pub Run : Frame → Situation → List Event → Type 0
 Run frame before [] = Unit {0}
 Run frame before (event ∷ events) = Happens frame before event × Run frame (after_event before event) events
@@ -98,13 +101,14 @@ abbrev pub after_events : Situation → List Event → Situation
 after_events before [] = before
 after_events before (event ∷ events) = after_events (after_event before event) events
 
--- the files of the id's name hold the texts of these messages that have the id; or such a message was taken away, and there is no file
+-- the files of the id's stem hold the texts of those of these messages that have the id; or such a message
+-- was taken away, and there is no file
 abbrev pub HoldsOf : Frame → Situation → List Message → List ℕ → Type 0
-HoldsOf frame state done id = (copies (files state.account) (name_of frame.account id) ≡ texts_of done id)
-    ⊎ ((has_id state.taken id ≡ true) × (copies (files state.account) (name_of frame.account id) ≡ []))
+HoldsOf frame state done id = (copies (files state.account) (stem_of frame.account id) ≡ texts_of done id)
+    ⊎ ((has_id state.taken id ≡ true) × (copies (files state.account) (stem_of frame.account id) ≡ []))
 
--- the Maildir holds exactly a prefix of the selected messages, but for those that were taken away; and what is recorded, gone or was
--- taken away is among them
+-- the Maildir holds exactly a prefix of the selected messages, except for those that were taken away; what is
+-- recorded, is gone or was taken away is among them
 pub record Kept (frame : Frame) (state : Situation) : Type 0 where
   pub done : List Message
   pub rest : List Message
@@ -129,12 +133,12 @@ LeavesOut frame before visit = visit.effect.ended ≡ true → AllByRecursion (�
 abbrev pub DeletesHeld : Frame → Situation → Visit → Type 0
 DeletesHeld frame before visit = AllByRecursion (λ id. (is_held frame.account visit.after.maildir id ≡ true) ⊎ (has_id before.taken id ≡ true)) visit.effect.begun
 
--- where messages that were delivered aren't read again, none that is recorded as delivered is stored, and it stays recorded
+-- if delivered messages aren't read again, none that is recorded as delivered is stored, and it stays recorded
 abbrev pub StoresOnlyNew : Frame → Situation → Visit → Type 0
 StoresOnlyNew frame before visit = visit.settings.read_all ≡ false → (id : List ℕ) → is_legal_id id ≡ true → is_delivered before.account.rows id ≡ true
-    → (copies (files visit.after) (name_of frame.account id) ≡ copies (files before.account) (name_of frame.account id)) × (is_delivered visit.after.rows id ≡ true)
+    → (copies (files visit.after) (stem_of frame.account id) ≡ copies (files before.account) (stem_of frame.account id)) × (is_delivered visit.after.rows id ≡ true)
 
--- nothing is promised of what others do, but that a reader's moves leave files of other names
+-- nothing is promised of what others do, except that a reader's moves leave files of other names
 abbrev pub Promises : Frame → Situation → Event → Type 0
 Promises frame before (Visited visit) = LeavesOut frame before visit × DeletesHeld frame before visit × KeepsOthers frame.account before.account visit.after
     × StoresOnlyNew frame before visit
@@ -147,7 +151,7 @@ AllPromised frame before [] = Unit {0}
 AllPromised frame before (event ∷ events) = Promises frame before event × Kept frame (after_event before event)
     × AllPromised frame (after_event before event) events
 
--- the law
+-- the law: from a kept state any events lead to a kept state, and each keeps its promises
 abbrev pub KeptStaysKept : Type 0
 KeptStaysKept = (frame : Frame) (start : Situation) (events : List Event) → IsFrame frame → Kept frame start → Run frame start events
     → Kept frame (after_events start events) × AllPromised frame start events
@@ -156,55 +160,55 @@ KeptStaysKept = (frame : Frame) (start : Situation) (events : List Event) → Is
 pub record HoldsExactly (frame : Frame) (account : Account) : Type 0 where
   pub j : ℕ
   pub below : j ≤ length (selected frame.max_size frame.all)
-  pub contents : (id : List ℕ) → is_legal_id id ≡ true → copies (files account) (name_of frame.account id) ≡ texts_of (take j (selected frame.max_size frame.all)) id
+  pub contents : (id : List ℕ) → is_legal_id id ≡ true → copies (files account) (stem_of frame.account id) ≡ texts_of (take j (selected frame.max_size frame.all)) id
   pub ids : (id : List ℕ) → is_legal_id id ≡ true → is_held frame.account account.maildir id ≡ has_id (ids_of (take j (selected frame.max_size frame.all))) id
-  pub once : (id : List ℕ) → is_legal_id id ≡ true → length (copies (files account) (name_of frame.account id)) ≤ 1
+  pub once : (id : List ℕ) → is_legal_id id ≡ true → length (copies (files account) (stem_of frame.account id)) ≤ 1
 
--- of the first j of the selected messages each is in one file with its text, or was taken away and is in none; and nothing else is the
--- account's
+-- each of the first j of the selected messages is in one file with its text, or was taken away and is in
+-- none; and no other message is held
 pub record HoldsWhatIsLeft (frame : Frame) (state : Situation) : Type 0 where
   pub j : ℕ
   pub below : j ≤ length (selected frame.max_size frame.all)
   pub contents : (id : List ℕ) → is_legal_id id ≡ true → HoldsOf frame state (take j (selected frame.max_size frame.all)) id
   pub ids : (id : List ℕ) → is_legal_id id ≡ true → is_held frame.account state.account.maildir id ≡ true → has_id (ids_of (take j (selected frame.max_size frame.all))) id ≡ true
-  pub once : (id : List ℕ) → is_legal_id id ≡ true → length (copies (files state.account) (name_of frame.account id)) ≤ 1
+  pub once : (id : List ℕ) → is_legal_id id ≡ true → length (copies (files state.account) (stem_of frame.account id)) ≤ 1
 
 abbrev pub KeptHoldsWhatIsLeft : Type 0
 KeptHoldsWhatIsLeft = (frame : Frame) (state : Situation) → IsFrame frame → Kept frame state → HoldsWhatIsLeft frame state
 
--- where nothing was taken away, the account holds exactly the first j
+-- if nothing was taken away, the account holds exactly the first j
 abbrev pub NothingTakenHoldsExactly : Type 0
 NothingTakenHoldsExactly = (frame : Frame) (state : Situation) → HoldsWhatIsLeft frame state → state.taken ≡ [] → HoldsExactly frame state.account
 
--- each session of these reads only what is new
+-- each of these sessions reads only what is new
 abbrev pub ReadOnlyNew : List Event → Type 0
 ReadOnlyNew [] = Unit {0}
 ReadOnlyNew (Visited visit ∷ events) = (visit.settings.read_all ≡ false) × ReadOnlyNew events
 ReadOnlyNew (_ ∷ events) = ReadOnlyNew events
 
--- then what is recorded as delivered, and isn't held, is never stored again
+-- then a message that is recorded as delivered and isn't held is never stored again
 abbrev pub TakenStaysAway : Type 0
 TakenStaysAway = (frame : Frame) (start : Situation) (events : List Event) (id : List ℕ) → IsFrame frame → Kept frame start → Run frame start events
-    → ReadOnlyNew events → is_legal_id id ≡ true → is_delivered start.account.rows id ≡ true → copies (files start.account) (name_of frame.account id) ≡ []
-    → copies (files (after_events start events).account) (name_of frame.account id) ≡ []
+    → ReadOnlyNew events → is_legal_id id ≡ true → is_delivered start.account.rows id ≡ true → copies (files start.account) (stem_of frame.account id) ≡ []
+    → copies (files (after_events start events).account) (stem_of frame.account id) ≡ []
 
 -- in a kept state a reader's move leaves the record and the messages of the account as they are
 abbrev pub MovesLeaveMail : Type 0
 MovesLeaveMail = (frame : Frame) (state : Situation) (after : Account) → IsFrame frame → Kept frame state → Moves state.account after → LeavesMail frame.account state.account after
 
--- an account with an empty record and no file of its own is kept while nothing is gone
+-- an account with an empty record and no file of its own is kept, if nothing is gone
 abbrev pub StartsKept : Type 0
 StartsKept = (frame : Frame) (account : Account) → account.rows ≡ []
-    → ((id : List ℕ) → is_legal_id id ≡ true → copies (files account) (name_of frame.account id) ≡ [])
+    → ((id : List ℕ) → is_legal_id id ≡ true → copies (files account) (stem_of frame.account id) ≡ [])
     → Kept frame (record { account = account; gone = []; taken = [] })
 
--- in every situation a session can end
+-- in every situation there is a session that ends
 abbrev pub CanEnd : Type 0
 CanEnd = (frame : Frame) (before : Situation) (settings : Settings) (come now : ℕ) → IsFrame frame → settings.max_size ≡ frame.max_size
     → (visit : Visit) × Visits frame before visit × (visit.effect.ended ≡ true) × (visit.come ≡ come)
 
--- a law: in a kept state, where what was taken away was recorded as delivered, and messages that were delivered aren't read again, what is
--- wanted is the next of the selected messages that have come
+-- a law: in a kept state, if what was taken away was recorded as delivered and delivered messages aren't read
+-- again, the wanted messages are the next of the selected messages that have come
 abbrev pub WantsNext : Type 0
 WantsNext = (frame : Frame) (before : Situation) (settings : Settings) (come now : ℕ) (kept : Kept frame before) → IsFrame frame
     → settings.max_size ≡ frame.max_size → settings.read_all ≡ false → AllByRecursion (λ id. is_delivered before.account.rows id ≡ true) before.taken

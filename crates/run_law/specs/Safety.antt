@@ -3,8 +3,8 @@ use Rattle.std.specs.Prelude.{◌≡◌, ◌⊎◌, ◌<◌, ◌-◌, ℕ, true,
 use Rattle.std.specs.List.{AllByRecursion}
 use Rattle.rc_file.specs.declared.settings.Settings.{Settings}
 use Rattle.fetch_rules.specs.Record.{is_delivered}
-use Rattle.mail_store.specs.Maildir.{File, file}
-use Rattle.mail_store.specs.FileName.{name_of, is_held}
+use Rattle.mail_store.specs.Maildir.{File}
+use Rattle.mail_store.specs.FileName.{is_held, mail_file}
 use Rattle.run_law.specs.Accounts.{Account}
 use Rattle.run_law.specs.Steps.{Effect, wanted_at}
 use Rattle.run_law.specs.Sessions.{BeginsOne, Session}
@@ -16,24 +16,25 @@ use Rattle.mail_terms.specs.Listing.{Item}
 abbrev pub IsAmong : {X : Type 0} → X → List X → Type 0
 IsAmong x xs = (front behind : List _) × (xs ≡ front ++ x ∷ behind)
 
--- the wanted message of this number has the id, and the text that the session got by that number stands among the files that it
--- brought, under the name of the id
+-- the wanted message of this number has the id, and the text that the session got by that number is in one of
+-- the files that it added, under the name of the id
 abbrev pub WasStored : Settings → List ℕ → Account → Effect → List File → ℕ → List ℕ → Type 0
 WasStored settings account before effect gained number id = (message : ℕ × Item) × (text : List ℕ) × IsAmong (message, text) (zip (wanted_at settings account before effect) effect.texts)
-    × (message.0 ≡ number) × (message.1.uid ≡ id) × IsAmong (file (name_of account id) text) gained
+    × (message.0 ≡ number) × (message.1.uid ≡ id) × IsAmong (mail_file account id text) gained
 
--- the id was recorded as delivered before the session, or was held, or the session stored the text that it got by this number
+-- the id was recorded as delivered before the session, or was held, or the session stored the text that it
+-- got by this number
 abbrev pub IsKept : Settings → List ℕ → Account → Effect → List File → ℕ → List ℕ → Type 0
 IsKept settings account before effect gained number id = (is_delivered before.rows id ≡ true) ⊎ (is_held account before.maildir id ≡ true) ⊎ WasStored settings account before effect gained number id
 
--- a DELE asks by its number, which counts from 1, for a message that is kept so; no other command deletes
+-- a DELE gives the number, counted from 1, of a message that is kept in this way; no other command deletes
 abbrev pub DeletesKept : Settings → List ℕ → Account → Effect → List File → Command → Type 0
 DeletesKept settings account before effect gained (Dele number) =
     (0 < number) × (item : Item) × (slice_get effect.listing (number - 1) ≡ Some item) × IsKept settings account before effect gained number item.uid
 DeletesKept settings account before effect gained _ = Unit {0}
 
--- every file of `new` and `cur` is still there, with what it held, and each DELE that was sent, the last perhaps in part, asks for
--- such a message
+-- every file of `new` and `cur` is still there, with what it held; and each DELE that was sent, the last
+-- perhaps in part, asks for such a message
 pub record IsSafe (settings : Settings) (account : List ℕ) (before : Account) (sent : List ℕ) (effect : Effect) (after : Account) : Type 0 where
   pub gained : List File
   pub in_new : after.maildir.in_new ≡ before.maildir.in_new ++ gained
@@ -43,7 +44,7 @@ pub record IsSafe (settings : Settings) (account : List ℕ) (before : Account) 
   pub deletes : AllByRecursion (DeletesKept settings account before effect gained) commands
   pub next : BeginsOne (DeletesKept settings account before effect gained) asked.part
 
--- a law: so is every session, whatever its server says
+-- a law: every session is safe in this way, whatever its server says
 abbrev pub SessionsAreSafe : Type 0
 SessionsAreSafe = (settings : Settings) (account : List ℕ) (before : Account) (sent got : List ℕ) (effect : Effect) (after : Account)
     → Session settings account before sent got effect after → IsSafe settings account before sent effect after

@@ -1,4 +1,4 @@
--- Sessions told by what their links gained, and runs of them over one world.
+-- Sessions, given by what their links gained, and runs of them over one world.
 use Rattle.std.specs.Prelude.{◌≡◌, ◌⊎◌, ◌&&◌, ◌<◌, ◌-◌, ℕ, Bool, true, List, [], ◌∷◌, ◌++◌, map, take, length, Some, slice_get}
 use Rattle.std.specs.List.{AllByRecursion}
 use Rattle.pop3_wire.specs.declared.command.Command.{Command}
@@ -16,7 +16,8 @@ use Rattle.pop3_wire.specs.Reading.{WholeReply}
 use Rattle.run_law.specs.Readings.{Talked, Retrieves, IsListed}
 use Rattle.run_law.specs.Runs.{Frame, IsFrame, Situation, Visits, Visited, Moved, Kept, Promises}
 
--- a DELE is among those begun, by the id of its number, which counts from 1, and no other message of the listing has that id
+-- a DELE's number counts from 1, the id of its message is among those begun, and no other message of the
+-- listing has that id
 abbrev pub IsBegun : List Item → List (List ℕ) → Command → Type 0
 IsBegun listing begun (Dele number) = (item : Item) × (slice_get listing (number - 1) ≡ Some item) × (has_id begun item.uid ≡ true)
     × (0 < number) × ((is_first listing (number, item) && is_last listing (number, item)) ≡ true)
@@ -50,7 +51,7 @@ pub record Session (settings : Settings) (account : List ℕ) (before : Account)
   pub commands : List Command
   pub asked : Asked commands sent
   pub begun : AllByRecursion (IsBegun effect.listing effect.begun) commands
-  -- what was sent behind these commands begins one more
+  -- what was sent after these commands begins one more
   pub next : BeginsOne (IsBegun effect.listing effect.begun) asked.part
   pub step : Leaves before effect after ⊎ (Stores settings account before effect after × Reads (wanted_at settings account before effect) commands sent got effect)
 
@@ -58,7 +59,7 @@ pub record Session (settings : Settings) (account : List ℕ) (before : Account)
 abbrev pub IsMarked : List Message → List Bool → List ℕ → Type 0
 IsMarked drop marks id = (place : ℕ) × (message : Message) × (slice_get marks place ≡ Some true) × (slice_get drop place ≡ Some message) × (message.uid ≡ id)
 
--- the link was honest, and of the messages that were marked after QUIT these went
+-- the link was honest, and these of the messages that were marked were removed after QUIT
 pub record Served (drop : List Message) (sent got : List ℕ) (vanished : List (List ℕ)) : Type 0 where
   pub marks : List Bool
   pub honest : Honest drop sent got marks
@@ -82,20 +83,20 @@ abbrev pub after_link : Situation → LinkEvent → Situation
 after_link before (Linked link) = record before { account = link.after; gone = before.gone ++ link.vanished }
 after_link before (Shifted after) = record before { account = after }
 
--- a session that its code did, over an honest link
+-- a session of the code, over an honest link
 pub record Links (frame : Frame) (before : Situation) (link : Link) : Type 0 where
   pub same : link.settings.max_size ≡ frame.max_size
   pub effect : Effect
   pub session : Session link.settings frame.account before.account link.sent link.got effect link.after
   pub served : Served (maildrop_of frame.all link.come before.gone) link.sent link.got link.vanished
 
--- each event follows from where the one before ended
+-- each event begins where the one before ended
 abbrev pub LinkRun : Frame → Situation → List LinkEvent → Type 0
 LinkRun frame before [] = Unit {0}
 LinkRun frame before (Linked link ∷ events) = Links frame before link × LinkRun frame (after_link before (Linked link)) events
 LinkRun frame before (Shifted after ∷ events) = Moves before.account after × LinkRun frame (after_link before (Shifted after)) events
 
--- each session did something that keeps its promises, and each state is kept
+-- each session has an effect that keeps its promises, and each state is kept
 abbrev pub AllKept : Frame → Situation → List LinkEvent → Type 0
 AllKept frame before [] = Kept frame before
 AllKept frame before (Linked link ∷ events) = Kept frame before
@@ -104,7 +105,7 @@ AllKept frame before (Linked link ∷ events) = Kept frame before
     × AllKept frame (after_link before (Linked link)) events
 AllKept frame before (Shifted after ∷ events) = Kept frame before × Promises frame before (Moved after) × AllKept frame (after_link before (Shifted after)) events
 
--- the headline over links
+-- the law over links
 abbrev pub LinksKeep : Type 0
 LinksKeep = (frame : Frame) (start : Situation) (events : List LinkEvent) → IsFrame frame → Kept frame start → LinkRun frame start events → AllKept frame start events
 

@@ -1,30 +1,30 @@
--- What one session did to an account, told of states and lists of texts, and not of octets.
+-- What one session did to an account, in states and lists of texts, not in octets.
 use Rattle.std.specs.Prelude.{◌≡◌, ◌⊎◌, ◌≤◌, ◌-◌, ℕ, Bool, true, false, not, List, [], ◌∷◌, ◌++◌, map, take, zip, length, Some, slice_get}
 use Rattle.std.specs.List.{filter, AllByRecursion}
 use Rattle.mail_terms.specs.Listing.{Item}
 use Rattle.fetch_rules.specs.Record.{Row, is_delivered, marked_all, merged}
 use Rattle.fetch_rules.specs.Wanted.{wanted}
 use Rattle.rc_file.specs.declared.settings.Settings.{Settings}
-use Rattle.mail_store.specs.Maildir.{Maildir, File, file}
-use Rattle.mail_store.specs.FileName.{name_of, is_held}
+use Rattle.mail_store.specs.Maildir.{Maildir, File}
+use Rattle.mail_store.specs.FileName.{is_held, mail_file}
 use Rattle.mail_store.specs.Held.{flags_of}
 use Rattle.pop3_wire.specs.World.{Message}
 use Rattle.run_law.specs.Mails.{listing_of}
 use Rattle.run_law.specs.Accounts.{Account}
 
--- what of a session the law over runs speaks of
+-- the parts of a session that the law over runs uses
 pub record Effect : Type 0 where
   pub now : ℕ
   -- the joined listing
   pub listing : List Item
-  -- the texts of the RETR replies that stand whole, in order
+  -- the texts of the whole replies to RETR, in order
   pub texts : List (List ℕ)
   -- the ids for which a DELE was begun
   pub begun : List (List ℕ)
   -- whether the outcome is Ended
   pub ended : Bool
 
--- the record once the listing and the files were merged into it
+-- the record after the listing and the files were merged into it
 abbrev pub merged_rows : List ℕ → Account → Effect → List Row
 merged_rows account before effect = merged before.rows effect.listing (flags_of account before.maildir effect.listing) effect.now
 
@@ -38,7 +38,7 @@ ids_wanted messages = map (λ (p : ℕ × Item). p.1.uid) messages
 
 -- the file of a message and its text
 abbrev pub file_for : List ℕ → (ℕ × Item) × List ℕ → File
-file_for account pair = file (name_of account pair.0.1.uid) pair.1
+file_for account pair = mail_file account pair.0.1.uid pair.1
 
 -- whether the message of a pair isn't held
 abbrev pub is_unheld : List ℕ → Maildir → (ℕ × Item) × List ℕ → Bool
@@ -52,9 +52,9 @@ pub record Leaves (before : Account) (effect : Effect) (after : Account) : Type 
   pub begun : effect.begun ≡ []
   pub ended : effect.ended ≡ false
 
--- the listing was joined, and as many of the wanted messages were stored and recorded
+-- the listing was joined, and so many of the wanted messages were stored and recorded
 pub record Stores (settings : Settings) (account : List ℕ) (before : Account) (effect : Effect) (after : Account) : Type 0 where
-  -- how many of the wanted are held, and how many of these are recorded
+  -- how many of the wanted messages are held, and how many of these are recorded
   pub stored : ℕ
   pub recorded : ℕ
   pub order : recorded ≤ stored

@@ -1,4 +1,4 @@
--- A session told with its numbers: how many texts count as retrieved, and how many are recorded.
+-- A session given by its numbers: how many texts count as retrieved, and how many are recorded.
 use Rattle.std.specs.Prelude.{◌≡◌, ◌⊎◌, ◌+◌, ℕ, true, List, ◌++◌, map, take, zip, length}
 use Rattle.std.specs.List.{filter, AllByRecursion}
 use Rattle.fetch_rules.specs.Record.{is_delivered, marked_all}
@@ -16,7 +16,7 @@ abbrev pub Records : Settings → List ℕ → Account → Effect → ℕ → Ac
 Records settings account before effect n after =
     after.rows ≡ marked_all (merged_rows account before effect) (ids_wanted (take n (wanted_at settings account before effect)))
 
--- `retrieved` is k; where which fault allows one less or more is said with the faults
+-- `retrieved` is k; which faults allow one fewer or one more isn't stated here
 pub record Told (settings : Settings) (account : List ℕ) (before : Account) (effect : Effect) (after : Account) : Type 0 where
   pub k : ℕ
   pub j : ℕ
@@ -28,7 +28,7 @@ pub record Told (settings : Settings) (account : List ℕ) (before : Account) (e
   pub begun : AllByRecursion (λ id. is_delivered after.rows id ≡ true) effect.begun
   pub ended : effect.ended ≡ true → k ≡ length (wanted_at settings account before effect)
 
--- a law: a session so told is one that the law over runs takes
+-- a law: a session given by these numbers is one that the law over runs takes
 abbrev pub ToldStores : Type 0
 ToldStores = (settings : Settings) (account : List ℕ) (before : Account) (effect : Effect) (after : Account)
     → Told settings account before effect after → Stores settings account before effect after

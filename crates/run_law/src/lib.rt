@@ -1,4 +1,4 @@
-//! The law over runs of sessions: from a kept state every list of sessions and moves leads to a kept one.
+//! Laws over runs of sessions: every list of sessions and moves leads from a kept state to a kept one.
 #![tactic(auto)]
 
 ghost use Rattle.run_law.specs.Runs.{CanEnd, KeptHoldsWhatIsLeft, KeptStaysKept, MovesLeaveMail, NothingTakenHoldsExactly, StartsKept, TakenStaysAway, WantsNext};
@@ -11,7 +11,7 @@ ghost use Rattle.run_law.specs.Sessions.{LinksAreVisits, LinksKeep};
 ghost use Rattle.run_law.specs.Told.{ToldStores};
 ghost use Rattle.run_law.specs.MboxRuns.{MboxCanEnd, MboxKeptStaysKept, MboxKeptHolds, MboxStartsKept};
 ghost use Rattle.run_law.specs.MboxSafety.{MboxSessionsAreSafe};
-ghost use Rattle.run_law.specs.MboxSessions.{MboxLinksKeep};
+ghost use Rattle.run_law.specs.MboxSessions.{MboxLinksAreVisits, MboxLinksKeep};
 ghost use Rattle.run_law.specs.MboxTold.{MboxToldStores};
 
 use fetch_rules::{
@@ -20,19 +20,20 @@ use fetch_rules::{
 };
 use mail_store::{
     entries_add_texts, flags_tell_what_is_held, fronts_of_entries_are_settled, marks_keep_the_base,
-    names_are_bases, names_differ,
+    names_are_bases, names_have_stems, stems_differ,
 };
 use pop3_wire::{
     only_one_body, only_one_line, only_one_list_of_commands, only_one_list_of_lines,
     only_one_reading,
 };
 
-/// From a kept state every list of sessions, with whatever readers, other programs and the server do between them, leads to
-/// a kept state, and each session keeps its promises.
+/// Every list of sessions, with whatever readers, other programs and the server do between them,
+/// leads from a kept state to a kept state, and each session keeps its promises.
 pub fn kept_states()
     ensures { KeptStaysKept }
 {
-    names_differ();
+    stems_differ();
+    names_have_stems();
     names_are_bases();
     marks_keep_the_base();
     distinct_messages_are_filtered();
@@ -41,21 +42,24 @@ pub fn kept_states()
     marked_is_delivered();
 }
 
-/// A kept state holds exactly the first of the selected messages, each once, but for those that were taken away.
+/// A kept state holds exactly the first of the selected messages, each once, except for those
+/// that were taken away.
 pub fn holds_what_is_left()
     ensures { KeptHoldsWhatIsLeft }
 {}
 
-/// Where nothing was taken away it holds exactly the first of the selected messages, each once.
+/// If nothing was taken away, it holds exactly the first of the selected messages, each once.
 pub fn holds_exactly()
     ensures { NothingTakenHoldsExactly }
 {}
 
-/// Where each session reads only what is new, what is recorded as delivered and isn't held is never stored again.
+/// If each session reads only what is new, a message that is recorded as delivered and isn't held
+/// is never stored again.
 pub fn taken_stays_away()
     ensures { TakenStaysAway }
 {
-    names_differ();
+    stems_differ();
+    names_have_stems();
     names_are_bases();
     marks_keep_the_base();
     distinct_messages_are_filtered();
@@ -71,12 +75,12 @@ pub fn moves_leave_mail()
     marks_keep_the_base();
 }
 
-/// An account with an empty record and no file of its own is kept while nothing is gone.
+/// An account with an empty record and no file of its own is kept, if nothing is gone from the server.
 pub fn starts_kept()
     ensures { StartsKept }
 {}
 
-/// Of an honest conversation each whole and positive reply is what the command asks of the maildrop.
+/// In an honest conversation each whole and positive reply is what the command asks of the maildrop.
 pub fn honest_is_granted()
     ensures { HonestIsGranted }
 {
@@ -85,7 +89,7 @@ pub fn honest_is_granted()
     only_one_list_of_commands();
 }
 
-/// Of granted replies the text of each RETR is its message's.
+/// If replies are granted, the text of each RETR is its message's.
 pub fn texts_are_messages()
     ensures { TextsAreMessages }
 {
@@ -93,7 +97,7 @@ pub fn texts_are_messages()
     only_one_body();
 }
 
-/// Of granted replies a joined listing is the maildrop's.
+/// If replies are granted, a joined listing is the maildrop's.
 pub fn listing_is_maildrop()
     ensures { ListingIsMaildrop }
 {
@@ -101,12 +105,12 @@ pub fn listing_is_maildrop()
     only_one_list_of_lines();
 }
 
-/// What is marked at the end of an honest conversation was asked for by DELE.
+/// A message that is marked at the end of an honest conversation was asked for by DELE.
 pub fn marks_are_asked()
     ensures { MarksAreAsked }
 {}
 
-/// Over honest links, from a kept state, every list of sessions and moves leads through kept states.
+/// Over honest links every list of sessions and moves leads from a kept state through kept states.
 pub fn links_keep()
     ensures { LinksKeep }
 {
@@ -124,8 +128,9 @@ pub fn links_are_visits()
     listing_is_maildrop();
 }
 
-/// Over an honest server, whatever its maildrop, a session leaves the account as it was, or its joined listing is the
-/// maildrop's, and each file that it brings is a message's of it, with the message's text.
+/// If its server is honest, whatever its maildrop, a session leaves the account as it was; or its
+/// joined listing is the maildrop's, and each file that it adds is that of one of the maildrop's
+/// messages, with the message's text.
 pub fn honest_sessions_bring_messages()
     ensures { HonestSession }
 {
@@ -135,14 +140,15 @@ pub fn honest_sessions_bring_messages()
     listing_is_maildrop();
 }
 
-/// In every situation a session can end.
+/// In every situation there is a session that ends.
 pub fn can_end()
     ensures { CanEnd }
 {
     distinct_messages_are_filtered();
 }
 
-/// In a kept state, where what was taken away was recorded, what is wanted is the next of the selected messages that have come.
+/// In a kept state, if what was taken away was recorded and delivered messages aren't read again,
+/// the wanted messages are the next of the selected messages that have come.
 pub fn wants_next()
     ensures { WantsNext }
 {
@@ -157,7 +163,7 @@ pub fn plan_gives_numbers()
     ensures { PlanGivesNumbers }
 {}
 
-/// From a kept account, over honest links, a list of sessions leaves a kept account.
+/// Over honest links a list of sessions leads from a kept account to a kept account.
 pub fn chains_keep()
     ensures { ChainsKeep }
 {
@@ -165,7 +171,7 @@ pub fn chains_keep()
     links_are_visits();
 }
 
-/// A session told with its numbers is one that the law over runs takes.
+/// A session given by its numbers is one that the law over runs takes.
 pub fn told_stores()
     ensures { ToldStores }
 {}
@@ -180,8 +186,8 @@ pub fn sessions_are_safe()
     marked_is_delivered();
 }
 
-/// With an mboxrd: from a kept state every list of sessions that read only what is new, with whatever expires on the server between them, leads to a kept state, and each
-/// session keeps its promises.
+/// With an mboxrd: every list of sessions that read only what is new, with whatever expires on the
+/// server between them, leads from a kept state to a kept state, and each session keeps its promises.
 pub fn mbox_states_are_kept()
     ensures { MboxKeptStaysKept }
 {
@@ -193,51 +199,62 @@ pub fn mbox_states_are_kept()
     marked_keeps_rows();
 }
 
-/// With an mboxrd: a kept state's file is the first one, followed by the entries of the first of the selected messages
-/// that weren't recorded before, each once, and by a front of the next entry at most.
+/// With an mboxrd: a kept state's file is the one before the first session, followed by the
+/// entries of the first of the selected messages that weren't recorded before, each once, and by
+/// at most a prefix of the next entry.
 pub fn mbox_holds_exactly()
     ensures { MboxKeptHolds }
 {
     entries_add_texts();
 }
 
-/// With an mboxrd: an account with no open intent, whose record has just a prefix of the selected messages as delivered, is kept,
-/// whatever its file holds. So is one with an empty record, and one whose record an earlier version left.
+/// With an mboxrd: an account without an open intent that records exactly a prefix of the
+/// selected messages as delivered is kept, whatever its file holds. So is one with an empty
+/// record, and one whose record an earlier version left.
 pub fn mbox_starts_kept()
     ensures { MboxStartsKept }
 {}
 
-/// With an mboxrd: over honest links, from a kept state, every list of sessions that read only what is new leads through
-/// kept states, and a session that asks for a message has first cut away what was left of an entry, or counted it.
+/// With an mboxrd: over honest links every list of sessions that read only what is new leads from
+/// a kept state through kept states, and a session that asks for a message has first cut off what
+/// was left of an entry, or counted it.
 pub fn mbox_links_keep()
     ensures { MboxLinksKeep }
 {
     mbox_states_are_kept();
+    mbox_links_are_visits();
     fronts_of_entries_are_settled();
-    only_one_list_of_commands();
-    honest_is_granted();
-    texts_are_messages();
-    listing_is_maildrop();
     held_is_delivered();
     listed_has_row();
     marked_is_delivered();
     marked_keeps_rows();
 }
 
-/// With an mboxrd: a session told with its numbers is one that the law over runs takes.
+/// With an mboxrd: a session over an honest link is a visit of the law over runs.
+pub fn mbox_links_are_visits()
+    ensures { MboxLinksAreVisits }
+{
+    only_one_list_of_commands();
+    honest_is_granted();
+    texts_are_messages();
+    listing_is_maildrop();
+}
+
+/// With an mboxrd: a session given by its numbers is one that the law over runs takes.
 pub fn mbox_told_stores()
     ensures { MboxToldStores }
 {}
 
-/// With an mboxrd: in every situation a session can end.
+/// With an mboxrd: in every situation there is a session that ends.
 pub fn mbox_can_end()
     ensures { MboxCanEnd }
 {
     distinct_messages_are_filtered();
 }
 
-/// With an mboxrd: whatever its server says, a session keeps what the file holds, but for the rest of an entry that an intent
-/// had begun, and sends a DELE only for a message that was recorded as delivered, or whose entry it appended.
+/// With an mboxrd: whatever its server says, a session keeps what the file holds, except for the
+/// rest of an entry that an intent had begun, and sends a DELE only for a message that was
+/// recorded as delivered, or whose entry it appended.
 pub fn mbox_sessions_are_safe()
     ensures { MboxSessionsAreSafe }
 {

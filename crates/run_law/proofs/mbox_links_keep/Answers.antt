@@ -1,19 +1,10 @@
 use Rattle.run_law.proofs.MboxLinked as laws
-use Rattle.run_law.proofs.Linked.{Readings}
 use Rattle.run_law.proofs.Below.{RowLaws}
 use Rattle.run_law.proofs.mbox_links_keep.Goals as goal
 
 pub returns : goal.returns
-returns c = laws.mbox_links_keep c.mbox_states_are_kept.ensures readings c.fronts_of_entries_are_settled.ensures rows
+returns c = laws.mbox_links_keep c.mbox_states_are_kept.ensures c.mbox_links_are_visits.ensures c.fronts_of_entries_are_settled.ensures rows
   where
-    readings : Readings
-    readings = record {
-      commands = c.only_one_list_of_commands.ensures;
-      granted = c.honest_is_granted.ensures;
-      texts = c.texts_are_messages.ensures;
-      listing = c.listing_is_maildrop.ensures;
-    }
-
     rows : RowLaws
     rows = record {
       held = c.held_is_delivered.ensures;

@@ -7,7 +7,8 @@ returns c = laws.taken_stays_away below
   where
     below : Below
     below = record {
-      differ = c.names_differ.ensures;
+      differ = c.stems_differ.ensures;
+      stems = c.names_have_stems.ensures;
       bases = c.names_are_bases.ensures;
       marks = record { kept = c.marks_keep_the_base.ensures.kept; own = c.marks_keep_the_base.ensures.own };
       filtered = c.distinct_messages_are_filtered.ensures;

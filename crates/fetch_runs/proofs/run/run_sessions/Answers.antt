@@ -5,10 +5,12 @@ use Rattle.rc_file.specs.Settings.{IsValid}
 use Rattle.rc_file.specs.declared.settings.Settings.{Settings}
 use Rattle.fetch_session.specs.Account.{digits_of}
 use Rattle.fetch_session.specs.declared.report.Report.{Report}
-use Rattle.fetch_session.specs.Session.{kept, Session}
-use Rattle.fetch_runs.specs.Runs.{world_of, state_of}
+use Rattle.fetch_session.specs.Session.{kept, mbox_kept, MboxSession, Session}
+use Rattle.fetch_session.specs.Target.{IsSoundMaildir, IsSoundMbox, maildir_of, mbox_of}
+use Rattle.fetch_runs.specs.MboxRuns.{WasMadeInMbox, mbox_state}
+use Rattle.fetch_runs.specs.Runs.{WasMade, world_of, state_of}
 use Rattle.fetch_runs.specs.declared.run.Visit.{Visit}
-use Rattle.fetch_runs.proofs.RunLemmas.{Ran, ran_next, others_stay, ran_all, runs_promised}
+use Rattle.fetch_runs.proofs.RunLemmas.{Ran, ran_next, others_stay, ran_all, runs_promised, mbox_runs_promised}
 use Rattle.fetch_runs.proofs.run.run_sessions.Goals as goal
 
 pub loop-i-preserved : goal.loop-i-preserved
@@ -17,33 +19,49 @@ loop-i-preserved g c =
     let i = c.loop-i.i in
     let old : Visit (g.row.W).Denot = get_or c.loop-i.visits i c.index-visits-i.result in
     let new : Visit (g.row.W).Denot = record { wire = c.session-report.new.wire; now = old.now } in
-    let before = kept (g.D.MaildirDisk.maildir c.loop-i.account.disk) (g.F.FlatFile.stored c.loop-i.account.file) in
-    let after = kept (g.D.MaildirDisk.maildir c.session-report.new.account.disk) (g.F.FlatFile.stored c.session-report.new.account.file) in
+    let before = kept (maildir_of g.D.MaildirDisk c.loop-i.account.store) (g.F.FlatFile.stored c.loop-i.account.file) in
+    let after = kept (maildir_of g.D.MaildirDisk c.session-report.new.account.store) (g.F.FlatFile.stored c.session-report.new.account.file) in
     let pushed : c.push.new.self.items ≡ c.loop-i.reports.items ++ c.session-report.result ∷ [] =
     c.push.ensures.items ∙ ap (λ r. if is_ok r then c.loop-i.reports.items ++ c.session-report.result ∷ [] else c.loop-i.reports.items) c.unwrap.ensures in
     let inside : i < length c.args.visits.now = omega (arith, c.loop-i-test.true) in
     let same_length : length c.loop-i.visits ≡ length c.args.visits.now = inv.3 in
     let within : i < length c.loop-i.visits = omega (arith, inside, same_length) in
     let here : get_or c.args.visits.now i old ≡ old = sym (inv.4 i old (omega arith)) ∙ ap (λ (d : Visit (g.row.W).Denot). get_or c.loop-i.visits i d) (sym c.index-visits-i.is) in
-    let start = kept (g.D.MaildirDisk.maildir c.args.account.now.disk) (g.F.FlatFile.stored c.args.account.now.file) in
-    let ran = ran_next g.W.Wire.sound g.W.Wire.seen c.args.account.now.settings c.args.visits.now c.loop-i.visits i start
-    (g.D.MaildirDisk.sound c.args.account.now.disk × g.F.FlatFile.sound c.args.account.now.file) c.loop-i.reports.items before
-    (g.D.MaildirDisk.sound c.loop-i.account.disk × g.F.FlatFile.sound c.loop-i.account.file) old new c.session-report.result after
-    (g.D.MaildirDisk.sound c.session-report.new.account.disk × g.F.FlatFile.sound c.session-report.new.account.file) inv.5 inside within here refl
+    let start = kept (maildir_of g.D.MaildirDisk c.args.account.now.store) (g.F.FlatFile.stored c.args.account.now.file) in
+    let ran = ran_next g.W.Wire.sound (WasMade g.W.Wire.seen c.args.account.now.settings (digits_of c.args.account.now.settings)) c.args.visits.now c.loop-i.visits i start
+    (IsSoundMaildir g.D.MaildirDisk c.args.account.now.store × g.F.FlatFile.sound c.args.account.now.file) c.loop-i.reports.items before
+    (IsSoundMaildir g.D.MaildirDisk c.loop-i.account.store × g.F.FlatFile.sound c.loop-i.account.file) old new c.session-report.result after
+    (IsSoundMaildir g.D.MaildirDisk c.session-report.new.account.store × g.F.FlatFile.sound c.session-report.new.account.file) inv.5 inside within here
     (λ sound held.
     let met = c.session-report.ensures.session sound held.0 held.1 in (
       met.0,
       (met.1, met.2),
-      subst (λ (s : Settings). Session s (digits_of s) old.now (g.W.Wire.seen old.wire) before c.session-report.result (g.W.Wire.seen c.session-report.new.wire) after) inv.0 met.4,
+      (subst (λ (s : Settings). Session s (digits_of s) old.now (g.W.Wire.seen old.wire) before c.session-report.result (g.W.Wire.seen c.session-report.new.wire) after) inv.0 met.4, refl),
+    )) in
+    let mbox_start = mbox_kept (mbox_of g.F.FlatFile c.args.account.now.store) (g.F.FlatFile.stored c.args.account.now.file) in
+    let mbox_before = mbox_kept (mbox_of g.F.FlatFile c.loop-i.account.store) (g.F.FlatFile.stored c.loop-i.account.file) in
+    let mbox_after = mbox_kept (mbox_of g.F.FlatFile c.session-report.new.account.store) (g.F.FlatFile.stored c.session-report.new.account.file) in
+    let ran_mbox = ran_next g.W.Wire.sound (WasMadeInMbox g.W.Wire.seen c.args.account.now.settings) c.args.visits.now c.loop-i.visits i mbox_start
+    (IsSoundMbox g.F.FlatFile c.args.account.now.store × g.F.FlatFile.sound c.args.account.now.file) c.loop-i.reports.items mbox_before
+    (IsSoundMbox g.F.FlatFile c.loop-i.account.store × g.F.FlatFile.sound c.loop-i.account.file) old new c.session-report.result mbox_after
+    (IsSoundMbox g.F.FlatFile c.session-report.new.account.store × g.F.FlatFile.sound c.session-report.new.account.file) inv.6 inside within here
+    (λ sound held.
+    let met = c.session-report.ensures.mbox_session sound held.0 held.1 in (
+      met.0,
+      (met.1, met.2),
+      (subst (λ (s : Settings). MboxSession s old.now (g.W.Wire.seen old.wire) mbox_before c.session-report.result (g.W.Wire.seen c.session-report.new.wire) mbox_after) inv.0 met.4, refl),
     )) in (
       c.session-report.ensures.settings ∙ inv.0,
       ap (λ (l : List Report). length l) pushed ∙ length-append c.loop-i.reports.items (c.session-report.result ∷ []) ∙ ap (λ (k : ℕ). k + 1) inv.1,
       omega (arith, inv.2, c.push.ensures.capacity),
       length-set c.loop-i.visits i new ∙ inv.3,
       others_stay c.loop-i.visits c.args.visits.now i new inv.4,
-      subst (λ (rs : List Report). Ran g.W.Wire.sound g.W.Wire.seen c.args.account.now.settings (take (i + 1) c.args.visits.now) start
-          (g.D.MaildirDisk.sound c.args.account.now.disk × g.F.FlatFile.sound c.args.account.now.file) rs (take (i + 1) (set c.loop-i.visits i new)) after
-          (g.D.MaildirDisk.sound c.session-report.new.account.disk × g.F.FlatFile.sound c.session-report.new.account.file)) (sym pushed) ran,
+      subst (λ (rs : List Report). Ran g.W.Wire.sound (WasMade g.W.Wire.seen c.args.account.now.settings (digits_of c.args.account.now.settings)) (take (i + 1) c.args.visits.now) start
+          (IsSoundMaildir g.D.MaildirDisk c.args.account.now.store × g.F.FlatFile.sound c.args.account.now.file) rs (take (i + 1) (set c.loop-i.visits i new)) after
+          (IsSoundMaildir g.D.MaildirDisk c.session-report.new.account.store × g.F.FlatFile.sound c.session-report.new.account.file)) (sym pushed) ran,
+      subst (λ (rs : List Report). Ran g.W.Wire.sound (WasMadeInMbox g.W.Wire.seen c.args.account.now.settings) (take (i + 1) c.args.visits.now) mbox_start
+          (IsSoundMbox g.F.FlatFile c.args.account.now.store × g.F.FlatFile.sound c.args.account.now.file) rs (take (i + 1) (set c.loop-i.visits i new)) mbox_after
+          (IsSoundMbox g.F.FlatFile c.session-report.new.account.store × g.F.FlatFile.sound c.session-report.new.account.file)) (sym pushed) ran_mbox,
     )
 
 pub returns-clause-promised : goal.returns-clause-promised
@@ -52,10 +70,38 @@ returns-clause-promised g c = λ sound disk file all gone taken facts mail is_ke
     let done : length c.args.visits.now ≤ c.loop-i.i = omega (arith, c.loop-i-test.false) in
     let same_length : length c.loop-i.visits ≡ length c.args.visits.now = inv.3 in
     let behind : length c.loop-i.visits ≤ c.loop-i.i = omega (arith, done, same_length) in
-    let start = kept (g.D.MaildirDisk.maildir c.args.account.now.disk) (g.F.FlatFile.stored c.args.account.now.file) in
-    let last = kept (g.D.MaildirDisk.maildir c.loop-i.account.disk) (g.F.FlatFile.stored c.loop-i.account.file) in
-    let ran = ran_all g.W.Wire.sound g.W.Wire.seen c.args.account.now.settings c.args.visits.now c.loop-i.visits c.loop-i.i start
-    (g.D.MaildirDisk.sound c.args.account.now.disk × g.F.FlatFile.sound c.args.account.now.file) c.loop-i.reports.items last
-    (g.D.MaildirDisk.sound c.loop-i.account.disk × g.F.FlatFile.sound c.loop-i.account.file) inv.5 done behind in
+    let start = kept (maildir_of g.D.MaildirDisk c.args.account.now.store) (g.F.FlatFile.stored c.args.account.now.file) in
+    let last = kept (maildir_of g.D.MaildirDisk c.loop-i.account.store) (g.F.FlatFile.stored c.loop-i.account.file) in
+    let ran = ran_all g.W.Wire.sound (WasMade g.W.Wire.seen c.args.account.now.settings (digits_of c.args.account.now.settings)) c.args.visits.now c.loop-i.visits c.loop-i.i start
+    (IsSoundMaildir g.D.MaildirDisk c.args.account.now.store × g.F.FlatFile.sound c.args.account.now.file) c.loop-i.reports.items last
+    (IsSoundMaildir g.D.MaildirDisk c.loop-i.account.store × g.F.FlatFile.sound c.loop-i.account.file) inv.5 done behind in
     runs_promised c.headline.ensures g.W.Wire.seen c.args.account.now.settings (world_of c.args.account.now.settings all) c.args.visits.now (state_of start gone taken) c.loop-i.reports.items c.loop-i.visits facts last
     mail (record { valid = subst IsValid c.settings.ensures.value c.settings.ensures.valid; server = refl; port = refl; username = refl; max_size = refl }) is_kept served (ran.made sound (disk, file)).2
+
+pub returns-clause-mbox_runs : goal.returns-clause-mbox_runs
+returns-clause-mbox_runs g c = λ sound disk file.
+    let inv = c.loop-i.invariant in
+    let done : length c.args.visits.now ≤ c.loop-i.i = omega (arith, c.loop-i-test.false) in
+    let same_length : length c.loop-i.visits ≡ length c.args.visits.now = inv.3 in
+    let behind : length c.loop-i.visits ≤ c.loop-i.i = omega (arith, done, same_length) in
+    let start = mbox_kept (mbox_of g.F.FlatFile c.args.account.now.store) (g.F.FlatFile.stored c.args.account.now.file) in
+    let last = mbox_kept (mbox_of g.F.FlatFile c.loop-i.account.store) (g.F.FlatFile.stored c.loop-i.account.file) in
+    let ran = ran_all g.W.Wire.sound (WasMadeInMbox g.W.Wire.seen c.args.account.now.settings) c.args.visits.now c.loop-i.visits c.loop-i.i start
+    (IsSoundMbox g.F.FlatFile c.args.account.now.store × g.F.FlatFile.sound c.args.account.now.file) c.loop-i.reports.items last
+    (IsSoundMbox g.F.FlatFile c.loop-i.account.store × g.F.FlatFile.sound c.loop-i.account.file) inv.6 done behind in
+    let made = ran.made sound (disk, file) in
+    (made.0, made.1.0, made.1.1, made.2)
+
+pub returns-clause-mbox_promised : goal.returns-clause-mbox_promised
+returns-clause-mbox_promised g c = λ sound disk file frame gone facts mail are is_kept served.
+    let inv = c.loop-i.invariant in
+    let done : length c.args.visits.now ≤ c.loop-i.i = omega (arith, c.loop-i-test.false) in
+    let same_length : length c.loop-i.visits ≡ length c.args.visits.now = inv.3 in
+    let behind : length c.loop-i.visits ≤ c.loop-i.i = omega (arith, done, same_length) in
+    let start = mbox_kept (mbox_of g.F.FlatFile c.args.account.now.store) (g.F.FlatFile.stored c.args.account.now.file) in
+    let last = mbox_kept (mbox_of g.F.FlatFile c.loop-i.account.store) (g.F.FlatFile.stored c.loop-i.account.file) in
+    let ran = ran_all g.W.Wire.sound (WasMadeInMbox g.W.Wire.seen c.args.account.now.settings) c.args.visits.now c.loop-i.visits c.loop-i.i start
+    (IsSoundMbox g.F.FlatFile c.args.account.now.store × g.F.FlatFile.sound c.args.account.now.file) c.loop-i.reports.items last
+    (IsSoundMbox g.F.FlatFile c.loop-i.account.store × g.F.FlatFile.sound c.loop-i.account.file) inv.6 done behind in
+    mbox_runs_promised c.mbox_headline.ensures g.W.Wire.seen c.args.account.now.settings frame c.args.visits.now (mbox_state start gone) c.loop-i.reports.items c.loop-i.visits facts last
+    mail are is_kept served (ran.made sound (disk, file)).2

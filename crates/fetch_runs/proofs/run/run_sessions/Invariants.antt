@@ -1,6 +1,10 @@
 use Rattle.std.proofs.Common.{◌≡◌, ◌≤◌, ℕ, take, get_or, length}
 use Rattle.std.specs.Vec.{vec_capacity}
-use Rattle.fetch_session.specs.Session.{kept}
+use Rattle.fetch_session.specs.Account.{digits_of}
+use Rattle.fetch_session.specs.Session.{kept, mbox_kept}
+use Rattle.fetch_session.specs.Target.{IsSoundMaildir, IsSoundMbox, maildir_of, mbox_of}
+use Rattle.fetch_runs.specs.MboxRuns.{WasMadeInMbox}
+use Rattle.fetch_runs.specs.Runs.{WasMade}
 use Rattle.fetch_runs.specs.declared.run.Visit.{Visit}
 use Rattle.fetch_runs.proofs.RunLemmas.{Ran}
 use Rattle.fetch_runs.proofs.run.run_sessions.Given as goal
@@ -11,7 +15,11 @@ invariant-loop-i g l = (l.account.settings ≡ l.fn.account.settings)
     × (length l.fn.visits ≤ vec_capacity l.reports)
     × (length l.visits ≡ length l.fn.visits)
     × ((k : ℕ) (d : Visit (g.row.W).Denot) → l.i ≤ k → get_or l.visits k d ≡ get_or l.fn.visits k d)
-    × Ran g.W.Wire.sound g.W.Wire.seen l.fn.account.settings (take l.i l.fn.visits)
-    (kept (g.D.MaildirDisk.maildir l.fn.account.disk) (g.F.FlatFile.stored l.fn.account.file)) (g.D.MaildirDisk.sound l.fn.account.disk × g.F.FlatFile.sound l.fn.account.file)
+    × Ran g.W.Wire.sound (WasMade g.W.Wire.seen l.fn.account.settings (digits_of l.fn.account.settings)) (take l.i l.fn.visits)
+    (kept (maildir_of g.D.MaildirDisk l.fn.account.store) (g.F.FlatFile.stored l.fn.account.file)) (IsSoundMaildir g.D.MaildirDisk l.fn.account.store × g.F.FlatFile.sound l.fn.account.file)
     l.reports.items (take l.i l.visits)
-    (kept (g.D.MaildirDisk.maildir l.account.disk) (g.F.FlatFile.stored l.account.file)) (g.D.MaildirDisk.sound l.account.disk × g.F.FlatFile.sound l.account.file)
+    (kept (maildir_of g.D.MaildirDisk l.account.store) (g.F.FlatFile.stored l.account.file)) (IsSoundMaildir g.D.MaildirDisk l.account.store × g.F.FlatFile.sound l.account.file)
+    × Ran g.W.Wire.sound (WasMadeInMbox g.W.Wire.seen l.fn.account.settings) (take l.i l.fn.visits)
+    (mbox_kept (mbox_of g.F.FlatFile l.fn.account.store) (g.F.FlatFile.stored l.fn.account.file)) (IsSoundMbox g.F.FlatFile l.fn.account.store × g.F.FlatFile.sound l.fn.account.file)
+    l.reports.items (take l.i l.visits)
+    (mbox_kept (mbox_of g.F.FlatFile l.account.store) (g.F.FlatFile.stored l.account.file)) (IsSoundMbox g.F.FlatFile l.account.store × g.F.FlatFile.sound l.account.file)

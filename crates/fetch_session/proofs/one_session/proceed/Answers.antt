@@ -1,7 +1,8 @@
 use Rattle.std.proofs.Common.{◌+◌, ◌*◌, length, Ok, Err, arith, ◌∙◌, inl}
 use Rattle.pop3_client.specs.Client.{place_of}
 use Rattle.fetch_session.specs.declared.fault.Fault.TheVariants.{NoMemory}
-use Rattle.fetch_session.specs.Session.{noted, kept}
+use Rattle.fetch_session.specs.Session.{keeping, noted}
+use Rattle.fetch_session.specs.Target.{stores_of, target_of}
 use Rattle.fetch_session.proofs.SessionLemmas.{dealt}
 use Rattle.fetch_session.proofs.IntakeLemmas.{takes_plain, took_entering, with_any_tail, with_tail_on, with_tail_less}
 use Rattle.fetch_session.proofs.RefusalLemmas.{cut_by, till_cut}
@@ -16,9 +17,9 @@ returns-clause-proceeds g c = λ w d f.
       does.1,
       does.2,
       g.met.W.Wire.leads_on _ _ _ entered.1 does.3,
-      dealt c.args.terms.settings.now c.args.terms.account.now c.args.terms.now (place_of g.W.Wire c.args.client.now)
-          (kept (g.D.MaildirDisk.maildir c.args.work.now.disk) (g.F.FlatFile.stored c.args.work.now.file)) c.carry_out.result
-          (place_of g.W.Wire new.client) (kept (g.D.MaildirDisk.maildir new.work.disk) (g.F.FlatFile.stored new.work.file)) (noted c.len-counts.result new.skipped new.work.lines.items)
+      dealt c.args.terms.settings.now (target_of c.args.work.now.store c.args.terms.account.now) c.args.terms.now (place_of g.W.Wire c.args.client.now)
+          (keeping (stores_of g.D.MaildirDisk g.F.FlatFile c.args.work.now.store) (g.F.FlatFile.stored c.args.work.now.ledger.file)) c.carry_out.result
+          (place_of g.W.Wire new.client) (keeping (stores_of g.D.MaildirDisk g.F.FlatFile new.work.store) (g.F.FlatFile.stored new.work.ledger.file)) (noted c.len-counts.result new.skipped new.work.ledger.lines.items)
           c.in-Ok.listing (place_of g.W.Wire c.enter.new.client) c.reserve.new.self.items (c.reserve.ensures.items ∙ c.requires.nothing.2) entered.2 c.len-counts.ensures.count does.4,
     )
 

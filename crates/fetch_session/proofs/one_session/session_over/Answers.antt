@@ -1,13 +1,14 @@
-use Rattle.std.proofs.Common.{◌≤◌, ◌+◌, ◌*◌, ℕ, List, length, Err, sym, subst}
+use Rattle.std.proofs.Common.{◌≤◌, ◌+◌, ◌*◌, ℕ, List, length, Err, sym, ap, subst, ◌∙◌}
 use Rattle.pop3_wire.specs.Place.{at}
 use Rattle.pop3_client.specs.Client.{place_of}
 use Rattle.fetch_session.specs.Account.{digits_of}
 use Rattle.fetch_session.specs.declared.report.Outcome.{Outcome}
 use Rattle.fetch_session.specs.Refusal.{RefusesByOutcome}
 use Rattle.fetch_session.specs.Intake.{GotAtMost, session_limit, Took, TookWithTail, opening_limit, step_limit, tail_limit}
-use Rattle.fetch_session.specs.Session.{noted, kept, Session}
+use Rattle.fetch_session.specs.Session.{keeping, noted, SessionIn}
+use Rattle.fetch_session.specs.Target.{is_sound, kind_of, stores_of, target_of}
 use Rattle.fetch_session.proofs.IntakeLemmas.{cut_within, ended_within}
-use Rattle.fetch_session.proofs.SessionLemmas.{cut_session, ended_session}
+use Rattle.fetch_session.proofs.SessionLemmas.{cut_session, ended_session, entries_session, files_session}
 use Rattle.fetch_session.proofs.RefusalLemmas.{left_alone}
 use Rattle.fetch_session.proofs.one_session.session_over.Goals as goal
 
@@ -17,18 +18,18 @@ returns-in-Err-clause-session g c = λ w d f.
     let went = c.in-Err.ensures.proceeds says.0 d f in
     let done = c.proceed.new in
     let inside = c.account.inside in
-    let after = kept (g.D.MaildirDisk.maildir done.work.disk) (g.F.FlatFile.stored done.work.file) in
+    let after = keeping (stores_of g.D.MaildirDisk g.F.FlatFile done.work.store) (g.F.FlatFile.stored done.work.ledger.file) in
     let new = place_of g.W.Wire c.leave.new.client in
-    subst (λ h. g.W.Wire.sound c.args.client.now.wire.now × g.D.MaildirDisk.sound h.disk × g.F.FlatFile.sound h.file × g.W.Wire.leads_to c.args.client.now.wire.now c.leave.new.client.wire.now
-    × Session h.settings (digits_of h.settings) c.args.now (g.W.Wire.seen c.args.client.now.wire.now) (kept (g.D.MaildirDisk.maildir h.disk) (g.F.FlatFile.stored h.file)) c.tell.result new.link after) c.account.view_is (
+    subst (λ h. g.W.Wire.sound c.args.client.now.wire.now × is_sound g.D.MaildirDisk g.F.FlatFile h.store × g.F.FlatFile.sound h.file × g.W.Wire.leads_to c.args.client.now.wire.now c.leave.new.client.wire.now
+    × SessionIn h.settings (target_of h.store (digits_of h.settings)) c.args.now (g.W.Wire.seen c.args.client.now.wire.now) (keeping (stores_of g.D.MaildirDisk g.F.FlatFile h.store) (g.F.FlatFile.stored h.file)) c.tell.result new.link after) c.account.view_is (
       went.0,
       went.1,
       went.2,
       g.met.W.Wire.leads_on _ _ _ went.3 says.1,
-      cut_session inside.settings (digits_of inside.settings) inside.id c.args.now (g.W.Wire.seen c.args.client.now.wire.now) c.args.client.now.reader
-          (kept (g.D.MaildirDisk.maildir inside.work.disk) (g.F.FlatFile.stored inside.work.file)) c.in-Err.cut
-          (place_of g.W.Wire done.client) new after (noted done.counts.total done.counts.skipped done.work.lines.items) c.tell.result
-          c.account.invariant.1 c.requires went.4 says.2 (rw c.replace-lines.ensures.value at c.tell.ensures),
+      cut_session inside.settings (target_of inside.work.store (digits_of inside.settings)) (target_of inside.work.store inside.id) c.args.now (g.W.Wire.seen c.args.client.now.wire.now) c.args.client.now.reader
+          (keeping (stores_of g.D.MaildirDisk g.F.FlatFile inside.work.store) (g.F.FlatFile.stored inside.work.ledger.file)) c.in-Err.cut
+          (place_of g.W.Wire done.client) new after (noted done.counts.total done.counts.skipped done.work.ledger.lines.items) c.tell.result
+          (ap (λ (digits : List ℕ). target_of inside.work.store digits) c.account.invariant.1) c.requires went.4 says.2 (rw c.replace-lines.ensures.value at c.tell.ensures),
     )
 
 pub returns-clause-session : goal.returns-clause-session
@@ -36,17 +37,17 @@ returns-clause-session g c = λ w d f.
     let went = c.in_default.ensures.proceeds w d f in
     let done = c.proceed.new in
     let inside = c.account.inside in
-    let after = kept (g.D.MaildirDisk.maildir done.work.disk) (g.F.FlatFile.stored done.work.file) in
+    let after = keeping (stores_of g.D.MaildirDisk g.F.FlatFile done.work.store) (g.F.FlatFile.stored done.work.ledger.file) in
     let mid = place_of g.W.Wire done.client in
-    subst (λ h. g.W.Wire.sound c.args.client.now.wire.now × g.D.MaildirDisk.sound h.disk × g.F.FlatFile.sound h.file × g.W.Wire.leads_to c.args.client.now.wire.now done.client.wire.now
-    × Session h.settings (digits_of h.settings) c.args.now (g.W.Wire.seen c.args.client.now.wire.now) (kept (g.D.MaildirDisk.maildir h.disk) (g.F.FlatFile.stored h.file)) c.tell-2.result mid.link after) c.account.view_is (
+    subst (λ h. g.W.Wire.sound c.args.client.now.wire.now × is_sound g.D.MaildirDisk g.F.FlatFile h.store × g.F.FlatFile.sound h.file × g.W.Wire.leads_to c.args.client.now.wire.now done.client.wire.now
+    × SessionIn h.settings (target_of h.store (digits_of h.settings)) c.args.now (g.W.Wire.seen c.args.client.now.wire.now) (keeping (stores_of g.D.MaildirDisk g.F.FlatFile h.store) (g.F.FlatFile.stored h.file)) c.tell-2.result mid.link after) c.account.view_is (
       went.0,
       went.1,
       went.2,
       went.3,
-      ended_session inside.settings (digits_of inside.settings) inside.id c.args.now (g.W.Wire.seen c.args.client.now.wire.now) c.args.client.now.reader
-          (kept (g.D.MaildirDisk.maildir inside.work.disk) (g.F.FlatFile.stored inside.work.file)) mid after (noted done.counts.total done.counts.skipped done.work.lines.items) c.tell-2.result
-          c.account.invariant.1 c.requires went.4 (rw c.replace-lines-2.ensures.value at c.tell-2.ensures),
+      ended_session inside.settings (target_of inside.work.store (digits_of inside.settings)) (target_of inside.work.store inside.id) c.args.now (g.W.Wire.seen c.args.client.now.wire.now) c.args.client.now.reader
+          (keeping (stores_of g.D.MaildirDisk g.F.FlatFile inside.work.store) (g.F.FlatFile.stored inside.work.ledger.file)) mid after (noted done.counts.total done.counts.skipped done.work.ledger.lines.items) c.tell-2.result
+          (ap (λ (digits : List ℕ). target_of inside.work.store digits) c.account.invariant.1) c.requires went.4 (rw c.replace-lines-2.ensures.value at c.tell-2.ensures),
     )
 
 pub returns-in-Err-clause-bounded : goal.returns-in-Err-clause-bounded
@@ -80,3 +81,41 @@ returns-in-Err-clause-counted g c =
 
 pub returns-clause-counted : goal.returns-clause-counted
 returns-clause-counted g c = subst (λ (o : Outcome). RefusesByOutcome (g.W.Wire.seen c.args.client.now.wire.now) o (g.W.Wire.seen c.proceed.new.client.wire.now)) (sym c.tell-2.ensures.outcome_is) c.in_default.ensures.counted
+
+pub returns-in-Err-clause-kind : goal.returns-in-Err-clause-kind
+returns-in-Err-clause-kind g c = c.proceed.ensures.kind ∙ ap (λ h. kind_of h.store) c.account.view_is
+
+pub returns-clause-kind : goal.returns-clause-kind
+returns-clause-kind g c = c.proceed.ensures.kind ∙ ap (λ h. kind_of h.store) c.account.view_is
+
+pub returns-in-Err-clause-files : goal.returns-in-Err-clause-files
+returns-in-Err-clause-files g c = λ w d f.
+    let old = c.args.account.now in
+    let new = c.proceed.new.work in
+    files_session g.D.MaildirDisk g.F.FlatFile old.store new.store (digits_of old.settings)
+    (λ t s s'. SessionIn old.settings t c.args.now (g.W.Wire.seen c.args.client.now.wire.now) (keeping s (g.F.FlatFile.stored old.file)) c.tell.result (g.W.Wire.seen c.leave.new.client.wire.now) (keeping s' (g.F.FlatFile.stored new.ledger.file)))
+    _ _ _ (returns-in-Err-clause-kind g c) (λ sound. returns-in-Err-clause-session g c w sound f) d
+
+pub returns-in-Err-clause-entries : goal.returns-in-Err-clause-entries
+returns-in-Err-clause-entries g c = λ w d f.
+    let old = c.args.account.now in
+    let new = c.proceed.new.work in
+    entries_session g.D.MaildirDisk g.F.FlatFile old.store new.store (digits_of old.settings)
+    (λ t s s'. SessionIn old.settings t c.args.now (g.W.Wire.seen c.args.client.now.wire.now) (keeping s (g.F.FlatFile.stored old.file)) c.tell.result (g.W.Wire.seen c.leave.new.client.wire.now) (keeping s' (g.F.FlatFile.stored new.ledger.file)))
+    _ _ _ (returns-in-Err-clause-kind g c) (λ sound. returns-in-Err-clause-session g c w sound f) d
+
+pub returns-clause-files : goal.returns-clause-files
+returns-clause-files g c = λ w d f.
+    let old = c.args.account.now in
+    let new = c.proceed.new.work in
+    files_session g.D.MaildirDisk g.F.FlatFile old.store new.store (digits_of old.settings)
+    (λ t s s'. SessionIn old.settings t c.args.now (g.W.Wire.seen c.args.client.now.wire.now) (keeping s (g.F.FlatFile.stored old.file)) c.tell-2.result (g.W.Wire.seen c.proceed.new.client.wire.now) (keeping s' (g.F.FlatFile.stored new.ledger.file)))
+    _ _ _ (returns-clause-kind g c) (λ sound. returns-clause-session g c w sound f) d
+
+pub returns-clause-entries : goal.returns-clause-entries
+returns-clause-entries g c = λ w d f.
+    let old = c.args.account.now in
+    let new = c.proceed.new.work in
+    entries_session g.D.MaildirDisk g.F.FlatFile old.store new.store (digits_of old.settings)
+    (λ t s s'. SessionIn old.settings t c.args.now (g.W.Wire.seen c.args.client.now.wire.now) (keeping s (g.F.FlatFile.stored old.file)) c.tell-2.result (g.W.Wire.seen c.proceed.new.client.wire.now) (keeping s' (g.F.FlatFile.stored new.ledger.file)))
+    _ _ _ (returns-clause-kind g c) (λ sound. returns-clause-session g c w sound f) d

@@ -3,10 +3,11 @@ use Rattle.pop3_client.specs.Client.{place_of}
 use Rattle.fetch_rules.specs.Plan.{planned}
 use Rattle.fetch_rules.specs.declared.steps.Step.{Step}
 use Rattle.mail_store.specs.Held.{flags_of}
+use Rattle.fetch_session.specs.Target.{Kind, Target, flags_in, stores_of, target as target_at, target_of}
 use Rattle.fetch_session.specs.Task.{tasks_planned, ids_ahead, AreFresh}
 use Rattle.fetch_session.specs.Report.{skipped_in}
-use Rattle.fetch_session.specs.Scene.{scene}
-use Rattle.fetch_session.proofs.PlanLemmas.{fresh_firsts}
+use Rattle.fetch_session.specs.Scene.{scene, AllWent, Fell}
+use Rattle.fetch_session.proofs.PlanLemmas.{flags_same, fresh_firsts}
 use Rattle.fetch_session.proofs.CarryLemmas.{unprepared, carry_fell, carry_quit, carry_broke}
 use Rattle.fetch_session.proofs.IntakeLemmas.{takes_plain, took_nothing, took_less, took_on, with_any_tail, with_tail_on, with_tail_less, quit_told, quit_broke}
 use Rattle.fetch_session.proofs.RefusalLemmas.{before_cut, cut_by}
@@ -15,7 +16,7 @@ use Rattle.fetch_session.proofs.plan.carry_out.Goals as goal
 pub returns-in-Err-clause-carries : goal.returns-in-Err-clause-carries
 returns-in-Err-clause-carries g c = λ w d f.
     let ready = c.in-Err.ensures.readies d f in
-    (w, ready.0, ready.1, g.met.W.Wire.leads_same c.args.client.now.wire.now, ([], inl (c.requires.none_skipped, unprepared c.args.terms.account.now c.args.listing.now c.args.terms.now (place_of g.W.Wire c.args.client.now) (g.D.MaildirDisk.maildir c.args.work.now.disk) (g.F.FlatFile.stored c.args.work.now.file) c.args.work.now.lines.items c.in-Err.fault c.plain.result (g.D.MaildirDisk.maildir c.prepare.new.disk) (g.F.FlatFile.stored c.prepare.new.file) c.plain.ensures ready.2)))
+    (w, ready.0, ready.1, g.met.W.Wire.leads_same c.args.client.now.wire.now, ([], inl (c.requires.none_skipped, unprepared (target_of c.args.work.now.store c.args.terms.account.now) c.args.listing.now c.args.terms.now (place_of g.W.Wire c.args.client.now) (stores_of g.D.MaildirDisk g.F.FlatFile c.args.work.now.store) (g.F.FlatFile.stored c.args.work.now.ledger.file) c.args.work.now.ledger.lines.items c.in-Err.fault c.plain.result (stores_of g.D.MaildirDisk g.F.FlatFile c.prepare.new.store) (g.F.FlatFile.stored c.prepare.new.file) c.plain.ensures ready.2)))
 
 pub skipped_in-requires : goal.skipped_in-requires
 skipped_in-requires g c = omega (arith, ap length c.deref.ensures.value, c.in-Ok.ensures.lengths.0, c.requires.few)
@@ -23,8 +24,7 @@ skipped_in-requires g c = omega (arith, ap length c.deref.ensures.value, c.in-Ok
 pub do_steps-requires-clause-ready : goal.do_steps-requires-clause-ready
 do_steps-requires-clause-ready g c = record {
   calm = λ d. let stays = c.in-Ok.ensures.stays d in stays.1 ∙ c.requires.calm stays.0;
-  closed = c.in-Ok.ensures.closed;
-  steady = λ f. (c.in-Ok.ensures.steady f).1;
+  written = record { closed = c.in-Ok.ensures.closed; steady = λ f. (c.in-Ok.ensures.steady f).1 };
 }
 
 pub do_steps-requires-clause-free : goal.do_steps-requires-clause-free
@@ -32,9 +32,9 @@ do_steps-requires-clause-free g c = λ kept.
     let stays = c.in-Ok.ensures.stays kept in
     let account = c.args.terms.account.now in
     let items = c.args.listing.now in
-    let maildir = g.D.MaildirDisk.maildir c.prepare.new.disk in
+    let maildir = (stores_of g.D.MaildirDisk g.F.FlatFile c.prepare.new.store).maildir in
     let rows = c.prepare.new.seen.rows in
-    subst (λ (held : List Bool). AreFresh account maildir (ids_ahead (tasks_planned c.deref-2.result.now items held))) (sym (c.deref-3.ensures.value ∙ stays.2))
+    subst (λ (held : List Bool). AreFresh account maildir (ids_ahead (tasks_planned c.deref-2.result.now items held))) (sym (c.deref-3.ensures.value ∙ stays.2 ∙ ap (λ (k : Kind). flags_in (target_at k account) (stores_of g.D.MaildirDisk g.F.FlatFile c.prepare.new.store) items) (sym c.prepare.ensures.kind) ∙ flags_same g.D.MaildirDisk g.F.FlatFile c.prepare.new.store account items))
     (subst (λ (steps : List Step). AreFresh account maildir (ids_ahead (tasks_planned steps items (flags_of account maildir items)))) (sym (c.deref-2.ensures.value ∙ c.in-Ok.ensures.plans))
     (fresh_firsts account maildir [] (planned c.args.terms.settings.now rows items c.args.terms.now) items (c.firsts_are_fetched.ensures c.args.terms.settings.now rows items c.args.terms.now) c.requires.legal))
 
@@ -43,10 +43,20 @@ returns-in-Err-do_steps-clause-carries g c = λ w d f.
     let done = c.in-Err-do_steps.ensures.does w d f in
     let ready = c.in-Ok.ensures.readies done.1 done.2 in
     let old = place_of g.W.Wire c.args.client.now in
-    let maildir = g.D.MaildirDisk.maildir c.args.work.now.disk in
-    let file = g.F.FlatFile.stored c.args.work.now.file in
-    let new = scene (place_of g.W.Wire c.do_steps.new.client) (g.D.MaildirDisk.maildir c.do_steps.new.work.disk) (g.F.FlatFile.stored c.do_steps.new.work.file) c.do_steps.new.work.seen.rows c.do_steps.new.work.lines.items in
-    (done.0, ready.0, ready.1, done.3, (c.do_steps.new.work.seen.rows, inr (carry_fell c.args.terms.settings.now c.args.terms.account.now c.args.listing.now c.args.terms.now old maildir file c.args.work.now.lines.items c.in-Ok.ready c.prepare.new.seen.rows (g.D.MaildirDisk.maildir c.prepare.new.disk) (g.F.FlatFile.stored c.prepare.new.file) ready.2 c.deref-2.result.now c.deref-3.result.now c.deref-2.ensures.value c.deref-3.ensures.value c.skipped_in.result (c.skipped_in.ensures ∙ ap skipped_in (c.deref.ensures.value ∙ sym c.deref-2.ensures.value)) new c.in-Err-do_steps.cut done.4)))
+    let store = stores_of g.D.MaildirDisk g.F.FlatFile c.args.work.now.store in
+    let file = g.F.FlatFile.stored c.args.work.now.ledger.file in
+    let new = scene (place_of g.W.Wire c.do_steps.new.client) (stores_of g.D.MaildirDisk g.F.FlatFile c.do_steps.new.work.store) (g.F.FlatFile.stored c.do_steps.new.work.ledger.file) c.do_steps.new.work.ledger.seen.rows c.do_steps.new.work.ledger.lines.items in (
+      done.0,
+      ready.0,
+      ready.1,
+      done.3,
+      (
+        c.do_steps.new.work.ledger.seen.rows,
+        inr (carry_fell c.args.terms.settings.now (target_of c.args.work.now.store c.args.terms.account.now) c.args.listing.now c.args.terms.now old store file c.args.work.now.ledger.lines.items c.in-Ok.ready c.prepare.new.seen.rows (stores_of g.D.MaildirDisk g.F.FlatFile c.prepare.new.store) (g.F.FlatFile.stored c.prepare.new.file) ready.2 c.deref-2.result.now c.deref-3.result.now c.deref-2.ensures.value c.deref-3.ensures.value c.skipped_in.result (c.skipped_in.ensures ∙ ap skipped_in (c.deref.ensures.value ∙ sym c.deref-2.ensures.value)) new c.in-Err-do_steps.cut
+            (subst (λ (t : Target). Fell t (tasks_planned c.deref-2.result.now c.args.listing.now c.deref-3.result.now) (scene old (stores_of g.D.MaildirDisk g.F.FlatFile c.prepare.new.store) (g.F.FlatFile.stored c.prepare.new.file) c.prepare.new.seen.rows c.args.work.now.ledger.lines.items) c.in-Err-do_steps.cut new)
+            (ap (λ (k : Kind). target_at k c.args.terms.account.now) c.prepare.ensures.kind) done.4)),
+      ),
+    )
 
 pub returns-in-Ok-quit-clause-carries : goal.returns-in-Ok-quit-clause-carries
 returns-in-Ok-quit-clause-carries g c = λ w d f.
@@ -54,17 +64,19 @@ returns-in-Ok-quit-clause-carries g c = λ w d f.
     let done = c.in_default.ensures.does tells.0 d f in
     let ready = c.in-Ok.ensures.readies done.1 done.2 in
     let old = place_of g.W.Wire c.args.client.now in
-    let maildir = g.D.MaildirDisk.maildir c.args.work.now.disk in
-    let file = g.F.FlatFile.stored c.args.work.now.file in (
+    let store = stores_of g.D.MaildirDisk g.F.FlatFile c.args.work.now.store in
+    let file = g.F.FlatFile.stored c.args.work.now.ledger.file in (
       done.0,
       ready.0,
       ready.1,
       g.met.W.Wire.leads_on _ _ _ done.3 tells.1,
       (
-        c.do_steps.new.work.seen.rows,
-        carry_quit c.args.terms.settings.now c.args.terms.account.now c.args.listing.now c.args.terms.now old maildir file c.args.work.now.lines.items c.in-Ok.ready c.prepare.new.seen.rows (g.D.MaildirDisk.maildir c.prepare.new.disk) (g.F.FlatFile.stored c.prepare.new.file) ready.2 c.deref-2.result.now c.deref-3.result.now c.deref-2.ensures.value c.deref-3.ensures.value c.skipped_in.result (c.skipped_in.ensures ∙ ap skipped_in (c.deref.ensures.value ∙ sym c.deref-2.ensures.value))
+        c.do_steps.new.work.ledger.seen.rows,
+        carry_quit c.args.terms.settings.now (target_of c.args.work.now.store c.args.terms.account.now) c.args.listing.now c.args.terms.now old store file c.args.work.now.ledger.lines.items c.in-Ok.ready c.prepare.new.seen.rows (stores_of g.D.MaildirDisk g.F.FlatFile c.prepare.new.store) (g.F.FlatFile.stored c.prepare.new.file) ready.2 c.deref-2.result.now c.deref-3.result.now c.deref-2.ensures.value c.deref-3.ensures.value c.skipped_in.result (c.skipped_in.ensures ∙ ap skipped_in (c.deref.ensures.value ∙ sym c.deref-2.ensures.value))
             (place_of g.W.Wire c.do_steps.new.client) (place_of g.W.Wire c.quit.new.self)
-            (g.D.MaildirDisk.maildir c.do_steps.new.work.disk) (g.F.FlatFile.stored c.do_steps.new.work.file) c.do_steps.new.work.seen.rows c.do_steps.new.work.lines.items tells.2.0 done.4 tells.2.1,
+            (stores_of g.D.MaildirDisk g.F.FlatFile c.do_steps.new.work.store) (g.F.FlatFile.stored c.do_steps.new.work.ledger.file) c.do_steps.new.work.ledger.seen.rows c.do_steps.new.work.ledger.lines.items tells.2.0 (subst (λ (t : Target). AllWent t (tasks_planned c.deref-2.result.now c.args.listing.now c.deref-3.result.now) (scene old (stores_of g.D.MaildirDisk g.F.FlatFile c.prepare.new.store) (g.F.FlatFile.stored c.prepare.new.file) c.prepare.new.seen.rows c.args.work.now.ledger.lines.items)
+            (scene (place_of g.W.Wire c.do_steps.new.client) (stores_of g.D.MaildirDisk g.F.FlatFile c.do_steps.new.work.store) (g.F.FlatFile.stored c.do_steps.new.work.ledger.file) c.do_steps.new.work.ledger.seen.rows c.do_steps.new.work.ledger.lines.items))
+            (ap (λ (k : Kind). target_at k c.args.terms.account.now) c.prepare.ensures.kind) done.4) tells.2.1,
       ),
     )
 
@@ -74,17 +86,19 @@ returns-clause-carries g c = λ w d f.
     let done = c.in_default.ensures.does tells.0 d f in
     let ready = c.in-Ok.ensures.readies done.1 done.2 in
     let old = place_of g.W.Wire c.args.client.now in
-    let maildir = g.D.MaildirDisk.maildir c.args.work.now.disk in
-    let file = g.F.FlatFile.stored c.args.work.now.file in (
+    let store = stores_of g.D.MaildirDisk g.F.FlatFile c.args.work.now.store in
+    let file = g.F.FlatFile.stored c.args.work.now.ledger.file in (
       done.0,
       ready.0,
       ready.1,
       g.met.W.Wire.leads_on _ _ _ done.3 tells.1,
       (
-        c.do_steps.new.work.seen.rows,
-        inr (carry_broke c.args.terms.settings.now c.args.terms.account.now c.args.listing.now c.args.terms.now old maildir file c.args.work.now.lines.items c.in-Ok.ready c.prepare.new.seen.rows (g.D.MaildirDisk.maildir c.prepare.new.disk) (g.F.FlatFile.stored c.prepare.new.file) ready.2 c.deref-2.result.now c.deref-3.result.now c.deref-2.ensures.value c.deref-3.ensures.value c.skipped_in.result (c.skipped_in.ensures ∙ ap skipped_in (c.deref.ensures.value ∙ sym c.deref-2.ensures.value))
+        c.do_steps.new.work.ledger.seen.rows,
+        inr (carry_broke c.args.terms.settings.now (target_of c.args.work.now.store c.args.terms.account.now) c.args.listing.now c.args.terms.now old store file c.args.work.now.ledger.lines.items c.in-Ok.ready c.prepare.new.seen.rows (stores_of g.D.MaildirDisk g.F.FlatFile c.prepare.new.store) (g.F.FlatFile.stored c.prepare.new.file) ready.2 c.deref-2.result.now c.deref-3.result.now c.deref-2.ensures.value c.deref-3.ensures.value c.skipped_in.result (c.skipped_in.ensures ∙ ap skipped_in (c.deref.ensures.value ∙ sym c.deref-2.ensures.value))
             (place_of g.W.Wire c.do_steps.new.client) (place_of g.W.Wire c.quit.new.self)
-            (g.D.MaildirDisk.maildir c.do_steps.new.work.disk) (g.F.FlatFile.stored c.do_steps.new.work.file) c.do_steps.new.work.seen.rows c.do_steps.new.work.lines.items c.in-Err-quit.fault c.told.result c.plain-in-Err-quit.result done.4 c.plain-in-Err-quit.ensures c.told.ensures tells.2),
+            (stores_of g.D.MaildirDisk g.F.FlatFile c.do_steps.new.work.store) (g.F.FlatFile.stored c.do_steps.new.work.ledger.file) c.do_steps.new.work.ledger.seen.rows c.do_steps.new.work.ledger.lines.items c.in-Err-quit.fault c.told.result c.plain-in-Err-quit.result (subst (λ (t : Target). AllWent t (tasks_planned c.deref-2.result.now c.args.listing.now c.deref-3.result.now) (scene old (stores_of g.D.MaildirDisk g.F.FlatFile c.prepare.new.store) (g.F.FlatFile.stored c.prepare.new.file) c.prepare.new.seen.rows c.args.work.now.ledger.lines.items)
+            (scene (place_of g.W.Wire c.do_steps.new.client) (stores_of g.D.MaildirDisk g.F.FlatFile c.do_steps.new.work.store) (g.F.FlatFile.stored c.do_steps.new.work.ledger.file) c.do_steps.new.work.ledger.seen.rows c.do_steps.new.work.ledger.lines.items))
+            (ap (λ (k : Kind). target_at k c.args.terms.account.now) c.prepare.ensures.kind) done.4) c.plain-in-Err-quit.ensures c.told.ensures tells.2),
       ),
     )
 
@@ -139,3 +153,12 @@ pub returns-clause-counted : goal.returns-clause-counted
 returns-clause-counted g c =
     before_cut (g.W.Wire.seen c.args.client.now.wire.now) (g.W.Wire.seen c.do_steps.new.client.wire.now) (g.W.Wire.seen c.quit.new.self.wire.now) c.plain-in-Err-quit.result c.in_default.ensures.counted
     (cut_by c.in-Err-quit.fault c.told.result c.plain-in-Err-quit.result (g.W.Wire.seen c.do_steps.new.client.wire.now) (g.W.Wire.seen c.quit.new.self.wire.now) c.plain-in-Err-quit.ensures c.told.ensures c.in-Err-quit.ensures.counted)
+
+pub returns-clause-kind : goal.returns-clause-kind
+returns-clause-kind g c = c.do_steps.ensures.kind ∙ c.prepare.ensures.kind
+
+pub returns-in-Ok-quit-clause-kind : goal.returns-in-Ok-quit-clause-kind
+returns-in-Ok-quit-clause-kind g c = c.do_steps.ensures.kind ∙ c.prepare.ensures.kind
+
+pub returns-in-Err-do_steps-clause-kind : goal.returns-in-Err-do_steps-clause-kind
+returns-in-Err-do_steps-clause-kind g c = c.do_steps.ensures.kind ∙ c.prepare.ensures.kind

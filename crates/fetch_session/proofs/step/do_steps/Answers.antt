@@ -1,11 +1,15 @@
-use Rattle.std.proofs.Common.{◌<◌, ◌+◌, ◌*◌, List, Bool, false, length, drop, get_or, Err, ap, subst, arith, refl, ◌∙◌}
+use Rattle.std.proofs.Common.{◌≡◌, ◌<◌, ◌+◌, ◌*◌, ℕ, List, true, false, length, drop, get_or, Err, sym, ap, subst, arith, refl, ◌∙◌}
+use Rattle.fetch_rules.specs.Record.{has_row}
 use Rattle.std.proofs.lemmas.List.{drop_all}
 use Rattle.pop3_client.specs.Client.{place_of}
 use Rattle.mail_terms.specs.Listing.{Item}
 use Rattle.fetch_rules.specs.declared.steps.Step.{Step}
+use Rattle.fetch_session.specs.Scene.{AllWent, Fell}
+use Rattle.fetch_session.specs.Target.{Kind, Target, stores_of, target as target_at, target_of}
+use Rattle.fetch_session.specs.Work.{scene_of}
 use Rattle.fetch_session.specs.Task.{Task, tasks_in, tasks_planned, fetching, ids_ahead, AreFresh}
 use Rattle.fetch_session.proofs.SceneLemmas.{leads_start, leads_on, leads_fell, leads_end}
-use Rattle.fetch_session.proofs.FreshLemmas.{fresh_step, fresh_later, grows_calm, step_at, later_at, tasks_left, no_item}
+use Rattle.fetch_session.proofs.FreshLemmas.{fresh_step, fresh_later, grows_calm, step_at, later_at, tasks_left, no_item, row_at}
 use Rattle.fetch_session.proofs.ReportLemmas.{adds_on}
 use Rattle.fetch_session.proofs.IntakeLemmas.{took_on, took_less, took_nothing, takes_on, takes_less}
 use Rattle.fetch_session.proofs.RefusalLemmas.{before_cut}
@@ -22,13 +26,14 @@ do_step-requires-clause-free g c = λ kept.
     let in_items : i < length items = omega (arith, c.loop-i-test.true, c.len-i-end.ensures.count) in
     let split = tasks_left steps items held i item in_items c.requires.all_steps c.requires.all_flags (c.uid.ensures.value no_item) (c.size.ensures no_item) in
     let inv = c.loop-i.invariant.2 kept in
-    let maildir = g.D.MaildirDisk.maildir c.loop-i.work.disk in
+    let maildir = (stores_of g.D.MaildirDisk g.F.FlatFile c.loop-i.work.store).maildir in
     fresh_step account (step_at steps i) item (get_or held i false) (later_at steps items held i) maildir (subst (λ (ts : List Task). AreFresh account maildir (ids_ahead ts)) split inv.1)
 
 pub returns-in-Err-clause-does : goal.returns-in-Err-clause-does
 returns-in-Err-clause-does g c = λ w d f.
     let i = c.loop-i.i in
     let account = c.args.account.now in
+    let target = target_of c.args.work.now.store account in
     let steps = c.args.steps.now in
     let items = c.args.listing.now in
     let held = c.args.held.now in
@@ -41,7 +46,9 @@ returns-in-Err-clause-does g c = λ w d f.
       inv.1,
       inv.2,
       g.met.W.Wire.leads_on _ _ _ inv.3 done.3,
-      leads_fell account (tasks_planned steps items held) _ (tasks_in (step_at steps i) item (get_or held i false)) (later_at steps items held i) _ _ _ c.in-Err.cut split inv.4 done.4,
+      leads_fell target (tasks_planned steps items held) _ (tasks_in (step_at steps i) item (get_or held i false)) (later_at steps items held i) _ _ _ c.in-Err.cut split inv.4
+          (subst (λ (t : Target). Fell t (tasks_in (step_at steps i) item (get_or held i false)) (scene_of g.W.Wire g.D.MaildirDisk g.F.FlatFile c.loop-i.client c.loop-i.work) c.in-Err.cut (scene_of g.W.Wire g.D.MaildirDisk g.F.FlatFile c.do_step.new.client c.do_step.new.work))
+          (ap (λ (k : Kind). target_at k account) c.loop-i.invariant.7) done.4),
     )
 
 pub loop-i-init : goal.loop-i-init
@@ -53,25 +60,28 @@ loop-i-init g c = (
   λ w. (w, took_nothing _),
   refl,
   refl,
+  refl,
+  λ uid has. has,
 )
 
 pub loop-i-preserved : goal.loop-i-preserved
 loop-i-preserved g c =
     let i = c.loop-i.i in
     let account = c.args.account.now in
+    let target = target_of c.args.work.now.store account in
     let steps = c.args.steps.now in
     let items = c.args.listing.now in
     let held = c.args.held.now in
     let item : Item = record { uid = c.uid.result.now; size = c.size.result } in
     let in_items : i < length items = omega (arith, c.loop-i-test.true, c.len-i-end.ensures.count) in
     let split = tasks_left steps items held i item in_items c.requires.all_steps c.requires.all_flags (c.uid.ensures.value no_item) (c.size.ensures no_item) in (
-      adds_on c.args.work.now.lines c.loop-i.work.lines c.do_step.new.work.lines i c.loop-i.invariant.0 c.do_step.ensures.few,
+      adds_on c.args.work.now.ledger.lines c.loop-i.work.ledger.lines c.do_step.new.work.ledger.lines i c.loop-i.invariant.0 c.do_step.ensures.few,
       c.in_default.ensures.ready,
       λ d.
           let grows = c.do_step.ensures.grows d in
           let inv = c.loop-i.invariant.2 grows.0 in
-          let maildir = g.D.MaildirDisk.maildir c.loop-i.work.disk in
-          let maildir' = g.D.MaildirDisk.maildir c.do_step.new.work.disk in (
+          let maildir = (stores_of g.D.MaildirDisk g.F.FlatFile c.loop-i.work.store).maildir in
+          let maildir' = (stores_of g.D.MaildirDisk g.F.FlatFile c.do_step.new.work.store).maildir in (
             inv.0,
             fresh_later c.one_more_is_held.ensures account (step_at steps i) item (get_or held i false) (later_at steps items held i) maildir maildir' c.requires.digits grows.1 (subst (λ (ts : List Task). AreFresh account maildir (ids_ahead ts)) split inv.1),
           ),
@@ -82,7 +92,9 @@ loop-i-preserved g c =
             inv.1,
             inv.2,
             g.met.W.Wire.leads_on _ _ _ inv.3 done.3,
-            leads_on account (tasks_planned steps items held) _ (tasks_in (step_at steps i) item (get_or held i false)) (later_at steps items held i) _ _ _ split inv.4 done.4,
+            leads_on target (tasks_planned steps items held) _ (tasks_in (step_at steps i) item (get_or held i false)) (later_at steps items held i) _ _ _ split inv.4
+                (subst (λ (t : Target). AllWent t (tasks_in (step_at steps i) item (get_or held i false)) (scene_of g.W.Wire g.D.MaildirDisk g.F.FlatFile c.loop-i.client c.loop-i.work) (scene_of g.W.Wire g.D.MaildirDisk g.F.FlatFile c.do_step.new.client c.do_step.new.work))
+                (ap (λ (k : Kind). target_at k account) c.loop-i.invariant.7) done.4),
           ),
       λ w.
           let done = c.in_default.ensures.took w in
@@ -92,6 +104,8 @@ loop-i-preserved g c =
           (inv.0, took_less (i * 268439552 + 268439552) ((i + 1) * 268439552) old new (omega arith) (took_on (i * 268439552) 268439552 old (place_of g.W.Wire c.loop-i.client) new inv.1 done.1)),
       c.in_default.ensures.counted ∙ c.loop-i.invariant.5,
       c.do_step.ensures.link ∙ c.loop-i.invariant.6,
+      c.do_step.ensures.kind ∙ c.loop-i.invariant.7,
+      λ uid has. c.in_default.ensures.rows uid (c.loop-i.invariant.8 uid has),
     )
 
 pub returns-clause-does : goal.returns-clause-does
@@ -100,7 +114,7 @@ returns-clause-does g c = λ w d f.
     let steps = c.args.steps.now in
     let none = ap (λ (ss : List Step). tasks_planned ss (drop c.loop-i.i c.args.listing.now) (drop c.loop-i.i c.args.held.now))
     (drop_all c.loop-i.i steps (omega (arith, c.loop-i-test.false, c.len-i-end.ensures.count, c.requires.all_steps))) in
-    (inv.0, inv.1, inv.2, inv.3, leads_end c.args.account.now (tasks_planned steps c.args.listing.now c.args.held.now) _ _ _ none inv.4)
+    (inv.0, inv.1, inv.2, inv.3, leads_end (target_of c.args.work.now.store c.args.account.now) (tasks_planned steps c.args.listing.now c.args.held.now) _ _ _ none inv.4)
 
 pub returns-in-Err-clause-took : goal.returns-in-Err-clause-took
 returns-in-Err-clause-took g c = λ w.
@@ -134,5 +148,11 @@ returns-in-Err-clause-calm g c = λ d.
     let grows = c.do_step.ensures.grows d in (
       (c.loop-i.invariant.2 grows.0).0,
       grows_calm c.args.account.now (ids_ahead (fetching step.retrieve (get_or c.args.held.now i false) step.number c.uid.result.now c.size.result))
-          (g.D.MaildirDisk.maildir c.loop-i.work.disk) (g.D.MaildirDisk.maildir c.do_step.new.work.disk) grows.1,
+          ((stores_of g.D.MaildirDisk g.F.FlatFile c.loop-i.work.store).maildir) ((stores_of g.D.MaildirDisk g.F.FlatFile c.do_step.new.work.store).maildir) grows.1,
     )
+
+pub do_step-requires-clause-row : goal.do_step-requires-clause-row
+do_step-requires-clause-row g c =
+    let i = c.loop-i.i in
+    let in_items : i < length c.args.listing.now = omega (arith, c.loop-i-test.true, c.len-i-end.ensures.count) in
+    c.loop-i.invariant.8 c.uid.result.now (subst (λ (uid : List ℕ). has_row c.args.work.now.ledger.seen.rows uid ≡ true) (sym (c.uid.ensures.value no_item)) (row_at c.args.work.now.ledger.seen.rows c.args.listing.now i in_items c.requires.rows))

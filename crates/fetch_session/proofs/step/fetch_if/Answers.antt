@@ -1,6 +1,7 @@
 use Rattle.std.proofs.Common.{List, arith, sym, subst}
 use Rattle.pop3_client.specs.Client.{place_of}
 use Rattle.fetch_session.specs.Task.{Task, stores, rereads}
+use Rattle.fetch_session.specs.Target.{target_of}
 use Rattle.fetch_session.specs.Work.{scene_of}
 use Rattle.fetch_session.specs.Scene.{scene, AllWent, Does}
 use Rattle.fetch_session.proofs.SceneLemmas.{takes_does, on_any}
@@ -12,36 +13,37 @@ pub returns-then-not-step-clause-does : goal.returns-then-not-step-clause-does
 returns-then-not-step-clause-does g c = λ w d f.
     let message = c.args.message in
     let here = scene_of g.W.Wire g.D.MaildirDisk g.F.FlatFile c.args.client.now c.args.work.now in
+    let target = target_of c.args.work.now.store c.args.account.now in
     let lines' = c.note.new.lines.items in (
       w,
       d,
       f,
       g.met.W.Wire.leads_same c.args.client.now.wire.now,
-      subst (λ (ts : List Task). AllWent c.args.account.now ts here (record here { lines = lines' }))
+      subst (λ (ts : List Task). AllWent target ts here (record here { lines = lines' }))
           (sym (no_fetch message.step.retrieve message.held message.step.number message.uid.now message.size (was_false message.step.retrieve c.if-not-step.true)))
-          (skipped c.args.account.now message.step.number message.size here.place here.maildir here.file here.rows here.lines lines' c.note.ensures.items),
+          (skipped target message.step.number message.size here.place here.store here.file here.rows here.lines lines' c.note.ensures.items),
     )
 
 pub returns-then-held-clause-does : goal.returns-then-held-clause-does
 returns-then-held-clause-does g c = λ w d f.
     let message = c.args.message in
-    let account = c.args.account.now in
+    let target = target_of c.args.work.now.store c.args.account.now in
     let old = scene_of g.W.Wire g.D.MaildirDisk g.F.FlatFile c.args.client.now c.args.work.now in
-    let new = scene (place_of g.W.Wire c.reread.new.client) old.maildir old.file old.rows c.reread.new.lines.items in
-    let took = c.reread.ensures.rereads account message.uid.now old.maildir old.file old.rows w in (
+    let new = scene (place_of g.W.Wire c.reread.new.client) old.store old.file old.rows c.reread.new.lines.items in
+    let took = c.reread.ensures.rereads target message.uid.now old.store old.file old.rows w in (
       took.0,
       d,
       f,
       took.1,
-      subst (λ (ts : List Task). Does account ts old c.reread.result new)
+      subst (λ (ts : List Task). Does target ts old c.reread.result new)
           (sym (one_reread message.step.retrieve message.held message.step.number message.uid.now message.size (was_true message.step.retrieve c.if-not-step.false) c.if-held.true))
-          (takes_does account (rereads message.step.number message.uid.now) old new c.reread.result took.2),
+          (takes_does target (rereads message.step.number message.uid.now) old new c.reread.result took.2),
     )
 
 pub returns-clause-does : goal.returns-clause-does
 returns-clause-does g c = λ w d f.
     let message = c.args.message in
-    let account = c.args.account.now in
+    let target = target_of c.args.work.now.store c.args.account.now in
     let took = c.take.ensures.takes w d f in
     let old = scene_of g.W.Wire g.D.MaildirDisk g.F.FlatFile c.args.client.now c.args.work.now in
     let new = scene_of g.W.Wire g.D.MaildirDisk g.F.FlatFile c.take.new.client c.take.new.work in (
@@ -49,19 +51,25 @@ returns-clause-does g c = λ w d f.
       took.1,
       took.2,
       took.3,
-      subst (λ (ts : List Task). Does account ts old c.take.result new)
+      subst (λ (ts : List Task). Does target ts old c.take.result new)
           (sym (one_store message.step.retrieve message.held message.step.number message.uid.now message.size (was_true message.step.retrieve c.if-not-step.false) c.if-held.false))
-          (takes_does account (stores message.step.number message.uid.now) old new c.take.result took.4),
+          (takes_does target (stores message.step.number message.uid.now) old new c.take.result took.4),
     )
 
 -- the store and the record have no part in it
 pub returns-then-not-step-clause-ready : goal.returns-then-not-step-clause-ready
-returns-then-not-step-clause-ready g c = record { calm = c.requires.ready.calm; closed = c.requires.ready.closed; steady = c.requires.ready.steady }
+returns-then-not-step-clause-ready g c = record { calm = c.requires.ready.calm; written = record { closed = c.requires.ready.written.closed; steady = c.requires.ready.written.steady } }
 
 pub returns-then-held-clause-ready : goal.returns-then-held-clause-ready
-returns-then-held-clause-ready g c = on_any c.reread.result (record { calm = c.requires.ready.calm; closed = c.requires.ready.closed; steady = c.requires.ready.steady })
+returns-then-held-clause-ready g c = on_any c.reread.result (record { calm = c.requires.ready.calm; written = record { closed = c.requires.ready.written.closed; steady = c.requires.ready.written.steady } })
 
 pub returns-then-not-step-clause-took : goal.returns-then-not-step-clause-took
 returns-then-not-step-clause-took g c = λ w.
     let here = place_of g.W.Wire c.args.client.now in
     (w, took_less 0 268437504 here here (omega arith) (took_nothing here))
+
+pub returns-then-not-step-clause-rows : goal.returns-then-not-step-clause-rows
+returns-then-not-step-clause-rows g c = λ uid has. has
+
+pub returns-then-held-clause-rows : goal.returns-then-held-clause-rows
+returns-then-held-clause-rows g c = on_any c.reread.result (λ uid has. has)

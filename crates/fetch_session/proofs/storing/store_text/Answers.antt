@@ -1,7 +1,9 @@
-use Rattle.std.proofs.Common.{◌≡◌, inr, ◌<◌, [], ◌++◌, length, take, arith, sym, ap, subst, ◌∙◌, inl, refl}
+use Rattle.std.proofs.Common.{◌≡◌, inr, ◌<◌, ◌+◌, [], ◌++◌, length, take, arith, sym, ap, subst, ◌∙◌, inl, refl}
 use Rattle.std.proofs.lemmas.Bool.{false≢true}
 use Rattle.pop3_client.specs.Client.{place_of}
-use Rattle.mail_store.specs.Maildir.{Maildir, file, IsInNew}
+use Rattle.mail_store.specs.Maildir.{Maildir, IsInNew}
+use Rattle.mail_store.specs.FileName.{sized}
+use Rattle.std.specs.Prelude.{is_some, string_bytes}
 use Rattle.fetch_session.proofs.StoreLemmas.{refused_start, stopped_store, stopped_read, refused_piece, put_on, settled, refused_end, longer}
 use Rattle.pop3_client.proofs.ClientLemmas.{and_then, so_far}
 use Rattle.fetch_session.proofs.RefusalLemmas.{before_cut, cut_by}
@@ -13,7 +15,7 @@ returns-in-Err-clause-stores g c = λ d.
       starts.0,
       (
         [],
-        refused_start (g.D.MaildirDisk.maildir c.args.disk.now) (g.D.MaildirDisk.maildir c.begin_file.new.disk) c.args.name.now c.args.body c.in-Err.fault (c.requires.calm starts.0) starts.1,
+        refused_start (g.D.MaildirDisk.maildir c.args.disk.now) (g.D.MaildirDisk.maildir c.begin_file.new.disk) (string_bytes c.args.stem) c.args.body c.in-Err.fault (c.requires.calm starts.0) starts.1,
         λ w. (w, g.met.W.Wire.leads_same c.args.client.now.wire.now, λ number start now. (now, λ done. absurd (c.requires.open done))),
       ),
     )
@@ -25,7 +27,7 @@ returns-in-Err-next_piece-clause-stores g c = λ d.
       inv.0,
       (
         inv.1.0,
-        stopped_store (g.D.MaildirDisk.maildir c.args.disk.now) (g.D.MaildirDisk.maildir c.pieces.disk) (g.D.MaildirDisk.maildir c.abandon.new.self) c.args.name.now inv.1.0
+        stopped_store (g.D.MaildirDisk.maildir c.args.disk.now) (g.D.MaildirDisk.maildir c.pieces.disk) (g.D.MaildirDisk.maildir c.abandon.new.self) (string_bytes c.args.stem) inv.1.0
             c.plain.result c.told.result (c.requires.calm inv.0) inv.1.1 drops.1 c.plain.ensures,
         and_then g.W.Wire g.met.W.Wire.leads_on inv.1.3 c.in-Err-next_piece.ensures.takes (λ before took number start now. stopped_read number start (place_of g.W.Wire c.next_piece.new.self) inv.1.0 c.plain.result c.told.result c.in-Err-next_piece.fault c.plain.ensures c.told.ensures (inr (inl (took number start inv.1.0 (before number start now))))),
       ),
@@ -39,22 +41,26 @@ returns-in-Err-put_piece-clause-stores g c = λ d.
       inv.0,
       (
         more,
-        refused_piece (g.D.MaildirDisk.maildir c.args.disk.now) (g.D.MaildirDisk.maildir c.pieces.disk) (g.D.MaildirDisk.maildir c.put_piece.new.disk) c.args.name.now inv.1.0 (take c.in-Ok.piece.put c.next_piece.new.out) more
+        refused_piece (g.D.MaildirDisk.maildir c.args.disk.now) (g.D.MaildirDisk.maildir c.pieces.disk) (g.D.MaildirDisk.maildir c.put_piece.new.disk) (string_bytes c.args.stem) inv.1.0 (take c.in-Ok.piece.put c.next_piece.new.out) more
             c.next_piece.new.body c.in-Err-put_piece.fault inv.1.1 puts.1,
         and_then g.W.Wire g.met.W.Wire.leads_on inv.1.3 c.in-Ok.ensures.takes (λ before took number start now. let more = took number start inv.1.0 (before number start now) in (more.0, λ done. more.1 (c.in-Ok.ensures.ended.1 done))),
       ),
     )
 
-pub settle_file-requires : goal.settle_file-requires
-settle_file-requires g c = λ d.
+pub settle_file-requires-clause-begun : goal.settle_file-requires-clause-begun
+settle_file-requires-clause-begun g c = λ d.
+    let puts = c.in_default-put_piece.ensures.puts d in
+    let inv = c.pieces.invariant.2 puts.0 in
+    let is = put_on (g.D.MaildirDisk.maildir c.args.disk.now) (g.D.MaildirDisk.maildir c.pieces.disk) (g.D.MaildirDisk.maildir c.put_piece.new.disk) (string_bytes c.args.stem) inv.1.0 (take c.in-Ok.piece.put c.next_piece.new.out) inv.1.1 puts.1 in
+    ap (λ (m : Maildir). is_some m.begun) is
+
+pub settle_file-requires-clause-not_there : goal.settle_file-requires-clause-not_there
+settle_file-requires-clause-not_there g c = λ d.
     let puts = c.in_default-put_piece.ensures.puts d in
     let inv = c.pieces.invariant.2 puts.0 in
     let bytes = take c.in-Ok.piece.put c.next_piece.new.out in
-    let is = put_on (g.D.MaildirDisk.maildir c.args.disk.now) (g.D.MaildirDisk.maildir c.pieces.disk) (g.D.MaildirDisk.maildir c.put_piece.new.disk) c.args.name.now inv.1.0 bytes inv.1.1 puts.1 in (
-      file c.args.name.now (inv.1.0 ++ bytes),
-      ap (λ (m : Maildir). m.begun) is,
-      λ there. c.requires.not_there inv.0 (subst (λ (m : Maildir). IsInNew m c.args.name.now) is there),
-    )
+    let is = put_on (g.D.MaildirDisk.maildir c.args.disk.now) (g.D.MaildirDisk.maildir c.pieces.disk) (g.D.MaildirDisk.maildir c.put_piece.new.disk) (string_bytes c.args.stem) inv.1.0 bytes inv.1.1 puts.1 in
+    λ there. c.requires.not_there inv.0 _ (subst (λ (m : Maildir). IsInNew m (sized (string_bytes c.args.stem) (c.pieces.length + c.in-Ok.piece.put))) is there)
 
 pub returns-in-Ok-settle_file-clause-stores : goal.returns-in-Ok-settle_file-clause-stores
 returns-in-Ok-settle_file-clause-stores g c = λ d.
@@ -62,12 +68,13 @@ returns-in-Ok-settle_file-clause-stores g c = λ d.
     let puts = c.in_default-put_piece.ensures.puts ends.0 in
     let inv = c.pieces.invariant.2 puts.0 in
     let bytes = take c.in-Ok.piece.put c.next_piece.new.out in
-    let is = put_on (g.D.MaildirDisk.maildir c.args.disk.now) (g.D.MaildirDisk.maildir c.pieces.disk) (g.D.MaildirDisk.maildir c.put_piece.new.disk) c.args.name.now inv.1.0 bytes inv.1.1 puts.1 in (
+    let is = put_on (g.D.MaildirDisk.maildir c.args.disk.now) (g.D.MaildirDisk.maildir c.pieces.disk) (g.D.MaildirDisk.maildir c.put_piece.new.disk) (string_bytes c.args.stem) inv.1.0 bytes inv.1.1 puts.1 in (
       inv.0,
       (
         inv.1.0 ++ bytes,
         (
-          settled (g.D.MaildirDisk.maildir c.args.disk.now) (g.D.MaildirDisk.maildir c.put_piece.new.disk) (g.D.MaildirDisk.maildir c.settle_file.new.disk) c.args.name.now (inv.1.0 ++ bytes) is ends.1,
+          settled (g.D.MaildirDisk.maildir c.args.disk.now) (g.D.MaildirDisk.maildir c.put_piece.new.disk) (g.D.MaildirDisk.maildir c.settle_file.new.disk) (string_bytes c.args.stem) (inv.1.0 ++ bytes)
+              (c.pieces.length + c.in-Ok.piece.put) is (longer c.pieces.length c.in-Ok.piece.put inv.1.0 c.next_piece.new.out inv.1.2 c.in-Ok.ensures.fits) ends.1,
           longer c.pieces.length c.in-Ok.piece.put inv.1.0 c.next_piece.new.out inv.1.2 c.in-Ok.ensures.fits,
         ),
         and_then g.W.Wire g.met.W.Wire.leads_on inv.1.3 c.in-Ok.ensures.takes (λ before took number start now. (took number start inv.1.0 (before number start now)).1 c.if-piece.true),
@@ -80,12 +87,12 @@ returns-in-Err-settle_file-clause-stores g c = λ d.
     let puts = c.in_default-put_piece.ensures.puts ends.0 in
     let inv = c.pieces.invariant.2 puts.0 in
     let bytes = take c.in-Ok.piece.put c.next_piece.new.out in
-    let is = put_on (g.D.MaildirDisk.maildir c.args.disk.now) (g.D.MaildirDisk.maildir c.pieces.disk) (g.D.MaildirDisk.maildir c.put_piece.new.disk) c.args.name.now inv.1.0 bytes inv.1.1 puts.1 in (
+    let is = put_on (g.D.MaildirDisk.maildir c.args.disk.now) (g.D.MaildirDisk.maildir c.pieces.disk) (g.D.MaildirDisk.maildir c.put_piece.new.disk) (string_bytes c.args.stem) inv.1.0 bytes inv.1.1 puts.1 in (
       inv.0,
       (
         inv.1.0 ++ bytes,
-        refused_end (g.D.MaildirDisk.maildir c.args.disk.now) (g.D.MaildirDisk.maildir c.put_piece.new.disk) (g.D.MaildirDisk.maildir c.settle_file.new.disk) c.args.name.now (inv.1.0 ++ bytes)
-            c.next_piece.new.body c.in-Err-settle_file.fault is (c.in-Ok.ensures.ended.0 c.if-piece.true) ends.1,
+        refused_end (g.D.MaildirDisk.maildir c.args.disk.now) (g.D.MaildirDisk.maildir c.put_piece.new.disk) (g.D.MaildirDisk.maildir c.settle_file.new.disk) (string_bytes c.args.stem) (inv.1.0 ++ bytes)
+            (c.pieces.length + c.in-Ok.piece.put) c.next_piece.new.body c.in-Err-settle_file.fault is (longer c.pieces.length c.in-Ok.piece.put inv.1.0 c.next_piece.new.out inv.1.2 c.in-Ok.ensures.fits) (c.in-Ok.ensures.ended.0 c.if-piece.true) ends.1,
         and_then g.W.Wire g.met.W.Wire.leads_on inv.1.3 c.in-Ok.ensures.takes (λ before took number start now. let more = took number start inv.1.0 (before number start now) in (more.0, λ done. more.1 c.if-piece.true)),
       ),
     )
@@ -103,7 +110,7 @@ pieces-preserved g c = (
         inv.0,
         (
           inv.1.0 ++ bytes,
-          put_on (g.D.MaildirDisk.maildir c.args.disk.now) (g.D.MaildirDisk.maildir c.pieces.disk) (g.D.MaildirDisk.maildir c.put_piece.new.disk) c.args.name.now inv.1.0 bytes inv.1.1 puts.1,
+          put_on (g.D.MaildirDisk.maildir c.args.disk.now) (g.D.MaildirDisk.maildir c.pieces.disk) (g.D.MaildirDisk.maildir c.put_piece.new.disk) (string_bytes c.args.stem) inv.1.0 bytes inv.1.1 puts.1,
           longer c.pieces.length c.in-Ok.piece.put inv.1.0 c.next_piece.new.out inv.1.2 c.in-Ok.ensures.fits,
           and_then g.W.Wire g.met.W.Wire.leads_on inv.1.3 c.in-Ok.ensures.takes (λ before took number start now. (took number start inv.1.0 (before number start now)).0),
         ),

@@ -1,4 +1,4 @@
-use Rattle.std.proofs.Common.{◌≡◌, ◌≢◌, ◌≤◌, ◌+◌, ◌*◌, ℕ, List, []}
+use Rattle.std.proofs.Common.{◌≡◌, ◌≢◌, ◌≤◌, ◌+◌, ◌*◌, ℕ, List, [], string_bytes}
 use Rattle.pop3_wire.specs.Place.{Place}
 use Rattle.pop3_client.specs.Client.{HasSameLink, place_of}
 use Rattle.pop3_wire.specs.declared.unstuffer.Spot.TheVariants.{Done}
@@ -13,7 +13,7 @@ invariant-pieces g l =
     (l.rest.spot ≢ Done)
     × (l.length + 4097 * l.rest.left ≤ 4097 * 268435456)
     × (g.D.MaildirDisk.sound l.disk → g.D.MaildirDisk.sound l.fn.disk
-    × ((text : List ℕ) × (g.D.MaildirDisk.maildir l.disk ≡ begun_with (g.D.MaildirDisk.maildir l.fn.disk) (file l.fn.name text)) × (l.length ≡ Rattle.std.specs.Prelude.length text)
+    × ((text : List ℕ) × (g.D.MaildirDisk.maildir l.disk ≡ begun_with (g.D.MaildirDisk.maildir l.fn.disk) (file (string_bytes l.fn.stem) text)) × (l.length ≡ Rattle.std.specs.Prelude.length text)
     × (g.W.Wire.sound l.client.wire.now → g.W.Wire.sound l.fn.client.wire.now × g.W.Wire.leads_to l.fn.client.wire.now l.client.wire.now
     × ((number : ℕ) (start : Place) → Fetching (retr number) start (place_of g.W.Wire l.fn.client) l.fn.body []
     → Fetching (retr number) start (place_of g.W.Wire l.client) l.rest text))))

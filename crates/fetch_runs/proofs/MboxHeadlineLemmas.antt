@@ -1,0 +1,225 @@
+-- From a kept state every list of sessions with a mailbox file, and of what happens between them, keeps what is promised.
+use Rattle.std.proofs.Common.{◌≡◌, ◌⊎◌, inl, inr, ◌-◌, ℕ, true, false, List, [], ◌∷◌, Option, None, Some, sym, ap, subst, ◌∙◌}
+use Rattle.std.specs.Prelude.{slice_get}
+use Rattle.std.specs.List.{AllByRecursion}
+use Rattle.std.proofs.lemmas.Bool.{true≢false}
+use Rattle.pop3_wire.specs.declared.command.Command.{Command}
+use Rattle.pop3_wire.specs.declared.command.Command.TheVariants.{User, Pass, Stat, UidlAll, UidlOne, ListAll, ListOne, Retr, Dele, Rset, Noop, Top, Quit}
+use Rattle.pop3_wire.specs.World.{Message, IsWorld}
+use Rattle.mail_terms.specs.Listing.{Item}
+use Rattle.mail_terms.specs.UniqueId.{has_id}
+use Rattle.fetch_rules.specs.Record.{Row, Intent, Held, is_delivered, merged}
+use Rattle.fetch_rules.specs.RecordGrowth.{OneRecord}
+use Rattle.fetch_rules.specs.Wanted.{candidates}
+use Rattle.fetch_session.specs.Record.{Keeps}
+use Rattle.fetch_session.specs.Target.{mail_in}
+use Rattle.fetch_session.specs.declared.report.Outcome.TheVariants.{Ended}
+use Rattle.run_law.specs.Mails.{listing_of, is_selected}
+use Rattle.run_law.specs.Mboxes.{MboxLeaves, MboxStores, settled, mbox_rows, mbox_wanted, none_held}
+use Rattle.run_law.specs.MboxRuns.{MboxFrame, MboxSituation, MboxKept as IsKeptIn, MboxVisits, MboxVisited, MboxExpired, MboxPromises as PromisesIn, MboxEnds, MboxHolds, MboxKeptStaysKept, MboxKeptHolds, MboxStartsKept}
+use Rattle.run_law.specs.MboxSessions.{MboxLink, MboxLinksAreVisits, mbox_visit_of}
+use Rattle.run_law.specs.Runs.{past_limit}
+use Rattle.run_law.specs.Sessions.{IsBegun, BeginsOne}
+use Rattle.run_law.specs.Steps.{IsHonest, ids_wanted}
+use Rattle.fetch_runs.specs.MboxSteps.{mbox_holds, IsMboxStep, MboxSessionIsAStep}
+use Rattle.fetch_runs.specs.MboxHeadline.{MboxState, MboxOccasion, MboxEvent, Fetched, Between, Expired, maildrop_at, IsMboxSession, after_event, Follows, situation, HoldsEntries, IsEntered, IsPastCount, EndsWhole, IsForEntered, MboxPromised, IsMboxKept, MboxHeadline, MboxStartIsKept, MboxHeadlineFromStart, MboxStopsAreRuns}
+use Rattle.fetch_runs.proofs.HeadlineLemmas.{message_at, held_in}
+
+-- the laws that are used
+pub record Laws : Type 0 where
+  pub steps : MboxSessionIsAStep
+  pub visits : MboxLinksAreVisits
+  pub stays : MboxKeptStaysKept
+  pub holds : MboxKeptHolds
+  pub one : OneRecord
+
+holds_entries : Laws → (frame : MboxFrame) (state : MboxState) → IsWorld frame.all → IsMboxKept frame state → HoldsEntries frame state
+holds_entries laws frame state world is = (is.0, is.1, laws.holds frame (situation is.0 state) world is.2)
+
+-- ---- one session
+
+some_none : (i : Intent) → Some i ≡ None → ⊥
+some_none i e = cc
+
+module _ (laws : Laws) (frame : MboxFrame) (state : MboxState) (occasion : MboxOccasion) (world : IsWorld frame.all) (held : Held) (keeps : Keeps state.kept.file.content held)
+    (is_kept : IsKeptIn frame (situation held state)) (is : IsMboxSession frame state occasion)
+    (s : IsMboxStep occasion.settings occasion.now occasion.link state.kept held occasion.report occasion.link' occasion.after) where
+  abbrev link_in : MboxLink
+  link_in = record { settings = occasion.settings; come = occasion.come; sent = s.sent; got = s.got; vanished = occasion.vanished; after = mbox_holds s.held' occasion.after.mbox }
+
+  visits : MboxVisits frame (situation held state) (mbox_visit_of link_in s.effect)
+  visits = laws.visits frame (situation held state) link_in
+      (record { same = is.settings.max_size; only_new = is.settings.only_new; effect = s.effect; session = s.stepped; served = is.served s.sent s.got s.sent_is s.got_is })
+
+  -- what the law over runs says of it
+  happened : IsKeptIn frame (situation s.held' (after_event state (Fetched occasion))) × PromisesIn frame (situation held state) (mbox_visit_of link_in s.effect)
+  happened =
+      let all = laws.stays frame (situation held state) (MboxVisited (mbox_visit_of link_in s.effect) ∷ []) world is_kept (visits, tt) in
+      (all.0, all.1.0)
+
+  holds_after : MboxHolds frame (mbox_holds s.held' occasion.after.mbox)
+  holds_after = laws.holds frame (situation s.held' (after_event state (Fetched occasion))) world happened.0
+
+  -- the listing was the maildrop's, or nothing was begun
+  abbrev Stepped : Type 0
+  Stepped = MboxLeaves (mbox_holds held state.kept.mbox) s.effect (mbox_holds s.held' occasion.after.mbox)
+      ⊎ (MboxStores occasion.settings (mbox_holds held state.kept.mbox) s.effect (mbox_holds s.held' occasion.after.mbox)
+      × IsHonest (mbox_wanted occasion.settings (mbox_holds held state.kept.mbox) s.effect) (maildrop_at frame state occasion) s.effect)
+
+  listing_or_nothing : (s.effect.listing ≡ listing_of (maildrop_at frame state occasion)) ⊎ ((s.effect.begun ≡ []) × (s.effect.ended ≡ false))
+  listing_or_nothing = by visits.step
+    where
+      by : Stepped → (s.effect.listing ≡ listing_of (maildrop_at frame state occasion)) ⊎ ((s.effect.begun ≡ []) × (s.effect.ended ≡ false))
+      by (inl left) = inr (left.begun, left.ended)
+      by (inr (stores, honest)) = inl honest.listing
+
+  -- an uncut session
+  past_count : (message : Message) → s.effect.listing ≡ listing_of (maildrop_at frame state occasion)
+      → has_id (ids_wanted (past_limit occasion.settings.max_count (candidates occasion.settings (mbox_rows (mbox_holds held state.kept.mbox) s.effect) s.effect.listing))) message.uid ≡ true
+      → IsPastCount frame state occasion message
+  past_count message listed is_past = (
+    held,
+    keeps,
+    ap (λ (n : ℕ). let listing = listing_of (maildrop_at frame state occasion) in
+        has_id (ids_wanted (past_limit occasion.settings.max_count (candidates occasion.settings (merged (settled (mbox_holds held state.kept.mbox)).rows listing (none_held listing) n) listing))) message.uid) (sym s.now_is)
+        ∙ ap (λ (l : List Item).
+        has_id (ids_wanted (past_limit occasion.settings.max_count (candidates occasion.settings (merged (settled (mbox_holds held state.kept.mbox)).rows l (none_held l) s.effect.now) l))) message.uid) (sym listed)
+        ∙ is_past,
+  )
+
+  abbrev LeftOut : Message → Type 0
+  LeftOut m = (is_delivered s.held'.rows m.uid ≡ true) ⊎ (is_selected frame.max_size m ≡ false)
+      ⊎ (has_id (ids_wanted (past_limit occasion.settings.max_count (candidates occasion.settings (mbox_rows (mbox_holds held state.kept.mbox) s.effect) s.effect.listing))) m.uid ≡ true)
+
+  abbrev Excluded : Message → Type 0
+  Excluded m = IsEntered frame occasion.after m.uid ⊎ (is_selected frame.max_size m ≡ false) ⊎ IsPastCount frame state occasion m
+
+  excluded : s.effect.listing ≡ listing_of (maildrop_at frame state occasion) → (m : Message) → LeftOut m → Excluded m
+  excluded listed m (inl recorded) = inl (holds_after.entered m.uid recorded)
+  excluded listed m (inr (inl large)) = inr (inl large)
+  excluded listed m (inr (inr is_past)) = inr (inr (past_count m listed is_past))
+
+  all_excluded : s.effect.listing ≡ listing_of (maildrop_at frame state occasion) → (ms : List Message) → AllByRecursion LeftOut ms → AllByRecursion Excluded ms
+  all_excluded listed [] all = tt
+  all_excluded listed (m ∷ ms) all = (excluded listed m all.0, all_excluded listed ms all.1)
+
+  ends_whole : occasion.report.outcome ≡ Ended → EndsWhole frame state occasion
+  ends_whole ended = record {
+    held = s.held';
+    stands_for = s.keeps;
+    closed = ends.closed;
+    holds = holds_after;
+    no_rest = elim holds_after.at_most [
+      | inl (none, nothing) ↦ nothing
+      | inr (next, behind, is_next, entry, opened) ↦ absurd (some_none _ (sym opened ∙ ends.closed))
+    ];
+    left_out = elim listing_or_nothing [
+      | inl listed ↦ all_excluded listed (maildrop_at frame state occasion) ends.leaves_out
+      | inr nothing ↦ absurd (true≢false (sym (s.ended_is.1 ended) ∙ nothing.1))
+    ];
+  }
+    where
+      ends : MboxEnds frame (situation held state) (mbox_visit_of link_in s.effect)
+      ends = happened.1.ends (s.ended_is.1 ended)
+
+  -- a DELE that was sent
+  for_entered : (command : Command) → IsBegun s.effect.listing s.effect.begun command → IsForEntered frame state occasion command
+  for_entered (Dele number) begun = elim listing_or_nothing [
+    | inl listed ↦
+        let at = message_at (maildrop_at frame state occasion) (number - 1) begun.0 (ap (λ (l : List Item). slice_get l (number - 1)) (sym listed) ∙ begun.1) in (
+          begun.3,
+          at.0,
+          at.1,
+          subst (λ (i : Item). IsEntered frame occasion.after i.uid) (sym at.2) (held_in (IsEntered frame occasion.after) s.effect.begun begun.0.uid happened.1.begun begun.2),
+        )
+    | inr nothing ↦ absurd (true≢false (sym begun.2 ∙ ap (λ (ids : List (List ℕ)). has_id ids begun.0.uid) nothing.0))
+  ]
+  for_entered (User name) begun = tt
+  for_entered (Pass word) begun = tt
+  for_entered Stat begun = tt
+  for_entered UidlAll begun = tt
+  for_entered (UidlOne n) begun = tt
+  for_entered ListAll begun = tt
+  for_entered (ListOne n) begun = tt
+  for_entered (Retr n) begun = tt
+  for_entered Rset begun = tt
+  for_entered Noop begun = tt
+  for_entered (Top n k) begun = tt
+  for_entered Quit begun = tt
+
+  all_for_entered : (commands : List Command) → AllByRecursion (IsBegun s.effect.listing s.effect.begun) commands → AllByRecursion (IsForEntered frame state occasion) commands
+  all_for_entered [] all = tt
+  all_for_entered (command ∷ commands) all = (for_entered command all.0, all_for_entered commands all.1)
+
+  begins_for_entered : (part : List ℕ) → BeginsOne (IsBegun s.effect.listing s.effect.begun) part → BeginsOne (IsForEntered frame state occasion) part
+  begins_for_entered part (inl none) = inl none
+  begins_for_entered part (inr (command, unsent, line, begun)) = inr (command, unsent, line, for_entered command begun)
+
+  session_promised : MboxPromised frame state (Fetched occasion) × IsMboxKept frame (after_event state (Fetched occasion))
+  session_promised = (
+    (
+      ends_whole,
+      record {
+        sent = s.sent;
+        sent_is = s.sent_is;
+        commands = s.stepped.commands;
+        asked = s.stepped.asked;
+        each = all_for_entered s.stepped.commands s.stepped.begun;
+        next = begins_for_entered s.stepped.asked.part s.stepped.next;
+      },
+    ),
+    (s.held', s.keeps, happened.0),
+  )
+
+-- ---- what happens between sessions
+
+event_promised : Laws → (frame : MboxFrame) (state : MboxState) (event : MboxEvent) → IsWorld frame.all → IsMboxKept frame state → Follows frame state event
+    → MboxPromised frame state event × IsMboxKept frame (after_event state event)
+event_promised laws frame state (Fetched occasion) world (held, keeps, kept) is =
+    session_promised laws frame state occasion world held keeps kept is
+    (laws.steps occasion.settings occasion.now occasion.link state.kept held occasion.report occasion.link' occasion.after is.settings.valid keeps is.session)
+event_promised laws frame state (Between after) world (held, keeps, kept) between = (
+  tt,
+  (
+    held,
+    between.record_is held keeps,
+    subst (λ (bytes : List ℕ). IsKeptIn frame (let s : MboxSituation = record { account = record { rows = held.rows; intent = held.intent; file = bytes }; gone = state.gone } in s)) (sym between.mail) kept,
+  ),
+)
+event_promised laws frame state (Expired ids) world (held, keeps, kept) (other, stood, all) =
+    let same = laws.one state.kept.file.content other.rows held.rows other.intent held.intent stood keeps in
+    let after = laws.stays frame (situation held state) (MboxExpired ids ∷ []) world kept (subst (λ (rows : List Row). AllByRecursion (λ (id : List ℕ). is_delivered rows id ≡ true) ids) same.0 all, tt) in
+    (tt, (held, keeps, after.0))
+
+-- ---- any list of them
+
+pub mbox_headline : Laws → MboxHeadline
+mbox_headline laws frame start [] world is run = (holds_entries laws frame start world is, is)
+mbox_headline laws frame start (event ∷ events) world is run =
+    let first = event_promised laws frame start event world is run.0 in
+    let later = mbox_headline laws frame (after_event start event) events world first.1 run.1 in
+    ((holds_entries laws frame start world is, first.0, later.0), later.1)
+
+pub start_is_kept : MboxStartsKept → MboxStartIsKept
+start_is_kept starts frame start is = (
+  is.held,
+  is.stands_for,
+  subst (λ (i : Option Intent). IsKeptIn frame (let s : MboxSituation = record { account = record { rows = is.held.rows; intent = i; file = mail_in start.kept.mbox.content }; gone = start.gone } in s)) (sym is.closed)
+      (subst (λ (bytes : List ℕ). IsKeptIn frame (let s : MboxSituation = record { account = record { rows = is.held.rows; intent = None; file = bytes }; gone = start.gone } in s)) (sym is.file)
+      (starts frame is.held.rows is.ahead start.gone is.prefix is.recorded is.gone)),
+)
+
+pub from_start : MboxHeadline → MboxStartIsKept → MboxHeadlineFromStart
+from_start law kept frame start events world is run = (law frame start events world (kept frame start is) run).0
+
+pub stops_are_runs : MboxStopsAreRuns
+stops_are_runs frame state occasion left stopped = (
+  stopped.session,
+  (
+    record {
+      record_is = λ held keeps. subst (λ (c : Option (List ℕ)). Keeps c held) (sym stopped.files.content) keeps;
+      mail = ap mail_in stopped.files.mbox;
+    },
+    tt,
+  ),
+)

@@ -1,0 +1,217 @@
+-- Where a server's unique-ids are distinct and persistent and its mail unchanged, after any list of sessions that
+-- read only what is new, each cut at any reply or refused write, an mboxrd file holds what it held before the
+-- first one, followed by the entries of exactly a prefix of the selected messages in maildrop order, each once,
+-- and by at most a front of the next one's entry, whose intent is then open; after an uncut session nothing of a
+-- next entry is left, and only what its limits exclude is left out; and DELE was sent only for messages whose
+-- entry stands whole. What was recorded as delivered before the first session counts as entered here.
+use Rattle.std.specs.Prelude.{◌≡◌, ◌≢◌, ◌⊎◌, ◌<◌, ◌-◌, ℕ, true, false, List, [], ◌∷◌, ◌++◌, None, Some, slice_get}
+use Rattle.std.specs.List.{AllByRecursion}
+use Rattle.pop3_wire.specs.declared.command.Command.{Command}
+use Rattle.pop3_wire.specs.declared.command.Command.TheVariants.{Dele}
+use Rattle.pop3_wire.specs.Honest.{Asked}
+use Rattle.pop3_wire.specs.Link.{Link}
+use Rattle.pop3_wire.specs.World.{Message, IsWorld, maildrop_of}
+use Rattle.mail_terms.specs.UniqueId.{has_id}
+use Rattle.rc_file.specs.Settings.{IsValid}
+use Rattle.rc_file.specs.declared.settings.Settings.{Settings}
+use Rattle.fetch_rules.specs.Record.{Held, is_delivered, merged}
+use Rattle.fetch_rules.specs.Wanted.{candidates}
+use Rattle.fetch_session.specs.Record.{Keeps}
+use Rattle.fetch_session.specs.Session.{MboxKept, MboxSession}
+use Rattle.fetch_session.specs.Target.{mail_in}
+use Rattle.fetch_session.specs.declared.report.Outcome.TheVariants.{Ended}
+use Rattle.fetch_session.specs.declared.report.Report.{Report}
+use Rattle.run_law.specs.Mails.{ids_of, listing_of, is_selected, selected}
+use Rattle.run_law.specs.Mboxes.{settled, none_held}
+use Rattle.run_law.specs.MboxRuns.{MboxFrame, MboxSituation, MboxKept as IsKeptIn, MboxHolds, HasEntry}
+use Rattle.run_law.specs.Runs.{past_limit}
+use Rattle.run_law.specs.Sessions.{BeginsOne, Served}
+use Rattle.run_law.specs.Steps.{ids_wanted}
+use Rattle.fetch_runs.specs.MboxSteps.{mbox_holds}
+
+-- What stays throughout is an `MboxFrame`: the file before the first session, the messages that were recorded as
+-- delivered then, the limit on sizes, and all mail that ever comes, in order of arrival.
+
+-- settings that an rc file can give, with this limit on sizes, which ask only for what is new
+pub record AreSettings (frame : MboxFrame) (settings : Settings) : Type 0 where
+  pub valid : IsValid settings
+  pub max_size : settings.max_size ≡ frame.max_size
+  pub only_new : settings.read_all ≡ false
+
+-- the mailbox file and the record's file, and which ids are gone from the server
+pub record MboxState : Type 0 where
+  pub kept : MboxKept
+  pub gone : List (List ℕ)
+
+-- ---- any list of sessions
+
+-- one session: its settings, its time, its report, its link before and after it, and what it left; how much
+-- mail had come by then, and which ids its QUIT removed from the server
+pub record MboxOccasion : Type 0 where
+  pub settings : Settings
+  pub now : ℕ
+  pub report : Report
+  pub link : Link
+  pub link' : Link
+  pub after : MboxKept
+  pub come : ℕ
+  pub vanished : List (List ℕ)
+
+-- a session; anything else that leaves the record and the mailbox file's bytes as they are; and messages that
+-- are gone from the server without a session
+pub data MboxEvent : Type 0 where
+  Fetched : MboxOccasion → MboxEvent
+  Between : MboxKept → MboxEvent
+  Expired : List (List ℕ) → MboxEvent
+
+-- the maildrop of an occasion
+abbrev pub maildrop_at : MboxFrame → MboxState → MboxOccasion → List Message
+maildrop_at frame state occasion = maildrop_of frame.all occasion.come state.gone
+
+-- it was a session, whatever cut it, and all that its link gained came from an honest server with this maildrop
+pub record IsMboxSession (frame : MboxFrame) (state : MboxState) (occasion : MboxOccasion) : Type 0 where
+  pub settings : AreSettings frame occasion.settings
+  pub session : MboxSession occasion.settings occasion.now occasion.link state.kept occasion.report occasion.link' occasion.after
+  pub served : (sent got : List ℕ) → occasion.link'.sent ≡ occasion.link.sent ++ sent → occasion.link'.got ≡ occasion.link.got ++ got
+      → Served (maildrop_at frame state occasion) sent got occasion.vanished
+
+-- the record's file still stands for the record that it stood for, and the mailbox file has the same bytes. The
+-- counts of refusals may have changed
+pub record IsMboxBetween (before after : MboxKept) : Type 0 where
+  pub record_is : (held : Held) → Keeps before.file.content held → Keeps after.file.content held
+  pub mail : mail_in after.mbox.content ≡ mail_in before.mbox.content
+
+-- the record's file stands for a record in which these are delivered
+abbrev pub AreRecorded : MboxKept → List (List ℕ) → Type 0
+AreRecorded state ids = (held : Held) × Keeps state.file.content held × AllByRecursion (λ id. is_delivered held.rows id ≡ true) ids
+
+abbrev pub after_event : MboxState → MboxEvent → MboxState
+after_event state (Fetched occasion) = record { kept = occasion.after; gone = state.gone ++ occasion.vanished }
+after_event state (Between after) = record state { kept = after }
+after_event state (Expired ids) = record state { gone = state.gone ++ ids }
+
+abbrev pub Follows : MboxFrame → MboxState → MboxEvent → Type 0
+Follows frame state (Fetched occasion) = IsMboxSession frame state occasion
+Follows frame state (Between after) = IsMboxBetween state.kept after
+Follows frame state (Expired ids) = AreRecorded state.kept ids
+
+abbrev pub IsMboxRun : MboxFrame → MboxState → List MboxEvent → Type 0
+IsMboxRun frame state [] = Unit {0}
+IsMboxRun frame state (event ∷ events) = Follows frame state event × IsMboxRun frame (after_event state event) events
+
+abbrev pub state_after : MboxState → List MboxEvent → MboxState
+state_after state [] = state
+state_after state (event ∷ events) = state_after (after_event state event) events
+
+-- ---- what is promised
+
+-- an account with this record, and which ids are gone
+abbrev pub situation : Held → MboxState → MboxSituation
+situation held state = record { account = mbox_holds held state.kept.mbox; gone = state.gone }
+
+-- the file is the one before the first session, followed by the entries of the first of the selected messages
+-- that weren't recorded then, in order, each once, and by at most a front of the next one's entry, whose intent is
+-- then open. The recorded messages are exactly these and those before
+abbrev pub HoldsEntries : MboxFrame → MboxState → Type 0
+HoldsEntries frame state = (held : Held) × Keeps state.kept.file.content held × MboxHolds frame (mbox_holds held state.kept.mbox)
+
+-- the whole entry of a message with this id is in the file, or the id was recorded before the first session
+abbrev pub IsEntered : MboxFrame → MboxKept → List ℕ → Type 0
+IsEntered frame state id = (has_id (ids_of frame.had) id ≡ true) ⊎ HasEntry frame (mail_in state.mbox.content) id
+
+-- the message could be fetched, but comes after as many others that could be fetched as one session fetches
+abbrev pub IsPastCount : MboxFrame → MboxState → MboxOccasion → Message → Type 0
+IsPastCount frame state occasion message =
+    let listing = listing_of (maildrop_at frame state occasion) in
+    (held : Held) × Keeps state.kept.file.content held
+    × (has_id (ids_wanted (past_limit occasion.settings.max_count
+    (candidates occasion.settings (merged (settled (mbox_holds held state.kept.mbox)).rows listing (none_held listing) occasion.now) listing))) message.uid ≡ true)
+
+-- after an uncut session no intent is open and nothing of a next entry is left, and each message of the maildrop
+-- has its entry, or is larger than the limit, or comes after as many as one session fetches
+pub record EndsWhole (frame : MboxFrame) (state : MboxState) (occasion : MboxOccasion) : Type 0 where
+  pub held : Held
+  pub stands_for : Keeps occasion.after.file.content held
+  pub closed : held.intent ≡ None
+  pub holds : MboxHolds frame (mbox_holds held occasion.after.mbox)
+  pub no_rest : holds.rest ≡ []
+  pub left_out : AllByRecursion (λ (message : Message). IsEntered frame occasion.after message.uid
+      ⊎ (is_selected frame.max_size message ≡ false)
+      ⊎ IsPastCount frame state occasion message)
+      (maildrop_at frame state occasion)
+
+-- a DELE gives the number, counted from 1, of a message of the maildrop whose entry stands whole in the file when
+-- the session returns, or that was recorded before the first session
+abbrev pub IsForEntered : MboxFrame → MboxState → MboxOccasion → Command → Type 0
+IsForEntered frame state occasion (Dele number) = (0 < number) × (message : Message) × (slice_get (maildrop_at frame state occasion) (number - 1) ≡ Some message)
+    × IsEntered frame occasion.after message.uid
+IsForEntered frame state occasion _ = Unit {0}
+
+-- each DELE that was sent, the last perhaps in part, is for such a message
+pub record DeletesOnlyEntered (frame : MboxFrame) (state : MboxState) (occasion : MboxOccasion) : Type 0 where
+  pub sent : List ℕ
+  pub sent_is : occasion.link'.sent ≡ occasion.link.sent ++ sent
+  pub commands : List Command
+  pub asked : Asked commands sent
+  pub each : AllByRecursion (IsForEntered frame state occasion) commands
+  pub next : BeginsOne (IsForEntered frame state occasion) asked.part
+
+-- nothing is promised of what others do
+abbrev pub MboxPromised : MboxFrame → MboxState → MboxEvent → Type 0
+MboxPromised frame state (Fetched occasion) = (occasion.report.outcome ≡ Ended → EndsWhole frame state occasion) × DeletesOnlyEntered frame state occasion
+MboxPromised frame state _ = Unit {0}
+
+-- the file is so before and after each event, and each event keeps its promises
+abbrev pub MboxPromises : MboxFrame → MboxState → List MboxEvent → Type 0
+MboxPromises frame state [] = HoldsEntries frame state
+MboxPromises frame state (event ∷ events) = HoldsEntries frame state × MboxPromised frame state event × MboxPromises frame (after_event state event) events
+
+-- ---- the states in which it can begin and go on
+
+abbrev pub IsMboxKept : MboxFrame → MboxState → Type 0
+IsMboxKept frame state = (held : Held) × Keeps state.kept.file.content held × IsKeptIn frame (situation held state)
+
+-- the second sentence: from a kept state, over any list of sessions and of what happens between them
+abbrev pub MboxHeadline : Type 0
+MboxHeadline = (frame : MboxFrame) (start : MboxState) (events : List MboxEvent) → IsWorld frame.all → IsMboxKept frame start → IsMboxRun frame start events
+    → MboxPromises frame start events × IsMboxKept frame (state_after start events)
+
+-- the record has no open intent, and what it shows as delivered is exactly a prefix of the selected messages, as it
+-- is with an empty record; of these alone some may be gone. The mailbox file may hold anything
+pub record IsMboxStart (frame : MboxFrame) (state : MboxState) : Type 0 where
+  pub held : Held
+  pub stands_for : Keeps state.kept.file.content held
+  pub closed : held.intent ≡ None
+  pub ahead : List Message
+  pub prefix : selected frame.max_size frame.all ≡ frame.had ++ ahead
+  pub recorded : (id : List ℕ) → is_delivered held.rows id ≡ has_id (ids_of frame.had) id
+  pub gone : AllByRecursion (λ id. has_id (ids_of frame.had) id ≡ true) state.gone
+  pub file : mail_in state.kept.mbox.content ≡ frame.start
+
+-- such an account is kept
+abbrev pub MboxStartIsKept : Type 0
+MboxStartIsKept = (frame : MboxFrame) (start : MboxState) → IsMboxStart frame start → IsMboxKept frame start
+
+-- so the sentence holds from the first session on
+abbrev pub MboxHeadlineFromStart : Type 0
+MboxHeadlineFromStart = (frame : MboxFrame) (start : MboxState) (events : List MboxEvent) → IsWorld frame.all → IsMboxStart frame start → IsMboxRun frame start events
+    → MboxPromises frame start events
+
+-- ---- a program that starts anew, and one that is stopped
+
+-- the same bytes of the mailbox file and of the record's file
+pub record HasTheSameBytes (before after : MboxKept) : Type 0 where
+  pub mbox : after.mbox.content ≡ before.mbox.content
+  pub content : after.file.content ≡ before.file.content
+
+-- a program was stopped in a session: the files are as that session leaves them if every call is refused from
+-- that moment on, the first of them with or without effect. That is a session that was cut
+pub record IsMboxStopped (frame : MboxFrame) (state : MboxState) (occasion : MboxOccasion) (left : MboxKept) : Type 0 where
+  pub session : IsMboxSession frame state occasion
+  pub cut : occasion.report.outcome ≢ Ended
+  pub files : HasTheSameBytes occasion.after left
+
+-- so a stop is a run: the session, and then a new process
+abbrev pub MboxStopsAreRuns : Type 0
+MboxStopsAreRuns = (frame : MboxFrame) (state : MboxState) (occasion : MboxOccasion) (left : MboxKept) → IsMboxStopped frame state occasion left
+    → IsMboxRun frame state (Fetched occasion ∷ Between left ∷ [])

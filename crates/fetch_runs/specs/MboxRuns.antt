@@ -1,0 +1,47 @@
+-- Sessions with a mailbox file in a row, each over its own link.
+use Rattle.std.specs.Prelude.{◌≡◌, ℕ, List, [], ◌∷◌}
+use Rattle.pop3_wire.specs.Link.{Link}
+use Rattle.rc_file.specs.declared.settings.Settings.{Settings}
+use Rattle.fetch_session.specs.declared.report.Report.{Report}
+use Rattle.fetch_session.specs.Session.{MboxKept, MboxSession}
+use Rattle.run_law.specs.Chains.{Fact}
+use Rattle.run_law.specs.MboxRuns.{MboxFrame}
+use Rattle.fetch_runs.specs.declared.run.Visit.{Visit}
+use Rattle.fetch_runs.specs.MboxHeadline.{MboxState, MboxOccasion, Fetched, after_event, HoldsEntries, MboxPromised, IsMboxKept}
+use Rattle.fetch_runs.specs.Runs.{RunsBy}
+
+-- the visit was one session at its time
+abbrev pub WasMadeInMbox : {W : Type 0} → (W → Link) → Settings → Visit W → MboxKept → Report → Visit W → MboxKept → Type 0
+WasMadeInMbox seen settings old before report new after = MboxSession settings old.now (seen old.wire) before report (seen new.wire) after × (new.now ≡ old.now)
+
+-- each visit was one session at its time, in order, from what the one before left, and has its report
+abbrev pub MboxRuns : {W : Type 0} → (W → Link) → Settings → List (Visit W) → MboxKept → List Report → List (Visit W) → MboxKept → Type 0
+MboxRuns seen settings olds first reports news last = RunsBy (WasMadeInMbox seen settings) olds first reports news last
+
+-- ---- what is promised of them
+
+abbrev pub mbox_state : MboxKept → List (List ℕ) → MboxState
+mbox_state kept gone = record { kept = kept; gone = gone }
+
+-- a visit as an occasion of the headline
+abbrev pub mbox_occasion : {W : Type 0} → (W → Link) → Settings → Visit W → Report → Visit W → Fact → MboxKept → MboxOccasion
+mbox_occasion seen settings old report new fact after = record {
+  settings = settings;
+  now = old.now;
+  report = report;
+  link = seen old.wire;
+  link' = seen new.wire;
+  after = after;
+  come = fact.come;
+  vanished = fact.vanished;
+}
+
+-- the mailbox file is as the headline says before and after each visit, each visit keeps its promises, and the
+-- last state is kept
+abbrev pub AreMboxPromised : {W : Type 0} → (W → Link) → Settings → MboxFrame → MboxState → List (Visit W) → List Report → List (Visit W) → List Fact → MboxKept → Type 0
+AreMboxPromised seen settings frame state [] [] [] [] last = HoldsEntries frame state × IsMboxKept frame state × (state.kept ≡ last)
+AreMboxPromised seen settings frame state (old ∷ olds) (report ∷ reports) (new ∷ news) (fact ∷ facts) last =
+    (between : MboxKept) × MboxSession settings old.now (seen old.wire) state.kept report (seen new.wire) between
+    × HoldsEntries frame state × MboxPromised frame state (Fetched (mbox_occasion seen settings old report new fact between))
+    × AreMboxPromised seen settings frame (after_event state (Fetched (mbox_occasion seen settings old report new fact between))) olds reports news facts last
+AreMboxPromised seen settings frame state olds reports news facts last = ⊥

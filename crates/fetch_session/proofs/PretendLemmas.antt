@@ -1,0 +1,111 @@
+-- What a session tells that changes nothing, and why it tells nothing.
+use Rattle.std.proofs.Common.{◌≡◌, inr, ℕ, Bool, false, List, [], ◌∷◌, length, Option, None, Ok, Err, refl, ap, subst, ◌∙◌}
+use Rattle.pop3_wire.specs.Link.{Link}
+use Rattle.pop3_wire.specs.Place.{Place, at}
+use Rattle.mail_terms.specs.Listing.{Item}
+use Rattle.pop3_client.specs.declared.fault.Fault.{Fault as TalkFault}
+use Rattle.pop3_client.specs.Conversation.{Talks}
+use Rattle.pop3_client.specs.Turns.{quit}
+use Rattle.rc_file.specs.declared.settings.Settings.{Settings}
+use Rattle.fetch_rules.specs.Intents.{closed_rows}
+use Rattle.fetch_rules.specs.Record.{Row, Intent, Loaded, merged}
+use Rattle.fetch_rules.specs.Plan.{planned}
+use Rattle.fetch_rules.specs.declared.steps.Step.{Step}
+use Rattle.mail_store.specs.FlatFile.{Stored}
+use Rattle.fetch_session.specs.declared.fault.Cut.{Cut}
+use Rattle.fetch_session.specs.declared.fault.Fault.{Fault}
+use Rattle.fetch_session.specs.declared.preview.Foreseen.{Foreseen}
+use Rattle.fetch_session.specs.declared.preview.Looked.{Looked}
+use Rattle.fetch_session.specs.declared.preview.Preview.{Preview}
+use Rattle.fetch_session.specs.declared.prospect.Prospect.{Prospect}
+use Rattle.fetch_session.specs.declared.report.Outcome.TheVariants.{Ended, Cut as WasCut}
+use Rattle.fetch_session.specs.Fault.{fault_of, cut_of}
+use Rattle.fetch_session.specs.Pretend.{Foresees, Foretells, HoldsTheSame, IsUntouched, LooksIn, Pretends, Surveys, counted_as, foretold, told_in}
+use Rattle.fetch_session.specs.Prospect.{prospects}
+use Rattle.fetch_session.specs.Record.{ReadAs, held_in}
+use Rattle.fetch_session.specs.Session.{Keeping, Enters_with, keeping}
+use Rattle.fetch_session.specs.Tail.{Left}
+use Rattle.fetch_session.specs.Target.{Target, AsFiles, AsEntries, Stores}
+use Rattle.fetch_session.proofs.RecordLemmas.{not_whole, read_keeps}
+
+-- ---- what is told
+
+pub foretold_is : (settings : Settings) (rows rows' : List Row) (intent : Option Intent) (items : List Item) (held : List Bool) (now : ℕ) (steps : List Step)
+    → rows' ≡ merged (closed_rows false rows intent) items held now → steps ≡ planned settings rows' items now
+    → prospects settings rows' now 0 steps items held ≡ foretold settings (merged rows items held now) items held now
+foretold_is settings rows rows' intent items held now steps rows_are steps_are =
+    ap (λ (ss : List Step). prospects settings rows' now 0 ss items held) steps_are
+    ∙ ap (λ (r : List Row). foretold settings r items held now) (rows_are ∙ ap (λ (r : List Row). merged r items held now) (not_whole rows intent))
+
+-- ---- nothing changes
+
+found_same : (target : Target) (intent : Option Intent) (store store' : Stores) (items : List Item) (looked : Looked) → LooksIn target intent store items (Ok looked) store' → HoldsTheSame target store store'
+found_same (AsFiles account) intent store store' items looked is = ap (λ (s : Stores). counted_as store.maildir.failures s.maildir) is.2
+found_same AsEntries intent store store' items looked is = ap (λ (s : Stored). s.content) is.3
+
+module _ (settings : Settings) (target : Target) (items : List Item) (now : ℕ) (store : Stores) (file read : Stored) (loaded : Loaded) where
+  foretells : (t : Target) (store' : Stores) (looked : Looked) (told : List Prospect) → ReadAs file.content loaded → LooksIn t loaded.intent store items (Ok looked) store'
+      → told ≡ foretold settings (merged loaded.rows items looked.held.items now) items looked.held.items now → Foretells settings t items now (keeping store file) looked.unsettled told
+  foretells (AsFiles account) store' looked told stood looks is = record {
+    was = held_in loaded;
+    stood = read_keeps file.content loaded stood;
+    followed = tt;
+    unsettled_is = looks.1;
+    told_is = is ∙ ap (λ (flags : List Bool). foretold settings (merged loaded.rows items flags now) items flags now) looks.0;
+  }
+  foretells AsEntries store' looked told stood looks is = record {
+    was = held_in loaded;
+    stood = read_keeps file.content loaded stood;
+    followed = looks.2;
+    unsettled_is = looks.1;
+    told_is = is ∙ ap (λ (flags : List Bool). foretold settings (merged loaded.rows items flags now) items flags now) looks.0;
+  }
+
+  pub foreseen : (store' : Stores) (looked : Looked) (told : List Prospect) → ReadAs file.content loaded → read ≡ file → LooksIn target loaded.intent store items (Ok looked) store'
+      → told ≡ foretold settings (merged loaded.rows items looked.held.items now) items looked.held.items now
+      → Foretells settings target items now (keeping store file) looked.unsettled told × IsUntouched target (keeping store file) (keeping store' read)
+  foreseen store' looked told stood same looks is =
+      (foretells target store' looked told stood looks is, (found_same target loaded.intent store store' items looked looks, ap (λ (s : Stored). s.content) same))
+
+-- ---- the session
+
+module _ (settings : Settings) (target : Target) (now : ℕ) (old : Place) (before : Keeping) where
+  pub not_ended : (items : List Item) (mid new : Place) (after : Keeping) (ahead : Foreseen) (n : ℕ) (why : TalkFault) (fault : Fault) (cut : Cut) → Enters_with settings old (Ok items) mid
+      → Foresees settings target items now before (Ok ahead) after → n ≡ length items → Talks (quit ∷ []) mid (Err why) new → cut ≡ cut_of fault None → fault ≡ fault_of why
+      → Surveys settings target now old before (Err cut) new after (record { total = n; unsettled = ahead.unsettled; prospects = ahead.prospects.items })
+  not_ended items mid new after ahead n why fault cut enters says count quits plain is = (
+    inr (inr (why, plain ∙ ap (λ (f : Fault). cut_of f None) is, record { items = items; mid = mid; enters = enters; total = count; foretells = says.0; quits = quits })),
+    says.1,
+  )
+
+pub cut_preview : (settings : Settings) (target id : Target) (now : ℕ) (link : Link) (reader : List ℕ) (before : Keeping) (cut : Cut) (mid new : Place) (after : Keeping) (preview : Preview)
+    → id ≡ target → reader ≡ [] → Surveys settings id now (at link reader) before (Err cut) mid after (told_in preview) → Left cut mid new → preview.outcome ≡ WasCut cut.fault
+    → Pretends settings target now link before preview new.link after
+cut_preview settings target id now link reader before cut mid new after preview same none surveys left is = record {
+  result = Err cut;
+  mid = mid;
+  ends = there.0;
+  leaves = (new, left, refl);
+  outcome = is;
+  untouched = there.1;
+}
+  where
+    there : Surveys settings target now (at link []) before (Err cut) mid after (told_in preview)
+    there = subst (λ (r : List ℕ). Surveys settings target now (at link r) before (Err cut) mid after (told_in preview)) none
+        (subst (λ (t : Target). Surveys settings t now (at link reader) before (Err cut) mid after (told_in preview)) same surveys)
+
+pub ended_preview : (settings : Settings) (target id : Target) (now : ℕ) (link : Link) (reader : List ℕ) (before : Keeping) (mid : Place) (after : Keeping) (preview : Preview)
+    → id ≡ target → reader ≡ [] → Surveys settings id now (at link reader) before (Ok tt) mid after (told_in preview) → preview.outcome ≡ Ended
+    → Pretends settings target now link before preview mid.link after
+ended_preview settings target id now link reader before mid after preview same none surveys is = record {
+  result = Ok tt;
+  mid = mid;
+  ends = there.0;
+  leaves = refl;
+  outcome = is;
+  untouched = there.1;
+}
+  where
+    there : Surveys settings target now (at link []) before (Ok tt) mid after (told_in preview)
+    there = subst (λ (r : List ℕ). Surveys settings target now (at link r) before (Ok tt) mid after (told_in preview)) none
+        (subst (λ (t : Target). Surveys settings t now (at link reader) before (Ok tt) mid after (told_in preview)) same surveys)

@@ -1,0 +1,53 @@
+use Rattle.std.proofs.Common.{List, Option, sym, subst, refl}
+use Rattle.fetch_rules.specs.Record.{Row, Intent}
+use Rattle.fetch_rules.specs.Intents.{IsNoneOrOf}
+use Rattle.fetch_session.specs.Record.{Steady, intent_at}
+use Rattle.fetch_session.proofs.RecordLemmas.{held as with_held}
+use Rattle.fetch_session.proofs.MboxLemmas.{appended_all, intended, not_appended, not_intended, not_measured}
+use Rattle.fetch_session.proofs.appending.append_text.Goals as goal
+
+pub returns-in-Err-clause-appends : goal.returns-in-Err-clause-appends
+returns-in-Err-clause-appends g c = λ m f.
+    let measures = c.in-Err.ensures.measures m in
+    (measures.0, f, not_measured (g.F.FlatFile.stored c.args.mbox.now) (g.F.FlatFile.stored c.edges.new.self) (g.F.FlatFile.stored c.args.ledger.now.file) c.args.ledger.now.seen.rows c.args.uid.now c.args.text.now c.in-Err.fault c.refused.result measures.1 c.refused.ensures)
+
+pub returns-in-Err-intend-clause-appends : goal.returns-in-Err-intend-clause-appends
+returns-in-Err-intend-clause-appends g c = λ m f.
+    let measures = c.in-Ok.ensures.measures m in
+    let saves = c.in-Err-intend.ensures.saves f in
+    (measures.0, saves.0, not_intended (g.F.FlatFile.stored c.args.mbox.now) (g.F.FlatFile.stored c.edges.new.self) (g.F.FlatFile.stored c.args.ledger.now.file) (g.F.FlatFile.stored c.intend.new.file) c.args.ledger.now.seen.rows c.args.uid.now c.args.text.now c.in-Ok.edges c.entry_len-len.result c.in-Err-intend.fault measures.1 c.entry_len-len.ensures saves.1)
+
+pub returns-in-Err-append_entry-clause-appends : goal.returns-in-Err-append_entry-clause-appends
+returns-in-Err-append_entry-clause-appends g c = λ m f.
+    let appends = c.in-Err-append_entry.ensures.appends m in
+    let measures = c.in-Ok.ensures.measures appends.0 in
+    let saves = c.in_default.ensures.saves f in (
+      measures.0,
+      saves.0,
+      not_appended (g.F.FlatFile.stored c.args.mbox.now) (g.F.FlatFile.stored c.edges.new.self) (g.F.FlatFile.stored c.append_entry.new.file) (g.F.FlatFile.stored c.args.ledger.now.file) (g.F.FlatFile.stored c.intend.new.file) c.args.ledger.now.seen.rows c.args.uid.now c.args.text.now c.in-Ok.edges c.in-Err-append_entry.fault c.refused-in-Err-append_entry.result measures.1
+          (intended (g.F.FlatFile.stored c.args.mbox.now) (g.F.FlatFile.stored c.edges.new.self) (g.F.FlatFile.stored c.args.ledger.now.file) (g.F.FlatFile.stored c.intend.new.file) c.args.ledger.now.seen.rows c.args.uid.now c.args.text.now c.in-Ok.edges c.entry_len-len.result measures.1 c.entry_len-len.ensures saves.1)
+          appends.1 c.refused-in-Err-append_entry.ensures,
+    )
+
+pub returns-in-Ok-append_entry-clause-appends : goal.returns-in-Ok-append_entry-clause-appends
+returns-in-Ok-append_entry-clause-appends g c = λ m f.
+    let appends = c.in-Ok-append_entry.ensures.appends m in
+    let measures = c.in-Ok.ensures.measures appends.0 in
+    let saves = c.in_default.ensures.saves f in (
+      measures.0,
+      saves.0,
+      appended_all (g.F.FlatFile.stored c.args.mbox.now) (g.F.FlatFile.stored c.edges.new.self) (g.F.FlatFile.stored c.append_entry.new.file) (g.F.FlatFile.stored c.args.ledger.now.file) (g.F.FlatFile.stored c.intend.new.file) c.args.ledger.now.seen c.intend.new.seen c.args.uid.now c.args.text.now c.in-Ok.edges c.entry_len-len.result measures.1 c.entry_len-len.ensures
+          c.in_default.ensures.opened saves.1 appends.1,
+    )
+
+pub returns-in-Ok-append_entry-clause-opened : goal.returns-in-Ok-append_entry-clause-opened
+returns-in-Ok-append_entry-clause-opened g c = subst (λ (i : Option Intent). IsNoneOrOf c.args.uid.now i) (sym c.in_default.ensures.opened) refl
+
+pub returns-in-Ok-append_entry-clause-steady : goal.returns-in-Ok-append_entry-clause-steady
+returns-in-Ok-append_entry-clause-steady g c = λ f.
+    let steady = c.in_default.ensures.steady f in
+    let intent = intent_at c.args.uid.now c.in-Ok.edges.size c.entry_len-len.result in (
+      steady.0,
+      subst (λ (r : List Row). Steady (g.F.FlatFile.stored c.intend.new.file).content (with_held r c.intend.new.seen.intent)) (sym c.intend.ensures.rows)
+          (subst (λ (i : Option Intent). Steady (g.F.FlatFile.stored c.intend.new.file).content (with_held c.args.ledger.now.seen.rows i)) (sym c.in_default.ensures.opened) steady.1),
+    )

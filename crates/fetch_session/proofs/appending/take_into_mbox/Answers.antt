@@ -1,0 +1,189 @@
+use Rattle.std.proofs.Common.{List, [], ◌∷◌, ◌++◌, Vec, length, arith, sym, ap, subst, ◌∙◌, inl, refl}
+use Rattle.std.proofs.lemmas.Bool.{true≢false}
+use Rattle.mail_terms.specs.Text.{IsWhole}
+use Rattle.fetch_rules.specs.Record.{Row, has_row}
+use Rattle.pop3_client.specs.Client.{place_of}
+use Rattle.fetch_session.specs.declared.fault.Fault.TheVariants.{BadReply}
+use Rattle.fetch_session.specs.Target.{AsEntries, in_mbox}
+use Rattle.fetch_session.specs.Task.{stores}
+use Rattle.fetch_session.specs.declared.report.ReportLine.{ReportLine}
+use Rattle.fetch_session.specs.declared.report.ReportLine.TheVariants.{Delivered}
+use Rattle.fetch_session.proofs.TakeLemmas.{text_broken}
+use Rattle.fetch_session.proofs.MboxLemmas.{body_whole, entry_not_saved, entry_stored, not_held, text_refused}
+use Rattle.fetch_session.proofs.IntakeLemmas.{takes_plain, took_retr, takes_text, takes_held}
+use Rattle.fetch_session.proofs.RefusalLemmas.{before_cut, cut_by}
+use Rattle.pop3_client.proofs.ClientLemmas.{did_so}
+use Rattle.fetch_session.proofs.appending.take_into_mbox.Goals as goal
+
+pub returns-in-Err-clause-takes : goal.returns-in-Err-clause-takes
+returns-in-Err-clause-takes g c = λ w m f.
+    let opened = c.in-Err.ensures.opens w in (
+      opened.0,
+      m,
+      f,
+      opened.1,
+      text_broken AsEntries (stores c.args.number c.args.uid.now) _ (place_of g.W.Wire c.args.client.now) (place_of g.W.Wire c.open.new.self) (in_mbox (g.F.FlatFile.stored c.args.mbox.now)) (g.F.FlatFile.stored c.args.ledger.now.file) c.args.ledger.now.seen.rows c.args.ledger.now.lines.items
+          c.in-Err.fault c.told.result c.plain.result refl c.plain.ensures c.told.ensures opened.2,
+    )
+
+pub returns-in-Err-read_text-clause-takes : goal.returns-in-Err-read_text-clause-takes
+returns-in-Err-read_text-clause-takes g c = λ w m f.
+    let held = c.in-Err-read_text.ensures.holds w in
+    let opened = c.in-Ok.ensures.opens held.0 in
+    let old = place_of g.W.Wire c.args.client.now in (
+      opened.0,
+      m,
+      f,
+      g.met.W.Wire.leads_on _ _ _ opened.1 held.1,
+      not_held c.args.number c.args.uid.now old (place_of g.W.Wire c.read_text.new.client) (in_mbox (g.F.FlatFile.stored c.args.mbox.now)) (g.F.FlatFile.stored c.args.ledger.now.file) c.args.ledger.now.seen.rows c.args.ledger.now.lines.items c.in-Err-read_text.cut
+          (held.2 c.args.number old opened.2),
+    )
+
+pub returns-then-not-is_whole-clause-takes : goal.returns-then-not-is_whole-clause-takes
+returns-then-not-is_whole-clause-takes g c = λ w m f.
+    let held = c.in-Ok-read_text.ensures.holds w in
+    let opened = c.in-Ok.ensures.opens held.0 in
+    let fetched = held.2 c.args.number (place_of g.W.Wire c.args.client.now) opened.2 in
+    absurd (true≢false (sym (c.is_whole.ensures.1 (subst IsWhole (sym (c.deref.ensures.value ∙ fetched.2)) (body_whole fetched.0.body))) ∙ c.if-not-is_whole.true))
+
+pub append_text-requires-clause-whole : goal.append_text-requires-clause-whole
+append_text-requires-clause-whole g c = subst IsWhole (c.deref.ensures.value ∙ sym c.deref-2.ensures.value) (c.is_whole.ensures.0 c.if-not-is_whole.false)
+
+pub append_text-requires-clause-closed : goal.append_text-requires-clause-closed
+append_text-requires-clause-closed g c = c.requires.ready.closed
+
+pub append_text-requires-clause-steady : goal.append_text-requires-clause-steady
+append_text-requires-clause-steady g c = c.requires.ready.steady
+
+pub remember-requires-clause-steady : goal.remember-requires-clause-steady
+remember-requires-clause-steady g c = λ f. (c.in_default.ensures.steady f).1
+
+pub remember-requires-clause-own : goal.remember-requires-clause-own
+remember-requires-clause-own g c = c.in_default.ensures.opened
+
+pub returns-in-Err-append_text-clause-takes : goal.returns-in-Err-append_text-clause-takes
+returns-in-Err-append_text-clause-takes g c = λ w m f.
+    let appends = c.in-Err-append_text.ensures.appends m f in
+    let held = c.in-Ok-read_text.ensures.holds w in
+    let opened = c.in-Ok.ensures.opens held.0 in
+    let old = place_of g.W.Wire c.args.client.now in (
+      opened.0,
+      appends.0,
+      appends.1,
+      g.met.W.Wire.leads_on _ _ _ opened.1 held.1,
+      text_refused c.args.number c.args.uid.now c.in-Ok-read_text.text.items c.deref-2.result.now old (place_of g.W.Wire c.read_text.new.client) (g.F.FlatFile.stored c.args.mbox.now) (g.F.FlatFile.stored c.append_text.new.mbox) (g.F.FlatFile.stored c.args.ledger.now.file) (g.F.FlatFile.stored c.append_text.new.ledger.file)
+          c.args.ledger.now.seen.rows c.append_text.new.ledger.seen.rows c.args.ledger.now.lines.items c.append_text.new.ledger.lines.items c.in-Err-append_text.fault c.plain-in-Err-append_text.result (held.2 c.args.number old opened.2) c.deref-2.ensures.value c.plain-in-Err-append_text.ensures appends.2 c.append_text.ensures.rows (ap (λ (v : Vec ReportLine _). v.items) c.append_text.ensures.lines),
+    )
+
+pub returns-in-Ok-remember-clause-takes : goal.returns-in-Ok-remember-clause-takes
+returns-in-Ok-remember-clause-takes g c = λ w m f.
+    let saved = c.in-Ok-remember.ensures.saves f in
+    let appends = c.in_default.ensures.appends m saved.0 in
+    let held = c.in-Ok-read_text.ensures.holds w in
+    let opened = c.in-Ok.ensures.opens held.0 in
+    let old = place_of g.W.Wire c.args.client.now in (
+      opened.0,
+      appends.0,
+      appends.1,
+      g.met.W.Wire.leads_on _ _ _ opened.1 held.1,
+      entry_stored c.args.number c.len-length.result c.args.uid.now c.in-Ok-read_text.text.items c.deref-2.result.now old (place_of g.W.Wire c.read_text.new.client) (g.F.FlatFile.stored c.args.mbox.now) (g.F.FlatFile.stored c.append_text.new.mbox) (g.F.FlatFile.stored c.args.ledger.now.file) (g.F.FlatFile.stored c.append_text.new.ledger.file) (g.F.FlatFile.stored c.remember.new.file)
+          c.args.ledger.now.seen c.append_text.new.ledger.seen c.remember.new.seen.rows c.args.ledger.now.lines.items c.note.new.lines.items (held.2 c.args.number old opened.2) c.deref-2.ensures.value (omega (arith, c.len-length.ensures, c.deref-2.ensures.len, ap length c.deref-2.ensures.value)) appends.2 c.append_text.ensures.rows c.in-Ok-remember.ensures.rows saved.1 (c.note.ensures.items ∙ ap (λ (ls : List ReportLine). ls ++ Delivered c.args.number c.len-length.result ∷ []) (ap (λ (v : Vec ReportLine _). v.items) c.append_text.ensures.lines)),
+    )
+
+pub returns-clause-takes : goal.returns-clause-takes
+returns-clause-takes g c = λ w m f.
+    let saved = c.in-Err-remember.ensures.saves f in
+    let appends = c.in_default.ensures.appends m saved.0 in
+    let held = c.in-Ok-read_text.ensures.holds w in
+    let opened = c.in-Ok.ensures.opens held.0 in
+    let old = place_of g.W.Wire c.args.client.now in (
+      opened.0,
+      appends.0,
+      appends.1,
+      g.met.W.Wire.leads_on _ _ _ opened.1 held.1,
+      entry_not_saved c.args.number c.len-length.result c.args.uid.now c.in-Ok-read_text.text.items c.deref-2.result.now old (place_of g.W.Wire c.read_text.new.client) (g.F.FlatFile.stored c.args.mbox.now) (g.F.FlatFile.stored c.append_text.new.mbox) (g.F.FlatFile.stored c.args.ledger.now.file) (g.F.FlatFile.stored c.append_text.new.ledger.file) (g.F.FlatFile.stored c.remember.new.file)
+          c.args.ledger.now.seen c.append_text.new.ledger.seen c.remember.new.seen.rows c.args.ledger.now.lines.items c.note.new.lines.items c.in-Err-remember.fault c.plain-in-Err-remember.result (held.2 c.args.number old opened.2) c.deref-2.ensures.value (omega (arith, c.len-length.ensures, c.deref-2.ensures.len, ap length c.deref-2.ensures.value)) c.plain-in-Err-remember.ensures appends.2 c.append_text.ensures.rows saved.1 (c.note.ensures.items ∙ ap (λ (ls : List ReportLine). ls ++ Delivered c.args.number c.len-length.result ∷ []) (ap (λ (v : Vec ReportLine _). v.items) c.append_text.ensures.lines)),
+    )
+
+-- ---- ready for the next task
+
+pub returns-in-Ok-remember-clause-ready : goal.returns-in-Ok-remember-clause-ready
+returns-in-Ok-remember-clause-ready g c = record {
+  closed = c.in-Ok-remember.ensures.closed;
+  steady = λ f. (c.in-Ok-remember.ensures.steady f).1;
+}
+
+pub returns-in-Ok-remember-clause-rows : goal.returns-in-Ok-remember-clause-rows
+returns-in-Ok-remember-clause-rows g c = λ other has.
+    ap (λ (r : List Row). has_row r other) (c.in-Ok-remember.ensures.rows)
+    ∙ c.marked_keeps_rows.ensures c.append_text.new.ledger.seen.rows c.args.uid.now other ∙ ap (λ (r : List Row). has_row r other) c.append_text.ensures.rows ∙ has
+
+-- ---- what was taken of the link
+
+pub returns-in-Err-clause-took : goal.returns-in-Err-clause-took
+returns-in-Err-clause-took g c = did_so g.W.Wire c.in-Err.ensures.opens (λ opened.
+    takes_plain 268437504 _ _ c.told.result c.plain.result c.plain.ensures (took_retr c.conversations_are_paced.ensures c.args.number _ _ c.in-Err.fault opened))
+
+pub returns-in-Err-read_text-clause-took : goal.returns-in-Err-read_text-clause-took
+returns-in-Err-read_text-clause-took g c = λ w.
+    let held = c.in-Err-read_text.ensures.holds w in
+    let opened = c.in-Ok.ensures.opens held.0 in
+    let old = place_of g.W.Wire c.args.client.now in
+    (opened.0, takes_held c.conversations_are_paced.ensures c.args.number old c.in-Err-read_text.cut (place_of g.W.Wire c.read_text.new.client) (held.2 c.args.number old opened.2))
+
+pub returns-then-not-is_whole-clause-took : goal.returns-then-not-is_whole-clause-took
+returns-then-not-is_whole-clause-took g c = λ w.
+    let held = c.in-Ok-read_text.ensures.holds w in
+    let opened = c.in-Ok.ensures.opens held.0 in
+    let old = place_of g.W.Wire c.args.client.now in
+    let new = place_of g.W.Wire c.read_text.new.client in
+    let took = takes_text c.conversations_are_paced.ensures c.args.number old c.in-Ok-read_text.text.items 0 new (held.2 c.args.number old opened.2) in
+    (opened.0, takes_plain 268437504 old new BadReply c.plain-then-not-is_whole.result c.plain-then-not-is_whole.ensures took)
+
+pub returns-in-Err-append_text-clause-took : goal.returns-in-Err-append_text-clause-took
+returns-in-Err-append_text-clause-took g c = λ w.
+    let held = c.in-Ok-read_text.ensures.holds w in
+    let opened = c.in-Ok.ensures.opens held.0 in
+    let old = place_of g.W.Wire c.args.client.now in
+    let new = place_of g.W.Wire c.read_text.new.client in
+    let took = takes_text c.conversations_are_paced.ensures c.args.number old c.in-Ok-read_text.text.items 0 new (held.2 c.args.number old opened.2) in
+    (opened.0, takes_plain 268437504 old new c.in-Err-append_text.fault c.plain-in-Err-append_text.result c.plain-in-Err-append_text.ensures took)
+
+pub returns-in-Ok-remember-clause-took : goal.returns-in-Ok-remember-clause-took
+returns-in-Ok-remember-clause-took g c = λ w.
+    let held = c.in-Ok-read_text.ensures.holds w in
+    let opened = c.in-Ok.ensures.opens held.0 in
+    let old = place_of g.W.Wire c.args.client.now in
+    let new = place_of g.W.Wire c.read_text.new.client in
+    let took = takes_text c.conversations_are_paced.ensures c.args.number old c.in-Ok-read_text.text.items 0 new (held.2 c.args.number old opened.2) in
+    (opened.0, took)
+
+pub returns-clause-took : goal.returns-clause-took
+returns-clause-took g c = λ w.
+    let held = c.in-Ok-read_text.ensures.holds w in
+    let opened = c.in-Ok.ensures.opens held.0 in
+    let old = place_of g.W.Wire c.args.client.now in
+    let new = place_of g.W.Wire c.read_text.new.client in
+    let took = takes_text c.conversations_are_paced.ensures c.args.number old c.in-Ok-read_text.text.items 0 new (held.2 c.args.number old opened.2) in
+    (opened.0, takes_plain 268437504 old new c.in-Err-remember.fault c.plain-in-Err-remember.result c.plain-in-Err-remember.ensures took)
+
+-- ---- refused calls of the link
+
+pub returns-in-Err-clause-counted : goal.returns-in-Err-clause-counted
+returns-in-Err-clause-counted g c =
+    cut_by c.in-Err.fault c.told.result c.plain.result (g.W.Wire.seen c.args.client.now.wire.now) (g.W.Wire.seen c.open.new.self.wire.now) c.plain.ensures c.told.ensures c.in-Err.ensures.counted
+
+pub returns-in-Err-read_text-clause-counted : goal.returns-in-Err-read_text-clause-counted
+returns-in-Err-read_text-clause-counted g c = before_cut (g.W.Wire.seen c.args.client.now.wire.now) (g.W.Wire.seen c.open.new.self.wire.now) (g.W.Wire.seen c.read_text.new.client.wire.now) c.in-Err-read_text.cut c.in-Ok.ensures.counted c.in-Err-read_text.ensures.counted
+
+pub returns-then-not-is_whole-clause-counted : goal.returns-then-not-is_whole-clause-counted
+returns-then-not-is_whole-clause-counted g c = inl (c.in-Ok-read_text.ensures.counted ∙ c.in-Ok.ensures.counted)
+
+pub returns-in-Err-append_text-clause-counted : goal.returns-in-Err-append_text-clause-counted
+returns-in-Err-append_text-clause-counted g c = inl (c.in-Ok-read_text.ensures.counted ∙ c.in-Ok.ensures.counted)
+
+pub returns-in-Ok-remember-clause-counted : goal.returns-in-Ok-remember-clause-counted
+returns-in-Ok-remember-clause-counted g c = c.in-Ok-read_text.ensures.counted ∙ c.in-Ok.ensures.counted
+
+pub returns-clause-counted : goal.returns-clause-counted
+returns-clause-counted g c = inl (c.in-Ok-read_text.ensures.counted ∙ c.in-Ok.ensures.counted)

@@ -1,0 +1,20 @@
+use Rattle.std.proofs.Common.{List, Bool, ap, ◌∙◌}
+use Rattle.fetch_rules.specs.Record.{merged}
+use Rattle.fetch_session.specs.Pretend.{foretold}
+use Rattle.fetch_session.specs.Target.{stores_of, target_of}
+use Rattle.fetch_session.proofs.PretendLemmas.{foreseen}
+use Rattle.fetch_session.proofs.preview.foresee.Goals as goal
+
+pub returns-in-Ok-foretell-clause-foresees : goal.returns-in-Ok-foretell-clause-foresees
+returns-in-Ok-foretell-clause-foresees g c = λ d f.
+    let looks = c.in-Ok.ensures.looks d in
+    let reads = c.in_default.ensures.reads f in
+    let settings = c.args.terms.settings.now in
+    let items = c.args.listing.now in
+    let now = c.args.terms.now in (
+      looks.0,
+      reads.0,
+      foreseen settings (target_of c.args.store.now c.args.terms.account.now) items now (stores_of g.D.MaildirDisk g.F.FlatFile c.args.store.now) (g.F.FlatFile.stored c.args.file.now) (g.F.FlatFile.stored c.read.new.file) c.read.new.seen
+          (stores_of g.D.MaildirDisk g.F.FlatFile c.look.new.store) c.in-Ok.looked c.in-Ok-foretell.prospects.items reads.1.0 reads.1.2 looks.1
+          (c.in-Ok-foretell.ensures ∙ ap (λ (flags : List Bool). foretold settings (merged c.read.new.seen.rows items flags now) items flags now) c.deref.ensures.value),
+    )

@@ -1,0 +1,107 @@
+-- What is done to a mailbox file and to the record that tells of it.
+use Rattle.std.specs.Prelude.{◌≡◌, ◌⊎◌, ◌+◌, ℕ, Bool, false, List, ◌++◌, length, Option, None, Some, Result, Ok, Err}
+use Rattle.mail_terms.specs.Listing.{Item}
+use Rattle.fetch_rules.specs.Record.{Row, Intent, Loaded, none_open, marked}
+use Rattle.mail_store.specs.FlatFile.{Stored, holding, counted}
+use Rattle.mail_store.specs.Mboxrd.{MayGoOn, entry_of}
+use Rattle.mail_store.specs.MboxCalls.{GoesOn, IsOther}
+use Rattle.mail_store.specs.Settling.{stands_whole, settled_file}
+use Rattle.mail_store.specs.declared.fault.StoreFault.{StoreFault}
+use Rattle.mail_store.specs.declared.fault.StoreFault.TheVariants as refused
+use Rattle.pop3_wire.specs.Bodies.{Rest}
+use Rattle.pop3_wire.specs.Place.{Place}
+use Rattle.pop3_client.specs.declared.fault.Fault.{Fault as TalkFault}
+use Rattle.pop3_client.specs.Conversation.{Broke}
+use Rattle.pop3_client.specs.Texts.{Fetching, Fetched}
+use Rattle.pop3_client.specs.Turns.{retr}
+use Rattle.fetch_session.specs.declared.fault.Cut.{Cut}
+use Rattle.fetch_session.specs.declared.fault.Fault.{Fault}
+use Rattle.fetch_session.specs.declared.fault.Fault.TheVariants.{StoreRefused, SeenRefused, NoMemory}
+use Rattle.fetch_session.specs.declared.fault.Why.TheVariants.{Missing, Refused, NotMbox}
+use Rattle.fetch_session.specs.declared.readiness.Found.{Found}
+use Rattle.fetch_session.specs.Fault.{fault_of}
+use Rattle.fetch_session.specs.Record.{Saves, intent_at, with_open}
+use Rattle.fetch_session.specs.Target.{is_stored, closed_file, none_held}
+
+-- the fault of a session whose store refused so
+abbrev pub IsStoreFault : StoreFault → Fault → Type 0
+IsStoreFault refused.Missing fault = fault ≡ StoreRefused Missing
+IsStoreFault refused.Refused fault = fault ≡ StoreRefused Refused
+IsStoreFault refused.NotMbox fault = fault ≡ StoreRefused NotMbox
+IsStoreFault refused.NoMemory fault = fault ≡ NoMemory
+
+-- ---- before the first text
+
+-- the open intent, if there is one, was settled: whether its entry stands whole; there is no file; or a call was refused
+abbrev pub SettlesIntent : Option Intent → Stored → Result Bool Fault → Stored → Type 0
+SettlesIntent None old (Ok whole) new = (whole ≡ false) × (new ≡ old)
+SettlesIntent None old (Err fault) new = ⊥
+SettlesIntent (Some intent) old (Ok whole) new = (was : List ℕ) × (old.content ≡ Some was)
+    × (whole ≡ stands_whole intent.start intent.len was) × (new ≡ holding old (settled_file intent.start intent.len was))
+SettlesIntent (Some intent) old (Err (StoreRefused Missing)) new = (old.content ≡ None) × (new ≡ old)
+SettlesIntent (Some intent) old (Err (StoreRefused Refused)) new = (new ≡ counted old)
+    ⊎ ((was : List ℕ) × (old.content ≡ Some was) × (new ≡ counted (holding old (settled_file intent.start intent.len was))))
+SettlesIntent (Some intent) old (Err _) new = ⊥
+
+-- the file's bytes are as they were, or settled
+abbrev pub IsSettledAtMost : Option Intent → Stored → Stored → Type 0
+IsSettledAtMost intent old new = (new.content ≡ old.content)
+    ⊎ ((was : List ℕ) × (old.content ≡ Some was) × (new.content ≡ Some (closed_file intent was)))
+
+-- the file was settled, and an entry may follow it; there is none; a call was refused; no entry may follow; or memory was wanting
+abbrev pub AsksMbox : Option Intent → Stored → List Item → Result Found Fault → Stored → Type 0
+AsksMbox intent old items (Ok found) new = (was : List ℕ) × (old.content ≡ Some was) × (found.stored ≡ is_stored intent was)
+    × (new ≡ holding old (closed_file intent was)) × MayGoOn (closed_file intent was) × (found.held.items ≡ none_held items)
+AsksMbox intent old items (Err (StoreRefused Missing)) new = (old.content ≡ None) × (new ≡ old)
+AsksMbox intent old items (Err (StoreRefused Refused)) new = (new.failures ≡ old.failures + 1) × IsSettledAtMost intent old new
+AsksMbox intent old items (Err (StoreRefused NotMbox)) new = (was : List ℕ) × (old.content ≡ Some was)
+    × (MayGoOn (closed_file intent was) → ⊥) × (new ≡ holding old (closed_file intent was))
+AsksMbox intent old items (Err NoMemory) new = (new.failures ≡ old.failures) × IsSettledAtMost intent old new
+AsksMbox intent old items (Err _) new = ⊥
+
+-- ---- a text
+
+-- a text was read whole; the conversation broke; or memory was wanting for it as it came
+abbrev pub HoldsText : ℕ → Place → Result (List ℕ) Cut → Place → Type 0
+HoldsText number start (Ok text) new = Fetched (retr number) start text new
+HoldsText number start (Err cut) new = (cut.rest ≡ None)
+    × (((why : TalkFault) × (cut.fault ≡ fault_of why) × Broke (retr number) start new why)
+    ⊎ ((cut.fault ≡ NoMemory) × ((rest : Rest) × (text : List ℕ) × Fetching (retr number) start new rest text)))
+
+-- the intent of appending the entry of a text to these bytes
+abbrev pub intent_of : List ℕ → List ℕ → List ℕ → Intent
+intent_of bytes uid text = intent_at uid (length bytes) (length (entry_of text))
+
+-- the record tells that the entry of this text is about to be appended to the mailbox file
+abbrev pub IsIntended : Stored → Stored → List Row → List ℕ → List ℕ → Stored → Type 0
+IsIntended mbox file rows uid text file' = (was : List ℕ) × (mbox.content ≡ Some was)
+    × Saves file (none_open rows) (with_open rows (intent_of was uid text)) (Ok tt) file'
+
+-- what a text that wasn't appended leaves of the mailbox file and the record's: the file isn't there; a call was refused, before the record
+-- told of the entry, or behind, where a front of the entry may stand there; no entry may follow; the record's file was refused; or memory
+-- was wanting, before or behind
+abbrev pub RefusesEntry : Stored → Stored → List Row → List ℕ → List ℕ → Fault → Stored → Stored → Type 0
+RefusesEntry mbox file rows uid text (StoreRefused Missing) mbox' file' = (mbox.content ≡ None) × (mbox' ≡ mbox) × (file' ≡ file)
+RefusesEntry mbox file rows uid text (StoreRefused Refused) mbox' file' = ((mbox' ≡ counted mbox) × (file' ≡ file))
+    ⊎ (IsIntended mbox file rows uid text file' × ((mbox' ≡ counted mbox)
+    ⊎ ((was front rest : List ℕ) × GoesOn mbox was × (entry_of text ≡ front ++ rest)
+    × (mbox' ≡ counted (counted (holding mbox (was ++ front)))))))
+RefusesEntry mbox file rows uid text (StoreRefused NotMbox) mbox' file' = IsOther mbox × (mbox' ≡ mbox)
+    × IsIntended mbox file rows uid text file'
+RefusesEntry mbox file rows uid text SeenRefused mbox' file' = (mbox' ≡ mbox) × ((was : List ℕ) × (mbox.content ≡ Some was)
+    × Saves file (none_open rows) (with_open rows (intent_of was uid text)) (Err SeenRefused) file')
+RefusesEntry mbox file rows uid text NoMemory mbox' file' = (mbox' ≡ mbox) × ((file' ≡ file) ⊎ IsIntended mbox file rows uid text file')
+RefusesEntry mbox file rows uid text _ mbox' file' = ⊥
+
+-- the entry of a text stands behind the mailbox file's bytes, and the record tells that it was about to; or it was refused
+abbrev pub AppendsText : Stored → Stored → Loaded → List ℕ → List ℕ → Result (Unit {0}) Fault → Stored → Stored → Loaded → Type 0
+AppendsText mbox file seen uid text (Ok done) mbox' file' seen' = (was : List ℕ) × GoesOn mbox was
+    × (mbox' ≡ holding mbox (was ++ entry_of text)) × (seen'.intent ≡ Some (intent_of was uid text))
+    × Saves file (none_open seen.rows) (with_open seen.rows (intent_of was uid text)) (Ok tt) file'
+AppendsText mbox file seen uid text (Err fault) mbox' file' seen' = RefusesEntry mbox file seen.rows uid text fault mbox' file'
+
+-- the record told of the entry, and the mark that ends its intent wasn't saved
+abbrev pub MarksEntry : Stored → Stored → List Row → List ℕ → List ℕ → Fault → Stored → Type 0
+MarksEntry mbox file rows uid text fault file' = (was : List ℕ) × (mbox.content ≡ Some was) × (mid : Stored)
+    × Saves file (none_open rows) (with_open rows (intent_of was uid text)) (Ok tt) mid
+    × Saves mid (with_open rows (intent_of was uid text)) (none_open (marked rows uid)) (Err fault) file'

@@ -1,0 +1,157 @@
+-- A session that tells what a run would do, and changes nothing.
+use Rattle.std.specs.Prelude.{◌≡◌, ◌⊎◌, ℕ, Bool, true, false, List, [], ◌∷◌, length, Option, None, Some, Result, Ok, Err}
+use Rattle.mail_terms.specs.Listing.{Item}
+use Rattle.pop3_wire.specs.Link.{Link}
+use Rattle.pop3_wire.specs.Place.{Place, at}
+use Rattle.pop3_client.specs.declared.fault.Fault.{Fault as TalkFault}
+use Rattle.pop3_client.specs.Conversation.{Talks}
+use Rattle.pop3_client.specs.Turns.{quit}
+use Rattle.rc_file.specs.declared.settings.Settings.{Settings}
+use Rattle.fetch_rules.specs.Record.{Row, Intent, Held, merged}
+use Rattle.fetch_rules.specs.Plan.{planned}
+use Rattle.mail_store.specs.FlatFile.{Stored}
+use Rattle.mail_store.specs.Held.{flags_of}
+use Rattle.mail_store.specs.Maildir.{Maildir}
+use Rattle.mail_store.specs.MboxCalls.{GoesOn}
+use Rattle.fetch_session.specs.declared.fault.Cut.{Cut}
+use Rattle.fetch_session.specs.declared.fault.Fault.{Fault}
+use Rattle.fetch_session.specs.declared.preview.Foreseen.{Foreseen}
+use Rattle.fetch_session.specs.declared.preview.Looked.{Looked}
+use Rattle.fetch_session.specs.declared.preview.Preview.{Preview}
+use Rattle.fetch_session.specs.declared.prospect.Prospect.{Prospect}
+use Rattle.fetch_session.specs.Fault.{fault_of, cut_of}
+use Rattle.fetch_session.specs.Mbox.{AsksMbox}
+use Rattle.fetch_session.specs.Prospect.{prospects}
+use Rattle.fetch_session.specs.Readiness.{CausesUnready, FindsRefused}
+use Rattle.fetch_session.specs.Record.{Keeps}
+use Rattle.fetch_session.specs.Session.{Keeping, Enters_with, LeavesLink, outcome_of}
+use Rattle.fetch_session.specs.Target.{Target, AsFiles, AsEntries, Stores, flags_in, none_held}
+
+-- ---- nothing changes
+
+-- the same Maildir with another count of refused calls
+abbrev pub counted_as : ℕ → Maildir → Maildir
+counted_as failures maildir = record maildir { failures = failures }
+
+-- a store holds what it held
+abbrev pub HoldsTheSame : Target → Stores → Stores → Type 0
+HoldsTheSame (AsFiles account) old new = counted_as old.maildir.failures new.maildir ≡ old.maildir
+HoldsTheSame AsEntries old new = new.mbox.content ≡ old.mbox.content
+
+-- the store and the record's file are as they were, but for how many of their calls were refused
+abbrev pub IsUntouched : Target → Keeping → Keeping → Type 0
+IsUntouched target old new = HoldsTheSame target old.store new.store × (new.file.content ≡ old.file.content)
+
+-- ---- what the store holds
+
+-- whether a run would first settle the mailbox file: an intent is open
+abbrev pub is_open : Option Intent → Bool
+is_open None = false
+is_open (Some intent) = true
+
+-- a mailbox file was looked at, unless a run would settle it first
+abbrev pub LooksAtMbox : Option Intent → Stored → List Item → Result Looked Fault → Stored → Type 0
+LooksAtMbox intent old items (Ok looked) new = (looked.held.items ≡ none_held items) × (looked.unsettled ≡ is_open intent)
+    × (intent ≡ None → (was : List ℕ) × GoesOn old was) × (new ≡ old)
+LooksAtMbox intent old items (Err fault) new = AsksMbox intent old items (Err fault) new × (new.content ≡ old.content)
+
+abbrev pub LooksIn : Target → Option Intent → Stores → List Item → Result Looked Fault → Stores → Type 0
+LooksIn (AsFiles account) intent old items (Ok looked) new = (looked.held.items ≡ flags_of account old.maildir items)
+    × (looked.unsettled ≡ false) × (new ≡ old)
+LooksIn (AsFiles account) intent old items (Err fault) new = FindsRefused old.maildir fault new.maildir
+LooksIn AsEntries intent old items result new = LooksAtMbox intent old.mbox items result new.mbox
+
+-- ---- what is told
+
+-- what is told of a listing once the record has these rows
+abbrev pub foretold : Settings → List Row → List Item → List Bool → ℕ → List Prospect
+foretold settings rows items flags now = prospects settings rows now 0 (planned settings rows items now) items flags
+
+-- whether a run would first settle its store
+abbrev pub is_unsettled : Target → Option Intent → Bool
+is_unsettled (AsFiles account) intent = false
+is_unsettled AsEntries intent = is_open intent
+
+-- an entry may follow the mailbox file, unless a run would settle it first
+abbrev pub MayBeFollowed : Target → Option Intent → Stores → Type 0
+MayBeFollowed (AsFiles account) intent store = Unit {0}
+MayBeFollowed AsEntries intent store = intent ≡ None → (was : List ℕ) × GoesOn store.mbox was
+
+-- the record's file stands for a record, and this is told of the listing by it and by what the store holds. An open intent counts as one
+-- whose entry isn't whole
+pub record Foretells (settings : Settings) (target : Target) (items : List Item) (now : ℕ) (old : Keeping) (unsettled : Bool)
+    (told : List Prospect) : Type 0 where
+  pub was : Held
+  pub stood : Keeps old.file.content was
+  pub followed : MayBeFollowed target was.intent old.store
+  pub unsettled_is : unsettled ≡ is_unsettled target was.intent
+  pub told_is : told ≡ foretold settings (merged was.rows items (flags_in target old.store items) now) items (flags_in target old.store items) now
+
+-- this is told, or a session with this listing wouldn't be ready either, for this reason; and nothing changed
+abbrev pub Foresees : Settings → Target → List Item → ℕ → Keeping → Result Foreseen Fault → Keeping → Type 0
+Foresees settings target items now old (Ok foreseen) new =
+    Foretells settings target items now old foreseen.unsettled foreseen.prospects.items × IsUntouched target old new
+Foresees settings target items now old (Err fault) new = CausesUnready target fault old.store old.file new.store new.file × IsUntouched target old new
+
+-- ---- the session
+
+-- how many messages are listed, whether a run would first settle its store, and what it would do with each message
+pub record Told : Type 0 where
+  pub total : ℕ
+  pub unsettled : Bool
+  pub prospects : List Prospect
+
+abbrev pub told_in : Preview → Told
+told_in preview = record { total = preview.total; unsettled = preview.unsettled; prospects = preview.prospects.items }
+
+abbrev pub told_nothing : ℕ → Told
+told_nothing total = record { total = total; unsettled = false; prospects = [] }
+
+-- logging in or asking for the listings stopped
+pub record NotListed (settings : Settings) (old : Place) (cut : Cut) (new : Place) (told : Told) : Type 0 where
+  pub why : TalkFault
+  pub is : cut ≡ cut_of (fault_of why) None
+  pub enters : Enters_with settings old (Err why) new
+  pub nothing : told ≡ told_nothing 0
+
+-- the listing is known, and a session wouldn't be ready for it
+pub record NotReady (settings : Settings) (target : Target) (old : Place) (before : Keeping) (cut : Cut) (new : Place) (after : Keeping)
+    (told : Told) : Type 0 where
+  pub items : List Item
+  pub fault : Fault
+  pub is : cut ≡ cut_of fault None
+  pub enters : Enters_with settings old (Ok items) new
+  pub cause : CausesUnready target fault before.store before.file after.store after.file
+  pub nothing : told ≡ told_nothing (length items)
+
+-- what would be done with the listed messages is told, and QUIT was sent
+pub record Listed (settings : Settings) (target : Target) (now : ℕ) (old : Place) (before : Keeping) (result : Result (Unit {0}) TalkFault)
+    (new : Place) (told : Told) : Type 0 where
+  pub items : List Item
+  pub mid : Place
+  pub enters : Enters_with settings old (Ok items) mid
+  pub total : told.total ≡ length items
+  pub foretells : Foretells settings target items now before told.unsettled told.prospects
+  pub quits : Talks (quit ∷ []) mid result new
+
+-- the session came to its end, or stopped
+abbrev pub EndsOrStops : Settings → Target → ℕ → Place → Keeping → Result (Unit {0}) Cut → Place → Keeping → Told → Type 0
+EndsOrStops settings target now old before (Ok done) new after told = Listed settings target now old before (Ok done) new told
+EndsOrStops settings target now old before (Err cut) new after told = NotListed settings old cut new told
+    ⊎ (NotReady settings target old before cut new after told
+    ⊎ ((why : TalkFault) × (cut ≡ cut_of (fault_of why) None) × Listed settings target now old before (Err why) new told))
+
+abbrev pub Surveys : Settings → Target → ℕ → Place → Keeping → Result (Unit {0}) Cut → Place → Keeping → Told → Type 0
+Surveys settings target now old before result new after told =
+    EndsOrStops settings target now old before result new after told × IsUntouched target before after
+
+-- a whole session, from a link of which nothing waits to be used: what it sends is the beginning of a session, then QUIT, or after a fault
+-- what a session says after it
+pub record Pretends (settings : Settings) (target : Target) (now : ℕ) (link : Link) (before : Keeping) (preview : Preview) (link' : Link)
+    (after : Keeping) : Type 0 where
+  pub result : Result (Unit {0}) Cut
+  pub mid : Place
+  pub ends : EndsOrStops settings target now (at link []) before result mid after (told_in preview)
+  pub leaves : LeavesLink result mid link'
+  pub outcome : preview.outcome ≡ outcome_of result
+  pub untouched : IsUntouched target before after

@@ -1,0 +1,76 @@
+-- What a run would do with each message of a listing, and why it would do nothing with some.
+use Rattle.std.specs.Prelude.{ℕ, ◌+◌, ◌*◌, ◌==◌, ◌&&◌, ◌||◌, not, nat_le, nat_lt, min, Bool, List, [], ◌∷◌, Option, Some, None, if◌then◌else◌}
+use Rattle.mail_terms.specs.Listing.{Item}
+use Rattle.rc_file.specs.declared.settings.Settings.{Settings}
+use Rattle.fetch_rules.specs.Record.{Row, is_delivered}
+use Rattle.fetch_rules.specs.Plan.{seen_since}
+use Rattle.fetch_rules.specs.Wanted.{is_within}
+use Rattle.fetch_rules.specs.declared.steps.Step.{Step}
+use Rattle.fetch_session.specs.declared.prospect.Fate.{Fate}
+use Rattle.fetch_session.specs.declared.prospect.Fate.TheVariants.{Fetched, FetchedAndDeleted, Deleted, Held, DeliveredBefore, TooLarge, PastLimit, SameId}
+use Rattle.fetch_session.specs.declared.prospect.Known.{Known}
+use Rattle.fetch_session.specs.declared.prospect.Prospect.{Prospect}
+
+-- what is known of a message before a run
+abbrev pub known_of : List Row → ℕ → Bool → Item → Known
+known_of rows now held item = record {
+  size = item.size;
+  held = held;
+  delivered = is_delivered rows item.uid;
+  since = seen_since rows item.uid now;
+}
+
+-- whether a session fetches no more after so many messages
+abbrev pub is_past_limit : Settings → ℕ → Bool
+is_past_limit settings fetched = not (settings.max_count == 0) && nat_le settings.max_count fetched
+
+-- why a message is neither fetched nor deleted, if so many before it are fetched
+abbrev pub reason : Settings → Known → ℕ → Fate
+reason settings known fetched =
+    if not settings.read_all && known.held then Held
+    else if not settings.read_all && known.delivered then DeliveredBefore
+    else if not (is_within settings.max_size known.size) then TooLarge
+    else if is_past_limit settings fetched then PastLimit
+    else SameId
+
+-- what is done with a message by its step, or why nothing
+abbrev pub fate_of : Settings → Step → Known → ℕ → Fate
+fate_of settings step known fetched =
+    if step.retrieve && step.delete then FetchedAndDeleted
+    else if step.retrieve then Fetched
+    else if step.delete then Deleted
+    else reason settings known fetched
+
+-- whether the age of a message decides if it is deleted: it is delivered, or will be
+abbrev pub waits : Settings → Step → Known → Bool
+waits settings step known = not settings.delete && (not (settings.delete_after == 0) && (known.delivered || step.retrieve))
+
+-- from when on a message is deleted that was first seen then, as far as 64 bits go
+abbrev pub due_second : Settings → ℕ → ℕ
+due_second settings since = min (since + min (86400 * settings.delete_after) 18446744073709551615) 18446744073709551615
+
+-- when a message is old enough to be deleted, if it isn't yet
+abbrev pub due_of : Settings → Step → Known → ℕ → Option ℕ
+due_of settings step known now =
+    if waits settings step known && nat_lt now (due_second settings known.since) then Some (due_second settings known.since) else None
+
+-- what is told of one message, if so many before it are fetched
+abbrev pub prospect_of : Settings → ℕ → ℕ → Step → Known → Prospect
+prospect_of settings now fetched step known = record {
+  number = step.number;
+  size = known.size;
+  fate = fate_of settings step known fetched;
+  due = due_of settings step known now;
+}
+
+-- how many messages a step fetches
+abbrev pub fetched_by : Step → ℕ
+fetched_by step = if step.retrieve then 1 else 0
+
+-- what is told of each message, by its step, if so many before them are fetched
+abbrev pub prospects : Settings → List Row → ℕ → ℕ → List Step → List Item → List Bool → List Prospect
+prospects settings rows now fetched [] items flags = []
+prospects settings rows now fetched (step ∷ steps) [] flags = []
+prospects settings rows now fetched (step ∷ steps) (item ∷ items) [] = []
+prospects settings rows now fetched (step ∷ steps) (item ∷ items) (held ∷ flags) =
+    prospect_of settings now fetched step (known_of rows now held item) ∷ prospects settings rows now (fetched + fetched_by step) steps items flags

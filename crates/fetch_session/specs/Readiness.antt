@@ -1,0 +1,105 @@
+-- What a session is ready with before its first task, or why it isn't.
+use Rattle.std.specs.Prelude.{◌≡◌, ◌⊎◌, ◌<◌, ℕ, Bool, false, List, Option, None, Some, Result, Ok, Err, Vec}
+use Rattle.mail_terms.specs.Listing.{Item}
+use Rattle.fetch_rules.specs.Record.{Row, Intent, Held, none_open, merged}
+use Rattle.fetch_rules.specs.Plan.{planned}
+use Rattle.rc_file.specs.declared.settings.Settings.{Settings}
+use Rattle.mail_store.specs.FlatFile.{Stored, holding}
+use Rattle.mail_store.specs.Maildir.{Maildir}
+use Rattle.mail_store.specs.Mboxrd.{MayGoOn}
+use Rattle.mail_store.specs.Held.{flags_of}
+use Rattle.fetch_session.specs.declared.fault.Fault.{Fault}
+use Rattle.fetch_session.specs.declared.fault.Fault.TheVariants.{StoreRefused, SeenRefused, BadSeen, NoMemory}
+use Rattle.fetch_session.specs.declared.fault.Why.TheVariants.{Missing, Refused, NotMbox}
+use Rattle.fetch_session.specs.declared.readiness.Found.{Found}
+use Rattle.fetch_session.specs.declared.readiness.Ready.{Ready}
+use Rattle.fetch_session.specs.Mbox.{AsksMbox, IsSettledAtMost}
+use Rattle.fetch_session.specs.Record.{Keeps, Steady, Misread}
+use Rattle.fetch_session.specs.Target.{Target, AsFiles, AsEntries, Stores, flags_in, rows_in, closed_file}
+
+-- a folder isn't there, or a call was refused, or memory was wanting
+abbrev pub FindsRefused : Maildir → Fault → Maildir → Type 0
+FindsRefused old (StoreRefused Missing) new = ((old.there.new ≡ false) ⊎ (old.there.cur ≡ false)) × (new ≡ old)
+FindsRefused old (StoreRefused Refused) new = new ≡ Rattle.mail_store.specs.Maildir.counted old
+FindsRefused old NoMemory new = new ≡ old
+FindsRefused old _ new = ⊥
+
+-- which messages are held was found, or why not
+abbrev pub FindsHeld : {Z : Type 0} → List ℕ → Maildir → List Item → Result (Vec Bool Z) Fault → Maildir → Type 0
+FindsHeld account old items (Ok flags) new = (flags.items ≡ flags_of account old items) × (new ≡ old)
+FindsHeld account old items (Err fault) new = FindsRefused old fault new
+
+-- what a store holds was asked of it
+abbrev pub FindsIn : Target → Option Intent → Stores → List Item → Result Found Fault → Stores → Type 0
+FindsIn (AsFiles account) intent old items (Ok found) new = (found.held.items ≡ flags_of account old.maildir items)
+    × (found.stored ≡ false) × (new ≡ old)
+FindsIn (AsFiles account) intent old items (Err fault) new = FindsRefused old.maildir fault new.maildir
+FindsIn AsEntries intent old items result new = AsksMbox intent old.mbox items result new.mbox
+
+-- the store was asked, and of a mailbox file what its open intent had left was cut off or counted
+abbrev pub Settles : Target → Held → Stores → Stores → Type 0
+Settles (AsFiles account) was old new = new ≡ old
+Settles AsEntries was old new = (bytes : List ℕ) × (old.mbox.content ≡ Some bytes)
+    × (new.mbox ≡ holding old.mbox (closed_file was.intent bytes)) × MayGoOn (closed_file was.intent bytes)
+
+-- the record once its open intent was ended and the listing merged into it
+abbrev pub merged_in : Target → Stores → Held → List Item → ℕ → List Row
+merged_in target store was items now = merged (rows_in target store was) items (flags_in target store items) now
+
+-- the record was read, merged and saved, and the plan made; no intent is open any more
+pub record IsReady (settings : Settings) (target : Target) (items : List Item) (now : ℕ) (store : Stores)
+    (file : Stored) (ready : Ready) (after : List Row) (store' : Stores) (file' : Stored) : Type 0 where
+  pub was : Held
+  pub stood : Keeps file.content was
+  pub held : ready.held.items ≡ flags_in target store items
+  pub rows : after ≡ merged_in target store was items now
+  pub steps : ready.steps.items ≡ planned settings after items now
+  pub saved : Steady file'.content (none_open after)
+  pub file_count : file'.failures ≡ file.failures
+  pub settles : Settles target was store store'
+
+-- why it isn't ready
+abbrev pub UnreadyCause : Fault → Maildir → Stored → Maildir → Stored → Type 0
+UnreadyCause SeenRefused maildir file maildir' file' = (file.failures < file'.failures) × (maildir' ≡ maildir)
+UnreadyCause (BadSeen line) maildir file maildir' file' = Misread file line file' × (maildir' ≡ maildir)
+UnreadyCause (StoreRefused Missing) maildir file maildir' file' = ((maildir.there.new ≡ false)
+    ⊎ (maildir.there.cur ≡ false)) × (maildir' ≡ maildir)
+UnreadyCause (StoreRefused Refused) maildir file maildir' file' = maildir' ≡ Rattle.mail_store.specs.Maildir.counted maildir
+UnreadyCause NoMemory maildir file maildir' file' = maildir' ≡ maildir
+UnreadyCause _ maildir file maildir' file' = ⊥
+
+-- the mailbox file is as it was, or settled by the intent of the record that was read
+abbrev pub IsSettledBy : Stored → Stored → Stored → Type 0
+IsSettledBy file mbox mbox' = (mbox'.content ≡ mbox.content)
+    ⊎ ((was : Held) × Keeps file.content was × IsSettledAtMost was.intent mbox mbox')
+
+abbrev pub MboxUnready : Fault → Stored → Stored → Stored → Stored → Type 0
+MboxUnready SeenRefused mbox file mbox' file' = (file.failures < file'.failures) × IsSettledBy file mbox mbox'
+MboxUnready (BadSeen line) mbox file mbox' file' = Misread file line file' × (mbox' ≡ mbox)
+MboxUnready (StoreRefused Missing) mbox file mbox' file' = (mbox.content ≡ None) × (mbox' ≡ mbox)
+MboxUnready (StoreRefused Refused) mbox file mbox' file' = (mbox.failures < mbox'.failures) × IsSettledBy file mbox mbox'
+MboxUnready (StoreRefused NotMbox) mbox file mbox' file' = ((bytes : List ℕ) × (mbox'.content ≡ Some bytes) × (MayGoOn bytes → ⊥))
+    × IsSettledBy file mbox mbox'
+MboxUnready NoMemory mbox file mbox' file' = IsSettledBy file mbox mbox'
+MboxUnready _ mbox file mbox' file' = ⊥
+
+abbrev pub CausesUnready : Target → Fault → Stores → Stored → Stores → Stored → Type 0
+CausesUnready (AsFiles account) fault store file store' file' = UnreadyCause fault store.maildir file store'.maildir file'
+CausesUnready AsEntries fault store file store' file' = MboxUnready fault store.mbox file store'.mbox file'
+
+-- the file is as it was; or the store was settled first, and the file stands for the record or for the merged one
+abbrev pub IsMergedAtMost : Target → List Item → ℕ → Stores → Stored → Stores → Stored → Type 0
+IsMergedAtMost target items now store file store' file' = (file'.content ≡ file.content)
+    ⊎ ((was : Held) × Keeps file.content was × Settles target was store store' × (Keeps file'.content was
+    ⊎ Keeps file'.content (none_open (merged_in target store was items now))))
+
+pub record Unready (target : Target) (items : List Item) (now : ℕ) (store : Stores) (file : Stored)
+    (fault : Fault) (store' : Stores) (file' : Stored) : Type 0 where
+  pub cause : CausesUnready target fault store file store' file'
+  pub content : IsMergedAtMost target items now store file store' file'
+
+abbrev pub Readies : Settings → Target → List Item → ℕ → Stores → Stored → Result Ready Fault → List Row → Stores → Stored → Type 0
+Readies settings target items now store file
+    (Ok ready) after store' file' = IsReady settings target items now store file ready after store' file'
+Readies settings target items now store file
+    (Err fault) after store' file' = Unready target items now store file fault store' file'

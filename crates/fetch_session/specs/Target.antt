@@ -1,0 +1,116 @@
+-- Where the texts of an account go, and what is known of it.
+use Rattle.std.specs.Prelude.{◌≡◌, ℕ, Bool, false, List, [], map, Option, None, Some}
+use Rattle.mail_terms.specs.Listing.{Item}
+use Rattle.fetch_rules.specs.Record.{Row, Intent, Held}
+use Rattle.fetch_rules.specs.Intents.{closed_rows}
+use Rattle.mail_store.specs.declared.maildir.disk.MaildirDisk.{Ghosts as DiskGhosts}
+use Rattle.mail_store.specs.declared.file.flat_file.FlatFile.{Ghosts as FileGhosts}
+use Rattle.mail_store.specs.FlatFile.{Stored}
+use Rattle.mail_store.specs.Held.{flags_of}
+use Rattle.mail_store.specs.Maildir.{Maildir}
+use Rattle.mail_store.specs.Settling.{stands_whole, settled_file}
+use Rattle.fetch_session.specs.declared.account.Store.{Store}
+use Rattle.fetch_session.specs.declared.account.Store.TheVariants.{Maildir as InMaildir, Mboxrd as InMbox}
+
+-- each text is a file of a Maildir, or an entry of a mailbox file
+pub data Kind : Type 0 where
+  Files : Kind
+  Entries : Kind
+
+-- where texts go: into a Maildir, under names that begin with an account's digits; or to the end of a mailbox file
+pub data Target : Type 0 where
+  AsFiles : List ℕ → Target
+  AsEntries : Target
+
+-- what a store holds: a Maildir or a mailbox file. Of the one that it isn't nothing is ever there
+pub record Stores : Type 0 where
+  pub maildir : Maildir
+  pub mbox : Stored
+
+abbrev pub no_maildir : Maildir
+no_maildir = record { there = record { tmp = false; new = false; cur = false }; in_new = []; in_cur = []; begun = None; failures = 0 }
+
+abbrev pub no_mbox : Stored
+no_mbox = record { content = None; failures = 0 }
+
+abbrev pub in_maildir : Maildir → Stores
+in_maildir maildir = record { maildir = maildir; mbox = no_mbox }
+
+abbrev pub in_mbox : Stored → Stores
+in_mbox mbox = record { maildir = no_maildir; mbox = mbox }
+
+-- ---- a store
+
+abbrev pub kind_of : {D F : Type 0} → Store D F → Kind
+kind_of (InMaildir disk) = Files
+kind_of (InMbox mbox) = Entries
+
+abbrev pub target : Kind → List ℕ → Target
+target Files account = AsFiles account
+target Entries account = AsEntries
+
+abbrev pub target_of : {D F : Type 0} → Store D F → List ℕ → Target
+target_of store account = target (kind_of store) account
+
+-- what is known of it
+abbrev pub stores_of : {D F : Type 0} → DiskGhosts D → FileGhosts F → Store D F → Stores
+stores_of disk file (InMaildir device) = in_maildir (disk.maildir device)
+stores_of disk file (InMbox device) = in_mbox (file.stored device)
+
+-- its device's premise
+abbrev pub is_sound : {D F : Type 0} → DiskGhosts D → FileGhosts F → Store D F → Type 0
+is_sound disk file (InMaildir device) = disk.sound device
+is_sound disk file (InMbox device) = file.sound device
+
+-- it is a Maildir whose device's premise holds; and this Maildir
+abbrev pub IsSoundMaildir : {D F : Type 0} → DiskGhosts D → Store D F → Type 0
+IsSoundMaildir disk (InMaildir device) = disk.sound device
+IsSoundMaildir disk (InMbox device) = ⊥
+
+abbrev pub maildir_of : {D F : Type 0} → DiskGhosts D → Store D F → Maildir
+maildir_of disk (InMaildir device) = disk.maildir device
+maildir_of disk (InMbox device) = no_maildir
+
+-- it is a mailbox file whose device's premise holds; and this file
+abbrev pub IsSoundMbox : {D F : Type 0} → FileGhosts F → Store D F → Type 0
+IsSoundMbox file (InMaildir device) = ⊥
+IsSoundMbox file (InMbox device) = file.sound device
+
+abbrev pub mbox_of : {D F : Type 0} → FileGhosts F → Store D F → Stored
+mbox_of file (InMaildir device) = no_mbox
+mbox_of file (InMbox device) = file.stored device
+
+-- no file is being written
+abbrev pub IsCalm : {D F : Type 0} → DiskGhosts D → FileGhosts F → Store D F → Type 0
+IsCalm disk file store = is_sound disk file store → (stores_of disk file store).maildir.begun ≡ None
+
+-- ---- what is found in it
+
+-- none of the messages is held but by the record
+abbrev pub none_held : List Item → List Bool
+none_held items = map (λ (item : Item). false) items
+
+-- for each message whether it is held
+abbrev pub flags_in : Target → Stores → List Item → List Bool
+flags_in (AsFiles account) store items = flags_of account store.maildir items
+flags_in AsEntries store items = none_held items
+
+-- whether the entry of an open intent stands whole in a file
+abbrev pub is_stored : Option Intent → List ℕ → Bool
+is_stored None bytes = false
+is_stored (Some intent) bytes = stands_whole intent.start intent.len bytes
+
+-- the file once the open intent is closed
+abbrev pub closed_file : Option Intent → List ℕ → List ℕ
+closed_file None bytes = bytes
+closed_file (Some intent) bytes = settled_file intent.start intent.len bytes
+
+-- the bytes of a mailbox file; one that isn't there has none
+abbrev pub mail_in : Option (List ℕ) → List ℕ
+mail_in None = []
+mail_in (Some bytes) = bytes
+
+-- the rows of a record once its open intent is closed
+abbrev pub rows_in : Target → Stores → Held → List Row
+rows_in (AsFiles account) store was = was.rows
+rows_in AsEntries store was = closed_rows (is_stored was.intent (mail_in store.mbox.content)) was.rows was.intent

@@ -1,0 +1,105 @@
+-- How a preview is told.
+use Rattle.std.specs.Prelude.{ℕ, ◌+◌, ◌-◌, ◌*◌, ◌/◌, ◌%◌, min, nat_lt, Bool, true, false, List, [], ◌++◌, flat_map, Option, Some, None, if◌then◌else◌, codes}
+use Rattle.std.specs.List.{count_by}
+use Rattle.std.specs.Fmt.{decimal}
+use Rattle.rc_file.specs.declared.settings.Settings.{Settings}
+use Rattle.fetch_session.specs.declared.preview.Preview.{Preview}
+use Rattle.fetch_session.specs.declared.prospect.Fate.{Fate}
+use Rattle.fetch_session.specs.declared.prospect.Fate.TheVariants.{Fetched, FetchedAndDeleted, Deleted, Held, DeliveredBefore, TooLarge, PastLimit, SameId}
+use Rattle.fetch_session.specs.declared.prospect.Prospect.{Prospect}
+use Rattle.fetch_session.specs.declared.telling.Date.{Date}
+use Rattle.fetch_session.specs.Text.{heading, message_text}
+
+-- ---- dates
+
+-- the days since 1 March of the year 0 of a second since 1970, at most those of 9999-12-31
+abbrev pub days_of : ℕ → ℕ
+days_of second = min (second / 86400) 2932896 + 719468
+
+-- the years that begin in March, of so many days of four centuries: 1,460 days have a leap day at their end, but not the 36,524th, but the
+-- 146,096th
+abbrev pub years_of : ℕ → ℕ
+years_of days = (days + days / 36524 - (days / 1460 + days / 146096)) / 365
+
+-- the day in its year, of so many days of four centuries
+abbrev pub day_within : ℕ → ℕ
+day_within days = days + years_of days / 100 - (365 * years_of days + years_of days / 4)
+
+-- the month from March on, of a day in its year: five months have 153 days
+abbrev pub month_of : ℕ → ℕ
+month_of day = (5 * day + 2) / 153
+
+abbrev pub date_of_days : ℕ → ℕ → Date
+date_of_days days day =
+    let year = 400 * (days / 146097) + years_of (days % 146097) in
+    if nat_lt (month_of day) 10
+    then record { year = year; month = month_of day + 3; day = day - (153 * month_of day + 2) / 5 + 1 }
+    else record { year = year + 1; month = month_of day - 9; day = day - (153 * month_of day + 2) / 5 + 1 }
+
+-- the date of a second since 1970, in UTC
+abbrev pub date_of : ℕ → Date
+date_of second = date_of_days (days_of second) (day_within (days_of second % 146097))
+
+-- year, month and day, the last two of two digits
+abbrev pub text_of : Date → List ℕ
+text_of date = decimal date.year ++ (codes "-" ++ (decimal (date.month / 10) ++ (decimal (date.month % 10)
+    ++ (codes "-" ++ (decimal (date.day / 10) ++ decimal (date.day % 10))))))
+
+abbrev pub date_text : ℕ → List ℕ
+date_text second = text_of (date_of second)
+
+-- ---- lines
+
+abbrev pub fate_text : Fate → List ℕ
+fate_text Fetched = codes "would be fetched"
+fate_text FetchedAndDeleted = codes "would be fetched and deleted"
+fate_text Deleted = codes "would be deleted"
+fate_text Held = codes "held"
+fate_text DeliveredBefore = codes "delivered before"
+fate_text TooLarge = codes "too large"
+fate_text PastLimit = codes "past the limit of this session"
+fate_text SameId = codes "same id as an earlier message"
+
+abbrev pub due_text : Option ℕ → List ℕ
+due_text None = []
+due_text (Some second) = codes ", not due before " ++ date_text second
+
+-- the line of one message
+abbrev pub prospect_text : ℕ → Prospect → List ℕ
+prospect_text total prospect = message_text total prospect.number
+    (codes "(" ++ (decimal prospect.size ++ (codes " octets) " ++ (fate_text prospect.fate ++ (due_text prospect.due ++ codes "\n")))))
+
+-- whether a message would be fetched, and whether deleted
+abbrev pub is_fetch : Fate → Bool
+is_fetch Fetched = true
+is_fetch FetchedAndDeleted = true
+is_fetch _ = false
+
+abbrev pub is_deletion : Fate → Bool
+is_deletion Deleted = true
+is_deletion FetchedAndDeleted = true
+is_deletion _ = false
+
+abbrev pub fetched_in : List Prospect → ℕ
+fetched_in prospects = count_by (λ (prospect : Prospect). is_fetch prospect.fate) prospects
+
+abbrev pub deleted_in : List Prospect → ℕ
+deleted_in prospects = count_by (λ (prospect : Prospect). is_deletion prospect.fate) prospects
+
+-- the last line
+abbrev pub counts_text : ℕ → ℕ → ℕ → List ℕ
+counts_text total fetched deleted = decimal fetched ++ (codes " of " ++ (decimal total
+    ++ (codes " messages would be fetched, " ++ (decimal deleted ++ codes " deleted\n"))))
+
+abbrev pub counts : Preview → List ℕ
+counts preview = counts_text preview.total (fetched_in preview.prospects.items) (deleted_in preview.prospects.items)
+
+-- what is said before the messages
+abbrev pub notice : Bool → List ℕ
+notice unsettled =
+    if unsettled then codes "the last entry of the mbox file is looked at first: if it is whole, its message is not fetched\n" else []
+
+-- what a run would do, each line ended by LF
+abbrev pub preview_text : Preview → Settings → List ℕ
+preview_text preview settings =
+    ((heading settings ++ notice preview.unsettled) ++ flat_map (prospect_text preview.total) preview.prospects.items) ++ counts preview

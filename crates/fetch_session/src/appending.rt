@@ -1,0 +1,164 @@
+//! How a text goes to the end of an mboxrd file: it is read whole, what is about to be appended is
+//! written down, and then the entry is appended at once.
+ghost use Rattle.std.specs.Prelude.{◌≡◌, ◌≢◌, ℕ, List, [], None, true, OnOk};
+ghost use Rattle.fetch_rules.specs.Intents.{IsNoneOrOf};
+ghost use Rattle.fetch_rules.specs.Record.{has_row, none_open};
+ghost use Rattle.mail_terms.specs.Text.{IsWhole};
+ghost use Rattle.mail_terms.specs.UniqueId.{IsLegalId};
+ghost use Rattle.pop3_client.specs.Client.{HasSameLink, place_of, link_of};
+ghost use Rattle.pop3_client.specs.Texts.{Fetching};
+ghost use Rattle.pop3_client.specs.Turns.{most, retr};
+ghost use Rattle.pop3_wire.specs.Link.{WhereSound};
+ghost use Rattle.pop3_wire.specs.Bodies.{items_of};
+ghost use Rattle.pop3_wire.specs.Place.{Place};
+ghost use Rattle.pop3_wire.specs.declared.unstuffer.Spot.TheVariants.{Done};
+ghost use Rattle.fetch_session.specs.Intake.{TookTillCut};
+ghost use Rattle.fetch_session.specs.Mbox.{AppendsText, HoldsText, IsStoreFault};
+ghost use Rattle.fetch_session.specs.Record.{Steady, held_in};
+ghost use Rattle.fetch_session.specs.Refusal.{RefusesTillCut};
+ghost use Rattle.fetch_session.specs.Report.{HasRoom, Adds};
+ghost use Rattle.fetch_session.specs.Scene.{scene, TakesTask, WhereAllSound};
+ghost use Rattle.fetch_session.specs.Target.{AsEntries, in_mbox};
+ghost use Rattle.fetch_session.specs.Task.{stores};
+ghost use Rattle.fetch_session.specs.Work.{IsWritten, KeepsIds};
+
+use crate::fault::{Cut, Fault, Why, plain, told};
+use crate::record::{intend, remember};
+use crate::report::{ReportLine, note};
+use crate::work::Ledger;
+use fetch_rules::marked_keeps_rows;
+use mail_store::{FlatFile, StoreFault, append_entry, entry_len, is_whole};
+use pop3_client::{Client, conversations_are_paced};
+use pop3_wire::{BodyReader, Wire};
+use std::alloc::Global;
+use std::hash::BuildHasher;
+use std::vec::Vec;
+
+/// The fault of a session whose mailbox file refused a call.
+pub(crate) fn refused(fault: StoreFault) -> Fault
+    ensures { IsStoreFault fault result }
+{
+    match fault {
+        StoreFault::Missing => Fault::StoreRefused(Why::Missing),
+        StoreFault::Refused => Fault::StoreRefused(Why::Refused),
+        StoreFault::NotMbox => Fault::StoreRefused(Why::NotMbox),
+        StoreFault::NoMemory => Fault::NoMemory,
+    }
+}
+
+/// Takes a text that is under way, and keeps it whole.
+fn read_text<W: Wire>(
+    alloc: Global,
+    client: &mut Client<'_, W>,
+    body: BodyReader,
+) -> Result<Vec<u8>, Cut>
+    requires open { body.spot ≢ Done }
+    ensures link { HasSameLink client.old client.new }
+    ensures counted { RefusesTillCut (link_of W.Wire client.old) result (link_of W.Wire client.new) }
+    ensures holds { WhereSound W.sound W.leads_to client.old.wire.now client.new.wire.now
+        ((number : ℕ) (start : Place) → Fetching (retr number) start (place_of W.Wire client.old) body []
+        → HoldsText number start (items_of result) (place_of W.Wire client.new)) }
+{
+    let mut rest = body;
+    let mut text = Vec::new(alloc);
+    let mut out = [0u8; 4097];
+    'pieces: loop {
+        let piece = match client.next_piece(&mut rest, &mut out) {
+            Ok(piece) => piece,
+            Err(fault) => return Err(plain(told(fault))),
+        };
+        if let Err(_) = text.extend_from_slice(&out[..piece.put]) {
+            return Err(plain(Fault::NoMemory));
+        }
+        if piece.ended {
+            return Ok(text);
+        }
+    }
+}
+
+/// Appends the entry of a text to the file, after what is about to be appended was written down.
+fn append_text<F: FlatFile, H: BuildHasher>(
+    mbox: &mut F,
+    ledger: &mut Ledger<F, H>,
+    uid: &[u8],
+    text: &[u8],
+) -> Result<(), Fault>
+    requires whole { IsWhole text.now }
+    requires legal { IsLegalId uid.now }
+    requires row { has_row ledger.old.seen.rows uid.now ≡ true }
+    requires closed { ledger.old.seen.intent ≡ None }
+    requires steady { F.sound ledger.old.file → Steady (F.stored ledger.old.file).content (none_open ledger.old.seen.rows) }
+    ensures lines { ledger.new.lines ≡ ledger.old.lines }
+    ensures rows { ledger.new.seen.rows ≡ ledger.old.seen.rows }
+    ensures before { F.sound mbox.new → F.sound mbox.old }
+    ensures opened { OnOk result (IsNoneOrOf uid.now ledger.new.seen.intent) }
+    ensures steady { F.sound ledger.new.file → F.sound ledger.old.file
+        × OnOk result (Steady (F.stored ledger.new.file).content (held_in ledger.new.seen)) }
+    ensures appends { F.sound mbox.new → F.sound ledger.new.file → F.sound mbox.old × F.sound ledger.old.file
+        × AppendsText (F.stored mbox.old) (F.stored ledger.old.file) ledger.old.seen uid.now text.now result
+        (F.stored mbox.new) (F.stored ledger.new.file) ledger.new.seen }
+{
+    let edges = match mbox.edges() {
+        Ok(edges) => edges,
+        Err(fault) => return Err(refused(fault)),
+    };
+    let len = entry_len(text);
+    if let Err(fault) = intend(&mut ledger.file, &mut ledger.seen, uid, edges.size, len) {
+        return Err(fault);
+    }
+    match append_entry(ledger.alloc, mbox, text) {
+        Ok(()) => Ok(()),
+        Err(fault) => Err(refused(fault)),
+    }
+}
+
+/// Takes one text: it is read whole, appended and marked.
+pub(crate) fn take_into_mbox<W: Wire, F: FlatFile, H: BuildHasher>(
+    client: &mut Client<'_, W>,
+    mbox: &mut F,
+    ledger: &mut Ledger<F, H>,
+    number: u32,
+    uid: &[u8],
+) -> Result<(), Cut>
+    requires room { HasRoom ledger.old.lines 1 }
+    requires ready { IsWritten F.FlatFile ledger.old }
+    requires legal { IsLegalId uid.now }
+    requires row { has_row ledger.old.seen.rows uid.now ≡ true }
+    ensures link { HasSameLink client.old client.new }
+    ensures counted { RefusesTillCut (link_of W.Wire client.old) result (link_of W.Wire client.new) }
+    ensures few { Adds ledger.old.lines 1 ledger.new.lines }
+    ensures ready { OnOk result (IsWritten F.FlatFile ledger.new) }
+    ensures rows { OnOk result (KeepsIds ledger.old.seen.rows ledger.new.seen.rows) }
+    ensures before { F.sound mbox.new → F.sound mbox.old }
+    ensures takes { WhereAllSound W.sound W.leads_to F.sound F.sound client.old.wire.now client.new.wire.now mbox.old mbox.new
+        ledger.old.file ledger.new.file (TakesTask AsEntries (stores number uid.now)
+        (scene (place_of W.Wire client.old) (in_mbox (F.stored mbox.old)) (F.stored ledger.old.file) ledger.old.seen.rows
+        ledger.old.lines.items) result
+        (scene (place_of W.Wire client.new) (in_mbox (F.stored mbox.new)) (F.stored ledger.new.file) ledger.new.seen.rows
+        ledger.new.lines.items)) }
+    ensures took { W.sound client.new.wire.now → W.sound client.old.wire.now
+        × TookTillCut (most (retr number)) (place_of W.Wire client.old) result (place_of W.Wire client.new) }
+{
+    conversations_are_paced();
+    marked_keeps_rows();
+    let body = match client.open(ledger.alloc, number) {
+        Ok(body) => body,
+        Err(fault) => return Err(plain(told(fault))),
+    };
+    let text = match read_text(ledger.alloc, client, body) {
+        Ok(text) => text,
+        Err(cut) => return Err(cut),
+    };
+    if !is_whole(&text) {
+        return Err(plain(Fault::BadReply));
+    }
+    if let Err(fault) = append_text(mbox, ledger, uid, &text) {
+        return Err(plain(fault));
+    }
+    let length = text.len() as u64;
+    note(&mut ledger.lines, ReportLine::Delivered { number, length });
+    match remember(&mut ledger.file, &mut ledger.seen, uid) {
+        Ok(()) => Ok(()),
+        Err(fault) => Err(plain(fault)),
+    }
+}

@@ -1,0 +1,189 @@
+//! What a run would do with each message of a listing, and why it would do nothing with some.
+ghost use Rattle.std.specs.Prelude.{◌≡◌, ◌<◌, ◌&&◌, ◌||◌, ◌==◌, not, nat_le, length, HoldsAt, IfOk};
+ghost use Rattle.fetch_rules.specs.Wanted.{is_within};
+ghost use Rattle.fetch_session.specs.Prospect.{due_of, due_second, fate_of, is_past_limit, known_of, prospect_of, prospects, reason, waits};
+
+use crate::terms::Terms;
+use fetch_rules::{Listing, Seen, Settings, Step};
+use std::alloc::{AllocError, Global};
+use std::hash::BuildHasher;
+use std::vec::Vec;
+
+const SECONDS_PER_DAY: u64 = 86_400;
+
+/// What a run would do with a message, or why it would do nothing with it.
+#[derive(Clone, Copy, Debug, PartialEq, Eq)]
+pub enum Fate {
+    /// It would be fetched.
+    Fetched,
+    /// It would be fetched, and then deleted.
+    FetchedAndDeleted,
+    /// It would be deleted: it was delivered before.
+    Deleted,
+    /// The Maildir holds it.
+    Held,
+    /// The record has it as delivered.
+    DeliveredBefore,
+    /// Its size is above the limit.
+    TooLarge,
+    /// As many messages as a session may fetch come before it.
+    PastLimit,
+    /// An earlier message has its id.
+    SameId,
+}
+
+/// What a run would do with one message.
+#[derive(Clone, Copy, Debug, PartialEq, Eq)]
+pub struct Prospect {
+    /// The message's number in the listing, from 1.
+    pub number: u32,
+    /// The listed size, in octets.
+    pub size: u64,
+    /// What would be done with it, or why nothing.
+    pub fate: Fate,
+    /// If it isn't old enough to be deleted: when it will be, in seconds since 1970.
+    pub due: Option<u64>,
+}
+
+/// What is known of a message before a run.
+#[derive(Clone, Copy)]
+struct Known {
+    /// The listed size, in octets.
+    size: u64,
+    /// Whether the store holds it.
+    held: bool,
+    /// Whether the record has it as delivered.
+    delivered: bool,
+    /// When it was first seen, in seconds since 1970.
+    since: u64,
+}
+
+/// What is known of the message of number `i + 1`. One without a row is first seen now.
+fn known_of<H: BuildHasher>(
+    seen: &Seen<H>,
+    listing: &Listing,
+    held: bool,
+    now: u64,
+    i: u32,
+) -> Known
+    requires { i < length listing.now }
+    ensures { HoldsAt (λ item. result ≡ known_of seen.now.rows now held item) listing.now i }
+{
+    let uid = listing.uid(i);
+    Known {
+        size: listing.size(i),
+        held,
+        delivered: seen.is_delivered(uid),
+        since: seen.first_seen(uid).unwrap_or(now),
+    }
+}
+
+/// Whether a size is within the limit; 0 sets none.
+fn is_within(limit: u64, size: u64) -> bool
+    ensures { result ≡ is_within limit size }
+{
+    limit == 0 || size <= limit
+}
+
+/// Whether a session fetches no more after so many messages.
+fn is_past_limit(settings: &Settings, fetched: u64) -> bool
+    ensures { result ≡ is_past_limit settings.now fetched }
+{
+    settings.max_count != 0 && settings.max_count <= fetched
+}
+
+/// Why a message is neither fetched nor deleted, if so many before it are fetched.
+fn reason(settings: &Settings, known: Known, fetched: u64) -> Fate
+    ensures { result ≡ reason settings.now known fetched }
+{
+    if !settings.read_all && known.held {
+        return Fate::Held;
+    }
+    if !settings.read_all && known.delivered {
+        return Fate::DeliveredBefore;
+    }
+    if !is_within(settings.max_size, known.size) {
+        return Fate::TooLarge;
+    }
+    if is_past_limit(settings, fetched) {
+        return Fate::PastLimit;
+    }
+    Fate::SameId
+}
+
+/// What is done with a message, or why nothing.
+fn fate_of(settings: &Settings, step: Step, known: Known, fetched: u64) -> Fate
+    ensures { result ≡ fate_of settings.now step known fetched }
+{
+    if step.retrieve && step.delete {
+        return Fate::FetchedAndDeleted;
+    }
+    if step.retrieve {
+        return Fate::Fetched;
+    }
+    if step.delete {
+        return Fate::Deleted;
+    }
+    reason(settings, known, fetched)
+}
+
+/// Whether the age of a message decides if it is deleted.
+fn waits(settings: &Settings, step: Step, known: Known) -> bool
+    ensures { result ≡ waits settings.now step known }
+{
+    !settings.delete && settings.delete_after != 0 && (known.delivered || step.retrieve)
+}
+
+/// From when on a message is deleted that was first seen then, as far as 64 bits go.
+fn due_second(settings: &Settings, since: u64) -> u64
+    ensures { result ≡ due_second settings.now since }
+{
+    since.saturating_add(SECONDS_PER_DAY.saturating_mul(settings.delete_after))
+}
+
+/// When a message is old enough to be deleted, if it isn't yet.
+fn due_of(settings: &Settings, step: Step, known: Known, now: u64) -> Option<u64>
+    ensures { result ≡ due_of settings.now step known now }
+{
+    if !waits(settings, step, known) {
+        return None;
+    }
+    let due = due_second(settings, known.since);
+    if now < due { Some(due) } else { None }
+}
+
+/// What is told of one message, if so many before it are fetched.
+fn prospect_of(terms: Terms<'_>, step: Step, known: Known, fetched: u64) -> Prospect
+    ensures { result ≡ prospect_of terms.entry.settings.now terms.entry.now fetched step known }
+{
+    Prospect {
+        number: step.number,
+        size: known.size,
+        fate: fate_of(terms.settings, step, known, fetched),
+        due: due_of(terms.settings, step, known, terms.now),
+    }
+}
+
+/// What is told of each message of a listing, by its step.
+pub(crate) fn prospects<H: BuildHasher>(
+    alloc: Global,
+    terms: Terms<'_>,
+    seen: &Seen<H>,
+    listing: &Listing,
+    held: &[bool],
+    steps: &[Step],
+) -> Result<Vec<Prospect>, AllocError>
+    requires all_flags { length held.now ≡ length listing.now }
+    requires all_steps { length steps.now ≡ length listing.now }
+    ensures { IfOk result (λ told. told.items ≡ prospects terms.entry.settings.now seen.now.rows terms.entry.now 0 steps.now listing.now held.now) }
+{
+    let mut told = Vec::with_capacity(alloc, steps.len())?;
+    let mut fetched: u64 = 0;
+    for i in 0..listing.len() {
+        let step = steps[i as usize];
+        let known = known_of(seen, listing, held[i as usize], terms.now, i);
+        told.push(prospect_of(terms, step, known, fetched))?;
+        fetched += u64::from(step.retrieve);
+    }
+    Ok(told)
+}

@@ -1,0 +1,177 @@
+//! How a preview is told. Nothing of a password stands in it.
+ghost use Rattle.std.specs.Prelude.{◌≡◌, ◌++◌, IfOk, codes, if◌then◌else◌};
+ghost use Rattle.std.specs.String.{string_bytes};
+ghost use Rattle.fetch_session.specs.Telling.{counts, date_of, date_text, due_text, deleted_in, fate_text, fetched_in, is_deletion, is_fetch, notice, preview_text, prospect_text};
+
+use crate::preview::Preview;
+use crate::prospect::{Fate, Prospect};
+use crate::text::heading;
+use fetch_rules::Settings;
+use std::alloc::{AllocError, Global};
+
+/// 9999-12-31, in days since 1970.
+const LAST_DAY: u64 = 2_932_896;
+
+/// A date of the calendar, in UTC.
+#[derive(Clone, Copy)]
+struct Date {
+    year: u64,
+    month: u64,
+    day: u64,
+}
+
+/// The date of a second since 1970, at most 9999-12-31. Years are counted from March on, so that a leap
+/// day is the last of its year, and in fours of centuries of 146,097 days.
+fn date_of(second: u64) -> Date
+    ensures { result ≡ date_of second }
+{
+    let days = (second / 86_400).min(LAST_DAY) + 719_468;
+    let rest = days % 146_097;
+    let years = (rest + rest / 36_524).saturating_sub(rest / 1_460 + rest / 146_096) / 365;
+    let within = (rest + years / 100).saturating_sub(365 * years + years / 4);
+    let month = (5 * within + 2) / 153;
+    let day = within.saturating_sub((153 * month + 2) / 5) + 1;
+    let year = 400 * (days / 146_097) + years;
+    if month < 10 {
+        return Date {
+            year,
+            month: month + 3,
+            day,
+        };
+    }
+    Date {
+        year: year + 1,
+        month: month.saturating_sub(9),
+        day,
+    }
+}
+
+/// A date as `YYYY-MM-DD`.
+fn date_text(alloc: Global, second: u64) -> Result<String, AllocError>
+    ensures { IfOk result (λ text. string_bytes text ≡ date_text second) }
+{
+    let Date { year, month, day } = date_of(second);
+    let (month_tens, month_ones) = (month / 10, month % 10);
+    let (day_tens, day_ones) = (day / 10, day % 10);
+    format!(in alloc; "{year}-{month_tens}{month_ones}-{day_tens}{day_ones}")
+}
+
+/// From when on a message is deleted, if it isn't old enough.
+fn due_text(alloc: Global, due: Option<u64>) -> Result<String, AllocError>
+    ensures { IfOk result (λ text. string_bytes text ≡ due_text due) }
+{
+    let Some(second) = due else {
+        return Ok(String::new(alloc));
+    };
+    let date = date_text(alloc, second)?;
+    format!(in alloc; ", not due before {date}")
+}
+
+impl Fate {
+    fn text(self) -> &'static str
+        ensures { result.now ≡ fate_text self }
+    {
+        match self {
+            Fate::Fetched => "would be fetched",
+            Fate::FetchedAndDeleted => "would be fetched and deleted",
+            Fate::Deleted => "would be deleted",
+            Fate::Held => "held",
+            Fate::DeliveredBefore => "delivered before",
+            Fate::TooLarge => "too large",
+            Fate::PastLimit => "past the limit of this session",
+            Fate::SameId => "same id as an earlier message",
+        }
+    }
+
+    fn is_fetch(self) -> bool
+        ensures { result ≡ is_fetch self }
+    {
+        matches!(self, Fate::Fetched | Fate::FetchedAndDeleted)
+    }
+
+    fn is_deletion(self) -> bool
+        ensures { result ≡ is_deletion self }
+    {
+        matches!(self, Fate::Deleted | Fate::FetchedAndDeleted)
+    }
+}
+
+/// The line of one message.
+fn prospect_text(alloc: Global, total: u32, prospect: &Prospect) -> Result<String, AllocError>
+    ensures { IfOk result (λ text. string_bytes text ≡ prospect_text total prospect.now) }
+{
+    let Prospect {
+        number,
+        size,
+        fate,
+        due,
+    } = *prospect;
+    let what = fate.text();
+    let when = due_text(alloc, due)?;
+    format!(in alloc; "msg {number}/{total} ({size} octets) {what}{when}\n")
+}
+
+/// How many messages would be fetched.
+fn fetched_in(prospects: &[Prospect]) -> usize
+    ensures { result ≡ fetched_in prospects.now }
+{
+    let mut count = 0usize;
+    for prospect in prospects {
+        if prospect.fate.is_fetch() {
+            count += 1;
+        }
+    }
+    count
+}
+
+/// How many messages would be deleted.
+fn deleted_in(prospects: &[Prospect]) -> usize
+    ensures { result ≡ deleted_in prospects.now }
+{
+    let mut count = 0usize;
+    for prospect in prospects {
+        if prospect.fate.is_deletion() {
+            count += 1;
+        }
+    }
+    count
+}
+
+/// The last line.
+fn counts(alloc: Global, preview: &Preview) -> Result<String, AllocError>
+    ensures { IfOk result (λ text. string_bytes text ≡ counts preview.now) }
+{
+    let total = preview.total;
+    let fetched = fetched_in(&preview.prospects);
+    let deleted = deleted_in(&preview.prospects);
+    format!(in alloc; "{fetched} of {total} messages would be fetched, {deleted} deleted\n")
+}
+
+/// What is said before the messages.
+fn notice(unsettled: bool) -> &'static str
+    ensures { result.now ≡ notice unsettled }
+{
+    if unsettled {
+        "the last entry of the mbox file is looked at first: if it is whole, its message is not fetched\n"
+    } else {
+        ""
+    }
+}
+
+/// What a run would do, each line ended by LF: whose mail it is, what would be done with each message, and
+/// counts. `verbose` has no effect.
+pub fn preview_text(
+    alloc: Global,
+    preview: &Preview,
+    settings: &Settings,
+) -> Result<String, AllocError>
+    ensures { IfOk result (λ text. string_bytes text ≡ preview_text preview.now settings.now) }
+{
+    let mut text = heading(alloc, settings)?;
+    text.push_str(notice(preview.unsettled))?;
+    for prospect in &preview.prospects {
+        text.push_str(prospect_text(alloc, preview.total, prospect)?.as_str())?;
+    }
+    text.push_str(counts(alloc, preview)?.as_str())?;
+    Ok(text)
+}
