@@ -1,0 +1,36 @@
+-- The lines of a trace.
+use Rattle.std.specs.Prelude.{◌≡◌, ◌↔◌, ◌+◌, ◌/◌, ◌%◌, ◌==◌, ◌&&◌, ◌||◌, ℕ, Bool, false, not, nat_le, nat_lt, List, [], ◌∷◌, ◌++◌, IsTrue, Option, codes, if◌then◌else◌}
+use Rattle.std.specs.List.{flat_map, list_any}
+use Rattle.std.specs.Fmt.{decimal}
+use Rattle.std.specs.Str.{IsUtf8}
+use Rattle.std.specs.Io.KnownBytes.{Appends}
+
+-- UTF-8 with no character from U+0080 to U+00BF
+abbrev pub IsShowable : List ℕ → Type 0
+IsShowable octets = (list_any (λ octet. octet == 0xC2) octets ≡ false) × IsUtf8 octets
+
+-- a hexadecimal digit
+abbrev pub hex_digit : ℕ → ℕ
+hex_digit digit = if nat_lt digit 10 then 48 + digit else 87 + digit
+
+-- printable ASCII but the backslash
+abbrev pub is_plain : ℕ → Bool
+is_plain octet = nat_le 32 octet && (nat_lt octet 127 && not (octet == 92))
+
+-- an octet as a line shows it: as it is, or as `\x` and two digits
+unfoldable pub shown_octet : Bool → ℕ → List ℕ
+shown_octet wide octet =
+    if is_plain octet || (wide && nat_le 128 octet) then octet ∷ []
+    else codes "\\x" ++ (hex_digit (octet / 16) ∷ hex_digit (octet % 16) ∷ [])
+
+-- a line shows a mark and octets, those above ASCII as they are only if all together may be shown so
+abbrev pub IsTraceLine : List ℕ → List ℕ → List ℕ → Type 0
+IsTraceLine mark octets line = (wide : Bool) × (IsTrue wide ↔ IsShowable octets) × (line ≡ mark ++ (flat_map (shown_octet wide) octets ++ codes "\n"))
+
+-- such a line was written after what the writer held
+abbrev pub IsWritten : {E : Type 0} → (E → Option (List ℕ)) → E → E → List ℕ → List ℕ → Type 0
+IsWritten contents old new mark octets = (line : List ℕ) × IsTraceLine mark octets line × Appends (contents old) (contents new) line
+
+-- what is shown of a body
+abbrev pub count_text : ℕ → ℕ → List ℕ
+count_text lines octets = codes "(" ++ (decimal lines ++ (codes " lines, " ++ (decimal octets ++ codes " octets)")))

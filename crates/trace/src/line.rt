@@ -1,0 +1,89 @@
+//! The lines of a trace.
+ghost use Rattle.std.specs.Prelude.{◌≡◌, ◌<◌, ◌++◌, ◌↔◌, IfOk, OnOk, IsTrue, take};
+ghost use Rattle.std.specs.String.{string_bytes};
+ghost use Rattle.trace.specs.Line.{IsTraceLine, IsShowable, IsWritten, count_text, hex_digit, shown_octet};
+
+use std::alloc::{AllocError, Global};
+use std::io::{self, Write};
+use std::str;
+
+/// How many octets of a command or of an answer are shown.
+pub const SHOWN: usize = 512;
+
+/// Whether octets above ASCII are shown as they are: if all together are UTF-8, and hold no character
+/// from U+0080 to U+00BF, since some of these are control characters.
+fn is_showable(octets: &[u8]) -> bool
+    ensures { IsTrue result ↔ IsShowable octets.now }
+{
+    if octets.contains(&0xC2) {
+        return false;
+    }
+    str::from_utf8(octets).is_ok()
+}
+
+/// A hexadecimal digit.
+fn hex_digit(digit: u8) -> u8
+    requires { digit < 16 }
+    ensures { result ≡ hex_digit digit }
+{
+    if digit < 10 {
+        b'0' + digit
+    } else {
+        b'W' + digit
+    }
+}
+
+/// Appends what a line shows of an octet: the octet, or `\x` and two digits.
+#[tactic(auto, unfolding(crate::specs::Line::shown_octet))]
+fn put_octet(line: &mut Vec<u8>, wide: bool, octet: u8) -> Result<(), AllocError>
+    ensures { OnOk result (line.new.items ≡ line.old.items ++ shown_octet wide octet) }
+{
+    if octet >= 0x80 {
+        if wide {
+            line.push(octet)?;
+            return Ok(());
+        }
+    } else if octet >= b' ' && octet != b'\\' && octet != 0x7F {
+        line.push(octet)?;
+        return Ok(());
+    }
+    let escape = [b'\\', b'x', hex_digit(octet / 16), hex_digit(octet % 16)];
+    line.extend_from_slice(&escape)?;
+    Ok(())
+}
+
+/// A line: the mark, and the octets. Control characters, backslashes and what isn't UTF-8 are escaped
+/// as `\x` and two digits.
+pub fn line_text(alloc: Global, mark: &str, octets: &[u8]) -> Result<Vec<u8>, AllocError>
+    ensures { IfOk result (λ line. IsTraceLine mark.now octets.now line.items) }
+{
+    let wide = is_showable(octets);
+    let mut line = Vec::from_slice(alloc, mark.as_bytes())?;
+    for octet in octets {
+        put_octet(&mut line, wide, *octet)?;
+    }
+    line.push(b'\n')?;
+    Ok(line)
+}
+
+/// Writes a line at once. If memory for it is refused, it is left out.
+pub fn write_line<E: Write>(alloc: Global, err: &mut E, mark: &str, octets: &[u8]) -> io::Result<()>
+    ensures { OnOk result (IsWritten E.contents err.old err.new mark.now octets.now) }
+{
+    let line = line_text(alloc, mark, octets)?;
+    err.write_all(line.as_slice())
+}
+
+/// The front of an answer or a command that is shown.
+pub fn cut(octets: &[u8]) -> &[u8]
+    ensures { result.now ≡ take 512 octets.now }
+{
+    &octets[..SHOWN.min(octets.len())]
+}
+
+/// What is shown of a body: how many lines it had, and how many octets, as they were sent.
+pub fn count_text(alloc: Global, lines: u64, octets: u64) -> Result<String, AllocError>
+    ensures { IfOk result (λ text. string_bytes text ≡ count_text lines octets) }
+{
+    format!(in alloc; "({lines} lines, {octets} octets)")
+}
