@@ -16,6 +16,6 @@ _getmail() {
         -g | --getmaildir) mapfile -t COMPREPLY < <(compgen -d -- "$word"); return ;;
     esac
     mapfile -t COMPREPLY < <(compgen -W '-a --all -d --delete -g --getmaildir -h --help
-        -l --dont-delete -n --new -q --quiet -r --rcfile --rehearse -v --verbose' -- "$word")
+        -l --dont-delete -n --new --pretend -q --quiet -r --rcfile --rehearse --trace -v --verbose' -- "$word")
 }
 complete -F _getmail getmail

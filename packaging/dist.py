@@ -35,9 +35,10 @@ Conflicts: getmail4, getmail6
 Section: mail
 Priority: optional
 Description: POP3 fetcher and server that are proved correct
- getmail fetches mail from a POP3 server into a Maildir. A run may be cut at
- any moment: no message is lost and none is stored twice. popd is a small POP3
- server over one user's Maildir. Both are proved to meet their contracts.
+ getmail fetches mail from a POP3 server into a Maildir or an mboxrd file. A
+ run may be cut at any moment: no message is lost and none is stored twice.
+ popd is a small POP3 server over one user's Maildir. Both are proved to meet
+ their contracts.
 """
 CHANGES = """\
 getmail ({version}) unstable; urgency=medium

@@ -24,9 +24,10 @@ long_flag_rule name = record (new_rule name) { long = Some name; action = Some C
 abbrev pub with_places : App → App
 with_places app = with_rule (with_rule app (value_rule (codes "rcfile") 114)) (value_rule (codes "getmaildir") 103)
 
--- -v, -q
+-- -v, -q, --trace
 abbrev pub with_loudness : App → App
-with_loudness app = with_rule (with_rule app (flag_rule (codes "verbose") 118)) (flag_rule (codes "quiet") 113)
+with_loudness app =
+    with_rule (with_rule (with_rule app (flag_rule (codes "verbose") 118)) (flag_rule (codes "quiet") 113)) (long_flag_rule (codes "trace"))
 
 -- -a, -n, -d, -l
 abbrev pub with_choices : App → App
@@ -35,7 +36,8 @@ with_choices app =
     (flag_rule (codes "all") 97)) (flag_rule (codes "new") 110)) (flag_rule (codes "delete") 100)) (flag_rule (codes "dont-delete") 108)
 
 abbrev pub getmail : App
-getmail = with_rule (with_choices (with_loudness (with_places (new_app (codes "getmail"))))) (long_flag_rule (codes "rehearse"))
+getmail =
+    with_rule (with_rule (with_choices (with_loudness (with_places (new_app (codes "getmail"))))) (long_flag_rule (codes "pretend"))) (long_flag_rule (codes "rehearse"))
 
 -- whether a flag was given, however often
 abbrev pub is_given : List ℕ → List Row → Bool
@@ -58,6 +60,8 @@ pub record AsksFor (rows : List Row) (words : Words) : Type 0 where
   pub dir : option_map string_bytes words.dir ≡ first_of (codes "getmaildir") rows
   pub flags : words.flags ≡ flags_in rows
   pub rehearse : words.rehearse ≡ is_given (codes "rehearse") rows
+  pub pretend : words.pretend ≡ is_given (codes "pretend") rows
+  pub trace : words.trace ≡ is_given (codes "trace") rows
 
 -- a parse may end by asking for help
 abbrev pub IsHelp : Kinds → Type 0

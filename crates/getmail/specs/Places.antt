@@ -3,11 +3,14 @@ use Rattle.std.specs.Prelude.{◌≡◌, ℕ, Bool, false, Ok, ◌||◌, nat_eq,
 use Rattle.std.specs.List.{starts_with, ends_with}
 use Rattle.std.specs.String.{string_bytes}
 use Rattle.rc_file.specs.RcMeaning.{Warned, rc_meaning}
-use Rattle.rc_file.specs.Settings.{Content, begins_at_home, content_of, destination_of, maildir}
+use Rattle.rc_file.specs.Settings.{Content, begins_at_home, content_of}
 use Rattle.rc_file.specs.Flags.{is_contradiction, overridden}
 use Rattle.rc_file.specs.declared.flags.Flags.{Flags}
 use Rattle.rc_file.specs.declared.settings.Settings.{Settings}
+use Rattle.rc_file.specs.declared.settings.Dest.{Dest}
+use Rattle.rc_file.specs.declared.settings.Dest.TheVariants.{Maildir, Mboxrd}
 use Rattle.fetch_session.specs.Account.{digits_of}
+use Rattle.fetch_session.specs.Target.{Kind, Files, Entries}
 use Rattle.getmail.specs.declared.setup.Setup.{Setup}
 use Rattle.getmail.specs.declared.words.Words.{Words}
 
@@ -22,6 +25,16 @@ stands_alone path = starts_with nat_eq path (codes "/") || starts_with nat_eq pa
 -- the path that is meant: one that begins with '~/' begins in the home
 abbrev pub whole_path : List ℕ → List ℕ → List ℕ
 whole_path home path = if begins_at_home path then home ++ drop 1 path else path
+
+-- the path of a destination, as the rc file has it
+abbrev pub path_in : Dest → List ℕ
+path_in (Maildir path) = string_bytes path
+path_in (Mboxrd path) = string_bytes path
+
+-- the kind of store that it names
+abbrev pub kind_in : Dest → Kind
+kind_in (Maildir path) = Files
+kind_in (Mboxrd path) = Entries
 
 -- the folder of the rc file and the record, as given, or where none is given
 abbrev pub folder_given : Option (List ℕ) → List ℕ
@@ -41,11 +54,9 @@ pub record AreAsked (flags : Flags) (settings : Settings) : Type 0 where
   pub agree : is_contradiction flags ≡ false
   pub changed : content_of settings ≡ overridden content flags
 
--- a run's Maildir is the one of its settings, and its record stands in the folder that the words name
+-- a run's destination is the one of its settings, and its record stands in the folder that the words name
 pub record IsPlaced (words : Words) (setup : Setup) : Type 0 where
-  pub path : List ℕ
   pub home : List ℕ
-  pub kind : destination_of setup.settings.dest ≡ maildir path
-  pub maildir_is : string_bytes setup.maildir ≡ whole_path home path
+  pub destination_is : string_bytes setup.destination ≡ whole_path home (path_in setup.settings.dest)
   pub home_of_folder : List ℕ
   pub record_is : string_bytes setup.record ≡ record_path (whole_path home_of_folder (folder_given (option_map string_bytes words.dir))) setup

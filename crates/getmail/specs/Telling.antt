@@ -5,7 +5,9 @@ use Rattle.rc_file.specs.declared.settings.Settings.{Settings}
 use Rattle.fetch_session.specs.declared.fault.Fault.{Fault}
 use Rattle.fetch_session.specs.declared.report.Outcome.{Outcome}
 use Rattle.fetch_session.specs.declared.report.Outcome.TheVariants.{Ended, Cut}
+use Rattle.fetch_session.specs.declared.preview.Preview.{Preview}
 use Rattle.fetch_session.specs.declared.report.Report.{Report}
+use Rattle.fetch_session.specs.Telling.{preview_text}
 use Rattle.fetch_session.specs.Text.{fault_text, report_text}
 use Rattle.getmail.specs.declared.fetching.Fetched.{Fetched}
 
@@ -33,3 +35,9 @@ pub record Tells (settings : Settings) (report : Report) (fetched : Fetched) (ou
   pub outcome : fetched.outcome ≡ report.outcome
   pub reported : OnOk fetched.report (Appends out out' (report_text report settings))
   pub faulted : OnOk fetched.fault (Appends err err' (outcome_line report.outcome))
+
+-- the same of what a run would do
+pub record TellsAhead (settings : Settings) (preview : Preview) (fetched : Fetched) (out out' err err' : Option (List ℕ)) : Type 0 where
+  pub outcome : fetched.outcome ≡ preview.outcome
+  pub reported : OnOk fetched.report (Appends out out' (preview_text preview settings))
+  pub faulted : OnOk fetched.fault (Appends err err' (outcome_line preview.outcome))

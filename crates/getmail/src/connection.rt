@@ -1,8 +1,13 @@
 //! The TCP connection to the server.
 use crate::failure::{Failure, failure_of};
-use std::io;
+use crate::host::Host;
+use fetch_rules::Settings;
+use pop3_wire::StreamWire;
+use std::alloc::AllocError;
+use std::io::{self, Stderr};
 use std::net::{SocketAddr, TcpStream, ToSocketAddrs};
 use std::time::Duration;
+use trace::{Side, Traced, TracedWire};
 
 /// How long one address of the server has to take the connection.
 const CONNECT_SECONDS: u64 = 60;
@@ -10,6 +15,12 @@ const CONNECT_SECONDS: u64 = 60;
 /// How long a read or a write may wait. One that takes longer fails and ends the session, so no wait
 /// lasts for ever.
 const WAIT_SECONDS: u64 = 180;
+
+/// A connection, or one end of it, whose refused calls are told.
+type End<'a> = Traced<&'a TcpStream, Stderr>;
+
+/// The link over a connection.
+pub type Link<'a> = TracedWire<StreamWire<End<'a>, End<'a>>, Stderr>;
 
 /// Connects to one address, and limits how long reads and writes wait. Each command goes out at once.
 fn connect_to(rt: &HostRuntime, address: SocketAddr) -> io::Result<TcpStream> {
@@ -21,16 +32,51 @@ fn connect_to(rt: &HostRuntime, address: SocketAddr) -> io::Result<TcpStream> {
     Ok(stream)
 }
 
+/// Tells that an address took no connection, if there is a trace. Without memory it isn't told.
+fn tell_refused(host: &Host, address: SocketAddr, error: io::Error) {
+    if host.err().is_none() {
+        return;
+    }
+    if let Ok(address) = format!(in host.alloc(); "{address}") {
+        let _ = host.told("connect", address.as_str(), Err::<(), io::Error>(error));
+    }
+}
+
 /// Connects to the first of the server's addresses that takes the connection.
-pub fn connect<'a>(rt: &HostRuntime, server: &'a str, port: u16) -> Result<TcpStream, Failure<'a>> {
-    let addresses = match (server, port).to_socket_addrs(rt) {
+pub fn connect<'a>(host: &Host, server: &'a str, port: u16) -> Result<TcpStream, Failure<'a>> {
+    let rt = host.inner();
+    let addresses = host.told("getaddrinfo", server, (server, port).to_socket_addrs(rt));
+    let addresses = match addresses {
         Ok(addresses) => addresses,
         Err(error) => return Err(failure_of(error, Failure::CannotConnect(server, port))),
     };
     for address in addresses {
-        if let Ok(stream) = connect_to(rt, address) {
-            return Ok(stream);
+        match connect_to(rt, address) {
+            Ok(stream) => return Ok(stream),
+            Err(error) => tell_refused(host, address, error),
         }
     }
     Err(Failure::CannotConnect(server, port))
+}
+
+/// The link over a connection to the server, with the trace that the program's runtime has.
+pub fn link_over<'a>(
+    host: &Host,
+    stream: &'a TcpStream,
+    settings: &Settings,
+) -> Result<Link<'a>, AllocError> {
+    let alloc = host.alloc();
+    let err = host.err();
+    let mut peer = String::new(alloc);
+    let mut password = None;
+    if err.is_some() {
+        let server = settings.server.as_str();
+        let port = settings.port;
+        peer = format!(in alloc; "{server}:{port}")?;
+        password = Some(Vec::from_slice(alloc, settings.password.as_bytes())?);
+    }
+    let reader = Traced::new(alloc, stream, peer.as_str(), err);
+    let writer = Traced::new(alloc, stream, peer.as_str(), err);
+    let wire = StreamWire::new(reader, writer);
+    Ok(TracedWire::new(alloc, wire, Side::Client, err, password))
 }

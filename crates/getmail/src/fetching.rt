@@ -2,14 +2,21 @@
 ghost use Rattle.std.specs.Prelude.{◌≡◌, OnOk};
 ghost use Rattle.std.specs.Io.KnownBytes.{Appends};
 ghost use Rattle.fetch_session.specs.Account.{digits_of};
-ghost use Rattle.fetch_session.specs.Session.{Session, kept};
+ghost use Rattle.fetch_session.specs.Pretend.{Pretends};
+ghost use Rattle.fetch_session.specs.Session.{MboxSession, Session, keeping, kept, mbox_kept};
+ghost use Rattle.fetch_session.specs.Target.{IsSoundMaildir, IsSoundMbox, is_sound, kind_of, maildir_of, mbox_of, stores_of, target_of};
+ghost use Rattle.fetch_session.specs.Telling.{preview_text};
 ghost use Rattle.fetch_session.specs.Text.{report_text};
+ghost use Rattle.fetch_session.specs.declared.preview.Preview.{Preview};
 ghost use Rattle.fetch_session.specs.declared.report.Report.{Report};
-ghost use Rattle.getmail.specs.Telling.{Tells, fault_line, outcome_line, status_of};
+ghost use Rattle.getmail.specs.Telling.{Tells, TellsAhead, fault_line, outcome_line, status_of};
 
 use crate::shown_wire::ShownWire;
 use fetch_rules::Settings;
-use fetch_session::{Account, Fault, Outcome, Report, fault_text, report_text, session};
+use fetch_session::{
+    Account, Fault, Outcome, Preview, Report, fault_text, pretend, preview_text, report_text,
+    session,
+};
 use mail_store::{FlatFile, MaildirDisk};
 use pop3_wire::Wire;
 use std::alloc::Global;
@@ -40,6 +47,14 @@ impl Fetched {
     }
 }
 
+/// Writes a text.
+fn write_text<O: Write>(text: &str, out: &mut O) -> io::Result<()>
+    ensures { OnOk result (Appends (O.contents out.old) (O.contents out.new) text.now) }
+{
+    out.write_all(text.as_bytes())?;
+    out.flush()
+}
+
 /// Writes the report.
 fn write_report<O: Write>(
     alloc: Global,
@@ -50,8 +65,20 @@ fn write_report<O: Write>(
     ensures { OnOk result (Appends (O.contents out.old) (O.contents out.new) (report_text report.now settings.now)) }
 {
     let text = report_text(alloc, report, settings)?;
-    out.write_all(text.as_bytes())?;
-    out.flush()
+    write_text(text.as_str(), out)
+}
+
+/// Writes what a run would do.
+fn write_preview<O: Write>(
+    alloc: Global,
+    preview: &Preview,
+    settings: &Settings,
+    out: &mut O,
+) -> io::Result<()>
+    ensures { OnOk result (Appends (O.contents out.old) (O.contents out.new) (preview_text preview.now settings.now)) }
+{
+    let text = preview_text(alloc, preview, settings)?;
+    write_text(text.as_str(), out)
 }
 
 /// Writes a fault's line.
@@ -93,11 +120,17 @@ pub fn fetch_into<
     err: &mut E,
 ) -> Fetched
     ensures settings { account.new.settings ≡ account.old.settings }
+    ensures kind { kind_of account.new.store ≡ kind_of account.old.store }
     ensures tells { (report : Report)
         × Tells account.old.settings report result (O.contents out.old) (O.contents out.new) (E.contents err.old) (E.contents err.new)
-        × (W.sound wire.new.wire → D.sound account.new.disk → F.sound account.new.file
-        → Session account.old.settings (digits_of account.old.settings) now (W.seen wire.old.wire) (kept (D.maildir account.old.disk) (F.stored account.old.file))
-        report (W.seen wire.new.wire) (kept (D.maildir account.new.disk) (F.stored account.new.file))) }
+        × (W.sound wire.new.wire → IsSoundMaildir D.MaildirDisk account.new.store → F.sound account.new.file
+        → Session account.old.settings (digits_of account.old.settings) now (W.seen wire.old.wire)
+        (kept (maildir_of D.MaildirDisk account.old.store) (F.stored account.old.file))
+        report (W.seen wire.new.wire) (kept (maildir_of D.MaildirDisk account.new.store) (F.stored account.new.file)))
+        × (W.sound wire.new.wire → IsSoundMbox F.FlatFile account.new.store → F.sound account.new.file
+        → MboxSession account.old.settings now (W.seen wire.old.wire)
+        (mbox_kept (mbox_of F.FlatFile account.old.store) (F.stored account.old.file))
+        report (W.seen wire.new.wire) (mbox_kept (mbox_of F.FlatFile account.new.store) (F.stored account.new.file))) }
 {
     let report = session(account, wire, now);
     wire.wipe();
@@ -105,5 +138,41 @@ pub fn fetch_into<
         report: write_report(alloc, &report, account.settings(), out),
         fault: write_outcome(alloc, &report.outcome, err),
         outcome: report.outcome,
+    }
+}
+
+/// Holds a session that changes nothing, and writes what a run would do to `out`, then the line of the
+/// fault that cut it, if one did, to `err`, and nothing else to either.
+pub fn pretend_into<
+    W: Wire,
+    S: Write,
+    D: MaildirDisk,
+    F: FlatFile,
+    H: BuildHasher,
+    O: Write,
+    E: Write,
+>(
+    alloc: Global,
+    account: &mut Account<D, F, H>,
+    wire: &mut ShownWire<W, S>,
+    now: u64,
+    out: &mut O,
+    err: &mut E,
+) -> Fetched
+    ensures settings { account.new.settings ≡ account.old.settings }
+    ensures kind { kind_of account.new.store ≡ kind_of account.old.store }
+    ensures tells { (preview : Preview)
+        × TellsAhead account.old.settings preview result (O.contents out.old) (O.contents out.new) (E.contents err.old) (E.contents err.new)
+        × (W.sound wire.new.wire → is_sound D.MaildirDisk F.FlatFile account.new.store → F.sound account.new.file
+        → Pretends account.old.settings (target_of account.old.store (digits_of account.old.settings)) now (W.seen wire.old.wire)
+        (keeping (stores_of D.MaildirDisk F.FlatFile account.old.store) (F.stored account.old.file))
+        preview (W.seen wire.new.wire) (keeping (stores_of D.MaildirDisk F.FlatFile account.new.store) (F.stored account.new.file))) }
+{
+    let preview = pretend(account, wire, now);
+    wire.wipe();
+    Fetched {
+        report: write_preview(alloc, &preview, account.settings(), out),
+        fault: write_outcome(alloc, &preview.outcome, err),
+        outcome: preview.outcome,
     }
 }

@@ -1,11 +1,15 @@
-//! `getmail`: fetches mail from a POP3 server (RFC 1939) into a Maildir.
+//! `getmail`: fetches mail from a POP3 server (RFC 1939) into a Maildir or an mboxrd file.
 #![tactic(auto)]
 
+ghost use Rattle.std.specs.Prelude.{◌≡◌};
 ghost use Rattle.rc_file.specs.Settings.{IsValid};
+ghost use Rattle.fetch_session.specs.Target.{IsCalm, kind_of};
+ghost use Rattle.getmail.specs.Places.{kind_in};
 
 mod connection;
 mod failure;
 mod fetching;
+mod host;
 mod place;
 mod progress;
 mod rehearsal;
@@ -14,20 +18,22 @@ mod shown_wire;
 mod transcript;
 mod words;
 
-use crate::connection::connect;
+use crate::connection::{connect, link_over};
 use crate::failure::{Failure, failure_of, tell};
-use crate::fetching::fetch_into;
+use crate::fetching::{Fetched, fetch_into, pretend_into};
+use crate::host::{Host, host_of};
 use crate::rehearsal::rehearse;
 use crate::setup::{Setup, account_of, set_up};
 use crate::shown_wire::ShownWire;
 use crate::words::{Words, WordsFault, command, read_words};
-use fetch_rules::RcFault;
+use fetch_rules::{Dest, RcFault, Settings};
 use fetch_session::{Account, Store};
-use folder_store::{FolderMaildir, HostFile, ProcessMark};
-use pop3_wire::StreamWire;
+use folder_store::{FolderMaildir, HostFile, HostFolder, ProcessMark};
+use mail_store::{FlatFile, MaildirDisk};
+use pop3_wire::Wire;
 use std::env;
 use std::hash::RandomState;
-use std::io::{self, ErrorKind, IsTerminal};
+use std::io::{self, ErrorKind, IsTerminal, Stderr};
 use std::process::ExitCode;
 use std::time::{SystemTime, UNIX_EPOCH};
 
@@ -50,58 +56,114 @@ fn draw(rt: &HostRuntime) -> io::Result<(RandomState, ProcessMark)> {
     Ok((hasher, mark))
 }
 
-/// Connects, runs one session, and returns the exit status.
-fn fetch(rt: &HostRuntime, setup: Setup) -> u8
+/// Where the line of progress is shown: on standard error, if that is a terminal and a report is wanted,
+/// and no trace is.
+fn screen_of(host: &Host, settings: &Settings) -> Option<Stderr> {
+    let screen = host.inner().stderr();
+    let is_shown = settings.verbose > 0 && host.err().is_none() && screen.is_terminal();
+    if is_shown { Some(screen) } else { None }
+}
+
+/// The Maildir of a run.
+type HostMaildir<'a> = FolderMaildir<HostFolder<'a, Host>>;
+
+/// The mboxrd file or the record of a run.
+type HostRecord<'a> = HostFile<'a, HostFolder<'a, Host>>;
+
+/// The store at a destination's path. Of an mboxrd file an entry is flushed once: what a loss of power
+/// left of one is found and cut off by the next run.
+fn store_at<'a>(
+    host: &'a Host,
+    dest: &Dest,
+    path: &'a str,
+    mark: ProcessMark,
+) -> Store<HostMaildir<'a>, HostRecord<'a>>
+    ensures kind { kind_of result ≡ kind_in dest.now }
+    ensures calm { IsCalm ⟦<HostMaildir<'a> as MaildirDisk>⟧ ⟦<HostRecord<'a> as FlatFile>⟧ result }
+{
+    match dest {
+        Dest::Maildir(_) => Store::Maildir(FolderMaildir::at(host, path, mark)),
+        Dest::Mboxrd(_) => Store::Mboxrd(HostFile::at(host, path, mark)),
+    }
+}
+
+/// The account of a run.
+type HostAccount<'a> = Account<HostMaildir<'a>, HostRecord<'a>, RandomState>;
+
+/// Runs one session, or only tells what it would do.
+fn converse<'a, W: Wire>(
+    rt: &HostRuntime,
+    account: &mut HostAccount<'a>,
+    wire: &mut ShownWire<W, Stderr>,
+    pretends: bool,
+) -> Fetched {
+    let now = seconds_now(rt);
+    let (mut out, mut err) = (rt.stdout(), rt.stderr());
+    if pretends {
+        return pretend_into(rt.alloc(), account, wire, now, &mut out, &mut err);
+    }
+    fetch_into(rt.alloc(), account, wire, now, &mut out, &mut err)
+}
+
+/// Removes what killed runs of the account left.
+fn sweep<'a>(
+    settings: &Settings,
+    store: &Store<HostMaildir<'a>, HostRecord<'a>>,
+    record: &HostRecord<'a>,
+) {
+    if let Store::Maildir(maildir) = store {
+        maildir.sweep(&account_of(settings));
+    }
+    record.sweep();
+}
+
+/// Connects, runs one session or only tells what it would do, and returns the exit status.
+fn fetch(host: &Host, setup: Setup, pretends: bool) -> u8
     requires { IsValid setup.settings }
 {
     let Setup {
         settings,
-        maildir,
+        destination,
         record,
     } = setup;
+    let rt = host.inner();
     let (hasher, mark) = match draw(rt) {
         Ok(drawn) => drawn,
         Err(error) => return tell(rt, failure_of(error, Failure::CannotRead)),
     };
-    let stream = match connect(rt, settings.server.as_str(), settings.port) {
+    let stream = match connect(host, settings.server.as_str(), settings.port) {
         Ok(stream) => stream,
         Err(failure) => return tell(rt, failure),
     };
-    let screen = if settings.verbose > 0 && rt.stderr().is_terminal() {
-        Some(rt.stderr())
-    } else {
-        None
+    let link = match link_over(host, &stream, &settings) {
+        Ok(link) => link,
+        Err(error) => return tell(rt, error.into()),
     };
-    let mut wire = ShownWire::new(rt.alloc(), StreamWire::new(&stream, &stream), screen);
-    let store = Store::Maildir(FolderMaildir::at(rt, maildir.as_str(), mark));
-    let record = HostFile::by_pages(rt, record.as_str(), mark);
+    let mut wire = ShownWire::new(rt.alloc(), link, screen_of(host, &settings));
+    let store = store_at(host, &settings.dest, destination.as_str(), mark);
+    let record = HostFile::by_pages(host, record.as_str(), mark);
     let mut account = Account::new(rt.alloc(), settings, store, record, hasher);
-    let fetched = fetch_into(
-        rt.alloc(),
-        &mut account,
-        &mut wire,
-        seconds_now(rt),
-        &mut rt.stdout(),
-        &mut rt.stderr(),
-    );
+    let fetched = converse(rt, &mut account, &mut wire, pretends);
     let (settings, store, record) = account.into_parts();
-    let Store::Maildir(maildir) = store;
-    maildir.sweep(&account_of(&settings));
-    record.sweep();
+    if !pretends {
+        sweep(&settings, &store, &record);
+    }
     fetched.status()
 }
 
 /// Does what the command line asks for, and returns the exit status.
 fn obey(rt: &HostRuntime, words: &Words) -> u8 {
+    let host = host_of(rt, words.trace);
     if words.rehearse {
-        let status = rehearse(rt.alloc(), words.flags, rt.stdin(), rt.stdout());
+        let trace = host.err();
+        let status = rehearse(rt.alloc(), words.flags, rt.stdin(), rt.stdout(), trace);
         if status == 2 {
             return tell(rt, Failure::Rc(RcFault::Contradiction));
         }
         return status;
     }
-    match set_up(rt, words) {
-        Ok(setup) => fetch(rt, setup),
+    match set_up(&host, words) {
+        Ok(setup) => fetch(&host, setup, words.pretend),
         Err(failure) => tell(rt, failure),
     }
 }

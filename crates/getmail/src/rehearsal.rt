@@ -13,6 +13,7 @@ use std::alloc::{AllocError, Global};
 use std::hash::{BuildHasherDefault, FoldHasher};
 use std::io;
 use std::io::{Read, Write};
+use trace::{Side, TracedWire};
 
 const SERVER: &str = "rehearsal";
 
@@ -91,11 +92,12 @@ fn write_outcome<W: Write>(
 }
 
 /// Runs a session with these settings, and returns the exit status.
-fn rehearse_with<R: Read + Drop, W: Write + Drop>(
+fn rehearse_with<R: Read + Drop, W: Write + Drop, E: Write + Drop>(
     alloc: Global,
     settings: Settings,
     input: R,
     output: W,
+    trace: Option<E>,
 ) -> u8
     requires { IsValid settings }
     ensures { result ≤ 1 }
@@ -108,12 +110,15 @@ fn rehearse_with<R: Read + Drop, W: Write + Drop>(
         MemoryFile::missing(alloc),
         BuildHasherDefault::<FoldHasher>::new(),
     );
-    let mut wire = StreamWire::new(input, Transcript::new(output));
+    let wire = StreamWire::new(input, Transcript::new(output));
+    let mut wire = TracedWire::new(alloc, wire, Side::Client, trace, None);
     let report = session(&mut account, &mut wire, 0);
-    let (_input, transcript) = wire.into_parts();
+    let (_input, transcript) = wire.into_inner().into_parts();
     let mut output = transcript.into_inner();
     let (_settings, store, _record) = account.into_parts();
-    let Store::Maildir(maildir) = store;
+    let Store::Maildir(maildir) = store else {
+        return 1;
+    };
     let written = write_outcome(alloc, &mut output, &maildir, &report.outcome);
     if written.is_err() || report.outcome != Outcome::Ended {
         return 1;
@@ -122,14 +127,16 @@ fn rehearse_with<R: Read + Drop, W: Write + Drop>(
 }
 
 /// Rehearses a session of user `u` with password `p`: `input` is the server. `output` gets each command
-/// as it is sent, then a line for each stored message and one for how the session ended. The exit
-/// status is 0 if the session came to its end; 1 if it was cut, `output` failed or memory ran out, in
-/// which case none of the last lines are written; 2 for opposite flags, with nothing written.
-pub fn rehearse<R: Read + Drop, W: Write + Drop>(
+/// as it is sent, then a line for each stored message and one for how the session ended. If there is
+/// a writer for a trace, it gets the conversation. The exit status is 0 if the session came to its end;
+/// 1 if it was cut, `output` failed or memory ran out, in which case none of the last lines are written;
+/// 2 for opposite flags, with nothing written.
+pub fn rehearse<R: Read + Drop, W: Write + Drop, E: Write + Drop>(
     alloc: Global,
     flags: Flags,
     input: R,
     output: W,
+    trace: Option<E>,
 ) -> u8
     ensures within { result ≤ 2 }
     ensures refused { is_contradiction flags ≡ true → 0 < result }
@@ -139,7 +146,7 @@ pub fn rehearse<R: Read + Drop, W: Write + Drop>(
         return 1;
     };
     match override_with(settings, flags) {
-        Ok(settings) => rehearse_with(alloc, settings, input, output),
+        Ok(settings) => rehearse_with(alloc, settings, input, output, trace),
         Err(_) => 2,
     }
 }

@@ -1,14 +1,15 @@
 //! The settings of a run: those of the rc file, changed by the flags, and its paths.
-ghost use Rattle.std.specs.Prelude.{◌≡◌, ◌++◌, IfOk, codes};
+ghost use Rattle.std.specs.Prelude.{◌≡◌, ◌++◌, ℕ, List, IfOk, codes};
 ghost use Rattle.std.specs.String.{string_bytes};
 ghost use Rattle.rc_file.specs.Settings.{IsValid};
 ghost use Rattle.fetch_session.specs.Account.{digits_of};
-ghost use Rattle.getmail.specs.Places.{AreAsked, IsPlaced, joined};
+ghost use Rattle.getmail.specs.Places.{AreAsked, IsPlaced, joined, path_in, whole_path};
 
 use crate::failure::{Failure, failure_of};
+use crate::host::Host;
 use crate::place::{folder, joined, rc_file, whole_path};
 use crate::words::Words;
-use fetch_rules::{Dest, Key, RcFault, Settings, Warning, override_with, read_rc, warning_text};
+use fetch_rules::{Dest, Settings, Warning, override_with, read_rc, warning_text};
 use mail_store::{AccountId, account_id};
 use std::alloc::{AllocError, Global};
 use std::fs;
@@ -22,16 +23,16 @@ const RC_ROOM: u64 = 65_537;
 pub struct Setup {
     /// The settings, changed by the flags.
     pub settings: Settings,
-    /// The Maildir's path.
-    pub maildir: String,
+    /// The destination's path.
+    pub destination: String,
     /// The record's path.
     pub record: String,
 }
 
 /// The octets of the rc file; of one that is too long, enough to notice it.
-fn read_file(rt: &HostRuntime, path: &str) -> io::Result<Vec<u8>> {
-    let mut bytes = Vec::new(rt.alloc());
-    fs::open(rt, path)?.take(RC_ROOM).read_to_end(&mut bytes)?;
+fn read_file(host: &Host, path: &str) -> io::Result<Vec<u8>> {
+    let mut bytes = Vec::new(host.alloc());
+    fs::open(host, path)?.take(RC_ROOM).read_to_end(&mut bytes)?;
     Ok(bytes)
 }
 
@@ -45,11 +46,12 @@ fn tell_warnings<'a>(rt: &HostRuntime, warnings: &[Warning]) -> Result<(), Failu
 }
 
 /// Reads the rc file, writes its warnings, and returns its settings, changed by the flags.
-fn settings_of<'a>(rt: &HostRuntime, path: &str, words: &Words) -> Result<Settings, Failure<'a>>
+fn settings_of<'a>(host: &Host, path: &str, words: &Words) -> Result<Settings, Failure<'a>>
     ensures valid { IfOk result IsValid }
     ensures asked { IfOk result (AreAsked words.now.flags) }
 {
-    let bytes = match read_file(rt, path) {
+    let rt = host.inner();
+    let bytes = match read_file(host, path) {
         Ok(bytes) => bytes,
         Err(error) => return Err(failure_of(error, Failure::CannotRead)),
     };
@@ -79,24 +81,32 @@ fn record_path(alloc: Global, folder: &str, settings: &Settings) -> Result<Strin
     joined(alloc, folder, name.as_str())
 }
 
+/// The path of a destination, a Maildir or an mboxrd file.
+fn destination_path<'a>(rt: &HostRuntime, dest: &Dest) -> Result<String, Failure<'a>>
+    ensures { IfOk result (λ path. (home : List ℕ) × (string_bytes path ≡ whole_path home (path_in dest.now))) }
+{
+    match dest {
+        Dest::Maildir(path) => whole_path(rt, path.as_str()),
+        Dest::Mboxrd(path) => whole_path(rt, path.as_str()),
+    }
+}
+
 /// The settings and the paths of a run, or the first of these failures: HOME is needed and not set,
-/// the rc file can't be read or is wrong, the flags are opposite, the destination isn't supported.
-pub fn set_up<'a>(rt: &HostRuntime, words: &Words) -> Result<Setup, Failure<'a>>
+/// the rc file can't be read or is wrong, the flags are opposite.
+pub fn set_up<'a>(host: &Host, words: &Words) -> Result<Setup, Failure<'a>>
     ensures valid { IfOk result (λ setup. IsValid setup.settings) }
     ensures asked { IfOk result (λ setup. AreAsked words.now.flags setup.settings) }
     ensures placed { IfOk result (IsPlaced words.now) }
 {
+    let rt = host.inner();
     let folder = folder(rt, words.dir.as_deref())?;
     let path = rc_file(rt, folder.as_str(), words.rcfile.as_deref())?;
-    let settings = settings_of(rt, path.as_str(), words)?;
-    let maildir = match &settings.dest {
-        Dest::Maildir(path) => whole_path(rt, path.as_str())?,
-        Dest::Mboxrd(_) => return Err(Failure::Rc(RcFault::Unsupported(Key::DestinationKind))),
-    };
+    let settings = settings_of(host, path.as_str(), words)?;
+    let destination = destination_path(rt, &settings.dest)?;
     let record = record_path(rt.alloc(), folder.as_str(), &settings)?;
     Ok(Setup {
         settings,
-        maildir,
+        destination,
         record,
     })
 }

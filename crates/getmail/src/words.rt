@@ -21,6 +21,10 @@ pub struct Words {
     pub flags: Flags,
     /// Whether standard input is the server.
     pub rehearse: bool,
+    /// Whether it is only told what would be done.
+    pub pretend: bool,
+    /// Whether the conversation and refused calls of the system are told.
+    pub trace: bool,
 }
 
 /// Why there is no run.
@@ -89,7 +93,7 @@ fn long_flag<'a>(alloc: Global, name: &'a str, help: &'a str) -> Arg<'a>
 
 // The lines of help.
 const ABOUT: &str =
-    "Fetches mail from a POP3 server into a Maildir; getmail(1) and getmailrc(5) say more";
+    "Fetches mail from a POP3 server into a Maildir or an mboxrd file; getmail(1) and getmailrc(5) say more";
 
 const RCFILE: &str =
     "Read the settings from FILE, in DIR unless it begins with / or ~/ [getmailrc]";
@@ -100,6 +104,8 @@ const VERBOSE: &str = "Report more, each time by one, up to 2";
 
 const QUIET: &str = "Write no report";
 
+const TRACE: &str = "Show the conversation and refused calls of the system on standard error";
+
 const ALL: &str = "Fetch all messages, also those that were delivered before";
 
 const NEW: &str = "Fetch only messages that were not delivered before";
@@ -107,6 +113,8 @@ const NEW: &str = "Fetch only messages that were not delivered before";
 const DELETE: &str = "Delete from the server what was delivered, held or not";
 
 const DONT_DELETE: &str = "Take delete as false; delete_after still deletes";
+
+const PRETEND: &str = "Say what would be fetched and deleted, and do nothing";
 
 const REHEARSE: &str = "Hold a session with standard input as the server, and store nothing";
 
@@ -120,10 +128,12 @@ pub fn command<'a>(alloc: Global) -> Result<Command<'a>, AllocError>
         .arg(value_option(alloc, "getmaildir", 'g', "DIR", GETMAILDIR))?
         .arg(flag(alloc, "verbose", 'v', VERBOSE))?
         .arg(flag(alloc, "quiet", 'q', QUIET))?
+        .arg(long_flag(alloc, "trace", TRACE))?
         .arg(flag(alloc, "all", 'a', ALL))?
         .arg(flag(alloc, "new", 'n', NEW))?
         .arg(flag(alloc, "delete", 'd', DELETE))?
         .arg(flag(alloc, "dont-delete", 'l', DONT_DELETE))?
+        .arg(long_flag(alloc, "pretend", PRETEND))?
         .arg(long_flag(alloc, "rehearse", REHEARSE))
 }
 
@@ -160,6 +170,8 @@ fn words_of(alloc: Global, matches: &ArgMatches<'_>) -> Result<Words, AllocError
         dir: copy(alloc, matches.get_str("getmaildir"))?,
         flags: flags_of(matches),
         rehearse: matches.get_count("rehearse") > 0,
+        pretend: matches.get_count("pretend") > 0,
+        trace: matches.get_count("trace") > 0,
     })
 }
 

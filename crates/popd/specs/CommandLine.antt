@@ -23,6 +23,10 @@ rehearse_rule = record (new_rule (codes "rehearse")) { long = Some (codes "rehea
 abbrev pub verbose_rule : Rule
 verbose_rule = record (new_rule (codes "verbose")) { long = Some (codes "verbose"); action = Some Count }
 
+-- `--trace`
+abbrev pub trace_rule : Rule
+trace_rule = record (new_rule (codes "trace")) { long = Some (codes "trace"); action = Some Count }
+
 -- a word that is no option
 abbrev pub word_rule : List ℕ → Rule
 word_rule name = record (new_rule name) { value_names = 1; action = Some Set }
@@ -32,7 +36,7 @@ abbrev pub more_rule : Rule
 more_rule = record (new_rule (codes "more")) { range = Some (record { start_inclusive = 0; end_inclusive = 18446744073709551615 }); action = Some Append }
 
 abbrev pub with_options : App → App
-with_options app = with_rule (with_rule (with_rule (with_rule app listen_rule) connections_rule) rehearse_rule) verbose_rule
+with_options app = with_rule (with_rule (with_rule (with_rule (with_rule app listen_rule) connections_rule) rehearse_rule) verbose_rule) trace_rule
 
 -- USER PASSFILE MAILDIR
 abbrev pub with_words : App → App
@@ -57,6 +61,7 @@ pub record AsksFor (rows : List Row) (words : Words) : Type 0 where
   pub connections : Numbers (one_of (codes "connections") rows) words.connections
   pub rehearse : words.rehearse ≡ nat_lt 0 (count_of (codes "rehearse") rows)
   pub verbose : words.verbose ≡ nat_lt 0 (count_of (codes "verbose") rows)
+  pub trace : words.trace ≡ nat_lt 0 (count_of (codes "trace") rows)
   pub user : option_map string_bytes words.user ≡ first_of (codes "user") rows
   pub passfile : option_map string_bytes words.passfile ≡ first_of (codes "passfile") rows
   pub maildir : option_map string_bytes words.maildir ≡ first_of (codes "maildir") rows

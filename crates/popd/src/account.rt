@@ -7,6 +7,7 @@ ghost use Rattle.popd.specs.Failures.{IsCause};
 ghost use Rattle.popd.specs.Start.{at_start};
 
 use crate::failure::{Failure, failure_of};
+use crate::host::Host;
 use crate::password::password;
 use crate::words::Words;
 use pop3_server::{MaildirDrop, Maildrop, Server};
@@ -14,7 +15,7 @@ use std::alloc::{AllocError, Global};
 use std::fs;
 
 /// A Maildir in a folder of this machine.
-pub type RealMaildir<'a> = MaildirDrop<'a, HostRuntime>;
+pub type RealMaildir<'a> = MaildirDrop<'a, Host>;
 
 /// The account that is served.
 #[derive(Drop)]
@@ -40,11 +41,11 @@ impl Account {
     }
 
     /// The account's Maildir; nothing of it is listed yet.
-    pub fn open_maildir<'a>(&self, rt: &'a HostRuntime) -> Result<RealMaildir<'a>, AllocError>
+    pub fn open_maildir<'a>(&self, host: &'a Host) -> Result<RealMaildir<'a>, AllocError>
         ensures { IfOk result (λ maildir. maildir ≡ record { path = string_bytes self.now.maildir; names = []; failures = 0; removals = 0 }) }
     {
-        let path = String::from_str(rt.alloc(), self.maildir.as_str())?;
-        Ok(MaildirDrop::at(rt, path))
+        let path = String::from_str(host.alloc(), self.maildir.as_str())?;
+        Ok(MaildirDrop::at(host, path))
     }
 
     /// A server over this maildrop at the start of a session, for this account's user and password.
@@ -71,12 +72,12 @@ fn account_of(alloc: Global, user: &str, file: &[u8], maildir: &str) -> Result<A
 
 /// The account that the words USER PASSFILE MAILDIR name, with the password from PASSFILE. A wrong
 /// number of words is reported before that file is read.
-pub fn read_account<'a>(rt: &HostRuntime, words: &'a Words) -> Result<Account, Failure<'a>>
+pub fn read_account<'a>(host: &Host, words: &'a Words) -> Result<Account, Failure<'a>>
     requires { words.now.rehearse ≡ false }
     ensures ok { IfOk result (λ account. (file : List ℕ) × IsAccount words.now file account) }
     ensures err { IfErr result (IsCause words.now) }
 {
-    let alloc = rt.alloc();
+    let alloc = host.alloc();
     let (Some(user), Some(passfile), Some(maildir)) = (&words.user, &words.passfile, &words.maildir)
     else {
         return Err(Failure::WrongCount);
@@ -84,7 +85,7 @@ pub fn read_account<'a>(rt: &HostRuntime, words: &'a Words) -> Result<Account, F
     if !words.more.is_empty() {
         return Err(Failure::WrongCount);
     }
-    let file = match fs::read(rt, passfile.as_str()) {
+    let file = match fs::read(host, passfile.as_str()) {
         Ok(file) => file,
         Err(error) => return Err(failure_of(error, Failure::CannotRead(passfile.as_str()))),
     };

@@ -7,6 +7,7 @@ ghost use Rattle.popd.specs.Failures.{IsCause, has_right_count};
 
 mod account;
 mod failure;
+mod host;
 mod password;
 mod rehearsal;
 mod serving;
@@ -17,6 +18,7 @@ mod words;
 
 use crate::account::read_account;
 use crate::failure::{Failure, end, failure_of};
+use crate::host::{Host, host_of};
 use crate::rehearsal::rehearsal_server;
 use crate::serving::{listen, serve_maildir, serve_streams};
 use crate::warning::warn_of;
@@ -41,21 +43,21 @@ fn arguments(rt: &HostRuntime) -> Result<Vec<String>, Failure<'static>>
 /// Does what the command line asks for, or returns the first of these failures: a wrong number of
 /// words, a password file that can't be read, an address that can't be listened on, a fault of the
 /// link. With an address to listen on, a fault of one connection isn't a failure of the run.
-fn run<'a>(rt: &HostRuntime, words: &'a Words) -> Result<(), Failure<'a>>
+fn run<'a>(host: &Host, words: &'a Words) -> Result<(), Failure<'a>>
     ensures { MatchResult result (λ _. has_right_count words.now ≡ true) (IsCause words.now) }
 {
     if words.rehearse {
         if !words.is_bare() {
             return Err(Failure::WrongCount);
         }
-        let mut server = rehearsal_server(rt.alloc())?;
-        return Ok(serve_streams(rt, &mut server, words.verbose)?);
+        let mut server = rehearsal_server(host.alloc())?;
+        return Ok(serve_streams(host, &mut server, words.verbose)?);
     }
-    let account = read_account(rt, words)?;
-    warn_of(rt, &account, words.passfile.as_deref())?;
+    let account = read_account(host, words)?;
+    warn_of(host, &account, words.passfile.as_deref())?;
     match &words.listen {
-        Some(address) => listen(rt, address.as_str(), words, &account),
-        None => Ok(serve_maildir(rt, account, words.verbose)?),
+        Some(address) => listen(host, address.as_str(), words, &account),
+        None => Ok(serve_maildir(host, account, words.verbose)?),
     }
 }
 
@@ -92,7 +94,8 @@ fn show_usage(rt: &HostRuntime) {
 fn obey(rt: &HostRuntime, arguments: &[String]) -> u8 {
     match read_words(rt.alloc(), arguments) {
         Ok(words) => {
-            let status = end(rt, run(rt, &words));
+            let host = host_of(rt, words.trace);
+            let status = end(rt, run(&host, &words));
             if arguments.len() <= 1 {
                 show_usage(rt);
             }

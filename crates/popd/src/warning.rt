@@ -1,5 +1,6 @@
 //! Warnings: the program goes on after them.
 use crate::account::Account;
+use crate::host::Host;
 use mail_terms::is_credential;
 use pop3_server::ServerFault;
 use std::alloc::AllocError;
@@ -72,27 +73,24 @@ pub fn warn(rt: &HostRuntime, warning: Warning<'_>) {
 }
 
 /// Whether there is a folder at this path.
-fn is_folder(rt: &HostRuntime, path: &str) -> bool {
-    match fs::metadata(rt, path) {
+fn is_folder(host: &Host, path: &str) -> bool {
+    match fs::metadata(host, path) {
         Ok(metadata) => metadata.is_dir(),
         Err(_) => false,
     }
 }
 
 /// Whether others than its owner may read or write a file.
-fn is_others_too(rt: &HostRuntime, path: &str) -> bool {
-    match fs::metadata(rt, path) {
+fn is_others_too(host: &Host, path: &str) -> bool {
+    match fs::metadata(host, path) {
         Ok(metadata) => metadata.permissions().mode() & 0o066 != 0,
         Err(_) => false,
     }
 }
 
 /// Warns of all that may keep this account from being served properly.
-pub fn warn_of(
-    rt: &HostRuntime,
-    account: &Account,
-    passfile: Option<&str>,
-) -> Result<(), AllocError> {
+pub fn warn_of(host: &Host, account: &Account, passfile: Option<&str>) -> Result<(), AllocError> {
+    let rt = host.inner();
     if !is_credential(account.user.as_slice()) {
         warn(rt, Warning::NoUser);
     }
@@ -100,14 +98,14 @@ pub fn warn_of(
         warn(rt, Warning::NoPassword);
     }
     if let Some(passfile) = passfile {
-        if is_others_too(rt, passfile) {
+        if is_others_too(host, passfile) {
             warn(rt, Warning::OpenPassfile(passfile));
         }
     }
     let maildir = account.maildir.as_str();
     for name in ["new", "cur"] {
         let path = format!(in rt.alloc(); "{maildir}/{name}")?;
-        if !is_folder(rt, path.as_str()) {
+        if !is_folder(host, path.as_str()) {
             warn(rt, Warning::NoFolder(maildir, name));
         }
     }

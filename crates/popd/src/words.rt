@@ -2,7 +2,7 @@
 ghost use Rattle.std.specs.Prelude.{◌≡◌, IfOk, false, map, option_map};
 ghost use Rattle.std.specs.String.{string_bytes};
 ghost use Rattle.clap.specs.Words.{FailsBy, app_of, fault_of, found_of, matches_of, rows_of, rule_of};
-ghost use Rattle.popd.specs.CommandLine.{AsksFor, connections_rule, is_bare, listen_rule, more_rule, popd, rehearse_rule, verbose_rule, word_rule, words_after};
+ghost use Rattle.popd.specs.CommandLine.{AsksFor, connections_rule, is_bare, listen_rule, more_rule, popd, rehearse_rule, trace_rule, verbose_rule, word_rule, words_after};
 
 use clap::error::ErrorKind;
 use clap::{Arg, ArgAction, ArgMatches, Command, Error, value_parser};
@@ -19,6 +19,8 @@ pub struct Words {
     pub rehearse: bool,
     /// Whether logins and removals are reported.
     pub verbose: bool,
+    /// Whether conversations and refused calls of the system are told.
+    pub trace: bool,
     /// The name of the user who may log in.
     pub user: Option<String>,
     /// The file that holds the password.
@@ -90,6 +92,17 @@ fn verbose_option<'a>(alloc: Global) -> Arg<'a>
         .action(ArgAction::Count)
 }
 
+/// `--trace`.
+fn trace_option<'a>(alloc: Global) -> Arg<'a>
+    ensures rule { rule_of result ≡ trace_rule }
+    ensures local { result.global ≡ false }
+{
+    Arg::new(alloc, "trace")
+        .long("trace")
+        .help("Show conversations and refused calls of the system on standard error")
+        .action(ArgAction::Count)
+}
+
 /// A word that is no option.
 fn word<'a>(alloc: Global, name: &'a str, shown: &'a str, help: &'a str) -> Arg<'a>
     ensures rule { rule_of result ≡ word_rule name.entry.now }
@@ -134,6 +147,7 @@ pub fn command<'a>(alloc: Global) -> Result<Command<'a>, AllocError>
         .arg(connections_option(alloc))?
         .arg(rehearse_option(alloc))?
         .arg(verbose_option(alloc))?
+        .arg(trace_option(alloc))?
         .arg(word(alloc, "user", "USER", USER))?
         .arg(word(alloc, "passfile", "PASSFILE", PASSFILE))?
         .arg(word(alloc, "maildir", "MAILDIR", MAILDIR))?
@@ -180,6 +194,7 @@ fn words_of(alloc: Global, matches: &ArgMatches<'_>) -> Result<Words, AllocError
         connections: matches.get_one("connections").unwrap_or(u32::MAX),
         rehearse: matches.get_count("rehearse") > 0,
         verbose: matches.get_count("verbose") > 0,
+        trace: matches.get_count("trace") > 0,
         user: copy(alloc, matches.get_str("user"))?,
         passfile: copy(alloc, matches.get_str("passfile"))?,
         maildir: copy(alloc, matches.get_str("maildir"))?,

@@ -11,4 +11,5 @@ returns-clause-tells g c =
         faulted = c.write_outcome.ensures;
       },
       rw c.wipe.ensures (λ link disk file. (c.session-report.ensures.session link disk file).4),
+      rw c.wipe.ensures (λ link mbox file. (c.session-report.ensures.mbox_session link mbox file).4),
     )

@@ -11,8 +11,10 @@ returns c =
     let second = c.in_ok-arg-2.ensures.shape c.value_option-2.ensures.local ∙ ap₂ with_rule first c.value_option-2.ensures.rule in
     let third = c.in_ok-arg-3.ensures.shape c.flag.ensures.local ∙ ap₂ with_rule second c.flag.ensures.rule in
     let fourth = c.in_ok-arg-4.ensures.shape c.flag-2.ensures.local ∙ ap₂ with_rule third c.flag-2.ensures.rule in
-    let fifth = c.in_ok-arg-5.ensures.shape c.flag-3.ensures.local ∙ ap₂ with_rule fourth c.flag-3.ensures.rule in
-    let sixth = c.in_ok-arg-6.ensures.shape c.flag-4.ensures.local ∙ ap₂ with_rule fifth c.flag-4.ensures.rule in
-    let seventh = c.in_ok-arg-7.ensures.shape c.flag-5.ensures.local ∙ ap₂ with_rule sixth c.flag-5.ensures.rule in
-    let eighth = c.in_ok-arg-8.ensures.shape c.flag-6.ensures.local ∙ ap₂ with_rule seventh c.flag-6.ensures.rule in
-    IfOk-weaker c.arg-9.result _ _ (λ command added. added.shape c.long_flag.ensures.local ∙ ap₂ with_rule eighth c.long_flag.ensures.rule) c.arg-9.ensures
+    let fifth = c.in_ok-arg-5.ensures.shape c.long_flag.ensures.local ∙ ap₂ with_rule fourth c.long_flag.ensures.rule in
+    let sixth = c.in_ok-arg-6.ensures.shape c.flag-3.ensures.local ∙ ap₂ with_rule fifth c.flag-3.ensures.rule in
+    let seventh = c.in_ok-arg-7.ensures.shape c.flag-4.ensures.local ∙ ap₂ with_rule sixth c.flag-4.ensures.rule in
+    let eighth = c.in_ok-arg-8.ensures.shape c.flag-5.ensures.local ∙ ap₂ with_rule seventh c.flag-5.ensures.rule in
+    let ninth = c.in_ok-arg-9.ensures.shape c.flag-6.ensures.local ∙ ap₂ with_rule eighth c.flag-6.ensures.rule in
+    let tenth = c.in_ok-arg-10.ensures.shape c.long_flag-2.ensures.local ∙ ap₂ with_rule ninth c.long_flag-2.ensures.rule in
+    IfOk-weaker c.arg-11.result _ _ (λ command added. added.shape c.long_flag-3.ensures.local ∙ ap₂ with_rule tenth c.long_flag-3.ensures.rule) c.arg-11.ensures

@@ -11,4 +11,6 @@ returns c =
       dir = c.in_ok-copy-2.ensures ∙ c.get_str-2.ensures ∙ first_value-rows found (codes "getmaildir");
       flags = c.flags_of.ensures;
       rehearse = ap (nat_lt 0) c.get_count.ensures.value;
+      pretend = ap (nat_lt 0) c.get_count-2.ensures.value;
+      trace = ap (nat_lt 0) c.get_count-3.ensures.value;
     }

@@ -11,7 +11,8 @@ returns c =
     let second = c.in_ok-arg-2.ensures.shape c.connections_option.ensures.local ∙ ap₂ with_rule first c.connections_option.ensures.rule in
     let third = c.in_ok-arg-3.ensures.shape c.rehearse_option.ensures.local ∙ ap₂ with_rule second c.rehearse_option.ensures.rule in
     let fourth = c.in_ok-arg-4.ensures.shape c.verbose_option.ensures.local ∙ ap₂ with_rule third c.verbose_option.ensures.rule in
-    let fifth = c.in_ok-arg-5.ensures.shape c.word.ensures.local ∙ ap₂ with_rule fourth c.word.ensures.rule in
-    let sixth = c.in_ok-arg-6.ensures.shape c.word-2.ensures.local ∙ ap₂ with_rule fifth c.word-2.ensures.rule in
-    let seventh = c.in_ok-arg-7.ensures.shape c.word-3.ensures.local ∙ ap₂ with_rule sixth c.word-3.ensures.rule in
-    IfOk-weaker c.arg-8.result _ _ (λ command added. added.shape c.more_words.ensures.local ∙ ap₂ with_rule seventh c.more_words.ensures.rule) c.arg-8.ensures
+    let fifth = c.in_ok-arg-5.ensures.shape c.trace_option.ensures.local ∙ ap₂ with_rule fourth c.trace_option.ensures.rule in
+    let sixth = c.in_ok-arg-6.ensures.shape c.word.ensures.local ∙ ap₂ with_rule fifth c.word.ensures.rule in
+    let seventh = c.in_ok-arg-7.ensures.shape c.word-2.ensures.local ∙ ap₂ with_rule sixth c.word-2.ensures.rule in
+    let eighth = c.in_ok-arg-8.ensures.shape c.word-3.ensures.local ∙ ap₂ with_rule seventh c.word-3.ensures.rule in
+    IfOk-weaker c.arg-9.result _ _ (λ command added. added.shape c.more_words.ensures.local ∙ ap₂ with_rule eighth c.more_words.ensures.rule) c.arg-9.ensures

@@ -16,6 +16,7 @@ returns c =
           (λ none. c.get_one.ensures.none (text_is ∙ none)) (λ text is. c.get_one.ensures.value text (text_is ∙ is)) c.unwrap_or.ensures;
       rehearse = ap (nat_lt 0) c.get_count.ensures.value;
       verbose = ap (nat_lt 0) c.get_count-2.ensures.value;
+      trace = ap (nat_lt 0) c.get_count-3.ensures.value;
       user = c.in_ok-copy-2.ensures ∙ c.get_str-2.ensures ∙ first_value-rows found (codes "user");
       passfile = c.in_ok-copy-3.ensures ∙ c.get_str-3.ensures ∙ first_value-rows found (codes "passfile");
       maildir = c.in_ok-copy-4.ensures ∙ c.get_str-4.ensures ∙ first_value-rows found (codes "maildir");
