@@ -2,4 +2,4 @@
 
 mod intent;
 mod plan;
-mod seen;
+pub mod seen;

@@ -1,5 +1,5 @@
-//! Tests of `folder_names`: what a listing has, with ample memory. What others change meanwhile is
-//! tested from outside.
+//! Tests of `folder_names`: what a listing has, with ample memory. Changes by others meanwhile
+//! are tested from outside.
 
 use folder_names::{ChangeTime, list_names};
 use std::fs;

@@ -1,5 +1,5 @@
-//! The tests of the libraries, in a folder for each: what no contract says, with ample memory. They
-//! stand here, above all that they test, since a library with tests of its own is proved twice.
+//! The tests of the libraries, in a folder for each: what no contract says, with ample memory. They are
+//! here, above all that they test, since a library with tests of its own is proved twice.
 #![tactic(auto)]
 
 #[cfg(test)]

@@ -1,4 +1,5 @@
 //! Tests of `local_fetch`: sessions with both ends in one program.
 
 mod cuts;
-mod ends;
+pub mod ends;
+mod mbox;

@@ -1,7 +1,9 @@
 //! Tests of `mail_store`: names, and what stores in memory, files and folders do.
 
-mod file;
+pub mod file;
 mod fuse;
-mod maildir;
+pub mod maildir;
 mod mbox;
 pub mod name;
+mod power;
+mod settling;

@@ -18,7 +18,7 @@ fn read(alloc: Global, file: &str) -> Result<String, Fail> {
     }
 }
 
-/// Files with an intent that may not be there, and the first fault of each.
+/// Files with an intent where none may be, and the first fault of each.
 const FAULTY_FILES: [(&str, SeenFault); 12] = [
     ("getmail-seen 1\na 5 0\n! a 0 49\n", SeenFault::BadRow(3)),
     ("getmail-seen 2\n! a 0 49\n", SeenFault::BadRow(2)),
@@ -67,12 +67,12 @@ const FILES: [(&str, &str); 8] = [
         "getmail-seen 2\na 5 0\n! a 0 49\n",
         "0 49 true getmail-seen 2\na 5 0\n! a 0 49\n",
     ),
-    // torn, an intent counts for nothing
+    // a torn intent counts for nothing
     (
         "getmail-seen 2\na 5 0\n! a 0 49",
         "- true getmail-seen 2\na 5 0\n",
     ),
-    // a group that lacks rows doesn't end it, a whole one does
+    // a group that lacks rows doesn't close the intent, a whole one does
     (
         "getmail-seen 2\na 5 0\n! a 0 49\n+ 1\na 5",
         "0 49 true getmail-seen 2\na 5 0\n! a 0 49\n",

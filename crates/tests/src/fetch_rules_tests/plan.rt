@@ -6,7 +6,7 @@ use fetch_rules::{Dest, Settings, plan};
 use std::alloc::Global;
 use std::test::Fail;
 
-/// Settings with nothing asked for: new messages alone, nothing deleted, no limits.
+/// Settings that ask for nothing more: only new messages, nothing deleted, no limits.
 fn settings(alloc: Global) -> Settings {
     Settings {
         server: String::new(alloc),
@@ -23,8 +23,8 @@ fn settings(alloc: Global) -> Settings {
     }
 }
 
-/// The steps of a session over messages of these ids and sizes: each number, with `f` where the
-/// message is fetched and `d` where it is deleted.
+/// The steps of a session over messages of these ids and sizes: each number, with `f` if the
+/// message is fetched and `d` if it is deleted.
 fn steps(
     alloc: Global,
     settings: &Settings,

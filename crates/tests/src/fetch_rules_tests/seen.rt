@@ -13,8 +13,8 @@ pub(crate) fn read_record(alloc: Global, bytes: &[u8]) -> Result<Record, SeenFau
     Seen::read(alloc, bytes, BuildHasherDefault::new())
 }
 
-/// Whether a record changes where messages of these ids are merged into it, all that are held
-/// flagged, and the record's file afterwards.
+/// Whether a record changes when messages of these ids are merged into it, with those flagged
+/// that are held, and the record's file afterwards.
 fn merged(
     alloc: Global,
     file: &str,

@@ -9,8 +9,8 @@ use pop3_wire::EndlessWire;
 use std::alloc::Global;
 use std::test::Fail;
 
-/// Runs a session over a server that says this, and then the pattern for ever, and tells what was
-/// sent and how it came out.
+/// Runs a session over a server that sends this and then repeats the pattern, and returns what
+/// was sent and how the session ended.
 fn endless(
     alloc: Global,
     kept: Kept,
@@ -25,7 +25,7 @@ fn endless(
     let mut wire = EndlessWire::new(alloc, visit.replies, pattern);
     let mut account = account(alloc, options, kept, SOUND, SOUND)?;
     let report = session(&mut account, &mut wire, 0);
-    let _kept = kept_by(account);
+    let _kept = kept_by(alloc, account);
     let sent = shown(alloc, wire.sent())?;
     let counts = counts(alloc, &report)?;
     Ok(format!(in alloc; "{sent} {counts}")?)
@@ -57,7 +57,7 @@ fn gives_up_at_a_message_that_never_ends(rt: HostRuntime) -> Result<(), Fail> {
     let alloc = rt.alloc();
     let first = Visit::new(alloc, "", 0, &[A_LISTED, ONE, "+OK|"])?;
     let (kept, _told) = run(alloc, nothing_kept(alloc), &first, 4096)?;
-    // `x` CR LF for ever, a thousand of them at once
+    // `x` CR LF again and again, a thousand of them at once
     let mut pattern = Vec::new(alloc);
     for _ in 0..1000 {
         pattern.extend_from_slice(b"x\r\n")?;

@@ -24,8 +24,8 @@ fn visits(
     Ok(visits)
 }
 
-/// Runs these sessions by one call, from an empty Maildir and no record, and compares what was sent in
-/// each and how it came out, and what is kept at last, with what each is to tell. All of them have the
+/// Runs these sessions by one call, from an empty Maildir and no record, and compares what each
+/// sent and how it ended, and what is kept at the end, with what is wanted. All of them have the
 /// options of the account.
 pub fn expect_by_one_call(
     rt: &(impl Abort + AllocGlobal),
@@ -36,7 +36,7 @@ pub fn expect_by_one_call(
     let mut visits = visits(alloc, rows)?;
     let mut account = account(alloc, options, nothing_kept(alloc), SOUND, SOUND)?;
     let reports = run_sessions(alloc, &mut account, &mut visits);
-    let held = held(alloc, &kept_by(account))?;
+    let held = held(alloc, &kept_by(alloc, account))?;
     let reports = reports?;
     assert_eq!(rt; reports.len(), rows.len());
     let mut told = String::new(alloc);

@@ -19,7 +19,7 @@ fn visits(alloc: Global, count: u32) -> Result<Vec<Visit<FusedWire<ScriptWire>>>
     Ok(visits)
 }
 
-/// How many of these reports tell of a session that ended and found no message.
+/// How many of these reports are of a session that ended and found no message.
 fn count_ended(alloc: Global, reports: &[Report]) -> Result<u32, Fail> {
     let mut ended: u32 = 0;
     for report in reports {
@@ -36,7 +36,7 @@ fn runs_a_thousand_sessions(rt: HostRuntime) -> Result<(), Fail> {
     let mut visits = visits(alloc, 1000)?;
     let mut account = account(alloc, "", nothing_kept(alloc), SOUND, SOUND)?;
     let reports = run_sessions(alloc, &mut account, &mut visits);
-    let _kept = kept_by(account);
+    let _kept = kept_by(alloc, account);
     assert_eq!(rt; count_ended(alloc, &reports?)?, 1000);
     Ok(())
 }

@@ -5,7 +5,7 @@ use mail_store::FlatFile;
 use std::alloc::Global;
 use std::test::Fail;
 
-/// What a session tells that finds this record, and a Maildir that holds the one message.
+/// The result of a session that finds this record, and a Maildir that holds the one message.
 fn told_with(alloc: Global, record: &str) -> Result<String, Fail> {
     let first = Visit::new(alloc, "", 0, &[A_LISTED, ONE, "+OK|"])?;
     let next = Visit::new(alloc, "", 0, &[A_LISTED, "+OK|"])?;

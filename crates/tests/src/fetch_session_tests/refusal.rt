@@ -8,7 +8,7 @@ use mail_store::FlatFile;
 use std::alloc::Global;
 use std::test::Fail;
 
-/// What is kept after the session that tells this, where the Maildir refuses a call; which one
+/// What is kept after a session with this result, in which the Maildir refuses a call; which one
 /// depends on the pieces in which the texts come.
 fn refused(
     alloc: Global,
@@ -109,7 +109,7 @@ fn leaves_alone_what_is_no_record(rt: HostRuntime) -> Result<(), Fail> {
             3,
             "getmail-seen 2/a 0 0/a 7 1/",
         ),
-        // in version 1 a row of a group has to tell what wasn't known
+        // in version 1 a row of a group must say something new
         (
             "getmail-seen 1\na 0 1\n+ 1\na 0 1\n",
             4,

@@ -5,7 +5,7 @@ use std::alloc::{AllocError, Global};
 use std::process::Abort;
 use std::test::Fail;
 
-/// Compares what is sent and why the session is cut, where it is before anything is listed.
+/// Compares what is sent and why the session is cut, if that is before anything is listed.
 fn expect_cut(
     rt: &(impl Abort + AllocGlobal),
     replies: &str,
@@ -118,7 +118,7 @@ fn ends_at_a_reply_that_is_not_understood(rt: HostRuntime) -> Result<(), Fail> {
     Ok(())
 }
 
-/// A line of so many times `x`, with something before and behind.
+/// A line of so many times `x`, with something before and after.
 fn filled(alloc: Global, before: &str, length: usize, behind: &str) -> Result<String, AllocError> {
     let mut text = String::from_str(alloc, before)?;
     for _ in 0..length {

@@ -1,4 +1,4 @@
-//! Texts that are stored, and texts that tell of a session.
+//! Texts that are stored, and texts of reports.
 
 use crate::fetch_session_tests::visit::{A_LISTED, Visit, expect};
 use fetch_rules::read_rc;
@@ -33,7 +33,7 @@ fn stores_texts_line_by_line(rt: HostRuntime) -> Result<(), Fail> {
     Ok(())
 }
 
-/// A session of four messages in which each thing was done that a report tells.
+/// The report of a session of four messages, with every kind of line.
 fn report_of_a_session(alloc: Global) -> Result<Report, Fail> {
     let lines = [
         ReportLine::Delivered {

@@ -5,21 +5,22 @@ ghost use Rattle.rc_file.specs.Settings.{IsValid};
 use crate::mail_store_tests::name::fred;
 use fetch_rules::{Settings, read_rc};
 use fetch_session::{Account, Report, Store, session};
-use mail_store::{FlatFile, Folder, Fused, MaildirDisk, MemoryFile, MemoryMaildir, uid_of};
+use mail_store::{FlatFile, Folder, Fused, MaildirDisk, MemoryFile, MemoryMaildir, stem, uid_of};
+use mail_terms::base;
 use pop3_wire::{FusedWire, ScriptWire};
 use std::alloc::{AllocError, Global};
 use std::hash::{BuildHasherDefault, FoldHasher};
 use std::process::Abort;
 use std::test::Fail;
 
-/// The replies up to those of LIST, where messages a, b and c are listed, each of one line: `one`,
+/// The replies up to those of LIST, with messages a, b and c listed, each of one line: `one`,
 /// `two` and `three`.
 pub const LISTED: &str = "+OK|+OK|+OK|+OK 3 17|+OK|1 a|2 b|3 c|.|+OK|1 5|2 5|3 7|.|";
 
-/// The replies up to those of LIST, where a alone is listed.
+/// The replies up to those of LIST, with only a listed.
 pub const A_LISTED: &str = "+OK|+OK|+OK|+OK 1 5|+OK|1 a|.|+OK|1 5|.|";
 
-/// What answers RETR of these messages.
+/// The replies to RETR of these messages.
 pub const ONE: &str = "+OK|one|.|";
 
 pub const TWO: &str = "+OK|two|.|";
@@ -27,7 +28,7 @@ pub const TWO: &str = "+OK|two|.|";
 pub const THREE: &str = "+OK|three|.|";
 
 /// After how many calls a device refuses, and whether the first call that it refuses takes effect
-/// nevertheless.
+/// all the same.
 #[derive(Clone, Copy)]
 pub struct Fuse {
     pub passes: u64,
@@ -40,13 +41,13 @@ pub const SOUND: Fuse = Fuse {
     takes_effect: false,
 };
 
-/// What one session meets.
+/// The server and the devices of one session.
 #[derive(Drop)]
 pub struct Visit {
     /// Lines of the section `[options]`; `read_all` is false unless they say otherwise.
     pub options: String,
     pub now: u64,
-    /// What the server says, from its greeting on.
+    /// What the server sends, from its greeting on.
     pub replies: Vec<u8>,
     /// How many calls the link passes.
     pub calls: u64,
@@ -55,8 +56,8 @@ pub struct Visit {
 }
 
 impl Visit {
-    /// A session over these replies at this time, of an account with these options, with nothing
-    /// refused. In the replies `|` stands for CR LF.
+    /// A session over these replies at this time, of an account with these options, in which no
+    /// call is refused. In the replies `|` stands for CR LF.
     pub fn new(
         alloc: Global,
         options: &str,
@@ -89,7 +90,7 @@ impl Visit {
 /// An account of the tests, whose devices can refuse any call.
 pub type Fred = Account<Fused<MemoryMaildir>, Fused<MemoryFile>, BuildHasherDefault<FoldHasher>>;
 
-/// What stands between sessions.
+/// What is kept between sessions.
 #[derive(Drop)]
 pub struct Kept {
     pub maildir: MemoryMaildir,
@@ -118,7 +119,8 @@ pub fn settings(alloc: Global, options: &str) -> Result<Settings, Fail>
     Ok(settings)
 }
 
-/// An account with these options over what is kept, whose Maildir and record refuse calls so.
+/// An account with these options over what is kept, whose Maildir and record refuse calls as
+/// these fuses say.
 pub fn account(
     alloc: Global,
     options: &str,
@@ -141,16 +143,19 @@ pub fn account(
 }
 
 /// What the sessions of an account leave.
-pub fn kept_by(account: Fred) -> Kept {
+pub fn kept_by(alloc: Global, account: Fred) -> Kept {
     let (_settings, store, record) = account.into_parts();
-    let Store::Maildir(disk) = store;
+    let maildir = match store {
+        Store::Maildir(disk) => disk.into_inner(),
+        Store::Mboxrd(_) => MemoryMaildir::new(alloc),
+    };
     Kept {
-        maildir: disk.into_inner(),
+        maildir,
         record: record.into_inner(),
     }
 }
 
-/// Puts the octets of a reply behind others.
+/// Appends the octets of a reply.
 fn put_octets(octets: &mut Vec<u8>, reply: &str) -> Result<(), AllocError> {
     for octet in reply.bytes() {
         match octet {
@@ -177,7 +182,7 @@ pub fn shown(alloc: Global, bytes: &[u8]) -> Result<String, AllocError> {
     String::from_utf8_lossy(alloc, &text)
 }
 
-/// What was sent; `P` stands for all that comes before the first RETR of a session that is let in.
+/// What was sent; `P` stands for all that comes before the first RETR of a session that is logged in.
 pub fn sent(alloc: Global, wire: FusedWire<ScriptWire>) -> Result<String, AllocError> {
     let script = wire.into_inner();
     let text = shown(alloc, script.sent())?;
@@ -187,16 +192,28 @@ pub fn sent(alloc: Global, wire: FusedWire<ScriptWire>) -> Result<String, AllocE
     }
 }
 
-/// The files of a folder: of each the id that it stands for, or its name, and its content.
+/// The name of a file of so many bytes: its id if its size follows; else its id, what follows
+/// instead, and `?`; or the name of a file that isn't the account's.
+fn shown_name(alloc: Global, name: &str, size: usize) -> Result<String, AllocError> {
+    let Some(uid) = uid_of(alloc, &fred(), name)? else {
+        return String::from_str(alloc, name);
+    };
+    let id = String::from_utf8_lossy(alloc, &uid)?;
+    let field = format!(in alloc; ",S={size}")?;
+    match base(name).strip_prefix(stem(name)) {
+        Some(rest) if rest == field.as_str() => Ok(id),
+        Some(rest) => format!(in alloc; "{id}{rest}?"),
+        None => String::from_str(alloc, name),
+    }
+}
+
+/// The files of a folder: of each its name, as `shown_name` has it, and its content.
 fn files(alloc: Global, maildir: &MemoryMaildir, folder: Folder) -> Result<String, AllocError> {
     let mut text = String::new(alloc);
     for (name, content) in maildir.files(folder) {
+        let name = shown_name(alloc, name.as_str(), content.len())?;
         let content = shown(alloc, content)?;
-        match uid_of(alloc, &fred(), name.as_str())? {
-            Some(uid) => text.push_str(String::from_utf8_lossy(alloc, &uid)?.as_str())?,
-            None => text.push_str(name.as_str())?,
-        }
-        text.push_str(format!(in alloc; "={content} ")?.as_str())?;
+        text.push_str(format!(in alloc; "{name}={content} ")?.as_str())?;
     }
     Ok(text)
 }
@@ -226,8 +243,8 @@ pub fn held(alloc: Global, kept: &Kept) -> Result<String, AllocError> {
     format!(in alloc; "{new}- {cur}- {record}")
 }
 
-/// Runs one session over what is kept, its replies coming in pieces of at most `cut` octets, and
-/// tells what was sent, how it came out, and what is kept then.
+/// Runs one session over what is kept, with replies in pieces of at most `cut` octets, and
+/// returns what was sent, how the session ended, and what is kept then.
 pub fn run(alloc: Global, kept: Kept, visit: &Visit, cut: usize) -> Result<(Kept, String), Fail>
     requires { 0 < cut }
 {
@@ -235,7 +252,7 @@ pub fn run(alloc: Global, kept: Kept, visit: &Visit, cut: usize) -> Result<(Kept
     let options = visit.options.as_str();
     let mut account = account(alloc, options, kept, visit.disk, visit.record)?;
     let report = session(&mut account, &mut wire, visit.now);
-    let kept = kept_by(account);
+    let kept = kept_by(alloc, account);
     let sent = sent(alloc, wire)?;
     let counts = counts(alloc, &report)?;
     let held = held(alloc, &kept)?;
@@ -243,8 +260,8 @@ pub fn run(alloc: Global, kept: Kept, visit: &Visit, cut: usize) -> Result<(Kept
     Ok((kept, told))
 }
 
-/// Runs sessions one after the other, with replies in pieces of at most `cut` octets, and compares
-/// what each tells.
+/// Runs sessions one after the other, with replies in pieces of at most `cut` octets, and
+/// compares the result of each.
 fn compare(rt: &(impl Abort + AllocGlobal), rows: &[(Visit, &str)], cut: usize) -> Result<(), Fail>
     requires { 0 < cut }
 {
@@ -257,8 +274,8 @@ fn compare(rt: &(impl Abort + AllocGlobal), rows: &[(Visit, &str)], cut: usize) 
     Ok(())
 }
 
-/// Runs these sessions one after the other, from an empty Maildir and no record, and compares what
-/// each tells; all of it with replies in pieces of 1, 2, 3 and 4,096 octets.
+/// Runs these sessions one after the other, from an empty Maildir and no record, and compares the
+/// result of each; all of it with replies in pieces of 1, 2, 3 and 4,096 octets.
 pub fn expect(rt: &(impl Abort + AllocGlobal), rows: &[(Visit, &str)]) -> Result<(), Fail> {
     for cut in [1usize, 2, 3, 4096] {
         assert!(rt; cut > 0);

@@ -1,4 +1,4 @@
-//! Sessions that are cut, each at another place, and a whole session behind each.
+//! Sessions that are cut, each at another place, and a whole session after each.
 
 use crate::fetch_session_tests::visit::{
     Fuse, LISTED, ONE, SOUND, THREE, TWO, Visit, account, held, kept_by, nothing_kept, run,
@@ -27,7 +27,7 @@ const READING_ALL: &str = "read_all = true";
 
 const DELETING: &str = "delete = true";
 
-/// Runs a session in which calls are refused behind so many of them, and tells whether it ended.
+/// Runs a session in which calls are refused after so many of them, and returns whether it ended.
 fn cut_after(
     rt: &(impl Abort + AllocGlobal),
     refusing: Refusing,
@@ -48,14 +48,14 @@ fn cut_after(
     let mut account = account(alloc, options, nothing_kept(alloc), disk, record)?;
     let report = session(&mut account, &mut wire, 0);
     let ends = Ends {
-        kept: kept_by(account),
+        kept: kept_by(alloc, account),
         maildrop: wire.into_inner().into_inner().into_drop(),
     };
     Ok((ends, matches!(&report.outcome, Outcome::Ended)))
 }
 
-/// Runs a whole session behind one that was cut at this place. Each message is held once then, and the
-/// maildrop is empty, if the sessions delete.
+/// Runs a whole session after one that was cut at this place. Then each message is held once, and
+/// the maildrop is empty if the sessions delete.
 fn complete(
     rt: &(impl Abort + AllocGlobal),
     options: &str,
@@ -75,7 +75,7 @@ fn complete(
 }
 
 /// Cuts a session at its first call, its second, and so on until no call is refused, with a whole
-/// session behind each, and tells how many calls there are.
+/// session after each, and returns how many calls there are.
 fn cut_at_each_call(
     rt: &(impl Abort + AllocGlobal),
     refusing: Refusing,
@@ -114,8 +114,8 @@ fn stores_each_message_once_whichever_call_is_refused(rt: HostRuntime) -> Result
     Ok(())
 }
 
-/// Runs a session over these replies without their last octets, of which one more is missing each time,
-/// until none is left, with a whole session behind each.
+/// Runs a session over these replies without their last octets, of which one more is missing each
+/// time, until none is left, with a whole session after each.
 fn cut_at_each_octet(
     rt: &(impl Abort + AllocGlobal),
     options: &str,

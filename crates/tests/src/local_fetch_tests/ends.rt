@@ -17,7 +17,7 @@ use std::test::Fail;
 /// The messages of the maildrop.
 pub const MESSAGES: [(&str, &str); 3] = [("a", "one\n"), ("b", "two\n"), ("c", "three\n")];
 
-/// What stands at both ends between sessions.
+/// What is kept at both ends between sessions.
 #[derive(Drop)]
 pub struct Ends {
     pub kept: Kept,
@@ -45,7 +45,7 @@ pub fn fetch(alloc: Global, options: &str, ends: Ends) -> Result<(Ends, Report),
     let server = Server::new(alloc, maildrop, user, pass);
     let (report, wire) = fetch_local(alloc, &mut account, server, 0);
     let ends = Ends {
-        kept: kept_by(account),
+        kept: kept_by(alloc, account),
         maildrop: wire.into_inner().into_drop(),
     };
     Ok((ends, report))
@@ -65,7 +65,7 @@ fn ends_over_an_empty_maildrop(rt: HostRuntime) -> Result<(), Fail> {
     Ok(())
 }
 
-/// How these sessions came out.
+/// How these sessions ended.
 fn outcomes(alloc: Global, reports: &[Report]) -> Result<String, AllocError> {
     let mut told = String::new(alloc);
     for report in reports {
@@ -75,8 +75,8 @@ fn outcomes(alloc: Global, reports: &[Report]) -> Result<String, AllocError> {
     Ok(told)
 }
 
-/// Runs two sessions by one call, each over a link to a server of its own with the same messages, and
-/// tells how they came out and what is kept then.
+/// Runs two sessions by one call, each over a link to a server of its own with the same messages,
+/// and returns how they ended and what is kept then.
 fn cut_and_whole(
     alloc: Global,
     cut: FusedWire<LoopWire<MemoryDrop>>,
@@ -91,7 +91,7 @@ fn cut_and_whole(
         },
     ];
     let reports = run_sessions(alloc, &mut account, &mut visits);
-    let kept = kept_by(account);
+    let kept = kept_by(alloc, account);
     let outcomes = outcomes(alloc, &reports?)?;
     let held = held(alloc, &kept)?;
     Ok(format!(in alloc; "{outcomes}{held}")?)

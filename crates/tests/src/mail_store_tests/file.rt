@@ -29,7 +29,7 @@ fn a_full_disk_refuses(rt: HostRuntime) -> Result<(), Fail> {
     Ok(())
 }
 
-/// What a file holds once one text replaced what stood there, and another was appended.
+/// What a file holds after one text replaced its content, and another was appended.
 fn kept(rt: &HostRuntime, replaced: &[u8], appended: &[u8]) -> Result<Vec<u8>, Fail> {
     let mut file = HostFile::at(rt, "long_texts", mark_of(rt)?);
     file.replace(b"old")?;
@@ -95,15 +95,41 @@ fn tells_the_edges_of_what_is_left_of_a_file(rt: HostRuntime) -> Result<(), Fail
     Ok(())
 }
 
-/// The faults of `load` and of `edges` at a path, and how many calls were refused.
-fn faults_at(
-    rt: &HostRuntime,
-    path: &str,
-) -> Result<(Option<StoreFault>, Option<StoreFault>, u64), Fail> {
+/// What a read of four octets from a place of a file of these bytes puts, and how many it says.
+fn piece_of(rt: &HostRuntime, bytes: &str, start: u64) -> Result<(usize, [u8; 4]), Fail> {
+    let mut file = HostFile::at(rt, "piece", mark_of(rt)?);
+    file.replace(bytes.as_bytes())?;
+    let mut piece = [b'-'; 4];
+    let count = file.read_at(start, &mut piece)?;
+    fs::remove_file(rt, "piece")?;
+    Ok((count, piece))
+}
+
+#[test]
+fn reads_from_a_place_on(rt: HostRuntime) -> Result<(), Fail> {
+    let rows: [(&str, u64, usize, [u8; 4]); 7] = [
+        ("", 0, 0, *b"----"),
+        ("abc", 0, 3, *b"abc-"),
+        ("abcdef", 0, 4, *b"abcd"),
+        ("abcdef", 1, 4, *b"bcde"),
+        ("abcdef", 4, 2, *b"ef--"),
+        ("abc", 3, 0, *b"----"),
+        ("abc", u64::MAX, 0, *b"----"),
+    ];
+    for (bytes, start, count, piece) in rows {
+        let found = piece_of(&rt, bytes, start)?;
+        assert!(rt; found == (count, piece), "{bytes} from {start}");
+    }
+    Ok(())
+}
+
+/// The faults of `load`, `edges` and `read_at` at a path, and how many calls were refused.
+fn faults_at(rt: &HostRuntime, path: &str) -> Result<([Option<StoreFault>; 3], u64), Fail> {
     let mut file = HostFile::at(rt, path, mark_of(rt)?);
     let loaded = file.load().err();
     let measured = file.edges().err();
-    Ok((loaded, measured, file.failures()))
+    let read = file.read_at(0, &mut [0u8; 4]).err();
+    Ok(([loaded, measured, read], file.failures()))
 }
 
 #[test]
@@ -111,11 +137,11 @@ fn a_file_is_missing_only_where_none_is(rt: HostRuntime) -> Result<(), Fail> {
     let _ = fs::remove_dir_all(&rt, "no_file");
     fs::create_dir(&rt, "no_file")?;
     fs::write(&rt, "no_file/file", b"x")?;
-    let refused = Some(StoreFault::Refused);
-    let missing = Some(StoreFault::Missing);
-    assert!(rt; faults_at(&rt, "no_file")? == (refused, refused, 2));
-    assert!(rt; faults_at(&rt, "no_file/file/x")? == (refused, refused, 2));
-    assert!(rt; faults_at(&rt, "no_file/nowhere")? == (missing, missing, 0));
+    let refused = [Some(StoreFault::Refused); 3];
+    let missing = [Some(StoreFault::Missing); 3];
+    assert!(rt; faults_at(&rt, "no_file")? == (refused, 3));
+    assert!(rt; faults_at(&rt, "no_file/file/x")? == (refused, 3));
+    assert!(rt; faults_at(&rt, "no_file/nowhere")? == (missing, 0));
     fs::remove_dir_all(&rt, "no_file")?;
     Ok(())
 }

@@ -1,4 +1,4 @@
-//! Devices behind a fuse, each of their calls refused in turn.
+//! Devices with a fuse, each of their calls refused in turn.
 
 use crate::mail_store_tests::name::fred;
 use crate::mail_terms_tests::listing::listing_of;
@@ -8,8 +8,8 @@ use mail_store::{
 use std::alloc::Global;
 use std::test::Fail;
 
-/// Delivers behind a fuse, and tells whether it was refused, how many calls were, and how many files
-/// are in `new` then.
+/// Delivers with a fuse, and returns whether it was refused, how many calls were, and how many
+/// files are in `new` then.
 fn delivered(
     alloc: Global,
     text: &str,
@@ -17,7 +17,7 @@ fn delivered(
     takes_effect: bool,
 ) -> Result<(bool, u64, usize), Fail> {
     let mut disk = Fused::new(MemoryMaildir::new(alloc), passes, takes_effect);
-    let refused = deliver(&mut disk, "one", text.as_bytes()) == Err(StoreFault::Refused);
+    let refused = deliver(alloc, &mut disk, "one", text.as_bytes()) == Err(StoreFault::Refused);
     let failures = disk.failures();
     Ok((refused, failures, disk.device().files(Folder::New).len()))
 }

@@ -1,7 +1,7 @@
 //! Delivery to a Maildir in memory and to one in a folder.
 
 use crate::mail_store_tests::file::{mark_of, text_of};
-use crate::mail_store_tests::name::{fred, name_of};
+use crate::mail_store_tests::name::{fred, name_of, stem_of};
 use crate::mail_terms_tests::listing::listing_of;
 use folder_store::FolderMaildir;
 use mail_store::{Folder, Fused, MaildirDisk, MemoryMaildir, StoreFault, deliver, held};
@@ -12,11 +12,12 @@ use std::test::Fail;
 fn delivers_to_a_maildir_in_memory(rt: HostRuntime) -> Result<(), Fail> {
     for text in ["x\n", ""] {
         let mut disk = MemoryMaildir::new(rt.alloc());
-        deliver(&mut disk, "one", text.as_bytes())?;
+        deliver(rt.alloc(), &mut disk, "one", text.as_bytes())?;
         let files = disk.files(Folder::New);
         assert_eq!(rt; files.len(), 1);
         let (name, content) = &files[0];
-        assert!(rt; name.as_str() == "one" && content.as_slice() == text.as_bytes());
+        let expected = format!(in rt.alloc(); "one,S={}", text.len())?;
+        assert!(rt; name.as_str() == expected.as_str() && content.as_slice() == text.as_bytes());
     }
     Ok(())
 }
@@ -25,8 +26,9 @@ fn delivers_to_a_maildir_in_memory(rt: HostRuntime) -> Result<(), Fail> {
 fn finds_what_a_reader_has_moved(rt: HostRuntime) -> Result<(), Fail> {
     let alloc = rt.alloc();
     let mut disk = MemoryMaildir::new(alloc);
-    let name = name_of(alloc, b"a")?;
-    deliver(&mut disk, name.as_str(), b"x\n")?;
+    let stem = stem_of(alloc, b"a")?;
+    let name = name_of(alloc, b"a", 2)?;
+    deliver(alloc, &mut disk, stem.as_str(), b"x\n")?;
     assert!(rt; disk.move_to_cur(name.as_str(), ":2,S")?);
     assert!(rt; disk.files(Folder::New).is_empty());
     let flags = held(
@@ -42,19 +44,21 @@ fn finds_what_a_reader_has_moved(rt: HostRuntime) -> Result<(), Fail> {
 #[test]
 fn moves_no_file_over_another(rt: HostRuntime) -> Result<(), Fail> {
     let mut disk = MemoryMaildir::new(rt.alloc());
-    deliver(&mut disk, "one", b"x\n")?;
-    assert!(rt; !disk.move_to_cur("two", ":2,S")?);
-    assert_eq!(rt; disk.files(Folder::New).len(), 1);
-    assert!(rt; disk.move_to_cur("one", ":2,S")?);
-    assert!(rt; !disk.is_begun() && !disk.has_file(Folder::New, "one"));
-    deliver(&mut disk, "one", b"y\n")?;
-    assert!(rt; !disk.move_to_cur("one", ":2,S")?);
+    for place in 0..2u64 {
+        disk.abandon();
+        disk.begin("x")?;
+        assert!(rt; disk.is_begun() && !disk.has_file(Folder::New, "one"));
+        disk.settle("one")?;
+        assert!(rt; !disk.move_to_cur("two", ":2,S")?);
+        assert_eq!(rt; disk.files(Folder::New).len(), 1);
+        assert_eq!(rt; disk.move_to_cur("one", ":2,S")?, place == 0);
+    }
     assert_eq!(rt; disk.files(Folder::New).len(), 1);
     Ok(())
 }
 
 /// A Maildir in a folder of the test's own, with these files.
-fn make_maildir(rt: &HostRuntime, path: &str, files: &[(&str, &str)]) -> Result<(), Fail> {
+pub fn make_maildir(rt: &HostRuntime, path: &str, files: &[(&str, &str)]) -> Result<(), Fail> {
     let _ = fs::remove_dir_all(rt, path);
     fs::create_dir(rt, path)?;
     for folder in ["tmp", "new", "cur"] {
@@ -83,12 +87,12 @@ fn files_of(rt: &HostRuntime, path: &str, folder: &str) -> Result<String, Fail> 
     Ok(text)
 }
 
-/// Delivers `new` under a name to a Maildir with these files, and tells whether it was refused and
-/// what stands in `tmp` and in `new` then.
+/// Delivers `new` under a name to a Maildir with these files, and returns whether it was refused
+/// and what is in `tmp` and in `new` then.
 fn delivered(rt: &HostRuntime, files: &[(&str, &str)], name: &str) -> Result<String, Fail> {
     make_maildir(rt, "delivery", files)?;
     let mut disk = FolderMaildir::at(rt, "delivery/", mark_of(rt)?);
-    let answer = match deliver(&mut disk, name, b"new") {
+    let answer = match deliver(rt.alloc(), &mut disk, name, b"new") {
         Ok(()) => "delivered",
         Err(StoreFault::Refused) => "refused",
         Err(_) => "another fault",
@@ -103,9 +107,9 @@ fn delivered(rt: &HostRuntime, files: &[(&str, &str)], name: &str) -> Result<Str
 #[test]
 fn delivers_to_a_folder(rt: HostRuntime) -> Result<(), Fail> {
     let rows = [
-        ("cur/other", "one", "delivered 0 new/one=new"),
-        ("tmp/one", "one", "delivered 0 tmp/one=oldnew/one=new"),
-        ("new/one", "one", "refused 1 new/one=old"),
+        ("cur/other", "one", "delivered 0 new/one,S=3=new"),
+        ("tmp/one", "one", "delivered 0 tmp/one=oldnew/one,S=3=new"),
+        ("new/one,S=3", "one", "refused 1 new/one,S=3=old"),
         ("cur/other", "../one", "refused 1 "),
         ("cur/other", ".one", "refused 1 "),
         ("cur/other", "", "refused 1 "),
@@ -122,8 +126,8 @@ fn delivers_a_long_text(rt: HostRuntime) -> Result<(), Fail> {
     make_maildir(&rt, "long_delivery", &[])?;
     let text = text_of(rt.alloc(), b'x', 100_000)?;
     let mut disk = FolderMaildir::at(&rt, "long_delivery", mark_of(&rt)?);
-    deliver(&mut disk, "one", text.as_slice())?;
-    let found = fs::read(&rt, "long_delivery/new/one")?;
+    deliver(rt.alloc(), &mut disk, "one", text.as_slice())?;
+    let found = fs::read(&rt, "long_delivery/new/one,S=100000")?;
     assert!(rt; found.as_slice() == text.as_slice());
     fs::remove_dir_all(&rt, "long_delivery")?;
     Ok(())
@@ -136,11 +140,15 @@ fn names_no_file_of_another_folder(rt: HostRuntime) -> Result<(), Fail> {
     fs::create_dir(&rt, "folder_within/new/sub")?;
     let mut disk = FolderMaildir::at(&rt, "folder_within", mark_of(&rt)?);
     assert_eq!(rt;
-        deliver(&mut disk, "sub/one", b"x"),
+        deliver(rt.alloc(), &mut disk, "sub/one", b"x"),
         Err(StoreFault::Refused)
     );
     assert_eq!(rt; disk.failures(), 1);
     assert!(rt; fs::metadata(&rt, "folder_within/tmp/sub/one").is_err());
+    assert!(rt; fs::metadata(&rt, "folder_within/new/sub/one,S=1").is_err());
+    disk.begin("one")?;
+    assert_eq!(rt; disk.settle("sub/one"), Err(StoreFault::Refused));
+    assert_eq!(rt; disk.failures(), 2);
     assert!(rt; fs::metadata(&rt, "folder_within/new/sub/one").is_err());
     fs::remove_dir_all(&rt, "folder_within")?;
     Ok(())
@@ -153,9 +161,9 @@ fn one_file_is_begun_at_a_time(rt: HostRuntime) -> Result<(), Fail> {
     disk.begin("one")?;
     assert_eq!(rt; disk.begin("two"), Err(StoreFault::Refused));
     disk.add(b"x")?;
-    disk.settle()?;
+    disk.settle("two")?;
     assert_eq!(rt; disk.failures(), 1);
-    assert_eq!(rt; files_of(&rt, "begun_twice", "new")?.as_str(), "new/one=x");
+    assert_eq!(rt; files_of(&rt, "begun_twice", "new")?.as_str(), "new/two=x");
     assert_eq!(rt; files_of(&rt, "begun_twice", "tmp")?.as_str(), "");
     fs::remove_dir_all(&rt, "begun_twice")?;
     Ok(())

@@ -25,7 +25,7 @@ fn quotes_and_unquotes(rt: HostRuntime) -> Result<(), Fail> {
     Ok(())
 }
 
-/// What appending the text to an empty file behind a fuse answers, and the file's bytes then.
+/// The result of appending the text to an empty file with a fuse, and the file's bytes then.
 fn appended(
     alloc: Global,
     passes: u64,
@@ -102,7 +102,7 @@ fn appends_to_a_real_file(rt: HostRuntime) -> Result<(), Fail> {
     Ok(())
 }
 
-/// How many texts some bytes stand for, None where they stand for none, and whether an entry may
+/// How many texts some bytes stand for, None if they stand for none, and whether an entry may
 /// follow them.
 fn judged(alloc: Global, bytes: &[u8]) -> Result<(Option<usize>, bool), Fail> {
     let count = match read_mbox(alloc, bytes) {

@@ -1,6 +1,6 @@
 //! Names of files, against digests and texts from outside.
 
-use mail_store::{AccountId, account_id, file_name, uid_of};
+use mail_store::{AccountId, account_id, file_name, file_stem, stem, uid_of};
 use mail_terms::{base, is_legal_id};
 use std::alloc::Global;
 use std::test::Fail;
@@ -12,22 +12,38 @@ pub fn fred() -> AccountId {
     account_id("mail.example.org", 110, "fred")
 }
 
-pub fn name_of(alloc: Global, uid: &[u8]) -> Result<String, Fail> {
+/// The stem of the files of an id.
+pub fn stem_of(alloc: Global, uid: &[u8]) -> Result<String, Fail> {
     if !is_legal_id(uid) {
         return Err(Fail::new("no legal id"));
     }
-    Ok(file_name(alloc, &fred(), uid)?)
+    Ok(file_stem(alloc, &fred(), uid)?)
+}
+
+/// The name of the file of an id that has so many bytes.
+pub fn name_of(alloc: Global, uid: &[u8], size: u64) -> Result<String, Fail> {
+    if !is_legal_id(uid) {
+        return Err(Fail::new("no legal id"));
+    }
+    Ok(file_name(alloc, &fred(), uid, size)?)
 }
 
 #[test]
 fn names_files_by_account_and_id(rt: HostRuntime) -> Result<(), Fail> {
     assert_eq!(rt; fred().as_str(), FRED);
     assert!(rt; account_id("mail.example.org", 1, "10\0fred") != fred());
-    let name = name_of(rt.alloc(), b"a1")?;
-    let expected = format!(in rt.alloc(); "{FRED}.6131")?;
+    let name = name_of(rt.alloc(), b"a1", 15)?;
+    let expected = format!(in rt.alloc(); "{FRED}.6131,S=15")?;
     assert_eq!(rt; name.as_str(), expected.as_str());
-    let longest = name_of(rt.alloc(), [b'z'; 70].as_slice())?;
-    assert_eq!(rt; longest.len(), 205);
+    let stem = stem_of(rt.alloc(), b"a1")?;
+    let expected = format!(in rt.alloc(); "{FRED}.6131")?;
+    assert_eq!(rt; stem.as_str(), expected.as_str());
+    let long_id = [b'z'; 70];
+    assert_eq!(rt; name_of(rt.alloc(), long_id.as_slice(), 4)?.len(), 209);
+    assert_eq!(rt;
+        name_of(rt.alloc(), long_id.as_slice(), u64::MAX)?.len(),
+        228
+    );
     Ok(())
 }
 
@@ -37,6 +53,10 @@ fn reads_ids_of_names(rt: HostRuntime) -> Result<(), Fail> {
     let rows = [
         (".6131", Some("a1")),
         (".6131:2,S", Some("a1")),
+        (".6131,S=15", Some("a1")),
+        (".6131,S=15:2,S", Some("a1")),
+        (".6131,W=17,S=15:2,", Some("a1")),
+        (".6131,", Some("a1")),
         (".6A", None),
         (".20", None),
         (".6", None),
@@ -52,9 +72,11 @@ fn reads_ids_of_names(rt: HostRuntime) -> Result<(), Fail> {
     }
     assert!(rt; uid_of(alloc, &fred(), "1700000000.M1P2.host")?.is_none());
     let other = account_id("mail.example.org", 110, "frida");
-    let name = name_of(alloc, b"a1")?;
+    let name = name_of(alloc, b"a1", 15)?;
     assert!(rt; uid_of(alloc, &other, name.as_str())?.is_none());
     assert_eq!(rt; base("a.b:2,S:x"), "a.b");
     assert_eq!(rt; base("a.b"), "a.b");
+    assert_eq!(rt; stem("a.b,S=15:2,S"), "a.b");
+    assert_eq!(rt; stem("a.b:2,S"), "a.b");
     Ok(())
 }

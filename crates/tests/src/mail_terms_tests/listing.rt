@@ -51,7 +51,7 @@ fn joins_rows_in_any_order(rt: HostRuntime) -> Result<(), Fail> {
         joined(rt.alloc(), 1, 3).err(),
         Some(ListingFault::Disagree)
     );
-    // too many messages are told before a row is looked at
+    // too many messages are found before a row is looked at
     let empty = Listing::join(rt.alloc(), 100_001, &[], &[]);
     assert_eq!(rt; empty.err(), Some(ListingFault::TooMany));
     Ok(())

@@ -44,8 +44,8 @@ fn take_all(
     client.quit()
 }
 
-/// The number of the fault, or 0, what was sent, its tail included, and what was taken, where at most
-/// `cut` octets come at once.
+/// The number of the fault, or 0, what was sent, its tail included, and what was taken, if at
+/// most `cut` octets come at once.
 fn outcome(alloc: Global, replies: &[u8], cut: usize) -> Result<String, Fail>
     requires { 0 < cut }
 {
@@ -98,7 +98,7 @@ fn texts_come_in_pieces(rt: HostRuntime) -> Result<(), Fail> {
     Ok(())
 }
 
-/// What is sent where PASS, UIDL or LIST is the last command.
+/// What is sent if PASS, UIDL or LIST is the last command.
 const LOG_IN: &str = "USER u\r\nPASS p\r\n";
 
 const IDS: &str = "USER u\r\nPASS p\r\nSTAT\r\nUIDL\r\n";

@@ -1,11 +1,11 @@
-//! A client that never stops, and isn't logged in.
+//! A client that never stops and doesn't log in.
 
 use crate::pop3_server_tests::memory_drop::server;
 use pop3_server::serve;
 use pop3_wire::EndlessWire;
 use std::test::Fail;
 
-/// How many of those lines fit the octets that a client may send that isn't logged in.
+/// How many of those lines fit into the octets that a client may send that isn't logged in.
 const LINES: usize = 2_796_202;
 
 #[test]

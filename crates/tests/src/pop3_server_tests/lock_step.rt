@@ -1,4 +1,4 @@
-//! A link that gives a line only once the answer to the line before has come.
+//! A link that gives a line only after the answer to the line before has come.
 ghost use Rattle.pop3_wire.specs.Link.{uncharted};
 
 use crate::pop3_server_tests::memory_drop::server;
@@ -6,8 +6,8 @@ use pop3_server::serve;
 use pop3_wire::{Wire, WireDown};
 use std::test::Fail;
 
-/// A link that gives each line only once the whole answer to the line before was sent, and answers
-/// 0 where it is asked too early.
+/// A link that gives each line only after the whole answer to the line before was sent, and
+/// answers 0 if it is asked too early.
 struct LockStep<'a> {
     rows: &'a [(&'static [u8], &'static [u8])],
     given: usize,

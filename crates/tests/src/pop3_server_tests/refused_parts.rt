@@ -1,4 +1,4 @@
-//! What is sent of a text of which a maildrop gives the first parts and refuses the next one.
+//! What is sent of a text if a maildrop gives its first parts and refuses the next one.
 ghost use Rattle.std.specs.Prelude.{[]};
 
 use crate::pop3_server_tests::memory_drop::put;
@@ -60,8 +60,8 @@ impl Maildrop for StoppingDrop {
     }
 }
 
-/// What a server says to a conversation over a message of 88,015 octets, of which so many parts are given,
-/// and how it ends.
+/// What a server sends in a conversation over a message of 88,015 octets, of which so many parts
+/// are given, and how it ends.
 fn served(
     rt: &(impl Abort + AllocGlobal),
     command: &str,
@@ -102,7 +102,7 @@ fn a_refused_part_ends_a_text_that_has_begun(rt: HostRuntime) -> Result<(), Fail
         ("RETR 1", 0, Ok(()), unavailable),
         ("TOP 1 8000", 0, Ok(()), unavailable),
         ("RETR 1", 3, Ok(()), unavailable),
-        // what was read of the text first has gone out: 65,536 octets, of them 5,958 ends of lines
+        // what was read of the text before has been sent: 65,536 octets, 5,958 of them ends of lines
         ("RETR 1", 4, begun, before + 18 + 65_536 + 5_958),
         ("RETR 1", 6, begun, before + 18 + 65_536 + 5_958),
         ("TOP 1 8000", 5, begun, before + 5 + 65_536 + 5_958),

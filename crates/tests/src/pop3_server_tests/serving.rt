@@ -1,5 +1,5 @@
-//! Conversations with a server over a maildrop in memory, with ample memory: through a link whose
-//! input was written beforehand, and through one that gives what the server answers.
+//! Conversations with a server over a maildrop in memory, with ample memory: over a link whose
+//! input was written beforehand, and over one that gives what the server answers.
 ghost use Rattle.std.specs.Prelude.{◌<◌};
 
 use crate::pop3_server_tests::memory_drop::server;
@@ -8,8 +8,8 @@ use pop3_wire::{ScriptWire, Wire};
 use std::process::Abort;
 use std::test::Fail;
 
-/// What a server says to all of these octets, which come in pieces of at most `cut` octets, and how
-/// many messages are left.
+/// What a server answers to all of these octets, which come in pieces of at most `cut` octets,
+/// and how many messages are left.
 fn served(rt: &(impl Abort + AllocGlobal), input: &str, cut: usize) -> Result<(String, usize), Fail>
     requires { 0 < cut }
 {

@@ -22,7 +22,7 @@ fn a_stream_is_flushed_at_each_send(rt: HostRuntime) -> Result<(), Fail> {
     Ok(())
 }
 
-/// Whether the text of the body is taken, and nothing that follows, where at most `cut` octets come
+/// Whether the text of the body is taken, and nothing that follows, if at most `cut` octets come
 /// at once.
 fn takes(alloc: Global, body: &[u8], text: &[u8], cut: usize) -> Result<bool, Fail>
     requires { 0 < cut }

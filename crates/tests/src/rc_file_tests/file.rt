@@ -34,7 +34,7 @@ fn shown(alloc: Global, settings: &Settings) -> Result<String, Fail> {
     )?)
 }
 
-/// What comes of a file: the settings and a line for each warning, or what is told of its fault.
+/// What a file gives: the settings and a line for each warning, or the text of its fault.
 fn read(alloc: Global, file: &[u8]) -> Result<String, Fail> {
     match read_rc(alloc, file) {
         Err(fault) => Ok(rc_text(alloc, &fault)?),
@@ -50,7 +50,7 @@ fn read(alloc: Global, file: &[u8]) -> Result<String, Fail> {
     }
 }
 
-/// The text beside each end comes of a file that begins with the front and ends so.
+/// Compares what files give that begin with the front and have these ends with the text next to each.
 fn reads(rt: &(impl Abort + AllocGlobal), front: &str, rows: &[(&str, &str)]) -> Result<(), Fail> {
     for (end, text) in rows {
         let file = format!(in rt.alloc(); "{front}{end}")?;
@@ -125,7 +125,7 @@ warning: line 10: options.port has no effect",
     reads(&rt, "", &rows)
 }
 
-/// What comes of a file that ends so, behind both sections.
+/// Ends after both sections, and what files with them give.
 const ENDS: [(&str, &str); 14] = [
     (
         "port=00000000000000065535\n[options]\nmax_messages_per_session=18446744073709551615\n\

@@ -14,7 +14,7 @@ const NONE: Flags = Flags {
 };
 
 /// What the flags make of settings with `read_all` and without `delete`, of verbosity 1: these
-/// three, or what is told of the fault.
+/// three, or the text of the fault.
 fn overridden(alloc: Global, flags: Flags) -> Result<String, Fail> {
     let settings = Settings {
         server: String::from_str(alloc, "s")?,
@@ -43,7 +43,7 @@ fn overridden(alloc: Global, flags: Flags) -> Result<String, Fail> {
     }
 }
 
-/// Flags, and what `overridden` says of them.
+/// Flags, and what `overridden` returns.
 const OVERRIDDEN: [(Flags, &str); 6] = [
     (NONE, "true false 1"),
     (

@@ -1,0 +1,169 @@
+//! What settling leaves of an entry that was being appended, and of what anybody else wrote.
+
+use crate::mail_store_tests::file::{mark_of, text_of};
+use folder_store::HostFile;
+use mail_store::{FlatFile, Fused, MemoryFile, StoreFault, settle_file};
+use std::alloc::Global;
+use std::fs;
+use std::test::Fail;
+
+const ENTRY: &[u8] = b"From MAILER-DAEMON Thu Jan  1 00:00:00 1970\n>From x\n>>From y\n From z\n\n";
+
+const LINE: &[u8] = b"From MAILER-DAEMON Thu Jan  1 00:00:00 1970\n";
+
+/// So many octets of the entry, from its first on.
+fn front_of_entry(size: usize) -> &'static [u8] {
+    if size < ENTRY.len() {
+        &ENTRY[..size]
+    } else {
+        ENTRY
+    }
+}
+
+/// What settling answers, and how many octets the file has then.
+fn settled(
+    alloc: Global,
+    bytes: &[u8],
+    start: u64,
+    len: u64,
+) -> Result<(Result<bool, StoreFault>, usize), Fail> {
+    let mut file = MemoryFile::new(alloc);
+    file.replace(bytes)?;
+    let answer = settle_file(&mut file, start, len);
+    Ok((answer, file.load()?.len()))
+}
+
+#[test]
+fn cuts_each_front_of_an_entry(rt: HostRuntime) -> Result<(), Fail> {
+    for size in 0..71 {
+        let found = settled(rt.alloc(), front_of_entry(size), 0, 70)?;
+        let wanted = if size == 70 {
+            (Ok(true), 70)
+        } else {
+            (Ok(false), 0)
+        };
+        assert!(rt; found == wanted, "{size} octets");
+    }
+    Ok(())
+}
+
+/// What settling answers where these bytes follow an entry, and how many octets the file has then.
+fn settled_behind(
+    alloc: Global,
+    parts: [&[u8]; 2],
+    len: u64,
+) -> Result<(Result<bool, StoreFault>, usize), Fail> {
+    let mut bytes = Vec::from_slice(alloc, ENTRY)?;
+    for part in parts {
+        bytes.extend_from_slice(part)?;
+    }
+    settled(alloc, &bytes, 70, len)
+}
+
+#[test]
+fn cuts_and_counts_behind_an_entry(rt: HostRuntime) -> Result<(), Fail> {
+    let alloc = rt.alloc();
+    assert!(rt; settled_behind(alloc, [ENTRY, b""], 70)? == (Ok(true), 140));
+    assert!(rt; settled_behind(alloc, [front_of_entry(35), b""], 70)? == (Ok(false), 70));
+    assert!(rt; settled_behind(alloc, [b"", b""], 70)? == (Ok(false), 70));
+    assert!(rt; settled_behind(alloc, [ENTRY, b"x"], 70)? == (Ok(false), 141));
+    assert!(rt; settled_behind(alloc, [LINE, b"\n"], 45)? == (Ok(true), 115));
+    assert!(rt; settled_behind(alloc, [LINE, b"x"], 45)? == (Ok(false), 70));
+    Ok(())
+}
+
+#[test]
+fn touches_no_other_mail(rt: HostRuntime) -> Result<(), Fail> {
+    let alloc = rt.alloc();
+    for len in [13, 14, 1_000] {
+        let found = settled_behind(alloc, [b"From alice\nx\n\n", b""], len)?;
+        assert!(rt; found == (Ok(false), 84), "an entry of {len} octets");
+        let found = settled(alloc, ENTRY, 56, len)?;
+        assert!(rt; found == (Ok(false), 70), "an entry of {len} octets");
+    }
+    for len in [83, 84, 1_000] {
+        let found = settled_behind(alloc, [ENTRY, b"From alice\nx\n\n"], len)?;
+        assert!(rt; found == (Ok(false), 154), "an entry of {len} octets");
+    }
+    assert!(rt; settled(alloc, ENTRY, 1_000, 70)? == (Ok(false), 70));
+    Ok(())
+}
+
+/// What settling answers of an entry of 12,288 octets behind 100 others, once so many of its octets are
+/// zeros.
+fn with_a_hole(
+    alloc: Global,
+    from: usize,
+    to: usize,
+) -> Result<(Result<bool, StoreFault>, usize), Fail> {
+    let mut bytes = text_of(alloc, b'x', 100)?;
+    bytes.extend_from_slice(LINE)?;
+    for _ in 0..12_242 {
+        bytes.push(b'y')?;
+    }
+    bytes.extend_from_slice(b"\n\n")?;
+    for place in from..to {
+        if place < bytes.len() {
+            bytes[place] = 0;
+        }
+    }
+    settled(alloc, &bytes, 100, 12_288)
+}
+
+#[test]
+fn counts_no_entry_with_a_hole(rt: HostRuntime) -> Result<(), Fail> {
+    let rows = [
+        (0, 0, Ok(true), 12_388),
+        (8_191, 12_288, Ok(false), 100),
+        (8_192, 12_287, Ok(true), 12_388),
+        (4_096, 8_192, Ok(false), 100),
+        (100, 4_096, Ok(false), 100),
+        (100, 12_388, Ok(false), 100),
+        (12_288, 12_388, Ok(false), 100),
+        (100, 4_095, Ok(false), 12_388),
+    ];
+    for (from, to, answer, size) in rows {
+        let found = with_a_hole(rt.alloc(), from, to)?;
+        assert!(rt; found == (answer, size), "zeros from {from} to {to}");
+    }
+    Ok(())
+}
+
+/// What settling a torn entry answers behind a fuse, and how many octets the file has then.
+fn settled_over(alloc: Global, passes: u64) -> Result<(Result<bool, StoreFault>, usize), Fail> {
+    let mut file = MemoryFile::new(alloc);
+    file.replace(front_of_entry(35))?;
+    let mut fused = Fused::new(file, passes, false);
+    let answer = settle_file(&mut fused, 0, 70);
+    Ok((answer, fused.into_inner().load()?.len()))
+}
+
+#[test]
+fn refuses_each_call_of_settling(rt: HostRuntime) -> Result<(), Fail> {
+    let alloc = rt.alloc();
+    for passes in 0..3 {
+        let found = settled_over(alloc, passes)?;
+        assert!(rt;
+            found == (Err(StoreFault::Refused), 35),
+            "after {passes} calls"
+        );
+    }
+    assert!(rt; settled_over(alloc, 3)? == (Ok(false), 0));
+    let mut none = MemoryFile::missing(alloc);
+    assert!(rt; settle_file(&mut none, 0, 70) == Err(StoreFault::Missing));
+    Ok(())
+}
+
+#[test]
+fn settles_a_real_file(rt: HostRuntime) -> Result<(), Fail> {
+    let path = "settles_a_real_file";
+    let mut file = HostFile::at(&rt, path, mark_of(&rt)?);
+    for (size, answer, left) in [(70, Ok(true), 70), (35, Ok(false), 0), (0, Ok(false), 0)] {
+        file.replace(front_of_entry(size))?;
+        assert!(rt; settle_file(&mut file, 0, 70) == answer, "{size} octets");
+        assert_eq!(rt; file.load()?.len(), left);
+    }
+    fs::remove_file(&rt, path)?;
+    assert!(rt; settle_file(&mut file, 0, 70) == Err(StoreFault::Missing));
+    Ok(())
+}
