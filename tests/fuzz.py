@@ -14,8 +14,8 @@ from pathlib import Path
 
 sys.path.insert(0, str(Path(__file__).resolve().parent))
 
-from getmail import test_random, test_sessions  # noqa: E402 (the path has to be there first)
-from harness import programs  # noqa: E402
+from getmail import test_mboxrd_sessions, test_random, test_sessions  # noqa: E402 (the path has to be there first)
+from harness import preload, programs  # noqa: E402
 from popd import test_random as test_popd  # noqa: E402
 
 
@@ -36,6 +36,10 @@ class Fuzz(unittest.TestCase):
     def test_accounts(self):
         with test_sessions.libraries() as libraries:
             self.each(lambda seed: test_sessions.check_seed(self, seed, libraries))
+
+    def test_accounts_with_an_mboxrd_file(self):
+        with test_sessions.libraries() as libraries, preload.library("refuse_step") as refusing:
+            self.each(lambda seed: test_sessions.check_seed(self, seed, (*libraries, refusing), test_mboxrd_sessions.MboxLife))
 
     def test_maildirs(self):
         self.each(lambda seed: test_popd.check_seed(self, seed))

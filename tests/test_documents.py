@@ -22,9 +22,8 @@ FILE = re.compile(r"[A-Za-z0-9_.~*{},-]*(?:/[A-Za-z0-9_.*{},-]*)+|[A-Za-z0-9_-]+
 NAME = re.compile(r"[A-Za-z_][A-Za-z0-9_]*")
 # Names of other programs and of what users have: nothing here is called so.
 OTHERS = {"stunnel", "socat", "dovecot", "mutt", "fetchmail", "mpop", "Display", "BrokenUIDLPOP3Retriever"}
-# The sources of the lines that faults are told by, and the one that no session of getmail is told.
+# The sources of the lines that faults are told by.
 TELLING = ("crates/getmail/src/failure.rt", "crates/fetch_session/src/text.rt", "crates/rc_file/src/text.rt")
-NEVER_TOLD = "destination is no mbox"
 # Folders that a user or a build makes.
 MADE = ("~", "/", "bin/", "out/", "examples/demo/Maildir")
 
@@ -87,7 +86,7 @@ def told_without_help():
     for source in TELLING:
         for line in re.findall(r'(?:=> String::from_str\(alloc, |eprintln\()"(?:getmail: )?([^"{]+)"', (TOP / source).read_text()):
             told = re.sub(r"(server refused) \w+", r"\1 X", line)
-            if told not in listed and told != NEVER_TOLD:
+            if told not in listed:
                 yield f"man/getmail.1 doesn't list '{line}' of {source}"
 
 

@@ -58,19 +58,27 @@ class Account:
                                 stdout=subprocess.PIPE, stderr=subprocess.PIPE, restore_signals=restore_signals,
                                 env=programs.environment(HOME=str(self.home), **changes))
 
-    def name(self, uid):
-        """The name of a unique-id's file."""
+    def stem(self, uid):
+        """What the name of a unique-id's file begins with; it was the whole name in earlier versions."""
         return f"{self.digest}.{uid.hex()}"
 
+    def name(self, uid, text):
+        """The name of the file of a unique-id's text."""
+        return f"{self.stem(uid)},S={len(text)}"
+
     def held(self):
-        """The unique-ids of the files in `new` and `cur` with their bytes, as often as they stand there."""
+        """The unique-ids of the files in `new` and `cur` with their bytes, as often as they stand there. Bytes under a name
+        with another size are marked, so that they are nobody's message."""
         found = []
         for part in ("new", "cur"):
             for entry in sorted(os.listdir(self.maildir / part)):
-                base = entry.split(":")[0]
-                owner, _, uid = base.partition(".")
+                stem, _, size = entry.split(":")[0].partition(",")
+                owner, _, uid = stem.partition(".")
                 if owner == self.digest:
-                    found.append((bytes.fromhex(uid), (self.maildir / part / entry).read_bytes()))
+                    text = (self.maildir / part / entry).read_bytes()
+                    if size not in ("", f"S={len(text)}"):
+                        text = f"{entry} has {len(text)} bytes: ".encode() + text
+                    found.append((bytes.fromhex(uid), text))
         return sorted(found)
 
     def read_all_new(self):

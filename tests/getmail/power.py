@@ -3,8 +3,12 @@
     python3 tests/getmail/power.py [--program FILE] [--most N] [--jobs N]
 
 A session is watched, the states are built one after the other, and over each of them one more session is run that
-nothing cuts, against the server as it was at that moment. Then each message has to be held once and whole. By hand all
-states are run, or up to `most` for each front of the changes; the gate runs some of them (test_power.py).
+nothing cuts, against the server as it was at that moment. Then each message has to be held once and whole, as a file of
+the Maildir or as an entry of the mboxrd file. By hand all states are run, or up to `most` for each front of the changes;
+the gate runs some of them (test_power.py).
+
+Of a session into an mboxrd file no page is there up to its half if a later one is there: an entry that was written and not
+flushed passes for whole by its length and since none of its pages is all zeros.
 """
 
 import argparse
@@ -16,21 +20,25 @@ import re
 import signal
 import sys
 import time
-from dataclasses import dataclass, field
+from dataclasses import dataclass, field, replace
 from pathlib import Path
 
 if __name__ == "__main__":
     sys.path.insert(0, str(Path(__file__).resolve().parents[1]))
 
 from getmail.account import Account  # noqa: E402 (the path may have to be there first)
+from getmail.mbox_account import MboxAccount  # noqa: E402
 from getmail.shared_server import SharedServer  # noqa: E402
 from harness import power, preload, programs  # noqa: E402
+from harness.mboxrd import entries, entry  # noqa: E402
 
 # Flushes cost nothing where files are in memory.
 MEMORY = Path("/dev/shm")
 
 WANTED = [(b"one".ljust(70, b"-"), b"one\n"), (b"two".ljust(70, b"-"), b"a line\n" * 700),
           (b"three".ljust(70, b"-"), b"three\nFrom x\n\n.\n")]
+# In an mboxrd file the second entry has a page of its own, between the ends of two others.
+WANTED_AS_ENTRIES = [WANTED[0], (WANTED[1][0], b"a line\n" * 1400), WANTED[2]]
 # Too large to be fetched, so that their ids alone make the record long: a group goes over the end of its first page.
 TOO_LARGE = b"x\n" * 10_001
 LIMIT = "max_message_size = 20000\n"
@@ -42,12 +50,18 @@ def large_ones(count, word):
 
 @dataclass(frozen=True)
 class Scene:
-    """A session to be cut: with `-d` or not, after an earlier one or not, and after one that was killed or not."""
+    """A session to be cut: with `-d` or not, after an earlier one or not, after one that was killed or not, and into a
+    Maildir or an mboxrd file."""
 
     name: str
     words: tuple[str, ...] = ()
     is_first: bool = True
     is_killed: bool = False
+    is_mboxrd: bool = False
+
+    def wanted(self):
+        """What is fetched."""
+        return WANTED_AS_ENTRIES if self.is_mboxrd else WANTED
 
     def messages_before(self):
         return [] if self.is_first else [*WANTED[:1], *((uid, TOO_LARGE) for uid in large_ones(2, b"early"))]
@@ -55,13 +69,14 @@ class Scene:
     def messages(self):
         """What is on the server. The record's groups cross the end of a page: the group of a text, or that of new ids."""
         count = 44 if self.is_first else 60
-        return WANTED + [(uid, TOO_LARGE) for uid in large_ones(2, b"early") + large_ones(count - 2, b"late")]
+        return self.wanted() + [(uid, TOO_LARGE) for uid in large_ones(2, b"early") + large_ones(count - 2, b"late")]
 
 
 SCENES = [Scene(f"{name}{', deleting' if words else ''}{', after a kill' if is_killed else ''}",
                 words, is_first, is_killed)
           for is_killed in (False, True) for name, is_first in (("first session", True), ("later session", False))
           for words in ((), ("-d",))]
+SCENES += [replace(scene, name=f"{scene.name}, into an mboxrd file", is_mboxrd=True) for scene in SCENES if scene.words]
 
 
 @dataclass(frozen=True)
@@ -116,7 +131,8 @@ class Stage:
         self.scene = scene
         self.libraries = libraries
         self.server = SharedServer(scene.messages_before())
-        self.account = Account(self.server.port, LIMIT, above=MEMORY if os.access(MEMORY, os.W_OK) else None)
+        kind = MboxAccount if scene.is_mboxrd else Account
+        self.account = kind(self.server.port, LIMIT, above=MEMORY if os.access(MEMORY, os.W_OK) else None)
         self.note = self.account.home / "note"
         if not scene.is_first:
             self.check_good(self.run())
@@ -190,6 +206,14 @@ class Stage:
         left = [message for message in whole if message not in marked]
         return [whole, left] if marked else [whole]
 
+    def times_held(self, uid, text):
+        """How often a message is held, and how often whole."""
+        if self.scene.is_mboxrd:
+            count = self.account.content().count(entry(text))
+            return count, count
+        contents = [content for name, content in self.account.held() if name == uid]
+        return len(contents), sum(content == text for content in contents)
+
     def faults_over(self, image, messages):
         """What is bad after one more session over this state, against a server that has these messages."""
         self.build(image)
@@ -198,14 +222,14 @@ class Stage:
         found = []
         if (run.status, run.err) != (0, b""):
             found.append(f"the session says {run.err!r} with status {run.status}")
-        held = self.account.held()
-        for uid, text in WANTED:
-            contents = [content for name, content in held if name == uid]
-            if contents != [text]:
+        for uid, text in self.scene.wanted():
+            times, whole = self.times_held(uid, text)
+            if (times, whole) != (1, 1):
                 where = "on the server" if (uid, text) in self.server.messages else "gone from the server"
-                found.append(f"{uid.rstrip(b'-').decode()} is held {len(contents)} times, "
-                             f"{sum(content == text for content in contents)} of them whole, and is {where}")
-        if self.scene.words and len(self.server.messages) != len(messages) - sum(m in WANTED for m in messages):
+                found.append(f"{uid.rstrip(b'-').decode()} is held {times} times, {whole} of them whole, and is {where}")
+        if self.scene.is_mboxrd and self.account.content() != entries([text for _, text in self.scene.wanted()]):
+            found.append(f"the mailbox file has something else than the entries, {len(self.account.content())} octets")
+        if self.scene.words and len(self.server.messages) != len(messages) - sum(m in self.scene.wanted() for m in messages):
             found.append("the server has another number of messages than is expected")
         return found
 
@@ -219,7 +243,7 @@ def play(scene, libraries, most, limit=None, without=None):
         for watched, changes, first in sessions_of(stage, source, limit):
             if without is not None:
                 changes, first = leave_out(changes, first, without)
-            for count, image, lost in power.fronts(watched, changes, most, source, first):
+            for count, image, lost in power.fronts(watched, changes, most, source, first, not scene.is_mboxrd):
                 image.pop(".getmail/getmailrc", None)
                 for messages in stage.servers_after(changes[:count]):
                     state = hash((tuple(sorted(image.items())), len(messages)))

@@ -86,6 +86,9 @@ class Server:
             try:
                 self._say(b"+OK ready\r\n")
                 for line in given if self.deaf_after is None else itertools.islice(given, self.deaf_after):
+                    if not line.endswith(b"\r\n"):
+                        # A command whose sending was cut.
+                        return
                     command = line.removesuffix(b"\r\n")
                     self.commands.append(command.decode())
                     self._say(self._answer(command))

@@ -82,6 +82,9 @@ class SharedServer:
         commands = self.commands.setdefault(session, [])
         client.sendall(b"+OK ready\r\n")
         for line in given:
+            if not line.endswith(b"\r\n"):
+                # A command whose sending was cut.
+                return
             word, _, argument = line.removesuffix(b"\r\n").partition(b" ")
             commands.append(line.removesuffix(b"\r\n").decode())
             if word == b"RETR":

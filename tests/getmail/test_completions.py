@@ -46,6 +46,7 @@ class Completions(unittest.TestCase):
         self.assertEqual(self.bash("-r", f"{other}/ho"), [f"{other}/home", f"{other}/house"])
         self.assertEqual(self.bash("-g", str(self.home / "none"), "-r", ""), [])
         self.assertEqual(self.bash("--re"), ["--rehearse"])
+        self.assertEqual(self.bash("--pr"), ["--pretend"])
 
     def test_fish_looks_for_an_rc_file_in_the_folder(self):
         if not shutil.which("fish"):

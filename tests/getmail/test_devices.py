@@ -4,20 +4,13 @@ Each run ends with its line and leaves nothing half done, and the next one, with
 """
 
 import os
-import resource
-import unittest
 
 from getmail.account import Account
+from getmail.one_account import RECORD_REFUSED, REFUSED, SILENT, THREE, OneAccount
 from getmail.server import Server
-from harness import preload, programs
+from harness import preload
 
-THREE = [(b"a", b"one\n"), (b"b", b"two\n"), (b"c", b"three\n")]
-LOGIN = ["USER u", "PASS p", "STAT", "UIDL", "LIST"]
 EACH_FETCHED_AND_DELETED = ["RETR 1", "DELE 1", "RETR 2", "DELE 2", "RETR 3", "DELE 3"]
-
-SILENT = programs.Run(0, b"", b"")
-REFUSED = programs.Run(1, b"", b"getmail: destination refused\n")
-RECORD_REFUSED = programs.Run(1, b"", b"getmail: seen file refused\n")
 
 
 class MeddlingServer(Server):
@@ -32,13 +25,7 @@ class MeddlingServer(Server):
         return super()._answer(command)
 
 
-class Devices(unittest.TestCase):
-    def setUp(self):
-        self.server = Server(THREE)
-        self.addCleanup(self.server.socket.close)
-        self.account = Account(self.server.port)
-        self.addCleanup(self.account.holder.cleanup)
-
+class Devices(OneAccount):
     def meddle(self, meanwhile):
         """Lets the server do this with each command before it answers."""
         self.server.socket.close()
@@ -47,21 +34,6 @@ class Devices(unittest.TestCase):
         self.account.holder.cleanup()
         self.account = Account(self.server.port)
         self.addCleanup(self.account.holder.cleanup)
-
-    def session(self, *words, bound=None, **changes):
-        """One run against one session, with the commands after the listings; no file may grow past `bound`."""
-        thread = self.server.begin_session()
-        if bound is not None:
-            resource.setrlimit(resource.RLIMIT_FSIZE, (bound, resource.RLIM_INFINITY))
-        try:
-            # Python ignores the signal that stands for the refusal, and so does the program, which sees an error.
-            process = self.account.start("-q", *words, restore_signals=False, **changes)
-        finally:
-            resource.setrlimit(resource.RLIMIT_FSIZE, (resource.RLIM_INFINITY, resource.RLIM_INFINITY))
-        out, err = process.communicate(timeout=programs.SECONDS)
-        thread.join(programs.SECONDS)
-        self.assertEqual(self.server.commands[:5], LOGIN)
-        return programs.Run(process.returncode, out, err), self.server.commands[5:]
 
     def list_only(self):
         """A session that puts the messages' ids into the record, and fetches none of them."""
@@ -91,7 +63,7 @@ class FullDisk(Devices):
                 self.assertEqual(self.account.record.read_bytes()[:len(whole)], whole)
                 self.assertEqual(self.server.messages, THREE)
                 self.assertEqual(self.account.held(), THREE[:1])
-                (self.account.maildir / "new" / self.account.name(b"a")).unlink()
+                (self.account.maildir / "new" / self.account.name(*THREE[0])).unlink()
                 self.account.record.write_bytes(whole)
         self.session("-d", bound=len(whole) + 5)
         self.check_completed()
@@ -143,12 +115,12 @@ class OtherHands(Devices):
         """A file of the message's own name isn't written over."""
         def put(command):
             if command == "RETR 2":
-                (self.account.maildir / "new" / self.account.name(b"b")).write_bytes(b"somebody's\n")
+                (self.account.maildir / "new" / self.account.name(*THREE[1])).write_bytes(b"his\n")
 
         self.meddle(put)
         run, commands = self.session("-d")
         self.assertEqual((run, commands), (REFUSED, ["RETR 1", "DELE 1", "RETR 2", "RSET", "QUIT"]))
-        self.assertEqual(self.account.held(), [THREE[0], (b"b", b"somebody's\n")])
+        self.assertEqual(self.account.held(), [THREE[0], (b"b", b"his\n")])
         self.assertEqual(self.server.messages, THREE)
         self.assertEqual(os.listdir(self.account.maildir / "tmp"), [])
 
@@ -162,12 +134,12 @@ class OtherHands(Devices):
 
     def test_folders_beside_the_files(self):
         """A folder in `new` or `cur` is no message, whatever its name."""
-        (self.account.maildir / "new" / self.account.name(b"a")).mkdir()
-        (self.account.maildir / "cur" / self.account.name(b"c")).mkdir()
-        (self.account.maildir / "cur" / (self.account.name(b"b") + ":2,S")).write_bytes(THREE[1][1])
+        (self.account.maildir / "new" / self.account.name(*THREE[0])).mkdir()
+        (self.account.maildir / "cur" / self.account.name(*THREE[2])).mkdir()
+        (self.account.maildir / "cur" / (self.account.name(*THREE[1]) + ":2,S")).write_bytes(THREE[1][1])
         _, commands = self.session()
         self.assertEqual(commands[:2], ["RETR 1", "RSET"])
-        (self.account.maildir / "new" / self.account.name(b"a")).rmdir()
+        (self.account.maildir / "new" / self.account.name(*THREE[0])).rmdir()
         _, commands = self.session()
         self.assertEqual(commands, ["RETR 1", "RETR 3", "QUIT"])
 
@@ -191,13 +163,13 @@ class ManyNames(Devices):
         count = 30_000
         messages = [(b"%05d" % number, b"") for number in range(count)]
         with Server(messages) as self.server, Account(self.server.port) as self.account:
-            for number, (uid, _) in enumerate(messages):
+            for number, (uid, text) in enumerate(messages):
                 part, mark = (("new", ""), ("cur", ":2,S"))[number % 5 > 0]
-                (self.account.maildir / part / (self.account.name(uid) + mark)).touch()
+                (self.account.maildir / part / (self.account.name(uid, text) + mark)).touch()
             run, commands = self.session()
             self.assertEqual((run, commands), (SILENT, ["QUIT"]))
             self.account.record.unlink()
-            (self.account.maildir / "cur" / (self.account.name(b"12346") + ":2,S")).unlink()
+            (self.account.maildir / "cur" / (self.account.name(b"12346", b"") + ":2,S")).unlink()
             run, commands = self.session()
             self.assertEqual((run, commands), (SILENT, ["RETR 12347", "QUIT"]))
 

@@ -13,12 +13,13 @@ import time
 import unittest
 
 from getmail.account import Account
+from getmail.one_account import LOGIN
 from getmail.server import Server
 from harness import preload, programs
 from harness.kernel import LOOPBACK
 
 THREE = [(b"a", b"one\n"), (b"b", b".two\n\n"), (b"c", b"three\nFrom x\r\n")]
-LOGIN = ["USER u", "PASS p", "STAT", "UIDL", "LIST"]
+
 REPORT = ("SimplePOP3Retriever:u@{server}:{port}:\n"
           "msg 1/3 (4 bytes) delivered\nmsg 2/3 (6 bytes) delivered\nmsg 3/3 (14 bytes) delivered\n"
           "3 messages (24 bytes) retrieved, 0 skipped, 0 deleted\n")
@@ -295,7 +296,7 @@ class Floods(unittest.TestCase):
             thread.start()
             with Account(listener.getsockname()[1]) as account:
                 for uid, text in held:
-                    (account.maildir / "new" / account.name(uid)).write_bytes(text)
+                    (account.maildir / "new" / account.name(uid, text)).write_bytes(text)
                 for part in missing:
                     (account.maildir / part).rmdir()
                 run = account.run("-q", *words)

@@ -3,54 +3,28 @@ the look at them, folders that can't be read to their end, a record whose replac
 that can't be had."""
 
 import os
-import resource
-import unittest
 
-from getmail.account import Account
-from getmail.server import Server
+from getmail.one_account import RECORD_REFUSED, REFUSED, SILENT, THREE, OneAccount
 from harness import preload, programs
 
-THREE = [(b"a", b"one\n"), (b"b", b"two\n"), (b"c", b"three\n")]
-LOGIN = ["USER u", "PASS p", "STAT", "UIDL", "LIST"]
-
-SILENT = programs.Run(0, b"", b"")
-REFUSED = programs.Run(1, b"", b"getmail: destination refused\n")
-RECORD_REFUSED = programs.Run(1, b"", b"getmail: seen file refused\n")
 UNREADABLE = programs.Run(2, b"", b"getmail: cannot read rc file\n")
 
 
-class OtherHands(unittest.TestCase):
+class OtherHands(OneAccount):
     @classmethod
     def setUpClass(cls):
         library = preload.library("other_hands")
         cls.library = library.__enter__()
         cls.addClassCleanup(library.__exit__, None, None, None)
 
-    def setUp(self):
-        self.server = Server(THREE)
-        self.addCleanup(self.server.socket.close)
-        self.account = Account(self.server.port)
-        self.addCleanup(self.account.holder.cleanup)
-
     def session(self, *words, bound=None, **others):
-        """One run against one session, with the commands after the listings; no file may grow past `bound`."""
-        thread = self.server.begin_session()
-        changes = {"LD_PRELOAD": str(self.library), **{f"OTHER_{what}": str(value) for what, value in others.items()}}
-        if bound is not None:
-            resource.setrlimit(resource.RLIMIT_FSIZE, (bound, resource.RLIM_INFINITY))
-        try:
-            # Python ignores the signal that tells of the bound, and so does the program, which sees an error.
-            process = self.account.start("-q", *words, restore_signals=False, **changes)
-        finally:
-            resource.setrlimit(resource.RLIMIT_FSIZE, (resource.RLIM_INFINITY, resource.RLIM_INFINITY))
-        out, err = process.communicate(timeout=programs.SECONDS)
-        thread.join(programs.SECONDS)
-        self.assertEqual(self.server.commands[:5], LOGIN)
-        return programs.Run(process.returncode, out, err), self.server.commands[5:]
+        """The same, with what the other hands are to do."""
+        changes = {f"OTHER_{what}": str(value) for what, value in others.items()}
+        return super().session(*words, bound=bound, LD_PRELOAD=str(self.library), **changes)
 
     def hold_in_cur(self, uid, text, flags=":2,"):
         """Puts a held message's file into `cur`."""
-        path = self.account.maildir / "cur" / (self.account.name(uid) + flags)
+        path = self.account.maildir / "cur" / (self.account.name(uid, text) + flags)
         path.write_bytes(text)
         return path
 

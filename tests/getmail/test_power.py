@@ -32,6 +32,20 @@ def flushes_a_replaced_record(change, _):
     return isinstance(change, Flush) and change.path.startswith(".getmail/seen-") and ".tmp" in change.path
 
 
+def flushes_an_entry(change, command):
+    return isinstance(change, Flush) and change.path == "mbox" and command == b"RETR"
+
+
+def flushes_an_intent(change, command):
+    """The flush of what is appended to the record, after a message was asked for."""
+    return isinstance(change, Flush) and change.path.startswith(".getmail/seen-") and command == b"RETR"
+
+
+def flushes_entries_before_settling(change, command):
+    """The flush of the mailbox file after it was looked at, before the first message is fetched."""
+    return isinstance(change, Flush) and change.path == "mbox" and command == b"LIST"
+
+
 class Power(unittest.TestCase):
     @classmethod
     def setUpClass(cls):
@@ -51,8 +65,10 @@ class Power(unittest.TestCase):
         """Each kind of flush is needed: without it some state is bad."""
         scenes = {scene.name: scene for scene in SCENES}
         first, killed = scenes["first session, deleting"], scenes["first session, deleting, after a kill"]
+        mboxrd, its_kills = (scenes[f"{scene.name}, into an mboxrd file"] for scene in (first, killed))
         left_out = ((first, flushes_a_text), (first, flushes_new), (first, flushes_a_replaced_record),
-                    (killed, flushes_new_before_telling))
+                    (killed, flushes_new_before_telling), (mboxrd, flushes_an_entry), (mboxrd, flushes_an_intent),
+                    (its_kills, flushes_entries_before_settling))
         jobs = [(scene, self.libraries, MOST, KILLS, without) for scene, without in left_out]
         for found, (scene, without) in zip(play_all(jobs), left_out):
             with self.subTest(without.__name__):

@@ -54,7 +54,7 @@ class Reading(unittest.TestCase):
         self.addCleanup(self.account.holder.cleanup)
         self.account.rcfile.write_text(self.account.rcfile.read_text().replace("read_all = false\n", ""))
         for uid, text in self.messages:
-            (self.account.maildir / "cur" / f"{self.account.name(uid)}:2,").write_bytes(text)
+            (self.account.maildir / "cur" / f"{self.account.name(uid, text)}:2,").write_bytes(text)
 
     def run_once(self, **changes):
         run = self.account.run("-q", **changes)

@@ -11,7 +11,7 @@ import tempfile
 import unittest
 from pathlib import Path
 
-from getmail.account import RC, Account
+from getmail.account import Account
 from getmail.model import DAY, Kept, Options
 from getmail.server import Server
 from harness import preload, programs
@@ -58,12 +58,15 @@ def random_flags(source):
 class Life:
     """One account and its server, with what the formats say of both."""
 
+    account_kind, kept_kind, part_cut = Account, Kept, 0.2
+
     def __init__(self, test, seed, preloaded, folder):
         self.test = test
         self.source = random.Random(seed)
         self.server = Server([])
-        self.account = Account(self.server.port)
-        self.kept = Kept()
+        self.account = self.account_kind(self.server.port)
+        self.sections = self.account.rcfile.read_text().partition("read_all")[0]
+        self.kept = self.kept_kind()
         self.now = 1_700_000_000
         self.count = 0
         self.clock = Path(folder) / "clock"
@@ -77,7 +80,7 @@ class Life:
         self.account.holder.cleanup()
 
     def let_time_pass(self):
-        """What happens between sessions: time, new mail, a reader who takes up or takes away files, a lost record."""
+        """What happens between sessions: time, new mail, and what others do with what is held."""
         source = self.source
         self.now += source.choice((0, 60, DAY - 1, DAY, 5 * DAY, -60))
         for _ in range(source.choice((0, 1, 1, 3, 8))):
@@ -87,27 +90,30 @@ class Life:
                 self.count += 1
                 uid, text = b"id%d" % self.count, random_text(source)
             self.server.messages.insert(source.randrange(len(self.server.messages) + 1), (uid, text))
+        self.let_others_work()
+
+    def let_others_work(self):
+        """A reader takes up or takes away files, and a record may be lost."""
+        source = self.source
         if source.random() < 0.3:
             self.account.read_all_new()
         if self.kept.held and source.random() < 0.2:
             uid = source.choice(sorted(self.kept.held))
             for part in ("new", "cur"):
-                for path in (self.account.maildir / part).glob(f"{self.account.name(uid)}*"):
-                    if path.name.split(":")[0] == self.account.name(uid):
-                        path.unlink()
+                for path in (self.account.maildir / part).glob(f"{self.account.stem(uid)},*"):
+                    path.unlink()
             del self.kept.held[uid]
         if source.random() < 0.05:
             self.account.record.unlink(missing_ok=True)
             self.kept.rows.clear()
 
-    def run(self, octets=None):
+    def run(self, octets=None, **changes):
         """One run with random options and flags; what it left, and the options as the flags left them."""
         options, flags = random_options(self.source), random_flags(self.source)
-        text = RC.format(server=LOOPBACK, port=self.server.port)
-        self.account.rcfile.write_text(text[:text.index("read_all")] + options.lines())
+        self.account.rcfile.write_text(self.sections + options.lines())
         self.clock.write_text(str(self.now))
         thread = self.server.begin_session(octets)
-        run = self.account.run(*flags, **self.changes)
+        run = self.account.run(*flags, **{**self.changes, **changes})
         thread.join(programs.SECONDS)
         return run, options.changed(flags)
 
@@ -156,12 +162,12 @@ def libraries():
         yield clock, skipping
 
 
-def check_seed(test, seed, preloaded):
+def check_seed(test, seed, preloaded, kind=Life):
     """The life of one account."""
-    with tempfile.TemporaryDirectory() as folder, Life(test, seed, preloaded, folder) as life:
+    with tempfile.TemporaryDirectory() as folder, kind(test, seed, preloaded, folder) as life:
         for _ in range(life.source.randrange(2, 6)):
             life.let_time_pass()
-            if life.source.random() < 0.2:
+            if life.source.random() < life.part_cut:
                 life.check_cut()
             else:
                 life.check_session()

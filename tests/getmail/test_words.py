@@ -41,9 +41,9 @@ class Words(unittest.TestCase):
         for word in ("--help", "-h"):
             run = programs.run("getmail", word)
             self.assertEqual((run.status, run.err), (0, b""))
-            self.assertTrue(run.out.startswith(b"Fetches mail from a POP3 server into a Maildir;"), run.out)
+            self.assertTrue(run.out.startswith(b"Fetches mail from a POP3 server into a Maildir or an mboxrd file;"), run.out)
             for option in (b"--rcfile <FILE>", b"--getmaildir <DIR>", b"--verbose", b"--quiet", b"--all", b"--new",
-                           b"--delete", b"--dont-delete", b"--rehearse"):
+                           b"--delete", b"--dont-delete", b"--pretend", b"--rehearse"):
                 self.assertIn(option, run.out)
 
     def test_help_that_cannot_be_shown_is_a_failure(self):
@@ -93,7 +93,6 @@ class RcFile(unittest.TestCase):
                 ("type = SimplePOP3Retriever", "type = SimplePOP3SSLRetriever", "retriever.type unknown"),
                 ("username = u\n", "", "retriever.username missing"),
                 ("username = u", "use_apop = yes\nusername = u", "retriever.use_apop unsupported"),
-                ("type = Maildir\npath = ~/Maildir/", "type = Mboxrd\npath = ~/mbox", "destination.type unsupported"),
                 ("path = ~/Maildir/", "path = ~/Maildir", "destination.path has a bad form"),
                 ("[destination]", "[elsewhere]", "section [destination] missing"),
                 ("password = p", "password", "rc file line 6 not understood")):

@@ -1,16 +1,25 @@
-"""The work for a listing grows with its length, and not with the square of it: a call that looks through all rows for each
-row gives the same answers, so that only the time tells it from one that doesn't."""
+"""The work for a listing, a text or an rc file grows with its length, and not with the square of it: a call that looks
+through all rows for each row gives the same answers, so that only the time tells it from one that doesn't."""
 
 import resource
 import unittest
 
 from getmail import conversations as known
+from getmail.account import Account
 from harness import programs
+from harness.kernel import LOOPBACK
 
 FEW, MANY = 10_000, 50_000
 
 # The work for five times as many rows: about five times as much, or 25 times if each row costs as much as there are rows.
 MOST_TIMES = 10
+
+# Less work than this isn't compared: it is that of starting the program.
+LEAST_SECONDS = 0.02
+
+# The octets of a text, and the lines of an rc file that is as long as one may be.
+SHORT, LONG = 4_000_000, 20_000_000
+FEW_LINES, MANY_LINES = 2_000, 10_000
 
 
 def listings(count):
@@ -21,22 +30,51 @@ def listings(count):
             + known.wire(".", "-ERR", "+OK"))
 
 
+def seconds_of(wanted, *words, given=b"", **changes):
+    """How long a processor works for a run of the program that has to leave this: the least of three runs."""
+    seconds = []
+    for _ in range(3):
+        before = resource.getrusage(resource.RUSAGE_CHILDREN)
+        run = programs.run("getmail", *words, given=given, **changes)
+        after = resource.getrusage(resource.RUSAGE_CHILDREN)
+        assert run == wanted, (run.status, run.out[-200:], run.err[-200:])
+        seconds.append(after.ru_utime + after.ru_stime - before.ru_utime - before.ru_stime)
+    return max(min(seconds), LEAST_SECONDS)
+
+
 class Work(unittest.TestCase):
-    def seconds_of_work(self, count, *words):
-        """How long a processor works for such a session: the least of three runs."""
-        given = listings(count)
+    @staticmethod
+    def seconds_for_listing(count, *words):
         wanted = known.printed(["USER u", "PASS *", "STAT", "UIDL", "LIST", "RETR 1", "QUIT"], f"cut {known.REFUSED}")
-        seconds = []
-        for _ in range(3):
-            before = resource.getrusage(resource.RUSAGE_CHILDREN)
-            run = programs.run("getmail", "--rehearse", *words, given=given)
-            after = resource.getrusage(resource.RUSAGE_CHILDREN)
-            self.assertEqual(run, programs.Run(1, wanted, b""))
-            seconds.append(after.ru_utime + after.ru_stime - before.ru_utime - before.ru_stime)
-        return min(seconds)
+        return seconds_of(programs.Run(1, wanted, b""), "--rehearse", *words, given=listings(count))
 
     def test_a_longer_listing(self):
         for words in ([], ["-d"]):
             with self.subTest(words):
-                few, many = self.seconds_of_work(FEW, *words), self.seconds_of_work(MANY, *words)
+                few, many = self.seconds_for_listing(FEW, *words), self.seconds_for_listing(MANY, *words)
                 self.assertLess(many, MOST_TIMES * few)
+
+    @staticmethod
+    def seconds_for_text(piece, kept, octets):
+        """The work for a text of this piece again and again, of which so many octets are kept each time."""
+        count = octets // len(piece)
+        given = known.replies(RETR=known.wire("+OK") + piece * count + known.wire("", "."))
+        wanted = known.ended("", given, length=kept * count + 1)
+        return seconds_of(programs.Run(0, wanted.printed, b""), "--rehearse", given=given)
+
+    def test_a_longer_text(self):
+        for piece, kept in ((b"x" * 1000, 1000), (b"x" * 70 + b"\r\n", 71), (b"..\r\n", 2)):
+            with self.subTest(piece[-10:]):
+                short, long = (self.seconds_for_text(piece, kept, octets) for octets in (SHORT, LONG))
+                self.assertLess(long, MOST_TIMES * short)
+
+    @staticmethod
+    def seconds_for_rc_file(count):
+        """The work for an rc file with so many keys without effect, and a warning of each."""
+        with Account(1, "".join(f"{number:x}=\n" for number in range(count))) as account:
+            lines = [f"getmail: warning: line {14 + number}: options.{number:x} has no effect\n" for number in range(count)]
+            wanted = programs.Run(1, b"", "".join([*lines, f"getmail: cannot connect to {LOOPBACK}:1\n"]).encode())
+            return seconds_of(wanted, HOME=str(account.home))
+
+    def test_a_longer_rc_file(self):
+        self.assertLess(self.seconds_for_rc_file(MANY_LINES), MOST_TIMES * self.seconds_for_rc_file(FEW_LINES))

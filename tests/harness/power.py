@@ -209,10 +209,11 @@ class Disk:
         led_to = {path: choice.get(path, files[-1]) for path, files in self.names.items()}
         return {path: content(file) for path, file in led_to.items() if file is not None}
 
-    def images(self, most, source):
+    def images(self, most, source, torn=True):
         """The trees that a loss of power can leave now: all of them, or if there are more than `most` choices, those
         where all is lost, all is kept, one thing alone is lost or kept, and some that the `source` picks. Beside each
-        what of it isn't as the program left it."""
+        what of it isn't as the program left it. Without `torn` no page is there up to its half if a later one of its file
+        is there."""
         axes = self._axes()
         ways = [values for _, values in axes]
         if math.prod(map(len, ways)) <= most:
@@ -221,9 +222,23 @@ class Disk:
             picks = itertools.chain(picks_of_one(ways), (tuple(map(source.choice, ways)) for _ in range(most)))
             picks = itertools.islice(dict.fromkeys(picks), most)
         for pick in picks:
+            if not torn and has_torn_page(axes, pick):
+                continue
             choice = {thing if isinstance(thing, str) else id(thing): way for (thing, _), way in zip(axes, pick)}
             told = [f"{told_of(thing)}: {way}" for (thing, values), way in zip(axes, pick) if way != values[0]]
             yield self._image(choice), "; ".join(told)
+
+
+def has_torn_page(axes, pick):
+    """Whether a page is there up to its half, and a later write of the same file is there."""
+    halved = set()
+    for (thing, _), way in zip(axes, pick):
+        if isinstance(thing, Write):
+            if thing.file in halved and way != "missing":
+                return True
+            if way == "half":
+                halved.add(thing.file)
+    return False
 
 
 def told_of(thing):
@@ -244,12 +259,12 @@ def picks_of_one(ways):
             yield lost[:place] + (value,) + lost[place + 1:]
 
 
-def fronts(watched, changes, most, source, first=0):
+def fronts(watched, changes, most, source, first=0, torn=True):
     """Each front of the changes from `first` on: how many there are in it, and the trees that power can leave then."""
     disk = Disk(watched.start)
     for count in range(len(changes) + 1):
         if count >= first:
-            for image, lost in disk.images(most, source):
+            for image, lost in disk.images(most, source, torn):
                 yield count, image, lost
         if count < len(changes):
             disk.take(changes[count])

@@ -12,7 +12,7 @@ import unittest
 
 from harness import preload, programs
 from harness.maildir import make_maildir
-from store_bench.watched import ACCOUNT, SIZE, TEXT, folder_for, is_own, make_older, name_of, watcher_for, written
+from store_bench.watched import ACCOUNT, SIZE, TEXT, folder_for, is_own, make_older, name_of, stem_of, watcher_for, written
 
 
 class Deliveries(unittest.TestCase):
@@ -36,7 +36,7 @@ class Deliveries(unittest.TestCase):
     def check_discipline(self, calls, number):
         """These are the calls of one whole delivery."""
         begun, settled = calls[0][2], f"maildir/new/{name_of(number)}"
-        self.assertTrue(is_own(begun, f"maildir/tmp/{name_of(number)}"), begun)
+        self.assertTrue(is_own(begun, f"maildir/tmp/{stem_of(number)}"), begun)
         count, after = written(calls, begun)
         self.assertEqual(count, SIZE)
         self.assertEqual(after, [("fsync", "done", begun), ("rename", "done", begun, settled),
@@ -94,8 +94,8 @@ class Deliveries(unittest.TestCase):
 
     def test_what_killed_runs_left_in_tmp_is_swept_after_36_hours(self):
         tmp, other = self.maildir / "tmp", "0" * 64
-        marked = name_of(1) + ".P1R0123456789abcdef"
-        for name, hours in ((marked, 37), (name_of(2), 37), (name_of(3), 35), (f"{other}.61", 37), (ACCOUNT, 37)):
+        marked = stem_of(1) + ".P1R0123456789abcdef"
+        for name, hours in ((marked, 37), (stem_of(2), 37), (stem_of(3), 35), (f"{other}.61", 37), (ACCOUNT, 37)):
             make_older(tmp / name, hours)
         with open(bytes(tmp) + b"/" + ACCOUNT.encode() + b".\xff", "wb"):
             pass
@@ -103,7 +103,7 @@ class Deliveries(unittest.TestCase):
         run = programs.run("store_bench", "sweep", str(self.maildir), "1")
         self.assertEqual((run.status, run.err), (0, b""))
         left = {name for name in os.listdir(tmp) if name.isascii()}
-        self.assertEqual(left, {name_of(3), f"{other}.61", ACCOUNT})
+        self.assertEqual(left, {stem_of(3), f"{other}.61", ACCOUNT})
         self.assertTrue((self.maildir / "new" / name_of(1)).exists())
 
     def test_no_delivery_over_a_link_that_leads_nowhere(self):

@@ -1,15 +1,14 @@
 """The mboxrd file over the file system: what stands in it, how it is written, and what other programs read in it."""
 
 import mailbox
-import re
 import shutil
 import subprocess
 import unittest
 
 from harness import programs
+from harness.mboxrd import SEPARATOR, entries, entry, quoted, unquoted
 from store_bench.watched import folder_for, watcher_for, written
 
-SEPARATOR = b"From MAILER-DAEMON Thu Jan  1 00:00:00 1970\n"
 TEXTS = (
     b"",
     b"Subject: plain\n\na line\n",
@@ -17,19 +16,6 @@ TEXTS = (
     b"Subject: ends\n\nFrom x\n>From y\n From z\n\n\n\n",
     b"From\nFrom:\n>from x\n> From x\nFROM x\n\xff\x00\r\n.\n\n",
 )
-
-
-def quoted(text):
-    """The text with one more `>` in each line that is `>` any number of times and then `From `."""
-    return re.sub(rb"^(?=>*From )", b">", text, flags=re.MULTILINE)
-
-
-def unquoted(text):
-    return re.sub(rb"^>(?=>*From )", b"", text, flags=re.MULTILINE)
-
-
-def entry(text):
-    return SEPARATOR + quoted(text) + b"\n"
 
 
 class Mbox(unittest.TestCase):
@@ -62,7 +48,7 @@ class Mbox(unittest.TestCase):
 
     def test_an_entry_for_each_text(self):
         self.fill()
-        self.assertEqual(self.file.read_bytes(), b"".join(map(entry, TEXTS)))
+        self.assertEqual(self.file.read_bytes(), entries(TEXTS))
         self.check_texts(len(TEXTS))
 
     def test_written_and_flushed(self):

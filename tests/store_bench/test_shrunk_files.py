@@ -3,10 +3,10 @@
 import unittest
 
 from harness import preload, programs
+from harness.mboxrd import entry
 from store_bench.watched import folder_for
 
-SEPARATOR = b"From MAILER-DAEMON Thu Jan  1 00:00:00 1970\n"
-OLD = SEPARATOR + b"an older text\n\n"
+OLD = entry(b"an older text\n")
 
 
 class ShrunkFiles(unittest.TestCase):

@@ -14,9 +14,14 @@ TEXT = b"x" * SIZE
 ACCOUNT = hashlib.sha256(b"bench\x00110\x00bench").hexdigest()
 
 
+def stem_of(number):
+    """The name of the file of a message while it is in `tmp`."""
+    return ACCOUNT + "." + f"id-{number:05}".encode().hex()
+
+
 def name_of(number):
     """The name of the file of a message, as the program delivers it."""
-    return ACCOUNT + "." + f"id-{number:05}".encode().hex()
+    return f"{stem_of(number)},S={SIZE}"
 
 
 def is_own(path, front):

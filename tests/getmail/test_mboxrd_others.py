@@ -1,0 +1,246 @@
+"""An mboxrd file and others: programs that read it and append to it, and mail of theirs where an entry was about to be.
+
+Nothing of what another program wrote is cut away, whatever its length, and no message is lost for it.
+"""
+
+import contextlib
+import mailbox
+import os
+import pty
+import select
+import shutil
+import subprocess
+import unittest
+
+from getmail.mbox_account import OTHER, MboxAccount
+from getmail.server import Server
+from harness import programs
+from harness.mboxrd import entries, entry, quoted, unquoted
+
+THREE = [(b"a", b"one\n"), (b"b", b"two, a text of some octets\n" * 9), (b"c", b"three\n")]
+TEXTS = [text for _, text in THREE]
+LETTERS = [(b"l%d" % number, b"From: fred@example.org\nTo: u@example.org\nSubject: %d\nDate: Sat, 3 Jan 1998 01:05:34 +0000\n"
+            b"Message-ID: <%d@example.org>\n\n" % (number, number) + body) for number, body in enumerate((
+                b"plain\n", b"From the first\n>From the second\n>>From the third\n", b"\n\nFrom x\n\n", b"the last\n"))]
+GOOD = programs.Run(0, b"", b"")
+
+
+def foreign(length, first=b"From fred@example.org Sat Jan  3 01:05:34 1998\n"):
+    """Mail of another program with so many octets, none or at least 20; a short one has a short first line."""
+    if length == 0:
+        return b""
+    if length < len(first) + 3:
+        first = b"From fred now\n"
+    return first + b"x" * (length - len(first) - 3) + b"\n\n\n"
+
+
+class Intents(unittest.TestCase):
+    """A session begins with the intent of the second message open, whose entry isn't there or not whole."""
+
+    START = len(entry(TEXTS[0]))
+    LENGTH = len(entry(TEXTS[1]))
+
+    def session(self, content, fetched, left, path=None, start=START):
+        """A session over a file of this content fetches the messages of these numbers, and leaves that."""
+        with Server(THREE) as server, MboxAccount(server.port) as account:
+            mbox = account.mbox
+            if path is not None:
+                account.rcfile.write_text(account.rcfile.read_text().replace("~/mbox", f"~/{path}"))
+                mbox = account.home / path
+            mbox.write_bytes(content)
+            account.record.write_bytes(b"getmail-seen 2\na 5 1\nb 5 0\nc 5 0\n! b %d %d\n" % (start, self.LENGTH))
+            thread = server.begin_session()
+            self.assertEqual(account.run("-q"), GOOD)
+            thread.join(programs.SECONDS)
+            self.assertEqual([word for word in server.commands if word.startswith("RETR")],
+                             [f"RETR {number}" for number in fetched])
+            self.assertEqual(mbox.read_bytes(), left)
+            self.assertEqual(account.known(), ([b"a", b"b", b"c"], None))
+            thread = server.begin_session()
+            self.assertEqual(account.run("-q"), GOOD)
+            thread.join(programs.SECONDS)
+            self.assertEqual(mbox.read_bytes(), left)
+
+    def test_each_front_of_the_entry(self):
+        """Each but the whole one is cut away."""
+        first, second = entry(TEXTS[0]), entry(TEXTS[1])
+        for count in range(len(second)):
+            with self.subTest(count=count):
+                self.session(first + second[:count], [2, 3], entries(TEXTS))
+        self.session(first + second, [3], entries(TEXTS))
+
+    def test_mail_of_another_program(self):
+        """Shorter than the entry, as long, and longer."""
+        first = entry(TEXTS[0])
+        for length in (60, 100, self.LENGTH - 1, self.LENGTH, self.LENGTH + 1, 2 * self.LENGTH, 5000):
+            for mail in (foreign(length), foreign(length, b"From MAILER-DAEMON Mon Nov 23 23:55:00 2026\n")):
+                with self.subTest(length=length, mail=mail[:20]):
+                    self.session(first + mail, [2, 3], first + mail + entries(TEXTS[1:]))
+
+    def test_mail_of_several_of_them(self):
+        """The first has getmail's own first line; what is there is more than one entry."""
+        first, mail = entry(TEXTS[0]), entry(b"x\n") + OTHER
+        for length in (len(mail), self.LENGTH):
+            mail += b"" if length <= len(mail) else OTHER[:-2] + b"y" * (length - len(mail) - len(OTHER) - 1) + b"\n\n\n"
+            with self.subTest(length=len(mail)):
+                self.assertLessEqual(len(mail), self.LENGTH)
+                self.session(first + mail, [2, 3], first + mail + entries(TEXTS[1:]))
+
+    def test_the_whole_entry_and_then_mail_of_another_program(self):
+        """Nothing is cut; the message comes a second time."""
+        content = entries(TEXTS[:2]) + OTHER
+        self.session(content, [2, 3], content + entries(TEXTS[1:]))
+
+    def test_another_path(self):
+        """A file of another program's mail, whose size is below the place, at it, within the entry's length, and beyond."""
+        for size in (0, 60, self.START, self.START + 1, self.START + 60, self.START + self.LENGTH, 2000):
+            for start in (0, self.START):
+                content = foreign(size)
+                with self.subTest(size=size, start=start):
+                    self.session(content, [2, 3], content + entries(TEXTS[1:]), path="another", start=start)
+
+    def test_a_file_that_a_reader_made_shorter(self):
+        """A reader deleted the mail before the place."""
+        for content in (b"", foreign(20), foreign(self.START - 1)):
+            with self.subTest(content=content[:20]):
+                self.session(content, [2, 3], content + entries(TEXTS[1:]))
+
+    def test_zeros_in_the_entry(self):
+        """A page of the file that is zeros, as a loss of power leaves it: the entry isn't whole, or it is no front of one."""
+        text = b"a line of a text of some pages\n" * 600
+        length = len(entry(text))
+        first = entry(TEXTS[0])
+        for page in range(5):
+            for end in (length - 1, length):
+                whole = bytearray(first + entry(text)[:end])
+                begin, stop = max(4096 * page, len(first)), min(4096 * (page + 1), len(whole))
+                whole[begin:stop] = bytes(stop - begin)
+                with self.subTest(page=page, end=end), Server([THREE[0], (b"b", text)]) as server, \
+                        MboxAccount(server.port) as account:
+                    account.mbox.write_bytes(whole)
+                    account.record.write_bytes(b"getmail-seen 2\na 5 1\nb 5 0\n! b %d %d\n" % (len(first), length))
+                    thread = server.begin_session()
+                    self.assertEqual(account.run("-q", "-d"), GOOD)
+                    thread.join(programs.SECONDS)
+                    self.assertEqual(account.content(), first + entry(text))
+                    self.assertEqual(server.messages, [])
+
+
+class Readers(unittest.TestCase):
+    """Programs that read the file find the texts, and what they append is gone on from."""
+
+    def setUp(self):
+        self.server = Server(LETTERS)
+        self.addCleanup(self.server.socket.close)
+        self.account = MboxAccount(self.server.port)
+        self.addCleanup(self.account.holder.cleanup)
+        self.session()
+
+    def session(self):
+        thread = self.server.begin_session()
+        self.assertEqual(self.account.run("-q"), GOOD)
+        thread.join(programs.SECONDS)
+
+    def check_read(self, read):
+        """The texts as a program gave them, which takes no `>` away."""
+        self.assertEqual(read, [quoted(text) for _, text in LETTERS])
+        self.assertEqual([unquoted(text) for text in read], [text for _, text in LETTERS])
+
+    def check_goes_on(self, *held):
+        """After another program has changed the file: a new message comes after all that is there."""
+        content = self.account.content()
+        self.assertTrue(content.endswith(b"\n\n"), content[-80:])
+        for part in held:
+            self.assertIn(part, content)
+        self.server.messages = [*LETTERS, (b"new", b"Subject: new\n\nFrom new\n")]
+        self.session()
+        self.assertEqual(self.account.content(), content + entry(b"Subject: new\n\nFrom new\n"))
+
+    def test_python(self):
+        box = mailbox.mbox(self.account.mbox, create=False)
+        self.addCleanup(box.close)
+        self.check_read([box.get_bytes(key) for key in box.keys()])
+        box.lock()
+        box.add(b"Subject: added\n\nby Python\n")
+        box.flush()
+        box.unlock()
+        self.check_goes_on(entries([text for _, text in LETTERS]), b"by Python\n")
+
+    def test_python_deletes(self):
+        box = mailbox.mbox(self.account.mbox, create=False)
+        self.addCleanup(box.close)
+        box.lock()
+        box.remove(0)
+        box.flush()
+        box.unlock()
+        self.check_goes_on(entries([text for _, text in LETTERS[1:]]))
+
+    @unittest.skipIf(shutil.which("formail") is None, "formail is not installed")
+    def test_formail(self):
+        """It gives each message with its first line, and says which number it has."""
+        folder = self.account.home / "split"
+        folder.mkdir()
+        subprocess.run(["formail", "-s", "sh", "-c", 'cat > "$FOLDER/$FILENO"'], input=self.account.content(), check=True,
+                       env=programs.environment(FOLDER=str(folder), FILENO="000"), timeout=programs.SECONDS)
+        found = [path.read_bytes() for path in sorted(folder.iterdir())]
+        self.check_read([text.partition(b"\n")[2][:-1] for text in found])
+
+    @unittest.skipIf(shutil.which("formail") is None, "formail is not installed")
+    def test_formail_appends(self):
+        """A message with a first line of formail's own."""
+        with self.account.mbox.open("ab") as mbox:
+            subprocess.run(["formail"], input=b"From: fred@example.org\nSubject: added\n\nFrom formail\n", check=True, stdout=mbox,
+                           timeout=programs.SECONDS)
+        self.check_goes_on(entries([text for _, text in LETTERS]), b"From formail\n")
+
+    def mutt(self, keys, file="mbox"):
+        """Runs mutt on a terminal over a file of the home; these keys are pressed, and then it quits."""
+        home = self.account.home
+        (home / "muttrc").write_text(f"set folder={home} pipe_split=yes pipe_decode=no wait_key=no confirmappend=no\n"
+                                     "set quit=yes move=no delete=yes mark_old=no\n")
+        ours, theirs = pty.openpty()
+        with open(ours, "rb", buffering=0) as terminal:
+            process = subprocess.Popen(["mutt", "-n", "-F", home / "muttrc", "-f", home / file, "-e", f'push "{keys}<quit>"'],
+                                       stdin=theirs, stdout=theirs, stderr=theirs, start_new_session=True,
+                                       env=programs.environment(HOME=str(home), TERM="xterm"))
+            os.close(theirs)
+            # Its screen is read, or it would wait for that; once it is gone, reading is refused.
+            with contextlib.suppress(OSError):
+                while select.select([terminal], [], [], programs.SECONDS)[0] and terminal.read(65536):
+                    pass
+            if process.poll() is None:
+                process.kill()
+            self.assertEqual(process.wait(programs.SECONDS), 0)
+
+    @unittest.skipIf(shutil.which("mutt") is None, "mutt is not installed")
+    def test_mutt(self):
+        """It gives each message, with its first line, to a program."""
+        folder = self.account.home / "split"
+        folder.mkdir()
+        self.mutt(f"<tag-pattern>~A<enter><tag-prefix><pipe-message>cat > {folder}/$(date +%s%N)<enter>")
+        found = [path.read_bytes() for path in sorted(folder.iterdir())]
+        self.check_read([text.partition(b"\n")[2][:-1] for text in found])
+
+    @unittest.skipIf(shutil.which("mutt") is None, "mutt is not installed")
+    def test_mutt_copies(self):
+        (self.account.home / "other").write_bytes(OTHER)
+        self.mutt("<copy-message>=mbox<enter>", "other")
+        self.check_goes_on(entries([text for _, text in LETTERS]), b"Subject: other\n", b">From here on\n")
+
+    @unittest.skipIf(shutil.which("mutt") is None, "mutt is not installed")
+    def test_mutt_deletes(self):
+        """It writes the file anew, with fields of its own in the others."""
+        self.mutt("<first-entry><delete-message>")
+        self.assertNotIn(b"\nplain\n", self.account.content())
+        self.check_goes_on(*(quoted(text.partition(b"\n\n")[2]) for _, text in LETTERS[1:]))
+
+    @unittest.skipIf(shutil.which("procmail") is None, "procmail is not installed")
+    def test_procmail_delivers(self):
+        subprocess.run(["procmail", f"DEFAULT={self.account.mbox}", f"ORGMAIL={self.account.mbox}", "/dev/null"],
+                       input=b"From: fred@example.org\nSubject: added\n\nFrom procmail\n", check=True,
+                       env=programs.environment(HOME=str(self.account.home)), timeout=programs.SECONDS)
+        self.check_goes_on(entries([text for _, text in LETTERS]), b"From procmail\n")
+
+
+if __name__ == "__main__":
+    unittest.main()

@@ -1,0 +1,218 @@
+/* Refuses a program one of the calls that it makes of the system for the files below a folder and for its link.
+
+       cc -O1 -shared -fPIC -o refuse_step.so refuse_step.c -ldl
+       STEP_BELOW=/home/fred STEP_NOTE=note STEP_REFUSED=7 STEP_EFFECT=half LD_PRELOAD=./refuse_step.so PROGRAM ..
+
+   The steps are open, openat, statx, lseek, read, write, fsync, ftruncate, rename and unlink of a file or a folder below
+   that one, and connect, send and recv. Each adds a line to the file `note`: its word and what it is for. The seventh,
+   here, is answered -1 with EIO, and its line begins with `refused`. Its effect is `none`, or `whole`, or `half`, which
+   of a write or a send is the first half of the bytes and of any other step none. With STEP_LATER set all later steps
+   are refused too, with no effect. Without STEP_REFUSED none is refused. */
+
+#include "note.h"
+#include <stdarg.h>
+#include <sys/socket.h>
+
+static long refused_step = -1;
+static long steps_seen = 0;
+static const char *below;
+
+__attribute__((constructor)) static void begin(void)
+{
+    refused_step = open_note("STEP_NOTE", "STEP_REFUSED");
+    below = getenv("STEP_BELOW");
+}
+
+static int is_below(const char *path)
+{
+    return below && !strncmp(path, below, strlen(below));
+}
+
+static int is_of_file(int descriptor)
+{
+    char path[PATH_MAX];
+
+    return descriptor != note && is_below(path_of(descriptor, path));
+}
+
+enum effect { DONE, NONE, HALF, WHOLE };
+
+/* Counts a step, and tells what becomes of it. */
+static enum effect taken(const char *word, const char *what)
+{
+    NEXT(write);
+    const char *effect = getenv("STEP_EFFECT");
+    char line[2 * PATH_MAX];
+    int is_first = ++steps_seen == refused_step;
+    int is_refused = is_first || (refused_step > 0 && steps_seen > refused_step && getenv("STEP_LATER"));
+    int length = snprintf(line, sizeof line, "%s%s\t%s\n", is_refused ? "refused " : "", word, what);
+
+    if (note >= 0 && next(note, line, length) != length)
+        abort();
+    if (!is_refused)
+        return DONE;
+    if (!is_first || !effect || !strcmp(effect, "none"))
+        return NONE;
+    return !strcmp(effect, "half") ? HALF : WHOLE;
+}
+
+static int refused(void)
+{
+    errno = EIO;
+    return -1;
+}
+
+static enum effect taken_of(const char *word, int descriptor)
+{
+    char path[PATH_MAX];
+
+    return is_of_file(descriptor) ? taken(word, path_of(descriptor, path)) : DONE;
+}
+
+int open(const char *path, int flags, ...)
+{
+    static int (*next)(const char *, int, ...);
+    enum effect effect = is_below(path) ? taken("open", path) : DONE;
+    va_list more;
+    mode_t mode;
+    int answer;
+
+    if (!next)
+        next = (int (*)(const char *, int, ...))dlsym(RTLD_NEXT, "open");
+    va_start(more, flags);
+    mode = va_arg(more, mode_t);
+    va_end(more);
+    if (effect == NONE || effect == HALF)
+        return refused();
+    answer = next(path, flags, mode);
+    if (effect == DONE)
+        return answer;
+    if (answer >= 0)
+        close(answer);
+    return refused();
+}
+
+int openat(int folder, const char *path, int flags, ...)
+{
+    static int (*next)(int, const char *, int, ...);
+    enum effect effect = is_below(path) ? taken("openat", path) : DONE;
+    va_list more;
+    mode_t mode;
+
+    if (!next)
+        next = (int (*)(int, const char *, int, ...))dlsym(RTLD_NEXT, "openat");
+    va_start(more, flags);
+    mode = va_arg(more, mode_t);
+    va_end(more);
+    return effect == DONE ? next(folder, path, flags, mode) : refused();
+}
+
+int statx(int folder, const char *path, int flags, unsigned int mask, struct statx *found)
+{
+    NEXT(statx);
+    enum effect effect = *path ? (is_below(path) ? taken("statx", path) : DONE) : taken_of("statx", folder);
+
+    return effect == DONE ? next(folder, path, flags, mask, found) : refused();
+}
+
+off_t lseek(int descriptor, off_t place, int from)
+{
+    NEXT(lseek);
+    return taken_of("lseek", descriptor) == DONE ? next(descriptor, place, from) : refused();
+}
+
+ssize_t read(int descriptor, void *bytes, size_t size)
+{
+    NEXT(read);
+    return taken_of("read", descriptor) == DONE ? next(descriptor, bytes, size) : refused();
+}
+
+ssize_t write(int descriptor, const void *bytes, size_t size)
+{
+    NEXT(write);
+    enum effect effect = taken_of("write", descriptor);
+
+    if (effect == DONE)
+        return next(descriptor, bytes, size);
+    if (effect != NONE)
+        (void)!next(descriptor, bytes, effect == HALF ? size / 2 : size);
+    return refused();
+}
+
+int fsync(int descriptor)
+{
+    NEXT(fsync);
+    enum effect effect = taken_of("fsync", descriptor);
+
+    if (effect == DONE)
+        return next(descriptor);
+    if (effect == WHOLE)
+        next(descriptor);
+    return refused();
+}
+
+int ftruncate(int descriptor, off_t size)
+{
+    NEXT(ftruncate);
+    enum effect effect = taken_of("ftruncate", descriptor);
+
+    if (effect == DONE)
+        return next(descriptor, size);
+    if (effect == WHOLE)
+        (void)!next(descriptor, size);
+    return refused();
+}
+
+int rename(const char *from, const char *to)
+{
+    NEXT(rename);
+    enum effect effect = is_below(to) ? taken("rename", to) : DONE;
+
+    if (effect == DONE)
+        return next(from, to);
+    if (effect == WHOLE)
+        next(from, to);
+    return refused();
+}
+
+int unlink(const char *path)
+{
+    NEXT(unlink);
+    enum effect effect = is_below(path) ? taken("unlink", path) : DONE;
+
+    if (effect == DONE)
+        return next(path);
+    if (effect == WHOLE)
+        next(path);
+    return refused();
+}
+
+int connect(int socket, const struct sockaddr *address, socklen_t size)
+{
+    NEXT(connect);
+    return taken("connect", "the link") == DONE ? next(socket, address, size) : refused();
+}
+
+ssize_t send(int socket, const void *bytes, size_t size, int flags)
+{
+    NEXT(send);
+    enum effect effect = taken("send", "the link");
+
+    if (effect == DONE)
+        return next(socket, bytes, size, flags);
+    if (effect != NONE)
+        next(socket, bytes, effect == HALF ? size / 2 : size, flags);
+    return refused();
+}
+
+ssize_t recv(int socket, void *bytes, size_t size, int flags)
+{
+    NEXT(recv);
+    enum effect effect = taken("recv", "the link");
+
+    if (effect == DONE)
+        return next(socket, bytes, size, flags);
+    if (effect == WHOLE)
+        next(socket, bytes, size, flags);
+    return refused();
+}

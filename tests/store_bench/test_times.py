@@ -1,0 +1,34 @@
+"""The times that the program tells are no more than it took, by the clock and by the processor, and not nothing."""
+
+import resource
+import time
+import unittest
+
+from harness import programs
+from harness.maildir import make_maildir
+from store_bench.watched import folder_for
+
+COUNT = 200
+
+
+def told(word, path):
+    """The microseconds of the clock and of the processor that a run tells, and those that it took."""
+    before, begun = resource.getrusage(resource.RUSAGE_CHILDREN), time.monotonic()
+    run = programs.run("store_bench", word, str(path), str(COUNT))
+    passed = time.monotonic() - begun
+    after = resource.getrusage(resource.RUSAGE_CHILDREN)
+    assert (run.status, run.err) == (0, b""), run
+    count, clock, processor = map(int, run.out.split())
+    worked = after.ru_utime + after.ru_stime - before.ru_utime - before.ru_stime
+    return count, (clock, processor), (1e6 * passed, 1e6 * worked)
+
+
+class Times(unittest.TestCase):
+    def test_deliveries_and_what_is_held(self):
+        maildir = make_maildir(folder_for(self) / "maildir")
+        for word in ("deliver", "held"):
+            with self.subTest(word):
+                count, (clock, processor), (passed, worked) = told(word, maildir)
+                self.assertEqual(count, COUNT)
+                self.assertTrue(0 < clock <= passed, f"{clock} of {passed}")
+                self.assertTrue(0 < processor <= worked, f"{processor} of {worked}")
