@@ -1,14 +1,17 @@
 /* Fetches all messages of a POP3 server as a plain loop does: it sends what getmail sends, and for
-   each message makes the same writes, flushes and renames, in the Maildir and in the record.
+   each message makes the same reads, writes, flushes and renames, in the store and in the record.
 
-       fetch PORT MAILDIR RECORD [OCTETS]
+       fetch PORT STORE RECORD [OCTETS]
 
-   Names are as long as getmail's. Replies are read in pieces of 4,096 octets, or of so many as the
+   STORE is a Maildir, or an mboxrd file if it is no folder: a text is then read whole, and before its
+   entry is appended, in one write, a line with the file's size is appended to the record. Names are as
+   long as getmail's. Replies are read in pieces of 4,096 octets, or of so many as the
    last word says. Nothing is checked of them but their first octet. */
 #include <arpa/inet.h>
 #include <fcntl.h>
 #include <netinet/in.h>
 #include <netinet/tcp.h>
+#include <stdint.h>
 #include <stdio.h>
 #include <stdlib.h>
 #include <string.h>
@@ -67,8 +70,23 @@ static void append(const char *path, const char *bytes, size_t count)
     need(file >= 0 && write(file, bytes, count) == (ssize_t)count && fsync(file) == 0 && close(file) == 0);
 }
 
+/* A text in memory. */
+static char *text;
+static size_t text_length, text_room;
+
+static void keep(const char *bytes, size_t count)
+{
+    if (text_room - text_length < count) {
+        text_room = 2 * text_room > text_length + count ? 2 * text_room : text_length + count;
+        text = realloc(text, text_room);
+        need(text != NULL);
+    }
+    memcpy(text + text_length, bytes, count);
+    text_length += count;
+}
+
 /* Writes the text of a message to a file, each piece that came in one write, without the dots and
-   the CRs of the wire. */
+   the CRs of the wire; or keeps it, if there is no file. */
 static void take_text(int file)
 {
     char *out = malloc(room + 1);
@@ -108,7 +126,10 @@ static void take_text(int file)
             }
             at_line = 0;
         }
-        need(put == 0 || write(file, out, put) == (ssize_t)put);
+        if (file < 0)
+            keep(out, put);
+        else
+            need(put == 0 || write(file, out, put) == (ssize_t)put);
         if (over)
             break;
     }
@@ -134,6 +155,84 @@ static void deliver(const char *maildir, int number, const char *record)
     flush_folder(folder);
     need(close(file) == 0);
     append(record, line, (size_t)snprintf(line, sizeof line, "+ 1\n%06d 1700000000 1\n", number));
+}
+
+static off_t size_of(const char *path)
+{
+    struct stat about;
+    char ends[5];
+    int file = open(path, O_RDONLY);
+
+    need(file >= 0 && fstat(file, &about) == 0);
+    if (about.st_size > 0) {
+        need(read(file, ends, 5) == 5 && lseek(file, about.st_size - 2, SEEK_SET) >= 0);
+        need(read(file, ends, 2) == 2);
+    }
+    need(close(file) == 0);
+    return about.st_size;
+}
+
+/* Whether a line is any number of `>` and then `From `. */
+static int is_quoted(const char *line, const char *end)
+{
+    while (line < end && *line == '>')
+        line++;
+    return end - line >= 5 && !memcmp(line, "From ", 5);
+}
+
+/* The entry of the text, and its length. */
+static char *entry_of_text(size_t *length)
+{
+    static const char first[] = "From MAILER-DAEMON Thu Jan  1 00:00:00 1970\n";
+    const char *line, *after, *end = text + text_length;
+    size_t quoted = 0;
+    char *entry, *put;
+
+    for (line = text; line < end; line = (const char *)memchr(line, '\n', (size_t)(end - line)) + 1)
+        quoted += (size_t)is_quoted(line, end);
+    *length = sizeof first - 1 + text_length + quoted + 1;
+    put = entry = malloc(*length);
+    need(entry != NULL);
+    memcpy(put, first, sizeof first - 1);
+    put += sizeof first - 1;
+    for (line = text; line < end; line = after) {
+        after = (const char *)memchr(line, '\n', (size_t)(end - line)) + 1;
+        if (is_quoted(line, end))
+            *put++ = '>';
+        memcpy(put, line, (size_t)(after - line));
+        put += after - line;
+    }
+    *put = '\n';
+    return entry;
+}
+
+static void append_entry(const char *mbox, int number, const char *record)
+{
+    char line[4096], command[32];
+    size_t length;
+    char *entry;
+
+    snprintf(command, sizeof command, "RETR %d\r\n", number);
+    ask(command, line, sizeof line);
+    text_length = 0;
+    take_text(-1);
+    entry = entry_of_text(&length);
+    append(record, line, (size_t)snprintf(line, sizeof line, "! %06d %jd %zu\n", number, (intmax_t)size_of(mbox), length));
+    size_of(mbox);
+    append(mbox, entry, length);
+    append(record, line, (size_t)snprintf(line, sizeof line, "+ 1\n%06d 1700000000 1\n", number));
+    free(entry);
+    free(text);
+    text = NULL;
+    text_room = 0;
+}
+
+static int is_folder(const char *path)
+{
+    struct stat about;
+
+    need(stat(path, &about) == 0);
+    return S_ISDIR(about.st_mode);
 }
 
 static void listing(const char *command, int count)
@@ -169,7 +268,7 @@ int main(int argc, char **argv)
     listing("LIST\r\n", count);
     append(argv[3], "plain\n", 6);
     for (number = 1; number <= count; number++)
-        deliver(argv[2], number, argv[3]);
+        (is_folder(argv[2]) ? deliver : append_entry)(argv[2], number, argv[3]);
     ask("QUIT\r\n", line, sizeof line);
     return 0;
 }

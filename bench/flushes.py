@@ -10,11 +10,13 @@ those before.
 """
 
 import argparse
+import itertools
 import os
 from pathlib import Path
 
 import measure
 from getmail.account import Account
+from getmail.mbox_account import MboxAccount
 from getmail.shared_server import SharedServer
 from harness import preload, programs
 from harness.power import rows_of
@@ -44,16 +46,16 @@ def flushes_of(account, server, library, *words):
 
 def count_flushes(library):
     """Prints the flushes of polls and fetches."""
-    print("  session                                   flushes of files  of folders")
-    for words in ((), ("-d",)):
-        for count in (1, 10, 100):
-            with SharedServer(letters(0, count)) as server, Account(server.port) as account:
+    print("  session                                                   flushes of files  of folders")
+    for kind, store in ((Account, ""), (MboxAccount, ", mboxrd")):
+        for words, count in itertools.product(((), ("-d",)), (1, 10, 100)):
+            with SharedServer(letters(0, count)) as server, kind(server.port) as account:
                 sessions = [("first session, %d fetched" % count, flushes_of(account, server, library, *words))]
                 sessions.append(("poll", flushes_of(account, server, library, *words)))
                 server.messages += letters(count, count)
                 sessions.append(("later session, %d fetched" % count, flushes_of(account, server, library, *words)))
             for name, (files, folders) in sessions:
-                print(f"  {name + (', deleted' if words else ''):<42} {files:>14}  {folders:>10}")
+                print(f"  {name + (', deleted' if words else '') + store:<58} {files:>14}  {folders:>10}")
 
 
 def cost_of(account, program):
@@ -73,7 +75,7 @@ def poll(is_held, program):
         rows = b"".join(b"%s 1700000000 1\n" % uid for uid, _ in server.messages)
         account.record.write_bytes(b"getmail-seen 1\n" + rows)
         for uid, _ in server.messages if is_held else ():
-            (account.maildir / "cur" / f"{account.name(uid)}:2,S").touch()
+            (account.maildir / "cur" / f"{account.stem(uid)}:2,S").touch()
         cost_of(account, program)
         return cost_of(account, program)
 

@@ -1,15 +1,17 @@
 #!/usr/bin/env python3
-"""Benchmark of `getmail` over loopback, into a Maildir of the working folder's file system.
+"""Benchmark of `getmail` over loopback, into a Maildir and an mboxrd file of the working folder's file system.
 
 `popd` serves 2,000 messages of 2 KB, 20 of 5 MB and one of 100 MB; `getmail` fetches them, and so does a plain program
-in C (fetch.c) that sends the same commands and makes the same writes, flushes and renames. For both: messages and octets
-a second, processor time, and the peak of memory, each the best of some turns taken one after the other. To be reached: at
-most 1.5 of the plain program's processor time, and 8 MiB of memory for messages of any size.
+in C (fetch.c) that sends the same commands and makes the same reads, writes, flushes and renames. For both: messages and
+octets a second, processor time, and the peak of memory, each the best of some turns taken one after the other. To be
+reached: at most 1.5 of the plain program's processor time, and 8 MiB of memory for messages of any size; into an mboxrd file
+2.2 times the largest message beside that.
 
 Then a poll, where 20,000 messages are known and nothing is new: those that the record alone knows, and those that
 stand in the Maildir too. To be reached: 30 ms of processor time, and no faster growth than n log n from 5,000 on.
 """
 
+import filecmp
 import hashlib
 import math
 import os
@@ -24,15 +26,18 @@ from pathlib import Path
 
 import measure
 from getmail.account import RC
+from getmail.mbox_account import MAILDIR_LINES
 from harness import kernel
 from harness.kernel import LOOPBACK
 from harness.maildir import make_maildir
+from harness.mboxrd import SEPARATOR
 
 TURNS = 5
 SECONDS = 120
 LETTER_LINE = b"A line of a common length, as a letter to somebody has them.\n"
 MOST_RATIO = 1.5
 MOST_MEMORY = 8 * measure.MEBIBYTE
+MOST_TIMES_MESSAGE = 2.2
 FEW, MANY = 5_000, 20_000
 MANY_MESSAGES = 1_000
 MOST_POLL = 0.030
@@ -75,46 +80,81 @@ class Service:
         self.process.wait()
 
 
-def account_at(folder, port):
+class MaildirStore:
+    """Each message is a file."""
+
+    name = "a Maildir"
+    lines = "type = Maildir\npath = {}/\n"
+
+    @staticmethod
+    def make(path):
+        return fresh_maildir(path)
+
+    @staticmethod
+    def count(ours, theirs):
+        """How many messages both hold, or None, and how many octets these have together."""
+        ours, theirs = ([entry.stat().st_size for entry in os.scandir(maildir / "new")] for maildir in (ours, theirs))
+        return len(ours) if sorted(ours) == sorted(theirs) else None, sum(ours)
+
+    @staticmethod
+    def most_memory(_):
+        return MOST_MEMORY
+
+
+class MboxrdStore:
+    """Each message is an entry of one file."""
+
+    name = "an mboxrd file"
+    lines = "type = Mboxrd\npath = {}\n"
+
+    @staticmethod
+    def make(path):
+        path.write_bytes(b"")
+        return path
+
+    @staticmethod
+    def count(ours, theirs):
+        return ours.read_bytes().count(SEPARATOR) if filecmp.cmp(ours, theirs, shallow=False) else None, ours.stat().st_size
+
+    @staticmethod
+    def most_memory(octets):
+        return MOST_MEMORY + MOST_TIMES_MESSAGE * octets
+
+
+def account_at(folder, port, store=MaildirStore):
     """An account whose server is at the port, with nothing fetched yet; the words of a run."""
     shutil.rmtree(folder / "account", ignore_errors=True)
     (folder / "account").mkdir()
-    maildir = make_maildir(folder / "account" / "Maildir")
-    (folder / "account" / "getmailrc").write_text(
-        RC.format(server=LOOPBACK, port=port).replace("~/Maildir/", f"{maildir}/"))
+    lines = store.lines.format(store.make(folder / "account" / "mail"))
+    (folder / "account" / "getmailrc").write_text(RC.format(server=LOOPBACK, port=port).replace(MAILDIR_LINES, lines))
     return [measure.program("getmail"), "-q", "-g", folder / "account"]
 
 
-def fetch_with_plain(folder, port, plain):
+def fetch_with_plain(folder, port, plain, store):
     """What it costs the plain program to fetch all messages."""
-    maildir = fresh_maildir(folder / "plain")
-    (folder / "record").unlink(missing_ok=True)
-    return measure.cost_of([plain, str(port), maildir, folder / "record"], wait=measure.watch)
+    shutil.rmtree(folder / "plain", ignore_errors=True)
+    (folder / "plain").mkdir()
+    return measure.cost_of([plain, str(port), store.make(folder / "plain" / "mail"), folder / "plain" / "record"],
+                           wait=measure.watch)
 
 
-def fetched(maildir):
-    """How many messages a Maildir holds, and how many octets they have together."""
-    sizes = [entry.stat().st_size for entry in os.scandir(maildir / "new")]
-    return len(sizes), sum(sizes)
-
-
-def measure_shape(folder, plain, name, count, octets):
+def measure_shape(folder, plain, store, name, count, octets):
     """Fetches so many messages of a size by both programs, in turns, and answers whether the marks were reached."""
     make_served(folder, count, octets)
     ours, theirs = [], []
     with Service(folder) as service:
         for _ in range(TURNS):
-            ours.append(measure.cost_of(account_at(folder, service.port), wait=measure.watch))
-            theirs.append(fetch_with_plain(folder, service.port, plain))
-    total = fetched(folder / "account" / "Maildir")
-    if total != fetched(folder / "plain") or total[0] != count:
+            ours.append(measure.cost_of(account_at(folder, service.port, store), wait=measure.watch))
+            theirs.append(fetch_with_plain(folder, service.port, plain, store))
+    found, total = store.count(folder / "account" / "mail", folder / "plain" / "mail")
+    if found != count:
         sys.exit(f"{name}: not all was fetched")
     ratio = min(cost.processor for cost in ours) / min(cost.processor for cost in theirs)
     memory = max(cost.memory for cost in ours)
-    measure.print_row(name, *(speed_of(costs, count, total[1]) for costs in (ours, theirs)),
+    measure.print_row(f"{name}, into {store.name}", *(speed_of(costs, count, total) for costs in (ours, theirs)),
                       f"{min(cost.processor for cost in ours) * 1000:.0f} ms", f"{ratio:.2f}",
                       f"{memory / measure.MEBIBYTE:.1f} MiB")
-    return ratio <= MOST_RATIO and memory <= MOST_MEMORY
+    return ratio <= MOST_RATIO and memory <= store.most_memory(octets)
 
 
 def speed_of(costs, count, octets):
@@ -158,7 +198,7 @@ def account_knowing(folder, server, count, is_held):
     rows = b"".join(b"%s 1700000000 1\n" % uid_of(number) for number in range(1, count + 1))
     (folder / "account" / f"seen-{digest}").write_bytes(b"getmail-seen 2\n" + rows)
     for number in range(1, count + 1) if is_held else ():
-        (folder / "account" / "Maildir" / "cur" / f"{digest}.{uid_of(number).hex()}:2,S").touch()
+        (folder / "account" / "mail" / "cur" / f"{digest}.{uid_of(number).hex()},S=0:2,S").touch()
     return words
 
 
@@ -180,13 +220,14 @@ def measure_polls(folder, name, is_held):
 
 def main():
     print(f"getmail from popd, best of {TURNS}; to be reached: processor time {MOST_RATIO} of the plain program's, memory "
-          f"{MOST_MEMORY // measure.MEBIBYTE} MiB, a poll of {MANY:,} in {MOST_POLL * 1000:.0f} ms")
+          f"{MOST_MEMORY // measure.MEBIBYTE} MiB, into an mboxrd file and {MOST_TIMES_MESSAGE} of a message, "
+          f"a poll of {MANY:,} in {MOST_POLL * 1000:.0f} ms")
     with tempfile.TemporaryDirectory(prefix="getmail-", dir=".") as name:
         folder = Path(name).resolve()
         plain = folder / "fetch"
         subprocess.run(["cc", "-O2", "-o", plain, Path(__file__).with_name("fetch.c")], check=True)
         measure.print_head("messages", "`getmail`", "plain program", "processor time", "of the plain program's", "peak of memory")
-        reached = [measure_shape(folder, plain, *shape) for shape in SHAPES]
+        reached = [measure_shape(folder, plain, store, *shape) for store in (MaildirStore, MboxrdStore) for shape in SHAPES]
         print(f"processor time and memory: {measure.verdict(all(reached))}")
         measure.print_head("known", "processor time", f"growth from {FEW:,}", "peak of memory")
         reached = [measure_polls(folder, known, is_held)

@@ -5,6 +5,9 @@ Polls where 20,000 and 100,000 messages are known and nothing is new: those that
 stand in the Maildir too (mpop looks into no Maildir). To be reached: at most mpop's processor time and 1.3 of its memory, and
 a growth from 20,000 to 100,000 that is linear within a tenth.
 
+Then what both remember of 20,000 messages with ids of 16 octets, once `getmail` has fetched them and looked once more. To be
+reached: at most 36 octets a message.
+
 Then fetches of 2,000, 20,000 and 100,000 messages of 400 octets from `popd` into a Maildir in memory (tmpfs, the folder
 /dev/shm or the first word), where no disk's waits count. To be reached: at most mpop's processor time.
 """
@@ -26,9 +29,13 @@ ours = importlib.util.module_from_spec(SPEC)
 SPEC.loader.exec_module(ours)
 
 TURNS = 5
+TURNS_OF_MANY = 3
+MANY = 100_000
 POLLS = (20_000, 100_000)
 FETCHES = (2_000, 20_000, 100_000)
 OCTETS = 400
+REMEMBERED = 20_000
+MOST_REMEMBERED = 36
 MOST_MEMORY = 1.3
 MOST_GROWTH = 1.1
 MPOP = ["mpop", "--file=/dev/null", "--user=u", "--passwordeval=echo p", "--tls=off", "--auth=user", "--quiet",
@@ -38,8 +45,10 @@ MPOP = ["mpop", "--file=/dev/null", "--user=u", "--passwordeval=echo p", "--tls=
 class Letters(ours.Listings):
     """A server that lists messages and gives each of them, one empty line, so that mpop gets to know them."""
 
-    def __init__(self, count):
+    def __init__(self, count, uid_of=ours.uid_of):
         super().__init__(count)
+        rows = (b"%d %s\r\n" % (number, uid_of(number)) for number in range(1, count + 1))
+        self.replies[b"UIDL"] = b"+OK\r\n" + b"".join(rows) + b".\r\n"
         self.replies[b"CAPA"] = b"-ERR\r\n"
         self.replies.update({b"RETR %d" % number: b"+OK\r\n\r\n.\r\n" for number in range(1, count + 1)})
 
@@ -59,9 +68,9 @@ def known_to_mpop(folder, server):
     return words
 
 
-def in_turns(ours, theirs):
+def in_turns(ours, theirs, turns=TURNS):
     """What the runs of both cost, by turns; each word list is made anew for its run."""
-    costs = [(measure.cost_of(ours(), wait=measure.watch), measure.cost_of(theirs(), wait=measure.watch)) for _ in range(TURNS)]
+    costs = [(measure.cost_of(ours(), wait=measure.watch), measure.cost_of(theirs(), wait=measure.watch)) for _ in range(turns)]
     return tuple(zip(*costs))
 
 
@@ -84,23 +93,37 @@ def print_costs(name, ours, theirs):
 
 def measure_polls(folder, memory_folder):
     """Polls by the record alone and with the Maildir; answers whether all marks were reached."""
-    reached = []
-    for is_held in (False, True):
-        times = []
-        for count in POLLS:
-            server = Letters(count)
-            known_to_mpop(memory_folder, server)
-            shutil.copy(memory_folder / "uidls", folder / "uidls")
-            make_maildir(folder / "mpop") if not (folder / "mpop").is_dir() else None
+    reached, times = [], {False: [], True: []}
+    for count in POLLS:
+        server = Letters(count)
+        known_to_mpop(memory_folder, server)
+        shutil.copy(memory_folder / "uidls", folder / "uidls")
+        make_maildir(folder / "mpop") if not (folder / "mpop").is_dir() else None
+        for is_held in times:
             words = ours.account_knowing(folder, server, count, is_held)
             costs = in_turns(lambda words=words: words, lambda server=server: mpop_at(folder, server.port))
             ratio, memory = print_costs(f"{count:,}{', held' if is_held else ''}", *costs)
-            times.append(least(costs[0]))
+            times[is_held].append(least(costs[0]))
             reached.append(ratio <= 1 and memory <= MOST_MEMORY)
-        growth = times[1] / times[0] / (POLLS[1] / POLLS[0])
-        print(f"growth of a message's time from {POLLS[0]:,} to {POLLS[1]:,}: {growth:.2f}", flush=True)
+    for is_held, (few, many) in times.items():
+        growth = many / few / (POLLS[1] / POLLS[0])
+        name = "held" if is_held else "by the record alone"
+        print(f"growth of a message's time from {POLLS[0]:,} to {POLLS[1]:,}, {name}: {growth:.2f}", flush=True)
         reached.append(growth <= MOST_GROWTH)
     return all(reached)
+
+
+def measure_records(folder):
+    """What both remember of a message with an id of 16 octets; answers whether the mark was reached."""
+    server = Letters(REMEMBERED, uid_of=lambda number: b"%08x5f3b8c21" % number)
+    words = ours.account_at(folder, server.port)
+    for _ in range(2):
+        measure.cost_of(words)
+    known_to_mpop(folder, server)
+    record, = (folder / "account").glob("seen-*")
+    octets, theirs = (path.stat().st_size / REMEMBERED for path in (record, folder / "uidls"))
+    measure.print_row(f"{REMEMBERED:,}", f"{octets:.1f}", f"{theirs:.1f}", f"{octets / theirs:.2f}")
+    return octets <= MOST_REMEMBERED
 
 
 def fresh_mpop(folder, port):
@@ -117,7 +140,8 @@ def measure_fetches(folder):
     for count in FETCHES:
         ours.make_served(folder, count, OCTETS)
         with ours.Service(folder) as service:
-            costs = in_turns(lambda port=service.port: ours.account_at(folder, port), lambda port=service.port: fresh_mpop(folder, port))
+            costs = in_turns(lambda port=service.port: ours.account_at(folder, port), lambda port=service.port: fresh_mpop(folder, port),
+                             TURNS if count < MANY else TURNS_OF_MANY)
         if ours.fetched(folder / "account" / "Maildir") != ours.fetched(folder / "mpop") and count != ours.fetched(folder / "mpop")[0]:
             sys.exit(f"{count}: not all was fetched")
         ratio, _ = print_costs(f"{count:,}", *costs)
@@ -129,11 +153,13 @@ def main():
     if shutil.which("mpop") is None:
         sys.exit("mpop is not installed")
     memory = Path(sys.argv[1] if len(sys.argv) > 1 else "/dev/shm")
-    print(f"getmail beside mpop, best of {TURNS}; load {os.getloadavg()[0]:.1f}")
+    print(f"getmail beside mpop, best of {TURNS}, {TURNS_OF_MANY} for {MANY:,} fetched; load {os.getloadavg()[0]:.1f}")
     with tempfile.TemporaryDirectory(prefix="mpop-", dir=".") as name, tempfile.TemporaryDirectory(prefix="mpop-", dir=memory) as fast:
         head = ("processor time", "mpop's", "ratio", "peak of memory", "mpop's", "ratio")
         measure.print_head("poll", *head)
         print(f"polls: {measure.verdict(measure_polls(Path(name).resolve(), Path(fast).resolve()))}")
+        measure.print_head("record", "octets a message", "mpop's", "ratio")
+        print(f"record: {measure.verdict(measure_records(Path(fast).resolve()))}")
         measure.print_head("fetch on tmpfs", *head)
         print(f"fetches: {measure.verdict(measure_fetches(Path(fast).resolve()))}")
 
