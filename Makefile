@@ -6,7 +6,7 @@
 #   make check      the gate: every proof, then every test; its last line is 'N passed, 0 failed'
 #   make rehearse   runs getmail on the recorded conversation in examples/ before any proof, within a minute; then
 #                   proves and builds it as above, and runs it again
-#   make test       builds the programs, then runs the tests from outside alone
+#   make test       builds the programs and the tests of the libraries, and runs these and the tests from outside
 #   make install    puts programs, man pages, completions, units and examples below PREFIX (/usr/local), and builds only
 #                   what bin/ lacks; `make uninstall` takes them away
 #   make dist       an archive and a Debian package of what bin/ has, for machines without the toolchain
@@ -45,6 +45,7 @@ store_bench record_bench:
 	cd crates/$@ && rt run > /dev/null
 
 test: all store_bench record_bench
+	cd crates/tests && rt test > /dev/null
 	python3 tests/test_sample.py
 	python3 tests/test_documents.py
 	python3 tests/run.py

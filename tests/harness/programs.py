@@ -1,6 +1,7 @@
 """Where the built programs stand, and one run of one of them.
 
-A program is looked for where `rt` leaves it, `crates/NAME/out/NAME`, unless `place` named another file for it.
+A program is looked for where `rt` leaves it, `crates/NAME/out/NAME`, unless `place` named another file for it. The built
+tests of the libraries are a program too.
 """
 
 import os
@@ -10,7 +11,7 @@ from dataclasses import dataclass
 from pathlib import Path
 
 ROOT = Path(__file__).resolve().parents[2]
-NAMES = ("getmail", "popd", "store_bench", "record_bench")
+NAMES = ("getmail", "popd", "store_bench", "record_bench", "libraries")
 
 # Bounds on time, far above what is needed whatever else the machine does: on one run of a program or one connection,
 # and on the wait for the next output of a program that has all it needs for it.
@@ -36,7 +37,8 @@ def place(name, path):
 
 def path_of(name):
     """The file of the built program `name`."""
-    return _placed.get(name, ROOT / "crates" / name / "out" / name)
+    crate, built = ("tests", "tests_tests") if name == "libraries" else (name, name)
+    return _placed.get(name, ROOT / "crates" / crate / "out" / built)
 
 
 def needs(*names):

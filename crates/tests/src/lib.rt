@@ -15,6 +15,8 @@ mod mail_store_tests;
 #[cfg(test)]
 mod mail_terms_tests;
 #[cfg(test)]
+mod no_memory_tests;
+#[cfg(test)]
 mod pop3_client_tests;
 #[cfg(test)]
 mod pop3_server_tests;

@@ -2,4 +2,4 @@
 
 mod cuts;
 pub mod ends;
-mod mbox;
+pub mod mbox;

@@ -19,9 +19,9 @@ const ENTRIES: &[u8] = b"From MAILER-DAEMON Thu Jan  1 00:00:00 1970\none\n\n\
 
 /// What is kept between sessions.
 #[derive(Drop)]
-struct Files {
-    mbox: MemoryFile,
-    record: MemoryFile,
+pub struct Files {
+    pub mbox: MemoryFile,
+    pub record: MemoryFile,
 }
 
 /// An empty mailbox file, and no file of a record.
@@ -32,8 +32,20 @@ fn no_mail(alloc: Global) -> Files {
     }
 }
 
+/// An account with these files, which refuse calls as these fuses say.
+pub fn mbox_account(alloc: Global, files: Files, fuses: (Fuse, Fuse)) -> Result<Fred, Fail> {
+    let (mbox, record) = fuses;
+    Ok(Account::new(
+        alloc,
+        settings(alloc, "")?,
+        Store::Mboxrd(Fused::new(files.mbox, mbox.passes, mbox.takes_effect)),
+        Fused::new(files.record, record.passes, record.takes_effect),
+        BuildHasherDefault::<FoldHasher>::new(),
+    ))
+}
+
 /// What the sessions of an account leave.
-fn files_of(alloc: Global, account: Fred) -> Files {
+pub fn files_of(alloc: Global, account: Fred) -> Files {
     let (_settings, store, record) = account.into_parts();
     let mbox = match store {
         Store::Mboxrd(file) => file.into_inner(),
@@ -47,24 +59,17 @@ fn files_of(alloc: Global, account: Fred) -> Files {
 
 /// Runs a session over a server with these messages, in which the files refuse calls as these fuses say, and
 /// returns what it leaves and how it ended.
-fn fetch(
+pub fn fetch(
     rt: &(impl Abort + AllocGlobal),
     files: Files,
     fuses: (Fuse, Fuse),
     messages: &[(&str, &str)],
 ) -> Result<(Files, String), Fail> {
     let alloc = rt.alloc();
-    let (mbox, record) = fuses;
     let user = Vec::from_slice(alloc, b"fred")?;
     let pass = Vec::from_slice(alloc, b"secret")?;
     let server = Server::new(alloc, maildrop_of(rt, messages)?, user, pass);
-    let mut account: Fred = Account::new(
-        alloc,
-        settings(alloc, "")?,
-        Store::Mboxrd(Fused::new(files.mbox, mbox.passes, mbox.takes_effect)),
-        Fused::new(files.record, record.passes, record.takes_effect),
-        BuildHasherDefault::<FoldHasher>::new(),
-    );
+    let mut account = mbox_account(alloc, files, fuses)?;
     let (report, _wire) = fetch_local(alloc, &mut account, server, 0);
     let files = files_of(alloc, account);
     Ok((files, counts(alloc, &report)?))

@@ -1,0 +1,54 @@
+//! The lines of a trace.
+
+use crate::no_memory_tests::watched::{begin, end, tell, tell_answer, tell_bytes, tell_text};
+use pop3_wire::{ScriptWire, Wire};
+use std::test::Fail;
+use trace::{Side, TracedWire, line_text, refusal_text};
+
+fn tell_line(rt: &HostRuntime) {
+    begin(rt);
+    let answer = line_text(rt.alloc(), "C: ", b"RETR 1\x1B");
+    end(rt);
+    tell_answer(rt, answer);
+}
+
+#[test]
+fn line_text_row(rt: HostRuntime) {
+    tell_line(&rt);
+    tell_line(&rt);
+}
+
+fn tell_refusal(rt: &HostRuntime) {
+    begin(rt);
+    let answer = refusal_text(rt.alloc(), "open", "mail/new", "Permission denied");
+    end(rt);
+    tell_text(rt, answer);
+}
+
+#[test]
+fn refusal_text_row(rt: HostRuntime) {
+    tell_refusal(&rt);
+    tell_refusal(&rt);
+}
+
+/// Sends a command over a traced link, and tells what the link inside sent. A line of the trace for which
+/// there is no memory is left out.
+fn send_traced(rt: &HostRuntime) -> Result<(), Fail> {
+    let alloc = rt.alloc();
+    let script = ScriptWire::new(alloc, Vec::from_slice(alloc, b"+OK\r\n")?, 4096);
+    let err: Vec<u8> = Vec::new(alloc);
+    let mut wire = TracedWire::new(alloc, script, Side::Client, Some(err), None);
+    begin(rt);
+    let answer = wire.send(b"NOOP\r\n");
+    end(rt);
+    tell(rt, if answer.is_ok() { "sent" } else { "refused" });
+    let script = wire.into_inner();
+    tell_bytes(rt, script.sent());
+    Ok(())
+}
+
+#[test]
+fn traced_wire_row(rt: HostRuntime) -> Result<(), Fail> {
+    send_traced(&rt)?;
+    send_traced(&rt)
+}

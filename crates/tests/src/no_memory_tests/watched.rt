@@ -1,0 +1,48 @@
+//! The lines that the test from outside goes by.
+
+use crate::fetch_session_tests::visit::shown;
+use std::alloc::AllocError;
+
+/// The call begins: from here its growths are counted, and one of them may be refused.
+pub fn begin(rt: &HostRuntime) {
+    let _ = rt.println("called");
+}
+
+/// The call has answered: from here no growth is refused.
+pub fn end(rt: &HostRuntime) {
+    let _ = rt.println("answered");
+}
+
+/// Tells what was answered, or what is left.
+pub fn tell(rt: &HostRuntime, line: &str) {
+    let _ = rt.println(line);
+}
+
+/// The call answered that memory is wanting.
+pub fn tell_no_memory(rt: &HostRuntime) {
+    tell(rt, "no memory");
+}
+
+/// Tells bytes in one line, with `|` for CR LF and `/` for LF.
+pub fn tell_bytes(rt: &HostRuntime, bytes: &[u8]) {
+    match shown(rt.alloc(), bytes) {
+        Ok(text) => tell(rt, text.as_str()),
+        Err(_) => tell(rt, "not told"),
+    }
+}
+
+/// Tells the bytes that a call answered.
+pub fn tell_answer(rt: &HostRuntime, answer: Result<Vec<u8>, AllocError>) {
+    match answer {
+        Ok(bytes) => tell_bytes(rt, &bytes),
+        Err(_) => tell_no_memory(rt),
+    }
+}
+
+/// Tells the text that a call answered.
+pub fn tell_text(rt: &HostRuntime, answer: Result<String, AllocError>) {
+    match answer {
+        Ok(text) => tell_bytes(rt, text.as_bytes()),
+        Err(_) => tell_no_memory(rt),
+    }
+}

@@ -1,0 +1,1 @@
+"""Tests of the built tests of the libraries."""
