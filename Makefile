@@ -1,6 +1,6 @@
 # getmail and popd: to build them, to try them out, to check them.
 #
-#   make            proves and builds the programs into bin/: about twenty minutes on four cores the first time, seconds
+#   make            proves and builds the programs into bin/: half an hour to an hour on four cores the first time, seconds
 #                   if nothing has changed
 #   make demo       builds them if need be, serves a message with popd and fetches it with getmail, and shows each step
 #   make check      the gate: every proof, then every test; its last line is 'N passed, 0 failed'

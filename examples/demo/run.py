@@ -73,7 +73,7 @@ def lines_of(process):
 
 def build():
     """Runs `make`, says every ten seconds how far it is, and shows its last lines if it fails."""
-    say("The programs are proved first and then built. That takes a while, once: about twenty minutes on four cores.")
+    say("The programs are proved first and then built. That takes a while, once: half an hour to an hour on four cores.")
     process = subprocess.Popen(["make", "--no-print-directory", "all"], cwd=TOP, text=True, errors="replace",
                                stdin=subprocess.DEVNULL, stdout=subprocess.PIPE, stderr=subprocess.STDOUT)
     lines, progress, last, due = lines_of(process), Progress(), [], time.monotonic() + SECONDS_BETWEEN_LINES

@@ -14,7 +14,7 @@ WRITE_FAILED = "write failed"
 
 
 class NotAllowed(AssertionError):
-    """A run told something else than its row's answer, want of memory, or a device's refusal."""
+    """A run told something else than its row's answer, that memory ran out, or a device's refusal."""
 
 
 @dataclass(frozen=True)
@@ -70,7 +70,7 @@ TEXTS = ("a=one/", "b=two/", "c=three/")
 SEPARATOR = "From MAILER-DAEMON Thu Jan  1 00:00:00 1970/"
 ENTRIES = "".join(f"{SEPARATOR}{text[2:]}/" for text in TEXTS)
 
-# How a session may end since memory was wanting: for a growth of its own, of the record's file, of the link.
+# How a session may end since memory ran out: for a growth of its own, of the record's file, of the link.
 WANTING = ("Cut(NoMemory)", "Cut(SeenRefused)", "Cut(WriteFailed)")
 STORE_REFUSED = "Cut(StoreRefused(Refused))"
 
@@ -133,7 +133,7 @@ class Sessions:
         if outcomes == [NO_MEMORY]:
             # no session was begun
             if after != "- - none":
-                raise NotAllowed(f"after want of memory for the reports: {after}")
+                raise NotAllowed(f"after memory ran out for the reports: {after}")
             return NO_MEMORY
         may_be = set(words) <= {"Ended", STORE_REFUSED, *WANTING} and after.startswith(("a=one/ - - ", "- - "))
         if len(words) != 2 or not may_be:

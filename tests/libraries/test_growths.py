@@ -1,4 +1,4 @@
-"""Want of memory in the libraries: each call that may answer it, with each of its growths refused in turn.
+"""Memory that runs out in the libraries: each call that may answer so, with each of its growths refused in turn.
 
 The tests of `no_memory_tests` in `crates/tests` mark where their call begins and ends, and tell what it answered and what is
 left; `tests/refuse_in_call.c` refuses one growth in between; `rows.py` says what may be told.

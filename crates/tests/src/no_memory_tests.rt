@@ -1,8 +1,8 @@
-//! Calls of the libraries that can answer that memory is wanting, each on its row or vector. The test from
+//! Calls of the libraries that can answer that memory ran out, each on its row or vector. The test from
 //! outside runs each test here with the first, the second and each further growth of its call refused.
 //!
 //! A test makes its call and then once more, or another whole session, and prints what was answered and
-//! what was left. Whether that is right is judged from outside (`tests/libraries/growths.py`), so there is
+//! what was left. Whether that is right is judged from outside (`tests/libraries/rows.py`), so there is
 //! no assertion here. A call is in a function of its own, with no contract: its own contract is then used
 //! nowhere else.
 

@@ -1,4 +1,4 @@
-//! Whole sessions. After one that was cut since memory was wanting, a whole one leaves each message once.
+//! Whole sessions. After one that was cut since memory ran out, a whole one leaves each message once.
 
 use crate::fetch_session_tests::visit::{
     A_LISTED, Fred, Kept, LISTED, ONE, SOUND, THREE, TWO, Visit, account, counts, held, kept_by,

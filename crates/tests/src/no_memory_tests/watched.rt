@@ -18,7 +18,7 @@ pub fn tell(rt: &HostRuntime, line: &str) {
     let _ = rt.println(line);
 }
 
-/// The call answered that memory is wanting.
+/// The call answered that memory ran out.
 pub fn tell_no_memory(rt: &HostRuntime) {
     tell(rt, "no memory");
 }
