@@ -38,7 +38,8 @@ fn deliver_row(rt: HostRuntime) -> Result<(), Fail> {
     tell_file(&rt, "mail/new/one,S=2");
     deliver_one(&rt)?;
     make_maildir(&rt, "mail", &[])?;
-    deliver_one(&rt)
+    deliver_one(&rt)?;
+    Ok(fs::remove_dir_all(&rt, "mail")?)
 }
 
 fn ask_held(rt: &HostRuntime, listing: &Listing) -> Result<(), Fail> {
@@ -59,7 +60,8 @@ fn held_row(rt: HostRuntime) -> Result<(), Fail> {
     let path = format!(in alloc; "cur/{stem}:2,S")?;
     make_maildir(&rt, "mail", &[(path.as_str(), "x\n")])?;
     ask_held(&rt, &listing)?;
-    ask_held(&rt, &listing)
+    ask_held(&rt, &listing)?;
+    Ok(fs::remove_dir_all(&rt, "mail")?)
 }
 
 fn append_one(rt: &HostRuntime) -> Result<(), Fail> {
@@ -81,7 +83,8 @@ fn append_entry_row(rt: HostRuntime) -> Result<(), Fail> {
     tell_file(&rt, "mbox");
     append_one(&rt)?;
     fs::write(&rt, "mbox", b"")?;
-    append_one(&rt)
+    append_one(&rt)?;
+    Ok(fs::remove_file(&rt, "mbox")?)
 }
 
 fn replace(rt: &HostRuntime) -> Result<(), Fail> {
@@ -99,7 +102,8 @@ fn replace_row(rt: HostRuntime) -> Result<(), Fail> {
     fs::write(&rt, "record", b"old\n")?;
     tell_file(&rt, "record");
     replace(&rt)?;
-    replace(&rt)
+    replace(&rt)?;
+    Ok(fs::remove_file(&rt, "record")?)
 }
 
 fn load(rt: &HostRuntime) -> Result<(), Fail> {
@@ -118,7 +122,8 @@ fn load(rt: &HostRuntime) -> Result<(), Fail> {
 fn load_row(rt: HostRuntime) -> Result<(), Fail> {
     fs::write(&rt, "record", b"old\n")?;
     load(&rt)?;
-    load(&rt)
+    load(&rt)?;
+    Ok(fs::remove_file(&rt, "record")?)
 }
 
 fn list(rt: &HostRuntime) {
@@ -141,5 +146,5 @@ fn list_names_row(rt: HostRuntime) -> Result<(), Fail> {
     make_maildir(&rt, "mail", &[("new/a", "x\n")])?;
     list(&rt);
     list(&rt);
-    Ok(())
+    Ok(fs::remove_dir_all(&rt, "mail")?)
 }

@@ -8,6 +8,7 @@ use pop3_server::{
 };
 use pop3_wire::{ScriptWire, Wire, is_legal_id};
 use std::alloc::Global;
+use std::fs;
 use std::test::Fail;
 
 const INPUT: &[u8] =
@@ -140,7 +141,7 @@ fn folder_entries_row(rt: HostRuntime) -> Result<(), Fail> {
     let mut maildrop = MaildirDrop::at(&rt, String::from_str(rt.alloc(), "mail")?);
     list_folder(&rt, &mut maildrop);
     list_folder(&rt, &mut maildrop);
-    Ok(())
+    Ok(fs::remove_dir_all(&rt, "mail")?)
 }
 
 fn read_folder(rt: &HostRuntime, maildrop: &mut MaildirDrop<'_, HostRuntime>) {
@@ -157,7 +158,7 @@ fn folder_text_row(rt: HostRuntime) -> Result<(), Fail> {
     maildrop.entries()?;
     read_folder(&rt, &mut maildrop);
     read_folder(&rt, &mut maildrop);
-    Ok(())
+    Ok(fs::remove_dir_all(&rt, "mail")?)
 }
 
 /// Tells a server's fault.
