@@ -1,5 +1,5 @@
 -- What a record's growth appends to its file.
-use Rattle.std.proofs.Common.{◌≡◌, ◌≢◌, ◌⊎◌, ℕ, zero, suc, ◌+◌, ◌<◌, ◌≤◌, List, [], ◌∷◌, ◌++◌, take, get_or, Some, None, Bool, true, false, ◌&&◌, ◌||◌, not, cond, length, map, refl, sym, ◌∙◌, ap, subst, append_assoc, length-append, inl, inr, arith}
+use Rattle.std.proofs.Common.{◌≡◌, ◌≢◌, ◌⊎◌, ℕ, zero, suc, ◌+◌, ◌<◌, ◌≤◌, List, [], ◌∷◌, ◌++◌, take, get_or, None, Bool, true, false, ◌&&◌, ◌||◌, not, cond, length, map, refl, sym, ◌∙◌, ap, subst, append_assoc, length-append, inl, inr, arith}
 use Rattle.std.specs.Prelude.{◌==◌, bytes_eq, flat_map}
 use Rattle.std.specs.List.{AllByRecursion, list_any}
 use Rattle.std.proofs.lemmas.Bool.{or_left, or_right, eq-eqb}
@@ -12,13 +12,11 @@ use Rattle.fetch_rules.specs.Record.{Row, IsRow, IsRecord, is_of, has_row, marke
 use Rattle.fetch_rules.specs.RecordFile.{Two, changed, written, line_of}
 use Rattle.fetch_rules.specs.RecordMeaning.{delivers, may_take, taken}
 use Rattle.fetch_rules.specs.RecordGrowth.{taken_all, MayFollow, Updates}
-use Rattle.fetch_rules.specs.Rows.{state_in}
-use Rattle.fetch_rules.specs.declared.seen.row_map.State.{State}
 use Rattle.fetch_rules.proofs.IdLemmas.{test_from_same}
 use Rattle.fetch_rules.proofs.RecordLemmas.{with_delivered-true, rest_of}
 use Rattle.fetch_rules.proofs.BaseLemmas.{fresh}
 use Rattle.fetch_rules.proofs.CountLemmas.{merge_is_short}
-use Rattle.fetch_rules.proofs.RowLemmas.{unmarked, apart, changed-marked}
+use Rattle.fetch_rules.proofs.RowLemmas.{unmarked, apart}
 
 -- a record's first rows are those of an older one, where some were delivered since
 abbrev pub GrewFrom : List Row → List Row → Type 0
@@ -201,21 +199,10 @@ lines_more before rows i row inside at =
     ∙ sym (flat_map-append line_of (take i rows) (row ∷ []))
     ∙ ap (flat_map line_of) (ap (λ (r : Row). take i rows ++ r ∷ []) (sym at) ∙ sym (take_more rows i row inside)))
 
--- a mark of a row that wasn't delivered
-pub mark_updates : (uid : List ℕ) (rows new : List Row) (state : State) → IsRecord new → new ≡ marked rows uid → IsRecord rows → state_in rows uid ≡ Some state → state.delivered ≡ false
-    → Updates rows None (written (changed rows new)) new None
-mark_updates uid rows new state is new_is was found fresh =
-    updates rows new is (subst (GrewFrom rows) (append-nil (marked rows uid) ∙ sym new_is) (GrewFrom-more (is_of uid) rows []))
-    (omega (arith, ap length (ap (changed rows) new_is ∙ changed-marked uid rows state was found fresh)))
-
 -- a loop over the rows: the lines of those that changed among the first i, and how many they are
 abbrev pub HasWritten : ℕ → (Row → Bool) → List Row → ℕ → ℕ → List ℕ → Type 0
 HasWritten count f rows i changes lines =
     (changes ≡ length (changed (take count (take i rows)) (delivered_by f (take i rows)))) × (lines ≡ flat_map line_of (changed (take count (take i rows)) (delivered_by f (take i rows))))
-
-pub HasWritten-none : (count : ℕ) (f : Row → Bool) (rows : List Row) → HasWritten count f rows 0 0 []
-HasWritten-none zero f rows = (refl, refl)
-HasWritten-none (suc count) f rows = (refl, refl)
 
 next_rows : (rows : List Row) (i : ℕ) (row : Row) → i < length rows → get_or rows i row ≡ row → take (i + 1) rows ≡ take i rows ++ row ∷ []
 next_rows rows i row inside at = take_more rows i row inside ∙ ap (λ (r : Row). take i rows ++ r ∷ []) at

@@ -95,9 +95,6 @@ open_has_row bytes v rows intent torn (inr (inr by)) =
     ends_held by.version v (length by.lines) (judged by.version 0 (Stands (InBase [])) by.lines) by.rest rows intent torn by.ends
     (lines_held by.version 0 (Stands (InBase [])) by.lines (recursion_from_All IsLine by.lines by.cut.each) tt)
 
-pub none_has_row : (rows : List Row) (intent : Option Intent) → intent ≡ None → IntentHasRow rows intent
-none_has_row rows intent e = subst (IntentHasRow rows) (sym e) tt
-
 pub legal_of : (rows : List Row) (uid : List ℕ) → AllByRecursion IsRow rows → has_row rows uid ≡ true → IsLegalId uid
 legal_of [] uid each has = absurd (true≢false (sym has))
 legal_of (row ∷ rows) uid each has = elim (or_cases (is_of uid row) (has_row rows uid) has) [

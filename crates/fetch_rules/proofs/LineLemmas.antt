@@ -204,9 +204,6 @@ uncut s a y xs none e = go a (subst (HasNo s) e none)
 pub no_line : (rest : List ℕ) → HasNo 10 rest → (line : Line) (behind : List ℕ) → IsLine line → rest ≡ text_of line ++ behind → ⊥
 no_line rest none line behind is e = let b = body_of line is in uncut 10 b.body behind rest none (e ∙ b.text_is behind)
 
-pub not_empty : (line : Line) (behind : List ℕ) → IsLine line → [] ≡ text_of line ++ behind → ⊥
-not_empty line behind is e = no_line [] tt line behind is e
-
 -- the fields of a row's line
 pub uid_of_line : (bytes uid rest : List ℕ) (row : Row) (behind : List ℕ) → bytes ≡ uid ++ 32 ∷ rest → All (λ byte. byte ≢ 32) uid → IsRow row → bytes ≡ line_of row ++ behind
     → (uid ≡ row.uid) × (rest ≡ decimal row.first_seen ++ 32 ∷ (state_of row.delivered ++ behind))
@@ -244,15 +241,6 @@ pub group_whole_line : (bytes line number rest : List ℕ) (count : ℕ) → byt
 group_whole_line bytes line number rest count bytes_are cut is =
     bytes_are ∙ ap (λ (xs : List ℕ). 43 ∷ 32 ∷ xs) (cut ∙ ap (λ (xs : List ℕ). xs ++ 10 ∷ rest) is) ∙ sym (group_split count rest)
 
--- no kind
-pub neither_line : (bytes : List ℕ) → ((row : Row) (behind : List ℕ) → IsRow row → bytes ≡ line_of row ++ behind → ⊥)
-    → ((count : ℕ) (behind : List ℕ) → 1 ≤ count → count ≤ 100000 → bytes ≡ group_line count ++ behind → ⊥)
-    → ((intent : Intent) (behind : List ℕ) → IsIntent intent → bytes ≡ intent_line intent ++ behind → ⊥)
-    → (line : Line) (behind : List ℕ) → IsLine line → bytes ≡ text_of line ++ behind → ⊥
-neither_line bytes rows groups intents (RowLine row) behind is e = rows row behind is e
-neither_line bytes rows groups intents (GroupLine count) behind is e = groups count behind is.0 is.1 e
-neither_line bytes rows groups intents (IntentLine intent) behind is e = intents intent behind is e
-
 -- what was stripped
 pub signed : (bytes : List ℕ) (line : Bor (List ℕ)) → MatchOption (Some line) (pointwise nat_eq (take 2 bytes) (43 ∷ 32 ∷ []) ≡ false) (λ x. (pointwise nat_eq (take 2 bytes) (43 ∷ 32 ∷ []) ≡ true) × (x.now ≡ drop 2 bytes) × (length x.now + 2 ≡ length bytes)) → bytes ≡ 43 ∷ 32 ∷ line.now
 signed bytes line cases = strip_prefix_is Decides-eqb bytes (43 ∷ 32 ∷ []) (Some line) cases
@@ -277,12 +265,3 @@ field_number s line number rest n tail small fits cut none e = cut_unique s numb
 
 pub no_field : (s : ℕ) (line expected tail : List ℕ) → All (λ byte. byte ≢ s) line → line ≡ expected ++ s ∷ tail → ⊥
 no_field s line expected tail none e = uncut s expected tail line (recursion_from_All _ line none) e
-
-pub intent_whole_line : (bytes line uid rest first rest' second rest'' : List ℕ) (intent : Intent) → bytes ≡ 33 ∷ 32 ∷ line → line ≡ uid ++ 32 ∷ rest → rest ≡ first ++ 32 ∷ rest' → rest' ≡ second ++ 10 ∷ rest''
-    → uid ≡ intent.uid → first ≡ decimal intent.start → second ≡ decimal intent.len → bytes ≡ intent_line intent ++ rest''
-intent_whole_line bytes line uid rest first rest' second rest'' intent b l r r' u f s =
-    b ∙ ap (λ (xs : List ℕ). 33 ∷ 32 ∷ xs) (l ∙ ap (λ (xs : List ℕ). uid ++ 32 ∷ xs) (r ∙ ap (λ (xs : List ℕ). first ++ 32 ∷ xs) r')
-    ∙ ap (λ (xs : List ℕ). xs ++ 32 ∷ (first ++ 32 ∷ (second ++ 10 ∷ rest''))) u
-    ∙ ap (λ (xs : List ℕ). intent.uid ++ 32 ∷ (xs ++ 32 ∷ (second ++ 10 ∷ rest''))) f
-    ∙ ap (λ (xs : List ℕ). intent.uid ++ 32 ∷ (decimal intent.start ++ 32 ∷ (xs ++ 10 ∷ rest''))) s)
-    ∙ sym (intent_split intent rest'')

@@ -1,8 +1,8 @@
 -- The ids of a listing that have no row yet.
-use Rattle.std.proofs.Common.{◌≡◌, ℕ, ◌<◌, ◌≤◌, ◌+◌, List, [], ◌∷◌, ◌++◌, Bool, true, false, not, ◌||◌, length, get_or, take, map, refl, sym, ◌∙◌, ap, subst, append_assoc, inl, inr}
+use Rattle.std.proofs.Common.{◌≡◌, ℕ, ◌<◌, ◌+◌, List, [], ◌∷◌, ◌++◌, Bool, true, false, not, ◌||◌, length, get_or, take, map, refl, sym, ◌∙◌, ap, append_assoc, inl, inr}
 use Rattle.std.specs.Prelude.{bytes_eq, filter}
-use Rattle.std.proofs.lemmas.Bool.{cases_Bool, or_left, or_from, or_parts, or_cases, not_from_true, not_from_false, false_from_ne_true}
-use Rattle.std.proofs.lemmas.List.{take_more, take_all, map-append, append-nil}
+use Rattle.std.proofs.lemmas.Bool.{cases_Bool, or_left, or_from, or_parts, or_cases, not_from_true, not_from_false}
+use Rattle.std.proofs.lemmas.List.{take_more, map-append, append-nil}
 use Rattle.std.proofs.lemmas.List.Elements.{filter-append}
 use Rattle.std.proofs.lemmas.List.Folds.{list_any-append}
 use Rattle.std.proofs.lemmas.Bool.{true≢false}
@@ -128,37 +128,12 @@ abbrev pub AreApart : List (List ℕ) → Type 0
 AreApart [] = Unit {0}
 AreApart (id ∷ ids) = (has_id ids id ≡ false) × AreApart ids
 
--- what passed a filter passes its test
-pub passes_filter : (p : List ℕ → Bool) (ids : List (List ℕ)) (uid : List ℕ) → has_id (filter p ids) uid ≡ true → p uid ≡ true
-passes_filter p [] uid there = cc
-passes_filter p (id ∷ ids) uid there = elim (cases_Bool (p id)) [
-  | inl hit ↦ elim (or_cases (bytes_eq uid id) (has_id (filter p ids) uid) (sym (ap (λ (xs : List (List ℕ)). has_id xs uid) (filter_keeps p id ids hit)) ∙ there)) [
-    | inl same ↦ ap p (same_from_test uid id same) ∙ hit
-    | inr further ↦ passes_filter p ids uid further
-  ]
-  | inr miss ↦ passes_filter p ids uid (sym (ap (λ (xs : List (List ℕ)). has_id xs uid) (filter_leaves p id ids miss)) ∙ there)
-]
-
 pub has_id-filter_false : (p : List ℕ → Bool) (ids : List (List ℕ)) (uid : List ℕ) → has_id ids uid ≡ false → has_id (filter p ids) uid ≡ false
 has_id-filter_false p [] uid none = refl
 has_id-filter_false p (id ∷ ids) uid none = elim (cases_Bool (p id)) [
   | inl hit ↦ ap (λ (xs : List (List ℕ)). has_id xs uid) (filter_keeps p id ids hit) ∙ or_from _ _ (or_parts _ _ none).0 (has_id-filter_false p ids uid (or_parts _ _ none).1)
   | inr miss ↦ ap (λ (xs : List (List ℕ)). has_id xs uid) (filter_leaves p id ids miss) ∙ has_id-filter_false p ids uid (or_parts _ _ none).1
 ]
-
-pub AreApart-filter : (p : List ℕ → Bool) (ids : List (List ℕ)) → AreApart ids → AreApart (filter p ids)
-AreApart-filter p [] are = tt
-AreApart-filter p (id ∷ ids) are = elim (cases_Bool (p id)) [
-  | inl hit ↦ subst AreApart (sym (filter_keeps p id ids hit)) (has_id-filter_false p ids id are.0, AreApart-filter p ids are.1)
-  | inr miss ↦ subst AreApart (sym (filter_leaves p id ids miss)) (AreApart-filter p ids are.1)
-]
-
-pub AreApart-distinct_ids : (ids : List (List ℕ)) → AreApart (distinct_ids ids)
-AreApart-distinct_ids [] = tt
-AreApart-distinct_ids (id ∷ ids) = (
-  false_from_ne_true _ (λ there. true≢false (sym (passes_filter (λ o. not (bytes_eq id o)) (distinct_ids ids) id there) ∙ not_from_true _ (test_from_same id id refl))),
-  AreApart-filter _ _ (AreApart-distinct_ids ids),
-)
 
 -- a loop that adds rows: the items before the i-th have rows
 abbrev pub HasAdded : List Row → List Item → ℕ → ℕ → List Row → Type 0
@@ -191,6 +166,3 @@ HasAdded-more rows listing now i new longer uid were at inside none longer_is =
 
     parts : (has_row rows uid ≡ false) × (has_row added uid ≡ false)
     parts = or_parts (has_row rows uid) (has_row added uid) (sym (list_any-append (is_of uid) rows added) ∙ ap (λ (xs : List Row). has_row xs uid) (sym were) ∙ none)
-
-pub HasAdded-all : (rows : List Row) (listing : List Item) (now i : ℕ) (new : List Row) → HasAdded rows listing now i new → length listing ≤ i → new ≡ rows ++ map (undelivered now) (new_ids rows listing)
-HasAdded-all rows listing now i new were past = were ∙ ap (λ (items : List Item). rows ++ map (undelivered now) (new_ids rows items)) (take_all i listing past)

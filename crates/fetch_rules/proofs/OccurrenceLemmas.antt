@@ -88,11 +88,6 @@ HasLasts-more listing i ids ids' flags uid new was inside uid_is new_is grown ke
     last_is : new ≡ is_last listing (i + 1, get_or listing i nobody)
     last_is = new_is ∙ ap not (was.same uid) ∙ ap (λ (u : List ℕ). not (has_item (drop (i + 1) listing) u)) uid_is
 
-pub HasLasts-all : (listing : List Item) (i : ℕ) (ids : List (List ℕ)) (flags : List Bool) → HasLasts listing i ids flags → i ≡ 0
-    → flags ≡ map (is_last listing) (numbered listing)
-HasLasts-all listing i ids flags was all =
-    ap (λ (k : ℕ). drop k flags) (sym all) ∙ was.flags_are ∙ ap (λ (k : ℕ). map (is_last listing) (drop k (numbered listing))) all
-
 -- as many flags as messages
 pub flags_count : (test : ℕ × Item → Bool) (listing : List Item) (flags : List Bool) → flags ≡ map test (numbered listing) → length flags ≡ length listing
 flags_count test listing flags are = ap (λ (bs : List Bool). length bs) are ∙ length-map (numbered listing) test ∙ length-enumerate_from 1 listing

@@ -1,14 +1,13 @@
 -- The rows that a file's lines begin with, and what follows them.
-use Rattle.std.proofs.Common.{◌≡◌, ◌≢◌, ℕ, zero, suc, ◌-◌, ◌≤◌, List, [], ◌∷◌, ◌++◌, All, length, refl, sym, ◌∙◌, ap, subst, append_assoc, arith, length-append}
+use Rattle.std.proofs.Common.{◌≡◌, ◌≢◌, ℕ, zero, suc, ◌-◌, List, [], ◌∷◌, ◌++◌, All, refl, sym, ◌∙◌, ap, subst, append_assoc}
 use Rattle.std.specs.Prelude.{flat_map}
 use Rattle.std.proofs.lemmas.List.{append-nil}
 use Rattle.std.proofs.lemmas.List.Concat.{flat_map-append}
 use Rattle.std.proofs.lemmas.List.Elements.{All-nil, All-push}
 use Rattle.fetch_rules.specs.Record.{Row, IsRow, Intent}
 use Rattle.fetch_rules.specs.RecordFile.{Line, RowLine, GroupLine, IntentLine, IsLine, text_of, line_of}
-use Rattle.fetch_rules.specs.RecordMeaning.{BeginsWithNoLine}
 use Rattle.fetch_rules.specs.Lines.{after_row, behind_base}
-use Rattle.fetch_rules.specs.Outgrown.{BeginsWithNoRow, RowsThen}
+use Rattle.fetch_rules.specs.Outgrown.{BeginsWithNoRow}
 use Rattle.fetch_rules.specs.declared.seen.reading.Part.{Part}
 use Rattle.fetch_rules.specs.declared.seen.reading.Part.TheVariants.{Base, Between, Within}
 use Rattle.fetch_rules.proofs.LineLemmas.{text_unique}
@@ -70,14 +69,3 @@ apart-group part lines rest appended count behind were is line = record { begins
 pub apart-intent : (part : Part) (lines rest appended : List ℕ) (intent : Intent) (behind : List ℕ) → IsApart part lines rest appended → IsLine (IntentLine intent) → rest ≡ text_of (IntentLine intent) ++ behind
     → IsApart Between lines behind appended
 apart-intent part lines rest appended intent behind were is line = record { begins = were.begins; follows = no_row part rest appended (IntentLine intent) behind were.follows is line (row_no_intent intent) }
-
-pub apart-end : (part : Part) (lines rest appended : List ℕ) → IsApart part lines rest appended → BeginsWithNoLine rest → (rows : List Row) × RowsThen lines rows appended
-apart-end part lines rest appended were none = (were.begins.rows, record { each = were.begins.each; whole = were.begins.whole; ends = by part were.follows })
-  where
-    by : (p : Part) → Follows p appended rest → BeginsWithNoRow appended
-    by Base at = λ row after is here. none (RowLine row) after is (sym at ∙ here)
-    by Between free = free
-    by (Within more) free = free
-
-pub apart-fits : (part : Part) (lines rest appended : List ℕ) → IsApart part lines rest appended → length appended ≤ length lines
-apart-fits part lines rest appended were = omega (arith, ap length were.begins.whole, length-append (flat_map line_of were.begins.rows) appended)

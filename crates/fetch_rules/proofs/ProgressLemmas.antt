@@ -6,7 +6,7 @@ use Rattle.std.proofs.lemmas.Bool.{true≢false}
 use Rattle.std.proofs.lemmas.List.{append-nil}
 use Rattle.fetch_rules.specs.Record.{Row, Intent, IsRow, IsIntent, IsRecord, has_row}
 use Rattle.fetch_rules.specs.RecordFile.{Version, header, Line, RowLine, GroupLine, IntentLine, text_of, IsLine}
-use Rattle.fetch_rules.specs.RecordMeaning.{Progress, InBase, BetweenGroups, InGroup, left_open, may_take, taken, Judged, Stands, Fails, after_line, line_after, counted, is_open, has_line_feed, has_bytes, Meaning, Rows, Fault, Means, BeginsWithNoLine, Ends}
+use Rattle.fetch_rules.specs.RecordMeaning.{Progress, InBase, BetweenGroups, InGroup, left_open, may_take, taken, Judged, Stands, Fails, after_line, line_after, counted, is_open, Rows, Fault, Means, Ends}
 use Rattle.fetch_rules.specs.Lines.{version_of, open_seen, progress_of, IsPlaced, open_behind, is_within, TakesRow, RefusesRow, TakesIntent, RefusesIntent, EndsAt}
 use Rattle.fetch_rules.specs.declared.seen.SeenFault.{SeenFault}
 use Rattle.fetch_rules.specs.declared.seen.line.Intent.{Intent as ReadIntent}
@@ -17,7 +17,7 @@ use Rattle.fetch_rules.specs.declared.seen.reading.End.{End}
 use Rattle.fetch_rules.specs.declared.seen.reading.End.TheVariants.{Counted, Open}
 use Rattle.fetch_rules.proofs.LineLemmas.{body_of, no_line}
 use Rattle.fetch_rules.proofs.CutLemmas.{one_meaning}
-use Rattle.fetch_rules.proofs.ReadLemmas.{IsBehind, behind_header, behind_more, behind_fails, behind_end}
+use Rattle.fetch_rules.proofs.ReadLemmas.{IsBehind, behind_header, behind_more, behind_fails}
 
 pub record Reads (bytes : List ℕ) (older : Bool) (part : Part) (intent : Option Intent) (rows : List Row) (rest : List ℕ) (number front : ℕ) : Type 0 where
   pub n : ℕ
@@ -186,10 +186,6 @@ Reads-intent bytes older part open' rows rest number front intent behind were is
   good = were.good;
 }
 
-pub Reads-within : (bytes : List ℕ) (older : Bool) (part : Part) (intent : Option Intent) (rows : List Row) (rest : List ℕ) (number front : ℕ) → Reads bytes older part intent rows rest number front → length rest ≤ length bytes
-Reads-within bytes older part intent rows rest number front were =
-    omega (arith, ap length were.behind.cut.whole, length-append (header (version_of older)) (flat_map text_of were.behind.lines ++ rest), length-append (flat_map text_of were.behind.lines) rest)
-
 pub Reads-fails : (bytes : List ℕ) (older : Bool) (part : Part) (intent : Option Intent) (rows : List Row) (rest : List ℕ) (number front : ℕ) (row : Row) (behind : List ℕ) (fault : SeenFault) → Reads bytes older part intent rows rest number front
     → IsRow row → rest ≡ text_of (RowLine row) ++ behind → RefusesRow older part rows row number fault → Means bytes (Fault fault)
 Reads-fails bytes older part intent rows rest number front row behind fault were is line refuses =
@@ -211,33 +207,6 @@ pub Reads-group_fails : (bytes : List ℕ) (older : Bool) (part : Part) (intent 
 Reads-group_fails bytes older part intent rows rest number front count behind were is line within =
     behind_fails (version_of older) bytes were.n (progress_of part intent were.before rows) rest (GroupLine count) behind (BadRow number) were.behind is line
     (refused (version_of older) part were.n intent were.before rows count within ∙ ap (λ (k : ℕ). Fails (BadRow k)) (sym were.number_is))
-
-abbrev EndMeans : Bool → ℕ → Progress → List ℕ → Bool → Meaning
-EndMeans older n progress rest feed = cond feed (Fault (BadRow (line_after n))) (Rows (version_of older) (counted progress) (left_open progress) (is_open progress || has_bytes rest))
-
-pub Reads-feed : (bytes : List ℕ) (older : Bool) (part : Part) (intent : Option Intent) (rows : List Row) (rest : List ℕ) (number front : ℕ) → Reads bytes older part intent rows rest number front → BeginsWithNoLine rest → has_line_feed rest ≡ true → Means bytes (Fault (BadRow number))
-Reads-feed bytes older part intent rows rest number front were none feed =
-    subst (Means bytes) (ap (EndMeans older were.n (progress_of part intent were.before rows) rest) feed ∙ ap (λ (k : ℕ). Fault (BadRow k)) (sym were.number_is))
-    (behind_end (version_of older) bytes were.n (progress_of part intent were.before rows) rest were.behind none)
-
-pub Reads-end : (bytes : List ℕ) (older : Bool) (part : Part) (intent : Option Intent) (rows : List Row) (rest : List ℕ) (number front : ℕ) (end : End) → Reads bytes older part intent rows rest number front → BeginsWithNoLine rest → has_line_feed rest ≡ false
-    → (is_within part ≡ true → end ≡ Open front) → (is_within part ≡ false → end ≡ Counted (has_bytes rest)) → EndsAt bytes older end intent rows
-Reads-end bytes older part intent rows rest number front end were none plain within between = by part refl were.placed within between
-  where
-    means : Means bytes (Rows (version_of older) (counted (progress_of part intent were.before rows)) (left_open (progress_of part intent were.before rows)) (is_open (progress_of part intent were.before rows) || has_bytes rest))
-    means = subst (Means bytes) (ap (EndMeans older were.n (progress_of part intent were.before rows) rest) plain)
-        (behind_end (version_of older) bytes were.n (progress_of part intent were.before rows) rest were.behind none)
-
-    by : (p : Part) → part ≡ p → IsPlaced part intent → (is_within part ≡ true → end ≡ Open front) → (is_within part ≡ false → end ≡ Counted (has_bytes rest)) → EndsAt bytes older end intent rows
-    by Base is placed w b = subst (λ (e : End). EndsAt bytes older e intent rows) (sym (b (ap is_within is)))
-        (subst (λ (i : Option Intent). Means bytes (Rows (version_of older) rows i (has_bytes rest))) (sym (subst (λ (q : Part). IsPlaced q intent) is placed))
-        (subst (λ (q : Part). Means bytes (Rows (version_of older) (counted (progress_of q intent were.before rows)) (left_open (progress_of q intent were.before rows)) (is_open (progress_of q intent were.before rows) || has_bytes rest))) is means))
-    by Between is placed w b = subst (λ (e : End). EndsAt bytes older e intent rows) (sym (b (ap is_within is)))
-        (subst (λ (q : Part). Means bytes (Rows (version_of older) (counted (progress_of q intent were.before rows)) (left_open (progress_of q intent were.before rows)) (is_open (progress_of q intent were.before rows) || has_bytes rest))) is means)
-    by (Within more) is placed w b =
-        let opened = were.opened (ap is_within is) in
-        subst (λ (e : End). EndsAt bytes older e intent rows) (sym (w (ap is_within is)))
-        (opened.0, (were.before, subst (λ (q : Part). Means bytes (Rows (version_of older) (counted (progress_of q intent were.before rows)) (left_open (progress_of q intent were.before rows)) (is_open (progress_of q intent were.before rows) || has_bytes rest))) is means, opened.1))
 
 -- a line has bytes
 pub shorter : (rest : List ℕ) (line : Line) (behind : List ℕ) → IsLine line → rest ≡ text_of line ++ behind → length behind < length rest

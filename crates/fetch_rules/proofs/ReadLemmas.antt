@@ -9,7 +9,7 @@ use Rattle.std.proofs.lemmas.List.Elements.{All-push, recursion_from_All, All-co
 use Rattle.mail_terms.specs.UniqueId.{IsLegalId}
 use Rattle.fetch_rules.specs.Record.{Row, IsRow, IsRecord, is_of, has_row, marked}
 use Rattle.fetch_rules.specs.RecordFile.{Version, header, Line, text_of, IsLine}
-use Rattle.fetch_rules.specs.RecordMeaning.{IsCut, Fault, Means, Progress, Judged, judged, after_line, Stands, Fails, InBase, at_end, Ends, BeginsWithNoLine}
+use Rattle.fetch_rules.specs.RecordMeaning.{IsCut, Fault, Means, Progress, Judged, judged, after_line, Stands, Fails, InBase, Ends}
 use Rattle.fetch_rules.specs.RecordGrowth.{taken_all, IsGroup}
 use Rattle.fetch_rules.specs.Rows.{state_of, state_in}
 use Rattle.fetch_rules.specs.declared.seen.row_map.State.{State}
@@ -58,15 +58,6 @@ behind_fails version bytes n progress rest line behind fault was is rest_is afte
   rest = behind;
   cut = more_lines version bytes was.lines rest line behind was.cut is rest_is;
   ends = subst (λ (j : Judged). Ends version (length (was.lines ++ line ∷ [])) j behind (Fault fault)) (sym (next_judged version n progress was.lines line was.count was.stands ∙ after)) refl;
-}))
-
-pub behind_end : (version : Version) (bytes : List ℕ) (n : ℕ) (progress : Progress) (rest : List ℕ) → IsBehind version bytes n progress rest → BeginsWithNoLine rest → Means bytes (at_end version n progress rest)
-behind_end version bytes n progress rest was none = inr (inr (record {
-  version = version;
-  lines = was.lines;
-  rest = rest;
-  cut = was.cut;
-  ends = subst (λ (j : Judged). Ends version (length was.lines) j rest (at_end version n progress rest)) (sym was.stands) (none, ap (λ (k : ℕ). at_end version k progress rest) (sym was.count));
 }))
 
 -- a row that is there and wasn't delivered

@@ -2,7 +2,7 @@
 use Rattle.std.proofs.Common.{◌≡◌, ◌≢◌, ◌⊎◌, inl, inr, ◌<◌, ℕ, zero, suc, List, length, filter, [], ◌∷◌, ◌++◌, take, Option, Some, None, Bool, true, false, ◌&&◌, ◌||◌, not, cond, get_or, refl, sym, ◌∙◌, ap, subst, arith}
 use Rattle.std.specs.Prelude.{find, option_map, bytes_eq, is_some, String, string_bytes}
 use Rattle.std.specs.List.{AllByRecursion, list_any}
-use Rattle.std.specs.Bool.{OnTrue, OnFalse}
+use Rattle.std.specs.Bool.{OnTrue}
 use Rattle.std.specs.Global.{Global}
 use Rattle.std.specs.Map.{lookup, set_value}
 use Rattle.std.proofs.Math.Bool.{or-false}
@@ -205,21 +205,6 @@ mark_changes uid rows new state is found new_is = by state.delivered refl
     by : (d : Bool) → state.delivered ≡ d → OnTrue (not d) (new ≢ rows)
     by true old = tt
     by false fresh = λ same. no_nil _ (sym (changed-marked uid rows state is found fresh) ∙ ap (changed rows) (sym new_is ∙ same) ∙ unchanged rows)
-
-pub mark_leaves : (uid : List ℕ) (rows new : List Row) (state : State) → IsRecord rows → state_in rows uid ≡ Some state → new ≡ marked rows uid → OnFalse (not state.delivered) (new ≡ rows)
-mark_leaves uid rows new state is found new_is = by state.delivered refl
-  where
-    by : (d : Bool) → state.delivered ≡ d → OnFalse (not d) (new ≡ rows)
-    by true old = new_is ∙ marked-delivered uid rows state is found old
-    by false fresh = tt
-
--- look-ups
-pub first_seen-state : (uid : List ℕ) (rows : List Row) → option_map (λ state. state.first_seen) (state_in rows uid) ≡ option_map (λ row. row.first_seen) (find (is_of uid) rows)
-first_seen-state uid rows = by (find (is_of uid) rows)
-  where
-    by : (found : Option Row) → option_map (λ state. state.first_seen) (option_map state_of found) ≡ option_map (λ row. row.first_seen) found
-    by None = refl
-    by (Some row) = refl
 
 not_delivered : (uid : List ℕ) (rows : List Row) → AllByRecursion (λ other. is_of uid other ≡ false) rows → is_delivered rows uid ≡ false
 not_delivered uid [] none = refl

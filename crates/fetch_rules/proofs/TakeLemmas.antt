@@ -1,15 +1,15 @@
 -- A row of the file, as the reader takes it.
 use Rattle.std.proofs.Common.{◌≡◌, ◌≢◌, ℕ, zero, suc, List, [], ◌∷◌, ◌++◌, Some, None, Bool, true, false, ◌&&◌, ◌||◌, not, cond, refl, sym, ◌∙◌, ap}
-use Rattle.std.specs.Prelude.{◌==◌, Option, find, option_map}
+use Rattle.std.specs.Prelude.{◌==◌, find, option_map}
 use Rattle.fetch_rules.specs.RecordFile.{Version}
 use Rattle.std.specs.List.{AllByRecursion, list_any}
 use Rattle.std.proofs.lemmas.Bool.{true≢false}
-use Rattle.fetch_rules.specs.Record.{Row, Intent, IsRecord, is_of, has_row, marked}
+use Rattle.fetch_rules.specs.Record.{Row, IsRecord, is_of, has_row, marked}
 use Rattle.fetch_rules.specs.RecordMeaning.{delivers, Progress, Judged, InBase, BetweenGroups, InGroup, Stands, Fails, line_after}
-use Rattle.fetch_rules.specs.Lines.{version_of, IsPlaced, is_within, after_row, TakesRow, RefusesRow, TakesIntent, RefusesIntent}
+use Rattle.fetch_rules.specs.Lines.{version_of, is_within, after_row, TakesRow, RefusesRow}
 use Rattle.fetch_rules.specs.Rows.{state_of, state_in}
 use Rattle.fetch_rules.specs.declared.seen.row_map.State.{State}
-use Rattle.fetch_rules.specs.declared.seen.SeenFault.TheVariants.{BadRow, RepeatedId}
+use Rattle.fetch_rules.specs.declared.seen.SeenFault.TheVariants.{RepeatedId}
 use Rattle.fetch_rules.specs.declared.seen.reading.Part.{Part}
 use Rattle.fetch_rules.specs.declared.seen.reading.Part.TheVariants.{Base, Between, Within}
 use Rattle.fetch_rules.proofs.RecordLemmas.{rest_of}
@@ -94,9 +94,6 @@ takes_old older (Within (suc more)) rows row within has now = λ n before intent
     ap (λ (b : Bool). cond (not b || delivers (version_of older) rows row) (Stands (InGroup before intent (cond b (marked rows row.uid) (rows ++ row ∷ [])) more)) (Fails (RepeatedId (line_after n)))) has
     ∙ ap (Tried (version_of older) rows row (InGroup before intent (marked rows row.uid) more) n) now
 
-pub refuses_between : (older : Bool) (rows : List Row) (row : Row) (number : ℕ) → RefusesRow older Between rows row number (BadRow number)
-refuses_between older rows row number = λ n before intent is. ap (λ (k : ℕ). Fails (BadRow k)) (sym is)
-
 pub refuses_old : (older : Bool) (part : Part) (rows : List Row) (row : Row) (number : ℕ) → part ≢ Between → has_row rows row.uid ≡ true → (is_within part ≡ true → delivers (version_of older) rows row ≡ false) → RefusesRow older part rows row number (RepeatedId number)
 refuses_old older Base rows row number other has later = λ n before intent is.
     ap (λ (b : Bool). cond b (Fails (RepeatedId (line_after n))) (Stands (InBase (rows ++ row ∷ [])))) has ∙ ap (λ (k : ℕ). Fails (RepeatedId k)) (sym is)
@@ -109,37 +106,3 @@ refuses_old older (Within (suc more)) rows row number other has later = λ n bef
     ap (λ (b : Bool). cond (not b || delivers (version_of older) rows row) (Stands (InGroup before intent (cond b (marked rows row.uid) (rows ++ row ∷ [])) more)) (Fails (RepeatedId (line_after n)))) has
     ∙ ap (Tried (version_of older) rows row (InGroup before intent (marked rows row.uid) more) n) (later refl)
     ∙ ap (λ (k : ℕ). Fails (RepeatedId k)) (sym is)
-
--- an intent's line
-pub takes_intent : (part : Part) (rows : List Row) (intent : Intent) → is_within part ≡ false → has_row rows intent.uid ≡ true → TakesIntent false part None rows intent
-takes_intent Base rows intent free has = λ n before. ap (λ (b : Bool). cond b (Stands (BetweenGroups rows (Some intent))) (Fails (BadRow (line_after n)))) has
-takes_intent Between rows intent free has = λ n before. ap (λ (b : Bool). cond b (Stands (BetweenGroups rows (Some intent))) (Fails (BadRow (line_after n)))) has
-takes_intent (Within more) rows intent free has = absurd (true≢false free)
-
-pub refuses_older : (part : Part) (open' : Option Intent) (rows : List Row) (intent : Intent) (number : ℕ) → RefusesIntent true part open' rows intent number (BadRow number)
-refuses_older Base open' rows intent number = λ n before is. ap (λ (k : ℕ). Fails (BadRow k)) (sym is)
-refuses_older Between open' rows intent number = λ n before is. ap (λ (k : ℕ). Fails (BadRow k)) (sym is)
-refuses_older (Within zero) open' rows intent number = λ n before is. ap (λ (k : ℕ). Fails (BadRow k)) (sym is)
-refuses_older (Within (suc more)) open' rows intent number = λ n before is. ap (λ (k : ℕ). Fails (BadRow k)) (sym is)
-
-pub refuses_within : (older : Bool) (part : Part) (open' : Option Intent) (rows : List Row) (intent : Intent) (number : ℕ) → is_within part ≡ true → RefusesIntent older part open' rows intent number (BadRow number)
-refuses_within older Base open' rows intent number within = absurd (true≢false (sym within))
-refuses_within older Between open' rows intent number within = absurd (true≢false (sym within))
-refuses_within older (Within zero) open' rows intent number within = λ n before is. ap (λ (k : ℕ). Fails (BadRow k)) (sym is)
-refuses_within older (Within (suc more)) open' rows intent number within = λ n before is. ap (λ (k : ℕ). Fails (BadRow k)) (sym is)
-
--- a second intent before a whole group: behind the header none is open
-pub refuses_second : (part : Part) (other : Intent) (rows : List Row) (intent : Intent) (number : ℕ) → IsPlaced part (Some other) → RefusesIntent false part (Some other) rows intent number (BadRow number)
-refuses_second Base other rows intent number placed = absurd (no_some placed)
-  where
-    no_some : Some other ≡ None → ⊥
-    no_some e = cc
-refuses_second Between other rows intent number placed = λ n before is. ap (λ (k : ℕ). Fails (BadRow k)) (sym is)
-refuses_second (Within zero) other rows intent number placed = λ n before is. ap (λ (k : ℕ). Fails (BadRow k)) (sym is)
-refuses_second (Within (suc more)) other rows intent number placed = λ n before is. ap (λ (k : ℕ). Fails (BadRow k)) (sym is)
-
-pub refuses_unknown : (part : Part) (rows : List Row) (intent : Intent) (number : ℕ) → has_row rows intent.uid ≡ false → RefusesIntent false part None rows intent number (BadRow number)
-refuses_unknown Base rows intent number none = λ n before is. ap (λ (b : Bool). cond b (Stands (BetweenGroups rows (Some intent))) (Fails (BadRow (line_after n)))) none ∙ ap (λ (k : ℕ). Fails (BadRow k)) (sym is)
-refuses_unknown Between rows intent number none = λ n before is. ap (λ (b : Bool). cond b (Stands (BetweenGroups rows (Some intent))) (Fails (BadRow (line_after n)))) none ∙ ap (λ (k : ℕ). Fails (BadRow k)) (sym is)
-refuses_unknown (Within zero) rows intent number none = λ n before is. ap (λ (k : ℕ). Fails (BadRow k)) (sym is)
-refuses_unknown (Within (suc more)) rows intent number none = λ n before is. ap (λ (k : ℕ). Fails (BadRow k)) (sym is)

@@ -105,11 +105,6 @@ failures_kept : (intent : Option Intent) (old mid : Stored) (stored : Bool) → 
 failures_kept None old mid stored is = ap (λ (s : Stored). s.failures) is.1
 failures_kept (Some intent) old mid stored is = ap (λ (s : Stored). s.failures) is.3
 
--- memory was wanting for the flags
-pub asks_wanting : (intent : Option Intent) (old mid new : Stored) (stored : Bool) (items : List Item) → SettlesIntent intent old (Ok stored) mid → new ≡ mid → AsksMbox intent old items (Err NoMemory) new
-asks_wanting intent old mid new stored items settles same =
-    (ap (λ (s : Stored). s.failures) same ∙ failures_kept intent old mid stored settles, at_most intent old mid new stored settles (content_of new mid same))
-
 -- the file was refused
 pub asks_refused : (intent : Option Intent) (old mid new : Stored) (stored : Bool) (items : List Item) (why : StoreFault) (fault : Fault) → SettlesIntent intent old (Ok stored) mid → RefusesLook mid why new → IsStoreFault why fault
     → AsksMbox intent old items (Err fault) new
@@ -134,28 +129,6 @@ asks_refused intent old mid new stored items refused.NotMbox fault settles ((byt
       ))
     ])
 asks_refused intent old mid new stored items refused.NoMemory fault settles never is = absurd never
-
--- settling was refused
-pub asks_unsettled : (intent : Option Intent) (old new : Stored) (items : List Item) (fault : Fault) → SettlesIntent intent old (Err fault) new → AsksMbox intent old items (Err fault) new
-asks_unsettled None old new items fault never = absurd never
-asks_unsettled (Some intent) old new items (StoreRefused Missing) is = is
-asks_unsettled (Some intent) old new items (StoreRefused Refused) (inl is) = (ap (λ (s : Stored). s.failures) is, inl (content_of new (counted old) is))
-asks_unsettled (Some intent) old new items (StoreRefused Refused) (inr (was, some, is)) =
-    (ap (λ (s : Stored). s.failures) is, inr (was, some, ap (λ (s : Stored). s.content) is))
-asks_unsettled (Some intent) old new items (StoreRefused NotMbox) never = absurd never
-asks_unsettled (Some intent) old new items SeenRefused never = absurd never
-asks_unsettled (Some intent) old new items NoMemory never = absurd never
-asks_unsettled (Some intent) old new items ConnectionEnded never = absurd never
-asks_unsettled (Some intent) old new items ReadFailed never = absurd never
-asks_unsettled (Some intent) old new items WriteFailed never = absurd never
-asks_unsettled (Some intent) old new items ReplyTooLong never = absurd never
-asks_unsettled (Some intent) old new items BadReply never = absurd never
-asks_unsettled (Some intent) old new items (RefusedReply to) never = absurd never
-asks_unsettled (Some intent) old new items BadListing never = absurd never
-asks_unsettled (Some intent) old new items ListingsDisagree never = absurd never
-asks_unsettled (Some intent) old new items TooMany never = absurd never
-asks_unsettled (Some intent) old new items TextTooLong never = absurd never
-asks_unsettled (Some intent) old new items (BadSeen line) never = absurd never
 
 -- ---- a text that is read whole
 

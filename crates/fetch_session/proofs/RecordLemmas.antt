@@ -132,15 +132,6 @@ is_there (Some bytes) some = refl
 abbrev pub GrowsBy : List ℕ → Held → Held → Type 0
 GrowsBy added was now = Grows was.rows was.intent added now.rows now.intent
 
-pub nothing_grows : (old : Stored) (was now : Held) (added : List ℕ) → added ≡ [] → GrowsBy added was now → Saves old was now (Ok tt) old
-nothing_grows old was now added none (inl (inl same)) = (
-  refl,
-  λ stood. subst (λ (r : List Row). Means (bytes_in old.content) (Rows Two r now.intent false)) (sym same.1)
-      (subst (λ (i : Option Intent). Means (bytes_in old.content) (Rows Two was.rows i false)) (sym same.2) stood),
-)
-nothing_grows old was now added none (inl (inr more)) = absurd (true≢false (ap has_bytes (sym more.2 ∙ none)))
-nothing_grows old was now added none (inr opens) = absurd (true≢false (ap has_bytes (sym opens.bytes_are ∙ none)))
-
 pub grown : AppendedCounts → (old new : Stored) (added : List ℕ) (was now : Held) → bytes_in old.content ≢ [] → GrowsBy added was now
     → Appends {T = Unit {0}} old added (Ok tt) new → Saves old was now (Ok tt) new
 grown counts old new added was now some grows appends =
@@ -168,10 +159,6 @@ cut_short counts ignored old new added was now fault some grows appends =
 
 no_cons : {row : Row} {rows : List Row} → row ∷ rows ≡ [] → ⊥
 no_cons is = omega (arith, ap length is)
-
-pub marks_grow : (was now : List Row) (before after : Option Intent) (bytes : List ℕ) → before ≡ None → after ≡ None → Updates was before bytes now after → Updates was None bytes now None
-marks_grow was now before after bytes closed ended updates =
-    subst (λ (i : Option Intent). Updates was None bytes now i) ended (subst (λ (i : Option Intent). Updates was i bytes now after) closed updates)
 
 -- a group's row leaves no rows empty
 taken_by : (has : Bool) (rows : List Row) (row : Row) → rows ≢ [] → (if has then marked rows row.uid else (rows ++ row ∷ [])) ≢ []

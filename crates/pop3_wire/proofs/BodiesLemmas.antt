@@ -1,10 +1,10 @@
 -- Taking a body from a link, piece by piece.
-use Rattle.std.proofs.Common.{◌≡◌, ◌≢◌, ◌<◌, ◌≤◌, ◌+◌, ◌-◌, ℕ, List, [], ◌++◌, length, take, drop, refl, sym, ap, subst, ◌∙◌, arith, Ok, append_assoc, take-append-drop, length-append, length-take-le}
+use Rattle.std.proofs.Common.{◌≡◌, ◌≢◌, ◌<◌, ◌≤◌, ◌+◌, ◌-◌, ℕ, List, [], ◌++◌, length, take, drop, refl, sym, ap, subst, ◌∙◌, arith, append_assoc, take-append-drop, length-append, length-take-le}
 use Rattle.std.proofs.lemmas.List.{append-nil, take_at}
 use Rattle.pop3_wire.specs.Body.{HasNoBody}
 use Rattle.pop3_wire.specs.Link.{Link}
 use Rattle.pop3_wire.specs.Place.{Place, at, GoesOn}
-use Rattle.pop3_wire.specs.Bodies.{Drew, DrawsNothing, BodyCause, LeavesRest, Rest, rest_of, UnderWay, ReadsBody}
+use Rattle.pop3_wire.specs.Bodies.{Drew, DrawsNothing, BodyCause, LeavesRest, Rest, rest_of, UnderWay}
 use Rattle.pop3_wire.specs.declared.body_reader.BodyFault.{BodyFault}
 use Rattle.pop3_wire.specs.declared.body_reader.BodyFault.TheVariants.{Ended, Failed, TooLong, NoMemory}
 use Rattle.pop3_wire.specs.declared.unstuffer.Spot.{Spot}
@@ -29,12 +29,6 @@ under_way_none limit place = record {
   drew = record { got = sym (append-nil place.link.got); sent = refl };
   steady = record { ended = refl; failures = refl };
 }
-
--- at the end the body has been read
-pub took_body : (limit : ℕ) (old new : Place) (body : Rest) (text : List ℕ) → UnderWay limit old new body text → body.spot ≡ Done → ReadsBody limit old (Ok text) new
-took_body limit old new body text now done =
-    let sizes : length now.used + body.left ≡ limit = now.sizes in
-    (now.gained, now.drew, now.steady, record { body = now.used; is = subst (λ (s : Spot). Reaches s now.used text) done now.reached; within = omega arith; heard = now.heard })
 
 pub drew_on : (a b c : Link) (g h : List ℕ) → Drew a b g → Drew b c h → Drew a c (g ++ h)
 drew_on a b c g h first then =

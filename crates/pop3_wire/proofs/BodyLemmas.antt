@@ -75,10 +75,6 @@ one_body a b s t x y left right e =
     let same = same_lines left.lines right.lines x y left.content right.content (sym (ap (λ l. l ++ x) left.whole) ∙ e ∙ ap (λ l. l ++ y) right.whole) in
     (left.whole ∙ ap body_of same.0 ∙ sym right.whole, left.read ∙ ap text_of same.0 ∙ sym right.read, same.1)
 
--- nothing was read yet
-pub reads_none : (bytes : List ℕ) → Reads bytes bytes []
-reads_none bytes = record { lines = []; content = tt; whole = refl; read = refl }
-
 -- one more line was read
 pub reads_more : (bytes rest line after text : List ℕ) → Reads bytes rest text → IsLine line → rest ≡ line ++ (crlf ++ after) → (line ≢ dot) → Reads bytes after (text ++ kept line)
 reads_more bytes rest line after text reads is cut other =

@@ -1,7 +1,7 @@
 -- The octets that wait: where the search for a line's end goes on, and what it finds.
 use Rattle.std.proofs.Common.{◌≡◌, ◌⊎◌, inl, inr, ◌<◌, ◌≤◌, ◌+◌, ◌-◌, ℕ, List, ◌++◌, length, take, drop, min, max, refl, sym, ap, subst, ◌∙◌, arith, append_assoc, take-append-drop, length-append, length-take-le, length-drop}
 use Rattle.std.proofs.lemmas.Bool.{cases_order}
-use Rattle.std.proofs.lemmas.List.{take-take, take_all, take-append-le, drop-append-le, drop-take, drop-drop, take_at, drop_at}
+use Rattle.std.proofs.lemmas.List.{take-take, take_all, drop-append-le, drop-take, drop-drop, take_at, drop_at}
 use Rattle.std.proofs.Math.Seq.{take-append-add}
 use Rattle.std.proofs.lemmas.List.{length-take}
 use Rattle.std.proofs.lemmas.Slice.{take-put_mid}
@@ -38,9 +38,6 @@ no_line_skip n s w known = elim (le_cases n s) [
       record { none = subst IsLine rest back }
   | inr past ↦ subst (λ (k : ℕ). HasNoLine k (drop n w)) (omega arith) (no_line_zero (drop n w))
 ]
-
-pub no_line_behind : (s : ℕ) (w piece : List ℕ) → s ≤ length w → HasNoLine s w → HasNoLine s (w ++ piece)
-no_line_behind s w piece small known = record { none = subst IsLine (sym (take-append-le s w piece small)) known.none }
 
 -- if neither the first s octets nor those from the last of them on hold a line end, there is none
 seam : (u : List ℕ) (s : ℕ) → HasNoLine s u → IsLine (drop (s - 1) u) → IsLine u

@@ -57,10 +57,6 @@ pub filter_all : {X : Type 0} (p : X → Bool) (xs : List X) → AllByRecursion 
 filter_all p [] h = refl
 filter_all p (x ∷ xs) h = ap (λ b. cond b (x ∷ filter p xs) (filter p xs)) h.0 ∙ ap (λ l. x ∷ l) (filter_all p xs h.1)
 
-pub filter_same : {X : Type 0} (p q : X → Bool) (xs : List X) → AllByRecursion (λ x. p x ≡ q x) xs → filter p xs ≡ filter q xs
-filter_same p q [] h = refl
-filter_same p q (x ∷ xs) h = ap (λ b. cond b (x ∷ filter p xs) (filter p xs)) h.0 ∙ ap (λ l. cond (q x) (x ∷ l) l) (filter_same p q xs h.1)
-
 pub taken_more : (m n : ℕ) (ms : List Message) (id : List ℕ) → m ≤ n → has_id (ids_of (take m ms)) id ≡ true → has_id (ids_of (take n ms)) id ≡ true
 taken_more zero n ms id l e = absurd (both_ways false refl e)
 taken_more (suc m) zero ms id l e = absurd (omega (arith, l))
@@ -156,9 +152,6 @@ module _ (s : Scene) (is : IsScene s) where
 
   pub fetched_asked : AllByRecursion (λ (m : Message). asked s.settings s.rows m ≡ true) ws
   fetched_asked = of_wanted (λ (m : Message). asked s.settings s.rows m ≡ true) (all_passing (asked s.settings s.rows) (here s))
-
-  pub legal_added : (n : ℕ) → AllByRecursion IsLegal (added s n)
-  legal_added n = all_filter IsLegal (λ (m : Message). not (is_done s m.uid)) (take n ws) (all_take IsLegal n ws legal_fetched)
 
   distinct_here : Distinct (ids_of (here s))
   distinct_here = distinct_filter (λ (m : Message). not (is_gone m.uid)) come (distinct_take s.come s.all distinct_all)
