@@ -31,7 +31,8 @@ use Rattle.fetch_session.specs.Laws.{TurnsJoin}
 use Rattle.fetch_session.specs.Report.{retrieved_in}
 use Rattle.fetch_session.specs.Task.{Task, deletes}
 use Rattle.fetch_session.specs.Record.{KeepsRows}
-use Rattle.fetch_session.specs.Session.{Kept, outcome_of}
+use Rattle.fetch_session.specs.Session.{Kept, keeps_files, outcome_of}
+use Rattle.fetch_session.specs.Target.{AsFiles}
 use Rattle.fetch_runs.specs.Conversations.{tail_behind}
 use Rattle.fetch_runs.specs.Steps.{holds, SaysOnly, IsStep, SessionIsAStep}
 use Rattle.fetch_runs.proofs.TalkConversation.{tail_is}
@@ -198,5 +199,5 @@ module _ (stores : ToldStores) (settings : Settings) (account : List ℕ) (now :
 pub session_is_a_step : Laws → ToldStores → TurnsJoin → ConversationsArePaced → FrontsAreAsked → SessionIsAStep
 session_is_a_step laws stores joining paced fronts settings account now link before rows report link' after valid keeps is =
     joined stores settings account now link before rows report link' after is.result is.reports.outcome_is is.notes.lines is.reports.retrieved_is keeps
-    (way_of settings account now link before report link' after is) (session_leads laws settings account now link before report link' after rows keeps is)
-    (talks joining paced fronts settings account now link before report link' after valid is)
+    (way_of settings (AsFiles account) now link (keeps_files before) report link' (keeps_files after) is) (session_leads laws settings account now link before report link' after rows keeps is)
+    (talks joining paced fronts settings (AsFiles account) now link (keeps_files before) report link' (keeps_files after) valid is)

@@ -21,9 +21,10 @@ use Rattle.fetch_session.specs.declared.report.Report.{Report}
 use Rattle.fetch_session.specs.declared.report.ReportLine.{ReportLine}
 use Rattle.fetch_session.specs.Task.{Task, stores, rereads, deletes, Done, tasks_of}
 use Rattle.fetch_session.specs.Store.{RefusesText}
-use Rattle.fetch_session.specs.Scene.{Scene}
-use Rattle.fetch_session.specs.Session.{Kept, Noted, Session}
-use Rattle.fetch_runs.proofs.Words.{scene, Stops, Does, NotStored, tasks_ahead, Unprepared, Carried, Carries, Dealt, Proceeds}
+use Rattle.fetch_session.specs.Plan.{tasks_ahead, Unprepared, Carried, Carries}
+use Rattle.fetch_session.specs.Scene.{Scene, scene, NoFile, Stops, Does}
+use Rattle.fetch_session.specs.Session.{Keeping, Noted, Dealt, Proceeds, SessionIn}
+use Rattle.fetch_session.specs.Target.{Target, AsFiles, AsEntries, Stores}
 
 -- the joined listing; the tasks that were completed, whatever happened to the record's file; the task that
 -- was begun and not completed, if there is one; and the reply to that task, if its text may be stored
@@ -52,53 +53,56 @@ spare_in number start new rest text old now name fault whole (inl missing) = []
 spare_in number start new rest text old now name fault whole (inr (is, inl same)) = []
 spare_in number start new rest text old now name fault whole (inr (is, inr (done, there))) = (whole done).0 ∷ []
 
-abbrev pub spare_of : (account : List ℕ) (next : Task) (old new : Scene) (cut : Cut) → NotStored account next old new cut → List WholeReply
+abbrev pub spare_of : (account : List ℕ) (next : Task) (old new : Scene) (cut : Cut) → NoFile account next old new cut → List WholeReply
 spare_of account next old new cut refused =
     spare_in refused.number old.place new.place refused.rest refused.text old.store.maildir new.store.maildir (stem_of account refused.uid) cut.fault refused.whole refused.refuses
 
-abbrev pub course_stopped : (account : List ℕ) (items : List Item) (dones : List Done) (next : Task) (mid new : Scene) (cut : Cut) → Stops account next mid cut new → Course
-course_stopped account items dones next mid new cut (inl broken) = course items dones [] (next ∷ [])
-course_stopped account items dones next mid new cut (inr (inl refused)) = course items dones (spare_of account next mid new cut refused) (next ∷ [])
-course_stopped account items dones next mid new cut (inr (inr refused)) = course items (dones ++ stored_done refused.number refused.uid refused.reply ∷ []) [] []
+abbrev pub course_stopped : (target : Target) (items : List Item) (dones : List Done) (next : Task) (mid new : Scene) (cut : Cut) → Stops target next mid cut new → Course
+course_stopped target items dones next mid new cut (inl broken) = course items dones [] (next ∷ [])
+course_stopped (AsFiles account) items dones next mid new cut (inr (inl refused)) = course items dones (spare_of account next mid new cut refused) (next ∷ [])
+course_stopped (AsFiles account) items dones next mid new cut (inr (inr unsaved)) = course items (dones ++ stored_done unsaved.number unsaved.uid unsaved.reply ∷ []) [] []
+course_stopped AsEntries items dones next mid new cut (inr (inl (inl wanting))) = course items dones [] (next ∷ [])
+course_stopped AsEntries items dones next mid new cut (inr (inl (inr refused))) = course items dones (refused.reply ∷ []) (next ∷ [])
+course_stopped AsEntries items dones next mid new cut (inr (inr unsaved)) = course items (dones ++ stored_done unsaved.number unsaved.uid unsaved.reply ∷ []) [] []
 
-abbrev pub course_does : (account : List ℕ) (items : List Item) (tasks : List Task) (old new : Scene) (result : Result (Unit {0}) Cut) → Does account tasks old result new → Course
-course_does account items tasks old new (Ok done) went = course items went.dones [] []
-course_does account items tasks old new (Err cut) fell = course_stopped account items fell.dones fell.next fell.mid new cut fell.stops
+abbrev pub course_does : (target : Target) (items : List Item) (tasks : List Task) (old new : Scene) (result : Result (Unit {0}) Cut) → Does target tasks old result new → Course
+course_does target items tasks old new (Ok done) went = course items went.dones [] []
+course_does target items tasks old new (Err cut) fell = course_stopped target items fell.dones fell.next fell.mid new cut fell.stops
 
-abbrev pub course_carried : (settings : Settings) (account : List ℕ) (items : List Item) (now : ℕ) (place : Place) (maildir : Maildir) (file : Stored) (lines : List ReportLine)
-    (result : Result (Unit {0}) Cut) (new : Scene) (skipped : ℕ) → Carried settings account items now place maildir file lines result new skipped → Course
-course_carried settings account items now place maildir file lines result new skipped is =
-    course_does account items (tasks_ahead settings account items now maildir is.mid.rows) is.mid new result is.does
+abbrev pub course_carried : (settings : Settings) (target : Target) (items : List Item) (now : ℕ) (place : Place) (store : Stores) (file : Stored) (lines : List ReportLine)
+    (result : Result (Unit {0}) Cut) (new : Scene) (skipped : ℕ) → Carried settings target items now place store file lines result new skipped → Course
+course_carried settings target items now place store file lines result new skipped is =
+    course_does target items (tasks_ahead settings target items now store is.mid.rows) is.mid new result is.does
 
-abbrev pub course_cut : (settings : Settings) (account : List ℕ) (items : List Item) (now : ℕ) (place : Place) (maildir : Maildir) (file : Stored) (lines : List ReportLine)
-    (cut : Cut) (new : Scene) (skipped : ℕ) → ((skipped ≡ 0) × Unprepared account items now place maildir file lines cut new) ⊎ Carried settings account items now place maildir file lines (Err cut) new skipped → Course
-course_cut settings account items now place maildir file lines cut new skipped (inl unprepared) = course items [] [] []
-course_cut settings account items now place maildir file lines cut new skipped (inr is) = course_carried settings account items now place maildir file lines (Err cut) new skipped is
+abbrev pub course_cut : (settings : Settings) (target : Target) (items : List Item) (now : ℕ) (place : Place) (store : Stores) (file : Stored) (lines : List ReportLine)
+    (cut : Cut) (new : Scene) (skipped : ℕ) → ((skipped ≡ 0) × Unprepared target items now place store file lines cut new) ⊎ Carried settings target items now place store file lines (Err cut) new skipped → Course
+course_cut settings target items now place store file lines cut new skipped (inl unprepared) = course items [] [] []
+course_cut settings target items now place store file lines cut new skipped (inr is) = course_carried settings target items now place store file lines (Err cut) new skipped is
 
-abbrev pub course_carries : (settings : Settings) (account : List ℕ) (items : List Item) (now : ℕ) (place : Place) (maildir : Maildir) (file : Stored) (lines : List ReportLine)
-    (result : Result (Unit {0}) Cut) (place' : Place) (maildir' : Maildir) (file' : Stored) (lines' : List ReportLine) (skipped : ℕ)
-    → Carries settings account items now place maildir file lines result place' maildir' file' lines' skipped → Course
-course_carries settings account items now place maildir file lines (Ok done) place' maildir' file' lines' skipped is =
-    course_carried settings account items now place maildir file lines (Ok done) (scene place' maildir' file' is.0 lines') skipped is.1
-course_carries settings account items now place maildir file lines (Err cut) place' maildir' file' lines' skipped is =
-    course_cut settings account items now place maildir file lines cut (scene place' maildir' file' is.0 lines') skipped is.1
+abbrev pub course_carries : (settings : Settings) (target : Target) (items : List Item) (now : ℕ) (place : Place) (store : Stores) (file : Stored) (lines : List ReportLine)
+    (result : Result (Unit {0}) Cut) (place' : Place) (store' : Stores) (file' : Stored) (lines' : List ReportLine) (skipped : ℕ)
+    → Carries settings target items now place store file lines result place' store' file' lines' skipped → Course
+course_carries settings target items now place store file lines (Ok done) place' store' file' lines' skipped is =
+    course_carried settings target items now place store file lines (Ok done) (scene place' store' file' is.0 lines') skipped is.1
+course_carries settings target items now place store file lines (Err cut) place' store' file' lines' skipped is =
+    course_cut settings target items now place store file lines cut (scene place' store' file' is.0 lines') skipped is.1
 
-abbrev pub course_dealt : (settings : Settings) (account : List ℕ) (now : ℕ) (old : Place) (before : Kept) (result : Result (Unit {0}) Cut) (new : Place) (after : Kept) (notes : Noted)
-    → Dealt settings account now old before result new after notes → Course
-course_dealt settings account now old before result new after notes dealt =
-    course_carries settings account dealt.items now dealt.mid before.maildir before.file [] result new after.maildir after.file notes.lines notes.skipped dealt.carries
+abbrev pub course_dealt : (settings : Settings) (target : Target) (now : ℕ) (old : Place) (before : Keeping) (result : Result (Unit {0}) Cut) (new : Place) (after : Keeping) (notes : Noted)
+    → Dealt settings target now old before result new after notes → Course
+course_dealt settings target now old before result new after notes dealt =
+    course_carries settings target dealt.items now dealt.mid before.store before.file [] result new after.store after.file notes.lines notes.skipped dealt.carries
 
-abbrev pub way_proceeded : (settings : Settings) (account : List ℕ) (now : ℕ) (old : Place) (before : Kept) (result : Result (Unit {0}) Cut) (new : Place) (after : Kept) (notes : Noted)
-    → Proceeds settings account now old before result new after notes → Way
-way_proceeded settings account now old before (Ok done) new after notes dealt = Deals (course_dealt settings account now old before (Ok done) new after notes dealt)
-way_proceeded settings account now old before (Err cut) new after notes (inl stopped) = Idle
-way_proceeded settings account now old before (Err cut) new after notes (inr (inl wanting)) = Idle
-way_proceeded settings account now old before (Err cut) new after notes (inr (inr dealt)) = Deals (course_dealt settings account now old before (Err cut) new after notes dealt)
+abbrev pub way_proceeded : (settings : Settings) (target : Target) (now : ℕ) (old : Place) (before : Keeping) (result : Result (Unit {0}) Cut) (new : Place) (after : Keeping) (notes : Noted)
+    → Proceeds settings target now old before result new after notes → Way
+way_proceeded settings target now old before (Ok done) new after notes dealt = Deals (course_dealt settings target now old before (Ok done) new after notes dealt)
+way_proceeded settings target now old before (Err cut) new after notes (inl stopped) = Idle
+way_proceeded settings target now old before (Err cut) new after notes (inr (inl wanting)) = Idle
+way_proceeded settings target now old before (Err cut) new after notes (inr (inr dealt)) = Deals (course_dealt settings target now old before (Err cut) new after notes dealt)
 
 -- how far a session came
-abbrev pub way_of : (settings : Settings) (account : List ℕ) (now : ℕ) (link : Link) (before : Kept) (report : Report) (link' : Link) (after : Kept)
-    → Session settings account now link before report link' after → Way
-way_of settings account now link before report link' after is = way_proceeded settings account now (at link []) before is.result is.mid after is.notes is.proceeds
+abbrev pub way_of : (settings : Settings) (target : Target) (now : ℕ) (link : Link) (before : Keeping) (report : Report) (link' : Link) (after : Keeping)
+    → SessionIn settings target now link before report link' after → Way
+way_of settings target now link before report link' after is = way_proceeded settings target now (at link []) before is.result is.mid after is.notes is.proceeds
 
 -- ---- what was retrieved
 

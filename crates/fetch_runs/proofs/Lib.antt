@@ -5,11 +5,9 @@ mod HeadlineLemmas
 mod MboxAdds
 mod MboxBridge
 mod MboxCases
-mod MboxCourses
 mod MboxHeadlineLemmas
 mod MboxPlans
 mod MboxState
-mod MboxTalk
 mod MboxTexts
 mod RunLemmas
 mod StateBuilt
@@ -27,6 +25,7 @@ mod TalkLaw
 mod TalkOpenings
 mod TalkParts
 mod TalkPlan
+mod TalkPlanned
 mod TalkReplies
 mod TalkSessions
 mod TalkSpeech

@@ -17,7 +17,7 @@ use Rattle.fetch_session.specs.Report.{retrieved_in}
 use Rattle.fetch_session.specs.Laws.{TurnsJoin}
 use Rattle.fetch_session.specs.Record.{Keeps}
 use Rattle.fetch_session.specs.Session.{Keeping, MboxKept, keeps_entries, outcome_of}
-use Rattle.fetch_session.specs.Target.{mail_in, no_maildir}
+use Rattle.fetch_session.specs.Target.{AsEntries, mail_in, no_maildir}
 use Rattle.fetch_session.specs.Task.{Task, deletes}
 use Rattle.run_law.specs.Mboxes.{MboxLeaves}
 use Rattle.run_law.specs.MboxSessions.{AsksForNoMessage, AsksForNone}
@@ -25,16 +25,14 @@ use Rattle.run_law.specs.MboxTold.{MboxToldStores}
 use Rattle.run_law.specs.Sessions.{IsBegun, BeginsOne}
 use Rattle.fetch_runs.specs.MboxSteps.{mbox_holds, IsMboxStep, MboxSessionIsAStep}
 use Rattle.fetch_runs.proofs.Bridge.{begun_one, begun_all, ended_if, unsaved_is}
-use Rattle.fetch_runs.proofs.Courses.{Course, Way, Idle, Deals, begun_of, found_of, IsOfTask}
+use Rattle.fetch_runs.proofs.Courses.{Course, Way, Idle, Deals, way_of, begun_of, found_of, IsOfTask}
 use Rattle.fetch_runs.proofs.MboxCases.{MboxLeads}
-use Rattle.fetch_runs.proofs.MboxCourses.{way_of}
 use Rattle.fetch_runs.proofs.MboxState.{Rests, WayLeaves, session_leaves}
-use Rattle.fetch_runs.proofs.MboxTalk.{talks}
 use Rattle.fetch_runs.proofs.StateBuilt.{Laws, effect_of}
 use Rattle.fetch_runs.proofs.StateCases.{is_ended, UnsavedIn}
 use Rattle.fetch_runs.proofs.StatePlan.{IsRight, all_weaker, deleted_by}
 use Rattle.fetch_runs.proofs.TalkCommands.{begins_of}
-use Rattle.fetch_runs.proofs.TalkLaw.{Gained}
+use Rattle.fetch_runs.proofs.TalkLaw.{Gained, talks}
 use Rattle.fetch_runs.proofs.TalkSessions.{tail_for}
 
 -- ---- without a task no message is asked for
@@ -169,5 +167,5 @@ module _ (stores : MboxToldStores) (settings : Settings) (now : ℕ) (link : Lin
 pub mbox_session_is_a_step : Laws → MboxToldStores → TurnsJoin → ConversationsArePaced → FrontsAreAsked → MboxSessionIsAStep
 mbox_session_is_a_step laws stores joining paced fronts settings now link before held report link' after valid keeps is =
     joined stores settings now link before held report link' after is.result is.reports.outcome_is is.notes.lines is.reports.retrieved_is keeps
-    (way_of settings now link before report link' after is) (session_leaves laws settings now link before report link' after held keeps is)
-    (talks joining paced fronts settings now link before report link' after valid is)
+    (way_of settings AsEntries now link (keeps_entries before) report link' (keeps_entries after) is) (session_leaves laws settings now link before report link' after held keeps is)
+    (talks joining paced fronts settings AsEntries now link (keeps_entries before) report link' (keeps_entries after) valid is)

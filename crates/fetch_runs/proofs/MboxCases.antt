@@ -27,18 +27,22 @@ use Rattle.fetch_session.specs.Record.{Keeps, Steady, with_open}
 use Rattle.fetch_session.specs.Mbox.{MarksEntry, RefusesEntry, intent_of}
 use Rattle.fetch_session.specs.Store.{Appended}
 use Rattle.fetch_session.specs.Scene.{Scene, Went, AllWent, Fell, Stops, Does}
-use Rattle.fetch_session.specs.Target.{AsEntries, Stores, mail_in, no_maildir}
+use Rattle.fetch_session.specs.Plan.{tasks_ahead}
+use Rattle.fetch_session.specs.Target.{AsFiles, AsEntries, Stores, in_maildir, mail_in, no_maildir}
 use Rattle.run_law.specs.Mboxes.{settled, mbox_wanted, entries}
 use Rattle.run_law.specs.MboxTold.{AllRecorded, LastUnrecorded, MboxTold, OpensAt}
 use Rattle.fetch_runs.specs.MboxSteps.{mbox_holds}
-use Rattle.fetch_runs.proofs.Courses.{Course, course, stored_done, found_in, found_by, found_of, begun_of}
-use Rattle.fetch_runs.proofs.MboxCourses.{mbox_tasks, course_stopped, course_does}
+use Rattle.fetch_runs.proofs.Courses.{Course, course, stored_done, course_stopped, course_does, found_in, found_by, found_of, begun_of}
 use Rattle.fetch_runs.proofs.MboxTexts.{texts_same, next_wanted, closed_at, opens_at, open_at, unrecorded_at}
 use Rattle.fetch_runs.proofs.StatePlan.{Safe, IsRight, all_on, all_front, deleted_by, fetched_ahead, right_ahead}
 use Rattle.fetch_runs.proofs.StateDone.{number_found, text_found, number_of, texts_by, counted_by}
 use Rattle.fetch_runs.proofs.StateMarks.{safe_next, safe_done}
 use Rattle.fetch_runs.proofs.StateBuilt.{Laws, Part, effect_of, safe_tasks, right_part, recorded_all, wanted_all, records_part, numbers_part}
 use Rattle.fetch_runs.proofs.StateCases.{is_ended, found_under, UnsavedIn, unsaved_why}
+
+-- the tasks are those of an account with an empty Maildir: no message is held but by the record
+abbrev pub mbox_tasks : Settings → List Item → ℕ → List Row → List Task
+mbox_tasks settings items now rows = tasks_ahead settings (AsFiles []) items now (in_maildir no_maildir) rows
 
 -- ---- what a text that wasn't appended leaves
 
@@ -390,7 +394,7 @@ module _ (laws : Laws) (settings : Settings) (items : List Item) (now : ℕ) (he
                 ∙ ap (λ (l : List ℕ). bytes_settled held mbox ++ l) (sym (flat_map-append entry_of (texts_by fell.dones) (body_text reply.body ∷ [])) ∙ ap entries (sym full_texts)))
 
       stopped_leads : (stops : Stops AsEntries fell.next fell.mid cut new)
-          → MboxLeads settings now false (course_stopped items fell.dones fell.next fell.mid new cut stops) held mbox new.store.mbox new.file.content new.lines (UnsavedIn (Err cut))
+          → MboxLeads settings now false (course_stopped AsEntries items fell.dones fell.next fell.mid new cut stops) held mbox new.store.mbox new.file.content new.lines (UnsavedIn (Err cut))
       stopped_leads (inl broken) = stopped_bare (ap (λ (s : Stores). s.mbox.content) broken.store) broken.file broken.lines
       stopped_leads (inr (inl (inl wanting))) = stopped_bare (ap (λ (s : Stores). s.mbox.content) wanting.store) wanting.file wanting.lines
       stopped_leads (inr (inl (inr refused))) =
@@ -399,6 +403,6 @@ module _ (laws : Laws) (settings : Settings) (items : List Item) (now : ℕ) (he
       stopped_leads (inr (inr unsaved)) = unsaved_leads unsaved.number unsaved.uid unsaved.reply unsaved.is unsaved.talked.good unsaved.stored unsaved.saves unsaved.lines
 
     pub does_leads : (result : Result (Unit {0}) Cut) (new : Scene) (does : Does AsEntries (mbox_tasks settings items now old.rows) old result new)
-        → MboxLeads settings now (is_ended result) (course_does items (mbox_tasks settings items now old.rows) old new result does) held mbox new.store.mbox new.file.content new.lines (UnsavedIn result)
+        → MboxLeads settings now (is_ended result) (course_does AsEntries items (mbox_tasks settings items now old.rows) old new result does) held mbox new.store.mbox new.file.content new.lines (UnsavedIn result)
     does_leads (Ok done) new went = all_went new went
     does_leads (Err cut) new fell = stopped_leads cut new fell fell.stops

@@ -25,9 +25,8 @@ use Rattle.fetch_session.specs.Session.{Keeping, MboxKept, Noted, Proceeds, Mbox
 use Rattle.fetch_session.specs.Target.{AsEntries, Stores, is_stored, closed_file, mail_in, no_maildir, rows_in}
 use Rattle.run_law.specs.Mboxes as Law
 use Rattle.fetch_runs.specs.MboxSteps.{mbox_holds}
-use Rattle.fetch_runs.proofs.Courses.{Course, course, Way, Idle, Deals, begun_of}
-use Rattle.fetch_runs.proofs.MboxCases.{MboxLeads, bytes_settled, rows_settled, rows_merged, lead, does_leads, held_with}
-use Rattle.fetch_runs.proofs.MboxCourses.{mbox_tasks, course_carried, course_cut, course_carries, way_proceeded, way_of}
+use Rattle.fetch_runs.proofs.Courses.{Course, course, Way, Idle, Deals, course_carried, course_cut, course_carries, way_proceeded, way_of, begun_of}
+use Rattle.fetch_runs.proofs.MboxCases.{MboxLeads, mbox_tasks, bytes_settled, rows_settled, rows_merged, lead, does_leads, held_with}
 use Rattle.fetch_runs.proofs.MboxTexts.{closed_at}
 use Rattle.fetch_runs.proofs.StateBuilt.{Laws, Part, effect_of}
 use Rattle.fetch_runs.proofs.StateCases.{is_ended, UnsavedIn}
@@ -129,20 +128,20 @@ module _ (laws : Laws) (settings : Settings) (items : List Item) (now : ℕ) (pl
             new.lines (UnsavedIn (Err cut)) (ap retrieved_in (is.lines_are ∙ no_lines)) (λ never. absurd (omega (arith, never))))
 
   carried_leads : (result : Result (Unit {0}) Cut) (new : Scene) (skipped : ℕ) (is : Carried settings AsEntries items now place store file lines result new skipped)
-      → MboxLeads settings now (is_ended result) (course_carried settings items now place store file lines result new skipped is) held store.mbox new.store.mbox new.file.content new.lines (UnsavedIn result)
+      → MboxLeads settings now (is_ended result) (course_carried settings AsEntries items now place store file lines result new skipped is) held store.mbox new.store.mbox new.file.content new.lines (UnsavedIn result)
   carried_leads result new skipped is =
       does_leads laws settings items now held store.mbox is.mid (settled_content is.prepared.was is.mid.store is.prepared.stood is.prepared.settles)
       (is.prepared.rows ∙ ap (λ (r : List Row). merged r items (flags_of [] no_maildir items) now) (rows_are is.prepared.was is.prepared.stood)) (is.prepared.lines_are ∙ no_lines) is.prepared.saved result new is.does
 
   cut_leads : (cut : Cut) (new : Scene) (skipped : ℕ)
       (is : ((skipped ≡ 0) × Unprepared AsEntries items now place store file lines cut new) ⊎ Carried settings AsEntries items now place store file lines (Err cut) new skipped)
-      → Left settings now false (course_cut settings items now place store file lines cut new skipped is) held store.mbox new.store.mbox new.file.content new.lines (UnsavedIn (Err cut))
+      → Left settings now false (course_cut settings AsEntries items now place store file lines cut new skipped is) held store.mbox new.store.mbox new.file.content new.lines (UnsavedIn (Err cut))
   cut_leads cut new skipped (inl is) = unprepared_leads cut new is.1
   cut_leads cut new skipped (inr is) = inr (carried_leads (Err cut) new skipped is)
 
   carries_leads : (result : Result (Unit {0}) Cut) (place' : Place) (store' : Stores) (file' : Stored) (lines' : List ReportLine) (skipped : ℕ)
       (is : Carries settings AsEntries items now place store file lines result place' store' file' lines' skipped)
-      → Left settings now (is_ended result) (course_carries settings items now place store file lines result place' store' file' lines' skipped is) held store.mbox store'.mbox file'.content lines' (UnsavedIn result)
+      → Left settings now (is_ended result) (course_carries settings AsEntries items now place store file lines result place' store' file' lines' skipped is) held store.mbox store'.mbox file'.content lines' (UnsavedIn result)
   carries_leads (Ok done) place' store' file' lines' skipped is = inr (carried_leads (Ok done) (scene place' store' file' is.0 lines') skipped is.1)
   carries_leads (Err cut) place' store' file' lines' skipped is = cut_leads cut (scene place' store' file' is.0 lines') skipped is.1
 
@@ -154,7 +153,7 @@ WayLeaves settings now result (Deals course) held before after lines =
 
 way_leaves : (laws : Laws) (settings : Settings) (now : ℕ) (old : Place) (before : Keeping) (result : Result (Unit {0}) Cut) (new : Place) (after : Keeping) (notes : Noted) (held : Held)
     → Keeps before.file.content held → (is : Proceeds settings AsEntries now old before result new after notes)
-    → WayLeaves settings now result (way_proceeded settings now old before result new after notes is) held before after notes.lines
+    → WayLeaves settings now result (way_proceeded settings AsEntries now old before result new after notes is) held before after notes.lines
 way_leaves laws settings now old before (Ok done) new after notes held keeps dealt =
     carries_leads laws settings dealt.items now dealt.mid before.store before.file [] held keeps refl (Ok done) new after.store after.file notes.lines notes.skipped dealt.carries
 way_leaves laws settings now old before (Err cut) new after notes held keeps (inl stopped) = (refl, stopped.same, ap (λ (n : Noted). n.lines) stopped.nothing)
@@ -164,6 +163,6 @@ way_leaves laws settings now old before (Err cut) new after notes held keeps (in
 
 pub session_leaves : (laws : Laws) (settings : Settings) (now : ℕ) (link : Link) (before : MboxKept) (report : Report) (link' : Link) (after : MboxKept) (held : Held)
     → Keeps before.file.content held → (is : MboxSession settings now link before report link' after)
-    → WayLeaves settings now is.result (way_of settings now link before report link' after is) held (keeps_entries before) (keeps_entries after) is.notes.lines
+    → WayLeaves settings now is.result (way_of settings AsEntries now link (keeps_entries before) report link' (keeps_entries after) is) held (keeps_entries before) (keeps_entries after) is.notes.lines
 session_leaves laws settings now link before report link' after held keeps is =
     way_leaves laws settings now (at link []) (keeps_entries before) is.result is.mid (keeps_entries after) is.notes held keeps is.proceeds

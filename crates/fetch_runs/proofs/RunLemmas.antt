@@ -49,15 +49,6 @@ ran_more sound Made olds start at_start reports news mid at_mid old new report l
       (sound_on sound olds old before.0 this.0, before.1, runs_on Made olds start reports news mid old new report last before.2 this.2);
 }
 
-pub ran_none : {W K : Type 0} (sound : W → Type 0) (Made : Visit W → K → Report → Visit W → K → Type 0) (olds news : List (Visit W)) (start : K) (at_start : Type 0) (reports : List Report) (i : ℕ) → i ≡ 0 → reports ≡ []
-    → Ran sound Made (take i olds) start at_start reports (take i news) start at_start
-ran_none sound Made olds news start at_start reports i is none =
-    subst (λ (k : ℕ). Ran sound Made (take k olds) start at_start reports (take k news) start at_start) (sym is)
-    (subst (λ (rs : List Report). Ran sound Made (take 0 olds) start at_start rs (take 0 news) start at_start) (sym none) nothing)
-  where
-    nothing : Ran sound Made (take 0 olds) start at_start [] (take 0 news) start at_start
-    nothing = record { made = λ all held. (tt, held, refl) }
-
 -- the next visit was made
 pub ran_next : {W K : Type 0} (sound : W → Type 0) (Made : Visit W → K → Report → Visit W → K → Type 0) (olds news : List (Visit W)) (i : ℕ) (start : K) (at_start : Type 0) (reports : List Report) (mid : K) (at_mid : Type 0)
     (old new : Visit W) (report : Report) (last : K) (at_last : Type 0) → Ran sound Made (take i olds) start at_start reports (take i news) mid at_mid

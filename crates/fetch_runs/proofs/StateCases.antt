@@ -29,7 +29,7 @@ use Rattle.fetch_session.specs.declared.fault.Why.TheVariants as why
 use Rattle.fetch_session.specs.declared.report.ReportLine.{ReportLine}
 use Rattle.fetch_session.specs.Report.{retrieved_in}
 use Rattle.fetch_runs.proofs.StateDone.{counted_by}
-use Rattle.fetch_session.specs.Target.{Stores}
+use Rattle.fetch_session.specs.Target.{AsFiles, Stores}
 use Rattle.fetch_runs.proofs.Words.{Went, AllWent, Fell, NotStored, Stops, Does, tasks_ahead}
 
 -- without a reply nothing was found
@@ -264,12 +264,12 @@ module _ (laws : Laws) (settings : Settings) (account : List ℕ) (items : List 
             (ap (λ (m : Maildir). m.in_new) there ∙ ap (λ (t : List ℕ). fell.mid.store.maildir.in_new ++ mail_file account refused.uid t ∷ []) came.2) (ap (λ (m : Maildir). m.in_cur) there) refused.file refused.lines is
 
     stopped_leads : (stops : Stops account fell.next fell.mid cut new)
-        → Leads settings account now false (course_stopped account items fell.dones fell.next fell.mid new cut stops) rows maildir new.store.maildir new.file.content new.lines (RefusedIn (Err cut)) (UnsavedIn (Err cut))
+        → Leads settings account now false (course_stopped (AsFiles account) items fell.dones fell.next fell.mid new cut stops) rows maildir new.store.maildir new.file.content new.lines (RefusedIn (Err cut)) (UnsavedIn (Err cut))
     stopped_leads (inl broken) = broken_leads broken
     stopped_leads (inr (inl refused)) = not_stored_leads refused
     stopped_leads (inr (inr refused)) = not_saved_leads refused.number refused.uid refused.reply refused.is refused.talked.good refused.saves refused.stored refused.lines
 
   pub does_leads : (result : Result (Unit {0}) Cut) (new : Scene) (does : Does account (tasks_ahead settings account items now maildir old.rows) old result new)
-      → Leads settings account now (is_ended result) (course_does account items (tasks_ahead settings account items now maildir old.rows) old new result does) rows maildir new.store.maildir new.file.content new.lines (RefusedIn result) (UnsavedIn result)
+      → Leads settings account now (is_ended result) (course_does (AsFiles account) items (tasks_ahead settings account items now maildir old.rows) old new result does) rows maildir new.store.maildir new.file.content new.lines (RefusedIn result) (UnsavedIn result)
   does_leads (Ok done) new went = all_went new went
   does_leads (Err cut) new fell = stopped_leads cut new fell fell.stops

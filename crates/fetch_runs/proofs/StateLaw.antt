@@ -21,11 +21,11 @@ use Rattle.fetch_session.specs.Record.{Keeps, KeepsRows}
 use Rattle.fetch_session.specs.Readiness.{UnreadyCause}
 use Rattle.fetch_session.specs.Report.{retrieved_in}
 use Rattle.fetch_session.specs.Scene.{Scene}
-use Rattle.fetch_session.specs.Session.{Keeping, Kept, kept, Noted, Session}
+use Rattle.fetch_session.specs.Session.{Keeping, Kept, kept, keeps_files, Noted, Session}
 use Rattle.fetch_runs.proofs.Courses.{Way, Idle, Deals, course, course_carried, course_cut, course_carries, way_proceeded, way_of}
 use Rattle.fetch_runs.proofs.StateBuilt.{Laws, Leads, Part, lead, lead_nothing}
 use Rattle.fetch_runs.proofs.StateCases.{is_ended, RefusedIn, UnsavedIn, does_leads}
-use Rattle.fetch_session.specs.Target.{Stores}
+use Rattle.fetch_session.specs.Target.{AsFiles, Stores, in_maildir}
 use Rattle.fetch_runs.proofs.Words.{IsMergedAtMost, scene, tasks_ahead, Unprepared, Carried, Carries, Proceeds}
 
 -- the files are as they were
@@ -90,20 +90,20 @@ module _ (laws : Laws) (settings : Settings) (account : List ℕ) (items : List 
           (λ never. absurd (true≢false (sym never))) new.lines (RefusedIn (Err cut)) (UnsavedIn (Err cut)) told (λ never. absurd (omega (arith, never))) (λ never. absurd (omega (arith, never)))
 
   carried_leads : (result : Result (Unit {0}) Cut) (new : Scene) (skipped : ℕ) (is : Carried settings account items now place maildir file lines result new skipped)
-      → Leads settings account now (is_ended result) (course_carried settings account items now place maildir file lines result new skipped is) rows maildir new.store.maildir new.file.content new.lines (RefusedIn result) (UnsavedIn result)
+      → Leads settings account now (is_ended result) (course_carried settings (AsFiles account) items now place (in_maildir maildir) file lines result new skipped is) rows maildir new.store.maildir new.file.content new.lines (RefusedIn result) (UnsavedIn result)
   carried_leads result new skipped is =
       does_leads laws settings account items now maildir rows is.mid (ap (λ (s : Stores). s.maildir) is.prepared.settles)
       (is.prepared.rows ∙ ap (λ (r : List Row). merged r items (flags_of account maildir items) now) (same_rows is.prepared.was is.prepared.stood)) (is.prepared.lines_are ∙ no_lines) is.prepared.saved result new is.does
 
   cut_leads : (cut : Cut) (new : Scene) (skipped : ℕ)
       (is : ((skipped ≡ 0) × Unprepared account items now place maildir file lines cut new) ⊎ Carried settings account items now place maildir file lines (Err cut) new skipped)
-      → Leads settings account now false (course_cut settings account items now place maildir file lines cut new skipped is) rows maildir new.store.maildir new.file.content new.lines (RefusedIn (Err cut)) (UnsavedIn (Err cut))
+      → Leads settings account now false (course_cut settings (AsFiles account) items now place (in_maildir maildir) file lines cut new skipped is) rows maildir new.store.maildir new.file.content new.lines (RefusedIn (Err cut)) (UnsavedIn (Err cut))
   cut_leads cut new skipped (inl is) = unprepared_leads cut new is.1
   cut_leads cut new skipped (inr is) = carried_leads (Err cut) new skipped is
 
   carries_leads : (result : Result (Unit {0}) Cut) (place' : Place) (maildir' : Maildir) (file' : Stored) (lines' : List ReportLine) (skipped : ℕ)
       (is : Carries settings account items now place maildir file lines result place' maildir' file' lines' skipped)
-      → Leads settings account now (is_ended result) (course_carries settings account items now place maildir file lines result place' maildir' file' lines' skipped is) rows maildir maildir' file'.content lines' (RefusedIn result) (UnsavedIn result)
+      → Leads settings account now (is_ended result) (course_carries settings (AsFiles account) items now place (in_maildir maildir) file lines result place' (in_maildir maildir') file' lines' skipped is) rows maildir maildir' file'.content lines' (RefusedIn result) (UnsavedIn result)
   carries_leads (Ok done) place' maildir' file' lines' skipped is = carried_leads (Ok done) (scene place' maildir' file' is.0 lines') skipped is.1
   carries_leads (Err cut) place' maildir' file' lines' skipped is = cut_leads cut (scene place' maildir' file' is.0 lines') skipped is.1
 
@@ -115,7 +115,7 @@ WayLeads settings account now result (Deals course) rows before after lines =
 
 way_leads : (laws : Laws) (settings : Settings) (account : List ℕ) (now : ℕ) (old : Place) (before : Kept) (result : Result (Unit {0}) Cut) (new : Place) (after : Kept) (notes : Noted) (rows : List Row)
     → KeepsRows before.file.content rows → (is : Proceeds settings account now old before result new after notes)
-    → WayLeads settings account now result (way_proceeded settings account now old before result new after notes is) rows before after notes.lines
+    → WayLeads settings account now result (way_proceeded settings (AsFiles account) now old (keeps_files before) result new (keeps_files after) notes is) rows before after notes.lines
 way_leads laws settings account now old before (Ok done) new after notes rows keeps dealt =
     carries_leads laws settings account dealt.items now dealt.mid before.maildir before.file [] rows keeps refl (Ok done) new after.maildir after.file notes.lines notes.skipped dealt.carries
 way_leads laws settings account now old before (Err cut) new after notes rows keeps (inl stopped) = (refl, ap (λ (k : Keeping). kept k.store.maildir k.file) stopped.same, ap (λ (n : Noted). n.lines) stopped.nothing)
@@ -125,5 +125,5 @@ way_leads laws settings account now old before (Err cut) new after notes rows ke
 
 pub session_leads : (laws : Laws) (settings : Settings) (account : List ℕ) (now : ℕ) (link : Link) (before : Kept) (report : Report) (link' : Link) (after : Kept) (rows : List Row)
     → KeepsRows before.file.content rows → (is : Session settings account now link before report link' after)
-    → WayLeads settings account now is.result (way_of settings account now link before report link' after is) rows before after is.notes.lines
+    → WayLeads settings account now is.result (way_of settings (AsFiles account) now link (keeps_files before) report link' (keeps_files after) is) rows before after is.notes.lines
 session_leads laws settings account now link before report link' after rows keeps is = way_leads laws settings account now (at link []) before is.result is.mid after is.notes rows keeps is.proceeds

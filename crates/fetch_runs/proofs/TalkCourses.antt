@@ -1,5 +1,5 @@
 -- What a link gains after the opening, for each way in which a session's tasks may end.
-use Rattle.std.proofs.Common.{◌≡◌, inl, inr, ◌⊎◌, ℕ, List, [], ◌∷◌, ◌++◌, Option, None, Some, Result, refl, sym, ap, subst, ◌∙◌}
+use Rattle.std.proofs.Common.{◌≡◌, inl, inr, ◌⊎◌, ℕ, List, [], ◌∷◌, ◌++◌, Option, None, Some, Result, refl, sym, ap, subst, ◌∙◌, append_assoc}
 use Rattle.std.specs.List.{flat_map, AllByRecursion}
 use Rattle.std.proofs.lemmas.List.{append-nil, map-append}
 use Rattle.std.proofs.lemmas.List.Concat.{flat_map-append}
@@ -11,7 +11,7 @@ use Rattle.pop3_wire.specs.Link.{Link}
 use Rattle.pop3_wire.specs.Place.{Place}
 use Rattle.pop3_wire.specs.Reading.{WholeReply}
 use Rattle.pop3_client.specs.declared.fault.Fault.{Fault as TalkFault}
-use Rattle.pop3_client.specs.Turns.{Turn, retr}
+use Rattle.pop3_client.specs.Turns.{Turn, turn_bytes, retr}
 use Rattle.pop3_client.specs.Conversation.{Talked, Talks, ConversationsArePaced}
 use Rattle.pop3_client.specs.Texts.{body_text}
 use Rattle.mail_terms.specs.Listing.{Item}
@@ -22,14 +22,14 @@ use Rattle.fetch_session.specs.declared.fault.Fault.{Fault}
 use Rattle.fetch_session.specs.Task.{Task, stores, Done, task_in, turns_in, tasks_of, turns_of, replies_of, IsAnswered}
 use Rattle.fetch_session.specs.Store.{RefusesText}
 use Rattle.fetch_session.specs.Tail.{tail, LeftBy, Left, turns_in as tail_turns}
-use Rattle.fetch_session.specs.Scene.{Scene, Broken}
+use Rattle.fetch_session.specs.Scene.{Scene, Broken, NoFile, NoRoom, Went, Stops}
+use Rattle.fetch_session.specs.Target.{Target, AsFiles, AsEntries}
 use Rattle.fetch_session.specs.Laws.{TurnsJoin}
 use Rattle.fetch_runs.proofs.Courses.{Course, course, course_stopped, stored_done, spare_in, found_in, found_by, found_of, begun_of}
-use Rattle.fetch_runs.proofs.TalkParts.{Goes, Fronted, fronted, goes_tail, goes_nothing, goes_broke, goes_under}
+use Rattle.fetch_runs.proofs.TalkParts.{Goes, Fronted, fronted, goes_tail, goes_whole, goes_broke, goes_under}
 use Rattle.fetch_runs.proofs.TalkCommands.{commands_in, all_append, all_front, all_back}
 use Rattle.fetch_runs.proofs.TalkReplies.{IsPlain, commands_on, text_read, dones_read, nothing_found}
 use Rattle.fetch_runs.proofs.TalkTasks.{turns_on}
-use Rattle.fetch_runs.proofs.Words.{Went, Stops, NotStored, NotSaved}
 
 -- the turns that were completed after the opening, one that was begun, and what the link gained by them and
 -- the tail
@@ -59,8 +59,14 @@ read_dones dones others none plain each more =
     (dones_read dones [] more [] plain each refl))
 
 module _ (joining : TurnsJoin) (paced : ConversationsArePaced) (items : List Item) where
+  -- the tail after a cut with no reply under way
+  tailed : (cut : Cut) (there last : Place) → cut.rest ≡ None → Left cut there last → Fronted (tail_turns (tail cut.fault)) there.link last.link
+  tailed cut there last none left =
+      let said : (result : Result (Unit {0}) TalkFault) × Talks (tail_turns (tail cut.fault)) there result last = subst (λ (r : Option Rest). LeftBy cut.fault r there last) none left in
+      fronted paced (tail_turns (tail cut.fault)) there last said.0 said.1
+
   -- the next turn was begun, and its text isn't stored
-  pub begun_next : (dones : List Done) (next : Task) (turn : Turn) (tail : List Turn) (first there : Place) (link : Link) → turns_in next ≡ turn ∷ []
+  begun_next : (dones : List Done) (next : Task) (turn : Turn) (tail : List Turn) (first there : Place) (link : Link) → turns_in next ≡ turn ∷ []
       → Talked (turns_of dones) (replies_of dones) first there → AllByRecursion IsPlain (tasks_of dones) → AllByRecursion IsAnswered dones → Goes (turn ∷ []) tail there.link link
       → Took (course items dones [] (next ∷ [])) first tail link
   begun_next dones next turn tail first there link takes talked plain each goes = record {
@@ -78,23 +84,17 @@ module _ (joining : TurnsJoin) (paced : ConversationsArePaced) (items : List Ite
     whole = λ none. absurd (cons_nil next [] none);
   }
 
-  pub took_broken : (dones : List Done) (next : Task) (first mid new : Scene) (cut : Cut) (last : Place) → Talked (turns_of dones) (replies_of dones) first.place mid.place
+  took_broken : (dones : List Done) (next : Task) (first mid new : Scene) (cut : Cut) (last : Place) → Talked (turns_of dones) (replies_of dones) first.place mid.place
       → AllByRecursion IsPlain (tasks_of dones) → AllByRecursion IsAnswered dones → Broken next mid new cut → Left cut new.place last
       → Took (course items dones [] (next ∷ [])) first.place (tail_turns (tail cut.fault)) last.link
   took_broken dones next first mid new cut last talked plain each broken left =
       begun_next dones next broken.turn (tail_turns (tail cut.fault)) first.place mid.place last.link broken.takes talked plain each
       (subst (λ (f : Fault). Goes (broken.turn ∷ []) (tail_turns (tail f)) mid.place.link last.link) (sym broken.is)
       (goes_broke broken.turn mid.place new.place last broken.why broken.broke
-      (subst (λ (f : Fault). Fronted (tail_turns (tail f)) new.place.link last.link) broken.is ended)))
-    where
-      said : (result : Result (Unit {0}) TalkFault) × Talks (tail_turns (tail cut.fault)) new.place result last
-      said = subst (λ (r : Option Rest). LeftBy cut.fault r new.place last) broken.none left
-
-      ended : Fronted (tail_turns (tail cut.fault)) new.place.link last.link
-      ended = fronted paced (tail_turns (tail cut.fault)) new.place last said.0 said.1
+      (subst (λ (f : Fault). Fronted (tail_turns (tail f)) new.place.link last.link) broken.is (tailed cut new.place last broken.none left))))
 
   -- the text was read to its end, and the store refused it
-  pub with_spare : (dones : List Done) (next : Task) (number : ℕ) (uid : List ℕ) (reply : WholeReply) (tail : List Turn) (first mid there : Place) (link : Link) → next ≡ stores number uid
+  with_spare : (dones : List Done) (next : Task) (number : ℕ) (uid : List ℕ) (reply : WholeReply) (tail : List Turn) (first mid there : Place) (link : Link) → next ≡ stores number uid
       → Talked (turns_of dones) (replies_of dones) first mid → Talked (retr number ∷ []) (reply ∷ []) mid there → AllByRecursion IsPlain (tasks_of dones) → AllByRecursion IsAnswered dones
       → Goes [] tail there.link link → Took (course items dones (reply ∷ []) (next ∷ [])) first tail link
   with_spare dones next number uid reply tail first mid there link is talked fetched plain each goes = record {
@@ -116,7 +116,7 @@ module _ (joining : TurnsJoin) (paced : ConversationsArePaced) (items : List Ite
   }
 
   took_refused : (account : List ℕ) (dones : List Done) (next : Task) (first mid new : Scene) (cut : Cut) (last : Place) → Talked (turns_of dones) (replies_of dones) first.place mid.place
-      → AllByRecursion IsPlain (tasks_of dones) → AllByRecursion IsAnswered dones → (refused : NotStored account next mid new cut) → Left cut new.place last
+      → AllByRecursion IsPlain (tasks_of dones) → AllByRecursion IsAnswered dones → (refused : NoFile account next mid new cut) → Left cut new.place last
       → (refuses : RefusesText mid.store.maildir (stem_of account refused.uid) refused.rest refused.text cut.fault new.store.maildir)
       → Took (course items dones (spare_in refused.number mid.place new.place refused.rest refused.text mid.store.maildir new.store.maildir (stem_of account refused.uid) cut.fault refused.whole refuses) (next ∷ []))
       first.place (tail_turns (tail cut.fault)) last.link
@@ -163,43 +163,62 @@ module _ (joining : TurnsJoin) (paced : ConversationsArePaced) (items : List Ite
     whole = λ none. refl;
   }
 
-  took_unsaved : (account : List ℕ) (dones : List Done) (next : Task) (first mid new : Scene) (cut : Cut) (last : Place) → Talked (turns_of dones) (replies_of dones) first.place mid.place
-      → AllByRecursion IsPlain (tasks_of dones) → AllByRecursion IsAnswered dones → IsPlain next → (unsaved : NotSaved account next mid new cut) → Left cut new.place last
-      → Took (course items (dones ++ stored_done unsaved.number unsaved.uid unsaved.reply ∷ []) [] []) first.place (tail_turns (tail cut.fault)) last.link
-  took_unsaved account dones next first mid new cut last talked plain each small unsaved left =
+  -- the text was stored, and its id wasn't saved
+  took_unsaved : (dones : List Done) (next : Task) (number : ℕ) (uid : List ℕ) (reply : WholeReply) (first mid new : Scene) (cut : Cut) (last : Place) → cut.rest ≡ None → next ≡ stores number uid
+      → Talked (turns_of dones) (replies_of dones) first.place mid.place → Talked (retr number ∷ []) (reply ∷ []) mid.place new.place → AllByRecursion IsPlain (tasks_of dones) → AllByRecursion IsAnswered dones
+      → IsPlain next → Left cut new.place last → Took (course items (dones ++ stored_done number uid reply ∷ []) [] []) first.place (tail_turns (tail cut.fault)) last.link
+  took_unsaved dones next number uid reply first mid new cut last none is talked fetched plain each small left =
       all_done (dones ++ one ∷ []) (tail_turns (tail cut.fault)) first.place new.place last.link
       (subst (λ (ts : List Turn). Talked ts (replies_of (dones ++ one ∷ [])) first.place new.place) (sym (flat_map-append (λ (d : Done). turns_in d.task) dones (one ∷ [])))
-      (subst (λ (rs : List WholeReply). Talked (turns_of dones ++ retr unsaved.number ∷ []) rs first.place new.place) (sym (flat_map-append (λ (d : Done). d.replies) dones (one ∷ [])))
-      (joining.on (turns_of dones) (retr unsaved.number ∷ []) (replies_of dones) (unsaved.reply ∷ []) first.place mid.place new.place talked unsaved.talked)))
-      (subst (AllByRecursion IsPlain) (sym (map-append task_in dones (one ∷ []))) (all_append IsPlain (tasks_of dones) (stores unsaved.number unsaved.uid ∷ []) plain (subst IsPlain unsaved.is small, tt)))
-      (all_append IsAnswered dones (one ∷ []) each (unsaved.talked.good, tt))
-      (goes_tail (tail_turns (tail cut.fault)) new.place.link last.link (fronted paced (tail_turns (tail cut.fault)) new.place last said.0 said.1))
+      (subst (λ (rs : List WholeReply). Talked (turns_of dones ++ retr number ∷ []) rs first.place new.place) (sym (flat_map-append (λ (d : Done). d.replies) dones (one ∷ [])))
+      (joining.on (turns_of dones) (retr number ∷ []) (replies_of dones) (reply ∷ []) first.place mid.place new.place talked fetched)))
+      (subst (AllByRecursion IsPlain) (sym (map-append task_in dones (one ∷ []))) (all_append IsPlain (tasks_of dones) (stores number uid ∷ []) plain (subst IsPlain is small, tt)))
+      (all_append IsAnswered dones (one ∷ []) each (fetched.good, tt))
+      (goes_tail (tail_turns (tail cut.fault)) new.place.link last.link (tailed cut new.place last none left))
     where
       one : Done
-      one = stored_done unsaved.number unsaved.uid unsaved.reply
+      one = stored_done number uid reply
 
-      said : (result : Result (Unit {0}) TalkFault) × Talks (tail_turns (tail cut.fault)) new.place result last
-      said = subst (λ (r : Option Rest). LeftBy cut.fault r new.place last) unsaved.none left
+  -- memory was wanting for a text as it came
+  took_wanting : (dones : List Done) (next : Task) (first mid new : Scene) (cut : Cut) (last : Place) → Talked (turns_of dones) (replies_of dones) first.place mid.place
+      → AllByRecursion IsPlain (tasks_of dones) → AllByRecursion IsAnswered dones → NoRoom next mid new cut → Left cut new.place last
+      → Took (course items dones [] (next ∷ [])) first.place (tail_turns (tail cut.fault)) last.link
+  took_wanting dones next first mid new cut last talked plain each wanting left =
+      begun_next dones next (retr wanting.number) (tail_turns (tail cut.fault)) first.place mid.place last.link (ap turns_in wanting.is) talked plain each
+      (goes_whole (retr wanting.number) (tail_turns (tail cut.fault)) mid.place.link new.place.link last.link (wanting.fetching.opened.gained ++ wanting.fetching.under.gained) sent got
+      (tailed cut new.place last wanting.none left))
+    where
+      sent : new.place.link.sent ≡ mid.place.link.sent ++ turn_bytes (retr wanting.number)
+      sent = wanting.fetching.under.drew.sent ∙ wanting.fetching.opened.sent
 
-  pub took_stopped : (account : List ℕ) (dones : List Done) (next : Task) (first mid new : Scene) (cut : Cut) (last : Place) → Went account dones first mid
-      → AllByRecursion IsPlain (tasks_of dones ++ next ∷ []) → (stops : Stops account next mid cut new) → Left cut new.place last
-      → Took (course_stopped account items dones next mid new cut stops) first.place (tail_turns (tail cut.fault)) last.link
-  took_stopped account dones next first mid new cut last went plain (inl broken) left =
-      took_broken dones next first mid new cut last went.talked (all_front IsPlain (tasks_of dones) (next ∷ []) plain) went.each broken left
-  took_stopped account dones next first mid new cut last went plain (inr (inl refused)) left =
-      took_refused account dones next first mid new cut last went.talked (all_front IsPlain (tasks_of dones) (next ∷ []) plain) went.each refused left refused.refuses
-  took_stopped account dones next first mid new cut last went plain (inr (inr unsaved)) left =
-      took_unsaved account dones next first mid new cut last went.talked (all_front IsPlain (tasks_of dones) (next ∷ []) plain) went.each
-      (all_back IsPlain (tasks_of dones) (next ∷ []) plain).0 unsaved left
+      got : new.place.link.got ≡ mid.place.link.got ++ (wanting.fetching.opened.gained ++ wanting.fetching.under.gained)
+      got = wanting.fetching.under.drew.got ∙ ap (λ (l : List ℕ). l ++ wanting.fetching.under.gained) wanting.fetching.opened.got
+          ∙ append_assoc mid.place.link.got wanting.fetching.opened.gained wanting.fetching.under.gained
 
-  -- the whole plan was done
-  pub took_all : (account : List ℕ) (dones : List Done) (tail : List Turn) (first new : Scene) → Went account dones first new → AllByRecursion IsPlain (tasks_of dones)
-      → Took (course items dones [] []) first.place tail new.place.link
-  took_all account dones tail first new went plain = all_done dones tail first.place new.place new.place.link went.talked plain went.each (goes_nothing tail new.place.link)
+  pub took_stopped : (target : Target) (dones : List Done) (next : Task) (first mid new : Scene) (cut : Cut) (last : Place) → Went target dones first mid
+      → AllByRecursion IsPlain (tasks_of dones ++ next ∷ []) → (stops : Stops target next mid cut new) → Left cut new.place last
+      → Took (course_stopped target items dones next mid new cut stops) first.place (tail_turns (tail cut.fault)) last.link
+  took_stopped target dones next first mid new cut last went plain stops left = by target went stops
+    where
+      front : AllByRecursion IsPlain (tasks_of dones)
+      front = all_front IsPlain (tasks_of dones) (next ∷ []) plain
+
+      small : IsPlain next
+      small = (all_back IsPlain (tasks_of dones) (next ∷ []) plain).0
+
+      by : (to : Target) → Went to dones first mid → (how : Stops to next mid cut new) → Took (course_stopped to items dones next mid new cut how) first.place (tail_turns (tail cut.fault)) last.link
+      by to went (inl broken) = took_broken dones next first mid new cut last went.talked front went.each broken left
+      by (AsFiles account) went (inr (inl refused)) = took_refused account dones next first mid new cut last went.talked front went.each refused left refused.refuses
+      by (AsFiles account) went (inr (inr unsaved)) =
+          took_unsaved dones next unsaved.number unsaved.uid unsaved.reply first mid new cut last unsaved.none unsaved.is went.talked unsaved.talked front went.each small left
+      by AsEntries went (inr (inl (inl wanting))) = took_wanting dones next first mid new cut last went.talked front went.each wanting left
+      by AsEntries went (inr (inl (inr refused))) =
+          with_spare dones next refused.number refused.uid refused.reply (tail_turns (tail cut.fault)) first.place mid.place new.place last.link refused.is went.talked refused.talked front went.each
+          (goes_tail (tail_turns (tail cut.fault)) new.place.link last.link (tailed cut new.place last refused.none left))
+      by AsEntries went (inr (inr unsaved)) =
+          took_unsaved dones next unsaved.number unsaved.uid unsaved.reply first mid new cut last unsaved.none unsaved.is went.talked unsaved.talked front went.each small left
 
   -- nothing was begun
   pub took_nothing : (cut : Cut) (there last : Place) → cut.rest ≡ None → Left cut there last → Took (course items [] [] []) there (tail_turns (tail cut.fault)) last.link
   took_nothing cut there last none left =
-      let said : (result : Result (Unit {0}) TalkFault) × Talks (tail_turns (tail cut.fault)) there result last = subst (λ (r : Option Rest). LeftBy cut.fault r there last) none left in
-      all_done [] (tail_turns (tail cut.fault)) there there last.link (joining.none there) tt tt
-      (goes_tail (tail_turns (tail cut.fault)) there.link last.link (fronted paced (tail_turns (tail cut.fault)) there last said.0 said.1))
+      all_done [] (tail_turns (tail cut.fault)) there there last.link (joining.none there) tt tt (goes_tail (tail_turns (tail cut.fault)) there.link last.link (tailed cut there last none left))

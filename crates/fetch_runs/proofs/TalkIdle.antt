@@ -66,18 +66,24 @@ module _ (paced : ConversationsArePaced) (name word : List ℕ) (start new last 
   opens_cut why (inr (inl (is, (count, uids, sizes, opened, never)))) result talks = opens_all count uids sizes (tail_turns (tail (fault_of why))) opened result talks
   opens_cut why (inr (inr (is, (count, uids, sizes, opened)))) result talks = opens_all count uids sizes (tail_turns (tail (fault_of why))) opened result talks
 
--- its commands, none of which is a RETR or a DELE
+-- the commands of a conversation of the opening
+pub commanded_opening : FrontsAreAsked → (name word : List ℕ) → is_credential name ≡ true → is_credential word ≡ true → (turns : List Turn) → IsTail turns → (sent got : List ℕ)
+    → (said : Converses (opening name word) turns sent got) → Commanded said.done said.begun turns sent
+commanded_opening law name word named worded turns kind sent got said =
+    commanded law said.done said.replies said.begun turns sent got (all_front CanBeSaid said.done (said.begun ++ said.later) can)
+    (all_front CanBeSaid said.begun said.later (all_back CanBeSaid said.done (said.begun ++ said.later) can)) (said_tail turns kind) said.is
+  where
+    can : AllByRecursion CanBeSaid (said.done ++ (said.begun ++ said.later))
+    can = subst (AllByRecursion CanBeSaid) said.split (said_opening name word named worded)
+
+-- none of them is a RETR or a DELE
 pub idle_said : FrontsAreAsked → (name word : List ℕ) → is_credential name ≡ true → is_credential word ≡ true → (turns : List Turn) → IsTail turns → (sent got : List ℕ)
     → Converses (opening name word) turns sent got → (commands : List Command) × (asked : Asked commands sent) × AllByRecursion (IsOfTask []) commands × BeginsOne (IsOfTask []) asked.part
 idle_said law name word named worded turns kind sent got said =
     (commands_in said.done ++ (whole.ahead ++ whole.ends), whole.asked, said_of_tasks [] said.done said.begun turns sent kind whole none, next_of_tasks [] said.done said.begun turns sent kind whole none)
   where
-    can : AllByRecursion CanBeSaid (said.done ++ (said.begun ++ said.later))
-    can = subst (AllByRecursion CanBeSaid) said.split (said_opening name word named worded)
-
     whole : Commanded said.done said.begun turns sent
-    whole = commanded law said.done said.replies said.begun turns sent got (all_front CanBeSaid said.done (said.begun ++ said.later) can)
-        (all_front CanBeSaid said.begun said.later (all_back CanBeSaid said.done (said.begun ++ said.later) can)) (said_tail turns kind) said.is
+    whole = commanded_opening law name word named worded turns kind sent got said
 
     all : AllByRecursion (IsOfTask []) (commands_in (opening name word))
     all = (tt, (tt, (tt, (tt, (tt, tt)))))

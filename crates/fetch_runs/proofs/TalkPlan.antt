@@ -7,11 +7,14 @@ use Rattle.pop3_wire.specs.declared.command.Command.TheVariants.{Retr, Dele, Qui
 use Rattle.pop3_wire.specs.Reading.{WholeReply}
 use Rattle.pop3_client.specs.Turns.{Turn, quit, IsGood}
 use Rattle.mail_terms.specs.Listing.{Item}
+use Rattle.rc_file.specs.declared.settings.Settings.{Settings}
+use Rattle.fetch_rules.specs.Record.{Row}
+use Rattle.fetch_rules.specs.Plan.{planned, step_of}
 use Rattle.fetch_rules.specs.declared.steps.Step.{Step}
-use Rattle.mail_store.specs.Maildir.{Maildir}
 use Rattle.mail_store.specs.FileName.{is_held}
-use Rattle.mail_store.specs.Held.{flags_of}
 use Rattle.run_law.specs.Plans.{asked_if, step_commands}
+use Rattle.fetch_session.specs.Plan.{tasks_ahead}
+use Rattle.fetch_session.specs.Target.{Target, AsFiles, AsEntries, Stores}
 use Rattle.fetch_session.specs.Report.{is_taken}
 use Rattle.fetch_session.specs.Task.{Task, says, skips, stores, rereads, deletes, Done, fetching, deleting, tasks_planned, turns_in, tasks_of, turns_of, lines_in, lines_of, IsAnswered}
 use Rattle.fetch_runs.specs.Conversations.{is_retrieval, retrieved_by}
@@ -28,15 +31,20 @@ step_turns true false false number size uid tasks last commands ends later = ap 
 step_turns false held true number size uid tasks last commands ends later = ap (λ (ts : List Turn). Some (Dele number) ∷ ts) later
 step_turns false held false number size uid tasks last commands ends later = later
 
-pub plan_same : (account : List ℕ) (maildir : Maildir) (f : ℕ × Item → Step) (n : ℕ) (items : List Item)
-    → flat_map turns_in (tasks_planned (map f (enumerate_from n items)) items (flags_of account maildir items) ++ says quit ∷ [])
+plan_same : (held : Item → Bool) (f : ℕ × Item → Step) (n : ℕ) (items : List Item)
+    → flat_map turns_in (tasks_planned (map f (enumerate_from n items)) items (map held items) ++ says quit ∷ [])
     ≡ map Some (flat_map step_commands (map f (enumerate_from n items)) ++ Quit ∷ [])
-plan_same account maildir f n [] = refl
-plan_same account maildir f n (i ∷ items) =
+plan_same held f n [] = refl
+plan_same held f n (i ∷ items) =
     let s = f (n, i) in
-    step_turns s.retrieve (is_held account maildir i.uid) s.delete s.number i.size i.uid
-    (tasks_planned (map f (enumerate_from (n + 1) items)) items (flags_of account maildir items)) (says quit ∷ [])
-    (flat_map step_commands (map f (enumerate_from (n + 1) items))) (Quit ∷ []) (plan_same account maildir f (n + 1) items)
+    step_turns s.retrieve (held i) s.delete s.number i.size i.uid
+    (tasks_planned (map f (enumerate_from (n + 1) items)) items (map held items)) (says quit ∷ [])
+    (flat_map step_commands (map f (enumerate_from (n + 1) items))) (Quit ∷ []) (plan_same held f (n + 1) items)
+
+pub turns_ahead : (settings : Settings) (target : Target) (items : List Item) (now : ℕ) (store : Stores) (rows : List Row)
+    → flat_map turns_in (tasks_ahead settings target items now store rows) ≡ map Some (flat_map step_commands (planned settings rows items now) ++ Quit ∷ [])
+turns_ahead settings (AsFiles account) items now store rows = plan_same (λ (item : Item). is_held account store.maildir item.uid) (step_of settings rows items now) 1 items
+turns_ahead settings AsEntries items now store rows = plan_same (λ (item : Item). false) (step_of settings rows items now) 1 items
 
 -- ---- how many texts were taken
 

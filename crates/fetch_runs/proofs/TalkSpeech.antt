@@ -120,6 +120,13 @@ next_of_tasks tasks done begun turns sent kind c all = begins_one (IsOfTask task
           (all_back (IsOfTask tasks) c.ends c.unended (subst (AllByRecursion (IsOfTask tasks)) c.of_tail (of_tail_tasks tasks turns kind)))
     ]
 
+-- the commands of the opening's turns and of turns after them
+pub commanded_after : FrontsAreAsked → (name word : List ℕ) → is_credential name ≡ true → is_credential word ≡ true → (done begun turns : List Turn) (replies : List WholeReply) (sent got : List ℕ)
+    → IsTail turns → AllByRecursion CanBeSaid (done ++ begun) → Conversation (opening name word ++ done) replies begun turns sent got → Commanded (opening name word ++ done) begun turns sent
+commanded_after law name word named worded done begun turns replies sent got kind can said =
+    commanded law (opening name word ++ done) replies begun turns sent got
+    (all_append CanBeSaid (opening name word) done (said_opening name word named worded) (all_front CanBeSaid done begun can)) (all_back CanBeSaid done begun can) (said_tail turns kind) said
+
 module _ (joining : TurnsJoin) (law : FrontsAreAsked) (name word : List ℕ) (named' : is_credential name ≡ true) (worded : is_credential word ≡ true) where
   speaks : (c : Course) (count : ℕ) (uids : List UidRow) (sizes : List ScanRow) (start mid : Place) (turns : List Turn) (kind : IsTail turns) (link : Link) (opened : Opened name word start mid count uids sizes)
       → Joins count uids sizes c.items → AllByRecursion IsPlain (begun_of c) → (took : Took c mid turns link) → (r : Replied name word opened.welcome opened.counted opened.named opened.sized)
@@ -167,13 +174,10 @@ module _ (joining : TurnsJoin) (law : FrontsAreAsked) (name word : List ℕ) (na
       greeted : reply_bytes r.hello ≡ ended r.hello.first
       greeted = ap (λ (b : Option (List (List ℕ))). ended r.hello.first ++ body_bytes b) (no_body r.hello r.good.0) ∙ append-nil (ended r.hello.first)
 
-      can : AllByRecursion CanBeSaid (took.done ++ took.begun)
-      can = subst (AllByRecursion CanBeSaid) took.all (said_tasks (begun_of c) plain)
-
       whole : Commanded (opening name word ++ took.done) took.begun turns sent
-      whole = commanded law (opening name word ++ took.done) ((opened.welcome ++ opened.counted ∷ opened.named ∷ opened.sized ∷ []) ++ took.replies) took.begun turns sent got
-          (all_append CanBeSaid (opening name word) took.done (said_opening name word named' worded) (all_front CanBeSaid took.done took.begun can))
-          (all_back CanBeSaid took.done took.begun can) (said_tail turns kind) said
+      whole =
+          commanded_after law name word named' worded took.done took.begun turns ((opened.welcome ++ opened.counted ∷ opened.named ∷ opened.sized ∷ []) ++ took.replies) sent got kind
+          (subst (AllByRecursion CanBeSaid) took.all (said_tasks (begun_of c) plain)) said
 
       tasked : AllByRecursion (IsOfTask (begun_of c)) (commands_in took.done ++ commands_in took.begun)
       tasked = subst (AllByRecursion (IsOfTask (begun_of c))) (ap commands_in took.all ∙ commands_split took.done took.begun) (of_tasks [] (begun_of c) plain)

@@ -8,13 +8,12 @@ use Rattle.fetch_rules.specs.Record.{Row}
 use Rattle.fetch_rules.specs.Plan.{planned, step_of}
 use Rattle.fetch_rules.specs.declared.steps.Step.{Step}
 use Rattle.rc_file.specs.declared.settings.Settings.{Settings}
-use Rattle.mail_store.specs.Maildir.{Maildir}
-use Rattle.mail_store.specs.Held.{flags_of}
+use Rattle.fetch_session.specs.Plan.{tasks_ahead}
+use Rattle.fetch_session.specs.Target.{Target, Stores, flags_in}
 use Rattle.fetch_session.specs.Task.{Task, says, skips, stores, rereads, deletes, Done, fetching, deleting, tasks_planned, turns_in, tasks_of, turns_of}
 use Rattle.fetch_runs.proofs.Courses.{IsOfTask}
 use Rattle.fetch_runs.proofs.TalkCommands.{said_in, commands_in, CanBeSaid, all_append}
 use Rattle.fetch_runs.proofs.TalkReplies.{IsCommand, IsPlain}
-use Rattle.fetch_runs.proofs.Words.{tasks_ahead}
 
 -- ---- the tasks of a plan
 
@@ -48,12 +47,12 @@ small_steps f same n (item ∷ items) within =
     (small, small_steps f same (n + 1) items later)
 
 -- of a listing of at most 100,000 messages
-pub plain_ahead : (settings : Settings) (account : List ℕ) (items : List Item) (now : ℕ) (maildir : Maildir) (rows : List Row) → length items ≤ 100000
-    → AllByRecursion IsPlain (tasks_ahead settings account items now maildir rows)
-plain_ahead settings account items now maildir rows few =
+pub plain_ahead : (settings : Settings) (target : Target) (items : List Item) (now : ℕ) (store : Stores) (rows : List Row) → length items ≤ 100000
+    → AllByRecursion IsPlain (tasks_ahead settings target items now store rows)
+plain_ahead settings target items now store rows few =
     let within : 1 + length items ≤ 2 ^ 32 = omega (arith, few) in
-    all_append IsPlain (tasks_planned (planned settings rows items now) items (flags_of account maildir items)) (says quit ∷ [])
-    (plain_planned (planned settings rows items now) items (flags_of account maildir items) (small_steps (step_of settings rows items now) (λ q. refl) 1 items within))
+    all_append IsPlain (tasks_planned (planned settings rows items now) items (flags_in target store items)) (says quit ∷ [])
+    (plain_planned (planned settings rows items now) items (flags_in target store items) (small_steps (step_of settings rows items now) (λ q. refl) 1 items within))
     (refl, tt)
 
 -- ---- their turns
