@@ -7,6 +7,7 @@ use Rattle.std.proofs.lemmas.List.{length-map}
 use Rattle.std.proofs.lemmas.List.Concat.{flat_map-append}
 use Rattle.std.proofs.lemmas.List.Folds.{list_any-append}
 use Rattle.std.proofs.lemmas.Slice.Eq.{bytes_eq-Decides}
+use Rattle.std.proofs.Math.Bool.{or-true}
 use Rattle.mail_terms.specs.Listing.{Item}
 use Rattle.pop3_wire.specs.declared.command.Command.{Command}
 use Rattle.pop3_wire.specs.declared.command.Command.TheVariants.{User, Pass, Stat, UidlAll, UidlOne, ListAll, ListOne, Retr, Dele, Rset, Noop, Top, Quit}
@@ -53,10 +54,6 @@ right_at : (account : List ℕ) (maildir : Maildir) (items : List Item) (front b
 right_at account maildir items [] behind task right = right.0
 right_at account maildir items (t ∷ front) behind task right = right_at account maildir items front behind task right.1
 
-or_true : (b : Bool) → (b || true) ≡ true
-or_true true = refl
-or_true false = refl
-
 id_there : (items : List Item) (front behind : List Task) (number : ℕ) (item : Item) → slice_get items (number - 1) ≡ Some item → has_id (deleted_by items (front ++ deletes number ∷ behind)) item.uid ≡ true
 id_there items front behind number item at =
     ap (λ (ids : List (List ℕ)). has_id ids item.uid) (flat_map-append (deleted_in items) front (deletes number ∷ behind))
@@ -64,7 +61,7 @@ id_there items front behind number item at =
     ∙ ap (λ (b : Bool). list_any (bytes_eq item.uid) (deleted_by items front) || b)
     (ap (λ (o : Option Item). list_any (bytes_eq item.uid) (uids_in o ++ deleted_by items behind)) at
     ∙ ap (λ (b : Bool). b || list_any (bytes_eq item.uid) (deleted_by items behind)) ((bytes_eq-Decides item.uid item.uid).1 refl))
-    ∙ or_true (list_any (bytes_eq item.uid) (deleted_by items front))
+    ∙ or-true (list_any (bytes_eq item.uid) (deleted_by items front))
 
 pub begun_one : (account : List ℕ) (maildir : Maildir) (items : List Item) (tasks : List Task) → AllByRecursion (IsRight account maildir items) tasks → (command : Command)
     → IsOfTask tasks command → IsBegun items (deleted_by items tasks) command

@@ -6,6 +6,7 @@ use Rattle.std.specs.String.{string_bytes}
 use Rattle.std.proofs.lemmas.Bool.{or_cases, true≢false}
 use Rattle.std.proofs.lemmas.List.{append-nil}
 use Rattle.std.proofs.lemmas.Slice.Eq.{bytes_eq-Decides}
+use Rattle.std.proofs.lemmas.Option.{same_Some}
 use Rattle.pop3_wire.specs.declared.command.Command.{Command}
 use Rattle.pop3_wire.specs.declared.command.Command.TheVariants.{User, Pass, Stat, UidlAll, UidlOne, ListAll, ListOne, Retr, Dele, Rset, Noop, Top, Quit}
 use Rattle.pop3_wire.specs.World.{Message}
@@ -53,14 +54,11 @@ holds_prefix laws world state sound is =
 
 -- ---- one session
 
-same_item : (a b : Item) → Some a ≡ Some b → a ≡ b
-same_item a b e = cc
-
 -- the message at the place of its item
 pub message_at : (drop : List Message) (place : ℕ) (item : Item) → slice_get (listing_of drop) place ≡ Some item
     → (message : Message) × (slice_get drop place ≡ Some message) × (item_of message ≡ item)
 message_at [] place item e = absurd cc
-message_at (m ∷ drop) zero item e = (m, refl, same_item (item_of m) item e)
+message_at (m ∷ drop) zero item e = (m, refl, same_Some (item_of m) item e)
 message_at (m ∷ drop) (suc place) item e = message_at drop place item e
 
 pub held_in : (P : List ℕ → Type 0) (ids : List (List ℕ)) (id : List ℕ) → AllByRecursion P ids → has_id ids id ≡ true → P id

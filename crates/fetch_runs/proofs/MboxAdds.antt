@@ -18,6 +18,7 @@ use Rattle.run_law.specs.Readings.{Retrieves}
 use Rattle.run_law.specs.Sessions.{Reads}
 use Rattle.run_law.specs.Steps.{Effect}
 use Rattle.fetch_runs.specs.MboxTexts.{AddsTexts}
+use Rattle.fetch_runs.proofs.StateDone.{text_found}
 
 -- ---- texts that came are whole
 
@@ -29,14 +30,11 @@ lines_whole : (lines : List (List ℕ)) → IsWhole (text_of lines)
 lines_whole [] = inl refl
 lines_whole (line ∷ lines) = line_whole (text_of lines) line (lines_whole lines)
 
-abbrev text_in : ℕ × List ℕ → List ℕ
-text_in found = found.1
-
-retrieved_whole : (commands : List Command) (replies : List WholeReply) (found : List (ℕ × List ℕ)) → Retrieves commands replies found → AllByRecursion IsWhole (map text_in found)
-retrieved_whole commands [] found none = subst (λ (f : List (ℕ × List ℕ)). AllByRecursion IsWhole (map text_in f)) (sym none) tt
+retrieved_whole : (commands : List Command) (replies : List WholeReply) (found : List (ℕ × List ℕ)) → Retrieves commands replies found → AllByRecursion IsWhole (map text_found found)
+retrieved_whole commands [] found none = subst (λ (f : List (ℕ × List ℕ)). AllByRecursion IsWhole (map text_found f)) (sym none) tt
 retrieved_whole [] (reply ∷ replies) found never = absurd never
 retrieved_whole (Retr number ∷ commands) (reply ∷ replies) found (text, more, body, is, later) =
-    subst (λ (f : List (ℕ × List ℕ)). AllByRecursion IsWhole (map text_in f)) (sym is)
+    subst (λ (f : List (ℕ × List ℕ)). AllByRecursion IsWhole (map text_found f)) (sym is)
     (subst IsWhole (sym body.read) (lines_whole body.lines), retrieved_whole commands replies more later)
 retrieved_whole (User name ∷ commands) (reply ∷ replies) found later = retrieved_whole commands replies found later
 retrieved_whole (Pass word ∷ commands) (reply ∷ replies) found later = retrieved_whole commands replies found later
@@ -85,7 +83,7 @@ module _ (adds : EntryAddsText) (settings : Settings) (before : MboxAccount) (ef
   }
     where
       same : length effect.texts ≡ length reads.found
-      same = ap (λ (l : List (List ℕ)). length l) reads.texts ∙ length-map reads.found text_in
+      same = ap (λ (l : List (List ℕ)). length l) reads.texts ∙ length-map reads.found text_found
 
       few : length reads.found ≤ length (mbox_wanted settings before effect)
       few = few_found reads.found (mbox_wanted settings before effect) reads.numbers

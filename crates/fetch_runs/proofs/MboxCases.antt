@@ -5,6 +5,7 @@ use Rattle.std.specs.List.{flat_map, AllByRecursion, AllZip}
 use Rattle.std.proofs.lemmas.Bool.{true≢false}
 use Rattle.std.proofs.lemmas.List.{append-nil, length-map, map-append}
 use Rattle.std.proofs.lemmas.List.Concat.{flat_map-append}
+use Rattle.std.proofs.lemmas.Option.{same_Some}
 use Rattle.mail_terms.specs.Listing.{Item}
 use Rattle.rc_file.specs.declared.settings.Settings.{Settings}
 use Rattle.fetch_rules.specs.Record.{Row, Intent, Held, none_open, is_delivered, merged, marked, marked_all}
@@ -34,20 +35,18 @@ use Rattle.run_law.specs.MboxTold.{AllRecorded, LastUnrecorded, MboxTold, OpensA
 use Rattle.fetch_runs.specs.MboxSteps.{mbox_holds}
 use Rattle.fetch_runs.proofs.Courses.{Course, course, stored_done, course_stopped, course_does, found_in, found_by, found_of, begun_of}
 use Rattle.fetch_runs.proofs.MboxTexts.{texts_same, next_wanted, closed_at, opens_at, open_at, unrecorded_at}
-use Rattle.fetch_runs.proofs.StatePlan.{Safe, IsRight, all_on, all_front, deleted_by, fetched_ahead, right_ahead}
+use Rattle.fetch_runs.proofs.StatePlan.{Safe, IsRight, deleted_by, fetched_ahead, right_ahead}
 use Rattle.fetch_runs.proofs.StateDone.{number_found, text_found, number_of, texts_by, counted_by}
 use Rattle.fetch_runs.proofs.StateMarks.{safe_next, safe_done}
 use Rattle.fetch_runs.proofs.StateBuilt.{Laws, Part, effect_of, safe_tasks, right_part, recorded_all, wanted_all, records_part, numbers_part}
 use Rattle.fetch_runs.proofs.StateCases.{is_ended, found_under, UnsavedIn, unsaved_why}
+use Rattle.fetch_runs.proofs.TalkCommands.{all_append, all_front}
 
 -- the tasks are those of an account with an empty Maildir: no message is held but by the record
 abbrev pub mbox_tasks : Settings → List Item → ℕ → List Row → List Task
 mbox_tasks settings items now rows = tasks_ahead settings (AsFiles []) items now (in_maildir no_maildir) rows
 
 -- ---- what a text that wasn't appended leaves
-
-some_same : (a b : List ℕ) → Some a ≡ Some b → a ≡ b
-some_same a b e = cc
 
 -- no intent is open, and the file is as it was; or the text's is, and a front of its entry follows
 abbrev LeavesEntry : Stored → List Row → List ℕ → List ℕ → Stored → Stored → Type 0
@@ -74,7 +73,7 @@ module _ (steadies : SteadyFilesKeep) (unsaved : UnsavedFilesKeep) (mbox file : 
         behind,
         there,
         entry,
-        ap (λ (s : Stored). s.content) now ∙ ap (λ (l : List ℕ). Some (l ++ front)) (some_same other was (sym goes_on.0 ∙ there)),
+        ap (λ (s : Stored). s.content) now ∙ ap (λ (l : List ℕ). Some (l ++ front)) (same_Some other was (sym goes_on.0 ∙ there)),
         steadies file'.content (with_open rows (intent_of was uid text)) (saves.1 steady),
       )
   leaves_entry (StoreRefused why.NotMbox) (other, same, (was, there, saves)) =
@@ -256,7 +255,7 @@ module _ (laws : Laws) (settings : Settings) (items : List Item) (now : ℕ) (he
         full_part = record {
           rest = fell.later;
           split = (sym same_tasks ∙ fell.split) ∙ sym (append_assoc (tasks_of fell.dones) (fell.next ∷ []) fell.later) ∙ ap (λ (l : List Task). l ++ fell.later) (sym full_tasks);
-          answered = all_on IsAnswered fell.dones (stored_done number uid reply ∷ []) fell.went.each (answered, tt);
+          answered = all_append IsAnswered fell.dones (stored_done number uid reply ∷ []) fell.went.each (answered, tt);
         }
 
         full_found : found_by (fell.dones ++ stored_done number uid reply ∷ []) ≡ found_by fell.dones ++ (number, body_text reply.body) ∷ []
@@ -322,7 +321,7 @@ module _ (laws : Laws) (settings : Settings) (items : List Item) (now : ℕ) (he
             new.lines (UnsavedIn (Err cut)) (ap retrieved_in told ∙ mid_count fell.dones fell.mid fell.went) (λ is. absurd (omega (arith, is)))
           where
             is_was : was ≡ bytes_settled held mbox ++ entries (texts_by fell.dones)
-            is_was = some_same was (bytes_settled held mbox ++ entries (texts_by fell.dones)) (sym there ∙ mid_content)
+            is_was = same_Some was (bytes_settled held mbox ++ entries (texts_by fell.dones)) (sym there ∙ mid_content)
 
         -- its entry stands whole, and the record is one of two
         entered : (noted : List Done) (intent' : Option Intent) → Part (mbox_tasks settings items now (rows_merged items now held mbox)) noted
@@ -347,7 +346,7 @@ module _ (laws : Laws) (settings : Settings) (items : List Item) (now : ℕ) (he
             full_count =
                 ap retrieved_in (told ∙ ap (λ (l : List ReportLine). l ++ delivered number reply ∷ []) (fell.went.lines ∙ ap (λ (l : List ReportLine). l ++ lines_of fell.dones) same_lines)
                 ∙ sym (flat_map-append (λ (d : Done). lines_in d.task d.replies) fell.dones (stored_done number uid reply ∷ [])))
-                ∙ counted_by (fell.dones ++ stored_done number uid reply ∷ []) (all_on IsAnswered fell.dones (stored_done number uid reply ∷ []) fell.went.each (answered, tt))
+                ∙ counted_by (fell.dones ++ stored_done number uid reply ∷ []) (all_append IsAnswered fell.dones (stored_done number uid reply ∷ []) fell.went.each (answered, tt))
 
         last_mark : (r : List Row) (ids : List (List ℕ)) → marked (marked_all r ids) uid ≡ marked_all r (ids ++ uid ∷ [])
         last_mark r [] = refl
@@ -366,7 +365,7 @@ module _ (laws : Laws) (settings : Settings) (items : List Item) (now : ℕ) (he
                   (inr (unrecorded_at settings (mbox_holds held mbox) (effect_of now false (course items (fell.dones ++ stored_done number uid reply ∷ []) [] []))
                   (mbox_holds (held_with (marked_all (rows_merged items now held mbox) (ids_of fell.dones)) (Some (intent_of was uid (body_text reply.body)))) new.store.mbox)
                   fell.dones (fell.dones ++ stored_done number uid reply ∷ []) (body_text reply.body) done_texts one_more
-                  (opens false (fell.dones ++ stored_done number uid reply ∷ []) [] [] new.store.mbox was (done_texts ∙ full_texts) (some_same was (bytes_settled held mbox ++ entries (texts_by fell.dones)) (sym there ∙ mid_content)))
+                  (opens false (fell.dones ++ stored_done number uid reply ∷ []) [] [] new.store.mbox was (done_texts ∙ full_texts) (same_Some was (bytes_settled held mbox ++ entries (texts_by fell.dones)) (sym there ∙ mid_content)))
                   (ap mail_in content_full)))
                   dones_recorded told
                   (λ is. unsaved_why between (with_open fell.mid.rows (intent_of was uid (body_text reply.body))) (none_open (marked fell.mid.rows uid)) cut.fault new.file second)

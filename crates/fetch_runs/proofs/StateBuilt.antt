@@ -20,10 +20,11 @@ use Rattle.run_law.specs.Accounts.{Account}
 use Rattle.run_law.specs.Steps.{Effect, file_for, is_unheld, ids_wanted, wanted_at}
 use Rattle.run_law.specs.Told.{Told, Records}
 use Rattle.fetch_runs.proofs.Courses.{Course, course, found_of, found_by, begun_of}
-use Rattle.fetch_runs.proofs.StatePlan.{PlansFetchWanted, key, IsRight, Safe, deleted_by, all_front, fetched_ahead, right_ahead, safe_ahead}
+use Rattle.fetch_runs.proofs.StatePlan.{PlansFetchWanted, key, IsRight, Safe, deleted_by, fetched_ahead, right_ahead, safe_ahead}
 use Rattle.fetch_runs.proofs.StateDone.{number_found, text_found, number_of, texts_by, fetched_first, fetched_all, numbers_first, files_first}
 use Rattle.fetch_runs.proofs.StateMarks.{HeldIsDelivered, ListedHasRow, MarkedIsDelivered, MarkedKeepsRows, FlagsTell, held_settled, marks_by, still_delivered, marked_delivered, ids_are, stored_has_row, held_delivered}
 use Rattle.fetch_runs.proofs.Words.{tasks_ahead}
+use Rattle.fetch_runs.proofs.TalkCommands.{all_front}
 
 -- the laws of the crates below that are used
 pub record Laws : Type 0 where

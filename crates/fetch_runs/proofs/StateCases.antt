@@ -15,12 +15,12 @@ use Rattle.pop3_wire.specs.Reading.{WholeReply}
 use Rattle.pop3_client.specs.Turns.{IsGood, retr}
 use Rattle.pop3_client.specs.Texts.{body_text}
 use Rattle.fetch_session.specs.declared.fault.Cut.{Cut}
-use Rattle.fetch_session.specs.Task.{Task, says, skips, rereads, deletes, Done, IsAnswered, stores, task_in, tasks_of, ids_in, ids_of, ids_ahead, files_in, files_of, file_from, lines_in, lines_of, delivered}
+use Rattle.fetch_session.specs.Task.{Task, Done, IsAnswered, stores, task_in, tasks_of, ids_in, ids_of, ids_ahead, files_in, files_of, file_from, lines_in, lines_of, delivered}
 use Rattle.fetch_session.specs.Store.{RefusesText, Gained}
 use Rattle.fetch_session.specs.Record.{Keeps, KeepsRows, Steady, Saves}
 use Rattle.fetch_session.specs.Scene.{Scene, Broken}
 use Rattle.fetch_runs.proofs.Courses.{course, stored_done, spare_in, spare_of, course_stopped, course_does, found_in, found_by, found_of}
-use Rattle.fetch_runs.proofs.StatePlan.{Safe, all_on, all_front, deleted_by}
+use Rattle.fetch_runs.proofs.StatePlan.{Safe, deleted_by}
 use Rattle.fetch_runs.proofs.StateMarks.{safe_next, safe_done}
 use Rattle.fetch_runs.proofs.StateBuilt.{Laws, Leads, Part, safe_tasks, recorded_all, wanted_all, lead}
 use Rattle.fetch_session.specs.declared.fault.Fault.{Fault}
@@ -31,17 +31,11 @@ use Rattle.fetch_session.specs.Report.{retrieved_in}
 use Rattle.fetch_runs.proofs.StateDone.{counted_by}
 use Rattle.fetch_session.specs.Target.{AsFiles, Stores}
 use Rattle.fetch_runs.proofs.Words.{Went, AllWent, Fell, NotStored, Stops, Does, tasks_ahead}
-
--- without a reply nothing was found
-found_none : (task : Task) → found_in task [] ≡ []
-found_none (stores number uid) = refl
-found_none (rereads number uid) = refl
-found_none (says turn) = refl
-found_none (skips number size) = refl
-found_none (deletes number) = refl
+use Rattle.fetch_runs.proofs.TalkCommands.{all_append, all_front}
+use Rattle.fetch_runs.proofs.TalkReplies.{nothing_found}
 
 pub found_under : (items : List Item) (dones : List Done) (next : Task) → found_of (course items dones [] (next ∷ [])) ≡ found_by dones
-found_under items dones next = ap (λ (l : List (ℕ × List ℕ)). found_by dones ++ (l ++ [])) (found_none next) ∙ append-nil (found_by dones)
+found_under items dones next = ap (λ (l : List (ℕ × List ℕ)). found_by dones ++ (l ++ [])) (nothing_found next) ∙ append-nil (found_by dones)
 
 abbrev pub is_ended : Result (Unit {0}) Cut → Bool
 is_ended (Ok done) = true
@@ -173,7 +167,7 @@ module _ (laws : Laws) (settings : Settings) (account : List ℕ) (items : List 
       full_part = record {
         rest = fell.later;
         split = (sym same_tasks ∙ fell.split) ∙ sym (append_assoc (tasks_of fell.dones) (fell.next ∷ []) fell.later) ∙ ap (λ (l : List Task). l ++ fell.later) (sym full_tasks);
-        answered = all_on IsAnswered fell.dones (stored_done number uid reply ∷ []) fell.went.each (answered, tt);
+        answered = all_append IsAnswered fell.dones (stored_done number uid reply ∷ []) fell.went.each (answered, tt);
       }
 
       full_found : found_by (fell.dones ++ stored_done number uid reply ∷ []) ≡ found_by fell.dones ++ (number, body_text reply.body) ∷ []
@@ -223,7 +217,7 @@ module _ (laws : Laws) (settings : Settings) (account : List ℕ) (items : List 
           full_count =
               ap retrieved_in (told ∙ ap (λ (l : List ReportLine). l ++ delivered number reply ∷ []) (fell.went.lines ∙ ap (λ (l : List ReportLine). l ++ lines_of fell.dones) same_lines)
               ∙ sym (flat_map-append (λ (d : Done). lines_in d.task d.replies) fell.dones (stored_done number uid reply ∷ [])))
-              ∙ counted_by (fell.dones ++ stored_done number uid reply ∷ []) (all_on IsAnswered fell.dones (stored_done number uid reply ∷ []) fell.went.each (answered, tt))
+              ∙ counted_by (fell.dones ++ stored_done number uid reply ∷ []) (all_append IsAnswered fell.dones (stored_done number uid reply ∷ []) fell.went.each (answered, tt))
 
       last_mark : (r : List Row) (ids : List (List ℕ)) → marked (marked_all r ids) uid ≡ marked_all r (ids ++ uid ∷ [])
       last_mark r [] = refl

@@ -14,7 +14,8 @@ use Rattle.fetch_session.specs.Task.{Task, says, skips, stores, rereads, deletes
 use Rattle.fetch_session.specs.Report.{is_taken, retrieved_in}
 use Rattle.run_law.specs.Steps.{file_for, is_unheld}
 use Rattle.fetch_runs.proofs.Courses.{found_in, found_by}
-use Rattle.fetch_runs.proofs.StatePlan.{key, fetched_in, fetched, IsRight, all_front}
+use Rattle.fetch_runs.proofs.StatePlan.{key, fetched_in, fetched, IsRight}
+use Rattle.fetch_runs.proofs.TalkCommands.{all_front}
 
 abbrev pub number_found : ℕ × List ℕ → ℕ
 number_found found = found.0

@@ -3,13 +3,15 @@ use Rattle.std.proofs.Common.{◌≡◌, ℕ, Bool, true, false, List, [], ◌�
 use Rattle.std.specs.Prelude.{◌&&◌, ◌||◌, bytes_eq}
 use Rattle.std.specs.List.{AllByRecursion}
 use Rattle.std.proofs.lemmas.Slice.Eq.{bytes_eq-Decides}
+use Rattle.std.proofs.Math.Bool.{or-true}
 use Rattle.mail_terms.specs.Listing.{Item, has_item, is_flagged}
 use Rattle.fetch_rules.specs.Record.{Row, is_of, has_row, is_delivered, with_delivered, marked, marked_all, new_ids, with_held, merged}
 use Rattle.mail_store.specs.Maildir.{Maildir}
 use Rattle.mail_store.specs.FileName.{is_held}
 use Rattle.mail_store.specs.Held.{flags_of}
 use Rattle.fetch_session.specs.Task.{Task, says, skips, stores, rereads, deletes, Done, tasks_of, ids_in, ids_of, ids_ahead}
-use Rattle.fetch_runs.proofs.StatePlan.{fetched, fetched_in, IsRight, deleted_in, deleted_by, Safe, all_on}
+use Rattle.fetch_runs.proofs.StatePlan.{fetched, fetched_in, IsRight, deleted_in, deleted_by, Safe}
+use Rattle.fetch_runs.proofs.TalkCommands.{all_append}
 
 -- ---- the laws of the crates below that are used
 
@@ -61,14 +63,10 @@ settled_stays (row ∷ rows) uid settled =
     ap (λ (d : Bool). let first : Row = record row { delivered = d } in first ∷ marked rows uid) (or_same row.delivered (is_of uid row) settled.0)
     ∙ ap (λ l. row ∷ l) (settled_stays rows uid settled.1)
 
-or_true : (b : Bool) → (b || true) ≡ true
-or_true true = refl
-or_true false = refl
-
 settled_held : (test : List ℕ → Bool) (uid : List ℕ) (rows : List Row) → test uid ≡ true → AllByRecursion (IsSettled uid) (map (λ row. with_delivered (test row.uid) row) rows)
 settled_held test uid [] is = tt
 settled_held test uid (row ∷ rows) is = (
-  λ same. ap (λ b. row.delivered || b) (subst (λ (id : List ℕ). test id ≡ true) ((bytes_eq-Decides uid row.uid).0 same) is) ∙ or_true row.delivered,
+  λ same. ap (λ b. row.delivered || b) (subst (λ (id : List ℕ). test id ≡ true) ((bytes_eq-Decides uid row.uid).0 same) is) ∙ or-true row.delivered,
   settled_held test uid rows is,
 )
 
@@ -82,7 +80,7 @@ pub held_settled : FlagsTell → (account : List ℕ) (maildir : Maildir) (items
     → has_item items uid ≡ true → is_held account maildir uid ≡ true → marked (merged rows items (flags_of account maildir items) now) uid ≡ merged rows items (flags_of account maildir items) now
 held_settled law account maildir items now rows uid listed held =
     settled_stays (merged rows items flags now) uid
-    (all_on (IsSettled uid) (with_held items flags rows) (map (λ (id : List ℕ). let row : Row = record { uid = id; first_seen = now; delivered = is_flagged items flags id } in row) (new_ids rows items))
+    (all_append (IsSettled uid) (with_held items flags rows) (map (λ (id : List ℕ). let row : Row = record { uid = id; first_seen = now; delivered = is_flagged items flags id } in row) (new_ids rows items))
     (settled_held (is_flagged items flags) uid rows flagged) (settled_new (is_flagged items flags) uid now (new_ids rows items) flagged))
   where
     flags : List Bool
@@ -124,7 +122,7 @@ pub marked_delivered : MarkedIsDelivered → MarkedKeepsRows → (rows : List Ro
 marked_delivered law keeps rows [] all = tt
 marked_delivered law keeps rows (id ∷ ids) all = (
   still_delivered law (marked rows id) ids id
-      (law rows id id ∙ ap (λ b. is_delivered rows id || (b && bytes_eq id id)) all.0 ∙ ap (λ b. is_delivered rows id || b) ((bytes_eq-Decides id id).1 refl) ∙ or_true (is_delivered rows id)),
+      (law rows id id ∙ ap (λ b. is_delivered rows id || (b && bytes_eq id id)) all.0 ∙ ap (λ b. is_delivered rows id || b) ((bytes_eq-Decides id id).1 refl) ∙ or-true (is_delivered rows id)),
   marked_delivered law keeps (marked rows id) ids (rows_stay ids all.1),
 )
   where
@@ -146,7 +144,7 @@ stored_has_row law account maildir items now rows held (task ∷ tasks) right = 
     HasRow uid = has_row (merged rows items held now) uid ≡ true
 
     by : (task : Task) → IsRight account maildir items task → AllByRecursion HasRow (ids_ahead tasks) → AllByRecursion HasRow (ids_in task ++ ids_ahead tasks)
-    by (stores number uid) is ih = (law rows items held now uid ∙ ap (λ b. has_row rows uid || b) is.1 ∙ or_true (has_row rows uid), ih)
+    by (stores number uid) is ih = (law rows items held now uid ∙ ap (λ b. has_row rows uid || b) is.1 ∙ or-true (has_row rows uid), ih)
     by (rereads number uid) is ih = ih
     by (says turn) is ih = ih
     by (skips number size) is ih = ih
@@ -158,20 +156,20 @@ pub held_delivered : HeldIsDelivered → FlagsTell → (account : List ℕ) (mai
 held_delivered law tell account maildir items now rows uid listed held =
     law rows items (flags_of account maildir items) now uid
     ∙ ap (λ b. is_delivered rows uid || b) (tell account maildir items uid ∙ ap (λ b. b && is_held account maildir uid) listed ∙ held)
-    ∙ or_true (is_delivered rows uid)
+    ∙ or-true (is_delivered rows uid)
 
 -- ---- deletions
 
 -- one more task of any kind
 pub safe_next : (D : List ℕ → Type 0) (items : List Item) (tasks later : List Task) (next : Task) → Safe D items (tasks ++ next ∷ later) → AllByRecursion D (ids_ahead tasks)
     → AllByRecursion D (deleted_by items (tasks ++ next ∷ []))
-safe_next D items [] later (deletes number) safe all = all_on D (deleted_in items (deletes number)) [] safe.0 tt
+safe_next D items [] later (deletes number) safe all = all_append D (deleted_in items (deletes number)) [] safe.0 tt
 safe_next D items [] later (stores number uid) safe all = tt
 safe_next D items [] later (rereads number uid) safe all = tt
 safe_next D items [] later (says turn) safe all = tt
 safe_next D items [] later (skips number size) safe all = tt
 safe_next D items (stores number uid ∷ tasks) later next safe all = safe_next D items tasks later next (safe all.0) all.1
-safe_next D items (deletes number ∷ tasks) later next safe all = all_on D (deleted_in items (deletes number)) (deleted_by items (tasks ++ next ∷ [])) safe.0 (safe_next D items tasks later next safe.1 all)
+safe_next D items (deletes number ∷ tasks) later next safe all = all_append D (deleted_in items (deletes number)) (deleted_by items (tasks ++ next ∷ [])) safe.0 (safe_next D items tasks later next safe.1 all)
 safe_next D items (rereads number uid ∷ tasks) later next safe all = safe_next D items tasks later next safe all
 safe_next D items (says turn ∷ tasks) later next safe all = safe_next D items tasks later next safe all
 safe_next D items (skips number size ∷ tasks) later next safe all = safe_next D items tasks later next safe all
@@ -179,7 +177,7 @@ safe_next D items (skips number size ∷ tasks) later next safe all = safe_next 
 pub safe_done : (D : List ℕ → Type 0) (items : List Item) (tasks later : List Task) → Safe D items (tasks ++ later) → AllByRecursion D (ids_ahead tasks) → AllByRecursion D (deleted_by items tasks)
 safe_done D items [] later safe all = tt
 safe_done D items (stores number uid ∷ tasks) later safe all = safe_done D items tasks later (safe all.0) all.1
-safe_done D items (deletes number ∷ tasks) later safe all = all_on D (deleted_in items (deletes number)) (deleted_by items tasks) safe.0 (safe_done D items tasks later safe.1 all)
+safe_done D items (deletes number ∷ tasks) later safe all = all_append D (deleted_in items (deletes number)) (deleted_by items tasks) safe.0 (safe_done D items tasks later safe.1 all)
 safe_done D items (rereads number uid ∷ tasks) later safe all = safe_done D items tasks later safe all
 safe_done D items (says turn ∷ tasks) later safe all = safe_done D items tasks later safe all
 safe_done D items (skips number size ∷ tasks) later safe all = safe_done D items tasks later safe all

@@ -5,6 +5,7 @@ use Rattle.std.specs.List.{flat_map, filter, AllByRecursion, enumerate_from}
 use Rattle.std.proofs.lemmas.Bool.{and_parts, or_cases, true≢false}
 use Rattle.std.proofs.lemmas.List.Concat.{flat_map-append}
 use Rattle.std.proofs.lemmas.Slice.Eq.{bytes_eq-Decides}
+use Rattle.std.proofs.Math.Bool.{or-true}
 use Rattle.mail_terms.specs.Listing.{Item, has_item, numbered, is_first, is_last}
 use Rattle.rc_file.specs.declared.settings.Settings.{Settings}
 use Rattle.fetch_rules.specs.Record.{Row, is_delivered}
@@ -18,6 +19,7 @@ use Rattle.mail_store.specs.Held.{flags_of}
 use Rattle.pop3_client.specs.Turns.{quit}
 use Rattle.fetch_session.specs.Task.{Task, says, stores, rereads, deletes, fetching, deleting, tasks_in, tasks_planned}
 use Rattle.fetch_runs.proofs.Words.{tasks_ahead}
+use Rattle.fetch_runs.proofs.TalkCommands.{all_append}
 
 abbrev pub second : ℕ × Item → Item
 second message = message.1
@@ -138,14 +140,6 @@ fetched_ahead law settings account items now maildir rows =
 
 -- ---- what is held
 
-pub all_on : {A : Type 0} (P : A → Type 0) (xs ys : List A) → AllByRecursion P xs → AllByRecursion P ys → AllByRecursion P (xs ++ ys)
-all_on P [] ys first then = then
-all_on P (x ∷ xs) ys first then = (first.0, all_on P xs ys first.1 then)
-
-pub all_front : {A : Type 0} (P : A → Type 0) (xs ys : List A) → AllByRecursion P (xs ++ ys) → AllByRecursion P xs
-all_front P [] ys all = tt
-all_front P (x ∷ xs) ys all = (all.0, all_front P xs ys all.1)
-
 pub all_weaker : {A : Type 0} (P Q : A → Type 0) (xs : List A) → ((x : A) → P x → Q x) → AllByRecursion P xs → AllByRecursion Q xs
 all_weaker P Q [] weaker all = tt
 all_weaker P Q (x ∷ xs) weaker all = (weaker x all.0, all_weaker P Q xs weaker all.1)
@@ -165,16 +159,12 @@ right_by account maildir items false false false n uid size held listed at = (tt
 abbrev IsAt : List Item → ℕ × Item → Type 0
 IsAt items message = (slice_get items (message.0 - 1) ≡ Some message.1) × (has_item items message.1.uid ≡ true) × (0 < message.0)
 
-or_right : (b : Bool) → (b || true) ≡ true
-or_right true = refl
-or_right false = refl
-
 -- an item is at the place after those before it, and is listed
 stands : (front behind : List Item) (item : Item) → (slice_get (front ++ item ∷ behind) (length front) ≡ Some item) × (has_item (front ++ item ∷ behind) item.uid ≡ true)
 stands [] behind item = (refl, ap (λ b. b || has_item behind item.uid) ((bytes_eq-Decides item.uid item.uid).1 refl))
 stands (x ∷ front) behind item =
     let there = stands front behind item in
-    (there.0, ap (λ b. bytes_eq item.uid x.uid || b) there.1 ∙ or_right (bytes_eq item.uid x.uid))
+    (there.0, ap (λ b. bytes_eq item.uid x.uid || b) there.1 ∙ or-true (bytes_eq item.uid x.uid))
 
 at_number : (front behind : List Item) (item : Item) (n : ℕ) → n ≡ length front + 1 → IsAt (front ++ item ∷ behind) (n, item)
 at_number front behind item n is =
@@ -194,7 +184,7 @@ right_all : (account : List ℕ) (maildir : Maildir) (items : List Item) (f : �
     → (qs : List (ℕ × Item)) → AllByRecursion (IsAt items) qs → AllByRecursion (IsRight account maildir items) (flat_map (tasks_at f (is_held account maildir)) qs)
 right_all account maildir items f same alone [] at = tt
 right_all account maildir items f same alone (q ∷ qs) at =
-    all_on (IsRight account maildir items) (tasks_at f (is_held account maildir) q) (flat_map (tasks_at f (is_held account maildir)) qs)
+    all_append (IsRight account maildir items) (tasks_at f (is_held account maildir) q) (flat_map (tasks_at f (is_held account maildir)) qs)
     (right_by account maildir items (f q).retrieve (is_held account maildir q.1.uid) (f q).delete (f q).number q.1.uid q.1.size refl at.0.1
     (λ is. subst (λ (n : ℕ). IsRight account maildir items (deletes n)) (sym (same q)) (q.1, at.0.0, at.0.2, alone q is)))
     (right_all account maildir items f same alone qs at.1)
@@ -209,7 +199,7 @@ pub right_ahead : (settings : Settings) (account : List ℕ) (items : List Item)
     → AllByRecursion (IsRight account maildir items) (tasks_ahead settings account items now maildir rows)
 right_ahead settings account items now maildir rows =
     subst (AllByRecursion (IsRight account maildir items)) (sym (tasks_are settings account items now maildir rows))
-    (all_on (IsRight account maildir items) (flat_map (tasks_at (step_of settings rows items now) (is_held account maildir)) (numbered items)) (says quit ∷ [])
+    (all_append (IsRight account maildir items) (flat_map (tasks_at (step_of settings rows items now) (is_held account maildir)) (numbered items)) (says quit ∷ [])
     (right_all account maildir items (step_of settings rows items now) (λ q. refl) (deleted_alone settings rows items now) (numbered items) (all_stand items [] items 1 refl refl)) (tt, tt))
 
 -- ---- what is deleted

@@ -9,9 +9,7 @@ use Rattle.fetch_runs.specs.Conversations.{plan_turns}
 use Rattle.fetch_runs.proofs.TalkCommands.{commands_in, Commanded}
 use Rattle.fetch_runs.proofs.TalkTasks.{commands_split}
 use Rattle.fetch_runs.proofs.TalkSpeech.{IsTail, silent, leaves, undoes}
-
-cons_both : {A : Type 0} (x y : A) (xs ys : List A) → x ∷ xs ≡ y ∷ ys → (x ≡ y) × (xs ≡ ys)
-cons_both x y xs ys e = (cc, cc)
+use Rattle.fetch_runs.proofs.TalkParts.{cons_parts}
 
 no_cons : {A : Type 0} (x : A) (xs : List A) → [] ≡ x ∷ xs → ⊥
 no_cons x xs e = cc
@@ -23,17 +21,17 @@ ends_tail : (turns : List Turn) → IsTail turns → (ends more : List Command) 
 ends_tail turns silent [] more e = inl refl
 ends_tail turns silent (c ∷ ends) more e = absurd (no_cons c (ends ++ more) e)
 ends_tail turns leaves [] more e = inl refl
-ends_tail turns leaves (c ∷ []) more e = let first = cons_both Quit c [] more e in inr (inl (same_cons c Quit [] [] (sym first.0) refl))
-ends_tail turns leaves (c ∷ d ∷ ends) more e = absurd (no_cons d (ends ++ more) (cons_both Quit c [] (d ∷ (ends ++ more)) e).1)
+ends_tail turns leaves (c ∷ []) more e = let first = cons_parts Quit c [] more e in inr (inl (same_cons c Quit [] [] (sym first.0) refl))
+ends_tail turns leaves (c ∷ d ∷ ends) more e = absurd (no_cons d (ends ++ more) (cons_parts Quit c [] (d ∷ (ends ++ more)) e).1)
 ends_tail turns undoes [] more e = inl refl
-ends_tail turns undoes (c ∷ []) more e = let first = cons_both Rset c (Quit ∷ []) more e in inr (inr (inl (same_cons c Rset [] [] (sym first.0) refl)))
+ends_tail turns undoes (c ∷ []) more e = let first = cons_parts Rset c (Quit ∷ []) more e in inr (inr (inl (same_cons c Rset [] [] (sym first.0) refl)))
 ends_tail turns undoes (c ∷ d ∷ []) more e =
-    let first = cons_both Rset c (Quit ∷ []) (d ∷ more) e in
-    let second = cons_both Quit d [] more first.1 in
+    let first = cons_parts Rset c (Quit ∷ []) (d ∷ more) e in
+    let second = cons_parts Quit d [] more first.1 in
     inr (inr (inr (same_cons c Rset (d ∷ []) (Quit ∷ []) (sym first.0) (same_cons d Quit [] [] (sym second.0) refl))))
 ends_tail turns undoes (c ∷ d ∷ f ∷ ends) more e =
-    let first = cons_both Rset c (Quit ∷ []) (d ∷ f ∷ (ends ++ more)) e in
-    absurd (no_cons f (ends ++ more) (cons_both Quit d [] (f ∷ (ends ++ more)) first.1).1)
+    let first = cons_parts Rset c (Quit ∷ []) (d ∷ f ∷ (ends ++ more)) e in
+    absurd (no_cons f (ends ++ more) (cons_parts Quit d [] (f ∷ (ends ++ more)) first.1).1)
 
 commands_back : (commands : List Command) → commands_in (map Some commands) ≡ commands
 commands_back [] = refl

@@ -12,7 +12,7 @@ use Rattle.fetch_session.specs.Fault.{fault_of}
 use Rattle.fetch_session.specs.Tail.{turns_in, tail}
 use Rattle.fetch_runs.specs.Conversations.{SentBehind, Conversation}
 
-cons_parts : {A : Type 0} (x y : A) (xs ys : List A) → x ∷ xs ≡ y ∷ ys → (x ≡ y) × (xs ≡ ys)
+pub cons_parts : {A : Type 0} (x y : A) (xs ys : List A) → x ∷ xs ≡ y ∷ ys → (x ≡ y) × (xs ≡ ys)
 cons_parts x y xs ys e = (cc, cc)
 
 nothing_front : (front rest : List ℕ) → [] ≡ front ++ rest → front ≡ []

@@ -33,9 +33,6 @@ Stops account next old cut new = S.Stops (AsFiles account) next old cut new
 abbrev pub NotStored : List ℕ → Task → S.Scene → S.Scene → Cut → Type 0
 NotStored account next old new cut = S.NoFile account next old new cut
 
-abbrev pub NotSaved : List ℕ → Task → S.Scene → S.Scene → Cut → Type 0
-NotSaved account next old new cut = S.FileNotSaved account next old new cut
-
 abbrev pub Does : List ℕ → List Task → S.Scene → Result (Unit {0}) Cut → S.Scene → Type 0
 Does account tasks old result new = S.Does (AsFiles account) tasks old result new
 

@@ -5,6 +5,7 @@ use Rattle.std.specs.List.{filter, AllByRecursion}
 use Rattle.std.proofs.lemmas.Bool.{both_ways, or_cases, cases_Bool, false_from_ne_true}
 use Rattle.std.proofs.lemmas.List.{take-map, take_all, take_at, length-map}
 use Rattle.std.proofs.lemmas.List.Elements.{filter-append}
+use Rattle.std.proofs.Math.Bool.{or-true}
 use Rattle.mail_terms.specs.UniqueId.{is_legal_id, has_id}
 use Rattle.pop3_wire.specs.World.{Message, IsMessage, IsWorld, maildrop_of}
 use Rattle.rc_file.specs.declared.settings.Settings.{Settings}
@@ -18,10 +19,6 @@ use Rattle.run_law.proofs.Ids.{Distinct, distinct_is, distinct_take, distinct_fi
 use Rattle.run_law.proofs.Wants.{num_item, with_text, asked, offered, wants, offered_by_number, wants_by_number, wanted_are, candidates_are, wants_snd, offered_snd, wants_placed, zipped, ids_are, begins, both_parts, past-map, snd}
 use Rattle.run_law.proofs.Bridge.{IsLeft, BeginsWith, bridge, left_is}
 
-pub or_true : (b : Bool) → (b || true) ≡ true
-or_true true = refl
-or_true false = refl
-
 -- a message that passes a test keeps its id in the filtered list
 pub passing_in : (p : Message → Bool) (ms : List Message) → AllByRecursion (λ (m : Message). p m ≡ true → has_id (ids_of (filter p ms)) m.uid ≡ true) ms
 passing_in p [] = tt
@@ -32,7 +29,7 @@ passing_in p (m ∷ ms) = (
 )
   where
     by : (x : Message) (b : Bool) → has_id (ids_of (filter p ms)) x.uid ≡ true → has_id (ids_of (cond b (m ∷ filter p ms) (filter p ms))) x.uid ≡ true
-    by x true h = ap (λ b. bytes_eq x.uid m.uid || b) h ∙ or_true (bytes_eq x.uid m.uid)
+    by x true h = ap (λ b. bytes_eq x.uid m.uid || b) h ∙ or-true (bytes_eq x.uid m.uid)
     by x false h = h
 
 -- what a filter keeps passes its test
@@ -50,7 +47,7 @@ members [] = tt
 members (m ∷ ms) = (
   ap (λ b. b || has_id (ids_of ms) m.uid) (bytes_self m.uid),
   all_map (λ (x : Message). has_id (ids_of ms) x.uid ≡ true) (λ (x : Message). has_id (ids_of (m ∷ ms)) x.uid ≡ true)
-      (λ x h. ap (λ b. bytes_eq x.uid m.uid || b) h ∙ or_true (bytes_eq x.uid m.uid)) ms (members ms),
+      (λ x h. ap (λ b. bytes_eq x.uid m.uid || b) h ∙ or-true (bytes_eq x.uid m.uid)) ms (members ms),
 )
 
 pub filter_all : {X : Type 0} (p : X → Bool) (xs : List X) → AllByRecursion (λ x. p x ≡ true) xs → filter p xs ≡ xs
@@ -63,7 +60,7 @@ taken_more (suc m) zero ms id l e = absurd (omega (arith, l))
 taken_more (suc m) (suc n) [] id l e = e
 taken_more (suc m) (suc n) (x ∷ ms) id l e = elim (or_cases (bytes_eq id x.uid) (has_id (ids_of (take m ms)) id) e) [
   | inl same ↦ ap (λ b. b || has_id (ids_of (take n ms)) id) same
-  | inr more ↦ ap (λ b. bytes_eq id x.uid || b) (taken_more m n ms id (omega (arith, l)) more) ∙ or_true (bytes_eq id x.uid)
+  | inr more ↦ ap (λ b. bytes_eq id x.uid || b) (taken_more m n ms id (omega (arith, l)) more) ∙ or-true (bytes_eq id x.uid)
 ]
 
 pub all_front : {X : Type 0} (P : X → Type 0) (xs ys : List X) → AllByRecursion P (xs ++ ys) → AllByRecursion P xs
@@ -246,7 +243,7 @@ module _ (s : Scene) (is : IsScene s) where
   done_more n id e = ids_both s.done (added s n) id ∙ ap (λ b. b || has_id (ids_of (added s n)) id) e
 
   added_more : (n : ℕ) (id : List ℕ) → has_id (ids_of (added s n)) id ≡ true → is_done_after s n id ≡ true
-  added_more n id e = ids_both s.done (added s n) id ∙ ap (λ b. is_done s id || b) e ∙ or_true (is_done s id)
+  added_more n id e = ids_both s.done (added s n) id ∙ ap (λ b. is_done s id || b) e ∙ or-true (is_done s id)
 
   pub fetched_done : (n : ℕ) (id : List ℕ) → has_id (ids_of (take n ws)) id ≡ true → is_done_after s n id ≡ true
   fetched_done n id e = elim (cases_Bool (is_done s id)) [

@@ -10,9 +10,11 @@ use Rattle.mail_terms.specs.MaildirName.{base}
 use Rattle.mail_store.specs.FileName.{NamesAreBases, NamesHaveStems, StemsDiffer, is_comma, mail_file, name_of, names_id, stem, stem_of, is_held, IsAccountText}
 use Rattle.run_law.specs.Mails.{ids_of, texts_of}
 use Rattle.std.proofs.lemmas.List.Elements.{filter-append}
+use Rattle.std.proofs.Math.Bool.{or_comm}
+use Rattle.std.proofs.lemmas.List.Folds.{list_any-append}
 use Rattle.run_law.specs.Accounts.{Account, files, copies, TakesOut, Renames, Moves, count_files, IsOther, KeepsOthers}
 use Rattle.run_law.proofs.Below.{Marks}
-use Rattle.run_law.proofs.Lists.{any-append, any_filter, any_swap, is_some, swap}
+use Rattle.run_law.proofs.Lists.{any_filter, is_some, swap}
 use Rattle.run_law.proofs.Ids.{bytes_same, bytes_self, has_texts}
 
 -- ---- held
@@ -20,9 +22,9 @@ use Rattle.run_law.proofs.Ids.{bytes_same, bytes_self, has_texts}
 pub held_copies : (account : List ℕ) (state : Account) (id : List ℕ) → is_held account state.maildir id ≡ is_some (copies (files state) (stem_of account id))
 held_copies account state id =
     let p : File → Bool = λ (f : File). names_id account id f.name in
-    any-append p state.maildir.in_new state.maildir.in_cur
-    ∙ any_swap (list_any p state.maildir.in_new) (list_any p state.maildir.in_cur)
-    ∙ sym (any-append p state.maildir.in_cur state.maildir.in_new)
+    list_any-append p state.maildir.in_new state.maildir.in_cur
+    ∙ or_comm (list_any p state.maildir.in_new) (list_any p state.maildir.in_cur)
+    ∙ sym (list_any-append p state.maildir.in_cur state.maildir.in_new)
     ∙ any_filter p (λ (f : File). f.content) (files state)
 
 -- what is held is what is done

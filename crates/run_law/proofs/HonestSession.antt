@@ -2,6 +2,7 @@
 use Rattle.std.proofs.Common.{◌≡◌, inl, inr, ◌-◌, ℕ, zero, suc, List, [], ◌∷◌, take, map, refl, sym, ◌∙◌, ap, subst}
 use Rattle.std.specs.Prelude.{zip}
 use Rattle.std.specs.List.{filter, AllByRecursion}
+use Rattle.std.proofs.lemmas.Option.{same_Some}
 use Rattle.pop3_wire.specs.World.{Message}
 use Rattle.mail_terms.specs.Listing.{Item}
 use Rattle.mail_store.specs.FileName.{mail_file}
@@ -11,7 +12,7 @@ use Rattle.run_law.specs.Sessions.{Served}
 use Rattle.run_law.specs.HonestSession.{IsFileOf, HonestSession}
 use Rattle.run_law.proofs.Lists.{all_filter}
 use Rattle.run_law.proofs.Safety.{IsFirstAt, wanted_first}
-use Rattle.run_law.proofs.Linked.{Readings, item_at, same_item, session_honest}
+use Rattle.run_law.proofs.Linked.{Readings, item_at, session_honest}
 
 -- a numbered message of the listing, and its text
 abbrev IsPair : List ℕ → List Message → (ℕ × Item) × List ℕ → Type 0
@@ -23,7 +24,7 @@ pairs account drop wanted texts zero first are = tt
 pairs account drop [] texts (suc n) first are = tt
 pairs account drop (w ∷ wanted) [] (suc n) first are = tt
 pairs account drop (w ∷ wanted) (text ∷ texts) (suc n) first are =
-    let same : w.1 ≡ item_of are.0.0 = same_item w.1 (item_of are.0.0) (sym first.0.1 ∙ item_at drop (w.0 - 1) are.0.0 are.0.1) in (
+    let same : w.1 ≡ item_of are.0.0 = same_Some w.1 (item_of are.0.0) (sym first.0.1 ∙ item_at drop (w.0 - 1) are.0.0 are.0.1) in (
       (
         w.0 - 1,
         are.0.0,

@@ -223,3 +223,8 @@ pub whole_take : (n : ℕ) (ms : List Message) (id : List ℕ) → Distinct (ids
 whole_take zero ms id d h = absurd (both_ways false refl h)
 whole_take (suc n) [] id d h = refl
 whole_take (suc n) (m ∷ ms) id d h = with_first true m (take n ms) ms id d.0 (none_take n ms m.uid d.0) (whole_take n ms id d.1) h
+
+-- no id is among those of an empty list
+pub none_vanish : (ids : List (List ℕ)) (begun : List (List ℕ)) → begun ≡ [] → AllByRecursion (λ id. has_id begun id ≡ true) ids → ids ≡ []
+none_vanish [] begun e h = refl
+none_vanish (id ∷ ids) begun e h = absurd (both_ways false refl (sym (ap (λ l. has_id l id) e) ∙ h.0))

@@ -14,7 +14,7 @@ use Rattle.run_law.specs.Steps.{Leaves}
 use Rattle.run_law.specs.Runs.{Frame, IsFrame, Situation, Visit, Event, Visited, Moved, Between, Expired, TakenAway, Happens, Visits, Run, HoldsOf, Kept, LeavesMail, after_event, Promises, ReadOnlyNew, KeptStaysKept, KeptHoldsWhatIsLeft, NothingTakenHoldsExactly, TakenStaysAway, MovesLeaveMail}
 use Rattle.run_law.proofs.Below.{Below, Marks}
 use Rattle.run_law.proofs.Holds.{held_is_done, one_file, between_kept, expired_kept, taken_kept}
-use Rattle.run_law.proofs.Ids.{Distinct, distinct_is, distinct_filter, bytes_same}
+use Rattle.run_law.proofs.Ids.{Distinct, distinct_is, distinct_filter, bytes_same, none_vanish}
 use Rattle.run_law.proofs.Files.{held_done, one_moves, OneMoves, copies_after, moves_keep}
 use Rattle.run_law.proofs.VisitKept.{visit_kept, deletes_held, keeps_others, leaves_out, stores_only_new}
 
@@ -25,10 +25,6 @@ HasSameFiles before after = (after.maildir.in_new ≡ before.maildir.in_new) × 
 
 same_files : (before after : Account) → HasSameFiles before after → files after ≡ files before
 same_files before after h = ap (λ c. c ++ after.maildir.in_new) h.1 ∙ ap (λ n. before.maildir.in_cur ++ n) h.0
-
-none_vanish : (ids : List (List ℕ)) (begun : List (List ℕ)) → begun ≡ [] → AllByRecursion (λ id. has_id begun id ≡ true) ids → ids ≡ []
-none_vanish [] begun e h = refl
-none_vanish (id ∷ ids) begun e h = absurd (both_ways false refl (sym (ap (λ l. has_id l id) e) ∙ h.0))
 
 left_kept : (frame : Frame) (before : Situation) (v : Visit) → Kept frame before → Leaves before.account v.effect v.after
     → AllByRecursion (λ id. has_id v.effect.begun id ≡ true) v.vanished → Kept frame (after_event before (Visited v))

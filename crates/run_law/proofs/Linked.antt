@@ -2,6 +2,7 @@
 use Rattle.std.proofs.Common.{◌≡◌, ◌⊎◌, inl, inr, ◌-◌, ℕ, zero, suc, List, [], ◌∷◌, ◌++◌, Bool, true, false, length, map, take, refl, sym, ◌∙◌, ap, subst, Some, slice_get, slice_set}
 use Rattle.std.specs.List.{AllByRecursion}
 use Rattle.std.proofs.lemmas.Bool.{both_ways}
+use Rattle.std.proofs.lemmas.Option.{same_Some}
 use Rattle.pop3_wire.specs.declared.command.Command.{Command}
 use Rattle.pop3_wire.specs.declared.command.Command.TheVariants.{User, Pass, Stat, UidlAll, UidlOne, ListAll, ListOne, Retr, Dele, Rset, Noop, Top, Quit}
 use Rattle.pop3_wire.specs.World.{Message, maildrop_of}
@@ -87,9 +88,6 @@ item_at [] place m e = absurd cc
 item_at (x ∷ drop) zero m e = let same : x ≡ m = cc in ap (λ (y : Message). Some (item_of y)) same
 item_at (x ∷ drop) (suc place) m e = item_at drop place m e
 
-pub same_item : (a b : Item) → Some a ≡ Some b → a ≡ b
-same_item a b e = cc
-
 -- the laws of octets that are used
 pub record Readings : Type 0 where
   pub commands : OneListOfCommands
@@ -110,7 +108,7 @@ module _ (laws : Readings) (sent got : List ℕ) (effect : Effect) (drop : List 
       elim listing_is [
         | inl none ↦ absurd (both_ways false refl (sym (ap (λ b. has_id b begun.0.uid) none) ∙ begun.2))
         | inr is ↦
-            let item : begun.0 ≡ item_of m.1 = same_item begun.0 (item_of m.1) (sym begun.1 ∙ ap (slice_get effect.listing) asked.4 ∙ ap (λ l. slice_get l m.0) is ∙ item_at drop m.0 m.1 m.3) in
+            let item : begun.0 ≡ item_of m.1 = same_Some begun.0 (item_of m.1) (sym begun.1 ∙ ap (slice_get effect.listing) asked.4 ∙ ap (λ l. slice_get l m.0) is ∙ item_at drop m.0 m.1 m.3) in
             ap (has_id effect.begun) (sym (ap (λ (i : Item). i.uid) item ∙ m.4)) ∙ begun.2
       ]
 

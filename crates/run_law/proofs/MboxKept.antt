@@ -5,6 +5,8 @@ use Rattle.std.specs.List.{AllByRecursion}
 use Rattle.std.proofs.lemmas.Bool.{both_ways, or_cases}
 use Rattle.std.proofs.lemmas.List.{append-nil, map-append, take_at}
 use Rattle.std.proofs.lemmas.Grind.{flat_map-append}
+use Rattle.std.proofs.lemmas.Option.{same_Some}
+use Rattle.std.proofs.Math.Bool.{or-true}
 use Rattle.mail_terms.specs.UniqueId.{has_id}
 use Rattle.mail_terms.specs.Text.{IsWhole}
 use Rattle.pop3_wire.specs.World.{Message, IsMessage, IsWorld}
@@ -23,7 +25,7 @@ use Rattle.run_law.specs.MboxRuns.{MboxSituation, MboxVisit, MboxFrame, MboxVisi
 use Rattle.run_law.proofs.Core as core
 use Rattle.run_law.proofs.Core.{Scene, IsScene, fetched}
 use Rattle.run_law.proofs.Lists.{any-map, all_map, all_append, all_take, all_filter}
-use Rattle.run_law.proofs.Ids.{ids_both, all_at, all_ids_at, bytes_same, bytes_self}
+use Rattle.run_law.proofs.Ids.{ids_both, all_at, all_ids_at, bytes_same, bytes_self, none_vanish}
 use Rattle.run_law.proofs.Below.{RowLaws}
 use Rattle.run_law.proofs.MboxRows.{delivered_unheld, delivered_one, delivered_all, rows_marked}
 use Rattle.run_law.proofs.Wants.{num_item, snd, Placed, wants_by_number, wants_placed}
@@ -134,10 +136,6 @@ reopened fronts bytes uid text before after whole-text o i f = elim (fronts byte
     cut : after.file ≡ settled_file (length bytes) (length (entry_of text)) (bytes ++ o.front)
     cut = f ∙ ap (λ i. closed_file i before.file) o.intent ∙ ap (closed_file (Some (intent_of bytes uid text))) o.file
 
-none_vanish : (ids : List (List ℕ)) (begun : List (List ℕ)) → begun ≡ [] → AllByRecursion (λ id. has_id begun id ≡ true) ids → ids ≡ []
-none_vanish [] begun e h = refl
-none_vanish (id ∷ ids) begun e h = absurd (both_ways false refl (sym (ap (λ l. has_id l id) e) ∙ h.0))
-
 left_kept : FrontsAreSettled → (frame : MboxFrame) (before : MboxSituation) (v : MboxVisit) → IsWorld frame.all → MboxKept frame before → MboxLeaves before.account v.effect v.after
     → AllByRecursion (λ id. has_id v.effect.begun id ≡ true) v.vanished → MboxKept frame (after_visit before v)
 left_kept fronts frame before v world kept h vanished = record {
@@ -209,16 +207,13 @@ has_entry frame state kept id e = elim (or_cases (has_id (ids_of frame.had) id) 
 
 -- ---- texts by their places
 
-same_some : (a b : Message) → Some a ≡ Some b → a ≡ b
-same_some a b e = cc
-
 pub texts_taken : (drop' : List Message) (qs : List (ℕ × Message)) (texts : List (List ℕ)) (n : ℕ) → AllByRecursion (Placed drop') qs
     → AreTexts drop' (map num_item qs) texts → n ≤ length texts → take n texts ≡ map (λ (m : Message). m.text) (map snd (take n qs))
 texts_taken drop' qs texts zero h t l = refl
 texts_taken drop' qs [] (suc n) h t l = absurd (omega (arith, l))
 texts_taken drop' [] (text ∷ texts) (suc n) h t l = absurd t
 texts_taken drop' (q ∷ qs) (text ∷ texts) (suc n) h t l =
-    let same : t.0.0 ≡ q.1 = same_some _ _ (sym t.0.1 ∙ h.0) in
+    let same : t.0.0 ≡ q.1 = same_Some _ _ (sym t.0.1 ∙ h.0) in
     let is : text ≡ q.1.text = t.0.2 ∙ ap (λ (m : Message). m.text) same in
     ap (λ x. x ∷ take n texts) is ∙ ap (λ l. q.1.text ∷ l) (texts_taken drop' qs texts n h.1 t.1 (omega (arith, l)))
 
@@ -235,7 +230,7 @@ pub at_place : (drop' : List Message) (qs : List (ℕ × Message)) (texts : List
 at_place drop' qs [] n message text h t w g = absurd cc
 at_place drop' [] (x ∷ texts) n message text h t w g = absurd t
 at_place drop' (q ∷ qs) (x ∷ texts) zero message text h t w g =
-    let same : t.0.0 ≡ q.1 = same_some _ _ (sym t.0.1 ∙ h.0) in
+    let same : t.0.0 ≡ q.1 = same_Some _ _ (sym t.0.1 ∙ h.0) in
     (q, same_item _ _ w, same_text _ _ g ∙ t.0.2 ∙ ap (λ (m : Message). m.text) same, refl)
 at_place drop' (q ∷ qs) (x ∷ texts) (suc n) message text h t w g =
     let r = at_place drop' qs texts n message text h.1 t.1 w g in (r.0, r.1, r.2, ap (λ l. q ∷ l) r.3)
@@ -295,7 +290,7 @@ module _ (fronts : FrontsAreSettled) (laws : RowLaws) (filtered : DistinctAreFil
   has_rows n = all_take (λ (m : Message). has_row rows m.uid ≡ true) n ws
       (all_map (λ (m : Message). has_id (ids_of here) m.uid ≡ true) (λ (m : Message). has_row rows m.uid ≡ true)
       (λ m e. laws.listed (settled before.account).rows v.effect.listing (none_held v.effect.listing) v.effect.now m.uid
-      ∙ ap (λ b. has_row (settled before.account).rows m.uid || b) (listed m.uid ∙ e) ∙ core.or_true (has_row (settled before.account).rows m.uid))
+      ∙ ap (λ b. has_row (settled before.account).rows m.uid || b) (listed m.uid ∙ e) ∙ or-true (has_row (settled before.account).rows m.uid))
       ws (core.fetched_here scene is_scene))
     where
       listed : (id : List ℕ) → has_item v.effect.listing id ≡ has_id (ids_of here) id
@@ -388,7 +383,7 @@ module _ (fronts : FrontsAreSettled) (laws : RowLaws) (filtered : DistinctAreFil
       row_of_next : has_row rows place.0.1.uid ≡ true
       row_of_next = all_at (λ id. has_row rows id ≡ true) (take (suc s.stored) ws) place.0.1.uid (has_rows (suc s.stored))
           (ap (λ (l : List Message). has_id (ids_of l) place.0.1.uid) taken ∙ ids_both (take s.stored ws) (place.0.1 ∷ []) place.0.1.uid
-          ∙ ap (λ b. has_id (ids_of (take s.stored ws)) place.0.1.uid || (b || false)) (bytes_self place.0.1.uid) ∙ core.or_true (has_id (ids_of (take s.stored ws)) place.0.1.uid))
+          ∙ ap (λ b. has_id (ids_of (take s.stored ws)) place.0.1.uid || (b || false)) (bytes_self place.0.1.uid) ∙ or-true (has_id (ids_of (take s.stored ws)) place.0.1.uid))
 
   pub stored_kept : AllByRecursion (λ id. has_id v.effect.begun id ≡ true) v.vanished → MboxKept frame (after_visit before v)
   stored_kept vanished = elim s.ending [

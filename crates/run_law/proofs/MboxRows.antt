@@ -4,6 +4,7 @@ use Rattle.std.proofs.Common.{◌≡◌, inl, inr, ℕ, List, [], ◌∷◌, Boo
 use Rattle.std.specs.Prelude.{bytes_eq}
 use Rattle.std.specs.List.{AllByRecursion}
 use Rattle.std.proofs.lemmas.Bool.{cases_Bool}
+use Rattle.std.proofs.Math.Bool.{or-false}
 use Rattle.mail_terms.specs.Listing.{Item, is_flagged}
 use Rattle.mail_terms.specs.UniqueId.{has_id}
 use Rattle.fetch_rules.specs.Record.{Row, has_row, is_delivered, marked, merged, marked_all}
@@ -16,15 +17,11 @@ none_flagged : (listing : List Item) (uid : List ℕ) → is_flagged listing (no
 none_flagged [] uid = refl
 none_flagged (item ∷ listing) uid = none_flagged listing uid
 
-or_false : (b : Bool) → (b || false) ≡ b
-or_false true = refl
-or_false false = refl
-
 -- after such a merge an id is recorded exactly if it was before
 pub delivered_unheld : RowLaws → (rows : List Row) (listing : List Item) (now : ℕ) (id : List ℕ)
     → is_delivered (merged rows listing (none_held listing) now) id ≡ is_delivered rows id
 delivered_unheld laws rows listing now id = laws.held rows listing (none_held listing) now id
-    ∙ ap (λ b. is_delivered rows id || b) (none_flagged listing id) ∙ or_false (is_delivered rows id)
+    ∙ ap (λ b. is_delivered rows id || b) (none_flagged listing id) ∙ or-false (is_delivered rows id)
 
 -- after a mark an id is recorded exactly if it was before, or is the one that was marked
 pub delivered_one : RowLaws → (rows : List Row) (uid id : List ℕ) → has_row rows uid ≡ true → is_delivered (marked rows uid) id ≡ (is_delivered rows id || bytes_eq id uid)
@@ -44,7 +41,7 @@ rows_marked laws rows (uid ∷ uids) id = rows_marked laws (marked rows uid) uid
 -- the same for several ids
 pub delivered_all : RowLaws → (rows : List Row) (uids : List (List ℕ)) (id : List ℕ) → AllByRecursion (λ uid. has_row rows uid ≡ true) uids
     → is_delivered (marked_all rows uids) id ≡ (is_delivered rows id || has_id uids id)
-delivered_all laws rows [] id h = sym (or_false (is_delivered rows id))
+delivered_all laws rows [] id h = sym (or-false (is_delivered rows id))
 delivered_all laws rows (uid ∷ uids) id h =
     delivered_all laws (marked rows uid) uids id (all_map (λ u. has_row rows u ≡ true) (λ u. has_row (marked rows uid) u ≡ true) (λ u k. laws.keeps rows uid u ∙ k) uids h.1)
     ∙ ap (λ b. b || has_id uids id) (delivered_one laws rows uid id h.0)

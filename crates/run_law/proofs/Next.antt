@@ -4,6 +4,7 @@ use Rattle.std.specs.List.{filter, AllByRecursion}
 use Rattle.std.specs.Prelude.{bytes_eq}
 use Rattle.std.proofs.lemmas.Bool.{both_ways, or_cases, and_parts}
 use Rattle.std.proofs.lemmas.List.Elements.{filter-append}
+use Rattle.std.proofs.Math.Bool.{or-true}
 use Rattle.mail_terms.specs.UniqueId.{is_legal_id, has_id}
 use Rattle.pop3_wire.specs.World.{Message, IsMessage, maildrop_of}
 use Rattle.mail_terms.specs.Listing.{Item}
@@ -22,7 +23,7 @@ use Rattle.run_law.proofs.Records.{delivered_merged}
 use Rattle.run_law.proofs.Holds.{held_is_done, done_is_held}
 use Rattle.run_law.proofs.Wants.{num_item, snd, asked, offered, wants_by_number, wanted_are, wants_snd}
 use Rattle.run_law.proofs.Bridge.{IsLeft, fewer}
-use Rattle.run_law.proofs.Core.{or_true, passing_in}
+use Rattle.run_law.proofs.Core.{passing_in}
 
 abbrev nothing : (X : Type 0) → List X
 nothing X = []
@@ -109,7 +110,7 @@ module _ (filtered : DistinctAreFiltered) (laws : Records) (frame : Frame) (befo
       ])
       (λ d. known_parts id ∙ elim (done_is_held frame before kept.done id (kept.holds id l) d) [
         | inl held ↦ ap (λ b. is_delivered before.account.rows id || (b && is_held frame.account before.account.maildir id)) (listed_is id ∙ e)
-            ∙ ap (λ b. is_delivered before.account.rows id || b) held ∙ or_true (is_delivered before.account.rows id)
+            ∙ ap (λ b. is_delivered before.account.rows id || b) held ∙ or-true (is_delivered before.account.rows id)
         | inr taken ↦ ap (λ b. b || (has_item (listing_of here) id && is_held frame.account before.account.maildir id))
             (all_ids_at (λ x. is_delivered before.account.rows x ≡ true) before.taken id taken_recorded taken)
       ])

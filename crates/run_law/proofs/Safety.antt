@@ -121,12 +121,8 @@ take_fewer (suc m) (suc n) [] id less never = absurd (true≢false (sym never))
 take_fewer (suc m) (suc n) (q ∷ qs) id less is =
     elim (or_cases (bytes_eq id q.1.uid) (has_id (ids_wanted (take m qs)) id) is) [
       | inl same ↦ ap (λ b. b || has_id (ids_wanted (take n qs)) id) same
-      | inr more ↦ ap (λ b. bytes_eq id q.1.uid || b) (take_fewer m n qs id (omega (arith, less)) more) ∙ or_true (bytes_eq id q.1.uid)
+      | inr more ↦ ap (λ b. bytes_eq id q.1.uid || b) (take_fewer m n qs id (omega (arith, less)) more) ∙ or-true (bytes_eq id q.1.uid)
     ]
-  where
-    or_true : (b : Bool) → (b || true) ≡ true
-    or_true true = refl
-    or_true false = refl
 
 -- the files of texts whose ids aren't held
 abbrev brought : List ℕ → Maildir → List ((ℕ × Item) × List ℕ) → List File

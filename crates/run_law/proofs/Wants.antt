@@ -6,6 +6,7 @@ use Rattle.std.proofs.lemmas.Bool.{both_ways, or_parts}
 use Rattle.std.proofs.lemmas.List.{take-map, append-nil}
 use Rattle.std.proofs.lemmas.List.Elements.{All-from_recursion}
 use Rattle.std.proofs.lemmas.List.Kept.{AllPairs-cons}
+use Rattle.std.proofs.lemmas.Option.{same_Some}
 use Rattle.pop3_wire.specs.World.{Message}
 use Rattle.mail_terms.specs.Listing.{Item, HasDistinctIds}
 use Rattle.fetch_rules.specs.Record.{Row, is_delivered}
@@ -128,16 +129,13 @@ wants_placed settings rows ms =
 abbrev pub with_text : ℕ × Message → (ℕ × Item) × List ℕ
 with_text q = (num_item q, q.1.text)
 
-same_some : (a b : Message) → Some a ≡ Some b → a ≡ b
-same_some a b e = cc
-
 pub zipped : (drop' : List Message) (qs : List (ℕ × Message)) (texts : List (List ℕ)) (n : ℕ) → AllByRecursion (Placed drop') qs
     → AreTexts drop' (map num_item qs) texts → n ≤ length texts → zip (take n (map num_item qs)) texts ≡ map with_text (take n qs)
 zipped drop' qs texts zero h t l = refl
 zipped drop' [] texts (suc n) h t l = refl
 zipped drop' (q ∷ qs) [] (suc n) h t l = absurd (omega arith)
 zipped drop' (q ∷ qs) (text ∷ texts) (suc n) h t l =
-    let same : t.0.0 ≡ q.1 = same_some _ _ (sym t.0.1 ∙ h.0) in
+    let same : t.0.0 ≡ q.1 = same_Some _ _ (sym t.0.1 ∙ h.0) in
     let is : text ≡ q.1.text = t.0.2 ∙ ap (λ (m : Message). m.text) same in
     ap (λ x. (num_item q, x) ∷ zip (take n (map num_item qs)) texts) is
     ∙ ap (λ l. with_text q ∷ l) (zipped drop' qs texts n h.1 t.1 (omega (arith, l)))
