@@ -68,18 +68,7 @@ pub begun_one : (account : List ℕ) (maildir : Maildir) (items : List Item) (ta
 begun_one account maildir items tasks right (Dele number) is =
     let at = right_at account maildir items is.0 is.1 (deletes number) (subst (AllByRecursion (IsRight account maildir items)) is.2 right) in
     (at.0, at.1, ap (λ (ts : List Task). has_id (deleted_by items ts) at.0.uid) is.2 ∙ id_there items is.0 is.1 number at.0 at.1, at.2, at.3)
-begun_one account maildir items tasks right (User name) is = tt
-begun_one account maildir items tasks right (Pass word) is = tt
-begun_one account maildir items tasks right Stat is = tt
-begun_one account maildir items tasks right UidlAll is = tt
-begun_one account maildir items tasks right (UidlOne n) is = tt
-begun_one account maildir items tasks right ListAll is = tt
-begun_one account maildir items tasks right (ListOne n) is = tt
-begun_one account maildir items tasks right (Retr n) is = tt
-begun_one account maildir items tasks right Rset is = tt
-begun_one account maildir items tasks right Noop is = tt
-begun_one account maildir items tasks right (Top n k) is = tt
-begun_one account maildir items tasks right Quit is = tt
+begun_one account maildir items tasks right other is = tt
 
 pub begun_all : (account : List ℕ) (maildir : Maildir) (items : List Item) (tasks : List Task) → AllByRecursion (IsRight account maildir items) tasks → (commands : List Command)
     → AllByRecursion (IsOfTask tasks) commands → AllByRecursion (IsBegun items (deleted_by items tasks)) commands

@@ -52,18 +52,7 @@ module _ (world : World) (state : State) (occasion : Occasion) (none : state.tak
 
   for_one : (command : Command) → IsForHeld world state occasion command → IsForOneHeld world state occasion command
   for_one (Dele number) h = (h.0, h.1, h.2, held_after h.1.uid h.3)
-  for_one (User name) h = tt
-  for_one (Pass word) h = tt
-  for_one Stat h = tt
-  for_one UidlAll h = tt
-  for_one (UidlOne n) h = tt
-  for_one ListAll h = tt
-  for_one (ListOne n) h = tt
-  for_one (Retr n) h = tt
-  for_one Rset h = tt
-  for_one Noop h = tt
-  for_one (Top n k) h = tt
-  for_one Quit h = tt
+  for_one other h = tt
 
   all_for_one : (commands : List Command) → AllByRecursion (IsForHeld world state occasion) commands → AllByRecursion (IsForOneHeld world state occasion) commands
   all_for_one [] all = tt
@@ -141,10 +130,7 @@ still_away laws world state (TakenAway other after) id sound is taken new legal 
 
 one_new : (event : Event) (events : List Event) → ReadOnlyNew (event ∷ events) → ReadOnlyNew (event ∷ []) × ReadOnlyNew events
 one_new (Fetched occasion) events h = ((h.0, tt), h.1)
-one_new (Moved maildir) events h = (tt, h)
-one_new (Between after) events h = (tt, h)
-one_new (Expired ids) events h = (tt, h)
-one_new (TakenAway id after) events h = (tt, h)
+one_new other events h = (tt, h)
 
 stays : Laws → (world : World) (start : State) (events : List Event) (id : List ℕ) → IsSound world → IsKept world start → IsRun world start events
     → ReadOnlyNew events → is_legal_id id ≡ true → IsAway world start.kept id → IsAway world (state_after start events).kept id

@@ -47,17 +47,7 @@ no_message (Dele n) is = absurd (no_delete n is)
   where
     no_delete : (n : ℕ) → IsOfTask [] (Dele n) → ⊥
     no_delete n is = none_among is.0 is.1 (deletes n) is.2
-no_message (User name) is = tt
-no_message (Pass word) is = tt
-no_message Stat is = tt
-no_message UidlAll is = tt
-no_message (UidlOne n) is = tt
-no_message ListAll is = tt
-no_message (ListOne n) is = tt
-no_message Rset is = tt
-no_message Noop is = tt
-no_message (Top n k) is = tt
-no_message Quit is = tt
+no_message other is = tt
 
 asks_none : (tasks : List Task) (commands : List Command) (part : List ℕ) → tasks ≡ [] → AllByRecursion (IsOfTask tasks) commands → BeginsOne (IsOfTask tasks) part → AsksForNone commands part
 asks_none tasks commands part none all next = (

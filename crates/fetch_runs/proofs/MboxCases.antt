@@ -86,17 +86,7 @@ module _ (steadies : SteadyFilesKeep) (unsaved : UnsavedFilesKeep) (mbox file : 
   leaves_entry NoMemory (same, inl is) = as_it_was (ap (λ (s : Stored). s.content) same) is
   leaves_entry NoMemory (same, inr (was, there, saves)) =
       with_nothing was there (ap (λ (s : Stored). s.content) same) (steadies file'.content (with_open rows (intent_of was uid text)) (saves.1 steady))
-  leaves_entry ConnectionEnded never = absurd never
-  leaves_entry ReadFailed never = absurd never
-  leaves_entry WriteFailed never = absurd never
-  leaves_entry ReplyTooLong never = absurd never
-  leaves_entry BadReply never = absurd never
-  leaves_entry (Refused to) never = absurd never
-  leaves_entry BadListing never = absurd never
-  leaves_entry ListingsDisagree never = absurd never
-  leaves_entry TooMany never = absurd never
-  leaves_entry TextTooLong never = absurd never
-  leaves_entry (BadSeen line) never = absurd never
+  leaves_entry other never = absurd never
 
 -- ---- the account that a session left, and what it found
 

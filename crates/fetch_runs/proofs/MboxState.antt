@@ -52,16 +52,7 @@ settled_by (StoreRefused why.Missing) mbox file mbox' file' is = inl (ap (λ (s 
 settled_by (StoreRefused why.Refused) mbox file mbox' file' is = is.1
 settled_by (StoreRefused why.NotMbox) mbox file mbox' file' is = is.1
 settled_by NoMemory mbox file mbox' file' is = is
-settled_by ConnectionEnded mbox file mbox' file' never = absurd never
-settled_by ReadFailed mbox file mbox' file' never = absurd never
-settled_by WriteFailed mbox file mbox' file' never = absurd never
-settled_by ReplyTooLong mbox file mbox' file' never = absurd never
-settled_by BadReply mbox file mbox' file' never = absurd never
-settled_by (Refused to) mbox file mbox' file' never = absurd never
-settled_by BadListing mbox file mbox' file' never = absurd never
-settled_by ListingsDisagree mbox file mbox' file' never = absurd never
-settled_by TooMany mbox file mbox' file' never = absurd never
-settled_by TextTooLong mbox file mbox' file' never = absurd never
+settled_by other mbox file mbox' file' never = absurd never
 
 -- nothing was asked for: the record is as it was, and the file is as it was, or settled
 pub record Rests (settings : Settings) (now : ℕ) (ended : Bool) (c : Course) (held : Held) (mbox mbox' : Stored) (content' : Option (List ℕ)) (lines : List ReportLine) : Type 0 where

@@ -30,9 +30,7 @@ each_text number (reply ∷ replies) = ap (λ (l : List (List ℕ)). body_text r
 texts_one : (items : List Item) (task : Task) (replies : List WholeReply) → IsRight [] no_maildir items task → texts_in task replies ≡ map text_found (found_in task replies)
 texts_one items (stores number uid) replies right = each_text number replies
 texts_one items (rereads number uid) replies right = absurd (true≢false (sym right.0))
-texts_one items (says turn) replies right = refl
-texts_one items (skips number size) replies right = refl
-texts_one items (deletes number) replies right = refl
+texts_one items other replies right = refl
 
 pub texts_same : (items : List Item) (dones : List Done) → AllByRecursion (IsRight [] no_maildir items) (tasks_of dones) → texts_of dones ≡ texts_by dones
 texts_same items [] right = refl

@@ -57,18 +57,7 @@ none_is_open content rows is = (None, is)
 pub unsaved_why : (old : Stored) (was now : Held) (fault : Fault) (new : Stored) → Saves old was now (Err fault) new → (fault ≡ SeenRefused) ⊎ (fault ≡ NoMemory)
 unsaved_why old was now SeenRefused new is = inl refl
 unsaved_why old was now NoMemory new is = inr refl
-unsaved_why old was now ConnectionEnded new never = absurd never
-unsaved_why old was now ReadFailed new never = absurd never
-unsaved_why old was now WriteFailed new never = absurd never
-unsaved_why old was now ReplyTooLong new never = absurd never
-unsaved_why old was now BadReply new never = absurd never
-unsaved_why old was now (Refused to) new never = absurd never
-unsaved_why old was now BadListing new never = absurd never
-unsaved_why old was now ListingsDisagree new never = absurd never
-unsaved_why old was now TooMany new never = absurd never
-unsaved_why old was now TextTooLong new never = absurd never
-unsaved_why old was now (StoreRefused why) new never = absurd never
-unsaved_why old was now (BadSeen line) new never = absurd never
+unsaved_why old was now other new never = absurd never
 
 module _ (laws : Laws) (settings : Settings) (account : List ℕ) (items : List Item) (now : ℕ) (maildir : Maildir) (rows : List Row) (old : Scene)
     (same_maildir : old.store.maildir ≡ maildir) (same_rows : old.rows ≡ merged rows items (flags_of account maildir items) now) (same_lines : old.lines ≡ []) (steady : Steady old.file.content (none_open old.rows)) where

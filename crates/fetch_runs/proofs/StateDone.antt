@@ -38,9 +38,7 @@ found_numbers (stores number uid) (reply ∷ other ∷ more) answered = absurd a
 found_numbers (rereads number uid) [] answered = absurd answered
 found_numbers (rereads number uid) (reply ∷ []) answered = refl
 found_numbers (rereads number uid) (reply ∷ other ∷ more) answered = absurd answered.1
-found_numbers (says turn) replies answered = refl
-found_numbers (skips number size) replies answered = refl
-found_numbers (deletes number) replies answered = refl
+found_numbers other replies answered = refl
 
 pub numbers_by : (dones : List Done) → AllByRecursion IsAnswered dones → map number_found (found_by dones) ≡ map (λ (p : ℕ × List ℕ). p.0) (fetched (tasks_of dones))
 numbers_by [] answered = refl
@@ -150,9 +148,7 @@ counted_in (stores number uid) (reply ∷ other ∷ more) answered = absurd answ
 counted_in (rereads number uid) [] answered = absurd answered
 counted_in (rereads number uid) (reply ∷ []) answered = refl
 counted_in (rereads number uid) (reply ∷ other ∷ more) answered = absurd answered.1
-counted_in (says turn) replies answered = refl
-counted_in (skips number size) replies answered = refl
-counted_in (deletes number) replies answered = refl
+counted_in other replies answered = refl
 
 pub counted_by : (dones : List Done) → AllByRecursion IsAnswered dones → retrieved_in (lines_of dones) ≡ length (found_by dones)
 counted_by [] answered = refl

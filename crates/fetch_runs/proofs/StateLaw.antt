@@ -43,18 +43,8 @@ unready_files SeenRefused old file new file' is = same_files old new is.1
 unready_files (BadSeen line) old file new file' is = same_files old new is.1
 unready_files (StoreRefused why.Missing) old file new file' is = same_files old new is.1
 unready_files (StoreRefused why.Refused) old file new file' is = same_counted old new is
-unready_files (StoreRefused why.NotMbox) old file new file' never = absurd never
 unready_files NoMemory old file new file' is = same_files old new is
-unready_files ConnectionEnded old file new file' never = absurd never
-unready_files ReadFailed old file new file' never = absurd never
-unready_files WriteFailed old file new file' never = absurd never
-unready_files ReplyTooLong old file new file' never = absurd never
-unready_files BadReply old file new file' never = absurd never
-unready_files (Refused to) old file new file' never = absurd never
-unready_files BadListing old file new file' never = absurd never
-unready_files ListingsDisagree old file new file' never = absurd never
-unready_files TooMany old file new file' never = absurd never
-unready_files TextTooLong old file new file' never = absurd never
+unready_files other old file new file' never = absurd never
 
 module _ (laws : Laws) (settings : Settings) (account : List ℕ) (items : List Item) (now : ℕ) (place : Place) (maildir : Maildir) (file : Stored) (lines : List ReportLine) (rows : List Row)
     (keeps : KeepsRows file.content rows) (no_lines : lines ≡ []) where

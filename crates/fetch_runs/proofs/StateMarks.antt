@@ -106,9 +106,7 @@ marks_by account maildir items (d ∷ dones) rows settled right = by d.task righ
         → marked_all rows (ids_in task ++ ids_of dones) ≡ marked_all rows (map (λ (p : ℕ × List ℕ). p.1) (fetched_in task ++ fetched (tasks_of dones)))
     by (stores number uid) is ih = ih (marked rows uid) (λ other listed held. marks_swap rows uid other ∙ ap (λ (r : List Row). marked r uid) (settled other listed held))
     by (rereads number uid) is ih = ih rows settled ∙ ap (λ (r : List Row). marked_all r later) (sym (settled uid is.1 is.0))
-    by (says turn) is ih = ih rows settled
-    by (skips number size) is ih = ih rows settled
-    by (deletes number) is ih = ih rows settled
+    by other is ih = ih rows settled
 
 -- ---- what is recorded as delivered
 
@@ -145,10 +143,7 @@ stored_has_row law account maildir items now rows held (task ∷ tasks) right = 
 
     by : (task : Task) → IsRight account maildir items task → AllByRecursion HasRow (ids_ahead tasks) → AllByRecursion HasRow (ids_in task ++ ids_ahead tasks)
     by (stores number uid) is ih = (law rows items held now uid ∙ ap (λ b. has_row rows uid || b) is.1 ∙ or-true (has_row rows uid), ih)
-    by (rereads number uid) is ih = ih
-    by (says turn) is ih = ih
-    by (skips number size) is ih = ih
-    by (deletes number) is ih = ih
+    by other is ih = ih
 
 -- what is listed and held is recorded as delivered after the merge
 pub held_delivered : HeldIsDelivered → FlagsTell → (account : List ℕ) (maildir : Maildir) (items : List Item) (now : ℕ) (rows : List Row) (uid : List ℕ)
@@ -164,15 +159,12 @@ held_delivered law tell account maildir items now rows uid listed held =
 pub safe_next : (D : List ℕ → Type 0) (items : List Item) (tasks later : List Task) (next : Task) → Safe D items (tasks ++ next ∷ later) → AllByRecursion D (ids_ahead tasks)
     → AllByRecursion D (deleted_by items (tasks ++ next ∷ []))
 safe_next D items [] later (deletes number) safe all = all_append D (deleted_in items (deletes number)) [] safe.0 tt
-safe_next D items [] later (stores number uid) safe all = tt
-safe_next D items [] later (rereads number uid) safe all = tt
-safe_next D items [] later (says turn) safe all = tt
-safe_next D items [] later (skips number size) safe all = tt
 safe_next D items (stores number uid ∷ tasks) later next safe all = safe_next D items tasks later next (safe all.0) all.1
 safe_next D items (deletes number ∷ tasks) later next safe all = all_append D (deleted_in items (deletes number)) (deleted_by items (tasks ++ next ∷ [])) safe.0 (safe_next D items tasks later next safe.1 all)
 safe_next D items (rereads number uid ∷ tasks) later next safe all = safe_next D items tasks later next safe all
 safe_next D items (says turn ∷ tasks) later next safe all = safe_next D items tasks later next safe all
 safe_next D items (skips number size ∷ tasks) later next safe all = safe_next D items tasks later next safe all
+safe_next D items [] later other safe all = tt
 
 pub safe_done : (D : List ℕ → Type 0) (items : List Item) (tasks later : List Task) → Safe D items (tasks ++ later) → AllByRecursion D (ids_ahead tasks) → AllByRecursion D (deleted_by items tasks)
 safe_done D items [] later safe all = tt

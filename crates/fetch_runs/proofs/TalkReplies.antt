@@ -20,19 +20,10 @@ IsCommand (Some command) = Unit {0}
 
 body_read : (command : Command) (body : Option (List (List ℕ))) → IsBody (Some command) body → IsBodyIf (has_body command) body
 body_read command None none = subst (λ (has : Bool). IsBodyIf has None) (sym none) tt
-body_read (User name) (Some lines) is = absurd is.1
-body_read (Pass password) (Some lines) is = absurd is.1
-body_read Stat (Some lines) is = absurd is.1
 body_read UidlAll (Some lines) is = is.0
-body_read (UidlOne number) (Some lines) is = absurd is.1
 body_read ListAll (Some lines) is = is.0
-body_read (ListOne number) (Some lines) is = absurd is.1
 body_read (Retr number) (Some lines) is = is.0
-body_read (Dele number) (Some lines) is = absurd is.1
-body_read Rset (Some lines) is = absurd is.1
-body_read Noop (Some lines) is = absurd is.1
-body_read (Top number lines') (Some lines) is = absurd is.1
-body_read Quit (Some lines) is = absurd is.1
+body_read other (Some lines) is = absurd is.1
 
 pub reply_read : (command : Command) (reply : WholeReply) → IsGood (Some command) reply → IsRead command reply
 reply_read command reply good = record { rest = good.rest; line = good.line; positive = good.positive; body = body_read command reply.body good.body }
@@ -74,15 +65,13 @@ read_first (says turn) replies others commands found is good later =
     by (r ∷ s ∷ rs) good = absurd good.1
 read_first (skips number size) [] others commands found is good later = later
 read_first (skips number size) (r ∷ rs) others commands found is good later = absurd good
-read_first (stores number uid) [] others commands found is good later = absurd good
 read_first (stores number uid) (r ∷ []) others commands found is good later = (body_text r.body, found, text_read number r good.0, refl, later)
 read_first (stores number uid) (r ∷ s ∷ rs) others commands found is good later = absurd good.1
-read_first (rereads number uid) [] others commands found is good later = absurd good
 read_first (rereads number uid) (r ∷ []) others commands found is good later = (body_text r.body, found, text_read number r good.0, refl, later)
 read_first (rereads number uid) (r ∷ s ∷ rs) others commands found is good later = absurd good.1
-read_first (deletes number) [] others commands found is good later = absurd good
 read_first (deletes number) (r ∷ []) others commands found is good later = later
 read_first (deletes number) (r ∷ s ∷ rs) others commands found is good later = absurd good.1
+read_first other [] others commands found is good later = absurd good
 
 pub commands_on : (xs ys : List Turn) (more : List Command) → commands_in (xs ++ ys) ++ more ≡ commands_in xs ++ (commands_in ys ++ more)
 commands_on [] ys more = refl
@@ -104,8 +93,6 @@ dones_read (d ∷ dones) others commands found plain answered later =
     (dones_read dones others commands found plain.1 answered.1 later))))
 
 pub nothing_found : (task : Task) → found_in task [] ≡ []
-nothing_found (says turn) = refl
-nothing_found (skips number size) = refl
 nothing_found (stores number uid) = refl
 nothing_found (rereads number uid) = refl
-nothing_found (deletes number) = refl
+nothing_found other = refl

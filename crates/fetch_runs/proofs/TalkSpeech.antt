@@ -58,11 +58,6 @@ pub data IsTail : List Turn → Type 0 where
   undoes : IsTail (rset ∷ quit ∷ [])
 
 pub is_tail : (fault : Fault) → IsTail (tail_turns (tail fault))
-is_tail ConnectionEnded = silent
-is_tail ReadFailed = silent
-is_tail WriteFailed = silent
-is_tail ReplyTooLong = silent
-is_tail BadReply = silent
 is_tail (Refused ByGreeting) = leaves
 is_tail (Refused ByUser) = leaves
 is_tail (Refused ByPass) = leaves
@@ -71,15 +66,10 @@ is_tail (Refused ByUidl) = leaves
 is_tail (Refused ByList) = leaves
 is_tail (Refused (ByRetr number)) = leaves
 is_tail (Refused (ByDele number)) = leaves
-is_tail (Refused ByQuit) = silent
-is_tail BadListing = silent
-is_tail ListingsDisagree = silent
-is_tail TooMany = silent
-is_tail TextTooLong = silent
 is_tail (StoreRefused why) = undoes
 is_tail SeenRefused = undoes
-is_tail NoMemory = silent
 is_tail (BadSeen line) = undoes
+is_tail other = silent
 
 pub said_tail : (turns : List Turn) → IsTail turns → AllByRecursion CanBeSaid turns
 said_tail turns silent = tt

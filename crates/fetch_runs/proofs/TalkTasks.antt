@@ -60,9 +60,7 @@ plain_ahead settings target items now store rows few =
 said_first : (task : Task) (turns : List Turn) → IsPlain task → AllByRecursion CanBeSaid turns → AllByRecursion CanBeSaid (turns_in task ++ turns)
 said_first (says turn) turns is later = (subst CanBeSaid (sym is) (refl, tt), later)
 said_first (skips number size) turns is later = later
-said_first (stores number uid) turns is later = ((refl, is), later)
-said_first (rereads number uid) turns is later = ((refl, is), later)
-said_first (deletes number) turns is later = ((refl, is), later)
+said_first other turns is later = ((refl, is), later)
 
 pub said_tasks : (tasks : List Task) → AllByRecursion IsPlain tasks → AllByRecursion CanBeSaid (flat_map turns_in tasks)
 said_tasks [] plain = tt
@@ -71,9 +69,7 @@ said_tasks (task ∷ tasks) plain = said_first task (flat_map turns_in tasks) pl
 commands_first : (task : Task) (turns : List Turn) → IsPlain task → AllByRecursion IsCommand turns → AllByRecursion IsCommand (turns_in task ++ turns)
 commands_first (says turn) turns is later = (subst IsCommand (sym is) tt, later)
 commands_first (skips number size) turns is later = later
-commands_first (stores number uid) turns is later = (tt, later)
-commands_first (rereads number uid) turns is later = (tt, later)
-commands_first (deletes number) turns is later = (tt, later)
+commands_first other turns is later = (tt, later)
 
 pub commands_tasks : (tasks : List Task) → AllByRecursion IsPlain tasks → AllByRecursion IsCommand (flat_map turns_in tasks)
 commands_tasks [] plain = tt

@@ -31,27 +31,13 @@ no_line_no_reply ConnectionEnded turn old new bytes why = (why.0, inl why.1)
 no_line_no_reply ReadFailed turn old new bytes why = (why.0, inl why.1)
 no_line_no_reply WriteFailed turn old new bytes why = why
 no_line_no_reply ReplyTooLong turn old new bytes why = inl why
-no_line_no_reply BadReply turn old new bytes why = absurd why
-no_line_no_reply (Refused to) turn old new bytes why = absurd why
-no_line_no_reply BadListing turn old new bytes why = absurd why
 no_line_no_reply ListingsDisagree turn old new bytes why = why
-no_line_no_reply TooMany turn old new bytes why = absurd why
-no_line_no_reply TextTooLong turn old new bytes why = absurd why
-no_line_no_reply NoMemory turn old new bytes why = absurd why
+no_line_no_reply other turn old new bytes why = absurd why
 
 -- a cause depends on the old link only by its failure count
 pub cause_since : (fault : Fault) (turn : Turn) (old said new : Link) (bytes : List ℕ) → said.failures ≡ old.failures → Cause fault turn said new bytes → Cause fault turn old new bytes
-cause_since ConnectionEnded turn old said new bytes same why = why
 cause_since ReadFailed turn old said new bytes same why = (subst (λ (n : ℕ). n < new.failures) same why.0, why.1)
-cause_since WriteFailed turn old said new bytes same why = why
-cause_since ReplyTooLong turn old said new bytes same why = why
-cause_since BadReply turn old said new bytes same why = why
-cause_since (Refused to) turn old said new bytes same why = why
-cause_since BadListing turn old said new bytes same why = why
-cause_since ListingsDisagree turn old said new bytes same why = why
-cause_since TooMany turn old said new bytes same why = why
-cause_since TextTooLong turn old said new bytes same why = why
-cause_since NoMemory turn old said new bytes same why = why
+cause_since other turn old said new bytes same why = why
 
 -- what waits begins with the line and its CR LF
 pub line_waits : (limit n : ℕ) (bytes : List ℕ) → HasLine limit bytes n → bytes ≡ ended (take n bytes) ++ drop (n + 2) bytes
@@ -88,17 +74,8 @@ opened turn old said mid gained n rest is gains has steady positive fits =
 
 -- nothing is stated of what is used before a fault that is no refusal
 pub takes_other : (fault : Fault) (used : List ℕ) → ((to : Asked) → fault ≡ Refused to → ⊥) → TakesRefusal fault used
-takes_other ConnectionEnded used other = tt
-takes_other ReadFailed used other = tt
-takes_other WriteFailed used other = tt
-takes_other ReplyTooLong used other = tt
-takes_other BadReply used other = tt
 takes_other (Refused to) used other = absurd (other to refl)
-takes_other BadListing used other = tt
-takes_other ListingsDisagree used other = tt
-takes_other TooMany used other = tt
-takes_other TextTooLong used other = tt
-takes_other NoMemory used other = tt
+takes_other rest used other = tt
 
 pub drew_of : (old new : Place) (gained : List ℕ) → Gains old new gained → Drew old.link new.link gained
 drew_of old new gained gains = record { got = gains.got; sent = gains.sent }
@@ -238,15 +215,7 @@ pub few_cause : (fault : Fault) (old new : Link) (line bytes : List ℕ) → Fir
     → TellsFew line (Err fault) → Cause fault stat old new bytes × ((to : Asked) → fault ≡ Refused to → ⊥)
 few_cause BadReply old new line bytes first why = ((line, first, why.0, λ rest read. (refl, why.1 rest read)), λ to is. cc)
 few_cause TooMany old new line bytes first why = (inl (refl, (line, why.0, why.1, why.2, first, why.3, why.4, why.5)), λ to is. cc)
-few_cause ConnectionEnded old new line bytes first why = absurd why
-few_cause ReadFailed old new line bytes first why = absurd why
-few_cause WriteFailed old new line bytes first why = absurd why
-few_cause ReplyTooLong old new line bytes first why = absurd why
-few_cause (Refused to) old new line bytes first why = absurd why
-few_cause BadListing old new line bytes first why = absurd why
-few_cause ListingsDisagree old new line bytes first why = absurd why
-few_cause TextTooLong old new line bytes first why = absurd why
-few_cause NoMemory old new line bytes first why = absurd why
+few_cause other old new line bytes first why = absurd why
 
 pub few_heard : (fault : Fault) (said mid : Place) (gained : List ℕ) (n : ℕ) → Gains said mid gained → HasLine line_limit mid.waiting n
     → TellsFew (take n mid.waiting) (Err fault) → Heard stat said (Err fault) mid

@@ -151,17 +151,12 @@ round_trip (User name) few good =
 round_trip (Pass password) few good =
     let short : length password ≤ 500 = text_short password good in
     short_line (80 ∷ 65 ∷ 83 ∷ 83 ∷ 32 ∷ password) (omega arith) ∙ ap (λ (r : Result (List ℕ) WireFault). r >>= (λ t. Ok (Pass t))) (text_kept password good)
-round_trip Stat few good = refl
-round_trip UidlAll few good = refl
 round_trip (UidlOne n) few good = numbered (codes "UIDL") n refl (omega arith) few ∙ ap (λ (r : Result ℕ WireFault). r >>= (λ m. Ok (Some m)) >>= (λ which. Ok (one_or_all UidlOne UidlAll which))) (read_number n few)
-round_trip ListAll few good = refl
 round_trip (ListOne n) few good = numbered (codes "LIST") n refl (omega arith) few ∙ ap (λ (r : Result ℕ WireFault). r >>= (λ m. Ok (Some m)) >>= (λ which. Ok (one_or_all ListOne ListAll which))) (read_number n few)
 round_trip (Retr n) few good = numbered (codes "RETR") n refl (omega arith) few ∙ ap (λ (r : Result ℕ WireFault). r >>= (λ m. Ok (Retr m))) (read_number n few)
 round_trip (Dele n) few good = numbered (codes "DELE") n refl (omega arith) few ∙ ap (λ (r : Result ℕ WireFault). r >>= (λ m. Ok (Dele m))) (read_number n few)
-round_trip Rset few good = refl
-round_trip Noop few good = refl
 round_trip (Top n k) few good =
     numbered_twice (codes "TOP") n k refl (omega arith) few.0 few.1 (line_of (Top n k)) (simp append_assoc)
     ∙ ap (λ (r : Result ℕ WireFault). r >>= (λ m. argument_number (decimal k) >>= (λ j. both m j)) >>= (λ which. Ok (Top which.0 which.1))) (read_number n few.0)
     ∙ ap (λ (r : Result ℕ WireFault). r >>= (λ j. both n j) >>= (λ which. Ok (Top which.0 which.1))) (read_number k few.1)
-round_trip Quit few good = refl
+round_trip other few good = refl

@@ -35,18 +35,13 @@ line_no_lf : (c : Command) → HasNumbers c → can_be_sent c ≡ true → list_
 unfolding line_of
 line_no_lf (User name) h s = no_lf_append (codes "USER ") name refl (argument_no_lf name s)
 line_no_lf (Pass password) h s = no_lf_append (codes "PASS ") password refl (argument_no_lf password s)
-line_no_lf Stat h s = refl
-line_no_lf UidlAll h s = refl
 line_no_lf (UidlOne n) h s = number_no_lf (codes "UIDL ") n refl h
-line_no_lf ListAll h s = refl
 line_no_lf (ListOne n) h s = number_no_lf (codes "LIST ") n refl h
 line_no_lf (Retr n) h s = number_no_lf (codes "RETR ") n refl h
 line_no_lf (Dele n) h s = number_no_lf (codes "DELE ") n refl h
-line_no_lf Rset h s = refl
-line_no_lf Noop h s = refl
 line_no_lf (Top n k) h s =
     number_no_lf ((codes "TOP " ++ decimal n) ++ codes " ") k (no_lf_append (codes "TOP " ++ decimal n) (codes " ") (number_no_lf (codes "TOP ") n refl h.0) refl) h.1
-line_no_lf Quit h s = refl
+line_no_lf other h s = refl
 
 pub is_line : CommandsAreLines
 is_line c h s = line_without_lf (line_of c) (line_no_lf c h s)

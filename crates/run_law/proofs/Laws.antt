@@ -170,10 +170,7 @@ still_away laws frame before (TakenAway other after) id is kept h new l recorded
 
 one_new : (event : Event) (events : List Event) → ReadOnlyNew (event ∷ events) → ReadOnlyNew (event ∷ []) × ReadOnlyNew events
 one_new (Visited v) events h = ((h.0, tt), h.1)
-one_new (Moved after) events h = (tt, h)
-one_new (Between after) events h = (tt, h)
-one_new (Expired ids) events h = (tt, h)
-one_new (TakenAway id after) events h = (tt, h)
+one_new other events h = (tt, h)
 
 pub taken_stays_away : Below → TakenStaysAway
 taken_stays_away laws frame start [] id is kept run new l recorded none = none

@@ -100,34 +100,12 @@ module _ (laws : RowLaws) (settings : Settings) (before : MboxAccount) (effect :
             stands = tail.1 ∙ ap (λ l. (settled before).file ++ l) (ap (λ l. l ++ tail.0) t.stands ∙ append_assoc t.front (entry_of t.text ++ t.behind) tail.0
                 ∙ ap (λ l. t.front ++ l) (append_assoc (entry_of t.text) t.behind tail.0));
           })
-  deletes (User name) is = tt
-  deletes (Pass word) is = tt
-  deletes Stat is = tt
-  deletes UidlAll is = tt
-  deletes (UidlOne number) is = tt
-  deletes ListAll is = tt
-  deletes (ListOne number) is = tt
-  deletes (Retr number) is = tt
-  deletes Rset is = tt
-  deletes Noop is = tt
-  deletes (Top number lines) is = tt
-  deletes Quit is = tt
+  deletes other is = tt
 
 -- nothing was begun
 none_begun : (settings : Settings) (before : MboxAccount) (effect : Effect) (after : MboxAccount) → effect.begun ≡ [] → (command : Command) → IsBegun effect.listing effect.begun command → MboxDeletesKept settings before effect after command
 none_begun settings before effect after none (Dele number) (item, at, is, counted, alone) = absurd (true≢false (sym is ∙ ap (λ l. has_id l item.uid) none))
-none_begun settings before effect after none (User name) is = tt
-none_begun settings before effect after none (Pass word) is = tt
-none_begun settings before effect after none Stat is = tt
-none_begun settings before effect after none UidlAll is = tt
-none_begun settings before effect after none (UidlOne number) is = tt
-none_begun settings before effect after none ListAll is = tt
-none_begun settings before effect after none (ListOne number) is = tt
-none_begun settings before effect after none (Retr number) is = tt
-none_begun settings before effect after none Rset is = tt
-none_begun settings before effect after none Noop is = tt
-none_begun settings before effect after none (Top number lines) is = tt
-none_begun settings before effect after none Quit is = tt
+none_begun settings before effect after none command is = tt
 
 begins : {P Q : Command → Type 0} → ((c : Command) → P c → Q c) → (part : List ℕ) → BeginsOne P part → BeginsOne Q part
 begins f part (inl none) = inl none

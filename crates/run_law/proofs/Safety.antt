@@ -216,18 +216,7 @@ deletes_kept settings account before effect after keeps (Dele number) (item, at,
     by (inr (inr (message, text, among, same, there))) =
         let first = among_zip (IsFirstAt effect.listing) (wanted_at settings account before effect) effect.texts message text (wanted_first settings (merged_rows account before effect) effect.listing) among in
         inr (inr (message, text, among, one_number effect.listing message (number, item) first (counted, at, (and_parts (is_first effect.listing (number, item)) (is_last effect.listing (number, item)) alone).0) same, same, there))
-deletes_kept settings account before effect after keeps (User name) is = tt
-deletes_kept settings account before effect after keeps (Pass word) is = tt
-deletes_kept settings account before effect after keeps Stat is = tt
-deletes_kept settings account before effect after keeps UidlAll is = tt
-deletes_kept settings account before effect after keeps (UidlOne number) is = tt
-deletes_kept settings account before effect after keeps ListAll is = tt
-deletes_kept settings account before effect after keeps (ListOne number) is = tt
-deletes_kept settings account before effect after keeps (Retr number) is = tt
-deletes_kept settings account before effect after keeps Rset is = tt
-deletes_kept settings account before effect after keeps Noop is = tt
-deletes_kept settings account before effect after keeps (Top number lines) is = tt
-deletes_kept settings account before effect after keeps Quit is = tt
+deletes_kept settings account before effect after keeps other is = tt
 
 begins_kept : (settings : Settings) (account : List ℕ) (before : Account) (effect : Effect) (after : Account) (keeps : KeepsAll settings account before effect after) (part : List ℕ)
     → BeginsOne (IsBegun effect.listing effect.begun) part → BeginsOne (DeletesKept settings account before effect keeps.gained) part
