@@ -1,4 +1,4 @@
--- An intent: what was about to be appended to a mailbox file when the record's file was last saved.
+-- An intent: what was about to be appended to an mboxrd file when the record's file was last saved.
 use Rattle.std.specs.Prelude.{◌≡◌, ◌||◌, true, false, option_map, ℕ, Bool, List, Option, Some, None, if◌then◌else◌}
 use Rattle.fetch_rules.specs.Record.{Row, Intent, Loaded, marked}
 use Rattle.fetch_rules.specs.RecordFile.{Version, One, Two}
@@ -20,7 +20,8 @@ abbrev pub is_older : Version → Bool
 is_older One = true
 is_older Two = false
 
--- the record that bytes stand for was read; its file must be written anew where it is of version 1, torn, has an open intent, or is outgrown
+-- the record that bytes stand for was read; its file must be written anew where it is of version 1, torn, has an
+-- open intent, or is outgrown
 pub record ReadAs (bytes : List ℕ) (loaded : Loaded) : Type 0 where
   pub version : Version
   pub torn : Bool

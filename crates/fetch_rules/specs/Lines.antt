@@ -65,7 +65,8 @@ open_behind _ intent = intent
 abbrev pub TakesRow : Bool → Part → List Row → Row → Part → List Row → Type 0
 TakesRow older part rows row next new =
     (n : ℕ) (before : List Row) (intent : Option Intent)
-    → after_line (version_of older) n (progress_of part intent before rows) (RowLine row) ≡ Stands (progress_of next (open_behind next intent) before new)
+    → after_line (version_of older) n (progress_of part intent before rows) (RowLine row)
+    ≡ Stands (progress_of next (open_behind next intent) before new)
 
 -- a row may not stand there, on the line of this number
 abbrev pub RefusesRow : Bool → Part → List Row → Row → ℕ → SeenFault → Type 0
@@ -76,13 +77,18 @@ RefusesRow older part rows row number fault =
 -- an intent's line may stand there
 abbrev pub TakesIntent : Bool → Part → Option Intent → List Row → Intent → Type 0
 TakesIntent older part open' rows intent =
-    (n : ℕ) (before : List Row) → after_line (version_of older) n (progress_of part open' before rows) (IntentLine intent) ≡ Stands (BetweenGroups rows (Some intent))
+    (n : ℕ) (before : List Row)
+    → after_line (version_of older) n (progress_of part open' before rows) (IntentLine intent)
+    ≡ Stands (BetweenGroups rows (Some intent))
 
 abbrev pub RefusesIntent : Bool → Part → Option Intent → List Row → Intent → ℕ → SeenFault → Type 0
 RefusesIntent older part open' rows intent number fault =
-    (n : ℕ) (before : List Row) → number ≡ line_after n → after_line (version_of older) n (progress_of part open' before rows) (IntentLine intent) ≡ Fails fault
+    (n : ℕ) (before : List Row) → number ≡ line_after n
+    → after_line (version_of older) n (progress_of part open' before rows) (IntentLine intent) ≡ Fails fault
 
 -- what the bytes stand for, by their end, the open intent and the rows that were read
 abbrev pub EndsAt : List ℕ → Bool → End → Option Intent → List Row → Type 0
 EndsAt bytes older (Counted torn) intent rows = Means bytes (Rows (version_of older) rows intent torn)
-EndsAt bytes older (Open front) intent rows = (front ≤ length bytes) × ((before : List Row) × Means bytes (Rows (version_of older) before intent true) × Means (take front bytes) (Rows (version_of older) before intent false))
+EndsAt bytes older (Open front) intent rows = (front ≤ length bytes)
+    × ((before : List Row) × Means bytes (Rows (version_of older) before intent true)
+    × Means (take front bytes) (Rows (version_of older) before intent false))

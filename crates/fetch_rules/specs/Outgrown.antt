@@ -20,9 +20,14 @@ pub record IsBase (bytes : List ℕ) (rows : List Row) (appended : List ℕ) : T
   pub whole : bytes ≡ header version ++ lines
   pub parts : RowsThen lines rows appended
 
--- whether the file has more than 65,536 octets, and more of them were appended than its first rows have
+-- a file of at most so many octets is never written anew for what was appended to it
+abbrev pub small_file : ℕ
+small_file = 65536
+
+-- whether the file is larger than that, and more of its octets were appended than its first rows have
 abbrev pub IsOutgrown : List ℕ → Bool → Type 0
 IsOutgrown bytes outgrown =
-    ((length bytes ≤ 65536) × (outgrown ≡ false))
+    ((length bytes ≤ small_file) × (outgrown ≡ false))
     ⊎ ((((version : Version) (rest : List ℕ) → bytes ≢ header version ++ rest) × (outgrown ≡ false))
-    ⊎ ((65536 < length bytes) × ((rows : List Row) × (appended : List ℕ) × IsBase bytes rows appended × (outgrown ≡ nat_lt (length (flat_map line_of rows)) (length appended)))))
+    ⊎ ((small_file < length bytes) × ((rows : List Row) × (appended : List ℕ) × IsBase bytes rows appended
+    × (outgrown ≡ nat_lt (length (flat_map line_of rows)) (length appended)))))

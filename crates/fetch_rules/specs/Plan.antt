@@ -20,7 +20,8 @@ seen_since rows uid now = unwrap_or (first_seen_of rows uid) now
 -- message has its id
 abbrev pub is_deleted : Settings → List Row → List Item → ℕ → Bool → ℕ × Item → Bool
 is_deleted settings rows listing now fetched message =
-    is_due settings now (seen_since rows message.1.uid now) && (is_delivered rows message.1.uid || fetched) && (is_first listing message && is_last listing message)
+    is_due settings now (seen_since rows message.1.uid now) && (is_delivered rows message.1.uid || fetched)
+    && (is_first listing message && is_last listing message)
 
 abbrev pub step_of : Settings → List Row → List Item → ℕ → ℕ × Item → Step
 step_of settings rows listing now message =

@@ -1,6 +1,7 @@
 -- The record: which messages of a maildrop were seen, since when, and whether they were delivered.
 -- A message is known by its unique-id (RFC 1939, section 7, UIDL).
-use Rattle.std.specs.Prelude.{ℕ, ◌<◌, ◌^◌, Bool, false, ◌&&◌, ◌||◌, not, List, [], ◌∷◌, ◌++◌, Option, Some, None, map, filter, find, All, bytes_eq, option_map, IsTrue}
+use Rattle.std.specs.Prelude.{ℕ, ◌<◌, ◌^◌, Bool, false, ◌&&◌, ◌||◌, not, List, [], ◌∷◌, ◌++◌, Option}
+use Rattle.std.specs.Prelude.{Some, None, map, filter, find, All, bytes_eq, option_map, IsTrue}
 use Rattle.std.specs.List.{list_any}
 use Rattle.mail_terms.specs.UniqueId.{IsLegalId}
 use Rattle.mail_terms.specs.Distinct.{AreDistinct}
@@ -23,7 +24,7 @@ pub record IsRecord (rows : List Row) : Type 0 where
   pub each : All IsRow rows
   pub distinct : AreDistinct (map (λ row. row.uid) rows)
 
--- of which message an entry is to be appended to a mailbox file, at which size of the file, and how long the entry is
+-- of which message an entry is to be appended to an mboxrd file, at which size of the file, and how long the entry is
 pub record Intent : Type 0 where
   pub uid : List ℕ
   pub start : ℕ

@@ -2,8 +2,10 @@
 -- the id, the second at which it was first seen, and 1 where it was delivered, else 0. A group is the
 -- line `+ N` and N rows, which have come into the record, or were delivered, since. In version 2 an
 -- intent's line may stand behind the rows and between groups: `!`, the id, and two numbers.
-use Rattle.std.specs.Prelude.{ℕ, ◌≤◌, List, [], ◌∷◌, ◌++◌, Bool, true, false, not, ◌&&◌, if◌then◌else◌, length, filter, flat_map, codes, Option, Some, None}
+use Rattle.std.specs.Prelude.{ℕ, ◌≤◌, List, [], ◌∷◌, ◌++◌, Bool, true, false, not, ◌&&◌}
+use Rattle.std.specs.Prelude.{if◌then◌else◌, length, filter, flat_map, codes, Option, Some, None}
 use Rattle.std.specs.Fmt.{decimal}
+use Rattle.mail_terms.specs.Listing.{message_limit}
 use Rattle.fetch_rules.specs.Record.{Row, IsRow, Intent, IsIntent, is_of}
 
 pub data Version : Type 0 where
@@ -28,7 +30,8 @@ group_line count = codes "+ " ++ (decimal count ++ codes "\n")
 
 -- the line of an intent
 abbrev pub intent_line : Intent → List ℕ
-intent_line intent = codes "! " ++ (intent.uid ++ (codes " " ++ (decimal intent.start ++ (codes " " ++ (decimal intent.len ++ codes "\n")))))
+intent_line intent =
+    codes "! " ++ (intent.uid ++ (codes " " ++ (decimal intent.start ++ (codes " " ++ (decimal intent.len ++ codes "\n")))))
 
 abbrev pub last_line : Option Intent → List ℕ
 last_line None = []
@@ -71,5 +74,5 @@ text_of (IntentLine intent) = intent_line intent
 
 abbrev pub IsLine : Line → Type 0
 IsLine (RowLine row) = IsRow row
-IsLine (GroupLine count) = (1 ≤ count) × (count ≤ 100000)
+IsLine (GroupLine count) = (1 ≤ count) × (count ≤ message_limit)
 IsLine (IntentLine intent) = IsIntent intent

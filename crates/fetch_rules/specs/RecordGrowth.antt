@@ -1,5 +1,6 @@
 -- How a record's file grows by appended groups, and what is kept where an append is cut.
 use Rattle.std.specs.Prelude.{◌≡◌, ◌≢◌, ◌⊎◌, ℕ, ◌≤◌, List, [], ◌∷◌, ◌++◌, false, Bool, Option, Some, None, length, All, IsTrue}
+use Rattle.mail_terms.specs.Listing.{message_limit}
 use Rattle.fetch_rules.specs.Record.{Row, Intent, IsRow, IsIntent, IsRecord, IntentHasRow, has_row}
 use Rattle.fetch_rules.specs.RecordFile.{Version, One, Two, header, file_of, group_of, intent_line}
 use Rattle.fetch_rules.specs.RecordMeaning.{Meaning, Rows, Means, FileStandsFor, may_take, taken, has_bytes}
@@ -17,7 +18,7 @@ MayFollow rows (row ∷ more) = IsTrue (may_take Two rows row) × MayFollow (tak
 -- a group that may follow these rows
 pub record IsGroup (rows group : List Row) : Type 0 where
   pub each : All IsRow group
-  pub count : (1 ≤ length group) × (length group ≤ 100000)
+  pub count : (1 ≤ length group) × (length group ≤ message_limit)
   pub follows : MayFollow rows group
 
 -- what is appended to a file where its rows become others: nothing where they stay, else one group, which ends an open intent
@@ -45,27 +46,33 @@ OneMeaning = (bytes : List ℕ) (a b : Meaning) → Means bytes a → Means byte
 
 -- a law: a file stands for one record
 abbrev pub OneRecord : Type 0
-OneRecord = (file : Option (List ℕ)) (a b : List Row) (i j : Option Intent) → FileStandsFor file a i → FileStandsFor file b j → (a ≡ b) × (i ≡ j)
+OneRecord = (file : Option (List ℕ)) (a b : List Row) (i j : Option Intent) → FileStandsFor file a i
+    → FileStandsFor file b j → (a ≡ b) × (i ≡ j)
 
 -- a law: the file without groups stands for its rows and its intent, and isn't torn
 abbrev pub BytesStand : Type 0
-BytesStand = (rows : List Row) (intent : Option Intent) → IsRecord rows → IntentHasRow rows intent → Means (file_of rows intent) (Rows Two rows intent false)
+BytesStand = (rows : List Row) (intent : Option Intent) → IsRecord rows → IntentHasRow rows intent
+    → Means (file_of rows intent) (Rows Two rows intent false)
 
 -- a law: behind a file that isn't empty and isn't torn, what was appended whole counts
 abbrev pub AppendedCounts : Type 0
-AppendedCounts = (bytes added : List ℕ) (old new : List Row) (before after : Option Intent) → bytes ≢ [] → Means bytes (Rows Two old before false) → Grows old before added new after
+AppendedCounts = (bytes added : List ℕ) (old new : List Row) (before after : Option Intent) → bytes ≢ []
+    → Means bytes (Rows Two old before false) → Grows old before added new after
     → Means (bytes ++ added) (Rows Two new after false)
 
 -- a law: there, a front of what was to be appended counts for nothing, and is a torn end
 abbrev pub CutIsIgnored : Type 0
-CutIsIgnored = (bytes added front behind : List ℕ) (old new : List Row) (before after : Option Intent) → bytes ≢ [] → Means bytes (Rows Two old before false) → Grows old before added new after
+CutIsIgnored = (bytes added front behind : List ℕ) (old new : List Row) (before after : Option Intent)
+    → bytes ≢ [] → Means bytes (Rows Two old before false) → Grows old before added new after
     → added ≡ front ++ behind → behind ≢ [] → Means (bytes ++ front) (Rows Two old before (has_bytes front))
 
 -- a law: a file of version 1 has no open intent, and its lines stand for the same rows behind the header of version 2
 abbrev pub OneIsRead : Type 0
-OneIsRead = (rest : List ℕ) (version : Version) (rows : List Row) (intent : Option Intent) (torn : Bool) → Means (header One ++ rest) (Rows version rows intent torn)
+OneIsRead = (rest : List ℕ) (version : Version) (rows : List Row) (intent : Option Intent) (torn : Bool)
+    → Means (header One ++ rest) (Rows version rows intent torn)
     → (version ≡ One) × (intent ≡ None) × Means (header Two ++ rest) (Rows Two rows None torn)
 
 -- a law: an open intent is one, and its id has a row
 abbrev pub OpenHasRow : Type 0
-OpenHasRow = (bytes : List ℕ) (version : Version) (rows : List Row) (intent : Option Intent) (torn : Bool) → Means bytes (Rows version rows intent torn) → IntentHasRow rows intent
+OpenHasRow = (bytes : List ℕ) (version : Version) (rows : List Row) (intent : Option Intent) (torn : Bool)
+    → Means bytes (Rows version rows intent torn) → IntentHasRow rows intent

@@ -3,7 +3,8 @@
 -- now is; in version 2 also one that was. There an intent's line, whose id has a row, opens an intent
 -- where none is open, and a whole group ends it. A torn end counts for nothing: a last piece without
 -- LF, and a last group that lacks rows, though its rows are judged.
-use Rattle.std.specs.Prelude.{◌≡◌, ◌≢◌, ◌⊎◌, ℕ, zero, suc, ◌+◌, ◌-◌, ◌==◌, List, [], ◌∷◌, ◌++◌, Bool, true, false, not, ◌&&◌, ◌||◌, if◌then◌else◌, Option, Some, None, length, min, flat_map, All}
+use Rattle.std.specs.Prelude.{◌≡◌, ◌≢◌, ◌⊎◌, ℕ, zero, suc, ◌+◌, ◌-◌, ◌==◌, List, [], ◌∷◌, ◌++◌, Bool, true, false}
+use Rattle.std.specs.Prelude.{not, ◌&&◌, ◌||◌, if◌then◌else◌, Option, Some, None, length, min, flat_map, All}
 use Rattle.std.specs.List.{list_any}
 use Rattle.fetch_rules.specs.Record.{Row, Intent, is_of, has_row, marked}
 use Rattle.fetch_rules.specs.RecordFile.{Version, One, Two, header, Line, RowLine, GroupLine, IntentLine, IsLine, text_of}
@@ -17,7 +18,8 @@ may_repeat Two old = true
 
 -- whether a group's row delivers an id: it has a row with the same second, in version 1 not delivered before
 abbrev pub delivers : Version → List Row → Row → Bool
-delivers version rows row = row.delivered && list_any (λ old. is_of row.uid old && (may_repeat version old && (old.first_seen == row.first_seen))) rows
+delivers version rows row = row.delivered
+    && list_any (λ old. is_of row.uid old && (may_repeat version old && (old.first_seen == row.first_seen))) rows
 
 -- whether a group may hold the row behind these rows
 abbrev pub may_take : Version → List Row → Row → Bool
@@ -41,27 +43,35 @@ pub data Judged : Type 0 where
   Stands : (progress : Progress) → Judged
   Fails : (fault : SeenFault) → Judged
 
--- the number of the line behind the header and n lines: lines are counted from 1, and those past 32
--- bits give the greatest number
+-- the greatest number of a line, which has 32 bits
+abbrev pub greatest_line : ℕ
+greatest_line = 4294967295
+
+-- the number of the line behind the header and n lines: lines are counted from 1, and all from the
+-- greatest number on have that number
 abbrev pub line_after : ℕ → ℕ
-line_after n = min (n + 2) 4294967295
+line_after n = min (n + 2) greatest_line
 
 -- an intent's line may stand there: only in version 2, where none is open, and where its id has a row
 abbrev pub after_intent : Version → ℕ → List Row → Option Intent → Intent → Judged
 after_intent One n rows before intent = Fails (BadRow (line_after n))
 after_intent Two n rows (Some other) intent = Fails (BadRow (line_after n))
-after_intent Two n rows None intent = if has_row rows intent.uid then Stands (BetweenGroups rows (Some intent)) else Fails (BadRow (line_after n))
+after_intent Two n rows None intent = if has_row rows intent.uid
+    then Stands (BetweenGroups rows (Some intent)) else Fails (BadRow (line_after n))
 
 -- one line more, behind n lines
 abbrev pub after_line : Version → ℕ → Progress → Line → Judged
-after_line version n (InBase rows) (RowLine row) = if has_row rows row.uid then Fails (RepeatedId (line_after n)) else Stands (InBase (rows ++ row ∷ []))
+after_line version n (InBase rows) (RowLine row) = if has_row rows row.uid
+    then Fails (RepeatedId (line_after n)) else Stands (InBase (rows ++ row ∷ []))
 after_line version n (InBase rows) (GroupLine count) = Stands (InGroup rows None rows (count - 1))
 after_line version n (InBase rows) (IntentLine intent) = after_intent version n rows None intent
 after_line version n (BetweenGroups rows before) (RowLine row) = Fails (BadRow (line_after n))
 after_line version n (BetweenGroups rows before) (GroupLine count) = Stands (InGroup rows before rows (count - 1))
 after_line version n (BetweenGroups rows before) (IntentLine intent) = after_intent version n rows before intent
-after_line version n (InGroup old before rows zero) (RowLine row) = if may_take version rows row then Stands (BetweenGroups (taken rows row) None) else Fails (RepeatedId (line_after n))
-after_line version n (InGroup old before rows (suc more)) (RowLine row) = if may_take version rows row then Stands (InGroup old before (taken rows row) more) else Fails (RepeatedId (line_after n))
+after_line version n (InGroup old before rows zero) (RowLine row) = if may_take version rows row
+    then Stands (BetweenGroups (taken rows row) None) else Fails (RepeatedId (line_after n))
+after_line version n (InGroup old before rows (suc more)) (RowLine row) = if may_take version rows row
+    then Stands (InGroup old before (taken rows row) more) else Fails (RepeatedId (line_after n))
 after_line version n (InGroup old before rows more) (GroupLine count) = Fails (BadRow (line_after n))
 after_line version n (InGroup old before rows more) (IntentLine intent) = Fails (BadRow (line_after n))
 

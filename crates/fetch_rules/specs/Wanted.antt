@@ -10,7 +10,8 @@ is_within limit size = limit == 0 || nat_le size limit
 
 -- the message is within the limit on sizes, and isn't known to be delivered unless all are to be read
 abbrev pub is_asked_for : Settings → List Row → ℕ × Item → Bool
-is_asked_for settings rows message = is_within settings.max_size message.1.size && (settings.read_all || not (is_delivered rows message.1.uid))
+is_asked_for settings rows message = is_within settings.max_size message.1.size
+    && (settings.read_all || not (is_delivered rows message.1.uid))
 
 -- the message may be fetched: it is asked for, and is the first with its id
 abbrev pub is_candidate : Settings → List Row → List Item → ℕ × Item → Bool

@@ -13,7 +13,8 @@ use rc_file::Settings;
 
 /// A plan fetches only messages whose id no earlier message has, so no id twice.
 pub fn firsts_are_fetched()
-    ensures { (settings : Settings) (rows : List Row) (listing : List Item) (now : ℕ) → FetchesFirsts [] (planned settings rows listing now) listing }
+    ensures { (settings : Settings) (rows : List Row) (listing : List Item) (now : ℕ)
+        → FetchesFirsts [] (planned settings rows listing now) listing }
 {}
 
 /// The messages that a plan's steps fetch are those that are wanted.
@@ -48,5 +49,6 @@ pub fn marked_keeps_rows()
 
 /// The rows of UIDL and of LIST are joined in one way.
 pub fn rows_join_in_one_way()
-    ensures { (n : ℕ) (uids : List UidRow) (sizes : List ScanRow) (one other : List Item) → Joins n uids sizes one → Joins n uids sizes other → one ≡ other }
+    ensures { (n : ℕ) (uids : List UidRow) (sizes : List ScanRow) (one other : List Item)
+        → Joins n uids sizes one → Joins n uids sizes other → one ≡ other }
 {}

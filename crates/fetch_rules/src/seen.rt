@@ -7,7 +7,8 @@ ghost use Rattle.fetch_rules.specs.Intents.{ReadAs, IsNoneOrOf, intent_of, inten
 ghost use Rattle.fetch_rules.specs.Lines.{open_seen, intent_seen, version_of};
 ghost use Rattle.fetch_rules.specs.RecordFile.{changed, marking, written, file_of, intent_line};
 ghost use Rattle.fetch_rules.specs.RecordMeaning.{Means, Fault};
-ghost use Rattle.fetch_rules.specs.RecordGrowth.{Updates, OneMeaning, OneRecord, BytesStand, AppendedCounts, CutIsIgnored, OneIsRead, OpenHasRow};
+ghost use Rattle.fetch_rules.specs.RecordGrowth.{Updates, OneMeaning, OneRecord, BytesStand};
+ghost use Rattle.fetch_rules.specs.RecordGrowth.{AppendedCounts, CutIsIgnored, OneIsRead, OpenHasRow};
 
 mod change;
 mod field;

@@ -85,7 +85,8 @@ fn is_done_with<H: BuildHasher>(
     i: u32,
 ) -> bool
     requires { i < length listing.now }
-    ensures { HoldsAt (λ item. result ≡ (is_due settings.now now (seen_since seen.now.rows item.uid now) && (is_delivered seen.now.rows item.uid || fetched))) listing.now i }
+    ensures { HoldsAt (λ item. result ≡ (is_due settings.now now (seen_since seen.now.rows item.uid now)
+        && (is_delivered seen.now.rows item.uid || fetched))) listing.now i }
 {
     let uid = listing.uid(i);
     let since = seen.first_seen(uid).unwrap_or(now);

@@ -1,4 +1,4 @@
--- After a session that ended, the mailbox file stands for the texts that came too.
+-- After a session that ended, the mboxrd file stands for the texts that came too.
 use Rattle.std.proofs.Common.{arith, ◌≡◌, ◌≤◌, inl, inr, ℕ, zero, suc, true, List, [], ◌∷◌, ◌++◌, map, take, length, None, Some, refl, sym, ap, subst, ◌∙◌, append_assoc}
 use Rattle.std.specs.List.{AllByRecursion}
 use Rattle.std.proofs.lemmas.Bool.{true≢false}

@@ -1,4 +1,4 @@
--- A session with a mailbox file is a step: what it sent and read, and what it left, together.
+-- A session with an mboxrd file is a step: what it sent and read, and what it left, together.
 use Rattle.std.proofs.Common.{◌≡◌, inl, inr, ℕ, Bool, true, false, List, [], ◌∷◌, ◌++◌, Result, refl, sym, ap, subst, ◌∙◌}
 use Rattle.std.specs.Prelude.{◌↔◌}
 use Rattle.std.specs.List.{AllByRecursion}

@@ -1,4 +1,4 @@
--- What each way that the tasks of a session can take leaves of a mailbox file and its record.
+-- What each way that the tasks of a session can take leaves of an mboxrd file and its record.
 use Rattle.std.proofs.Common.{arith, ◌≡◌, ◌⊎◌, inl, inr, ◌+◌, ℕ, Bool, true, false, List, [], ◌∷◌, ◌++◌, map, take, length, Option, None, Some, Result, Ok, Err, refl, sym, ap, subst, ◌∙◌, append_assoc, length-append}
 use Rattle.std.specs.Prelude.{option_map, slice_get}
 use Rattle.std.specs.List.{flat_map, AllByRecursion, AllZip}

@@ -1,4 +1,4 @@
--- From a kept state every list of sessions with a mailbox file, and of what happens between them, keeps what is promised.
+-- From a kept state every list of sessions with an mboxrd file, and of what happens between them, keeps what is promised.
 use Rattle.std.proofs.Common.{◌≡◌, ◌⊎◌, inl, inr, ◌-◌, ℕ, true, false, List, [], ◌∷◌, Option, None, Some, sym, ap, subst, ◌∙◌}
 use Rattle.std.specs.Prelude.{slice_get}
 use Rattle.std.specs.List.{AllByRecursion}

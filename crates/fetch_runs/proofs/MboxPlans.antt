@@ -1,4 +1,4 @@
--- What a session with a mailbox file sends follows a plan.
+-- What a session with an mboxrd file sends follows a plan.
 use Rattle.std.proofs.Common.{◌≡◌, ◌⊎◌, inl, inr, ℕ, List, [], ◌++◌, Result, Ok, Err}
 use Rattle.pop3_wire.specs.Honest.{FrontsAreAsked}
 use Rattle.pop3_wire.specs.Link.{Link}

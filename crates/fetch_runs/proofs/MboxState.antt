@@ -1,4 +1,4 @@
--- What a session leaves of an account with a mailbox file.
+-- What a session leaves of an account with an mboxrd file.
 use Rattle.std.proofs.Common.{arith, ◌≡◌, ◌⊎◌, inl, inr, ℕ, false, Bool, List, [], Option, None, Some, Result, Ok, Err, refl, sym, ap, subst, ◌∙◌}
 use Rattle.std.proofs.lemmas.Bool.{true≢false}
 use Rattle.std.proofs.lemmas.List.{append-nil}
@@ -44,7 +44,7 @@ same_closed (Some intent) bytes = refl
 held_same : (a b : Held) → a.rows ≡ b.rows → a.intent ≡ b.intent → a ≡ b
 held_same a b rows intent = ap (λ (r : List Row). held_with r a.intent) rows ∙ ap (λ (i : Option Intent). held_with b.rows i) intent
 
--- a cause leaves the mailbox file as it was, or settled
+-- a cause leaves the mboxrd file as it was, or settled
 settled_by : (fault : Fault) (mbox file mbox' file' : Stored) → MboxUnready fault mbox file mbox' file' → IsSettledBy file mbox mbox'
 settled_by SeenRefused mbox file mbox' file' is = is.1
 settled_by (BadSeen line) mbox file mbox' file' is = inl (ap (λ (s : Stored). s.content) is.1)

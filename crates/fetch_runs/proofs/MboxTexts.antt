@@ -1,4 +1,4 @@
--- The texts that tasks appended to a mailbox file, and the intent of the next one.
+-- The texts that tasks appended to an mboxrd file, and the intent of the next one.
 use Rattle.std.proofs.Common.{◌≡◌, inl, inr, ◌+◌, ℕ, zero, suc, List, [], ◌∷◌, ◌++◌, map, take, length, Option, None, Some, refl, sym, ap, ◌∙◌}
 use Rattle.std.specs.Prelude.{slice_get}
 use Rattle.std.specs.List.{AllByRecursion}

@@ -77,7 +77,9 @@ retrieved_by turns = count_by is_retrieval turns
 -- that text, and then only the tail is begun
 abbrev pub CountsTexts : Outcome → List Turn → List Turn → ℕ → Type 0
 CountsTexts outcome done begun count = (retrieved_by done ≡ count)
-    ⊎ ((outcome ≡ Cut (StoreRefused Refused)) × ((front : List Turn) × (number : ℕ) × (done ≡ front ++ retr number ∷ []) × (retrieved_by front ≡ count) × (begun ≡ [])))
+    ⊎ ((outcome ≡ Cut (StoreRefused Refused))
+    × ((front : List Turn) × (number : ℕ) × (done ≡ front ++ retr number ∷ []) × (retrieved_by front ≡ count)
+    × (begun ≡ [])))
 
 -- a session that didn't get past its opening
 pub record Opens (settings : Settings) (report : Report) (sent got : List ℕ) : Type 0 where
@@ -94,10 +96,13 @@ pub record AreFound (account : List ℕ) (now : ℕ) (maildir : Maildir) (file :
 
 -- a session whose listing was joined followed the plan for that listing, the record and the Maildir that it
 -- found; or it didn't come to a plan, and began nothing but the tail after the opening
-pub record SpeaksByPlan (settings : Settings) (account : List ℕ) (now : ℕ) (before : Kept) (report : Report) (sent got : List ℕ) : Type 0 where
+pub record SpeaksByPlan (settings : Settings) (account : List ℕ) (now : ℕ) (before : Kept) (report : Report)
+    (sent got : List ℕ) : Type 0 where
   pub items : List Item
   pub rows : List Row
-  pub said : Converses (plan_turns (string_bytes settings.username) (string_bytes settings.password) (planned settings rows items now)) (tail_behind report.outcome) sent got
+  pub said : Converses
+      (plan_turns (string_bytes settings.username) (string_bytes settings.password) (planned settings rows items now))
+      (tail_behind report.outcome) sent got
   pub found : AreFound account now before.maildir before.file items rows
       ⊎ ((said.done ≡ opening (string_bytes settings.username) (string_bytes settings.password)) × (said.begun ≡ []))
   pub commands : List Command
@@ -117,7 +122,8 @@ pub record SpeaksByPlan (settings : Settings) (account : List ℕ) (now : ℕ) (
 
 -- a law: what the link gained by a session is one conversation, of the opening alone if it didn't get further
 abbrev pub SessionsAreConversations : Type 0
-SessionsAreConversations = (settings : Settings) (account : List ℕ) (now : ℕ) (link : Link) (before : Kept) (report : Report) (link' : Link) (after : Kept)
+SessionsAreConversations = (settings : Settings) (account : List ℕ) (now : ℕ) (link : Link) (before : Kept)
+    (report : Report) (link' : Link) (after : Kept)
     → IsValid settings → Session settings account now link before report link' after
     → (sent got : List ℕ) × (link'.sent ≡ link.sent ++ sent) × (link'.got ≡ link.got ++ got)
     × (Opens settings report sent got ⊎ SpeaksByPlan settings account now before report sent got)
@@ -129,8 +135,9 @@ pub record FollowsPlan (settings : Settings) (sent : List ℕ) : Type 0 where
   pub asked : Asked commands sent
   pub front : IsFrontOfPlan (string_bytes settings.username) (string_bytes settings.password) steps commands
 
--- a law: with a mailbox file, what was sent in a session follows a plan
+-- a law: with an mboxrd file, what was sent in a session follows a plan
 abbrev pub MboxSessionsFollowPlans : Type 0
-MboxSessionsFollowPlans = (settings : Settings) (now : ℕ) (link : Link) (before : MboxKept) (report : Report) (link' : Link) (after : MboxKept)
+MboxSessionsFollowPlans = (settings : Settings) (now : ℕ) (link : Link) (before : MboxKept) (report : Report)
+    (link' : Link) (after : MboxKept)
     → IsValid settings → MboxSession settings now link before report link' after
     → (sent : List ℕ) × (link'.sent ≡ link.sent ++ sent) × FollowsPlan settings sent

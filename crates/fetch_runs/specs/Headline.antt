@@ -95,7 +95,8 @@ maildrop_at world state occasion = maildrop_of world.all occasion.come state.gon
 -- it was a session, whatever cut it, and all that its link gained came from an honest server with this maildrop
 pub record IsSession (world : World) (state : State) (occasion : Occasion) : Type 0 where
   pub settings : AreSettings world occasion.settings
-  pub session : Session occasion.settings (digits_of occasion.settings) occasion.now occasion.link state.kept occasion.report occasion.link' occasion.after
+  pub session : Session occasion.settings (digits_of occasion.settings) occasion.now occasion.link state.kept
+      occasion.report occasion.link' occasion.after
   pub served : (sent got : List ℕ) → occasion.link'.sent ≡ occasion.link.sent ++ sent → occasion.link'.got ≡ occasion.link.got ++ got
       → Served (maildrop_at world state occasion) sent got occasion.vanished
 
@@ -120,11 +121,13 @@ pub record IsTakenAway (world : World) (before : Kept) (id : List ℕ) (after : 
   pub held : is_held (account_of world) before.maildir id ≡ true
   pub none : contents_of world after id ≡ []
   pub record_is : KeepsRecord before after
-  pub others : (other : List ℕ) → is_legal_id other ≡ true → bytes_eq other id ≡ false → contents_of world after other ≡ contents_of world before other
+  pub others : (other : List ℕ) → is_legal_id other ≡ true → bytes_eq other id ≡ false
+      → contents_of world after other ≡ contents_of world before other
 
 -- it was held, or was taken away before
 abbrev pub IsFetched : World → State → List ℕ → Type 0
-IsFetched world state id = (is_legal_id id ≡ true) × ((is_held (account_of world) state.kept.maildir id ≡ true) ⊎ (has_id state.taken id ≡ true))
+IsFetched world state id = (is_legal_id id ≡ true)
+    × ((is_held (account_of world) state.kept.maildir id ≡ true) ⊎ (has_id state.taken id ≡ true))
 
 abbrev pub after_event : State → Event → State
 after_event state (Fetched occasion) = record state { kept = occasion.after; gone = state.gone ++ occasion.vanished }
@@ -168,7 +171,9 @@ IsPastCount world state occasion message =
     let listing = listing_of (maildrop_at world state occasion) in
     (rows : List Row) × KeepsRows state.kept.file.content rows
     × (has_id (ids_wanted (past_limit occasion.settings.max_count
-    (candidates occasion.settings (merged rows listing (flags_of (account_of world) state.kept.maildir listing) occasion.now) listing))) message.uid ≡ true)
+    (candidates occasion.settings
+    (merged rows listing (flags_of (account_of world) state.kept.maildir listing) occasion.now) listing)))
+    message.uid ≡ true)
 
 -- after an uncut session each message of the maildrop is held, or was taken away, or is larger than the
 -- limit, or comes after as many as one session fetches
@@ -182,7 +187,8 @@ LeavesOutOnlyBeyondLimits world state occasion = occasion.report.outcome ≡ End
 -- a DELE gives the number, counted from 1, of a message of the maildrop that is held when the session
 -- returns, or was taken away
 abbrev pub IsForHeld : World → State → Occasion → Command → Type 0
-IsForHeld world state occasion (Dele number) = (0 < number) × (message : Message) × (slice_get (maildrop_at world state occasion) (number - 1) ≡ Some message)
+IsForHeld world state occasion (Dele number) = (0 < number) × (message : Message)
+    × (slice_get (maildrop_at world state occasion) (number - 1) ≡ Some message)
     × IsHeldAfter world state occasion message.uid
 IsForHeld world state occasion _ = Unit {0}
 
@@ -218,7 +224,8 @@ StoresOnlyNew world state occasion = occasion.settings.read_all ≡ false → (i
 -- nothing is promised of what others do, except that a reader's moves leave files of other names
 abbrev pub Promised : World → State → Event → Type 0
 Promised world state (Fetched occasion) =
-    LeavesOutOnlyBeyondLimits world state occasion × DeletesOnlyHeld world state occasion × OthersStay world state (after_event state (Fetched occasion))
+    LeavesOutOnlyBeyondLimits world state occasion × DeletesOnlyHeld world state occasion
+    × OthersStay world state (after_event state (Fetched occasion))
     × FilesStay state.kept.maildir occasion.after.maildir × StoresOnlyNew world state occasion
 Promised world state (Moved maildir) = OthersStay world state (after_event state (Moved maildir))
 Promised world state _ = Unit {0}
@@ -226,7 +233,8 @@ Promised world state _ = Unit {0}
 -- a prefix is held before and after each event, and each event keeps its promises
 abbrev pub Promises : World → State → List Event → Type 0
 Promises world state [] = HoldsAPrefix world state
-Promises world state (event ∷ events) = HoldsAPrefix world state × Promised world state event × Promises world (after_event state event) events
+Promises world state (event ∷ events) = HoldsAPrefix world state × Promised world state event
+    × Promises world (after_event state event) events
 
 -- ---- the states in which it can begin and go on
 
@@ -258,7 +266,8 @@ EmptyIsKept = (world : World) (start : State) → IsEmpty world start → IsKept
 
 -- so the sentence holds from the first session on
 abbrev pub HeadlineFromEmpty : Type 0
-HeadlineFromEmpty = (world : World) (start : State) (events : List Event) → IsSound world → IsEmpty world start → IsRun world start events → Promises world start events
+HeadlineFromEmpty = (world : World) (start : State) (events : List Event) → IsSound world
+    → IsEmpty world start → IsRun world start events → Promises world start events
 
 -- ---- if nothing is taken away
 
@@ -273,14 +282,16 @@ HoldsExactlyAPrefix world state = HoldsExactly (frame_of world) (holds [] state.
 
 -- each DELE is for a message that is held when the session returns
 abbrev pub IsForOneHeld : World → State → Occasion → Command → Type 0
-IsForOneHeld world state occasion (Dele number) = (0 < number) × (message : Message) × (slice_get (maildrop_at world state occasion) (number - 1) ≡ Some message)
+IsForOneHeld world state occasion (Dele number) = (0 < number) × (message : Message)
+    × (slice_get (maildrop_at world state occasion) (number - 1) ≡ Some message)
     × (is_held (account_of world) occasion.after.maildir message.uid ≡ true)
 IsForOneHeld world state occasion _ = Unit {0}
 
 -- a session as the sentence has it, word for word
 pub record IsWordForWord (world : World) (state : State) (occasion : Occasion) : Type 0 where
   pub left_out : occasion.report.outcome ≡ Ended → AllByRecursion (λ (message : Message).
-      (is_held (account_of world) occasion.after.maildir message.uid ≡ true) ⊎ (is_selected world.max_size message ≡ false) ⊎ IsPastCount world state occasion message)
+      (is_held (account_of world) occasion.after.maildir message.uid ≡ true)
+      ⊎ (is_selected world.max_size message ≡ false) ⊎ IsPastCount world state occasion message)
       (maildrop_at world state occasion)
   pub sent : List ℕ
   pub sent_is : occasion.link'.sent ≡ occasion.link.sent ++ sent
@@ -295,7 +306,8 @@ SaysTheSentence world state _ = Unit {0}
 
 abbrev pub SayTheSentence : World → State → List Event → Type 0
 SayTheSentence world state [] = HoldsExactlyAPrefix world state
-SayTheSentence world state (event ∷ events) = HoldsExactlyAPrefix world state × SaysTheSentence world state event × SayTheSentence world (after_event state event) events
+SayTheSentence world state (event ∷ events) = HoldsExactlyAPrefix world state
+    × SaysTheSentence world state event × SayTheSentence world (after_event state event) events
 
 -- then it is the sentence, word for word
 abbrev pub HeadlineWordForWord : Type 0
@@ -312,7 +324,8 @@ ReadOnlyNew (_ ∷ events) = ReadOnlyNew events
 
 -- then a message that is recorded as delivered and isn't held is never stored again
 abbrev pub StaysAway : Type 0
-StaysAway = (world : World) (start : State) (events : List Event) (id : List ℕ) → IsSound world → IsKept world start → IsRun world start events
+StaysAway = (world : World) (start : State) (events : List Event) (id : List ℕ) → IsSound world
+    → IsKept world start → IsRun world start events
     → ReadOnlyNew events → is_legal_id id ≡ true → IsRecorded start.kept id → contents_of world start.kept id ≡ []
     → contents_of world (state_after start events).kept id ≡ []
 

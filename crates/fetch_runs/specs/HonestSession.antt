@@ -17,7 +17,9 @@ use Rattle.fetch_runs.specs.Steps.{holds, IsStep}
 -- its joined listing is the maildrop's, and each file that it stored is that of one of the maildrop's
 -- messages, with the message's text
 abbrev pub HonestSessions : Type 0
-HonestSessions = (settings : Settings) (account : List ℕ) (now : ℕ) (link : Link) (before : Kept) (rows : List Row) (report : Report) (link' : Link) (after : Kept) (drop : List Message) (marks : List Bool)
+HonestSessions = (settings : Settings) (account : List ℕ) (now : ℕ) (link : Link) (before : Kept)
+    (rows : List Row) (report : Report) (link' : Link) (after : Kept)
+    (drop : List Message) (marks : List Bool)
     → IsValid settings → KeepsRows before.file.content rows → Session settings account now link before report link' after
     → ((sent got : List ℕ) → link'.sent ≡ link.sent ++ sent → link'.got ≡ link.got ++ got → Honest drop sent got marks)
     → (step : IsStep settings account now link before rows report link' after)

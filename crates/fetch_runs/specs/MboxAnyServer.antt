@@ -1,4 +1,4 @@
--- What holds of a session with a mailbox file, whatever its server says.
+-- What holds of a session with an mboxrd file, whatever its server says.
 use Rattle.std.specs.Prelude.{ℕ}
 use Rattle.pop3_wire.specs.Link.{Link}
 use Rattle.fetch_rules.specs.Record.{Held}
@@ -10,11 +10,12 @@ use Rattle.fetch_session.specs.Session.{MboxKept, MboxSession}
 use Rattle.run_law.specs.MboxSafety.{MboxIsSafe}
 use Rattle.fetch_runs.specs.MboxSteps.{mbox_holds, IsMboxStep}
 
--- a law: if the record's file stood for this record, a session is a step that keeps what the mailbox file holds,
+-- a law: if the record's file stood for this record, a session is a step that keeps what the mboxrd file holds,
 -- except for the rest of an open intent's entry, and each DELE that it sent is for a message that was recorded as
 -- delivered, or whose entry it appended
 abbrev pub MboxAnyServer : Type 0
-MboxAnyServer = (settings : Settings) (now : ℕ) (link : Link) (before : MboxKept) (held : Held) (report : Report) (link' : Link) (after : MboxKept)
+MboxAnyServer = (settings : Settings) (now : ℕ) (link : Link) (before : MboxKept) (held : Held)
+    (report : Report) (link' : Link) (after : MboxKept)
     → IsValid settings → Keeps before.file.content held → MboxSession settings now link before report link' after
     → (step : IsMboxStep settings now link before held report link' after)
     × MboxIsSafe settings (mbox_holds held before.mbox) step.sent step.effect (mbox_holds step.held' after.mbox)

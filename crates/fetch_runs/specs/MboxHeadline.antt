@@ -38,7 +38,7 @@ pub record AreSettings (frame : MboxFrame) (settings : Settings) : Type 0 where
   pub max_size : settings.max_size ≡ frame.max_size
   pub only_new : settings.read_all ≡ false
 
--- the mailbox file and the record's file, and which ids are gone from the server
+-- the mboxrd file and the record's file, and which ids are gone from the server
 pub record MboxState : Type 0 where
   pub kept : MboxKept
   pub gone : List (List ℕ)
@@ -57,7 +57,7 @@ pub record MboxOccasion : Type 0 where
   pub come : ℕ
   pub vanished : List (List ℕ)
 
--- a session; anything else that leaves the record and the mailbox file's bytes as they are; and messages that
+-- a session; anything else that leaves the record and the mboxrd file's bytes as they are; and messages that
 -- are gone from the server without a session
 pub data MboxEvent : Type 0 where
   Fetched : MboxOccasion → MboxEvent
@@ -75,7 +75,7 @@ pub record IsMboxSession (frame : MboxFrame) (state : MboxState) (occasion : Mbo
   pub served : (sent got : List ℕ) → occasion.link'.sent ≡ occasion.link.sent ++ sent → occasion.link'.got ≡ occasion.link.got ++ got
       → Served (maildrop_at frame state occasion) sent got occasion.vanished
 
--- the record's file still stands for the record that it stood for, and the mailbox file has the same bytes. The
+-- the record's file still stands for the record that it stood for, and the mboxrd file has the same bytes. The
 -- counts of refusals may have changed
 pub record IsMboxBetween (before after : MboxKept) : Type 0 where
   pub record_is : (held : Held) → Keeps before.file.content held → Keeps after.file.content held
@@ -125,7 +125,9 @@ IsPastCount frame state occasion message =
     let listing = listing_of (maildrop_at frame state occasion) in
     (held : Held) × Keeps state.kept.file.content held
     × (has_id (ids_wanted (past_limit occasion.settings.max_count
-    (candidates occasion.settings (merged (settled (mbox_holds held state.kept.mbox)).rows listing (none_held listing) occasion.now) listing))) message.uid ≡ true)
+    (candidates occasion.settings
+    (merged (settled (mbox_holds held state.kept.mbox)).rows listing (none_held listing) occasion.now) listing)))
+    message.uid ≡ true)
 
 -- after an uncut session no intent is open and nothing of a next entry is left, and each message of the maildrop
 -- has its entry, or is larger than the limit, or comes after as many as one session fetches
@@ -143,7 +145,8 @@ pub record EndsWhole (frame : MboxFrame) (state : MboxState) (occasion : MboxOcc
 -- a DELE gives the number, counted from 1, of a message of the maildrop whose entry stands whole in the file when
 -- the session returns, or that was recorded before the first session
 abbrev pub IsForEntered : MboxFrame → MboxState → MboxOccasion → Command → Type 0
-IsForEntered frame state occasion (Dele number) = (0 < number) × (message : Message) × (slice_get (maildrop_at frame state occasion) (number - 1) ≡ Some message)
+IsForEntered frame state occasion (Dele number) = (0 < number) × (message : Message)
+    × (slice_get (maildrop_at frame state occasion) (number - 1) ≡ Some message)
     × IsEntered frame occasion.after message.uid
 IsForEntered frame state occasion _ = Unit {0}
 
@@ -158,13 +161,15 @@ pub record DeletesOnlyEntered (frame : MboxFrame) (state : MboxState) (occasion 
 
 -- nothing is promised of what others do
 abbrev pub MboxPromised : MboxFrame → MboxState → MboxEvent → Type 0
-MboxPromised frame state (Fetched occasion) = (occasion.report.outcome ≡ Ended → EndsWhole frame state occasion) × DeletesOnlyEntered frame state occasion
+MboxPromised frame state (Fetched occasion) =
+    (occasion.report.outcome ≡ Ended → EndsWhole frame state occasion) × DeletesOnlyEntered frame state occasion
 MboxPromised frame state _ = Unit {0}
 
 -- the file is so before and after each event, and each event keeps its promises
 abbrev pub MboxPromises : MboxFrame → MboxState → List MboxEvent → Type 0
 MboxPromises frame state [] = HoldsEntries frame state
-MboxPromises frame state (event ∷ events) = HoldsEntries frame state × MboxPromised frame state event × MboxPromises frame (after_event state event) events
+MboxPromises frame state (event ∷ events) = HoldsEntries frame state × MboxPromised frame state event
+    × MboxPromises frame (after_event state event) events
 
 -- ---- the states in which it can begin and go on
 
@@ -173,11 +178,12 @@ IsMboxKept frame state = (held : Held) × Keeps state.kept.file.content held × 
 
 -- the second sentence: from a kept state, over any list of sessions and of what happens between them
 abbrev pub MboxHeadline : Type 0
-MboxHeadline = (frame : MboxFrame) (start : MboxState) (events : List MboxEvent) → IsWorld frame.all → IsMboxKept frame start → IsMboxRun frame start events
+MboxHeadline = (frame : MboxFrame) (start : MboxState) (events : List MboxEvent) → IsWorld frame.all
+    → IsMboxKept frame start → IsMboxRun frame start events
     → MboxPromises frame start events × IsMboxKept frame (state_after start events)
 
 -- the record has no open intent, and what it shows as delivered is exactly a prefix of the selected messages, as it
--- is with an empty record; of these alone some may be gone. The mailbox file may hold anything
+-- is with an empty record; of these alone some may be gone. The mboxrd file may hold anything
 pub record IsMboxStart (frame : MboxFrame) (state : MboxState) : Type 0 where
   pub held : Held
   pub stands_for : Keeps state.kept.file.content held
@@ -194,12 +200,13 @@ MboxStartIsKept = (frame : MboxFrame) (start : MboxState) → IsMboxStart frame 
 
 -- so the sentence holds from the first session on
 abbrev pub MboxHeadlineFromStart : Type 0
-MboxHeadlineFromStart = (frame : MboxFrame) (start : MboxState) (events : List MboxEvent) → IsWorld frame.all → IsMboxStart frame start → IsMboxRun frame start events
+MboxHeadlineFromStart = (frame : MboxFrame) (start : MboxState) (events : List MboxEvent) → IsWorld frame.all
+    → IsMboxStart frame start → IsMboxRun frame start events
     → MboxPromises frame start events
 
 -- ---- a program that starts anew, and one that is stopped
 
--- the same bytes of the mailbox file and of the record's file
+-- the same bytes of the mboxrd file and of the record's file
 pub record HasTheSameBytes (before after : MboxKept) : Type 0 where
   pub mbox : after.mbox.content ≡ before.mbox.content
   pub content : after.file.content ≡ before.file.content
@@ -213,5 +220,6 @@ pub record IsMboxStopped (frame : MboxFrame) (state : MboxState) (occasion : Mbo
 
 -- so a stop is a run: the session, and then a new process
 abbrev pub MboxStopsAreRuns : Type 0
-MboxStopsAreRuns = (frame : MboxFrame) (state : MboxState) (occasion : MboxOccasion) (left : MboxKept) → IsMboxStopped frame state occasion left
+MboxStopsAreRuns = (frame : MboxFrame) (state : MboxState) (occasion : MboxOccasion) (left : MboxKept)
+    → IsMboxStopped frame state occasion left
     → IsMboxRun frame state (Fetched occasion ∷ Between left ∷ [])

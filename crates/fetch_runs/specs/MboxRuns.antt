@@ -1,4 +1,4 @@
--- Sessions with a mailbox file in a row, each over its own link.
+-- Sessions with an mboxrd file in a row, each over its own link.
 use Rattle.std.specs.Prelude.{◌≡◌, ℕ, List, [], ◌∷◌}
 use Rattle.pop3_wire.specs.Link.{Link}
 use Rattle.rc_file.specs.declared.settings.Settings.{Settings}
@@ -12,7 +12,8 @@ use Rattle.fetch_runs.specs.Runs.{RunsBy}
 
 -- the visit was one session at its time
 abbrev pub WasMadeInMbox : {W : Type 0} → (W → Link) → Settings → Visit W → MboxKept → Report → Visit W → MboxKept → Type 0
-WasMadeInMbox seen settings old before report new after = MboxSession settings old.now (seen old.wire) before report (seen new.wire) after × (new.now ≡ old.now)
+WasMadeInMbox seen settings old before report new after =
+    MboxSession settings old.now (seen old.wire) before report (seen new.wire) after × (new.now ≡ old.now)
 
 -- each visit was one session at its time, in order, from what the one before left, and has its report
 abbrev pub MboxRuns : {W : Type 0} → (W → Link) → Settings → List (Visit W) → MboxKept → List Report → List (Visit W) → MboxKept → Type 0
@@ -36,12 +37,15 @@ mbox_occasion seen settings old report new fact after = record {
   vanished = fact.vanished;
 }
 
--- the mailbox file is as the headline says before and after each visit, each visit keeps its promises, and the
+-- the mboxrd file is as the headline says before and after each visit, each visit keeps its promises, and the
 -- last state is kept
-abbrev pub AreMboxPromised : {W : Type 0} → (W → Link) → Settings → MboxFrame → MboxState → List (Visit W) → List Report → List (Visit W) → List Fact → MboxKept → Type 0
+abbrev pub AreMboxPromised : {W : Type 0} → (W → Link) → Settings → MboxFrame → MboxState → List (Visit W)
+    → List Report → List (Visit W) → List Fact → MboxKept → Type 0
 AreMboxPromised seen settings frame state [] [] [] [] last = HoldsEntries frame state × IsMboxKept frame state × (state.kept ≡ last)
 AreMboxPromised seen settings frame state (old ∷ olds) (report ∷ reports) (new ∷ news) (fact ∷ facts) last =
     (between : MboxKept) × MboxSession settings old.now (seen old.wire) state.kept report (seen new.wire) between
     × HoldsEntries frame state × MboxPromised frame state (Fetched (mbox_occasion seen settings old report new fact between))
-    × AreMboxPromised seen settings frame (after_event state (Fetched (mbox_occasion seen settings old report new fact between))) olds reports news facts last
+    × AreMboxPromised seen settings frame
+    (after_event state (Fetched (mbox_occasion seen settings old report new fact between)))
+    olds reports news facts last
 AreMboxPromised seen settings frame state olds reports news facts last = ⊥

@@ -1,4 +1,4 @@
--- A session of the code with a mailbox file, as the law over runs takes it.
+-- A session of the code with an mboxrd file, as the law over runs takes it.
 use Rattle.std.specs.Prelude.{◌≡◌, ◌↔◌, ◌⊎◌, ◌+◌, ℕ, true, List, ◌++◌}
 use Rattle.pop3_wire.specs.Link.{Link}
 use Rattle.fetch_rules.specs.Record.{Held}
@@ -16,7 +16,7 @@ use Rattle.run_law.specs.Mboxes.{MboxAccount, MboxLeaves}
 use Rattle.run_law.specs.MboxTold.{MboxTold}
 use Rattle.run_law.specs.MboxSessions.{MboxSession as Stepped}
 
--- an account with this record and this mailbox file; one that isn't there has no bytes
+-- an account with this record and this mboxrd file; one that isn't there has no bytes
 abbrev pub mbox_holds : Held → Stored → MboxAccount
 mbox_holds held mbox = record { rows = held.rows; intent = held.intent; file = mail_in mbox.content }
 
@@ -29,7 +29,8 @@ pub record IsMboxTold (settings : Settings) (before : MboxAccount) (effect : Eff
 
 -- what the link gained, what was done to the account, and the record that its file stands for afterwards: the
 -- account is as it was, or settled; or it was settled, the listing merged, and texts appended and recorded
-pub record IsMboxStep (settings : Settings) (now : ℕ) (link : Link) (before : MboxKept) (held : Held) (report : Report) (link' : Link) (after : MboxKept) : Type 0 where
+pub record IsMboxStep (settings : Settings) (now : ℕ) (link : Link) (before : MboxKept) (held : Held)
+    (report : Report) (link' : Link) (after : MboxKept) : Type 0 where
   pub sent : List ℕ
   pub got : List ℕ
   pub effect : Effect
@@ -45,6 +46,7 @@ pub record IsMboxStep (settings : Settings) (now : ℕ) (link : Link) (before : 
 
 -- a law: if the record's file stood for this record, a session is a step
 abbrev pub MboxSessionIsAStep : Type 0
-MboxSessionIsAStep = (settings : Settings) (now : ℕ) (link : Link) (before : MboxKept) (held : Held) (report : Report) (link' : Link) (after : MboxKept)
+MboxSessionIsAStep = (settings : Settings) (now : ℕ) (link : Link) (before : MboxKept) (held : Held)
+    (report : Report) (link' : Link) (after : MboxKept)
     → IsValid settings → Keeps before.file.content held → MboxSession settings now link before report link' after
     → IsMboxStep settings now link before held report link' after

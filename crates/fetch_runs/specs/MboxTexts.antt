@@ -1,4 +1,4 @@
--- The texts that a mailbox file stands for after a session that ended.
+-- The texts that an mboxrd file stands for after a session that ended.
 use Rattle.std.specs.Prelude.{◌≡◌, ℕ, List, ◌++◌, length}
 use Rattle.pop3_wire.specs.Link.{Link}
 use Rattle.fetch_rules.specs.Record.{Held}
@@ -21,7 +21,8 @@ pub record AddsTexts (settings : Settings) (before : MboxAccount) (effect : Effe
 
 -- a law: if the record's file stood for this record, a session is a step, and one that ended added these texts
 abbrev pub MboxSessionsAddTexts : Type 0
-MboxSessionsAddTexts = (settings : Settings) (now : ℕ) (link : Link) (before : MboxKept) (held : Held) (report : Report) (link' : Link) (after : MboxKept)
+MboxSessionsAddTexts = (settings : Settings) (now : ℕ) (link : Link) (before : MboxKept) (held : Held)
+    (report : Report) (link' : Link) (after : MboxKept)
     → IsValid settings → Keeps before.file.content held → MboxSession settings now link before report link' after
     → (step : IsMboxStep settings now link before held report link' after)
     × (report.outcome ≡ Ended → AddsTexts settings (mbox_holds held before.mbox) step.effect (mbox_holds step.held' after.mbox))

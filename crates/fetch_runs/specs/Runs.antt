@@ -18,9 +18,11 @@ abbrev pub AreSound : {W : Type 0} → (W → Type 0) → List (Visit W) → Typ
 AreSound {W} sound visits = AllByRecursion (λ (visit : Visit W). sound visit.wire) visits
 
 -- each visit was one of these sessions, in order, from what the one before left, and has its report
-abbrev pub RunsBy : {W K : Type 0} → (Visit W → K → Report → Visit W → K → Type 0) → List (Visit W) → K → List Report → List (Visit W) → K → Type 0
+abbrev pub RunsBy : {W K : Type 0} → (Visit W → K → Report → Visit W → K → Type 0) → List (Visit W) → K
+    → List Report → List (Visit W) → K → Type 0
 RunsBy Made [] first [] [] last = last ≡ first
-RunsBy {K = K} Made (old ∷ olds) first (report ∷ reports) (new ∷ news) last = (between : K) × Made old first report new between × RunsBy Made olds between reports news last
+RunsBy {K = K} Made (old ∷ olds) first (report ∷ reports) (new ∷ news) last = (between : K)
+    × Made old first report new between × RunsBy Made olds between reports news last
 RunsBy Made [] first (report ∷ reports) news last = ⊥
 RunsBy Made [] first [] (new ∷ news) last = ⊥
 RunsBy Made (old ∷ olds) first [] news last = ⊥
@@ -28,7 +30,8 @@ RunsBy Made (old ∷ olds) first (report ∷ reports) [] last = ⊥
 
 -- the visit was one session at its time
 abbrev pub WasMade : {W : Type 0} → (W → Link) → Settings → List ℕ → Visit W → Kept → Report → Visit W → Kept → Type 0
-WasMade seen settings account old before report new after = Session settings account old.now (seen old.wire) before report (seen new.wire) after × (new.now ≡ old.now)
+WasMade seen settings account old before report new after =
+    Session settings account old.now (seen old.wire) before report (seen new.wire) after × (new.now ≡ old.now)
 
 -- each visit was one session at its time, in order, from what the one before left, and has its report
 abbrev pub Runs : {W : Type 0} → (W → Link) → Settings → List ℕ → List (Visit W) → Kept → List Report → List (Visit W) → Kept → Type 0
@@ -71,10 +74,13 @@ AreServed seen all gone (old ∷ olds) (new ∷ news) (fact ∷ facts) =
 AreServed seen all gone olds news facts = ⊥
 
 -- a prefix is held before and after each visit, each visit keeps its promises, and the last state is kept
-abbrev pub ArePromised : {W : Type 0} → (W → Link) → Settings → World → State → List (Visit W) → List Report → List (Visit W) → List Fact → Kept → Type 0
+abbrev pub ArePromised : {W : Type 0} → (W → Link) → Settings → World → State → List (Visit W) → List Report
+    → List (Visit W) → List Fact → Kept → Type 0
 ArePromised seen settings world state [] [] [] [] last = HoldsAPrefix world state × IsKept world state × (state.kept ≡ last)
 ArePromised seen settings world state (old ∷ olds) (report ∷ reports) (new ∷ news) (fact ∷ facts) last =
     (between : Kept) × Session settings (digits_of settings) old.now (seen old.wire) state.kept report (seen new.wire) between
     × HoldsAPrefix world state × Promised world state (Fetched (occasion_of seen settings old report new fact between))
-    × ArePromised seen settings world (after_event state (Fetched (occasion_of seen settings old report new fact between))) olds reports news facts last
+    × ArePromised seen settings world
+    (after_event state (Fetched (occasion_of seen settings old report new fact between)))
+    olds reports news facts last
 ArePromised seen settings world state olds reports news facts last = ⊥

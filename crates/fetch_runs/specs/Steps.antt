@@ -45,16 +45,19 @@ pub record StopsAtList (outcome : Outcome) (commands : List Command) (part : Lis
 -- more text came whole, and its file may be there, only if the store refused it; one fewer is recorded only
 -- if the record wasn't saved; and the record is the old one only if the session was cut and no command of the
 -- plan after LIST was begun
-pub record IsTold (settings : Settings) (account : List ℕ) (before : Account) (effect : Effect) (after : Account) (report : Report) (commands : List Command) (part : List ℕ) : Type 0 where
+pub record IsTold (settings : Settings) (account : List ℕ) (before : Account) (effect : Effect)
+    (after : Account) (report : Report) (commands : List Command) (part : List ℕ) : Type 0 where
   pub told : Told settings account before effect after
   pub retrieved_is : report.retrieved ≡ told.k
   pub one_more : told.k + 1 ≡ length effect.texts → report.outcome ≡ Cut (StoreRefused Refused)
   pub one_less : told.j + 1 ≡ told.k → (report.outcome ≡ Cut SeenRefused) ⊎ (report.outcome ≡ Cut NoMemory)
   pub recorded : Records settings account before effect told.j after
-      ⊎ ((after.rows ≡ before.rows) × (effect.texts ≡ []) × (effect.begun ≡ []) × (effect.ended ≡ false) × StopsAtList report.outcome commands part)
+      ⊎ ((after.rows ≡ before.rows) × (effect.texts ≡ []) × (effect.begun ≡ []) × (effect.ended ≡ false)
+      × StopsAtList report.outcome commands part)
 
 -- what the link gained, what was done to the account, and the record that its file stands for afterwards
-pub record IsStep (settings : Settings) (account : List ℕ) (now : ℕ) (link : Link) (before : Kept) (rows : List Row) (report : Report) (link' : Link) (after : Kept) : Type 0 where
+pub record IsStep (settings : Settings) (account : List ℕ) (now : ℕ) (link : Link) (before : Kept)
+    (rows : List Row) (report : Report) (link' : Link) (after : Kept) : Type 0 where
   pub sent : List ℕ
   pub got : List ℕ
   pub effect : Effect
@@ -70,6 +73,7 @@ pub record IsStep (settings : Settings) (account : List ℕ) (now : ℕ) (link :
 
 -- a law: if the record's file stood for these rows, a session is a step
 abbrev pub SessionIsAStep : Type 0
-SessionIsAStep = (settings : Settings) (account : List ℕ) (now : ℕ) (link : Link) (before : Kept) (rows : List Row) (report : Report) (link' : Link) (after : Kept)
+SessionIsAStep = (settings : Settings) (account : List ℕ) (now : ℕ) (link : Link) (before : Kept)
+    (rows : List Row) (report : Report) (link' : Link) (after : Kept)
     → IsValid settings → KeepsRows before.file.content rows → Session settings account now link before report link' after
     → IsStep settings account now link before rows report link' after

@@ -2,7 +2,8 @@
 //! nothing, and its contract is the law.
 ghost use Rattle.fetch_runs.specs.AnyServer.{AnyServer};
 ghost use Rattle.fetch_runs.specs.Conversations.{MboxSessionsFollowPlans, SessionsAreConversations};
-ghost use Rattle.fetch_runs.specs.Headline.{EmptyIsKept, Headline, HeadlineFromEmpty, HeadlineWordForWord, NewProcessesAreBetween, StaysAway, StopsAreRuns};
+ghost use Rattle.fetch_runs.specs.Headline.{EmptyIsKept, Headline, HeadlineFromEmpty, HeadlineWordForWord};
+ghost use Rattle.fetch_runs.specs.Headline.{NewProcessesAreBetween, StaysAway, StopsAreRuns};
 ghost use Rattle.fetch_runs.specs.HonestSession.{HonestSessions};
 ghost use Rattle.fetch_runs.specs.MboxAnyServer.{MboxAnyServer};
 ghost use Rattle.fetch_runs.specs.MboxHeadline.{MboxHeadline, MboxHeadlineFromStart, MboxStartIsKept, MboxStopsAreRuns};
@@ -158,7 +159,7 @@ pub fn mbox_sessions_follow_plans()
 }
 
 /// With an mboxrd file: if the record's file stood for a record, a session is a step that the law
-/// over runs takes: its link gained a conversation that follows the plan, and it left the mailbox
+/// over runs takes: its link gained a conversation that follows the plan, and it left the mboxrd
 /// file and the record as that conversation says.
 pub fn mbox_session_is_a_step()
     ensures { MboxSessionIsAStep }

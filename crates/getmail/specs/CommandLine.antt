@@ -37,7 +37,8 @@ with_choices app =
 
 abbrev pub getmail : App
 getmail =
-    with_rule (with_rule (with_choices (with_loudness (with_places (new_app (codes "getmail"))))) (long_flag_rule (codes "pretend"))) (long_flag_rule (codes "rehearse"))
+    with_rule (with_rule (with_choices (with_loudness (with_places (new_app (codes "getmail")))))
+    (long_flag_rule (codes "pretend"))) (long_flag_rule (codes "rehearse"))
 
 -- whether a flag was given, however often
 abbrev pub is_given : List ℕ → List Row → Bool

@@ -59,4 +59,5 @@ pub record IsPlaced (words : Words) (setup : Setup) : Type 0 where
   pub home : List ℕ
   pub destination_is : string_bytes setup.destination ≡ whole_path home (path_in setup.settings.dest)
   pub home_of_folder : List ℕ
-  pub record_is : string_bytes setup.record ≡ record_path (whole_path home_of_folder (folder_given (option_map string_bytes words.dir))) setup
+  pub record_is : string_bytes setup.record
+      ≡ record_path (whole_path home_of_folder (folder_given (option_map string_bytes words.dir))) setup

@@ -55,7 +55,8 @@ pub fn whole_path<'a>(rt: &HostRuntime, path: &str) -> Result<String, Failure<'a
 
 /// The folder of the rc file and the record.
 pub fn folder<'a>(rt: &HostRuntime, given: Option<&str>) -> Result<String, Failure<'a>>
-    ensures { IfOk result (λ folder. (home : List ℕ) × (string_bytes folder ≡ whole_path home (folder_given (option_map (λ text. text.now) given.entry)))) }
+    ensures { IfOk result (λ folder. (home : List ℕ)
+        × (string_bytes folder ≡ whole_path home (folder_given (option_map (λ text. text.now) given.entry)))) }
 {
     match given {
         Some(path) => whole_path(rt, path),

@@ -38,24 +38,46 @@ pub record FetchesBy {M : Type 0} (mail : M → Mail) (Made : Type 0) (old new :
 
 -- a session of an account with a Maildir
 abbrev pub FetchesFrom : {M : Type 0} → (M → Mail) → Settings → List ℕ → ℕ → Machine M → Machine M → Link → Kept → Report → Kept → Type 0
-FetchesFrom mail settings account now old new link before report after = FetchesBy mail (Session settings account now unused before report link after) old new link
+FetchesFrom mail settings account now old new link before report after =
+    FetchesBy mail (Session settings account now unused before report link after) old new link
 
--- a session of an account with a mailbox file
+-- a session of an account with an mboxrd file
 abbrev pub MboxFetchesFrom : {M : Type 0} → (M → Mail) → Settings → ℕ → Machine M → Machine M → Link → MboxKept → Report → MboxKept → Type 0
-MboxFetchesFrom mail settings now old new link before report after = FetchesBy mail (MboxSession settings now unused before report link after) old new link
+MboxFetchesFrom mail settings now old new link before report after =
+    FetchesBy mail (MboxSession settings now unused before report link after) old new link
 
 -- a law: over the maildrop of a world such a session is one of those that the headline speaks of
 abbrev pub AreSessions : {M : Type 0} → (M → Mail) → Type 0
-AreSessions {M} mail = (world : World) (state : State) (settings : Settings) (now come : ℕ) (old new : Machine M) (link : Link) (report : Report) (after : Kept)
+AreSessions {M} mail = (world : World) (state : State) (settings : Settings) (now come : ℕ)
+    (old new : Machine M) (link : Link) (report : Report) (after : Kept)
     → AreSettings world settings
     → (local : FetchesFrom mail settings (digits_of settings) now old new link state.kept report after)
     → there (mail old.drop).slots ≡ maildrop_of world.all come state.gone
-    → IsSession world state (record { settings = settings; now = now; report = report; link = unused; link' = link; after = after; come = come; vanished = local.vanished })
+    → IsSession world state (record {
+      settings = settings;
+      now = now;
+      report = report;
+      link = unused;
+      link' = link;
+      after = after;
+      come = come;
+      vanished = local.vanished;
+    })
 
--- a law: with a mailbox file, such a session is one of those that the second headline speaks of
+-- a law: with an mboxrd file, such a session is one of those that the second headline speaks of
 abbrev pub AreMboxSessions : {M : Type 0} → (M → Mail) → Type 0
-AreMboxSessions {M} mail = (frame : MboxFrame) (state : MboxState) (settings : Settings) (now come : ℕ) (old new : Machine M) (link : Link) (report : Report) (after : MboxKept)
+AreMboxSessions {M} mail = (frame : MboxFrame) (state : MboxState) (settings : Settings) (now come : ℕ)
+    (old new : Machine M) (link : Link) (report : Report) (after : MboxKept)
     → AreMboxSettings frame settings
     → (local : MboxFetchesFrom mail settings now old new link state.kept report after)
     → there (mail old.drop).slots ≡ maildrop_of frame.all come state.gone
-    → IsMboxSession frame state (record { settings = settings; now = now; report = report; link = unused; link' = link; after = after; come = come; vanished = local.vanished })
+    → IsMboxSession frame state (record {
+      settings = settings;
+      now = now;
+      report = report;
+      link = unused;
+      link' = link;
+      after = after;
+      come = come;
+      vanished = local.vanished;
+    })

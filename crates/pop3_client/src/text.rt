@@ -8,7 +8,7 @@ ghost use Rattle.pop3_client.specs.Texts.{Fetching, Opens, FetchesPiece, TakesRe
 
 use crate::client::Client;
 use crate::fault::{Asked, Fault};
-use pop3_wire::{BodyFault, BodyReader, Command, Piece, Wire, command_bytes};
+use pop3_wire::{BodyFault, BodyReader, Command, PIECE_ROOM, Piece, Wire, command_bytes};
 use std::alloc::Global;
 
 /// The greatest body of RETR in octets, end mark included.
@@ -50,7 +50,7 @@ impl<'a, W: Wire> Client<'a, W> {
     pub fn next_piece(
         &mut self,
         body: &mut BodyReader,
-        out: &mut [u8; 4097],
+        out: &mut [u8; PIECE_ROOM],
     ) -> Result<Piece, Fault>
         requires { body.old.spot ≢ Done }
         ensures link { HasSameLink self.old self.new }
@@ -87,7 +87,7 @@ impl<'a, W: Wire> Client<'a, W> {
         if body.has_ended() {
             return Ok(());
         }
-        let mut out = [0u8; 4097];
+        let mut out = [0u8; PIECE_ROOM];
         'pieces: loop {
             let piece = match self.next_piece(body, &mut out) {
                 Ok(piece) => piece,

@@ -14,7 +14,7 @@ use Rattle.std.proofs.lemmas.List.Elements.{All-from_get_or}
 use Rattle.std.proofs.lemmas.List.Sums.{suffix_len_is}
 use Rattle.std.proofs.lemmas.List.{get_or-append_right, take_all}
 use Rattle.pop3_wire.specs.declared.fault.WireFault.{WireFault}
-use Rattle.pop3_wire.specs.declared.command.Command.TheVariants.{User, Pass, Stat, UidlAll, UidlOne, ListAll, ListOne, Retr, Dele, Rset, Noop, Top, Quit}
+use Rattle.pop3_wire.specs.declared.command.Command.TheVariants.{User, Pass, UidlAll, UidlOne, ListAll, ListOne, Retr, Dele, Top}
 use Rattle.pop3_wire.specs.Fields.{◌>>=◌, is_space, number}
 use Rattle.mail_terms.specs.Numeral.{is_numeral}
 use Rattle.mail_terms.specs.Credential.{is_credential, is_plain}

@@ -7,7 +7,7 @@ use Rattle.std.proofs.lemmas.Bool.{and_parts, and_from}
 use Rattle.std.proofs.lemmas.List.Folds.{list_all-append}
 use Rattle.pop3_wire.specs.declared.fault.WireFault.{WireFault}
 use Rattle.pop3_wire.specs.declared.command.Command.{Command}
-use Rattle.pop3_wire.specs.declared.command.Command.TheVariants.{User, Pass, Stat, UidlAll, UidlOne, ListAll, ListOne, Retr, Dele, Rset, Noop, Top, Quit}
+use Rattle.pop3_wire.specs.declared.command.Command.TheVariants.{User, Pass, UidlOne, ListOne, Retr, Dele, Top}
 use Rattle.pop3_wire.specs.Line.{crlf, IsLine, ended, is_no_lf}
 use Rattle.pop3_wire.specs.Commands.{line_of, can_be_sent, octets_of}
 use Rattle.mail_terms.specs.Credential.{is_credential, is_plain}

@@ -40,13 +40,16 @@ pub record LeavesRest (limit : ℕ) (old new : Place) : Type 0 where
 -- reached, or memory ran out
 abbrev pub BodyCause : ℕ → BodyFault → Link → Link → List ℕ → Type 0
 BodyCause limit Ended old new bytes = HasNoBody bytes × (length bytes < limit) × (new.ended ≡ true) × (new.failures ≡ old.failures)
-BodyCause limit Failed old new bytes = HasNoBody bytes × (length bytes < limit) × (new.ended ≡ old.ended) × (new.failures ≡ old.failures + 1)
+BodyCause limit Failed old new bytes = HasNoBody bytes × (length bytes < limit) × (new.ended ≡ old.ended)
+    × (new.failures ≡ old.failures + 1)
 BodyCause limit TooLong old new bytes = HasNoBody (take limit bytes) × (limit ≤ length bytes) × GoesOn old new
 BodyCause limit NoMemory old new bytes = GoesOn old new
 
 abbrev pub ReadsBody : ℕ → Place → Result (List ℕ) BodyFault → Place → Type 0
-ReadsBody limit old (Ok text) new = (gained : List ℕ) × Drew old.link new.link gained × GoesOn old.link new.link × TookBody limit old new text gained
-ReadsBody limit old (Err fault) new = (gained : List ℕ) × Drew old.link new.link gained × BodyCause limit fault old.link new.link (old.waiting ++ gained)
+ReadsBody limit old (Ok text) new = (gained : List ℕ) × Drew old.link new.link gained
+    × GoesOn old.link new.link × TookBody limit old new text gained
+ReadsBody limit old (Err fault) new = (gained : List ℕ) × Drew old.link new.link gained
+    × BodyCause limit fault old.link new.link (old.waiting ++ gained)
 
 -- a reader's spot in a body, and how many octets it may still take
 pub record Rest : Type 0 where

@@ -1,11 +1,13 @@
 -- The command that a line asks for, or why it asks for none (RFC 1939, sections 3 and 5 to 7).
-use Rattle.std.specs.Prelude.{◌≡◌, ◌<◌, ◌^◌, true, ℕ, List, [], ◌∷◌, ◌-◌, if◌then◌else◌, nat_lt, nat_le, length, take, drop, codes, Option, Some, None, Result, Ok, Err}
+use Rattle.std.specs.Prelude.{◌≡◌, ◌<◌, ◌^◌, true, ℕ, List, [], ◌∷◌, ◌-◌, if◌then◌else◌, nat_lt}
+use Rattle.std.specs.Prelude.{nat_le, length, take, drop, codes, Option, Some, None, Result, Ok, Err}
 use Rattle.std.specs.List.{before_first, after_first, slice_split, suffix_len}
 use Rattle.std.specs.Str.{str_eq_ignore_ascii_case}
 use Rattle.pop3_wire.specs.declared.fault.WireFault.{WireFault}
 use Rattle.pop3_wire.specs.declared.fault.WireFault.TheVariants.{BadNumber, BadCommand, BadArgument}
 use Rattle.pop3_wire.specs.declared.command.Command.{Command}
-use Rattle.pop3_wire.specs.declared.command.Command.TheVariants.{User, Pass, Stat, UidlAll, UidlOne, ListAll, ListOne, Retr, Dele, Rset, Noop, Top, Quit}
+use Rattle.pop3_wire.specs.declared.command.Command.TheVariants.{User, Pass, Stat, UidlAll, UidlOne, ListAll}
+use Rattle.pop3_wire.specs.declared.command.Command.TheVariants.{ListOne, Retr, Dele, Rset, Noop, Top, Quit}
 use Rattle.pop3_wire.specs.declared.keyword.Keyword.{Keyword}
 use Rattle.pop3_wire.specs.declared.keyword.Keyword.TheVariants as keyword
 use Rattle.mail_terms.specs.Credential.{is_credential}
@@ -132,10 +134,15 @@ unfoldable pub command_by : Option Keyword → List ℕ → List (List ℕ) → 
 command_by None rest words = Err BadCommand
 command_by (Some word) rest words = command_in (form_of word) rest words
 
+-- how many octets a command's line may have, without its CR LF
+abbrev pub command_limit : ℕ
+command_limit = 510
+
 -- the command that a line without its CR LF asks for, or its fault; the keyword is what comes before the
 -- first space
 unfoldable pub command_of : List ℕ → Result Command WireFault
-command_of line = if nat_lt 510 (length line) then Err BadCommand else command_by (keyword_of (before_first is_space line)) (rest_of line) (arguments line)
+command_of line = if nat_lt command_limit (length line) then Err BadCommand
+    else command_by (keyword_of (before_first is_space line)) (rest_of line) (arguments line)
 
 -- a command that carries bytes: USER or PASS
 abbrev pub CarriesBytes : Command → Type 0

@@ -1,9 +1,11 @@
 -- What a server may answer to the commands of a session, and whole conversations (RFC 1939, sections 3 to 7).
-use Rattle.std.specs.Prelude.{◌≡◌, ◌⊎◌, ◌<◌, ◌-◌, ◌+◌, ℕ, Bool, true, false, not, List, [], ◌∷◌, ◌++◌, map, Some, Ok, slice_get, slice_set, if◌then◌else◌}
+use Rattle.std.specs.Prelude.{◌≡◌, ◌⊎◌, ◌<◌, ◌-◌, ◌+◌, ℕ, Bool, true, false, not, List, []}
+use Rattle.std.specs.Prelude.{◌∷◌, ◌++◌, map, Some, Ok, slice_get, slice_set, if◌then◌else◌}
 use Rattle.std.specs.List.{count_by, AllZip, AllByRecursion}
 use Rattle.std.specs.List.Sorted.{IsPermutation}
 use Rattle.pop3_wire.specs.declared.command.Command.{Command}
-use Rattle.pop3_wire.specs.declared.command.Command.TheVariants.{User, Pass, Stat, UidlAll, UidlOne, ListAll, ListOne, Retr, Dele, Rset, Noop, Top, Quit}
+use Rattle.pop3_wire.specs.declared.command.Command.TheVariants.{User, Pass, Stat, UidlAll, UidlOne, ListAll}
+use Rattle.pop3_wire.specs.declared.command.Command.TheVariants.{ListOne, Retr, Dele, Rset, Noop, Top, Quit}
 use Rattle.pop3_wire.specs.declared.reply.Status.{Status}
 use Rattle.pop3_wire.specs.declared.reply.Status.TheVariants.{Positive, Negative}
 use Rattle.pop3_wire.specs.Line.{IsLine, ended, HoldsNoLf}
@@ -23,7 +25,8 @@ pub record Says (status : Status) (bytes rest : List ℕ) : Type 0 where
 
 -- a status and the text after it, without LF, are read as that status and the text after the space between the two
 abbrev pub FirstLinesAreRead : Type 0
-FirstLinesAreRead = (status : Status) (after : List ℕ) → HoldsNoLf after → Says status (ended (indicator status ++ after)) (without_space after)
+FirstLinesAreRead = (status : Status) (after : List ℕ) → HoldsNoLf after
+    → Says status (ended (indicator status ++ after)) (without_space after)
 
 -- a first line of this status, whatever its rest
 abbrev pub SaysAnything : Status → List ℕ → Type 0
@@ -75,7 +78,8 @@ Grants messages marks (Retr number) bytes next =
     (first body : List ℕ) × (message : Message) × (bytes ≡ first ++ body) × SaysAnything Positive first
     × IsUnmarked messages marks number message × Body body message.text × (next ≡ marks)
 Grants messages marks (Dele number) bytes next =
-    (message : Message) × SaysAnything Positive bytes × IsUnmarked messages marks number message × (next ≡ slice_set marks (number - 1) true)
+    (message : Message) × SaysAnything Positive bytes × IsUnmarked messages marks number message
+    × (next ≡ slice_set marks (number - 1) true)
 Grants messages marks Rset bytes next = SaysAnything Positive bytes × (next ≡ map (λ _. false) marks)
 Grants messages marks Noop bytes next = SaysAnything Positive bytes × (next ≡ marks)
 Grants messages marks (Top number lines) bytes next = ⊥

@@ -1,5 +1,6 @@
 //! Taking one body from a link, into its text (RFC 1939, section 3).
-ghost use Rattle.std.specs.Prelude.{◌≡◌, ◌≢◌, ◌≤◌, ◌<◌, ◌+◌, ◌-◌, ◌++◌, ◌↔◌, ℕ, List, [], length, take, drop, min, IsTrue, IfOk, IfErr, OnOk, OnErr};
+ghost use Rattle.std.specs.Prelude.{◌≡◌, ◌≢◌, ◌≤◌, ◌<◌, ◌+◌, ◌-◌, ◌++◌, ◌↔◌, ℕ, List, []};
+ghost use Rattle.std.specs.Prelude.{length, take, drop, min, IsTrue, IfOk, IfErr, OnOk, OnErr};
 ghost use Rattle.pop3_wire.specs.Bodies.{Drew, DrawsNothing, LeavesRest, ReadsBody, UnderWay, TakesPiece, rest_of, items_of, is_refusal};
 ghost use Rattle.pop3_wire.specs.Link.{CountsRefusal, WhereSound};
 ghost use Rattle.pop3_wire.specs.Place.{Place, at, GoesOn};
@@ -12,6 +13,10 @@ use crate::wire::Wire;
 use std::alloc::{AllocError, Global};
 use std::marker::Model;
 use thiserror::Error;
+
+/// The room that a piece of a text needs: for all octets that may wait in a reader, and for one that
+/// was held back.
+pub const PIECE_ROOM: usize = 4_097;
 
 /// Why there is no text.
 #[derive(Clone, Copy, Debug, PartialEq, Eq, Error)]
@@ -67,7 +72,7 @@ fn use_waiting(
     reader: &mut LineReader,
     unstuffer: &mut Unstuffer,
     left: usize,
-    out: &mut [u8; 4097],
+    out: &mut [u8; PIECE_ROOM],
 ) -> Fed
     ensures used { (result.used ≤ left) × (result.used ≤ length reader.old) × (reader.new ≡ drop result.used reader.old) }
     ensures put { result.put ≤ length out.new }
@@ -131,7 +136,7 @@ impl BodyReader {
         &mut self,
         wire: &mut W,
         reader: &mut LineReader,
-        out: &mut [u8; 4097],
+        out: &mut [u8; PIECE_ROOM],
     ) -> Result<Piece, BodyFault>
         requires { self.old.spot ≢ Done }
         ensures counted { CountsRefusal is_refusal (W.seen wire.old) result (W.seen wire.new) }
@@ -175,7 +180,7 @@ pub fn read_body<W: Wire>(
     ensures rest { W.sound wire.new → LeavesRest limit (at (W.seen wire.old) reader.old) (at (W.seen wire.new) reader.new) }
 {
     let mut body = BodyReader::new(limit);
-    let mut out = [0u8; 4097];
+    let mut out = [0u8; PIECE_ROOM];
     let mut text = Vec::new(alloc);
     'pieces: loop {
         let piece = match body.next(wire, reader, &mut out) {

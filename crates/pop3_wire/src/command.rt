@@ -44,7 +44,8 @@ pub enum Command {
 /// The line of a keyword and an argument.
 fn text_line(alloc: Global, keyword: &[u8], argument: &[u8]) -> Result<Vec<u8>, WireFault>
     ensures ok { IfOk result (λ v. (is_credential argument.now ≡ true) × (v.items ≡ keyword.now ++ argument.now ++ crlf)) }
-    ensures err { IfErr result (λ e. ((e ≡ WireFault.BadArgument) × (is_credential argument.now ≡ false)) ⊎ ((e ≡ WireFault.NoMemory) × (is_credential argument.now ≡ true))) }
+    ensures err { IfErr result (λ e. ((e ≡ WireFault.BadArgument) × (is_credential argument.now ≡ false))
+        ⊎ ((e ≡ WireFault.NoMemory) × (is_credential argument.now ≡ true))) }
 {
     if !is_credential(argument) {
         return Err(WireFault::BadArgument);
@@ -78,7 +79,8 @@ fn number_line(alloc: Global, keyword: &str, number: u32) -> Result<Vec<u8>, Wir
 #[tactic(auto, unfolding(crate::specs::Commands::line_of))]
 pub fn command_bytes(alloc: Global, command: &Command) -> Result<Vec<u8>, WireFault>
     ensures ok { IfOk result (λ v. (can_be_sent command.now ≡ true) × (v.items ≡ line_of command.now ++ crlf)) }
-    ensures err { IfErr result (λ e. ((e ≡ WireFault.BadArgument) × (can_be_sent command.now ≡ false)) ⊎ ((e ≡ WireFault.NoMemory) × (can_be_sent command.now ≡ true))) }
+    ensures err { IfErr result (λ e. ((e ≡ WireFault.BadArgument) × (can_be_sent command.now ≡ false))
+        ⊎ ((e ≡ WireFault.NoMemory) × (can_be_sent command.now ≡ true))) }
 {
     match command {
         Command::User(name) => text_line(alloc, b"USER ", name.as_slice()),

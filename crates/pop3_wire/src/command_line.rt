@@ -3,7 +3,9 @@
 ghost use Rattle.std.specs.Prelude.{◌≡◌, ◌⊎◌, [], ◌∷◌, Ok, Err, IfOk, IfErr, IsOk, MatchOption};
 ghost use Rattle.std.specs.List.{before_first, after_first, slice_split};
 ghost use Rattle.pop3_wire.specs.Fields.{is_space};
-ghost use Rattle.pop3_wire.specs.CommandLine.{trimmed, arguments, rest_of, text_argument, argument_number, no_argument, one_number, number_or_none, two_numbers, command_by, command_of, CarriesBytes, ReadAsWritten, CommandsAreLines};
+ghost use Rattle.pop3_wire.specs.CommandLine.{trimmed, arguments, rest_of, text_argument, argument_number};
+ghost use Rattle.pop3_wire.specs.CommandLine.{no_argument, one_number, number_or_none, two_numbers, command_by};
+ghost use Rattle.pop3_wire.specs.CommandLine.{command_of, CarriesBytes, ReadAsWritten, CommandsAreLines};
 ghost use Rattle.pop3_wire.specs.Honest.{OneListOfCommands, FrontsAreAsked};
 
 use crate::command::Command;
@@ -12,6 +14,9 @@ use crate::fields::{field_length, number};
 use crate::keyword::{Keyword, read_keyword};
 use mail_terms::{Bytes, is_credential};
 use std::alloc::Global;
+
+/// How many bytes the line of a command may have, without its CR LF.
+const COMMAND_LIMIT: usize = 510;
 
 /// The bytes before the first space, and those after it, if there is a space.
 fn cut_word(bytes: &[u8]) -> (&[u8], Option<&[u8]>)
@@ -139,7 +144,8 @@ fn read_by(alloc: Global, keyword: Option<Keyword>, line: &[u8]) -> Result<Comma
     ensures ok { IfOk result (λ c. command_by keyword (rest_of line.now) (arguments line.now) ≡ Ok c) }
     ensures err { IfErr result (λ e. (command_by keyword (rest_of line.now) (arguments line.now) ≡ Err e)
         ⊎ ((e ≡ WireFault.NoMemory) × IsOk (command_by keyword (rest_of line.now) (arguments line.now)))) }
-    ensures memory { IfErr result (λ e. e ≡ WireFault.NoMemory → IfOk (command_by keyword (rest_of line.now) (arguments line.now)) CarriesBytes) }
+    ensures memory { IfErr result (λ e. e ≡ WireFault.NoMemory
+        → IfOk (command_by keyword (rest_of line.now) (arguments line.now)) CarriesBytes) }
 {
     let Some(keyword) = keyword else {
         return Err(WireFault::BadCommand);
@@ -193,7 +199,7 @@ pub fn read_command(alloc: Global, line: &[u8]) -> Result<Command, WireFault>
         ⊎ ((e ≡ WireFault.NoMemory) × IsOk (command_of line.now))) }
     ensures memory { IfErr result (λ e. e ≡ WireFault.NoMemory → IfOk (command_of line.now) CarriesBytes) }
 {
-    if line.len() > 510 {
+    if line.len() > COMMAND_LIMIT {
         return Err(WireFault::BadCommand);
     }
     read_by(alloc, read_keyword(cut_word(line).0), line)

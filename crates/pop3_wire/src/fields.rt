@@ -2,7 +2,8 @@
 ghost use Rattle.std.specs.Prelude.{◌≡◌, ◌≤◌, IfOk, IfErr, Ok, Err, length, take_while};
 ghost use Rattle.std.specs.Char.{is_ascii_digit};
 ghost use Rattle.std.specs.List.{prefix_len};
-ghost use Rattle.pop3_wire.specs.Fields.{is_space, is_in_field, past, number, next_field, legal_id, nothing_more, message_number, number_and_size, number_and_id};
+ghost use Rattle.pop3_wire.specs.Fields.{is_space, is_in_field, past, number, next_field, legal_id};
+ghost use Rattle.pop3_wire.specs.Fields.{nothing_more, message_number, number_and_size, number_and_id};
 ghost use Rattle.mail_terms.specs.UniqueId.{is_legal_id, IsLegalId};
 ghost use Rattle.mail_terms.specs.Numeral.{greatest_number, greatest_size};
 ghost use Rattle.pop3_wire.specs.Rows.{ScanRowsHaveForm, UidRowsHaveForm};

@@ -22,12 +22,15 @@ pub enum LineFault {
     TooLong,
 }
 
+/// How many octets may wait in a reader.
+const MOST_WAITING: usize = 4_096;
+
 /// What a link gave and nobody has used yet: at most 4,096 octets. It allocates nothing.
 ///
 /// It reads only when it must: while a whole line waits, it makes no `recv`.
 #[derive(Drop)]
 pub struct LineReader {
-    bytes: [u8; 4096],
+    bytes: [u8; MOST_WAITING],
     start: usize,
     end: usize,
     // how many of the waiting octets are known to hold no line end
@@ -39,7 +42,7 @@ impl Model for LineReader {
 
     ghost view = { λ r. take (r.end - r.start) (drop r.start r.bytes) };
 
-    ghost invariant = { λ r. (r.start ≤ r.end) × (r.end ≤ 4096) × (r.searched ≤ r.end - r.start)
+    ghost invariant = { λ r. (r.start ≤ r.end) × (r.end ≤ most_waiting) × (r.searched ≤ r.end - r.start)
         × HasNoLine r.searched (take (r.end - r.start) (drop r.start r.bytes)) };
 }
 
@@ -61,7 +64,7 @@ impl LineReader {
         ensures { result ≡ [] }
     {
         LineReader {
-            bytes: [0; 4096],
+            bytes: [0; MOST_WAITING],
             start: 0,
             end: 0,
             searched: 0,
@@ -96,7 +99,7 @@ impl LineReader {
         ensures err { OnErr result ((self.new ≡ self.old)
             × WhereSound W.sound W.leads_to wire.old wire.new (WasRefused (W.seen wire.old) (W.seen wire.new))) }
     {
-        self.fill_at_most(wire, 4096)
+        self.fill_at_most(wire, MOST_WAITING)
     }
 
     /// Takes what the link gives next, at most so many octets, in one `recv`, after the octets that wait
@@ -115,7 +118,7 @@ impl LineReader {
         move_to_front(&mut self.bytes, self.start, self.end);
         self.end -= self.start;
         self.start = 0;
-        let until = self.end + most.min(4096 - self.end);
+        let until = self.end + most.min(MOST_WAITING - self.end);
         let n = wire.recv(&mut self.bytes[self.end..until])?;
         self.end += n;
         Ok(n)

@@ -1,5 +1,6 @@
 -- The command line: its options, and what words ask for.
-use Rattle.std.specs.Prelude.{◌≡◌, ◌<◌, ◌^◌, ◌==◌, ◌&&◌, ℕ, Bool, not, List, [], Option, None, Some, codes, is_some, length, map, nat_lt, option_map, pos, unwrap_or}
+use Rattle.std.specs.Prelude.{◌≡◌, ◌<◌, ◌^◌, ◌==◌, ◌&&◌, ℕ, Bool, not, List, [], Option, None, Some}
+use Rattle.std.specs.Prelude.{codes, is_some, length, map, nat_lt, option_map, pos, unwrap_or}
 use Rattle.std.specs.String.{string_bytes}
 use Rattle.std.specs.Str.Parse.{IsNumeral, digits_value, without_leading_plus}
 use Rattle.clap.specs.Words.{App, Row, Rule, all_of, count_of, first_of, new_app, new_rule, one_of, with_rule}
@@ -11,9 +12,18 @@ use Rattle.popd.specs.declared.words.Words.{Words}
 abbrev pub listen_rule : Rule
 listen_rule = record (new_rule (codes "listen")) { long = Some (codes "listen"); value_names = 1; action = Some Set }
 
+-- the greatest number of 32 bits: so many connections are served if no number is given
+abbrev pub most_connections : ℕ
+most_connections = 4294967295
+
 -- `--connections N`, a number of 32 bits
 abbrev pub connections_rule : Rule
-connections_rule = record (new_rule (codes "connections")) { long = Some (codes "connections"); value_names = 1; parser = Some (Signed (pos 0) (pos 4294967295)); action = Some Set }
+connections_rule = record (new_rule (codes "connections")) {
+  long = Some (codes "connections");
+  value_names = 1;
+  parser = Some (Signed (pos 0) (pos most_connections));
+  action = Some Set;
+}
 
 -- `--rehearse`
 abbrev pub rehearse_rule : Rule
@@ -33,21 +43,28 @@ word_rule name = record (new_rule name) { value_names = 1; action = Some Set }
 
 -- any number of words after these
 abbrev pub more_rule : Rule
-more_rule = record (new_rule (codes "more")) { range = Some (record { start_inclusive = 0; end_inclusive = 18446744073709551615 }); action = Some Append }
+more_rule = record (new_rule (codes "more")) {
+  range = Some (record { start_inclusive = 0; end_inclusive = 18446744073709551615 });
+  action = Some Append;
+}
 
 abbrev pub with_options : App → App
-with_options app = with_rule (with_rule (with_rule (with_rule (with_rule app listen_rule) connections_rule) rehearse_rule) verbose_rule) trace_rule
+with_options app =
+    with_rule (with_rule (with_rule (with_rule (with_rule app listen_rule) connections_rule) rehearse_rule) verbose_rule)
+    trace_rule
 
 -- USER PASSFILE MAILDIR
 abbrev pub with_words : App → App
-with_words app = with_rule (with_rule (with_rule app (word_rule (codes "user"))) (word_rule (codes "passfile"))) (word_rule (codes "maildir"))
+with_words app =
+    with_rule (with_rule (with_rule app (word_rule (codes "user"))) (word_rule (codes "passfile")))
+    (word_rule (codes "maildir"))
 
 abbrev pub popd : App
 popd = with_rule (with_words (with_options (new_app (codes "popd")))) more_rule
 
 -- so many connections: the number after the option, or the greatest if there is none
 abbrev pub Numbers : Option (List ℕ) → ℕ → Type 0
-Numbers None count = count ≡ 4294967295
+Numbers None count = count ≡ most_connections
 Numbers (Some text) count = IsNumeral 10 (without_leading_plus text) → digits_value 10 (without_leading_plus text) < 2 ^ 32
     → count ≡ digits_value 10 (without_leading_plus text)
 

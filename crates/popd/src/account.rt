@@ -42,7 +42,8 @@ impl Account {
 
     /// The account's Maildir; nothing of it is listed yet.
     pub fn open_maildir<'a>(&self, host: &'a Host) -> Result<RealMaildir<'a>, AllocError>
-        ensures { IfOk result (λ maildir. maildir ≡ record { path = string_bytes self.now.maildir; names = []; failures = 0; removals = 0 }) }
+        ensures { IfOk result (λ maildir.
+            maildir ≡ record { path = string_bytes self.now.maildir; names = []; failures = 0; removals = 0 }) }
     {
         let path = String::from_str(host.alloc(), self.maildir.as_str())?;
         Ok(MaildirDrop::at(host, path))

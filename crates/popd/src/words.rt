@@ -2,7 +2,8 @@
 ghost use Rattle.std.specs.Prelude.{◌≡◌, IfOk, false, map, option_map};
 ghost use Rattle.std.specs.String.{string_bytes};
 ghost use Rattle.clap.specs.Words.{FailsBy, app_of, fault_of, found_of, matches_of, rows_of, rule_of};
-ghost use Rattle.popd.specs.CommandLine.{AsksFor, connections_rule, is_bare, listen_rule, more_rule, popd, rehearse_rule, trace_rule, verbose_rule, word_rule, words_after};
+ghost use Rattle.popd.specs.CommandLine.{AsksFor, connections_rule, is_bare, listen_rule, more_rule, popd};
+ghost use Rattle.popd.specs.CommandLine.{rehearse_rule, trace_rule, verbose_rule, word_rule, words_after};
 
 use clap::error::ErrorKind;
 use clap::{Arg, ArgAction, ArgMatches, Command, Error, value_parser};

@@ -9,7 +9,9 @@ use Rattle.mail_terms.specs.Numeral.{is_numeral}
 use Rattle.rc_file.specs.Settings.{is_server, is_maildir_path, is_mboxrd_path}
 use Rattle.rc_file.specs.declared.settings.TheConstants.{DELETE_AFTER_LIMIT}
 use Rattle.rc_file.specs.declared.key.Key.{Key}
-use Rattle.rc_file.specs.declared.key.Key.TheVariants.{RetrieverKind, UseApop, Server, Port, Username, Password, DestinationKind, Path, ReadAll, Delete, DeleteAfter, MaxSize, MaxCount, Verbose}
+use Rattle.rc_file.specs.declared.key.Key.TheVariants.{RetrieverKind, UseApop, Server, Port, Username}
+use Rattle.rc_file.specs.declared.key.Key.TheVariants.{Password, DestinationKind, Path, ReadAll}
+use Rattle.rc_file.specs.declared.key.Key.TheVariants.{Delete, DeleteAfter, MaxSize, MaxCount, Verbose}
 use Rattle.rc_file.specs.declared.fault.RcFault.{RcFault}
 use Rattle.rc_file.specs.declared.fault.RcFault.TheVariants.{UnknownType, BadValue, Unsupported, BadPath}
 
@@ -48,11 +50,19 @@ destination_section = codes "destination"
 abbrev pub option_section : List ℕ
 option_section = codes "options"
 
+-- the greatest TCP port
+abbrev pub greatest_port : ℕ
+greatest_port = 65535
+
+-- the greatest value of a number without a limit of its own, which has 64 bits
+abbrev pub greatest_value : ℕ
+greatest_value = 18446744073709551615
+
 abbrev pub rule : Key → Rule
 rule RetrieverKind = without_default retriever_section (codes "type") (kind (codes "SimplePOP3Retriever" ∷ []))
 rule UseApop = with_default retriever_section (codes "use_apop") never (codes "false")
 rule Server = without_default retriever_section (codes "server") server
-rule Port = with_default retriever_section (codes "port") (number 1 65535) (codes "110")
+rule Port = with_default retriever_section (codes "port") (number 1 greatest_port) (codes "110")
 rule Username = without_default retriever_section (codes "username") credential
 rule Password = without_default retriever_section (codes "password") credential
 rule DestinationKind = without_default destination_section (codes "type") (kind (codes "Maildir" ∷ codes "Mboxrd" ∷ []))
@@ -60,9 +70,9 @@ rule Path = without_default destination_section (codes "path") path
 rule ReadAll = with_default option_section (codes "read_all") boolean (codes "true")
 rule Delete = with_default option_section (codes "delete") boolean (codes "false")
 rule DeleteAfter = with_default option_section (codes "delete_after") (number 0 DELETE_AFTER_LIMIT) (codes "0")
-rule MaxSize = with_default option_section (codes "max_message_size") (number 0 18446744073709551615) (codes "0")
-rule MaxCount = with_default option_section (codes "max_messages_per_session") (number 0 18446744073709551615) (codes "0")
-rule Verbose = with_default option_section (codes "verbose") (number 0 18446744073709551615) (codes "1")
+rule MaxSize = with_default option_section (codes "max_message_size") (number 0 greatest_value) (codes "0")
+rule MaxCount = with_default option_section (codes "max_messages_per_session") (number 0 greatest_value) (codes "0")
+rule Verbose = with_default option_section (codes "verbose") (number 0 greatest_value) (codes "1")
 
 -- the keys of the table, in the order in which they are checked
 abbrev pub retriever_keys : List Key

@@ -24,8 +24,11 @@ name_eq a b = bytes_eq a.0.now b.0.now && bytes_eq a.1.now b.1.now
 pub record IsFinding (all rest found : List Warned) (told : HashSet Name (BuildHasherDefault FoldHasher)) : Type 0 where
   pub met : List Warned
   pub whole : all ≡ found ++ firsts met rest
-  pub names : (name : Name) → contains name_eq told name ≡ list_any (λ earlier. bytes_eq earlier.section name.0.now && bytes_eq earlier.key name.1.now) met
+  pub names : (name : Name)
+      → contains name_eq told name
+      ≡ list_any (λ earlier. bytes_eq earlier.section name.0.now && bytes_eq earlier.key name.1.now) met
 
 -- a row was met, and is no longer one of the rest
-abbrev pub Tells : Warned → List Warned → HashSet Name (BuildHasherDefault FoldHasher) → List Warned → HashSet Name (BuildHasherDefault FoldHasher) → Type 0
+abbrev pub Tells : Warned → List Warned → HashSet Name (BuildHasherDefault FoldHasher)
+    → List Warned → HashSet Name (BuildHasherDefault FoldHasher) → Type 0
 Tells row found old found' new = (all rest : List Warned) → IsFinding all (row ∷ rest) found old → IsFinding all rest found' new

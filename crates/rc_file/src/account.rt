@@ -136,7 +136,8 @@ fn read_is_folder(rows: &[ReadRow<'_>]) -> Result<bool, RcFault>
 }
 
 fn check_is_folder(text: &str) -> Result<bool, RcFault>
-    ensures { ReadsAs (value_fault (rule Key.DestinationKind).form Key.DestinationKind true text.now) (bytes_eq text.now (codes "Maildir")) result }
+    ensures { ReadsAs (value_fault (rule Key.DestinationKind).form Key.DestinationKind true text.now)
+        (bytes_eq text.now (codes "Maildir")) result }
 {
     if text == "Maildir" {
         Ok(true)

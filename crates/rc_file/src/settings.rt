@@ -2,7 +2,8 @@
 ghost use Rattle.std.specs.Prelude.{◌≡◌, ◌↔◌, ◌++◌, drop, if◌then◌else◌, IfOk, IsTrue};
 ghost use Rattle.std.specs.String.{string_bytes};
 ghost use Rattle.std.specs.List.{list_all};
-ghost use Rattle.rc_file.specs.Settings.{begins_at_home, is_server_byte, is_path_byte, is_server, is_path, is_maildir_path, is_mboxrd_path, is_destination, destination_of, IsValid};
+ghost use Rattle.rc_file.specs.Settings.{begins_at_home, is_server_byte, is_path_byte, is_server, is_path};
+ghost use Rattle.rc_file.specs.Settings.{is_maildir_path, is_mboxrd_path, is_destination, destination_of, IsValid};
 
 use mail_terms::is_credential;
 use std::alloc::{AllocError, Global};

@@ -50,7 +50,8 @@ fn tell<'r>(
     told: &mut HashSet<(&'r str, &'r str)>,
     warnings: &mut Vec<Warning>,
 ) -> Result<(), AllocError>
-    ensures { OnOk result (Tells (warned (row_of row.now)) (map warning_of warnings.old.items) told.old (map warning_of warnings.new.items) told.new) }
+    ensures { OnOk result (Tells (warned (row_of row.now))
+        (map warning_of warnings.old.items) told.old (map warning_of warnings.new.items) told.new) }
 {
     if !told.insert(row.name())? {
         return Ok(());

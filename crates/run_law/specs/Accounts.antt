@@ -54,4 +54,5 @@ IsOther account name = (id : List ℕ) → is_legal_id id ≡ true → bytes_eq 
 
 -- files of other names are the same as before, in whichever folder and with whatever suffix
 abbrev pub KeepsOthers : List ℕ → Account → Account → Type 0
-KeepsOthers account before after = (name content : List ℕ) → IsOther account name → count_files (files after) name content ≡ count_files (files before) name content
+KeepsOthers account before after = (name content : List ℕ) → IsOther account name
+    → count_files (files after) name content ≡ count_files (files before) name content

@@ -21,7 +21,8 @@ pub record Fact : Type 0 where
 abbrev pub Chain : Settings → List ℕ → Account → List Gained → Account → Type 0
 Chain settings account first [] last = last ≡ first
 Chain settings account first (link ∷ links) last =
-    (effect : Effect) × (between : Account) × Session settings account first link.sent link.got effect between × Chain settings account between links last
+    (effect : Effect) × (between : Account) × Session settings account first link.sent link.got effect between
+    × Chain settings account between links last
 
 -- each link was honest for the maildrop of its visit; this is about links only
 abbrev pub AllServed : List Message → List (List ℕ) → List Gained → List Fact → Type 0
@@ -44,13 +45,20 @@ ChainKept frame settings taken first gone [] facts last = last ≡ first
 ChainKept frame settings taken first gone (link ∷ links) [] last = ⊥
 ChainKept frame settings taken first gone (link ∷ links) (fact ∷ facts) last =
     (effect : Effect) × (between : Account) × Session settings frame.account first link.sent link.got effect between
-    × Promises frame (state_of first gone taken) (Visited (record { settings = settings; come = fact.come; effect = effect; vanished = fact.vanished; after = between }))
+    × Promises frame (state_of first gone taken) (Visited (record {
+      settings = settings;
+      come = fact.come;
+      effect = effect;
+      vanished = fact.vanished;
+      after = between;
+    }))
     × Kept frame (state_of between (gone ++ fact.vanished) taken)
     × ChainKept frame settings taken between (gone ++ fact.vanished) links facts last
 
 -- a law: over honest links a list of sessions leads from a kept account to a kept account, and keeps the promises
 abbrev pub ChainsKeep : Type 0
-ChainsKeep = (frame : Frame) (settings : Settings) (first last : Account) (gone taken : List (List ℕ)) (links : List Gained) (facts : List Fact)
+ChainsKeep = (frame : Frame) (settings : Settings) (first last : Account) (gone taken : List (List ℕ))
+    (links : List Gained) (facts : List Fact)
     → IsFrame frame → settings.max_size ≡ frame.max_size → Kept frame (state_of first gone taken)
     → Chain settings frame.account first links last → AllServed frame.all gone links facts
     → Kept frame (state_of last (gone_after gone facts) taken) × ChainKept frame settings taken first gone links facts last

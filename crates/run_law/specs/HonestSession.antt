@@ -14,7 +14,8 @@ use Rattle.run_law.specs.Sessions.{Session}
 -- the file is that of a message of this maildrop: its name is that of the message's id, and it holds the
 -- message's text
 abbrev pub IsFileOf : List ℕ → List Message → File → Type 0
-IsFileOf account drop f = (place : ℕ) × (message : Message) × (slice_get drop place ≡ Some message) × (f ≡ mail_file account message.uid message.text)
+IsFileOf account drop f = (place : ℕ) × (message : Message) × (slice_get drop place ≡ Some message)
+    × (f ≡ mail_file account message.uid message.text)
 
 -- the joined listing is the maildrop's, and each file that was added to the Maildir is that of one of its messages
 pub record BringsMessages (account : List ℕ) (drop : List Message) (before : Account) (effect : Effect) (after : Account) : Type 0 where
@@ -27,6 +28,7 @@ pub record BringsMessages (account : List ℕ) (drop : List Message) (before : A
 -- a law: if the conversation is honest, a session left the account as it was, or brought messages of the
 -- maildrop and nothing else
 abbrev pub HonestSession : Type 0
-HonestSession = (settings : Settings) (account : List ℕ) (before : Account) (sent got : List ℕ) (effect : Effect) (after : Account) (drop : List Message) (marks : List Bool)
+HonestSession = (settings : Settings) (account : List ℕ) (before : Account) (sent got : List ℕ)
+    (effect : Effect) (after : Account) (drop : List Message) (marks : List Bool)
     → Honest drop sent got marks → Session settings account before sent got effect after
     → Leaves before effect after ⊎ BringsMessages account drop before effect after

@@ -130,7 +130,8 @@ AllMboxPromised frame before (event ∷ events) = MboxPromised frame before even
 
 -- the law: from a kept state any events lead to a kept state, and each keeps its promises
 abbrev pub MboxKeptStaysKept : Type 0
-MboxKeptStaysKept = (frame : MboxFrame) (start : MboxSituation) (events : List MboxEvent) → IsWorld frame.all → MboxKept frame start → MboxRun frame start events
+MboxKeptStaysKept = (frame : MboxFrame) (start : MboxSituation) (events : List MboxEvent) → IsWorld frame.all
+    → MboxKept frame start → MboxRun frame start events
     → MboxKept frame (after_mbox_events start events) × AllMboxPromised frame start events
 
 -- the file is the one before the first session, followed by the entries of the next j of the selected messages
@@ -159,11 +160,14 @@ MboxKeptHolds = (frame : MboxFrame) (state : MboxSituation) → IsWorld frame.al
 -- an account without an open intent that records exactly a prefix of the selected messages as delivered is
 -- kept with any file: so is one with an empty record, and one whose record is of version 1
 abbrev pub MboxStartsKept : Type 0
-MboxStartsKept = (frame : MboxFrame) (rows : List Row) (rest : List Message) (gone : List (List ℕ)) → selected frame.max_size frame.all ≡ frame.had ++ rest
-    → ((id : List ℕ) → is_delivered rows id ≡ has_id (ids_of frame.had) id) → AllByRecursion (λ id. has_id (ids_of frame.had) id ≡ true) gone
+MboxStartsKept = (frame : MboxFrame) (rows : List Row) (rest : List Message) (gone : List (List ℕ))
+    → selected frame.max_size frame.all ≡ frame.had ++ rest
+    → ((id : List ℕ) → is_delivered rows id ≡ has_id (ids_of frame.had) id)
+    → AllByRecursion (λ id. has_id (ids_of frame.had) id ≡ true) gone
     → MboxKept frame (record { account = record { rows = rows; intent = None; file = frame.start }; gone = gone })
 
 -- in every situation there is a session that ends
 abbrev pub MboxCanEnd : Type 0
-MboxCanEnd = (frame : MboxFrame) (before : MboxSituation) (settings : Settings) (come now : ℕ) → IsWorld frame.all → settings.max_size ≡ frame.max_size → settings.read_all ≡ false
+MboxCanEnd = (frame : MboxFrame) (before : MboxSituation) (settings : Settings) (come now : ℕ)
+    → IsWorld frame.all → settings.max_size ≡ frame.max_size → settings.read_all ≡ false
     → (visit : MboxVisit) × MboxVisits frame before visit × (visit.effect.ended ≡ true) × (visit.come ≡ come)

@@ -17,7 +17,8 @@ use Rattle.mail_terms.specs.Listing.{Item}
 
 -- the wanted message of this number has the id, and the whole entry of the text that the session got by that
 -- number comes after what the settled file held
-pub record WasAppended (settings : Settings) (before : MboxAccount) (effect : Effect) (after : MboxAccount) (number : ℕ) (id : List ℕ) : Type 0 where
+pub record WasAppended (settings : Settings) (before : MboxAccount) (effect : Effect) (after : MboxAccount)
+    (number : ℕ) (id : List ℕ) : Type 0 where
   pub message : ℕ × Item
   pub text : List ℕ
   pub among : IsAmong (message, text) (zip (mbox_wanted settings before effect) effect.texts)

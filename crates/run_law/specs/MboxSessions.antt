@@ -24,7 +24,8 @@ AsksForNone commands part = AllByRecursion AsksForNoMessage commands × BeginsOn
 
 -- a session by what its link gained: it asked for no message and left the account, or it settled the account,
 -- read the replies and appended texts
-pub record MboxSession (settings : Settings) (before : MboxAccount) (sent got : List ℕ) (effect : Effect) (after : MboxAccount) : Type 0 where
+pub record MboxSession (settings : Settings) (before : MboxAccount) (sent got : List ℕ) (effect : Effect)
+    (after : MboxAccount) : Type 0 where
   pub commands : List Command
   pub asked : Asked commands sent
   pub begun : AllByRecursion (IsBegun effect.listing effect.begun) commands
@@ -51,7 +52,13 @@ pub record MboxLinks (frame : MboxFrame) (before : MboxSituation) (link : MboxLi
   pub served : Served (maildrop_of frame.all link.come before.gone) link.sent link.got link.vanished
 
 abbrev pub mbox_visit_of : MboxLink → Effect → MboxVisit
-mbox_visit_of link effect = record { settings = link.settings; come = link.come; effect = effect; vanished = link.vanished; after = link.after }
+mbox_visit_of link effect = record {
+  settings = link.settings;
+  come = link.come;
+  effect = effect;
+  vanished = link.vanished;
+  after = link.after;
+}
 
 abbrev pub after_mbox_link : MboxSituation → MboxLink → MboxSituation
 after_mbox_link before link = record { account = link.after; gone = before.gone ++ link.vanished }
@@ -62,7 +69,8 @@ MboxLinkRun frame before (link ∷ links) = MboxLinks frame before link × MboxL
 
 -- a law: a session over an honest link is a visit of the law over runs
 abbrev pub MboxLinksAreVisits : Type 0
-MboxLinksAreVisits = (frame : MboxFrame) (before : MboxSituation) (link : MboxLink) → (l : MboxLinks frame before link) → MboxVisits frame before (mbox_visit_of link l.effect)
+MboxLinksAreVisits = (frame : MboxFrame) (before : MboxSituation) (link : MboxLink)
+    → (l : MboxLinks frame before link) → MboxVisits frame before (mbox_visit_of link l.effect)
 
 -- what an earlier session left of a next entry was cut off, or counts as a whole entry: what was appended
 -- comes after whole entries
@@ -82,8 +90,10 @@ pub record MboxSessionKept (frame : MboxFrame) (before : MboxSituation) (link : 
 
 abbrev pub AllMboxKept : MboxFrame → MboxSituation → List MboxLink → Type 0
 AllMboxKept frame before [] = MboxKept frame before
-AllMboxKept frame before (link ∷ links) = MboxKept frame before × MboxSessionKept frame before link × AllMboxKept frame (after_mbox_link before link) links
+AllMboxKept frame before (link ∷ links) = MboxKept frame before × MboxSessionKept frame before link
+    × AllMboxKept frame (after_mbox_link before link) links
 
 -- the law over links
 abbrev pub MboxLinksKeep : Type 0
-MboxLinksKeep = (frame : MboxFrame) (start : MboxSituation) (links : List MboxLink) → IsWorld frame.all → MboxKept frame start → MboxLinkRun frame start links → AllMboxKept frame start links
+MboxLinksKeep = (frame : MboxFrame) (start : MboxSituation) (links : List MboxLink) → IsWorld frame.all
+    → MboxKept frame start → MboxLinkRun frame start links → AllMboxKept frame start links

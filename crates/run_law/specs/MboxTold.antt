@@ -13,7 +13,8 @@ abbrev pub bytes_at : MboxAccount → Effect → ℕ → List ℕ
 bytes_at before effect n = (settled before).file ++ entries (take n effect.texts)
 
 -- the intent of the wanted message at this place is open
-pub record OpensAt (settings : Settings) (before : MboxAccount) (effect : Effect) (n : ℕ) (text : List ℕ) (after : MboxAccount) : Type 0 where
+pub record OpensAt (settings : Settings) (before : MboxAccount) (effect : Effect) (n : ℕ) (text : List ℕ)
+    (after : MboxAccount) : Type 0 where
   pub message : ℕ × Item
   pub wanted : slice_get (mbox_wanted settings before effect) n ≡ Some message
   pub got : slice_get effect.texts n ≡ Some text
@@ -46,4 +47,5 @@ pub record MboxTold (settings : Settings) (before : MboxAccount) (effect : Effec
 
 -- a law: a session given by these numbers is one that the law over runs takes
 abbrev pub MboxToldStores : Type 0
-MboxToldStores = (settings : Settings) (before : MboxAccount) (effect : Effect) (after : MboxAccount) → MboxTold settings before effect after → MboxStores settings before effect after
+MboxToldStores = (settings : Settings) (before : MboxAccount) (effect : Effect) (after : MboxAccount)
+    → MboxTold settings before effect after → MboxStores settings before effect after

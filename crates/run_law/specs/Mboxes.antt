@@ -11,7 +11,7 @@ use Rattle.mail_store.specs.Mboxrd.{entry_of}
 use Rattle.mail_store.specs.Settling.{stands_whole, settled_file}
 use Rattle.run_law.specs.Steps.{Effect, ids_wanted}
 
--- the rows of the record and its open intent, and the mailbox file
+-- the rows of the record and its open intent, and the mboxrd file
 pub record MboxAccount : Type 0 where
   pub rows : List Row
   pub intent : Option Intent

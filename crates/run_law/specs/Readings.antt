@@ -55,7 +55,8 @@ abbrev pub Retrieves : List Command → List WholeReply → List (ℕ × List �
 Retrieves commands [] found = found ≡ []
 Retrieves [] (reply ∷ replies) found = ⊥
 Retrieves (Retr number ∷ commands) (reply ∷ replies) found =
-    (text : List ℕ) × (more : List (ℕ × List ℕ)) × Body (body_bytes reply.body) text × (found ≡ (number, text) ∷ more) × Retrieves commands replies more
+    (text : List ℕ) × (more : List (ℕ × List ℕ)) × Body (body_bytes reply.body) text
+    × (found ≡ (number, text) ∷ more) × Retrieves commands replies more
 Retrieves (_ ∷ commands) (reply ∷ replies) found = Retrieves commands replies found
 
 -- the text is the message's of this number
@@ -63,8 +64,10 @@ abbrev pub IsNumbered : List Message → ℕ × List ℕ → Type 0
 IsNumbered drop found = (message : Message) × (slice_get drop (found.0 - 1) ≡ Some message) × (found.1 ≡ message.text)
 
 abbrev pub TextsAreMessages : Type 0
-TextsAreMessages = (drop : List Message) (marks : List Bool) (commands : List Command) (replies : List WholeReply) (found : List (ℕ × List ℕ))
-    → AreGood commands replies → AreGranted drop marks commands replies → Retrieves commands replies found → AllByRecursion (IsNumbered drop) found
+TextsAreMessages = (drop : List Message) (marks : List Bool) (commands : List Command)
+    (replies : List WholeReply) (found : List (ℕ × List ℕ))
+    → AreGood commands replies → AreGranted drop marks commands replies → Retrieves commands replies found
+    → AllByRecursion (IsNumbered drop) found
 
 -- the listing that the replies to STAT, UIDL and LIST give together
 pub record IsListed (stat uidl list : WholeReply) (items : List Item) : Type 0 where
@@ -78,12 +81,15 @@ pub record IsListed (stat uidl list : WholeReply) (items : List Item) : Type 0 w
 
 -- a joined listing is the maildrop's
 abbrev pub ListingIsMaildrop : Type 0
-ListingIsMaildrop = (drop : List Message) (name word : List ℕ) (commands : List Command) (user pass stat uidl list : WholeReply) (replies : List WholeReply) (items : List Item)
+ListingIsMaildrop = (drop : List Message) (name word : List ℕ) (commands : List Command)
+    (user pass stat uidl list : WholeReply) (replies : List WholeReply) (items : List Item)
     → AreGood (User name ∷ Pass word ∷ Stat ∷ UidlAll ∷ ListAll ∷ commands) (user ∷ pass ∷ stat ∷ uidl ∷ list ∷ replies)
-    → AreGranted drop (no_marks drop) (User name ∷ Pass word ∷ Stat ∷ UidlAll ∷ ListAll ∷ commands) (user ∷ pass ∷ stat ∷ uidl ∷ list ∷ replies)
+    → AreGranted drop (no_marks drop) (User name ∷ Pass word ∷ Stat ∷ UidlAll ∷ ListAll ∷ commands)
+    (user ∷ pass ∷ stat ∷ uidl ∷ list ∷ replies)
     → IsListed stat uidl list items → items ≡ listing_of drop
 
 -- a law: if a message is marked at the end, a DELE of its number was sent whole
 abbrev pub MarksAreAsked : Type 0
-MarksAreAsked = (drop : List Message) (sent got : List ℕ) (marks : List Bool) → (honest : Honest drop sent got marks) → (place : ℕ) → slice_get marks place ≡ Some true
+MarksAreAsked = (drop : List Message) (sent got : List ℕ) (marks : List Bool)
+    → (honest : Honest drop sent got marks) → (place : ℕ) → slice_get marks place ≡ Some true
     → (front behind : List Command) × (number : ℕ) × (honest.commands ≡ front ++ Dele number ∷ behind) × (number - 1 ≡ place)

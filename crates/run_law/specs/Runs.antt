@@ -73,7 +73,8 @@ pub record LeavesMail (account : List ℕ) (before after : Account) : Type 0 whe
 
 -- the message was held, or was taken away before
 abbrev pub IsHeldOrTaken : List ℕ → Situation → List ℕ → Type 0
-IsHeldOrTaken account state id = (is_legal_id id ≡ true) × ((is_held account state.account.maildir id ≡ true) ⊎ (has_id state.taken id ≡ true))
+IsHeldOrTaken account state id = (is_legal_id id ≡ true)
+    × ((is_held account state.account.maildir id ≡ true) ⊎ (has_id state.taken id ≡ true))
 
 -- the message was held and no longer is; the record has the same rows, and for each other legal id the files
 -- hold what they held
@@ -131,17 +132,22 @@ LeavesOut frame before visit = visit.effect.ended ≡ true → AllByRecursion (�
 
 -- each DELE begun is for a message that is held, or was taken away
 abbrev pub DeletesHeld : Frame → Situation → Visit → Type 0
-DeletesHeld frame before visit = AllByRecursion (λ id. (is_held frame.account visit.after.maildir id ≡ true) ⊎ (has_id before.taken id ≡ true)) visit.effect.begun
+DeletesHeld frame before visit = AllByRecursion
+    (λ id. (is_held frame.account visit.after.maildir id ≡ true) ⊎ (has_id before.taken id ≡ true))
+    visit.effect.begun
 
 -- if delivered messages aren't read again, none that is recorded as delivered is stored, and it stays recorded
 abbrev pub StoresOnlyNew : Frame → Situation → Visit → Type 0
-StoresOnlyNew frame before visit = visit.settings.read_all ≡ false → (id : List ℕ) → is_legal_id id ≡ true → is_delivered before.account.rows id ≡ true
-    → (copies (files visit.after) (stem_of frame.account id) ≡ copies (files before.account) (stem_of frame.account id)) × (is_delivered visit.after.rows id ≡ true)
+StoresOnlyNew frame before visit = visit.settings.read_all ≡ false → (id : List ℕ) → is_legal_id id ≡ true
+    → is_delivered before.account.rows id ≡ true
+    → (copies (files visit.after) (stem_of frame.account id)
+    ≡ copies (files before.account) (stem_of frame.account id))
+    × (is_delivered visit.after.rows id ≡ true)
 
 -- nothing is promised of what others do, except that a reader's moves leave files of other names
 abbrev pub Promises : Frame → Situation → Event → Type 0
-Promises frame before (Visited visit) = LeavesOut frame before visit × DeletesHeld frame before visit × KeepsOthers frame.account before.account visit.after
-    × StoresOnlyNew frame before visit
+Promises frame before (Visited visit) = LeavesOut frame before visit × DeletesHeld frame before visit
+    × KeepsOthers frame.account before.account visit.after × StoresOnlyNew frame before visit
 Promises frame before (Moved after) = KeepsOthers frame.account before.account after
 Promises frame before _ = Unit {0}
 
@@ -160,8 +166,10 @@ KeptStaysKept = (frame : Frame) (start : Situation) (events : List Event) → Is
 pub record HoldsExactly (frame : Frame) (account : Account) : Type 0 where
   pub j : ℕ
   pub below : j ≤ length (selected frame.max_size frame.all)
-  pub contents : (id : List ℕ) → is_legal_id id ≡ true → copies (files account) (stem_of frame.account id) ≡ texts_of (take j (selected frame.max_size frame.all)) id
-  pub ids : (id : List ℕ) → is_legal_id id ≡ true → is_held frame.account account.maildir id ≡ has_id (ids_of (take j (selected frame.max_size frame.all))) id
+  pub contents : (id : List ℕ) → is_legal_id id ≡ true
+      → copies (files account) (stem_of frame.account id) ≡ texts_of (take j (selected frame.max_size frame.all)) id
+  pub ids : (id : List ℕ) → is_legal_id id ≡ true
+      → is_held frame.account account.maildir id ≡ has_id (ids_of (take j (selected frame.max_size frame.all))) id
   pub once : (id : List ℕ) → is_legal_id id ≡ true → length (copies (files account) (stem_of frame.account id)) ≤ 1
 
 -- each of the first j of the selected messages is in one file with its text, or was taken away and is in
@@ -170,7 +178,8 @@ pub record HoldsWhatIsLeft (frame : Frame) (state : Situation) : Type 0 where
   pub j : ℕ
   pub below : j ≤ length (selected frame.max_size frame.all)
   pub contents : (id : List ℕ) → is_legal_id id ≡ true → HoldsOf frame state (take j (selected frame.max_size frame.all)) id
-  pub ids : (id : List ℕ) → is_legal_id id ≡ true → is_held frame.account state.account.maildir id ≡ true → has_id (ids_of (take j (selected frame.max_size frame.all))) id ≡ true
+  pub ids : (id : List ℕ) → is_legal_id id ≡ true → is_held frame.account state.account.maildir id ≡ true
+      → has_id (ids_of (take j (selected frame.max_size frame.all))) id ≡ true
   pub once : (id : List ℕ) → is_legal_id id ≡ true → length (copies (files state.account) (stem_of frame.account id)) ≤ 1
 
 abbrev pub KeptHoldsWhatIsLeft : Type 0
@@ -178,7 +187,8 @@ KeptHoldsWhatIsLeft = (frame : Frame) (state : Situation) → IsFrame frame → 
 
 -- if nothing was taken away, the account holds exactly the first j
 abbrev pub NothingTakenHoldsExactly : Type 0
-NothingTakenHoldsExactly = (frame : Frame) (state : Situation) → HoldsWhatIsLeft frame state → state.taken ≡ [] → HoldsExactly frame state.account
+NothingTakenHoldsExactly = (frame : Frame) (state : Situation) → HoldsWhatIsLeft frame state
+    → state.taken ≡ [] → HoldsExactly frame state.account
 
 -- each of these sessions reads only what is new
 abbrev pub ReadOnlyNew : List Event → Type 0
@@ -188,13 +198,16 @@ ReadOnlyNew (_ ∷ events) = ReadOnlyNew events
 
 -- then a message that is recorded as delivered and isn't held is never stored again
 abbrev pub TakenStaysAway : Type 0
-TakenStaysAway = (frame : Frame) (start : Situation) (events : List Event) (id : List ℕ) → IsFrame frame → Kept frame start → Run frame start events
-    → ReadOnlyNew events → is_legal_id id ≡ true → is_delivered start.account.rows id ≡ true → copies (files start.account) (stem_of frame.account id) ≡ []
+TakenStaysAway = (frame : Frame) (start : Situation) (events : List Event) (id : List ℕ) → IsFrame frame
+    → Kept frame start → Run frame start events → ReadOnlyNew events
+    → is_legal_id id ≡ true → is_delivered start.account.rows id ≡ true
+    → copies (files start.account) (stem_of frame.account id) ≡ []
     → copies (files (after_events start events).account) (stem_of frame.account id) ≡ []
 
 -- in a kept state a reader's move leaves the record and the messages of the account as they are
 abbrev pub MovesLeaveMail : Type 0
-MovesLeaveMail = (frame : Frame) (state : Situation) (after : Account) → IsFrame frame → Kept frame state → Moves state.account after → LeavesMail frame.account state.account after
+MovesLeaveMail = (frame : Frame) (state : Situation) (after : Account) → IsFrame frame → Kept frame state
+    → Moves state.account after → LeavesMail frame.account state.account after
 
 -- an account with an empty record and no file of its own is kept, if nothing is gone
 abbrev pub StartsKept : Type 0
@@ -211,7 +224,10 @@ CanEnd = (frame : Frame) (before : Situation) (settings : Settings) (come now : 
 -- again, the wanted messages are the next of the selected messages that have come
 abbrev pub WantsNext : Type 0
 WantsNext = (frame : Frame) (before : Situation) (settings : Settings) (come now : ℕ) (kept : Kept frame before) → IsFrame frame
-    → settings.max_size ≡ frame.max_size → settings.read_all ≡ false → AllByRecursion (λ id. is_delivered before.account.rows id ≡ true) before.taken
+    → settings.max_size ≡ frame.max_size → settings.read_all ≡ false
+    → AllByRecursion (λ id. is_delivered before.account.rows id ≡ true) before.taken
     → let listing = listing_of (maildrop_of frame.all come before.gone) in
-    map (λ (p : ℕ × Item). p.1) (wanted settings (merged before.account.rows listing (flags_of frame.account before.account.maildir listing) now) listing)
+    map (λ (p : ℕ × Item). p.1)
+    (wanted settings
+    (merged before.account.rows listing (flags_of frame.account before.account.maildir listing) now) listing)
     ≡ listing_of (at_most settings.max_count (drop (length kept.done) (selected frame.max_size (take come frame.all))))

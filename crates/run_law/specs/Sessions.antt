@@ -47,17 +47,20 @@ abbrev pub BeginsOne : (Command → Type 0) → List ℕ → Type 0
 BeginsOne Is part = (part ≡ []) ⊎ ((command : Command) × (unsent : List ℕ) × (ended (line_of command) ≡ part ++ unsent) × Is command)
 
 -- a session by what its link gained: it changed nothing, or it read the replies and stored texts
-pub record Session (settings : Settings) (account : List ℕ) (before : Account) (sent got : List ℕ) (effect : Effect) (after : Account) : Type 0 where
+pub record Session (settings : Settings) (account : List ℕ) (before : Account) (sent got : List ℕ)
+    (effect : Effect) (after : Account) : Type 0 where
   pub commands : List Command
   pub asked : Asked commands sent
   pub begun : AllByRecursion (IsBegun effect.listing effect.begun) commands
   -- what was sent after these commands begins one more
   pub next : BeginsOne (IsBegun effect.listing effect.begun) asked.part
-  pub step : Leaves before effect after ⊎ (Stores settings account before effect after × Reads (wanted_at settings account before effect) commands sent got effect)
+  pub step : Leaves before effect after
+      ⊎ (Stores settings account before effect after × Reads (wanted_at settings account before effect) commands sent got effect)
 
 -- the id is that of a message that is marked
 abbrev pub IsMarked : List Message → List Bool → List ℕ → Type 0
-IsMarked drop marks id = (place : ℕ) × (message : Message) × (slice_get marks place ≡ Some true) × (slice_get drop place ≡ Some message) × (message.uid ≡ id)
+IsMarked drop marks id = (place : ℕ) × (message : Message) × (slice_get marks place ≡ Some true)
+    × (slice_get drop place ≡ Some message) × (message.uid ≡ id)
 
 -- the link was honest, and these of the messages that were marked were removed after QUIT
 pub record Served (drop : List Message) (sent got : List ℕ) (vanished : List (List ℕ)) : Type 0 where
@@ -101,15 +104,29 @@ abbrev pub AllKept : Frame → Situation → List LinkEvent → Type 0
 AllKept frame before [] = Kept frame before
 AllKept frame before (Linked link ∷ events) = Kept frame before
     × ((effect : Effect) × Session link.settings frame.account before.account link.sent link.got effect link.after
-    × Promises frame before (Visited (record { settings = link.settings; come = link.come; effect = effect; vanished = link.vanished; after = link.after })))
+    × Promises frame before (Visited (record {
+      settings = link.settings;
+      come = link.come;
+      effect = effect;
+      vanished = link.vanished;
+      after = link.after;
+    })))
     × AllKept frame (after_link before (Linked link)) events
-AllKept frame before (Shifted after ∷ events) = Kept frame before × Promises frame before (Moved after) × AllKept frame (after_link before (Shifted after)) events
+AllKept frame before (Shifted after ∷ events) = Kept frame before × Promises frame before (Moved after)
+    × AllKept frame (after_link before (Shifted after)) events
 
 -- the law over links
 abbrev pub LinksKeep : Type 0
-LinksKeep = (frame : Frame) (start : Situation) (events : List LinkEvent) → IsFrame frame → Kept frame start → LinkRun frame start events → AllKept frame start events
+LinksKeep = (frame : Frame) (start : Situation) (events : List LinkEvent) → IsFrame frame → Kept frame start
+    → LinkRun frame start events → AllKept frame start events
 
 -- a law: a session over an honest link is a visit of the law over runs
 abbrev pub LinksAreVisits : Type 0
 LinksAreVisits = (frame : Frame) (before : Situation) (link : Link) → (l : Links frame before link)
-    → Visits frame before (record { settings = link.settings; come = link.come; effect = l.effect; vanished = link.vanished; after = link.after })
+    → Visits frame before (record {
+      settings = link.settings;
+      come = link.come;
+      effect = l.effect;
+      vanished = link.vanished;
+      after = link.after;
+    })

@@ -60,10 +60,12 @@ pub record Stores (settings : Settings) (account : List ℕ) (before : Account) 
   pub order : recorded ≤ stored
   pub fetched : stored ≤ length effect.texts
   pub in_new : after.maildir.in_new ≡ before.maildir.in_new
-      ++ map (file_for account) (filter (is_unheld account before.maildir) (zip (take stored (wanted_at settings account before effect)) effect.texts))
+      ++ map (file_for account)
+      (filter (is_unheld account before.maildir) (zip (take stored (wanted_at settings account before effect)) effect.texts))
   pub in_cur : after.maildir.in_cur ≡ before.maildir.in_cur
   pub rows : (after.rows ≡ before.rows)
-      ⊎ (after.rows ≡ marked_all (merged_rows account before effect) (ids_wanted (take recorded (wanted_at settings account before effect))))
+      ⊎ (after.rows ≡ marked_all (merged_rows account before effect)
+      (ids_wanted (take recorded (wanted_at settings account before effect))))
   pub begun : AllByRecursion (λ id. is_delivered after.rows id ≡ true) effect.begun
   pub ended : effect.ended ≡ true → length (wanted_at settings account before effect) ≤ stored
 

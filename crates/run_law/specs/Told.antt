@@ -9,7 +9,8 @@ use Rattle.run_law.specs.Steps.{Effect, Stores, file_for, is_unheld, wanted_at, 
 -- `new` gained the files of the first n of the wanted messages that weren't held
 abbrev pub Adds : Settings → List ℕ → Account → Effect → ℕ → Account → Type 0
 Adds settings account before effect n after = after.maildir.in_new ≡ before.maildir.in_new
-    ++ map (file_for account) (filter (is_unheld account before.maildir) (zip (take n (wanted_at settings account before effect)) effect.texts))
+    ++ map (file_for account)
+    (filter (is_unheld account before.maildir) (zip (take n (wanted_at settings account before effect)) effect.texts))
 
 -- the record is the merged one, with delivered set for the first n of the wanted messages
 abbrev pub Records : Settings → List ℕ → Account → Effect → ℕ → Account → Type 0
@@ -21,7 +22,8 @@ pub record Told (settings : Settings) (account : List ℕ) (before : Account) (e
   pub k : ℕ
   pub j : ℕ
   pub number : (k ≡ length effect.texts) ⊎ (k + 1 ≡ length effect.texts)
-  pub maildir : Adds settings account before effect k after ⊎ ((k + 1 ≡ length effect.texts) × Adds settings account before effect (k + 1) after)
+  pub maildir : Adds settings account before effect k after
+      ⊎ ((k + 1 ≡ length effect.texts) × Adds settings account before effect (k + 1) after)
   pub in_cur : after.maildir.in_cur ≡ before.maildir.in_cur
   pub marks : (j ≡ k) ⊎ (j + 1 ≡ k)
   pub rows : Records settings account before effect j after ⊎ (after.rows ≡ before.rows)

@@ -1,7 +1,8 @@
 //! Laws over runs of sessions: every list of sessions and moves leads from a kept state to a kept one.
 #![tactic(auto)]
 
-ghost use Rattle.run_law.specs.Runs.{CanEnd, KeptHoldsWhatIsLeft, KeptStaysKept, MovesLeaveMail, NothingTakenHoldsExactly, StartsKept, TakenStaysAway, WantsNext};
+ghost use Rattle.run_law.specs.Runs.{CanEnd, KeptHoldsWhatIsLeft, KeptStaysKept, MovesLeaveMail};
+ghost use Rattle.run_law.specs.Runs.{NothingTakenHoldsExactly, StartsKept, TakenStaysAway, WantsNext};
 ghost use Rattle.run_law.specs.Readings.{HonestIsGranted, ListingIsMaildrop, MarksAreAsked, TextsAreMessages};
 ghost use Rattle.run_law.specs.Chains.{ChainsKeep};
 ghost use Rattle.run_law.specs.HonestSession.{HonestSession};

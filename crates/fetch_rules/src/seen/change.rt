@@ -114,7 +114,8 @@ impl<H: BuildHasher> RowMap<H> {
         held: &[bool],
     ) -> Result<IdSet<'a>, AllocError>
         requires { length held.now ≡ length listing.now }
-        ensures { IfOk result (λ ids. (uid : List ℕ) → has_id ids uid ≡ (is_flagged listing.now held.now uid && not (is_delivered self.now uid))) }
+        ensures { IfOk result (λ ids. (uid : List ℕ)
+            → has_id ids uid ≡ (is_flagged listing.now held.now uid && not (is_delivered self.now uid))) }
     {
         let mut ids = IdSet::new(alloc);
         for i in 0..listing.len() {

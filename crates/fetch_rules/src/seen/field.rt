@@ -18,7 +18,8 @@ pub(super) fn cut_at(bytes: &[u8], separator: u8) -> Option<(&[u8], &[u8])>
 /// Whether the bytes begin as a numeral without leading zeros does: with a digit, and 0 stands
 /// alone.
 fn begins_as_numeral(field: &[u8]) -> bool
-    ensures { IsTrue result ↔ ((0 < length field.now) × (48 ≤ slice_index field.now 0) × (slice_index field.now 0 ≤ 57) × (slice_index field.now 0 ≡ 48 → length field.now ≡ 1)) }
+    ensures { IsTrue result ↔ ((0 < length field.now) × (48 ≤ slice_index field.now 0)
+        × (slice_index field.now 0 ≤ 57) × (slice_index field.now 0 ≡ 48 → length field.now ≡ 1)) }
 {
     match field {
         [b'0'] => true,

@@ -1,14 +1,15 @@
 //! The lines of the record's file. After the header's line `getmail-seen 2` come rows, then groups
 //! and intents. A row is the id, the second since 1970 at which it was first seen, and 1 if it was
 //! delivered, else 0. A group is the line `+ N`, N from 1 to 100,000, and N rows. An intent is `!`, the
-//! id, the size of the mailbox file before the entry and the entry's length. Numbers are decimal, without
+//! id, the size of the mboxrd file before the entry and the entry's length. Numbers are decimal, without
 //! leading zeros; single spaces separate the fields, and LF ends each line. The header of version 1 is
 //! `getmail-seen 1`; it has no intents.
 
 ghost use Rattle.std.specs.Prelude.{◌≡◌, ◌≢◌, ℕ, ◌≤◌, ◌++◌, Bool, List, length, flat_map, OnOk, IfOk, IfSome, IfNone};
 ghost use Rattle.mail_terms.specs.Listing.{message_limit};
 ghost use Rattle.fetch_rules.specs.Record.{Row, Intent as TheIntent, IsRow, IsIntent};
-ghost use Rattle.fetch_rules.specs.RecordFile.{header, state_of, line_of, group_line, intent_line, written, text_of, IsLine, Line as FileLine};
+ghost use Rattle.fetch_rules.specs.RecordFile.{header, state_of, line_of, group_line, intent_line};
+ghost use Rattle.fetch_rules.specs.RecordFile.{written, text_of, IsLine, Line as FileLine};
 ghost use Rattle.fetch_rules.specs.RecordMeaning.{BeginsWithNoLine};
 ghost use Rattle.fetch_rules.specs.Rows.{row_from};
 ghost use Rattle.fetch_rules.specs.Lines.{line_seen, intent_seen};
@@ -37,7 +38,7 @@ pub(crate) struct ReadRow<'a> {
     pub(crate) state: State,
 }
 
-/// An entry that is about to be appended to a mailbox file.
+/// An entry that is about to be appended to an mboxrd file.
 #[derive(Clone, Copy)]
 pub struct Intent<'a> {
     /// The id of the entry's message.
@@ -95,7 +96,8 @@ fn read_row(bytes: &[u8]) -> Option<(ReadRow<'_>, &[u8])>
 fn read_group_line(bytes: &[u8]) -> Option<(u64, &[u8])>
     ensures count { IfSome result (λ parts. (1 ≤ parts.0) × (parts.0 ≤ message_limit)) }
     ensures found { IfSome result (λ parts. bytes.now ≡ group_line parts.0 ++ parts.1.now) }
-    ensures none { IfNone result ((count : ℕ) (behind : List ℕ) → 1 ≤ count → count ≤ message_limit → bytes.now ≢ group_line count ++ behind) }
+    ensures none { IfNone result ((count : ℕ) (behind : List ℕ) → 1 ≤ count → count ≤ message_limit
+        → bytes.now ≢ group_line count ++ behind) }
 {
     let Some(line) = bytes.strip_prefix(SIGN) else {
         return None;
@@ -173,7 +175,8 @@ pub(crate) fn write_intent(alloc: Global, intent: Intent<'_>) -> Result<Vec<u8>,
 
 /// The group of so many lines, or nothing where there is none.
 pub(crate) fn group(alloc: Global, count: usize, lines: &[u8]) -> Result<Vec<u8>, AllocError>
-    ensures { IfOk result (λ bytes. (rows : List Row) → length rows ≡ count → flat_map line_of rows ≡ lines.now → bytes.items ≡ written rows) }
+    ensures { IfOk result (λ bytes. (rows : List Row) → length rows ≡ count
+        → flat_map line_of rows ≡ lines.now → bytes.items ≡ written rows) }
 {
     if count == 0 {
         return Ok(Vec::new(alloc));

@@ -6,7 +6,9 @@ ghost use Rattle.fetch_rules.specs.RecordFile.{Version, One, Two, header};
 ghost use Rattle.fetch_rules.specs.RecordMeaning.{Means, Rows, Fault, has_bytes};
 ghost use Rattle.fetch_rules.specs.Outgrown.{IsOutgrown};
 ghost use Rattle.fetch_rules.specs.Rows.{row_from};
-ghost use Rattle.fetch_rules.specs.Lines.{version_of, intent_seen, open_seen, open_behind, behind_base, IsPlaced, is_within, after_row, TakesRow, RefusesRow, TakesIntent, RefusesIntent, EndsAt};
+ghost use Rattle.fetch_rules.specs.Lines.{version_of, intent_seen, open_seen, open_behind};
+ghost use Rattle.fetch_rules.specs.Lines.{behind_base, IsPlaced, is_within, after_row, TakesRow};
+ghost use Rattle.fetch_rules.specs.Lines.{RefusesRow, TakesIntent, RefusesIntent, EndsAt};
 
 use crate::seen::SeenFault;
 use crate::seen::line::{HEADER, Intent, Line, OLDER_HEADER, ReadRow, read_line};
@@ -160,7 +162,8 @@ impl<H: BuildHasher> RowMap<H> {
         requires { IsRow (row_from row.now.uid.now row.now.state) }
         ensures ok { IfOk result (λ next. TakesRow older part self.old (row_from row.now.uid.now row.now.state) next self.new) }
         ensures part { IfOk result (λ next. next ≡ after_row part) }
-        ensures err { IfErr result (λ fault. fault ≢ SeenFault.NoMemory → RefusesRow older part self.old (row_from row.now.uid.now row.now.state) number fault) }
+        ensures err { IfErr result (λ fault. fault ≢ SeenFault.NoMemory
+            → RefusesRow older part self.old (row_from row.now.uid.now row.now.state) number fault) }
         ensures is_record { IsRecord self.new }
     {
         let known = self.state(row.uid);
@@ -190,7 +193,8 @@ impl<H: BuildHasher> RowMap<H> {
     ) -> Result<(), SeenFault>
         requires { IsPlaced part (open_seen before) }
         ensures ok { OnOk result (TakesIntent older part (open_seen before.entry) self.now (intent_seen intent.now)) }
-        ensures err { IfErr result (λ fault. RefusesIntent older part (open_seen before.entry) self.now (intent_seen intent.now) number fault) }
+        ensures err { IfErr result (λ fault. RefusesIntent older part (open_seen before.entry) self.now
+            (intent_seen intent.now) number fault) }
     {
         if older || part.is_within() || before.is_some() || !self.has(intent.uid) {
             return Err(SeenFault::BadRow(number));

@@ -24,7 +24,7 @@ pub struct Files {
     pub record: MemoryFile,
 }
 
-/// An empty mailbox file, and no file of a record.
+/// An empty mboxrd file, and no file of a record.
 fn no_mail(alloc: Global) -> Files {
     Files {
         mbox: MemoryFile::new(alloc),

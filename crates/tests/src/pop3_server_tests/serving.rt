@@ -27,7 +27,8 @@ fn conversations_are_served(rt: HostRuntime) -> Result<(), Fail> {
     let rows = [
         (
             "USER u\r\nPASS p\r\nDELE 1\r\nRETR 1\r\nRSET\r\nRETR 1\r\nDELE 2\r\n",
-            "+OK popd ready\r\n+OK send PASS\r\n+OK 2 messages\r\n+OK marked\r\n-ERR no such message\r\n+OK\r\n+OK 22 octets\r\nSubject: one\r\n\r\n..dot\r\n.\r\n+OK marked\r\n",
+            "+OK popd ready\r\n+OK send PASS\r\n+OK 2 messages\r\n+OK marked\r\n-ERR no such message\r\n\
+             +OK\r\n+OK 22 octets\r\nSubject: one\r\n\r\n..dot\r\n.\r\n+OK marked\r\n",
             2,
         ),
         (
