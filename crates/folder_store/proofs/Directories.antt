@@ -1,18 +1,19 @@
 -- What the calls of a folder leave of its names and files.
 use Rattle.std.proofs.Common.{◌≡◌, ℕ, suc, ◌+◌, refl, List, [], ◌∷◌, ◌++◌, map, cond, sym, ap, subst, ◌∙◌, arith, Bool, true, false, Option, Some, None, Result, Ok, Err, inl, inr, String, Vec, string_bytes}
-use Rattle.std.specs.Prelude.{Contains, IsPermutation, ◌⊎◌, bytes_eq, if◌then◌else◌}
+use Rattle.std.specs.Prelude.{Contains, IsTrue, OnOk, IsPermutation, ◌⊎◌, bytes_eq, if◌then◌else◌}
 use Rattle.mail_terms.specs.FailureCount.{refuses}
 use Rattle.mail_store.specs.Fault.{is_refusal}
 use Rattle.std.proofs.lemmas.Slice.Eq.{bytes_eq-Decides}
+use Rattle.std.proofs.lemmas.Bool.{false≢true}
 use Rattle.mail_store.specs.declared.fault.StoreFault.{StoreFault}
 use Rattle.mail_store.specs.declared.fault.StoreFault.TheVariants.{Missing, Refused, NotMbox, NoMemory}
 use Rattle.mail_store.specs.declared.maildir.disk.Folder.TheVariants.{New, Cur}
 use Rattle.mail_store.specs.Maildir.{Maildir, File, file, names_of, IsInNew, Lists, counted, dropped, with_file}
-use Rattle.folder_store.specs.FileFolder.{Directory, Entry, Blob, entry, names_in, placed, making, ChangesMade, secured, put_in}
+use Rattle.folder_store.specs.FileFolder.{Directory, Entry, Blob, entry, names_in, placed, making, ChangesMade, FlushesMade, LooksUp, secured, put_in}
 use Rattle.folder_store.specs.FolderMaildir.{files_at, file_at, content_made, maildir_in, Tells, PutsFlushed}
 
 -- the names of files are the names in the folder
-names_of-files_at : (es : List Entry) → names_of (files_at es) ≡ names_in es
+pub names_of-files_at : (es : List Entry) → names_of (files_at es) ≡ names_in es
 names_of-files_at [] = refl
 names_of-files_at (e ∷ es) = ap (λ names. e.name ∷ names) (names_of-files_at es)
 
@@ -176,3 +177,17 @@ pub begun_has : (old cur : Directory) (begun : Option (List ℕ)) (n : ℕ) (f :
     → (b : Blob) → old.made ≡ Some b → b.content ≡ f.content
 begun_has old cur None n f h = absurd (nothing_begun f h)
 begun_has old cur (Some name) n f h = (made_has old cur (Some name) name n f refl h).1
+
+-- the file that was made was flushed, and no file had the name
+pub was_free : {T E : Type 0} (old mid after : Directory) (name : List ℕ) (flushed : Result T StoreFault) (found : Bool) (put : Result E StoreFault)
+    → FlushesMade old flushed mid → LooksUp mid name (Ok found) after → found ≡ false → OnOk put (Contains (names_in old.entries) name → ⊥)
+was_free {T} {E} old mid after name flushed found (Err fault) flushes looks none = tt
+was_free {T} {E} old mid after name flushed found (Ok done) flushes looks none = λ there.
+    false≢true (sym none ∙ true_is (looks.0.1 (subst (λ (es : List Entry). Contains (names_in es) name) (sym (same flushed flushes)) there)))
+  where
+    same : (r : Result T StoreFault) → FlushesMade old r mid → mid.entries ≡ old.entries
+    same (Ok done) flushes = ap (λ (d : Directory). d.entries) flushes.2
+    same (Err fault) flushes = ap (λ (d : Directory). d.entries) flushes
+
+    true_is : IsTrue found → found ≡ true
+    true_is is = is

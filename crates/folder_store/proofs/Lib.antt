@@ -3,3 +3,4 @@ mod Files
 mod MemoryFiles
 mod MemoryLoss
 mod PowerLoss
+mod Lasting

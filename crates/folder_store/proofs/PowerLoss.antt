@@ -43,7 +43,7 @@ left_flushed None (Some left) is h = absurd h
 left_flushed (Some b) left is h = left_secured b.content left (subst (λ (x : Blob). IsLeftOf (Some x) left) is h)
 
 -- the names are on the disk, so a name leads to what calls see there
-left_named : (d : Directory) (name : List ℕ) (left : Option (List ℕ)) → d.older ≡ [] → MayBe d name left → IsLeftOf (find name d.entries) left
+pub left_named : (d : Directory) (name : List ℕ) (left : Option (List ℕ)) → d.older ≡ [] → MayBe d name left → IsLeftOf (find name d.entries) left
 left_named d name left named (inl h) = h
 left_named d name left named (inr was) = absurd (subst (λ (older : List Older). WasOnce older name left) named was)
 
@@ -315,7 +315,7 @@ replaces_for_good old new name bytes r t = record {
 -- ---- `load`, `edges`, `read_at`
 
 -- a file of which no flush was refused is on the disk once it is flushed
-flushed_sure : (b : Blob) → b.is_doubted ≡ false → flushed b ≡ secured b.content
+pub flushed_sure : (b : Blob) → b.is_doubted ≡ false → flushed b ≡ secured b.content
 flushed_sure b sure = by b.content b.flushed b.uncut b.is_doubted sure
   where
     by : (content flush : List ℕ) (n : ℕ) (d : Bool) → d ≡ false
@@ -418,7 +418,7 @@ not_made old new NotMbox t = absurd t
 not_made old new NoMemory t = absurd t
 
 -- `settle`
-put_leaves_but : (old d : Directory) (title bytes : List ℕ) (r : Result (Unit {0}) StoreFault) → ((b : Blob) → old.made ≡ Some b → b.content ≡ bytes)
+pub put_leaves_but : (old d : Directory) (title bytes : List ℕ) (r : Result (Unit {0}) StoreFault) → ((b : Blob) → old.made ≡ Some b → b.content ≡ bytes)
     → PutsFlushed old title r d → LeavesBut old title bytes d
 put_leaves_but old d title bytes (Ok done) same (b, made, e) = firmly_put old d b title bytes (same b made) e
 put_leaves_but old d title bytes (Err fault) same (inl change) = λ name left may. inl (making_leaves old d change name left may)

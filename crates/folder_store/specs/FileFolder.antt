@@ -1,6 +1,8 @@
 -- A folder of a file system: what its calls see, what of it is on the disk, and what each call does,
 -- for either outcome.
-use Rattle.std.specs.Prelude.{◌≡◌, ℕ, min, List, [], ◌∷◌, ◌++◌, length, take, map, Bool, true, false, IsTrue, ◌↔◌, Option, Some, None, option_map, Result, Ok, Err, ◌⊎◌, Vec, String, string_bytes, bytes_eq, if◌then◌else◌, IsPermutation, Contains}
+use Rattle.std.specs.Prelude.{◌≡◌, ℕ, min, List, [], ◌∷◌, ◌++◌, length, take, map, Bool, true, false, IsTrue, ◌↔◌}
+use Rattle.std.specs.Prelude.{Option, Some, None, option_map, Result, Ok, Err, ◌⊎◌, Vec, String, string_bytes}
+use Rattle.std.specs.Prelude.{bytes_eq, if◌then◌else◌, IsPermutation, Contains}
 use Rattle.mail_terms.specs.Distinct.{AreDistinct}
 use Rattle.mail_store.specs.declared.fault.StoreFault.{StoreFault}
 use Rattle.mail_store.specs.declared.fault.StoreFault.TheVariants.{Missing, Refused, NotMbox, NoMemory}
@@ -177,7 +179,8 @@ MeasuresFile old name (Err fault) new = LacksFile old name fault new
 -- and the answer is how many
 abbrev pub ReadsPiece : Directory → List ℕ → ℕ → Result ℕ StoreFault → List ℕ → Directory → Type 0
 ReadsPiece old name start (Ok count) buf new =
-    ((was : List ℕ) × (content_at old name ≡ Some was) × (count ≡ length (piece_at start (length buf) was)) × (take count buf ≡ piece_at start (length buf) was))
+    ((was : List ℕ) × (content_at old name ≡ Some was) × (count ≡ length (piece_at start (length buf) was))
+    × (take count buf ≡ piece_at start (length buf) was))
     × (new ≡ old)
 ReadsPiece old name start (Err fault) buf new = LacksFile old name fault new
 
@@ -192,7 +195,8 @@ AppendsTo old name bytes (Ok done) new =
     (b : Blob) × (find name old.entries ≡ Some b) × (new ≡ changed old name (appended b bytes))
 AppendsTo old name bytes (Err fault) new =
     (new ≡ old)
-    ⊎ ((b : Blob) × (front : List ℕ) × (rest : List ℕ) × (find name old.entries ≡ Some b) × (bytes ≡ front ++ rest) × (new ≡ changed old name (appended b front)))
+    ⊎ ((b : Blob) × (front : List ℕ) × (rest : List ℕ) × (find name old.entries ≡ Some b) × (bytes ≡ front ++ rest)
+    × (new ≡ changed old name (appended b front)))
 
 -- `cut_to`: the first bytes of the file are kept; a refused call did it, or nothing
 abbrev pub CutsTo : {T : Type 0} → Directory → List ℕ → ℕ → Result T StoreFault → Directory → Type 0

@@ -3,7 +3,8 @@ use Rattle.std.specs.Prelude.{◌≡◌, ℕ, List, [], map, false, Option, Some
 use Rattle.mail_store.specs.declared.fault.StoreFault.{StoreFault}
 use Rattle.mail_store.specs.declared.fault.StoreFault.TheVariants.{Missing, Refused, NotMbox, NoMemory}
 use Rattle.mail_store.specs.Maildir.{Maildir, File, file}
-use Rattle.folder_store.specs.FileFolder.{Directory, Entry, Blob, ListsNames, ChangesMade, secured, names_flushed, put_in, unknown_directory}
+use Rattle.folder_store.specs.FileFolder.{Directory, Entry, Blob, ListsNames, ChangesMade, secured, names_flushed}
+use Rattle.folder_store.specs.FileFolder.{put_in, unknown_directory}
 
 -- a file as readers see it
 abbrev pub file_at : Entry → File

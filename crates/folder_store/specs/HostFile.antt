@@ -2,7 +2,8 @@
 use Rattle.std.specs.Prelude.{◌≡◌, ℕ, List, [], ◌∷◌, ◌++◌, Option, Some, Result, Ok, Err, ◌⊎◌}
 use Rattle.mail_store.specs.declared.fault.StoreFault.{StoreFault}
 use Rattle.mail_store.specs.FlatFile.{Stored}
-use Rattle.folder_store.specs.FileFolder.{Directory, Blob, Older, find, appended, cut, doubted, flushed, secured, content_at, unknown_directory}
+use Rattle.folder_store.specs.FileFolder.{Directory, Blob, Older, find, appended, cut, doubted, flushed, secured}
+use Rattle.folder_store.specs.FileFolder.{content_at, unknown_directory}
 
 -- the file of this name
 abbrev pub stored_in : Directory → List ℕ → ℕ → Stored
@@ -55,7 +56,8 @@ abbrev pub AppendsFlushed : {T : Type 0} → Directory → List ℕ → List ℕ
 AppendsFlushed old name bytes (Ok done) new = Becomes (IsAppended bytes) old name new
 AppendsFlushed old name bytes (Err fault) new =
     Keeps old name new
-    ⊎ ((first : List ℕ) × (front : List ℕ) × (rest : List ℕ) × (bytes ≡ first ++ (front ++ rest)) × Becomes (IsPartAppended first front) old name new)
+    ⊎ ((first : List ℕ) × (front : List ℕ) × (rest : List ℕ) × (bytes ≡ first ++ (front ++ rest))
+    × Becomes (IsPartAppended first front) old name new)
 
 -- a file was cut, and flushed
 abbrev pub CutsFlushed : {T : Type 0} → Directory → List ℕ → ℕ → Result T StoreFault → Directory → Type 0

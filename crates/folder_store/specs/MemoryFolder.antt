@@ -1,5 +1,6 @@
 -- A folder that is kept in memory.
-use Rattle.std.specs.Prelude.{◌≡◌, ◌⊎◌, ℕ, List, [], ◌∷◌, Some, map, false, None, option_map, String, string_bytes, Option, ◌++◌, ◌≤◌, take, length, slice_index}
+use Rattle.std.specs.Prelude.{◌≡◌, ◌⊎◌, ℕ, List, [], ◌∷◌, Some, map, false, None, option_map, String, string_bytes}
+use Rattle.std.specs.Prelude.{Option, ◌++◌, ◌≤◌, take, length, slice_index}
 use Rattle.folder_store.specs.declared.memory.Kept.{Kept}
 use Rattle.folder_store.specs.FileFolder.{Blob, Entry, Older, entry, secured}
 use Rattle.folder_store.specs.PowerLoss.{IsLeftOf, WasOnce}
@@ -39,4 +40,5 @@ abbrev pub Survive : List Older → List Entry → List Entry → Type 0
 Survive older [] left = left ≡ []
 Survive older (e ∷ es) left =
     (MayBeOf older e None × Survive older es left)
-    ⊎ ((bytes : List ℕ) × (rest : List Entry) × (left ≡ entry e.name (secured bytes) ∷ rest) × MayBeOf older e (Some bytes) × Survive older es rest)
+    ⊎ ((bytes : List ℕ) × (rest : List Entry) × (left ≡ entry e.name (secured bytes) ∷ rest) × MayBeOf older e (Some bytes)
+    × Survive older es rest)

@@ -1,8 +1,11 @@
 -- What a loss of power may leave of a folder, and what each call of a device leaves to it.
-use Rattle.std.specs.Prelude.{◌≡◌, ℕ, ◌≤◌, ◌<◌, ◌/◌, List, [], ◌∷◌, ◌++◌, length, take, map, slice_index, Bool, true, false, Option, Some, None, Result, Ok, Err, ◌⊎◌, OnOk, Vec, String, string_bytes, Contains}
+use Rattle.std.specs.Prelude.{◌≡◌, ℕ, ◌≤◌, ◌<◌, ◌/◌, List, [], ◌∷◌, ◌++◌, length, take, map, slice_index, Bool}
+use Rattle.std.specs.Prelude.{true, false, Option, Some, None, Result, Ok, Err, ◌⊎◌, OnOk, Vec, String}
+use Rattle.std.specs.Prelude.{string_bytes, Contains}
 use Rattle.mail_store.specs.declared.fault.StoreFault.{StoreFault}
 use Rattle.mail_store.specs.declared.maildir.disk.Folder.{Folder}
 use Rattle.mail_store.specs.declared.maildir.disk.Folder.TheVariants.{New, Cur}
+use Rattle.mail_store.specs.Maildir.{File}
 use Rattle.mail_store.specs.Settling.{page_size}
 use Rattle.folder_store.specs.FileFolder.{Directory, Blob, Older, find, content_at, secured, ChangesMade}
 
@@ -121,7 +124,8 @@ LeavesBehind was bytes left = (text : List ℕ) × (left ≡ Some text) × IsTor
 
 -- `append`: whatever it answers, the old bytes and a part of the new ones are left, and after Ok all
 pub record AppendsForGood {T : Type 0} (old : Directory) (name bytes : List ℕ) (r : Result T StoreFault) (new : Directory) : Type 0 where
-  pub leaves : (was : List ℕ) (left : Option (List ℕ)) → IsOnDisk old name → content_at old name ≡ Some was → MayBe new name left → LeavesBehind was bytes left
+  pub leaves : (was : List ℕ) (left : Option (List ℕ)) → IsOnDisk old name → content_at old name ≡ Some was
+      → MayBe new name left → LeavesBehind was bytes left
   pub outlives : OnOk r (IsOnDisk old name → IsOnDisk new name)
 
 -- `cut_to`: the old bytes are left, or the first of them, and after Ok only these
@@ -162,3 +166,33 @@ of_folder new cur Cur = cur
 abbrev pub TellsWhatStays : {A B : Type 0} → Directory → Result (Vec (String A) B) StoreFault → Type 0
 TellsWhatStays d (Ok names) = (name : List ℕ) → Contains (map string_bytes names.items) name → StaysNamed d name
 TellsWhatStays d (Err fault) = Unit {0}
+
+-- ---- what stays, call after call
+
+-- these bytes are the first of the file, in memory and on the disk
+pub record IsFront (bytes : List ℕ) (b : Blob) : Type 0 where
+  pub rest : List ℕ
+  pub more : List ℕ
+  pub content : b.content ≡ bytes ++ rest
+  pub flushed : b.flushed ≡ bytes ++ more
+  pub uncut : length bytes ≤ b.uncut
+
+-- whatever a loss of power leaves under the name is a file that begins with these bytes
+pub record FrontStands (d : Directory) (name bytes : List ℕ) : Type 0 where
+  pub blob : Blob
+  pub leads_to : find name d.entries ≡ Some blob
+  pub named : d.older ≡ []
+  pub front : IsFront bytes blob
+
+-- a front that stands is there after a loss of power
+abbrev pub FrontsOutlivePower : Type 0
+FrontsOutlivePower = (old new : Directory) (name bytes : List ℕ) → FrontStands old name bytes → Loses old new
+    → (rest : List ℕ) × (content_at new name ≡ Some (bytes ++ rest))
+
+-- a name stays in one of the two folders of readers
+abbrev pub StaysInEither : Directory → Directory → List ℕ → Type 0
+StaysInEither new cur name = StaysNamed new name ⊎ StaysNamed cur name
+
+-- a file stands under its name, whole
+abbrev pub FileStands : Directory → File → Type 0
+FileStands new f = Stands new f.name (Some f.content)

@@ -9,7 +9,9 @@ use mail_store::{Edges, StoreFault};
 pub trait FileFolder {
     ghost use Rattle.std.specs.Prelude.{◌≡◌, ◌≤◌, length, IfErr, IfOk, None};
     ghost use Rattle.mail_store.specs.Fault.{IsDeviceFault};
-    ghost use Rattle.folder_store.specs.FileFolder.{Directory, ListsNames, LooksUp, Makes, Writes, FlushesMade, Puts, Reads, MeasuresFile, ReadsPiece, TellsSize, AppendsTo, CutsTo, FlushesFile, FlushesNames, making};
+    ghost use Rattle.folder_store.specs.FileFolder.{Directory, ListsNames, LooksUp, Makes, Writes, FlushesMade};
+    ghost use Rattle.folder_store.specs.FileFolder.{Puts, Reads, MeasuresFile, ReadsPiece, TellsSize, AppendsTo};
+    ghost use Rattle.folder_store.specs.FileFolder.{CutsTo, FlushesFile, FlushesNames, making};
 
     // What calls see of the folder, and what is on the disk.
     ghost directory: { Self → Directory };

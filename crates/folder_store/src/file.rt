@@ -1,6 +1,6 @@
 //! A file in a folder of a file system.
 
-ghost use Rattle.std.specs.Prelude.{◌≡◌, ◌≤◌, ◌<◌, ◌+◌, length, IfErr, IfOk, IsSome, OnOk};
+ghost use Rattle.std.specs.Prelude.{◌≡◌, ◌⊎◌, ◌≤◌, ◌<◌, ◌+◌, false, length, IfErr, IfOk, IsSome, OnErr, OnOk};
 ghost use Rattle.mail_terms.specs.FailureCount.{Tallies, greatest_count, refuses};
 ghost use Rattle.mail_store.specs.Fault.{is_refusal, IsDeviceFault};
 
@@ -32,11 +32,14 @@ pub struct HostFile<'a, F: FileFolder + Drop> {
 
 impl<'a, F: FileFolder + Drop> HostFile<'a, F> {
     ghost use Rattle.folder_store.specs.HostFile.{Flushes, stored_in};
-    ghost use Rattle.folder_store.specs.PowerLoss.{IsKnown, IsOnDisk};
+    ghost use Rattle.folder_store.specs.FileFolder.{find};
+    ghost use Rattle.folder_store.specs.PowerLoss.{FrontStands, IsKnown, IsOnDisk, IsSure};
+    ghost use Rattle.mail_store.specs.Power.{KeepsBytes};
 
     /// The file of a name in a folder. There need be none.
     pub fn over(folder: F, name: &'a str, appending: Appending) -> HostFile<'a, F>
-        ensures { ⟦<HostFile<'a, F> as FlatFile>⟧.stored result ≡ stored_in (F.directory folder) name.now 0 }
+        ensures stored { ⟦<HostFile<'a, F> as FlatFile>⟧.stored result ≡ stored_in (F.directory folder) name.now 0 }
+        ensures sure { IsSure (find name.now (F.directory folder).entries) → ⟦<HostFile<'a, F> as FlatFile>⟧.is_sure result }
     {
         HostFile {
             folder,
@@ -67,6 +70,9 @@ impl<'a, F: FileFolder + Drop> HostFile<'a, F> {
             × Flushes (F.directory self.old.folder) self.old.name.now (F.directory self.new.folder) }
         ensures on_disk { F.sound self.new.folder → IsKnown self.old.is_flushed (F.directory self.old.folder) self.old.name.now
             → OnOk result (IsOnDisk (F.directory self.new.folder) self.old.name.now) }
+        ensures keeps { F.sound self.new.folder → KeepsBytes (FrontStands (F.directory self.old.folder) self.old.name.now)
+            (FrontStands (F.directory self.new.folder) self.old.name.now) }
+        ensures doubted { OnErr result (self.new.is_flushed ≡ false) }
         ensures others { self.new ≡ record self.old { folder = self.new.folder; is_flushed = self.new.is_flushed } }
     {
         if self.is_flushed {
@@ -117,14 +123,19 @@ impl<'a, R: Files + Clock + AllocGlobal + Clone + Drop> HostFile<'a, HostFolder<
 }
 
 impl<'a, F: FileFolder + Drop> FlatFile for HostFile<'a, F> {
-    ghost use Rattle.std.specs.Prelude.{◌≡◌, ◌≤◌, ◌<◌, length, IfErr, IfOk, IsSome};
+    ghost use Rattle.std.specs.Prelude.{◌≡◌, ◌≤◌, ◌<◌, length, IfErr, IfOk, IsSome, OnOk};
     ghost use Rattle.mail_terms.specs.FailureCount.{Tallies, greatest_count, refuses};
     ghost use Rattle.mail_store.specs.Fault.{is_refusal, IsDeviceFault};
     ghost use Rattle.mail_store.specs.FlatFile.{Appends, Cuts, HasBytes, Loads, Measures, ReadsAt, Replaces};
     ghost use Rattle.folder_store.specs.HostFile.{stored_in};
-    ghost use Rattle.folder_store.specs.PowerLoss.{AppendsForGood, CutsForGood, IsTold, ReplacesForGood};
+    ghost use Rattle.folder_store.specs.PowerLoss.{AppendsForGood, CutsForGood, FrontStands, IsKnown, IsTold, ReplacesForGood};
+    ghost use Rattle.mail_store.specs.Power.{KeepsBytes, KeepsFront, LastsWhole, UnlessRefused};
 
     ghost stored = { λ f. stored_in (F.directory f.folder) f.name.now f.failures };
+
+    ghost outlives = { λ f bytes. FrontStands (F.directory f.folder) f.name.now bytes };
+
+    ghost is_sure = { λ f. IsKnown f.is_flushed (F.directory f.folder) f.name.now };
 
     ghost sound = { λ f. F.sound f.folder × (f.failures < greatest_count) };
 
@@ -132,6 +143,11 @@ impl<'a, F: FileFolder + Drop> FlatFile for HostFile<'a, F> {
         ensures loads { ⟦<HostFile<'a, F> as FlatFile>⟧.sound self.new → ⟦<HostFile<'a, F> as FlatFile>⟧.sound self.old
             × Loads (⟦<HostFile<'a, F> as FlatFile>⟧.stored self.old) result (⟦<HostFile<'a, F> as FlatFile>⟧.stored self.new) }
         ensures fault { IfErr result IsDeviceFault }
+        ensures keeps { ⟦<HostFile<'a, F> as FlatFile>⟧.sound self.new
+            → KeepsBytes (⟦<HostFile<'a, F> as FlatFile>⟧.outlives self.old) (⟦<HostFile<'a, F> as FlatFile>⟧.outlives self.new) }
+        ensures lasts { ⟦<HostFile<'a, F> as FlatFile>⟧.sound self.new → ⟦<HostFile<'a, F> as FlatFile>⟧.is_sure self.old
+            → UnlessRefused result (⟦<HostFile<'a, F> as FlatFile>⟧.is_sure self.new
+            × LastsWhole (⟦<HostFile<'a, F> as FlatFile>⟧.stored self.new).content (⟦<HostFile<'a, F> as FlatFile>⟧.outlives self.new)) }
         ensures count { Tallies (refuses is_refusal result) (⟦<HostFile<'a, F> as FlatFile>⟧.stored self.old).failures
             (⟦<HostFile<'a, F> as FlatFile>⟧.stored self.new).failures }
         ensures name { self.new.name ≡ self.old.name }
@@ -154,6 +170,11 @@ impl<'a, F: FileFolder + Drop> FlatFile for HostFile<'a, F> {
         ensures measures { ⟦<HostFile<'a, F> as FlatFile>⟧.sound self.new → ⟦<HostFile<'a, F> as FlatFile>⟧.sound self.old
             × Measures (⟦<HostFile<'a, F> as FlatFile>⟧.stored self.old) result (⟦<HostFile<'a, F> as FlatFile>⟧.stored self.new) }
         ensures fault { IfErr result IsDeviceFault }
+        ensures keeps { ⟦<HostFile<'a, F> as FlatFile>⟧.sound self.new
+            → KeepsBytes (⟦<HostFile<'a, F> as FlatFile>⟧.outlives self.old) (⟦<HostFile<'a, F> as FlatFile>⟧.outlives self.new) }
+        ensures lasts { ⟦<HostFile<'a, F> as FlatFile>⟧.sound self.new → ⟦<HostFile<'a, F> as FlatFile>⟧.is_sure self.old
+            → UnlessRefused result (⟦<HostFile<'a, F> as FlatFile>⟧.is_sure self.new
+            × LastsWhole (⟦<HostFile<'a, F> as FlatFile>⟧.stored self.new).content (⟦<HostFile<'a, F> as FlatFile>⟧.outlives self.new)) }
         ensures count { Tallies (refuses is_refusal result) (⟦<HostFile<'a, F> as FlatFile>⟧.stored self.old).failures
             (⟦<HostFile<'a, F> as FlatFile>⟧.stored self.new).failures }
         ensures name { self.new.name ≡ self.old.name }
@@ -178,6 +199,11 @@ impl<'a, F: FileFolder + Drop> FlatFile for HostFile<'a, F> {
             × ReadsAt (⟦<HostFile<'a, F> as FlatFile>⟧.stored self.old) start result buf.new
             (⟦<HostFile<'a, F> as FlatFile>⟧.stored self.new) }
         ensures fault { IfErr result IsDeviceFault }
+        ensures keeps { ⟦<HostFile<'a, F> as FlatFile>⟧.sound self.new
+            → KeepsBytes (⟦<HostFile<'a, F> as FlatFile>⟧.outlives self.old) (⟦<HostFile<'a, F> as FlatFile>⟧.outlives self.new) }
+        ensures lasts { ⟦<HostFile<'a, F> as FlatFile>⟧.sound self.new → ⟦<HostFile<'a, F> as FlatFile>⟧.is_sure self.old
+            → UnlessRefused result (⟦<HostFile<'a, F> as FlatFile>⟧.is_sure self.new
+            × LastsWhole (⟦<HostFile<'a, F> as FlatFile>⟧.stored self.new).content (⟦<HostFile<'a, F> as FlatFile>⟧.outlives self.new)) }
         ensures count { Tallies (refuses is_refusal result) (⟦<HostFile<'a, F> as FlatFile>⟧.stored self.old).failures
             (⟦<HostFile<'a, F> as FlatFile>⟧.stored self.new).failures }
         ensures name { self.new.name ≡ self.old.name }
@@ -201,8 +227,15 @@ impl<'a, F: FileFolder + Drop> FlatFile for HostFile<'a, F> {
         ensures appends { ⟦<HostFile<'a, F> as FlatFile>⟧.sound self.new → ⟦<HostFile<'a, F> as FlatFile>⟧.sound self.old
             × Appends (⟦<HostFile<'a, F> as FlatFile>⟧.stored self.old) bytes.now result (⟦<HostFile<'a, F> as FlatFile>⟧.stored self.new) }
         ensures fault { IfErr result (λ e. e ≡ StoreFault.Refused) }
+        ensures keeps { ⟦<HostFile<'a, F> as FlatFile>⟧.sound self.new
+            → KeepsBytes (⟦<HostFile<'a, F> as FlatFile>⟧.outlives self.old) (⟦<HostFile<'a, F> as FlatFile>⟧.outlives self.new) }
+        ensures lasts { ⟦<HostFile<'a, F> as FlatFile>⟧.sound self.new → ⟦<HostFile<'a, F> as FlatFile>⟧.is_sure self.old
+            → LastsWhole (⟦<HostFile<'a, F> as FlatFile>⟧.stored self.old).content (⟦<HostFile<'a, F> as FlatFile>⟧.outlives self.old)
+            → OnOk result (⟦<HostFile<'a, F> as FlatFile>⟧.is_sure self.new
+            × LastsWhole (⟦<HostFile<'a, F> as FlatFile>⟧.stored self.new).content (⟦<HostFile<'a, F> as FlatFile>⟧.outlives self.new)) }
         ensures count { Tallies (refuses is_refusal result) (⟦<HostFile<'a, F> as FlatFile>⟧.stored self.old).failures
             (⟦<HostFile<'a, F> as FlatFile>⟧.stored self.new).failures }
+        ensures doubted { OnErr result ((self.new.is_flushed ≡ false) ⊎ (self.new ≡ self.old)) }
         ensures name { self.new.name ≡ self.old.name }
         ensures power { F.sound self.new.folder → AppendsForGood (F.directory self.old.folder) self.old.name.now bytes.now
             result (F.directory self.new.folder) }
@@ -222,8 +255,15 @@ impl<'a, F: FileFolder + Drop> FlatFile for HostFile<'a, F> {
         ensures cuts { ⟦<HostFile<'a, F> as FlatFile>⟧.sound self.new → ⟦<HostFile<'a, F> as FlatFile>⟧.sound self.old
             × Cuts (⟦<HostFile<'a, F> as FlatFile>⟧.stored self.old) len result (⟦<HostFile<'a, F> as FlatFile>⟧.stored self.new) }
         ensures fault { IfErr result (λ e. e ≡ StoreFault.Refused) }
+        ensures keeps { ⟦<HostFile<'a, F> as FlatFile>⟧.sound self.new
+            → KeepsFront len (⟦<HostFile<'a, F> as FlatFile>⟧.outlives self.old) (⟦<HostFile<'a, F> as FlatFile>⟧.outlives self.new) }
+        ensures lasts { ⟦<HostFile<'a, F> as FlatFile>⟧.sound self.new → ⟦<HostFile<'a, F> as FlatFile>⟧.is_sure self.old
+            → LastsWhole (⟦<HostFile<'a, F> as FlatFile>⟧.stored self.old).content (⟦<HostFile<'a, F> as FlatFile>⟧.outlives self.old)
+            → OnOk result (⟦<HostFile<'a, F> as FlatFile>⟧.is_sure self.new
+            × LastsWhole (⟦<HostFile<'a, F> as FlatFile>⟧.stored self.new).content (⟦<HostFile<'a, F> as FlatFile>⟧.outlives self.new)) }
         ensures count { Tallies (refuses is_refusal result) (⟦<HostFile<'a, F> as FlatFile>⟧.stored self.old).failures
             (⟦<HostFile<'a, F> as FlatFile>⟧.stored self.new).failures }
+        ensures doubted { OnErr result ((self.new.is_flushed ≡ false) ⊎ (self.new ≡ self.old)) }
         ensures name { self.new.name ≡ self.old.name }
         ensures power { F.sound self.new.folder → CutsForGood (F.directory self.old.folder) self.old.name.now len
             result (F.directory self.new.folder) }
@@ -243,8 +283,11 @@ impl<'a, F: FileFolder + Drop> FlatFile for HostFile<'a, F> {
             × Replaces (⟦<HostFile<'a, F> as FlatFile>⟧.stored self.old) bytes.now result
             (⟦<HostFile<'a, F> as FlatFile>⟧.stored self.new) }
         ensures fault { IfErr result (λ e. e ≡ StoreFault.Refused) }
+        ensures lasts { ⟦<HostFile<'a, F> as FlatFile>⟧.sound self.new → OnOk result (⟦<HostFile<'a, F> as FlatFile>⟧.is_sure self.new
+            × LastsWhole (⟦<HostFile<'a, F> as FlatFile>⟧.stored self.new).content (⟦<HostFile<'a, F> as FlatFile>⟧.outlives self.new)) }
         ensures count { Tallies (refuses is_refusal result) (⟦<HostFile<'a, F> as FlatFile>⟧.stored self.old).failures
             (⟦<HostFile<'a, F> as FlatFile>⟧.stored self.new).failures }
+        ensures doubted { OnErr result ((self.new.is_flushed ≡ false) ⊎ (self.new ≡ self.old)) }
         ensures name { self.new.name ≡ self.old.name }
         ensures power { F.sound self.new.folder → ReplacesForGood (F.directory self.old.folder) self.old.name.now bytes.now
             result (F.directory self.new.folder) }

@@ -1,7 +1,8 @@
 //! Laws of what a loss of power leaves of a folder: a function here does nothing, and its contract is
 //! the law.
 
-ghost use Rattle.folder_store.specs.PowerLoss.{DiskIsKnown, DiskStands, MakingLeaves, NamesOutlivePower, OutlivesPower, PowerCanBeLost};
+ghost use Rattle.folder_store.specs.PowerLoss.{DiskIsKnown, DiskStands, FrontsOutlivePower, MakingLeaves};
+ghost use Rattle.folder_store.specs.PowerLoss.{NamesOutlivePower, OutlivesPower, PowerCanBeLost};
 
 /// Power can be lost in each state of a folder.
 pub fn power_can_be_lost()
@@ -16,6 +17,11 @@ pub fn disk_stands()
 /// What alone a loss of power may leave under a name is there after one.
 pub fn outlives_power()
     ensures { OutlivesPower }
+{}
+
+/// The bytes that whatever a loss of power leaves of a file begins with are there after one.
+pub fn fronts_outlive_power()
+    ensures { FrontsOutlivePower }
 {}
 
 /// A name that a loss of power leaves leads to a file after one.

@@ -99,9 +99,14 @@ impl<F: FileFolder + Drop> MaildirDisk for FolderMaildir<F> {
     ghost use Rattle.mail_store.specs.Maildir.{Adds, Begins, File, IsInNew, Lists, Settles, dropped, name_begun};
     ghost use Rattle.folder_store.specs.FileFolder.{ChangesMade};
     ghost use Rattle.folder_store.specs.FolderMaildir.{maildir_in};
-    ghost use Rattle.folder_store.specs.PowerLoss.{SettlesForGood, TellsWhatStays, of_folder};
+    ghost use Rattle.folder_store.specs.PowerLoss.{FileStands, SettlesForGood, StaysInEither, TellsWhatStays, of_folder};
+    ghost use Rattle.mail_store.specs.Power.{KeepsMail, SettledOutlives, ToldStay};
 
     ghost maildir = { λ d. maildir_in (F.directory d.new_folder) (F.directory d.cur_folder) (option_map string_bytes d.begun) d.failures };
+
+    ghost stays = { λ d name. StaysInEither (F.directory d.new_folder) (F.directory d.cur_folder) name };
+
+    ghost outlives = { λ d f. FileStands (F.directory d.new_folder) f };
 
     ghost sound = { λ d. F.sound d.new_folder × F.sound d.cur_folder × (d.failures < greatest_count) };
 
@@ -112,6 +117,10 @@ impl<F: FileFolder + Drop> MaildirDisk for FolderMaildir<F> {
         ensures once { ⟦<FolderMaildir<F> as MaildirDisk>⟧.sound self.new
             → IfOk result (λ names. AreDistinct (map string_bytes names.items)) }
         ensures fault { IfErr result IsDeviceFault }
+        ensures lasts { ⟦<FolderMaildir<F> as MaildirDisk>⟧.sound self.new
+            → KeepsMail (⟦<FolderMaildir<F> as MaildirDisk>⟧.stays self.old) (⟦<FolderMaildir<F> as MaildirDisk>⟧.outlives self.old)
+            (⟦<FolderMaildir<F> as MaildirDisk>⟧.stays self.new) (⟦<FolderMaildir<F> as MaildirDisk>⟧.outlives self.new)
+            × ToldStay result (⟦<FolderMaildir<F> as MaildirDisk>⟧.stays self.new) }
         ensures count { Tallies (refuses is_refusal result) (⟦<FolderMaildir<F> as MaildirDisk>⟧.maildir self.old).failures
             (⟦<FolderMaildir<F> as MaildirDisk>⟧.maildir self.new).failures }
         ensures power { ⟦<FolderMaildir<F> as MaildirDisk>⟧.sound self.new
@@ -134,6 +143,9 @@ impl<F: FileFolder + Drop> MaildirDisk for FolderMaildir<F> {
         ensures not_begun { OnErr result ((⟦<FolderMaildir<F> as MaildirDisk>⟧.maildir self.new).begun
             ≡ (⟦<FolderMaildir<F> as MaildirDisk>⟧.maildir self.old).begun) }
         ensures fault { IfErr result IsDeviceFault }
+        ensures lasts { ⟦<FolderMaildir<F> as MaildirDisk>⟧.sound self.new
+            → KeepsMail (⟦<FolderMaildir<F> as MaildirDisk>⟧.stays self.old) (⟦<FolderMaildir<F> as MaildirDisk>⟧.outlives self.old)
+            (⟦<FolderMaildir<F> as MaildirDisk>⟧.stays self.new) (⟦<FolderMaildir<F> as MaildirDisk>⟧.outlives self.new) }
         ensures count { Tallies (refuses is_refusal result) (⟦<FolderMaildir<F> as MaildirDisk>⟧.maildir self.old).failures
             (⟦<FolderMaildir<F> as MaildirDisk>⟧.maildir self.new).failures }
         ensures still { F.sound self.new.new_folder → ChangesMade (F.directory self.old.new_folder) (F.directory self.new.new_folder) }
@@ -165,6 +177,9 @@ impl<F: FileFolder + Drop> MaildirDisk for FolderMaildir<F> {
         ensures begun { name_begun
             (⟦<FolderMaildir<F> as MaildirDisk>⟧.maildir self.new) ≡ name_begun (⟦<FolderMaildir<F> as MaildirDisk>⟧.maildir self.old) }
         ensures fault { IfErr result (λ e. e ≡ StoreFault.Refused) }
+        ensures lasts { ⟦<FolderMaildir<F> as MaildirDisk>⟧.sound self.new
+            → KeepsMail (⟦<FolderMaildir<F> as MaildirDisk>⟧.stays self.old) (⟦<FolderMaildir<F> as MaildirDisk>⟧.outlives self.old)
+            (⟦<FolderMaildir<F> as MaildirDisk>⟧.stays self.new) (⟦<FolderMaildir<F> as MaildirDisk>⟧.outlives self.new) }
         ensures count { Tallies (refuses is_refusal result) (⟦<FolderMaildir<F> as MaildirDisk>⟧.maildir self.old).failures
             (⟦<FolderMaildir<F> as MaildirDisk>⟧.maildir self.new).failures }
         ensures still { F.sound self.new.new_folder → ChangesMade (F.directory self.old.new_folder) (F.directory self.new.new_folder) }
@@ -190,6 +205,11 @@ impl<F: FileFolder + Drop> MaildirDisk for FolderMaildir<F> {
             (⟦<FolderMaildir<F> as MaildirDisk>⟧.maildir self.new) }
         ensures none_begun { (⟦<FolderMaildir<F> as MaildirDisk>⟧.maildir self.new).begun ≡ None }
         ensures fault { IfErr result (λ e. e ≡ StoreFault.Refused) }
+        ensures lasts { ⟦<FolderMaildir<F> as MaildirDisk>⟧.sound self.new
+            → KeepsMail (⟦<FolderMaildir<F> as MaildirDisk>⟧.stays self.old) (⟦<FolderMaildir<F> as MaildirDisk>⟧.outlives self.old)
+            (⟦<FolderMaildir<F> as MaildirDisk>⟧.stays self.new) (⟦<FolderMaildir<F> as MaildirDisk>⟧.outlives self.new)
+            × SettledOutlives (⟦<FolderMaildir<F> as MaildirDisk>⟧.maildir self.old) name.now result
+            (⟦<FolderMaildir<F> as MaildirDisk>⟧.outlives self.new) }
         ensures count { Tallies (refuses is_refusal result) (⟦<FolderMaildir<F> as MaildirDisk>⟧.maildir self.old).failures
             (⟦<FolderMaildir<F> as MaildirDisk>⟧.maildir self.new).failures }
         ensures power { ⟦<FolderMaildir<F> as MaildirDisk>⟧.sound self.new → (f : File)
@@ -219,6 +239,9 @@ impl<F: FileFolder + Drop> MaildirDisk for FolderMaildir<F> {
         ensures drops { ⟦<FolderMaildir<F> as MaildirDisk>⟧.sound self.new → ⟦<FolderMaildir<F> as MaildirDisk>⟧.sound self.old
             × (⟦<FolderMaildir<F> as MaildirDisk>⟧.maildir self.new ≡ dropped (⟦<FolderMaildir<F> as MaildirDisk>⟧.maildir self.old)) }
         ensures none_begun { (⟦<FolderMaildir<F> as MaildirDisk>⟧.maildir self.new).begun ≡ None }
+        ensures lasts { ⟦<FolderMaildir<F> as MaildirDisk>⟧.sound self.new
+            → KeepsMail (⟦<FolderMaildir<F> as MaildirDisk>⟧.stays self.old) (⟦<FolderMaildir<F> as MaildirDisk>⟧.outlives self.old)
+            (⟦<FolderMaildir<F> as MaildirDisk>⟧.stays self.new) (⟦<FolderMaildir<F> as MaildirDisk>⟧.outlives self.new) }
         ensures count { (⟦<FolderMaildir<F> as MaildirDisk>⟧.maildir self.new).failures
             ≡ (⟦<FolderMaildir<F> as MaildirDisk>⟧.maildir self.old).failures }
         ensures still { F.sound self.new.new_folder → ChangesMade (F.directory self.old.new_folder) (F.directory self.new.new_folder) }

@@ -1,6 +1,7 @@
 //! A folder in memory.
 
-ghost use Rattle.std.specs.Prelude.{◌≡◌, ◌≢◌, ◌<◌, ◌++◌, ℕ, [], None, map, length, slice_index_or, string_bytes, HoldsAt, IfNone, IfOk, IfSome, OnErr, OnOk, option_map};
+ghost use Rattle.std.specs.Prelude.{◌≡◌, ◌≢◌, ◌<◌, ◌++◌, ℕ, [], None, map, length, slice_index_or, string_bytes};
+ghost use Rattle.std.specs.Prelude.{HoldsAt, IfNone, IfOk, IfSome, OnErr, OnOk, option_map};
 ghost use Rattle.folder_store.specs.FileFolder.{find, names_in, placed};
 ghost use Rattle.folder_store.specs.MemoryFolder.{MayBeOf, Survive, blob_of, entries_of, entry_of, kept_of, older_of};
 

@@ -1,11 +1,12 @@
 //! What the devices do to a folder in several calls.
 
-ghost use Rattle.std.specs.Prelude.{◌≡◌, IfErr, OnOk, true};
+ghost use Rattle.std.specs.Prelude.{◌≡◌, Contains, IfErr, None, OnErr, OnOk, true};
 ghost use Rattle.mail_store.specs.Fault.{IsDeviceFault};
 ghost use Rattle.folder_store.specs.FolderMaildir.{Tells, PutsFlushed};
-ghost use Rattle.folder_store.specs.FileFolder.{find};
+ghost use Rattle.folder_store.specs.FileFolder.{find, names_in};
 ghost use Rattle.folder_store.specs.HostFile.{AppendsPiece, AppendsFlushed, CutsFlushed, Flushes, ReplacesFlushed};
-ghost use Rattle.folder_store.specs.PowerLoss.{IsOnDisk, IsSure};
+ghost use Rattle.folder_store.specs.PowerLoss.{FrontStands, IsOnDisk, IsSure};
+ghost use Rattle.mail_store.specs.Power.{KeepsBytes};
 
 use crate::device::FileFolder;
 use mail_store::StoreFault;
@@ -47,8 +48,9 @@ fn put_flushed<F: FileFolder>(folder: &mut F, name: &str) -> Result<(), StoreFau
 
 /// The same, where no file has the name.
 pub fn put_where_none<F: FileFolder>(folder: &mut F, name: &str) -> Result<(), StoreFault>
-    ensures { F.sound folder.new → F.sound folder.old
+    ensures puts { F.sound folder.new → F.sound folder.old
         × PutsFlushed (F.directory folder.old) name.now result (F.directory folder.new) }
+    ensures was_free { F.sound folder.new → OnOk result (Contains (names_in (F.directory folder.old).entries) name.now → ⊥) }
 {
     if folder.flush_made().is_err() || folder.has(name)? {
         return Err(StoreFault::Refused);
@@ -124,8 +126,9 @@ pub fn replace_flushed<F: FileFolder>(
     name: &str,
     bytes: &[u8],
 ) -> Result<(), StoreFault>
-    ensures { F.sound folder.new → F.sound folder.old
+    ensures replaces { F.sound folder.new → F.sound folder.old
         × ReplacesFlushed (F.directory folder.old) name.now bytes.now result (F.directory folder.new) }
+    ensures given_up { F.sound folder.new → OnErr result ((F.directory folder.new).made ≡ None) }
 {
     match put_new(folder, name, bytes) {
         Ok(()) => Ok(()),
@@ -140,6 +143,8 @@ pub fn replace_flushed<F: FileFolder>(
 pub fn flush_both<F: FileFolder>(folder: &mut F, name: &str) -> Result<(), StoreFault>
     ensures flushes { F.sound folder.new → F.sound folder.old
         × Flushes (F.directory folder.old) name.now (F.directory folder.new) }
+    ensures keeps { F.sound folder.new
+        → KeepsBytes (FrontStands (F.directory folder.old) name.now) (FrontStands (F.directory folder.new) name.now) }
     ensures on_disk { F.sound folder.new → IsSure (find name.now (F.directory folder.old).entries)
         → OnOk result (IsOnDisk (F.directory folder.new) name.now) }
 {

@@ -1,20 +1,22 @@
 -- What a set of stems says of the files whose names it came from.
-use Rattle.std.proofs.Common.{◌≡◌, ℕ, ◌+◌, ◌<◌, Bool, true, false, cond, List, [], ◌∷◌, ◌++◌, length, take, get_or, map, refl, sym, ap, ◌∙◌, arith, inl, inr, String, string_bytes}
-use Rattle.std.specs.Prelude.{◌||◌, ◌&&◌, bytes_eq, IsPermutation, HoldsAt}
+use Rattle.std.proofs.Common.{◌≡◌, ℕ, ◌+◌, ◌<◌, Bool, true, false, cond, List, [], ◌∷◌, ◌++◌, length, take, get_or, map, refl, sym, ap, ◌∙◌, arith, inl, inr, subst, Ok, Vec, String, string_bytes}
+use Rattle.std.specs.Prelude.{◌||◌, ◌&&◌, bytes_eq, Contains, IsPermutation, HoldsAt}
 use Rattle.std.specs.List.{list_any}
 use Rattle.std.proofs.lemmas.Bool.{cases_Bool, false_from_ne_true, true≢false}
 use Rattle.std.proofs.Math.Bool.{or_assoc}
 use Rattle.std.proofs.lemmas.List.{append_cancel_left, take_more, map-append, length-map, get_or-map}
 use Rattle.std.proofs.lemmas.List.Folds.{list_any-append, list_any_at}
-use Rattle.std.proofs.lemmas.List.Sorted.{list_any-IsPermutation}
+use Rattle.std.proofs.lemmas.List.Sorted.{Contains-permutation, list_any-IsPermutation}
 use Rattle.std.proofs.lemmas.Slice.Eq.{bytes_eq-Decides}
 use Rattle.mail_terms.specs.Listing.{Item, has_item, is_flagged}
 use Rattle.mail_terms.specs.UniqueId.{IsLegalId}
-use Rattle.mail_store.specs.Maildir.{Maildir, File, file, name_in, names_of, IsInNew, with_file}
+use Rattle.mail_store.specs.declared.maildir.disk.Folder.TheVariants.{New, Cur}
+use Rattle.mail_store.specs.Maildir.{Maildir, File, Lists, file, name_in, names_of, IsInNew, with_file}
 use Rattle.mail_store.specs.FileName.{mail_file, name_of, stem, stem_of, names_id, is_held, IsAccountText}
 use Rattle.hex.specs.Hex.{encode_lower}
 use Rattle.mail_store.proofs.NameLemmas.{HaveRanges, stem-name_of, stem_of-injective, tail_of}
 use Rattle.mail_store.specs.Held.{flags_of}
+use Rattle.mail_store.specs.Power.{AllStay}
 
 -- ---- one more name
 
@@ -190,3 +192,17 @@ flagged_where_held account maildir (item ∷ items) uid =
     (and_swap (is_held account maildir item.uid) (bytes_eq item.uid uid) ∙ ap (λ b. b && is_held account maildir item.uid) (bytes_eq-sym item.uid uid))
     ∙ and_more (is_held account maildir item.uid) (bytes_eq uid item.uid) (has_item items uid) (is_held account maildir uid)
     (λ same. ap (is_held account maildir) (sym ((bytes_eq-Decides uid item.uid).0 same)))
+
+-- ---- names that stay
+
+-- the names of both folders were told, and what is told stays
+pub all_stay : {A B : Type 0} (stays : List ℕ → Type 0) (before mid after : Maildir) (new cur : Vec (String A) B)
+    → Lists before New (Ok new) mid → Lists mid Cur (Ok cur) after
+    → ((name : List ℕ) → Contains (map string_bytes new.items) name → stays name)
+    → ((name : List ℕ) → Contains (map string_bytes cur.items) name → stays name) → AllStay after stays
+all_stay stays before mid after new cur lists_new lists_cur in_new in_cur New name inside =
+    in_new name (Contains-permutation (names_of before.in_new) (map string_bytes new.items) name lists_new.1
+    (subst (λ (m : Maildir). Contains (names_of m.in_new) name) (lists_cur.2 ∙ lists_new.2) inside))
+all_stay stays before mid after new cur lists_new lists_cur in_new in_cur Cur name inside =
+    in_cur name (Contains-permutation (names_of mid.in_cur) (map string_bytes cur.items) name lists_cur.1
+    (subst (λ (m : Maildir). Contains (names_of m.in_cur) name) lists_cur.2 inside))

@@ -1,6 +1,7 @@
 -- What each call of a file device does, for either outcome, as a relation between what is known of
 -- the file before and after the call.
-use Rattle.std.specs.Prelude.{◌≡◌, ℕ, ◌+◌, ◌≤◌, List, [], ◌∷◌, ◌++◌, length, take, drop, slice_index, Option, Some, None, Result, Ok, Err, ◌⊎◌, Vec}
+use Rattle.std.specs.Prelude.{◌≡◌, ℕ, ◌+◌, ◌≤◌, List, [], ◌∷◌, ◌++◌, length, take, drop, slice_index, Option, Some}
+use Rattle.std.specs.Prelude.{None, Result, Ok, Err, ◌⊎◌, Vec}
 use Rattle.mail_store.specs.declared.fault.StoreFault.{StoreFault}
 use Rattle.mail_store.specs.declared.fault.StoreFault.TheVariants.{Missing, Refused, NotMbox, NoMemory}
 use Rattle.mail_store.specs.declared.file.flat_file.Edges.{Edges}
@@ -51,7 +52,8 @@ piece_at start len bytes = take len (drop start bytes)
 -- `read_at`: the front of the buffer has the file's bytes from a place on, as many as fit, and the answer is how many
 abbrev pub ReadsAt : Stored → ℕ → Result ℕ StoreFault → List ℕ → Stored → Type 0
 ReadsAt old start (Ok count) buf new =
-    ((was : List ℕ) × (old.content ≡ Some was) × (count ≡ length (piece_at start (length buf) was)) × (take count buf ≡ piece_at start (length buf) was))
+    ((was : List ℕ) × (old.content ≡ Some was) × (count ≡ length (piece_at start (length buf) was))
+    × (take count buf ≡ piece_at start (length buf) was))
     × (new ≡ old)
 ReadsAt old start (Err fault) buf new = Denies old fault new
 

@@ -7,4 +7,5 @@ pub mod Held
 pub mod Mboxrd
 pub mod MboxCalls
 pub mod MboxScan
+pub mod Power
 pub mod Settling

@@ -39,7 +39,8 @@ abbrev pub AppendsEntry : {T : Type 0} → Stored → List ℕ → Result T Stor
 AppendsEntry old text (Ok done) new = (was : List ℕ) × GoesOn old was × (new ≡ holding old (was ++ entry_of text))
 AppendsEntry old text (Err Missing) new = (old.content ≡ None) × (new ≡ old)
 AppendsEntry old text (Err Refused) new = (new ≡ counted old)
-    ⊎ ((was front rest : List ℕ) × GoesOn old was × (entry_of text ≡ front ++ rest) × (new ≡ counted (counted (holding old (was ++ front)))))
+    ⊎ ((was front rest : List ℕ) × GoesOn old was × (entry_of text ≡ front ++ rest)
+    × (new ≡ counted (counted (holding old (was ++ front)))))
 AppendsEntry old text (Err NotMbox) new = IsOther old × (new ≡ old)
 AppendsEntry old text (Err NoMemory) new = new ≡ old
 

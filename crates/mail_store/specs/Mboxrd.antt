@@ -1,5 +1,6 @@
 -- Texts in an mboxrd file: how a line is quoted, what an entry is, and which texts a file stands for.
-use Rattle.std.specs.Prelude.{◌≡◌, ◌⊎◌, ◌==◌, ◌&&◌, ℕ, Bool, false, List, [], ◌∷◌, ◌++◌, true, map, length, take, if◌then◌else◌, codes, nat_eq}
+use Rattle.std.specs.Prelude.{◌≡◌, ◌⊎◌, ◌==◌, ◌&&◌, ℕ, Bool, false, List, [], ◌∷◌, ◌++◌, true, map, length, take}
+use Rattle.std.specs.Prelude.{if◌then◌else◌, codes, nat_eq}
 use Rattle.std.specs.List.{flat_map, onto_first, starts_with, AllByRecursion}
 use Rattle.mail_terms.specs.Text.{IsWhole, HasNoLf}
 
@@ -105,7 +106,8 @@ MayGoOn bytes = (bytes ≡ []) ⊎ ((begins_entry bytes ≡ true) × ((front : L
 
 -- a law: a file that stands for texts, followed by the entry of one more, stands for the texts and then for that one
 abbrev pub EntryAddsText : Type 0
-EntryAddsText = (file text : List ℕ) (texts : List (List ℕ)) → MboxFile file texts → IsWhole text → MboxFile (file ++ entry_of text) (texts ++ text ∷ [])
+EntryAddsText = (file text : List ℕ) (texts : List (List ℕ)) → MboxFile file texts → IsWhole text
+    → MboxFile (file ++ entry_of text) (texts ++ text ∷ [])
 
 -- a law: a file stands for one list of texts only
 abbrev pub OneReading : Type 0
@@ -127,5 +129,6 @@ pub record LeavesFront (file text front : List ℕ) (texts : List (List ℕ)) : 
 
 -- a law: each front of an entry is one of these
 abbrev pub FrontsOfEntries : Type 0
-FrontsOfEntries = (file text front rest : List ℕ) (texts : List (List ℕ)) → MboxFile file texts → IsWhole text → entry_of text ≡ front ++ rest
+FrontsOfEntries = (file text front rest : List ℕ) (texts : List (List ℕ)) → MboxFile file texts → IsWhole text
+    → entry_of text ≡ front ++ rest
     → LeavesFront file text front texts

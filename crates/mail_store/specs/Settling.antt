@@ -1,5 +1,7 @@
 -- What stands in a file from the place on where an entry was about to be appended when a session was cut, and what becomes of it.
-use Rattle.std.specs.Prelude.{◌≡◌, ◌⊎◌, ◌==◌, ◌&&◌, ◌||◌, ◌-◌, ◌%◌, not, ℕ, Bool, true, false, List, [], ◌∷◌, ◌++◌, length, take, drop, Some, None, Result, Ok, Err, bytes_eq, nat_eq, nat_lt, nat_le, if◌then◌else◌}
+use Rattle.std.specs.Prelude.{◌≡◌, ◌⊎◌, ◌==◌, ◌&&◌, ◌||◌, ◌-◌, ◌%◌, not, ℕ, Bool, true, false, List, [], ◌∷◌, ◌++◌}
+use Rattle.std.specs.Prelude.{length, take, drop, Some, None, Result, Ok, Err, bytes_eq, nat_eq, nat_lt, nat_le}
+use Rattle.std.specs.Prelude.{if◌then◌else◌}
 use Rattle.std.specs.List.{list_all, onto_first, starts_with}
 use Rattle.mail_terms.specs.Text.{IsWhole}
 use Rattle.mail_store.specs.declared.fault.StoreFault.{StoreFault}
@@ -50,8 +52,8 @@ ends_empty bytes = bytes_eq (drop (length bytes - 2) bytes) (10 ∷ 10 ∷ [])
 abbrev pub are_unbroken : List (List ℕ) → Bool
 are_unbroken pages = list_all (λ page. not (is_hole page)) pages
 
--- the bytes from a place on may be a front of an entry that was appended there, and of nothing else: they begin as its first line does, as far as
--- both go, and no other line begins with `From `
+-- the bytes from a place on may be a front of an entry that was appended there, and of nothing else: they begin as
+-- its first line does, as far as both go, and no other line begins with `From `
 abbrev pub is_ours : ℕ → List ℕ → Bool
 is_ours place bytes = begin_with separator (pages_from place bytes) && is_one_entry bytes
 
@@ -68,14 +70,15 @@ stands_whole start len file = length (drop start file) == len && is_entry start 
 -- whether some of it does, but not as it was to
 abbrev pub stands_torn : ℕ → ℕ → List ℕ → Bool
 stands_torn start len file =
-    (nat_lt 0 (length (drop start file)) && nat_le (length (drop start file)) len) && (is_ours start (drop start file) && not (stands_whole start len file))
+    (nat_lt 0 (length (drop start file)) && nat_le (length (drop start file)) len)
+    && (is_ours start (drop start file) && not (stands_whole start len file))
 
 -- the file once it is settled: cut back to `start` where the entry stands torn
 abbrev pub settled_file : ℕ → ℕ → List ℕ → List ℕ
 settled_file start len file = if stands_torn start len file then take start file else file
 
--- a law: of a front of an entry behind a file, either it is all of the entry, and counts, or the file is cut back to what it was. That all of
--- it is cut off can be only where a page of its own text is nothing but zeros
+-- a law: of a front of an entry behind a file, either it is all of the entry, and counts, or the file is cut back to
+-- what it was. That all of it is cut off can be only where a page of its own text is nothing but zeros
 abbrev pub FrontsAreSettled : Type 0
 FrontsAreSettled = (file text front rest : List ℕ) → IsWhole text → entry_of text ≡ front ++ rest
     → ((stands_whole (length file) (length (entry_of text)) (file ++ front) ≡ true)
@@ -97,8 +100,8 @@ LooksBehind old start behind (Ok look) new = (new ≡ old)
     × ((was : List ℕ) → old.content ≡ Some was → length (drop start was) ≡ behind → IsLook start (drop start was) look)
 LooksBehind old start behind (Err fault) new = Denies old fault new
 
--- `settle_file`: the file is settled, and whether the entry stands whole; there is no file; or a call was refused, and the file is as it was, or
--- settled
+-- `settle_file`: the file is settled, and whether the entry stands whole; there is no file; or a call was refused,
+-- and the file is as it was, or settled
 abbrev pub SettlesFile : Stored → ℕ → ℕ → Result Bool StoreFault → Stored → Type 0
 SettlesFile old start len (Ok whole) new =
     (was : List ℕ) × (old.content ≡ Some was) × (whole ≡ stands_whole start len was) × (new ≡ holding old (settled_file start len was))

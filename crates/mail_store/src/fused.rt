@@ -107,9 +107,15 @@ impl<D: MaildirDisk> MaildirDisk for Fused<D> {
     ghost use Rattle.mail_terms.specs.Distinct.{AreDistinct};
     ghost use Rattle.mail_store.specs.Fault.{IsDeviceFault};
     ghost use Rattle.mail_store.specs.Maildir.{IsInNew, Lists, Begins, Adds, Settles, dropped, name_begun};
-    ghost use Rattle.mail_store.specs.Fuse.{device_of, passes_left, effect_is_due, refusals, fused_maildir, FusedIsSound, Burns, SettlesBehind};
+    ghost use Rattle.mail_store.specs.Power.{KeepsMail, SettledOutlives, ToldStay};
+    ghost use Rattle.mail_store.specs.Fuse.{device_of, passes_left, effect_is_due, refusals, fused_maildir};
+    ghost use Rattle.mail_store.specs.Fuse.{FusedIsSound, Burns, SettlesBehind};
 
     ghost maildir = { λ f. fused_maildir D.maildir f };
+
+    ghost stays = { λ f. D.stays (device_of f) };
+
+    ghost outlives = { λ f. D.outlives (device_of f) };
 
     ghost sound = { λ f. FusedIsSound D.sound f };
 
@@ -118,6 +124,9 @@ impl<D: MaildirDisk> MaildirDisk for Fused<D> {
             × Lists (fused_maildir D.maildir self.old) folder result (fused_maildir D.maildir self.new) }
         ensures once { FusedIsSound D.sound self.new → IfOk result (λ names. AreDistinct (map string_bytes names.items)) }
         ensures fault { IfErr result IsDeviceFault }
+        ensures lasts { FusedIsSound D.sound self.new → KeepsMail (D.stays (device_of self.old)) (D.outlives (device_of self.old))
+            (D.stays (device_of self.new)) (D.outlives (device_of self.new))
+            × ToldStay result (D.stays (device_of self.new)) }
         ensures count { Tallies (refuses is_refusal result) (refusals self.old) (refusals self.new) }
         ensures burns { refusals self.old < greatest_count → Burns (λ d. (D.maildir d).failures) self.old result self.new }
         ensures behind { passes_left self.old ≡ 0 → device_of self.new ≡ device_of self.old }
@@ -135,6 +144,8 @@ impl<D: MaildirDisk> MaildirDisk for Fused<D> {
         ensures begun { OnOk result (name_begun (D.maildir (device_of self.new)) ≡ Some name.now) }
         ensures not_begun { OnErr result ((D.maildir (device_of self.new)).begun ≡ (D.maildir (device_of self.old)).begun) }
         ensures fault { IfErr result IsDeviceFault }
+        ensures lasts { FusedIsSound D.sound self.new → KeepsMail (D.stays (device_of self.old)) (D.outlives (device_of self.old))
+            (D.stays (device_of self.new)) (D.outlives (device_of self.new)) }
         ensures count { Tallies (refuses is_refusal result) (refusals self.old) (refusals self.new) }
         ensures burns { refusals self.old < greatest_count → Burns (λ d. (D.maildir d).failures) self.old result self.new }
         ensures behind { passes_left self.old ≡ 0 → device_of self.new ≡ device_of self.old }
@@ -151,6 +162,8 @@ impl<D: MaildirDisk> MaildirDisk for Fused<D> {
             × Adds (fused_maildir D.maildir self.old) bytes.now result (fused_maildir D.maildir self.new) }
         ensures begun { name_begun (D.maildir (device_of self.new)) ≡ name_begun (D.maildir (device_of self.old)) }
         ensures fault { IfErr result (λ e. e ≡ StoreFault.Refused) }
+        ensures lasts { FusedIsSound D.sound self.new → KeepsMail (D.stays (device_of self.old)) (D.outlives (device_of self.old))
+            (D.stays (device_of self.new)) (D.outlives (device_of self.new)) }
         ensures count { Tallies (refuses is_refusal result) (refusals self.old) (refusals self.new) }
         ensures burns { refusals self.old < greatest_count → Burns (λ d. (D.maildir d).failures) self.old result self.new }
         ensures behind { passes_left self.old ≡ 0 → device_of self.new ≡ device_of self.old }
@@ -168,6 +181,9 @@ impl<D: MaildirDisk> MaildirDisk for Fused<D> {
             × Settles (fused_maildir D.maildir self.old) name.now result (fused_maildir D.maildir self.new) }
         ensures none_begun { (D.maildir (device_of self.new)).begun ≡ None }
         ensures fault { IfErr result (λ e. e ≡ StoreFault.Refused) }
+        ensures lasts { FusedIsSound D.sound self.new → KeepsMail (D.stays (device_of self.old)) (D.outlives (device_of self.old))
+            (D.stays (device_of self.new)) (D.outlives (device_of self.new))
+            × SettledOutlives (fused_maildir D.maildir self.old) name.now result (D.outlives (device_of self.new)) }
         ensures count { Tallies (refuses is_refusal result) (refusals self.old) (refusals self.new) }
         ensures burns { refusals self.old < greatest_count → Burns (λ d. (D.maildir d).failures) self.old result self.new }
         ensures behind { passes_left self.old ≡ 0 → FusedIsSound D.sound self.new
@@ -193,6 +209,8 @@ impl<D: MaildirDisk> MaildirDisk for Fused<D> {
         ensures drops { FusedIsSound D.sound self.new → FusedIsSound D.sound self.old
             × (fused_maildir D.maildir self.new ≡ dropped (fused_maildir D.maildir self.old)) }
         ensures none_begun { (D.maildir (device_of self.new)).begun ≡ None }
+        ensures lasts { FusedIsSound D.sound self.new → KeepsMail (D.stays (device_of self.old)) (D.outlives (device_of self.old))
+            (D.stays (device_of self.new)) (D.outlives (device_of self.new)) }
         ensures count { refusals self.new ≡ refusals self.old }
         ensures fuse { self.new ≡ record self.old { device = self.new.device } }
     {
@@ -205,13 +223,19 @@ impl<D: MaildirDisk> MaildirDisk for Fused<D> {
 }
 
 impl<D: FlatFile> FlatFile for Fused<D> {
-    ghost use Rattle.std.specs.Prelude.{◌≡◌, ◌≤◌, ◌<◌, length, IfErr, IfOk, IsSome};
+    ghost use Rattle.std.specs.Prelude.{◌≡◌, ◌≤◌, ◌<◌, length, IfErr, IfOk, IsSome, OnOk};
     ghost use Rattle.mail_terms.specs.FailureCount.{Tallies, refuses, greatest_count};
     ghost use Rattle.mail_store.specs.Fault.{IsDeviceFault};
     ghost use Rattle.mail_store.specs.FlatFile.{Loads, Measures, ReadsAt, Appends, Cuts, Replaces, HasBytes};
-    ghost use Rattle.mail_store.specs.Fuse.{device_of, passes_left, effect_is_due, refusals, fused_file, FusedIsSound, Burns, AppendsBehind, ReplacesBehind};
+    ghost use Rattle.mail_store.specs.Power.{KeepsBytes, KeepsFront, LastsWhole, UnlessRefused};
+    ghost use Rattle.mail_store.specs.Fuse.{device_of, passes_left, effect_is_due, refusals, fused_file};
+    ghost use Rattle.mail_store.specs.Fuse.{FusedIsSound, Burns, AppendsBehind, ReplacesBehind};
 
     ghost stored = { λ f. fused_file D.stored f };
+
+    ghost outlives = { λ f. D.outlives (device_of f) };
+
+    ghost is_sure = { λ f. D.is_sure (device_of f) };
 
     ghost sound = { λ f. FusedIsSound D.sound f };
 
@@ -219,6 +243,10 @@ impl<D: FlatFile> FlatFile for Fused<D> {
         ensures loads { FusedIsSound D.sound self.new → FusedIsSound D.sound self.old
             × Loads (fused_file D.stored self.old) result (fused_file D.stored self.new) }
         ensures fault { IfErr result IsDeviceFault }
+        ensures keeps { FusedIsSound D.sound self.new → KeepsBytes (D.outlives (device_of self.old)) (D.outlives (device_of self.new)) }
+        ensures lasts { FusedIsSound D.sound self.new → D.is_sure (device_of self.old)
+            → UnlessRefused result (D.is_sure (device_of self.new)
+            × LastsWhole (fused_file D.stored self.new).content (D.outlives (device_of self.new))) }
         ensures count { Tallies (refuses is_refusal result) (refusals self.old) (refusals self.new) }
         ensures burns { refusals self.old < greatest_count → Burns (λ d. (D.stored d).failures) self.old result self.new }
         ensures behind { passes_left self.old ≡ 0 → device_of self.new ≡ device_of self.old }
@@ -233,6 +261,10 @@ impl<D: FlatFile> FlatFile for Fused<D> {
         ensures measures { FusedIsSound D.sound self.new → FusedIsSound D.sound self.old
             × Measures (fused_file D.stored self.old) result (fused_file D.stored self.new) }
         ensures fault { IfErr result IsDeviceFault }
+        ensures keeps { FusedIsSound D.sound self.new → KeepsBytes (D.outlives (device_of self.old)) (D.outlives (device_of self.new)) }
+        ensures lasts { FusedIsSound D.sound self.new → D.is_sure (device_of self.old)
+            → UnlessRefused result (D.is_sure (device_of self.new)
+            × LastsWhole (fused_file D.stored self.new).content (D.outlives (device_of self.new))) }
         ensures count { Tallies (refuses is_refusal result) (refusals self.old) (refusals self.new) }
         ensures burns { refusals self.old < greatest_count → Burns (λ d. (D.stored d).failures) self.old result self.new }
         ensures behind { passes_left self.old ≡ 0 → device_of self.new ≡ device_of self.old }
@@ -248,6 +280,10 @@ impl<D: FlatFile> FlatFile for Fused<D> {
         ensures reads { FusedIsSound D.sound self.new → FusedIsSound D.sound self.old
             × ReadsAt (fused_file D.stored self.old) start result buf.new (fused_file D.stored self.new) }
         ensures fault { IfErr result IsDeviceFault }
+        ensures keeps { FusedIsSound D.sound self.new → KeepsBytes (D.outlives (device_of self.old)) (D.outlives (device_of self.new)) }
+        ensures lasts { FusedIsSound D.sound self.new → D.is_sure (device_of self.old)
+            → UnlessRefused result (D.is_sure (device_of self.new)
+            × LastsWhole (fused_file D.stored self.new).content (D.outlives (device_of self.new))) }
         ensures count { Tallies (refuses is_refusal result) (refusals self.old) (refusals self.new) }
         ensures burns { refusals self.old < greatest_count → Burns (λ d. (D.stored d).failures) self.old result self.new }
         ensures behind { passes_left self.old ≡ 0 → device_of self.new ≡ device_of self.old }
@@ -263,6 +299,11 @@ impl<D: FlatFile> FlatFile for Fused<D> {
         ensures appends { FusedIsSound D.sound self.new → FusedIsSound D.sound self.old
             × Appends (fused_file D.stored self.old) bytes.now result (fused_file D.stored self.new) }
         ensures fault { IfErr result (λ e. e ≡ StoreFault.Refused) }
+        ensures keeps { FusedIsSound D.sound self.new → KeepsBytes (D.outlives (device_of self.old)) (D.outlives (device_of self.new)) }
+        ensures lasts { FusedIsSound D.sound self.new → D.is_sure (device_of self.old)
+            → LastsWhole (fused_file D.stored self.old).content (D.outlives (device_of self.old))
+            → OnOk result (D.is_sure (device_of self.new)
+            × LastsWhole (fused_file D.stored self.new).content (D.outlives (device_of self.new))) }
         ensures count { Tallies (refuses is_refusal result) (refusals self.old) (refusals self.new) }
         ensures burns { refusals self.old < greatest_count → Burns (λ d. (D.stored d).failures) self.old result self.new }
         ensures behind { passes_left self.old ≡ 0 → FusedIsSound D.sound self.new
@@ -283,6 +324,11 @@ impl<D: FlatFile> FlatFile for Fused<D> {
         ensures cuts { FusedIsSound D.sound self.new → FusedIsSound D.sound self.old
             × Cuts (fused_file D.stored self.old) len result (fused_file D.stored self.new) }
         ensures fault { IfErr result (λ e. e ≡ StoreFault.Refused) }
+        ensures keeps { FusedIsSound D.sound self.new → KeepsFront len (D.outlives (device_of self.old)) (D.outlives (device_of self.new)) }
+        ensures lasts { FusedIsSound D.sound self.new → D.is_sure (device_of self.old)
+            → LastsWhole (fused_file D.stored self.old).content (D.outlives (device_of self.old))
+            → OnOk result (D.is_sure (device_of self.new)
+            × LastsWhole (fused_file D.stored self.new).content (D.outlives (device_of self.new))) }
         ensures count { Tallies (refuses is_refusal result) (refusals self.old) (refusals self.new) }
         ensures burns { refusals self.old < greatest_count → Burns (λ d. (D.stored d).failures) self.old result self.new }
         ensures behind { passes_left self.old ≡ 0 → device_of self.new ≡ device_of self.old }
@@ -297,6 +343,8 @@ impl<D: FlatFile> FlatFile for Fused<D> {
         ensures replaces { FusedIsSound D.sound self.new → FusedIsSound D.sound self.old
             × Replaces (fused_file D.stored self.old) bytes.now result (fused_file D.stored self.new) }
         ensures fault { IfErr result (λ e. e ≡ StoreFault.Refused) }
+        ensures lasts { FusedIsSound D.sound self.new → OnOk result (D.is_sure (device_of self.new)
+            × LastsWhole (fused_file D.stored self.new).content (D.outlives (device_of self.new))) }
         ensures count { Tallies (refuses is_refusal result) (refusals self.old) (refusals self.new) }
         ensures burns { refusals self.old < greatest_count → Burns (λ d. (D.stored d).failures) self.old result self.new }
         ensures behind { passes_left self.old ≡ 0 → FusedIsSound D.sound self.new

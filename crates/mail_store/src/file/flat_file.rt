@@ -15,13 +15,20 @@ pub struct Edges {
 
 /// A device that keeps one file, and that can refuse any call.
 pub trait FlatFile {
-    ghost use Rattle.std.specs.Prelude.{◌≡◌, ◌≤◌, length, IfErr, IfOk, IsSome};
+    ghost use Rattle.std.specs.Prelude.{◌≡◌, ◌≤◌, ℕ, List, OnOk, length, IfErr, IfOk, IsSome};
     ghost use Rattle.mail_terms.specs.FailureCount.{Tallies, refuses};
     ghost use Rattle.mail_store.specs.Fault.{is_refusal, IsDeviceFault};
     ghost use Rattle.mail_store.specs.FlatFile.{Stored, Loads, Measures, ReadsAt, Appends, Cuts, Replaces, HasBytes};
+    ghost use Rattle.mail_store.specs.Power.{KeepsBytes, KeepsFront, LastsWhole, UnlessRefused};
 
     // What is known of the file.
     ghost stored: { Self → Stored };
+
+    // Whatever a loss of power leaves of the file begins with these bytes.
+    ghost outlives: { Self → List ℕ → Type 0 };
+
+    // No flush of the file was refused since it was last written whole, as far as is known.
+    ghost is_sure: { Self → Type 0 };
 
     // The premise: so far the device did what this trait says, and its count is below its greatest
     // value. Where it holds after a call it held before it.
@@ -32,6 +39,9 @@ pub trait FlatFile {
         ensures loads { sound self.new → sound self.old
             × Loads (stored self.old) result (stored self.new) }
         ensures fault { IfErr result IsDeviceFault }
+        ensures keeps { sound self.new → KeepsBytes (outlives self.old) (outlives self.new) }
+        ensures lasts { sound self.new → is_sure self.old
+            → UnlessRefused result (is_sure self.new × LastsWhole (stored self.new).content (outlives self.new)) }
         ensures count { Tallies (refuses is_refusal result) (stored self.old).failures (stored self.new).failures };
 
     /// The size of the file, its first five bytes and its last two. Missing where there is none,
@@ -40,6 +50,9 @@ pub trait FlatFile {
         ensures measures { sound self.new → sound self.old
             × Measures (stored self.old) result (stored self.new) }
         ensures fault { IfErr result IsDeviceFault }
+        ensures keeps { sound self.new → KeepsBytes (outlives self.old) (outlives self.new) }
+        ensures lasts { sound self.new → is_sure self.old
+            → UnlessRefused result (is_sure self.new × LastsWhole (stored self.new).content (outlives self.new)) }
         ensures count { Tallies (refuses is_refusal result) (stored self.old).failures (stored self.new).failures };
 
     /// Puts the bytes of the file from `start` on at the front of a buffer, and says how many: as many
@@ -50,6 +63,9 @@ pub trait FlatFile {
         ensures reads { sound self.new → sound self.old
             × ReadsAt (stored self.old) start result buf.new (stored self.new) }
         ensures fault { IfErr result IsDeviceFault }
+        ensures keeps { sound self.new → KeepsBytes (outlives self.old) (outlives self.new) }
+        ensures lasts { sound self.new → is_sure self.old
+            → UnlessRefused result (is_sure self.new × LastsWhole (stored self.new).content (outlives self.new)) }
         ensures count { Tallies (refuses is_refusal result) (stored self.old).failures (stored self.new).failures };
 
     /// Puts bytes behind those of the file. The only fault is Refused: a front of the bytes may
@@ -59,6 +75,9 @@ pub trait FlatFile {
         ensures appends { sound self.new → sound self.old
             × Appends (stored self.old) bytes.now result (stored self.new) }
         ensures fault { IfErr result (λ e. e ≡ StoreFault.Refused) }
+        ensures keeps { sound self.new → KeepsBytes (outlives self.old) (outlives self.new) }
+        ensures lasts { sound self.new → is_sure self.old → LastsWhole (stored self.old).content (outlives self.old)
+            → OnOk result (is_sure self.new × LastsWhole (stored self.new).content (outlives self.new)) }
         ensures count { Tallies (refuses is_refusal result) (stored self.old).failures (stored self.new).failures };
 
     /// Cuts the file to its first `len` bytes. The only fault is Refused: the file is then as it
@@ -68,6 +87,9 @@ pub trait FlatFile {
         ensures cuts { sound self.new → sound self.old
             × Cuts (stored self.old) len result (stored self.new) }
         ensures fault { IfErr result (λ e. e ≡ StoreFault.Refused) }
+        ensures keeps { sound self.new → KeepsFront len (outlives self.old) (outlives self.new) }
+        ensures lasts { sound self.new → is_sure self.old → LastsWhole (stored self.old).content (outlives self.old)
+            → OnOk result (is_sure self.new × LastsWhole (stored self.new).content (outlives self.new)) }
         ensures count { Tallies (refuses is_refusal result) (stored self.old).failures (stored self.new).failures };
 
     /// Makes these bytes the file's, whether or not there is a file. The only fault is Refused:
@@ -76,6 +98,7 @@ pub trait FlatFile {
         ensures replaces { sound self.new → sound self.old
             × Replaces (stored self.old) bytes.now result (stored self.new) }
         ensures fault { IfErr result (λ e. e ≡ StoreFault.Refused) }
+        ensures lasts { sound self.new → OnOk result (is_sure self.new × LastsWhole (stored self.new).content (outlives self.new)) }
         ensures count { Tallies (refuses is_refusal result) (stored self.old).failures (stored self.new).failures };
 
     /// How many calls were refused.

@@ -121,12 +121,18 @@ fn put_in_front(bytes: &[u8], buf: &mut [u8]) -> usize
 }
 
 impl FlatFile for MemoryFile {
-    ghost use Rattle.std.specs.Prelude.{◌≡◌, ◌≢◌, ◌≤◌, ◌<◌, length, IfErr, IfOk, IsOk};
+    ghost use Rattle.std.specs.Prelude.{◌≡◌, ◌≢◌, ◌≤◌, ◌<◌, length, IfErr, IfOk, IsOk, OnOk};
     ghost use Rattle.mail_terms.specs.FailureCount.{Tallies, refuses, greatest_count};
     ghost use Rattle.mail_store.specs.Fault.{is_refusal, IsDeviceFault};
     ghost use Rattle.mail_store.specs.FlatFile.{Measures, ReadsAt, Cuts, HasBytes};
+    ghost use Rattle.mail_store.specs.Power.{KeepsBytes, KeepsFront, LastsWhole, UnlessRefused};
 
     ghost stored = { λ f. f };
+
+    // What is in memory is out of a loss of power's reach as long as the program runs.
+    ghost outlives = { λ f bytes. Unit {0} };
+
+    ghost is_sure = { λ f. Unit {0} };
 
     ghost sound = { λ f. f.failures < greatest_count };
 
@@ -146,6 +152,11 @@ impl FlatFile for MemoryFile {
         ensures measures { self.new.failures < greatest_count → (self.old.failures < greatest_count)
             × Measures self.old result self.new }
         ensures fault { IfErr result IsDeviceFault }
+        ensures keeps { self.new.failures < greatest_count → KeepsBytes (⟦<MemoryFile as FlatFile>⟧.outlives self.old)
+            (⟦<MemoryFile as FlatFile>⟧.outlives self.new) }
+        ensures lasts { self.new.failures < greatest_count → ⟦<MemoryFile as FlatFile>⟧.is_sure self.old
+            → UnlessRefused result (⟦<MemoryFile as FlatFile>⟧.is_sure self.new
+            × LastsWhole self.new.content (⟦<MemoryFile as FlatFile>⟧.outlives self.new)) }
         ensures count { Tallies (refuses is_refusal result) self.old.failures self.new.failures }
         ensures answers { self.old.failures < greatest_count → result ≢ Err StoreFault.Refused }
     {
@@ -162,6 +173,11 @@ impl FlatFile for MemoryFile {
         ensures reads { self.new.failures < greatest_count → (self.old.failures < greatest_count)
             × ReadsAt self.old start result buf.new self.new }
         ensures fault { IfErr result IsDeviceFault }
+        ensures keeps { self.new.failures < greatest_count → KeepsBytes (⟦<MemoryFile as FlatFile>⟧.outlives self.old)
+            (⟦<MemoryFile as FlatFile>⟧.outlives self.new) }
+        ensures lasts { self.new.failures < greatest_count → ⟦<MemoryFile as FlatFile>⟧.is_sure self.old
+            → UnlessRefused result (⟦<MemoryFile as FlatFile>⟧.is_sure self.new
+            × LastsWhole self.new.content (⟦<MemoryFile as FlatFile>⟧.outlives self.new)) }
         ensures count { Tallies (refuses is_refusal result) self.old.failures self.new.failures }
         ensures answers { self.old.failures < greatest_count → result ≢ Err StoreFault.Refused }
     {
@@ -189,6 +205,12 @@ impl FlatFile for MemoryFile {
         ensures cuts { self.new.failures < greatest_count → (self.old.failures < greatest_count)
             × Cuts self.old len result self.new }
         ensures fault { IfErr result (λ e. e ≡ StoreFault.Refused) }
+        ensures keeps { self.new.failures < greatest_count → KeepsFront len (⟦<MemoryFile as FlatFile>⟧.outlives self.old)
+            (⟦<MemoryFile as FlatFile>⟧.outlives self.new) }
+        ensures lasts { self.new.failures < greatest_count → ⟦<MemoryFile as FlatFile>⟧.is_sure self.old
+            → LastsWhole self.old.content (⟦<MemoryFile as FlatFile>⟧.outlives self.old)
+            → OnOk result (⟦<MemoryFile as FlatFile>⟧.is_sure self.new
+            × LastsWhole self.new.content (⟦<MemoryFile as FlatFile>⟧.outlives self.new)) }
         ensures count { Tallies (refuses is_refusal result) self.old.failures self.new.failures }
         ensures answers { self.old.failures < greatest_count → IsOk result }
     {

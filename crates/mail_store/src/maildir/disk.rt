@@ -16,15 +16,22 @@ pub enum Folder {
 /// A file is begun in `tmp`, written there by any number of `add`, and then settled: only then it
 /// stands in `new`, whole, under the name that `settle` takes. No other call changes `new` or `cur`.
 pub trait MaildirDisk {
-    ghost use Rattle.std.specs.Prelude.{◌≡◌, IfErr, IfOk, IsSome, OnErr, OnOk, Some, None, map, string_bytes};
+    ghost use Rattle.std.specs.Prelude.{◌≡◌, ℕ, List, IfErr, IfOk, IsSome, OnErr, OnOk, Some, None, map, string_bytes};
     ghost use Rattle.mail_terms.specs.FailureCount.{Tallies, refuses};
     ghost use Rattle.mail_terms.specs.Distinct.{AreDistinct};
     ghost use Rattle.mail_store.specs.Fault.{is_refusal, IsDeviceFault};
-    ghost use Rattle.mail_store.specs.Maildir.{Maildir, IsInNew, Lists, Begins, Adds, Settles, dropped, name_begun};
+    ghost use Rattle.mail_store.specs.Maildir.{Maildir, File, IsInNew, Lists, Begins, Adds, Settles, dropped, name_begun};
+    ghost use Rattle.mail_store.specs.Power.{KeepsMail, SettledOutlives, ToldStay};
 
     // What is known of the Maildir. Whether a file is begun, its name and the count of refusals are
     // known of every device, whatever else is.
     ghost maildir: { Self → Maildir };
+
+    // A loss of power leaves a file of this name in `new` or in `cur`.
+    ghost stays: { Self → List ℕ → Type 0 };
+
+    // A loss of power leaves this file in `new`, whole.
+    ghost outlives: { Self → File → Type 0 };
 
     // The premise: so far the device did what this trait says, and its count is below its greatest
     // value. Where it holds after a call it held before it.
@@ -37,6 +44,8 @@ pub trait MaildirDisk {
             × Lists (maildir self.old) folder result (maildir self.new) }
         ensures once { sound self.new → IfOk result (λ names. AreDistinct (map string_bytes names.items)) }
         ensures fault { IfErr result IsDeviceFault }
+        ensures lasts { sound self.new → KeepsMail (stays self.old) (outlives self.old) (stays self.new) (outlives self.new)
+            × ToldStay result (stays self.new) }
         ensures count { Tallies (refuses is_refusal result) (maildir self.old).failures (maildir self.new).failures };
 
     /// Begins an empty file of this name in `tmp`; an older file of that name there is replaced.
@@ -49,6 +58,7 @@ pub trait MaildirDisk {
         ensures begun { OnOk result (name_begun (maildir self.new) ≡ Some name.now) }
         ensures not_begun { OnErr result ((maildir self.new).begun ≡ (maildir self.old).begun) }
         ensures fault { IfErr result IsDeviceFault }
+        ensures lasts { sound self.new → KeepsMail (stays self.old) (outlives self.old) (stays self.new) (outlives self.new) }
         ensures count { Tallies (refuses is_refusal result) (maildir self.old).failures (maildir self.new).failures };
 
     /// Puts bytes behind those of the file begun. The only fault is Refused: the file is then still
@@ -59,6 +69,7 @@ pub trait MaildirDisk {
             × Adds (maildir self.old) bytes.now result (maildir self.new) }
         ensures begun { name_begun (maildir self.new) ≡ name_begun (maildir self.old) }
         ensures fault { IfErr result (λ e. e ≡ StoreFault.Refused) }
+        ensures lasts { sound self.new → KeepsMail (stays self.old) (outlives self.old) (stays self.new) (outlives self.new) }
         ensures count { Tallies (refuses is_refusal result) (maildir self.old).failures (maildir self.new).failures };
 
     /// Puts the file begun into `new` under this name. The only fault is Refused: the file is then
@@ -71,6 +82,8 @@ pub trait MaildirDisk {
             × Settles (maildir self.old) name.now result (maildir self.new) }
         ensures none_begun { (maildir self.new).begun ≡ None }
         ensures fault { IfErr result (λ e. e ≡ StoreFault.Refused) }
+        ensures lasts { sound self.new → KeepsMail (stays self.old) (outlives self.old) (stays self.new) (outlives self.new)
+            × SettledOutlives (maildir self.old) name.now result (outlives self.new) }
         ensures count { Tallies (refuses is_refusal result) (maildir self.old).failures (maildir self.new).failures };
 
     /// Gives up the file begun, if there is one.
@@ -78,6 +91,7 @@ pub trait MaildirDisk {
         ensures drops { sound self.new → sound self.old
             × (maildir self.new ≡ dropped (maildir self.old)) }
         ensures none_begun { (maildir self.new).begun ≡ None }
+        ensures lasts { sound self.new → KeepsMail (stays self.old) (outlives self.old) (stays self.new) (outlives self.new) }
         ensures count { (maildir self.new).failures ≡ (maildir self.old).failures };
 
     /// How many calls were refused.

@@ -9,6 +9,7 @@ ghost use Rattle.mail_store.specs.FileName.{stem, is_held};
 ghost use Rattle.mail_terms.specs.Listing.{Item, has_item, is_flagged};
 ghost use Rattle.mail_store.specs.Maildir.{Maildir};
 ghost use Rattle.mail_store.specs.Held.{Finds, flags_of, has_text};
+ghost use Rattle.mail_store.specs.Power.{AllStay, KeepsMail};
 
 use crate::account::AccountId;
 use crate::fault::StoreFault;
@@ -73,7 +74,8 @@ pub fn flags_tell_what_is_held()
 
 /// Whether the id of each item of the listing is held: its stem is that of a name in `new` or `cur`,
 /// whatever follows the stem. The flags are in the listing's order. Missing where `new` or `cur` isn't there,
-/// Refused where the device refused, NoMemory where memory ran out. The Maildir stays as it was.
+/// Refused where the device refused, NoMemory where memory ran out. The Maildir stays as it was, and a
+/// loss of power takes back none of the names.
 ///
 /// `new` is asked before `cur`, so that a file which a reader moves from the one to the other in
 /// between is seen. With m files and n items the time grows as (m + n) log m.
@@ -85,6 +87,8 @@ pub fn held<D: MaildirDisk>(
 ) -> Result<Vec<bool>, StoreFault>
     ensures finds { D.sound disk.new → D.sound disk.old
         × Finds account.now (D.maildir disk.old) listing.now result (D.maildir disk.new) }
+    ensures lasts { D.sound disk.new → KeepsMail (D.stays disk.old) (D.outlives disk.old) (D.stays disk.new) (D.outlives disk.new)
+        × OnOk result (AllStay (D.maildir disk.new) (D.stays disk.new)) }
     ensures count { Tallies (refuses is_refusal result) (D.maildir disk.old).failures (D.maildir disk.new).failures }
     ensures length { IfOk result (λ flags. vec_len flags ≡ length listing.now) }
     ensures fault { result ≢ Err StoreFault.NotMbox }

@@ -145,6 +145,11 @@ impl MaildirDisk for MemoryMaildir {
 
     ghost maildir = { λ d. d };
 
+    // What is in memory is out of a loss of power's reach as long as the program runs.
+    ghost stays = { λ d name. Unit {0} };
+
+    ghost outlives = { λ d f. Unit {0} };
+
     ghost sound = { λ d. d.failures < greatest_count };
 
     fn names(&mut self, folder: Folder) -> Result<Vec<String>, StoreFault> {

@@ -1,10 +1,13 @@
 //! The names of an account's files in a Maildir.
 
-ghost use Rattle.std.specs.Prelude.{◌≡◌, false, ℕ, ◌≢◌, ◌≤◌, List, ◌∷◌, ◌++◌, length, ◌||◌, bytes_eq, IfOk, IfSome, IfNone, MatchOption, string_bytes};
+ghost use Rattle.std.specs.Prelude.{◌≡◌, false, ℕ, ◌≢◌, ◌≤◌, List, ◌∷◌, ◌++◌, length, ◌||◌, bytes_eq, IfOk};
+ghost use Rattle.std.specs.Prelude.{IfSome, IfNone, MatchOption, string_bytes};
 ghost use Rattle.hex.specs.Hex.{encode_lower};
 ghost use Rattle.mail_terms.specs.UniqueId.{IsLegalId};
 ghost use Rattle.mail_terms.specs.MaildirName.{base};
-ghost use Rattle.mail_store.specs.FileName.{HasRoomForSize, IsAccountText, NamesAreBases, NamesHaveStems, StemsAreStems, StemsDiffer, is_held, longest_name, longest_stem, mail_file, name_of, sized, stem, stem_of};
+ghost use Rattle.mail_store.specs.FileName.{HasRoomForSize, IsAccountText, NamesAreBases, NamesHaveStems};
+ghost use Rattle.mail_store.specs.FileName.{StemsAreStems, StemsDiffer, is_held, longest_name, longest_stem};
+ghost use Rattle.mail_store.specs.FileName.{mail_file, name_of, sized, stem, stem_of};
 ghost use Rattle.mail_store.specs.Maildir.{Maildir, IsInNew, with_file};
 
 use crate::account::AccountId;

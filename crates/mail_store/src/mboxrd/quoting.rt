@@ -4,7 +4,8 @@
 ghost use Rattle.std.specs.Prelude.{◌≡◌, ◌⊎◌, ◌↔◌, ◌<◌, ◌≤◌, ◌*◌, ◌++◌, ◌∷◌, [], length, take, drop, IfOk, IsTrue, OnOk, false};
 ghost use Rattle.std.specs.List.{prefix_len};
 ghost use Rattle.mail_terms.specs.Text.{IsWhole, HasNoLf};
-ghost use Rattle.mail_store.specs.Mboxrd.{IsLine, begins_entry, is_greater, is_marked, quoted_text, unquoted, unquoted_text, UnquotesQuoted};
+ghost use Rattle.mail_store.specs.Mboxrd.{IsLine, begins_entry, is_greater, is_marked, quoted_text, unquoted};
+ghost use Rattle.mail_store.specs.Mboxrd.{unquoted_text, UnquotesQuoted};
 
 use memchr::memchr;
 use std::alloc::{AllocError, Global};

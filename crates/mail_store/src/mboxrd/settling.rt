@@ -1,8 +1,9 @@
 //! What is left of an entry that was about to be appended when a session was cut.
 
-ghost use Rattle.std.specs.Prelude.{◌≡◌, ◌↔◌, ◌==◌, ◌&&◌, ◌||◌, ◌+◌, ◌≤◌, ◌<◌, ◌^◌, ◌∷◌, [], nat_le, bytes_eq, not, IfErr, IsTrue};
+ghost use Rattle.std.specs.Prelude.{◌≡◌, ◌↔◌, ◌==◌, ◌&&◌, ◌||◌, ◌+◌, ◌≤◌, ◌<◌, ◌^◌, ◌∷◌, [], nat_le, bytes_eq, not, IfErr, IsTrue, OnOk};
 ghost use Rattle.mail_terms.specs.FailureCount.{Tallies, refuses};
 ghost use Rattle.mail_store.specs.Fault.{is_refusal, IsDeviceFault};
+ghost use Rattle.mail_store.specs.Power.{LastsWhole};
 ghost use Rattle.mail_store.specs.Settling.{agree, is_hole, is_one_entry, FrontsAreSettled, LooksBehind, SettlesFile};
 
 use crate::fault::StoreFault;
@@ -95,6 +96,8 @@ fn look_behind<F: FlatFile>(file: &mut F, start: u64, behind: u64) -> Result<Loo
     ensures looks { F.sound file.new → F.sound file.old
         × LooksBehind (F.stored file.old) start behind result (F.stored file.new) }
     ensures fault { IfErr result IsDeviceFault }
+    ensures lasts { F.sound file.new → F.is_sure file.old → LastsWhole (F.stored file.old).content (F.outlives file.old)
+        → OnOk result (F.is_sure file.new × LastsWhole (F.stored file.new).content (F.outlives file.new)) }
     ensures count { Tallies (refuses is_refusal result) (F.stored file.old).failures (F.stored file.new).failures }
 {
     let mut buf = [0u8; 4_101];
@@ -139,6 +142,8 @@ pub fn settle_file<F: FlatFile>(file: &mut F, start: u64, len: u64) -> Result<bo
     ensures settles { F.sound file.new → F.sound file.old
         × SettlesFile (F.stored file.old) start len result (F.stored file.new) }
     ensures fault { IfErr result IsDeviceFault }
+    ensures lasts { F.sound file.new → F.is_sure file.old
+        → OnOk result (F.is_sure file.new × LastsWhole (F.stored file.new).content (F.outlives file.new)) }
     ensures count { Tallies (refuses is_refusal result) (F.stored file.old).failures (F.stored file.new).failures }
 {
     let edges = file.edges()?;

@@ -1,5 +1,6 @@
-use Rattle.std.proofs.Common.{Err}
+use Rattle.std.proofs.Common.{Ok, Err}
 use Rattle.folder_store.proofs.Files.{appends}
+use Rattle.folder_store.proofs.Lasting.{append_lasts, appends_keep}
 use Rattle.folder_store.proofs.PowerLoss.{appends_for_good}
 use Rattle.folder_store.proofs.file.HostFileFlatFile.append.Goals as goal
 
@@ -17,3 +18,13 @@ pub returns-in-Err-clause-power : goal.returns-in-Err-clause-power
 returns-in-Err-clause-power g c = λ s.
     let d = g.F.FileFolder.directory in
     appends_for_good (d c.args.self.now.folder) (d c.append_in.new.folder) c.args.self.now.name.now c.args.bytes.now (Err c.refuse.result) (c.in-Err.ensures s).1
+
+pub returns-in-Ok-clause-lasts : goal.returns-in-Ok-clause-lasts
+returns-in-Ok-clause-lasts g c = λ s.
+    let d = g.F.FileFolder.directory in
+    append_lasts c.args.self.now.is_flushed (d c.args.self.now.folder) (d c.append_in.new.folder) c.args.self.now.name.now c.args.bytes.now (Ok tt) (c.in-Ok.ensures s.0).1
+
+pub returns-in-Err-clause-keeps : goal.returns-in-Err-clause-keeps
+returns-in-Err-clause-keeps g c = λ s.
+    let d = g.F.FileFolder.directory in
+    appends_keep (d c.args.self.now.folder) (d c.append_in.new.folder) c.args.self.now.name.now c.args.bytes.now (Err c.in-Err.field-0) (c.in-Err.ensures s.0).1

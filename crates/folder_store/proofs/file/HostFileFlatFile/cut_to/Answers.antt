@@ -1,5 +1,6 @@
-use Rattle.std.proofs.Common.{Err}
+use Rattle.std.proofs.Common.{Ok, Err}
 use Rattle.folder_store.proofs.Files.{cuts}
+use Rattle.folder_store.proofs.Lasting.{cut_lasts, cuts_keep}
 use Rattle.folder_store.proofs.PowerLoss.{cuts_for_good}
 use Rattle.folder_store.proofs.file.HostFileFlatFile.cut_to.Goals as goal
 
@@ -17,3 +18,18 @@ pub returns-in-Err-clause-power : goal.returns-in-Err-clause-power
 returns-in-Err-clause-power g c = λ s.
     let d = g.F.FileFolder.directory in
     cuts_for_good (d c.args.self.now.folder) (d c.cut_flushed.new.folder) c.args.self.now.name.now c.args.len (Err c.refuse.result) (c.in-Err.ensures s).1
+
+pub returns-in-Ok-clause-lasts : goal.returns-in-Ok-clause-lasts
+returns-in-Ok-clause-lasts g c = λ s.
+    let d = g.F.FileFolder.directory in
+    cut_lasts c.args.self.now.is_flushed (d c.args.self.now.folder) (d c.cut_flushed.new.folder) c.args.self.now.name.now c.args.len (Ok tt) (c.in-Ok.ensures s.0).1
+
+pub returns-in-Ok-clause-keeps : goal.returns-in-Ok-clause-keeps
+returns-in-Ok-clause-keeps g c = λ s.
+    let d = g.F.FileFolder.directory in
+    cuts_keep (d c.args.self.now.folder) (d c.cut_flushed.new.folder) c.args.self.now.name.now c.args.len (Ok tt) (c.in-Ok.ensures s.0).1
+
+pub returns-in-Err-clause-keeps : goal.returns-in-Err-clause-keeps
+returns-in-Err-clause-keeps g c = λ s.
+    let d = g.F.FileFolder.directory in
+    cuts_keep (d c.args.self.now.folder) (d c.cut_flushed.new.folder) c.args.self.now.name.now c.args.len (Err c.in-Err.field-0) (c.in-Err.ensures s.0).1

@@ -1,13 +1,22 @@
-use Rattle.std.proofs.Common.{Err}
+use Rattle.std.proofs.Common.{true, Ok, Err}
 use Rattle.folder_store.proofs.Files.{replaces}
+use Rattle.folder_store.proofs.Lasting.{told_lasts}
+use Rattle.folder_store.proofs.PowerLoss.{replaces_for_good}
 use Rattle.folder_store.proofs.file.HostFileFlatFile.replace.Goals as goal
 
 pub returns-in-Err-clause-replaces : goal.returns-in-Err-clause-replaces
 returns-in-Err-clause-replaces g c = λ s.
-    let told = c.in-Err.ensures s.0 in
+    let told = c.in-Err.ensures.replaces s.0 in
     let now = c.args.self.now in
     let d = g.F.FileFolder.directory in (
       (told.0, c.in_ok-admit.ensures.admitted),
       replaces (d now.folder) (d c.replace_flushed.new.folder) now.name.now c.args.bytes.now now.failures c.refuse.new.failures (Err c.in-Err.field-0) told.1
           c.refuse.ensures.counted,
     )
+
+pub returns-in-Ok-clause-lasts : goal.returns-in-Ok-clause-lasts
+returns-in-Ok-clause-lasts g c = λ s.
+    let d = g.F.FileFolder.directory in
+    let now = c.args.self.now in
+    let told = replaces_for_good (d now.folder) (d c.replace_flushed.new.folder) now.name.now c.args.bytes.now (Ok tt) (c.in-Ok.ensures.replaces s.0).1 in
+    told_lasts true (d c.replace_flushed.new.folder) now.name.now told.outlives

@@ -5,7 +5,7 @@ use Rattle.std.specs.Ordering.{is_eq, nat_cmp}
 use Rattle.std.specs.Cmp.Lexicographic.{slice_cmp}
 use Rattle.mail_store.specs.Maildir.{Maildir, names_of}
 use Rattle.mail_store.specs.FileName.{stem}
-use Rattle.mail_store.proofs.HeldLemmas.{flags_found}
+use Rattle.mail_store.proofs.HeldLemmas.{all_stay, flags_found}
 use Rattle.mail_store.specs.Held.{has_text}
 use Rattle.mail_store.proofs.maildir.held.held.Goals as goal
 
@@ -33,4 +33,15 @@ returns-clause-finds g c = λ k.
         new.1.0,
         subst (λ (m : Maildir). m.there.cur ≡ true) new.1.2 cur.1.0,
       ),
+    )
+
+pub returns-clause-lasts : goal.returns-clause-lasts
+returns-clause-lasts g c = λ k.
+    let lists = c.in_ok-cur.ensures.lists k in
+    let cur = c.in_ok-cur.ensures.lasts k in
+    let new = c.in_ok-new.ensures.lasts lists.0 in
+    let stays = g.D.MaildirDisk.stays c.names-2.new.self in (
+      (λ name s. cur.0.0 name (new.0.0 name s), λ f s. cur.0.1 f (new.0.1 f s)),
+      all_stay stays (g.D.MaildirDisk.maildir c.args.disk.now) (g.D.MaildirDisk.maildir c.names.new.self) (g.D.MaildirDisk.maildir c.names-2.new.self)
+          c.in_ok-new.new c.in_ok-cur.cur (c.in_ok-new.ensures.lists lists.0).1 lists.1 (λ name inside. cur.0.0 name (new.1 name inside)) cur.1,
     )

@@ -8,7 +8,7 @@ use Rattle.mail_store.proofs.SettlingLemmas.{seen_first, seen_more, seen_all, wi
 use Rattle.mail_store.proofs.mboxrd.settling.look_behind.Goals as goal
 
 pub loop-done-init : goal.loop-done-init
-loop-done-init g c = (omega arith, refl, λ sound. (sound, (refl, λ was is size. seen_first c.args.start (drop c.args.start was) (record { begins = true; is_unbroken = true; is_one_entry = true }) refl refl refl)))
+loop-done-init g c = (omega arith, refl, λ sound. (sound, (refl, λ was is size. seen_first c.args.start (drop c.args.start was) (record { begins = true; is_unbroken = true; is_one_entry = true }) refl refl refl)), λ sound sure whole. (sure, whole))
 
 pub returns-in_err-count-clause-looks : goal.returns-in_err-count-clause-looks
 returns-in_err-count-clause-looks g c = λ sound.
@@ -94,7 +94,16 @@ loop-done-preserved g c =
                   c.further-look.ensures.begins c.further-look.ensures.unbroken c.further-look.ensures.one,
             ),
           ),
+      λ sound sure whole.
+          c.in_ok-count.ensures.lasts sound (c.loop-done.invariant.3 (c.in_ok-count.ensures.reads sound).0 sure whole).0,
     )
+
+pub returns-then-count-wanted-clause-lasts : goal.returns-then-count-wanted-clause-lasts
+returns-then-count-wanted-clause-lasts g c = λ sound sure whole.
+    c.in_ok-count.ensures.lasts sound (c.loop-done.invariant.3 (c.in_ok-count.ensures.reads sound).0 sure whole).0
+
+pub returns-clause-lasts : goal.returns-clause-lasts
+returns-clause-lasts g c = c.loop-done.invariant.3
 
 pub returns-clause-looks : goal.returns-clause-looks
 returns-clause-looks g c = λ sound.

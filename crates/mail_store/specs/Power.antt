@@ -1,0 +1,52 @@
+-- What outlives a loss of power, as the devices tell it.
+use Rattle.std.specs.Prelude.{◌≡◌, ◌≤◌, ℕ, List, length, Option, Some, Result, Ok, Err, Vec, String, string_bytes, map, Contains}
+use Rattle.mail_store.specs.declared.fault.StoreFault.{StoreFault}
+use Rattle.mail_store.specs.declared.fault.StoreFault.TheVariants.{Missing, Refused, NotMbox, NoMemory}
+use Rattle.mail_store.specs.Maildir.{Maildir, File, file, names_of, files_in}
+use Rattle.mail_store.specs.declared.maildir.disk.Folder.{Folder}
+
+-- ---- a Maildir: names that stay in `new` or `cur`, and whole files that outlive a loss of power
+
+-- what a loss of power left, it still leaves
+abbrev pub KeepsMail : (List ℕ → Type 0) → (File → Type 0) → (List ℕ → Type 0) → (File → Type 0) → Type 0
+KeepsMail stays outlives stays' outlives' = ((name : List ℕ) → stays name → stays' name) × ((f : File) → outlives f → outlives' f)
+
+-- `names`: each name that is told stays
+abbrev pub ToldStay : {A B : Type 0} → Result (Vec (String A) B) StoreFault → (List ℕ → Type 0) → Type 0
+ToldStay (Ok names) stays = (name : List ℕ) → Contains (map string_bytes names.items) name → stays name
+ToldStay (Err fault) stays = Unit {0}
+
+-- `settle`: the file outlives a loss of power
+abbrev pub SettledOutlives : {T : Type 0} → Maildir → List ℕ → Result T StoreFault → (File → Type 0) → Type 0
+SettledOutlives old name (Ok done) outlives = (f : File) → old.begun ≡ Some f → outlives (file name f.content)
+SettledOutlives old name (Err fault) outlives = Unit {0}
+
+-- each name that calls see stays
+abbrev pub AllStay : Maildir → (List ℕ → Type 0) → Type 0
+AllStay maildir stays = (folder : Folder) (name : List ℕ) → Contains (names_of (files_in maildir folder)) name → stays name
+
+-- ---- a file: bytes with which begins whatever a loss of power leaves of it
+
+-- what a loss of power left, it still leaves
+abbrev pub KeepsBytes : (List ℕ → Type 0) → (List ℕ → Type 0) → Type 0
+KeepsBytes outlives outlives' = (bytes : List ℕ) → outlives bytes → outlives' bytes
+
+-- the same of the first bytes, so many at most
+abbrev pub KeepsFront : ℕ → (List ℕ → Type 0) → (List ℕ → Type 0) → Type 0
+KeepsFront len outlives outlives' = (bytes : List ℕ) → length bytes ≤ len → outlives bytes → outlives' bytes
+
+-- all bytes of the file outlive a loss of power
+abbrev pub LastsWhole : Option (List ℕ) → (List ℕ → Type 0) → Type 0
+LastsWhole content outlives = (bytes : List ℕ) → content ≡ Some bytes → outlives bytes
+
+-- all bytes that the file had still outlive one, if they did
+abbrev pub KeepsWhole : Option (List ℕ) → (List ℕ → Type 0) → (List ℕ → Type 0) → Type 0
+KeepsWhole content outlives outlives' = (bytes : List ℕ) → content ≡ Some bytes → outlives bytes → outlives' bytes
+
+-- the call was refused, or this holds
+abbrev pub UnlessRefused : {T : Type 0} → Result T StoreFault → Type 0 → Type 0
+UnlessRefused (Ok done) P = P
+UnlessRefused (Err Missing) P = P
+UnlessRefused (Err Refused) P = Unit {0}
+UnlessRefused (Err NotMbox) P = P
+UnlessRefused (Err NoMemory) P = P
