@@ -40,7 +40,7 @@ unprepared target items now place store file lines fault cut store' file' plain 
   lines_are = refl;
 }
 
-said : (target : Target) (turn : Turn) (reply : WholeReply) (a b : Place) (store : Stores) (file : Stored) (rows : List Row) (lines : List ReportLine) → Talked (turn ∷ []) (reply ∷ []) a b
+unfoldable pub said : (target : Target) (turn : Turn) (reply : WholeReply) (a b : Place) (store : Stores) (file : Stored) (rows : List Row) (lines : List ReportLine) → Talked (turn ∷ []) (reply ∷ []) a b
     → AllWent target (says turn ∷ []) (scene a store file rows lines) (scene b store file rows lines)
 said target turn reply a b store file rows lines talked = record {
   dones = record { task = says turn; replies = reply ∷ [] } ∷ [];
@@ -54,13 +54,13 @@ module _ (settings : Settings) (target : Target) (items : List Item) (now : ℕ)
   mid : Scene
   mid = scene place store' file' after lines
 
-  prepared : Prepared target items now place store file lines (scene place store' file' after lines)
+  pub prepared : Prepared target items now place store file lines (scene place store' file' after lines)
   prepared = record { was = is.was; stood = is.stood; rows = is.rows; saved = is.saved; file_count = is.file_count; place_is = refl; settles = is.settles; lines_are = refl }
 
-  skips : skipped ≡ skipped_in (planned settings after items now)
+  pub skips : skipped ≡ skipped_in (planned settings after items now)
   skips = skipped_is ∙ ap skipped_in (steps_are ∙ is.steps)
 
-  same_tasks : tasks_planned steps items held ++ says quit ∷ [] ≡ tasks_ahead settings target items now store after
+  pub same_tasks : tasks_planned steps items held ++ says quit ∷ [] ≡ tasks_ahead settings target items now store after
   same_tasks = ap (λ (ss : List Step). tasks_planned ss items held ++ says quit ∷ []) (steps_are ∙ is.steps)
       ∙ ap (λ (hs : List Bool). tasks_planned (planned settings after items now) items hs ++ says quit ∷ []) (held_are ∙ is.held)
 

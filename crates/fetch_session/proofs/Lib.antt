@@ -1,6 +1,8 @@
 mod CarryLemmas
 mod FreshLemmas
+mod GoodLemmas
 mod IntakeLemmas
+mod LastLemmas
 mod MboxLemmas
 mod OpeningLemmas
 mod PlanLemmas

@@ -72,7 +72,7 @@ fresh_firsts account maildir front (s ∷ ss) (i ∷ is) firsts legal =
     (λ id none. (has_item-last front i id none).1) (not_in (front ++ i ∷ []) ss is (flags_of account maildir is) firsts.1))
     (fresh_firsts account maildir (front ++ i ∷ []) ss is firsts.1 legal.1))
 
--- the flags are those of the Maildir, if there is one: none is held in a mailbox file
+-- the flags are those of the Maildir, if there is one: none is held in an mboxrd file
 pub flags_same : {D F : Type 0} (disk : DiskGhosts D) (file : FileGhosts F) (store : Store D F) (account : List ℕ) (items : List Item)
     → flags_in (target_of store account) (stores_of disk file store) items ≡ flags_of account (stores_of disk file store).maildir items
 flags_same disk file (InMaildir device) account items = refl

@@ -101,11 +101,11 @@ went_on target xs ys a b c first then = record {
       ∙ ap (λ (l : List ReportLine). a.lines ++ l) (sym (flat_map-append (λ (d : Done). lines_in d.task d.replies) xs ys));
 }
 
-pub fell_first : (target : Target) (task : Task) (later : List Task) (a new : Scene) (f : Cut) → Stops target task a f new → Fell target (task ∷ later) a f new
+unfoldable pub fell_first : (target : Target) (task : Task) (later : List Task) (a new : Scene) (f : Cut) → Stops target task a f new → Fell target (task ∷ later) a f new
 fell_first target task later a new f stops =
     record { dones = []; next = task; later = later; mid = a; split = refl; went = went_none target a; stops = stops }
 
-pub fell_on : (target : Target) (xs ys : List Task) (a b new : Scene) (f : Cut) → AllWent target xs a b → Fell target ys b f new → Fell target (xs ++ ys) a f new
+unfoldable pub fell_on : (target : Target) (xs ys : List Task) (a b new : Scene) (f : Cut) → AllWent target xs a b → Fell target ys b f new → Fell target (xs ++ ys) a f new
 fell_on target xs ys a b new f first then = record {
   dones = first.dones ++ then.dones;
   next = then.next;
@@ -118,7 +118,7 @@ fell_on target xs ys a b new f first then = record {
   stops = then.stops;
 }
 
-pub fell_before : (target : Target) (xs ys : List Task) (a new : Scene) (f : Cut) → Fell target xs a f new → Fell target (xs ++ ys) a f new
+unfoldable pub fell_before : (target : Target) (xs ys : List Task) (a new : Scene) (f : Cut) → Fell target xs a f new → Fell target (xs ++ ys) a f new
 fell_before target xs ys a new f fell = record {
   dones = fell.dones;
   next = fell.next;
@@ -129,10 +129,10 @@ fell_before target xs ys a new f fell = record {
   stops = fell.stops;
 }
 
-pub all_none : (target : Target) (s : Scene) → AllWent target [] s s
+unfoldable pub all_none : (target : Target) (s : Scene) → AllWent target [] s s
 all_none target s = record { dones = []; all = refl; went = went_none target s }
 
-pub all_on : (target : Target) (xs ys : List Task) (a b c : Scene) → AllWent target xs a b → AllWent target ys b c → AllWent target (xs ++ ys) a c
+unfoldable pub all_on : (target : Target) (xs ys : List Task) (a b c : Scene) → AllWent target xs a b → AllWent target ys b c → AllWent target (xs ++ ys) a c
 all_on target xs ys a b c first then = record {
   dones = first.dones ++ then.dones;
   all = ap (λ (l : List Task). l ++ ys) first.all ∙ ap (λ (l : List Task). tasks_of first.dones ++ l) then.all
@@ -140,7 +140,7 @@ all_on target xs ys a b c first then = record {
   went = went_on target first.dones then.dones a b c first.went then.went;
 }
 
-pub does_more : (target : Target) (xs ys : List Task) (a b c : Scene) (r : Result (Unit {0}) Cut) → AllWent target xs a b → Does target ys b r c → Does target (xs ++ ys) a r c
+unfoldable pub does_more : (target : Target) (xs ys : List Task) (a b c : Scene) (r : Result (Unit {0}) Cut) → AllWent target xs a b → Does target ys b r c → Does target (xs ++ ys) a r c
 does_more target xs ys a b c (Ok done) first then = all_on target xs ys a b c first then
 does_more target xs ys a b c (Err f) first then = fell_on target xs ys a b c f first then
 

@@ -66,7 +66,7 @@ ended_session settings target id now link reader before mid after notes report s
   reports = reports;
 }
 
--- ---- a session of an account with a Maildir, and of one with a mailbox file
+-- ---- a session of an account with a Maildir, and of one with an mboxrd file
 
 abbrev is_files : Kind → Bool
 is_files Files = true

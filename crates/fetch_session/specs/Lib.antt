@@ -3,6 +3,7 @@ pub mod Task
 pub mod Store
 pub mod Record
 pub mod Scene
+pub mod Lasting
 pub mod Laws
 pub mod Plan
 pub mod Tail

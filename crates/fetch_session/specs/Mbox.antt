@@ -1,4 +1,4 @@
--- What is done to a mailbox file and to the record that tells of it.
+-- What is done to an mboxrd file and to the record that tells of it.
 use Rattle.std.specs.Prelude.{◌≡◌, ◌⊎◌, ◌+◌, ℕ, Bool, false, List, ◌++◌, length, Option, None, Some, Result, Ok, Err}
 use Rattle.mail_terms.specs.Listing.{Item}
 use Rattle.fetch_rules.specs.Record.{Row, Intent, Loaded, none_open, marked}
@@ -72,12 +72,12 @@ HoldsText number start (Err cut) new = (cut.rest ≡ None)
 abbrev pub intent_of : List ℕ → List ℕ → List ℕ → Intent
 intent_of bytes uid text = intent_at uid (length bytes) (length (entry_of text))
 
--- the record tells that the entry of this text is about to be appended to the mailbox file
+-- the record tells that the entry of this text is about to be appended to the mboxrd file
 abbrev pub IsIntended : Stored → Stored → List Row → List ℕ → List ℕ → Stored → Type 0
 IsIntended mbox file rows uid text file' = (was : List ℕ) × (mbox.content ≡ Some was)
     × Saves file (none_open rows) (with_open rows (intent_of was uid text)) (Ok tt) file'
 
--- what a text that wasn't appended leaves of the mailbox file and the record's: the file isn't there; a call was refused, before the record
+-- what a text that wasn't appended leaves of the mboxrd file and the record's: the file isn't there; a call was refused, before the record
 -- told of the entry, or behind, where a front of the entry may stand there; no entry may follow; the record's file was refused; or memory
 -- was wanting, before or behind
 abbrev pub RefusesEntry : Stored → Stored → List Row → List ℕ → List ℕ → Fault → Stored → Stored → Type 0
@@ -93,7 +93,7 @@ RefusesEntry mbox file rows uid text SeenRefused mbox' file' = (mbox' ≡ mbox) 
 RefusesEntry mbox file rows uid text NoMemory mbox' file' = (mbox' ≡ mbox) × ((file' ≡ file) ⊎ IsIntended mbox file rows uid text file')
 RefusesEntry mbox file rows uid text _ mbox' file' = ⊥
 
--- the entry of a text stands behind the mailbox file's bytes, and the record tells that it was about to; or it was refused
+-- the entry of a text stands behind the mboxrd file's bytes, and the record tells that it was about to; or it was refused
 abbrev pub AppendsText : Stored → Stored → Loaded → List ℕ → List ℕ → Result (Unit {0}) Fault → Stored → Stored → Loaded → Type 0
 AppendsText mbox file seen uid text (Ok done) mbox' file' seen' = (was : List ℕ) × GoesOn mbox was
     × (mbox' ≡ holding mbox (was ++ entry_of text)) × (seen'.intent ≡ Some (intent_of was uid text))

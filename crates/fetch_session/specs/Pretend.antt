@@ -44,12 +44,12 @@ IsUntouched target old new = HoldsTheSame target old.store new.store × (new.fil
 
 -- ---- what the store holds
 
--- whether a run would first settle the mailbox file: an intent is open
+-- whether a run would first settle the mboxrd file: an intent is open
 abbrev pub is_open : Option Intent → Bool
 is_open None = false
 is_open (Some intent) = true
 
--- a mailbox file was looked at, unless a run would settle it first
+-- an mboxrd file was looked at, unless a run would settle it first
 abbrev pub LooksAtMbox : Option Intent → Stored → List Item → Result Looked Fault → Stored → Type 0
 LooksAtMbox intent old items (Ok looked) new = (looked.held.items ≡ none_held items) × (looked.unsettled ≡ is_open intent)
     × (intent ≡ None → (was : List ℕ) × GoesOn old was) × (new ≡ old)
@@ -72,7 +72,7 @@ abbrev pub is_unsettled : Target → Option Intent → Bool
 is_unsettled (AsFiles account) intent = false
 is_unsettled AsEntries intent = is_open intent
 
--- an entry may follow the mailbox file, unless a run would settle it first
+-- an entry may follow the mboxrd file, unless a run would settle it first
 abbrev pub MayBeFollowed : Target → Option Intent → Stores → Type 0
 MayBeFollowed (AsFiles account) intent store = Unit {0}
 MayBeFollowed AsEntries intent store = intent ≡ None → (was : List ℕ) × GoesOn store.mbox was
@@ -85,13 +85,15 @@ pub record Foretells (settings : Settings) (target : Target) (items : List Item)
   pub stood : Keeps old.file.content was
   pub followed : MayBeFollowed target was.intent old.store
   pub unsettled_is : unsettled ≡ is_unsettled target was.intent
-  pub told_is : told ≡ foretold settings (merged was.rows items (flags_in target old.store items) now) items (flags_in target old.store items) now
+  pub told_is : told ≡ foretold settings (merged was.rows items (flags_in target old.store items) now) items
+      (flags_in target old.store items) now
 
 -- this is told, or a session with this listing wouldn't be ready either, for this reason; and nothing changed
 abbrev pub Foresees : Settings → Target → List Item → ℕ → Keeping → Result Foreseen Fault → Keeping → Type 0
 Foresees settings target items now old (Ok foreseen) new =
     Foretells settings target items now old foreseen.unsettled foreseen.prospects.items × IsUntouched target old new
-Foresees settings target items now old (Err fault) new = CausesUnready target fault old.store old.file new.store new.file × IsUntouched target old new
+Foresees settings target items now old (Err fault) new = CausesUnready target fault old.store old.file new.store new.file
+    × IsUntouched target old new
 
 -- ---- the session
 

@@ -1,5 +1,6 @@
 -- What a run would do with each message of a listing, and why it would do nothing with some.
-use Rattle.std.specs.Prelude.{ℕ, ◌+◌, ◌*◌, ◌==◌, ◌&&◌, ◌||◌, not, nat_le, nat_lt, min, Bool, List, [], ◌∷◌, Option, Some, None, if◌then◌else◌}
+use Rattle.std.specs.Prelude.{ℕ, ◌+◌, ◌*◌, ◌==◌, ◌&&◌, ◌||◌, not, nat_le, nat_lt, min, Bool, List, [], ◌∷◌, Option}
+use Rattle.std.specs.Prelude.{Some, None, if◌then◌else◌}
 use Rattle.mail_terms.specs.Listing.{Item}
 use Rattle.rc_file.specs.declared.settings.Settings.{Settings}
 use Rattle.fetch_rules.specs.Record.{Row, is_delivered}
@@ -7,7 +8,8 @@ use Rattle.fetch_rules.specs.Plan.{seen_since}
 use Rattle.fetch_rules.specs.Wanted.{is_within}
 use Rattle.fetch_rules.specs.declared.steps.Step.{Step}
 use Rattle.fetch_session.specs.declared.prospect.Fate.{Fate}
-use Rattle.fetch_session.specs.declared.prospect.Fate.TheVariants.{Fetched, FetchedAndDeleted, Deleted, Held, DeliveredBefore, TooLarge, PastLimit, SameId}
+use Rattle.fetch_session.specs.declared.prospect.Fate.TheVariants.{Fetched, FetchedAndDeleted, Deleted, Held}
+use Rattle.fetch_session.specs.declared.prospect.Fate.TheVariants.{DeliveredBefore, TooLarge, PastLimit, SameId}
 use Rattle.fetch_session.specs.declared.prospect.Known.{Known}
 use Rattle.fetch_session.specs.declared.prospect.Prospect.{Prospect}
 
@@ -73,4 +75,5 @@ prospects settings rows now fetched [] items flags = []
 prospects settings rows now fetched (step ∷ steps) [] flags = []
 prospects settings rows now fetched (step ∷ steps) (item ∷ items) [] = []
 prospects settings rows now fetched (step ∷ steps) (item ∷ items) (held ∷ flags) =
-    prospect_of settings now fetched step (known_of rows now held item) ∷ prospects settings rows now (fetched + fetched_by step) steps items flags
+    prospect_of settings now fetched step (known_of rows now held item) ∷ prospects settings rows now
+    (fetched + fetched_by step) steps items flags

@@ -36,7 +36,7 @@ FindsIn (AsFiles account) intent old items (Ok found) new = (found.held.items �
 FindsIn (AsFiles account) intent old items (Err fault) new = FindsRefused old.maildir fault new.maildir
 FindsIn AsEntries intent old items result new = AsksMbox intent old.mbox items result new.mbox
 
--- the store was asked, and of a mailbox file what its open intent had left was cut off or counted
+-- the store was asked, and of an mboxrd file what its open intent had left was cut off or counted
 abbrev pub Settles : Target → Held → Stores → Stores → Type 0
 Settles (AsFiles account) was old new = new ≡ old
 Settles AsEntries was old new = (bytes : List ℕ) × (old.mbox.content ≡ Some bytes)
@@ -68,7 +68,7 @@ UnreadyCause (StoreRefused Refused) maildir file maildir' file' = maildir' ≡ R
 UnreadyCause NoMemory maildir file maildir' file' = maildir' ≡ maildir
 UnreadyCause _ maildir file maildir' file' = ⊥
 
--- the mailbox file is as it was, or settled by the intent of the record that was read
+-- the mboxrd file is as it was, or settled by the intent of the record that was read
 abbrev pub IsSettledBy : Stored → Stored → Stored → Type 0
 IsSettledBy file mbox mbox' = (mbox'.content ≡ mbox.content)
     ⊎ ((was : Held) × Keeps file.content was × IsSettledAtMost was.intent mbox mbox')

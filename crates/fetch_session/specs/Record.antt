@@ -35,7 +35,7 @@ ReadAs content loaded = BytesReadAs (bytes_in content) loaded
 abbrev pub held_in : Loaded → Held
 held_in loaded = record { rows = loaded.rows; intent = loaded.intent }
 
--- the intent of appending so many octets for an id, at this size of the mailbox file
+-- the intent of appending so many octets for an id, at this size of the mboxrd file
 abbrev pub intent_at : List ℕ → ℕ → ℕ → Intent
 intent_at uid start len = record { uid = uid; start = start; len = len }
 

@@ -111,7 +111,7 @@ abbrev pub Session : Settings → List ℕ → ℕ → Link → Kept → Report 
 Session settings account now link before report link' after =
     SessionIn settings (AsFiles account) now link (keeps_files before) report link' (keeps_files after)
 
--- a mailbox file and the record's file
+-- an mboxrd file and the record's file
 pub record MboxKept : Type 0 where
   pub mbox : Stored
   pub file : Stored
@@ -122,7 +122,7 @@ mbox_kept mbox file = record { mbox = mbox; file = file }
 abbrev pub keeps_entries : MboxKept → Keeping
 keeps_entries account = keeping (in_mbox account.mbox) account.file
 
--- a session of an account with a mailbox file
+-- a session of an account with an mboxrd file
 abbrev pub MboxSession : Settings → ℕ → Link → MboxKept → Report → Link → MboxKept → Type 0
 MboxSession settings now link before report link' after =
     SessionIn settings AsEntries now link (keeps_entries before) report link' (keeps_entries after)

@@ -12,17 +12,17 @@ use Rattle.mail_store.specs.Settling.{stands_whole, settled_file}
 use Rattle.fetch_session.specs.declared.account.Store.{Store}
 use Rattle.fetch_session.specs.declared.account.Store.TheVariants.{Maildir as InMaildir, Mboxrd as InMbox}
 
--- each text is a file of a Maildir, or an entry of a mailbox file
+-- each text is a file of a Maildir, or an entry of an mboxrd file
 pub data Kind : Type 0 where
   Files : Kind
   Entries : Kind
 
--- where texts go: into a Maildir, under names that begin with an account's digits; or to the end of a mailbox file
+-- where texts go: into a Maildir, under names that begin with an account's digits; or to the end of an mboxrd file
 pub data Target : Type 0 where
   AsFiles : List ℕ → Target
   AsEntries : Target
 
--- what a store holds: a Maildir or a mailbox file. Of the one that it isn't nothing is ever there
+-- what a store holds: a Maildir or an mboxrd file. Of the one that it isn't nothing is ever there
 pub record Stores : Type 0 where
   pub maildir : Maildir
   pub mbox : Stored
@@ -71,7 +71,7 @@ abbrev pub maildir_of : {D F : Type 0} → DiskGhosts D → Store D F → Maildi
 maildir_of disk (InMaildir device) = disk.maildir device
 maildir_of disk (InMbox device) = no_maildir
 
--- it is a mailbox file whose device's premise holds; and this file
+-- it is an mboxrd file whose device's premise holds; and this file
 abbrev pub IsSoundMbox : {D F : Type 0} → FileGhosts F → Store D F → Type 0
 IsSoundMbox file (InMaildir device) = ⊥
 IsSoundMbox file (InMbox device) = file.sound device
@@ -105,7 +105,7 @@ abbrev pub closed_file : Option Intent → List ℕ → List ℕ
 closed_file None bytes = bytes
 closed_file (Some intent) bytes = settled_file intent.start intent.len bytes
 
--- the bytes of a mailbox file; one that isn't there has none
+-- the bytes of an mboxrd file; one that isn't there has none
 abbrev pub mail_in : Option (List ℕ) → List ℕ
 mail_in None = []
 mail_in (Some bytes) = bytes

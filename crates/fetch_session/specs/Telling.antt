@@ -1,11 +1,13 @@
 -- How a preview is told.
-use Rattle.std.specs.Prelude.{ℕ, ◌+◌, ◌-◌, ◌*◌, ◌/◌, ◌%◌, min, nat_lt, Bool, true, false, List, [], ◌++◌, flat_map, Option, Some, None, if◌then◌else◌, codes}
+use Rattle.std.specs.Prelude.{ℕ, ◌+◌, ◌-◌, ◌*◌, ◌/◌, ◌%◌, min, nat_lt, Bool, true, false, List, [], ◌++◌, flat_map}
+use Rattle.std.specs.Prelude.{Option, Some, None, if◌then◌else◌, codes}
 use Rattle.std.specs.List.{count_by}
 use Rattle.std.specs.Fmt.{decimal}
 use Rattle.rc_file.specs.declared.settings.Settings.{Settings}
 use Rattle.fetch_session.specs.declared.preview.Preview.{Preview}
 use Rattle.fetch_session.specs.declared.prospect.Fate.{Fate}
-use Rattle.fetch_session.specs.declared.prospect.Fate.TheVariants.{Fetched, FetchedAndDeleted, Deleted, Held, DeliveredBefore, TooLarge, PastLimit, SameId}
+use Rattle.fetch_session.specs.declared.prospect.Fate.TheVariants.{Fetched, FetchedAndDeleted, Deleted, Held}
+use Rattle.fetch_session.specs.declared.prospect.Fate.TheVariants.{DeliveredBefore, TooLarge, PastLimit, SameId}
 use Rattle.fetch_session.specs.declared.prospect.Prospect.{Prospect}
 use Rattle.fetch_session.specs.declared.telling.Date.{Date}
 use Rattle.fetch_session.specs.Text.{heading, message_text}

@@ -14,6 +14,8 @@ ghost use Rattle.pop3_wire.specs.Place.{Place};
 ghost use Rattle.pop3_wire.specs.declared.unstuffer.Spot.TheVariants.{Done};
 ghost use Rattle.fetch_session.specs.Intake.{TookTillCut};
 ghost use Rattle.fetch_session.specs.Mbox.{AppendsText, HoldsText, IsStoreFault};
+ghost use Rattle.mail_store.specs.Power.{KeepsBytes, KeepsWhole};
+ghost use Rattle.fetch_session.specs.Lasting.{IsSafe};
 ghost use Rattle.fetch_session.specs.Record.{Steady, held_in};
 ghost use Rattle.fetch_session.specs.Refusal.{RefusesTillCut};
 ghost use Rattle.fetch_session.specs.Report.{HasRoom, Adds};
@@ -34,7 +36,7 @@ use std::alloc::Global;
 use std::hash::BuildHasher;
 use std::vec::Vec;
 
-/// The fault of a session whose mailbox file refused a call.
+/// The fault of a session whose mboxrd file refused a call.
 pub(crate) fn refused(fault: StoreFault) -> Fault
     ensures { IsStoreFault fault result }
 {
@@ -97,6 +99,11 @@ fn append_text<F: FlatFile, H: BuildHasher>(
     ensures appends { F.sound mbox.new → F.sound ledger.new.file → F.sound mbox.old × F.sound ledger.old.file
         × AppendsText (F.stored mbox.old) (F.stored ledger.old.file) ledger.old.seen uid.now text.now result
         (F.stored mbox.new) (F.stored ledger.new.file) ledger.new.seen }
+    ensures keeps { F.sound mbox.new → F.sound ledger.new.file
+        → KeepsWhole (F.stored mbox.old).content (F.outlives mbox.old) (F.outlives mbox.new)
+        × KeepsBytes (F.outlives ledger.old.file) (F.outlives ledger.new.file) }
+    ensures lasts { F.sound mbox.new → F.sound ledger.new.file → F.is_sure mbox.old → IsSafe F.FlatFile ledger.old.file
+        → OnOk result (IsSafe F.FlatFile mbox.new × IsSafe F.FlatFile ledger.new.file) }
 {
     let edges = match mbox.edges() {
         Ok(edges) => edges,
@@ -138,6 +145,11 @@ pub(crate) fn take_into_mbox<W: Wire, F: FlatFile, H: BuildHasher>(
         ledger.new.lines.items)) }
     ensures took { W.sound client.new.wire.now → W.sound client.old.wire.now
         × TookTillCut (most (retr number)) (place_of W.Wire client.old) result (place_of W.Wire client.new) }
+    ensures keeps { F.sound mbox.new → F.sound ledger.new.file
+        → KeepsWhole (F.stored mbox.old).content (F.outlives mbox.old) (F.outlives mbox.new)
+        × KeepsBytes (F.outlives ledger.old.file) (F.outlives ledger.new.file) }
+    ensures lasts { F.sound mbox.new → F.sound ledger.new.file → F.is_sure mbox.old → IsSafe F.FlatFile ledger.old.file
+        → OnOk result (IsSafe F.FlatFile mbox.new × IsSafe F.FlatFile ledger.new.file) }
 {
     conversations_are_paced();
     marked_keeps_rows();

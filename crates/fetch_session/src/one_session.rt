@@ -9,6 +9,7 @@ ghost use Rattle.fetch_session.specs.Work.{WhereWorkSound};
 ghost use Rattle.fetch_session.specs.Account.{digits_of};
 ghost use Rattle.fetch_session.specs.Intake.{GotAtMost, session_limit, TookWithTail, opening_limit, step_limit, tail_limit};
 ghost use Rattle.fetch_session.specs.Refusal.{RefusesTillCut, RefusesByOutcome};
+ghost use Rattle.fetch_session.specs.Lasting.{ProceedsForGood, SessionForGood, is_sure};
 ghost use Rattle.fetch_session.specs.Report.{Reports, most_lines};
 ghost use Rattle.fetch_session.specs.Session.{MboxSession, Proceeds, Session, SessionIn, keeping, kept, mbox_kept, noted};
 ghost use Rattle.fetch_session.specs.Target.{IsCalm, IsSoundMaildir, IsSoundMbox};
@@ -71,6 +72,13 @@ fn proceed<W: Wire, D: MaildirDisk, F: FlatFile, H: BuildHasher>(
     ensures took { W.sound client.new.wire.now → W.sound client.old.wire.now
         × TookWithTail (opening_limit + (counts.new.total * step_limit + tail_limit)) (place_of W.Wire client.old) result
         (place_of W.Wire client.new) }
+    ensures good { W.sound client.new.wire.now → is_sound D.MaildirDisk F.FlatFile work.new.store → F.sound work.new.ledger.file
+        → is_sure F.FlatFile work.old.store → F.is_sure work.old.ledger.file
+        → ProceedsForGood D.MaildirDisk F.FlatFile terms.entry.settings.now
+        (target_of work.old.store terms.entry.account.now) terms.entry.now
+        (place_of W.Wire client.old) (keeping (stores_of D.MaildirDisk F.FlatFile work.old.store) (F.stored work.old.ledger.file)) result
+        (place_of W.Wire client.new) (keeping (stores_of D.MaildirDisk F.FlatFile work.new.store) (F.stored work.new.ledger.file))
+        (noted counts.new.total counts.new.skipped work.new.ledger.lines.items) work.new.store work.new.ledger.file }
 {
     conversations_are_paced();
     let listing = match enter(work.ledger.alloc, terms.settings, client) {
@@ -112,6 +120,12 @@ fn session_over<W: Wire, D: MaildirDisk, F: FlatFile, H: BuildHasher>(
         (mbox_kept (mbox_of F.FlatFile account.new.store) (F.stored account.new.file))) }
     ensures bounded { W.sound client.new.wire.now
         → GotAtMost (session_limit result.total) (link_of W.Wire client.old) (link_of W.Wire client.new) }
+    ensures power { W.sound client.new.wire.now → is_sound D.MaildirDisk F.FlatFile account.new.store → F.sound account.new.file
+        → is_sure F.FlatFile account.old.store → F.is_sure account.old.file
+        → SessionForGood D.MaildirDisk F.FlatFile account.old.settings
+        (target_of account.old.store (digits_of account.old.settings)) now (link_of W.Wire client.old)
+        (keeping (stores_of D.MaildirDisk F.FlatFile account.old.store) (F.stored account.old.file)) result (link_of W.Wire client.new)
+        (keeping (stores_of D.MaildirDisk F.FlatFile account.new.store) (F.stored account.new.file)) account.new.store account.new.file }
 {
     conversations_are_paced();
     let mut counts = Counts {
@@ -173,6 +187,12 @@ pub fn session<W: Wire, D: MaildirDisk, F: FlatFile, H: BuildHasher>(
         (mbox_kept (mbox_of F.FlatFile account.new.store) (F.stored account.new.file))) }
     ensures bounded { W.sound wire.new
         → GotAtMost (session_limit result.total) (W.seen wire.old) (W.seen wire.new) }
+    ensures power { W.sound wire.new → is_sound D.MaildirDisk F.FlatFile account.new.store → F.sound account.new.file
+        → is_sure F.FlatFile account.old.store → F.is_sure account.old.file
+        → SessionForGood D.MaildirDisk F.FlatFile account.old.settings
+        (target_of account.old.store (digits_of account.old.settings)) now (W.seen wire.old)
+        (keeping (stores_of D.MaildirDisk F.FlatFile account.old.store) (F.stored account.old.file)) result (W.seen wire.new)
+        (keeping (stores_of D.MaildirDisk F.FlatFile account.new.store) (F.stored account.new.file)) account.new.store account.new.file }
 {
     let mut client = Client::new(wire);
     session_over(account, &mut client, now)

@@ -8,6 +8,7 @@ ghost use Rattle.pop3_client.specs.Client.{HasSameLink, place_of, link_of};
 ghost use Rattle.fetch_session.specs.Target.{IsCalm, is_sound, kind_of, stores_of, target_of};
 ghost use Rattle.fetch_session.specs.Work.{WhereWorkSound};
 ghost use Rattle.fetch_session.specs.Intake.{TookWithTail, step_limit, tail_limit};
+ghost use Rattle.fetch_session.specs.Lasting.{CarriesForGood, is_sure};
 ghost use Rattle.fetch_session.specs.Plan.{Carries};
 ghost use Rattle.fetch_session.specs.Refusal.{RefusesTillCut};
 ghost use Rattle.fetch_session.specs.Report.{HasRoom, Adds};
@@ -51,6 +52,15 @@ pub fn carry_out<W: Wire, D: MaildirDisk, F: FlatFile, H: BuildHasher>(
         new.place new.store new.file new.lines skipped.new) }
     ensures took { W.sound client.new.wire.now → W.sound client.old.wire.now
         × TookWithTail (length listing.now * step_limit + tail_limit) (place_of W.Wire client.old) result (place_of W.Wire client.new) }
+    ensures good { W.sound client.new.wire.now → is_sound D.MaildirDisk F.FlatFile work.new.store → F.sound work.new.ledger.file
+        → is_sure F.FlatFile work.old.store → F.is_sure work.old.ledger.file
+        → CarriesForGood D.MaildirDisk F.FlatFile terms.entry.settings.now
+        (target_of work.old.store terms.entry.account.now) listing.now terms.entry.now
+        (place_of W.Wire client.old) (stores_of D.MaildirDisk F.FlatFile work.old.store)
+        (F.stored work.old.ledger.file) work.old.ledger.lines.items result
+        (place_of W.Wire client.new) (stores_of D.MaildirDisk F.FlatFile work.new.store)
+        (F.stored work.new.ledger.file) work.new.ledger.lines.items
+        skipped.new work.new.store work.new.ledger.file }
 {
     conversations_are_paced();
     firsts_are_fetched();

@@ -47,7 +47,7 @@ pub struct Preview {
 struct Looked {
     /// For each message, whether the store holds it.
     held: Vec<bool>,
-    /// Whether a run would first settle the mailbox file.
+    /// Whether a run would first settle the mboxrd file.
     unsettled: bool,
 }
 
@@ -64,7 +64,7 @@ fn none_held(alloc: Global, listing: &Listing, unsettled: bool) -> Result<Looked
     Ok(Looked { held, unsettled })
 }
 
-/// Sees whether an entry may follow a mailbox file, unless an intent is open: a run settles the file
+/// Sees whether an entry may follow an mboxrd file, unless an intent is open: a run settles the file
 /// first then, and nothing is asked here.
 fn look_at_mbox<F: FlatFile, H: BuildHasher>(
     alloc: Global,
@@ -124,7 +124,8 @@ fn foretell<H: BuildHasher>(
 ) -> Result<Vec<Prospect>, AllocError>
     requires { length held.now ≡ length listing.now }
     ensures { IfOk result (λ told. told.items
-        ≡ foretold terms.entry.settings.now (merged seen.old.rows listing.now held.now terms.entry.now) listing.now held.now terms.entry.now) }
+        ≡ foretold terms.entry.settings.now
+        (merged seen.old.rows listing.now held.now terms.entry.now) listing.now held.now terms.entry.now) }
 {
     seen.close(false);
     seen.merge(listing, held, terms.now)?;

@@ -175,7 +175,8 @@ pub(crate) fn prospects<H: BuildHasher>(
 ) -> Result<Vec<Prospect>, AllocError>
     requires all_flags { length held.now ≡ length listing.now }
     requires all_steps { length steps.now ≡ length listing.now }
-    ensures { IfOk result (λ told. told.items ≡ prospects terms.entry.settings.now seen.now.rows terms.entry.now 0 steps.now listing.now held.now) }
+    ensures { IfOk result
+        (λ told. told.items ≡ prospects terms.entry.settings.now seen.now.rows terms.entry.now 0 steps.now listing.now held.now) }
 {
     let mut told = Vec::with_capacity(alloc, steps.len())?;
     let mut fetched: u64 = 0;

@@ -6,6 +6,8 @@ ghost use Rattle.fetch_rules.specs.Record.{Loaded, has_row, none_open, merged};
 ghost use Rattle.fetch_rules.specs.RecordFile.{file_of};
 ghost use Rattle.fetch_rules.specs.Plan.{planned};
 ghost use Rattle.fetch_session.specs.Mbox.{AsksMbox, SettlesIntent};
+ghost use Rattle.mail_store.specs.Power.{AllStay};
+ghost use Rattle.fetch_session.specs.Lasting.{AllStayIn, IsSafe, IsSafeStore, is_sure};
 ghost use Rattle.fetch_session.specs.Target.{flags_in, is_sound, kind_of, stores_of, target_of};
 ghost use Rattle.fetch_session.specs.Readiness.{FindsHeld, FindsIn, Readies};
 ghost use Rattle.fetch_session.specs.Record.{Gets, Reads, ReadAs, Merges, IsLineFault, Steady, bytes_in, held_in};
@@ -35,7 +37,7 @@ pub struct Ready {
 pub struct Found {
     /// For each message, whether the store holds it.
     pub held: Vec<bool>,
-    /// Whether the entry of the record's open intent stands whole in the mailbox file.
+    /// Whether the entry of the record's open intent stands whole in the mboxrd file.
     pub stored: bool,
 }
 
@@ -55,6 +57,7 @@ fn line_of(fault: SeenFault) -> Fault
 fn load<F: FlatFile>(alloc: Global, file: &mut F) -> Result<Vec<u8>, Fault>
     ensures gets { F.sound file.new → F.sound file.old
         × Gets (F.stored file.old) result (F.stored file.new) }
+    ensures lasts { F.sound file.new → F.is_sure file.old → OnOk result (IsSafe F.FlatFile file.new) }
 {
     match file.load() {
         Ok(bytes) => Ok(bytes),
@@ -71,6 +74,7 @@ pub(crate) fn read<F: FlatFile, H: BuildHasher>(
 ) -> Result<bool, Fault>
     ensures reads { F.sound file.new → F.sound file.old
         × Reads (F.stored file.old) seen.new result (F.stored file.new) }
+    ensures lasts { F.sound file.new → F.is_sure file.old → OnOk result (IsSafe F.FlatFile file.new) }
 {
     let bytes = match load(alloc, file) {
         Ok(bytes) => bytes,
@@ -92,6 +96,7 @@ pub(crate) fn ask_held<D: MaildirDisk>(
     ensures length { IfOk result (λ flags. length flags.items ≡ length listing.now) }
     ensures finds { D.sound disk.new → D.sound disk.old
         × FindsHeld account.now (D.maildir disk.old) listing.now result (D.maildir disk.new) }
+    ensures lasts { D.sound disk.new → OnOk result (AllStay (D.maildir disk.new) (D.stays disk.new)) }
 {
     match held(alloc, disk, account, listing) {
         Ok(flags) => Ok(flags),
@@ -102,11 +107,12 @@ pub(crate) fn ask_held<D: MaildirDisk>(
     }
 }
 
-/// Settles the open intent of the record in the mailbox file, and says whether its entry stands there
+/// Settles the open intent of the record in the mboxrd file, and says whether its entry stands there
 /// whole. With no open intent the file isn't asked.
 fn settle<F: FlatFile, H: BuildHasher>(mbox: &mut F, seen: &Seen<H>) -> Result<bool, Fault>
     ensures settles { F.sound mbox.new → F.sound mbox.old
         × SettlesIntent seen.now.intent (F.stored mbox.old) result (F.stored mbox.new) }
+    ensures lasts { F.sound mbox.new → F.is_sure mbox.old → OnOk result (F.is_sure mbox.new) }
 {
     let Some(intent) = seen.intent() else {
         return Ok(false);
@@ -117,7 +123,7 @@ fn settle<F: FlatFile, H: BuildHasher>(mbox: &mut F, seen: &Seen<H>) -> Result<b
     }
 }
 
-/// Settles the mailbox file, and sees whether an entry may follow it. None of the messages is held but
+/// Settles the mboxrd file, and sees whether an entry may follow it. None of the messages is held but
 /// by the record.
 fn ask_mbox<F: FlatFile, H: BuildHasher>(
     alloc: Global,
@@ -128,6 +134,7 @@ fn ask_mbox<F: FlatFile, H: BuildHasher>(
     ensures length { IfOk result (λ found. length found.held.items ≡ length listing.now) }
     ensures asks { F.sound mbox.new → F.sound mbox.old
         × AsksMbox seen.now.intent (F.stored mbox.old) listing.now result (F.stored mbox.new) }
+    ensures lasts { F.sound mbox.new → F.is_sure mbox.old → OnOk result (IsSafe F.FlatFile mbox.new) }
 {
     let stored = match settle(mbox, seen) {
         Ok(stored) => stored,
@@ -143,7 +150,7 @@ fn ask_mbox<F: FlatFile, H: BuildHasher>(
 }
 
 /// Asks the store which messages it holds. An intent that is open in the record is settled in the
-/// mailbox file; of a Maildir it can't be, and has no entry.
+/// mboxrd file; of a Maildir it can't be, and has no entry.
 fn ask_store<D: MaildirDisk, F: FlatFile, H: BuildHasher>(
     alloc: Global,
     store: &mut Store<D, F>,
@@ -160,6 +167,8 @@ fn ask_store<D: MaildirDisk, F: FlatFile, H: BuildHasher>(
     ensures finds { is_sound D.MaildirDisk F.FlatFile store.new → is_sound D.MaildirDisk F.FlatFile store.old
         × FindsIn (target_of store.old account.now) seen.now.intent (stores_of D.MaildirDisk F.FlatFile store.old) listing.now result
         (stores_of D.MaildirDisk F.FlatFile store.new) }
+    ensures lasts { is_sound D.MaildirDisk F.FlatFile store.new → is_sure F.FlatFile store.old
+        → OnOk result (IsSafeStore F.FlatFile store.new × AllStayIn D.MaildirDisk store.new) }
 {
     match store {
         Store::Maildir(disk) => match ask_held(alloc, disk, account, listing) {
@@ -196,6 +205,7 @@ fn take_in<F: FlatFile, H: BuildHasher>(
         × Merges (F.stored file.old) (held_in seen.old) (none_open
         (merged (closed_rows found.now.stored seen.old.rows seen.old.intent) listing.now found.now.held.items now)) result
         (F.stored file.new) }
+    ensures lasts { F.sound file.new → IsSafe F.FlatFile file.old → OnOk result (IsSafe F.FlatFile file.new) }
 {
     seen.close(found.stored);
     let Ok(group) = seen.merge_rows(listing, &found.held, now) else {
@@ -236,6 +246,9 @@ pub fn prepare<D: MaildirDisk, F: FlatFile, H: BuildHasher>(
         × Readies terms.entry.settings.now (target_of store.old terms.entry.account.now) listing.now terms.entry.now
         (stores_of D.MaildirDisk F.FlatFile store.old) (F.stored file.old) result seen.new.rows
         (stores_of D.MaildirDisk F.FlatFile store.new) (F.stored file.new) }
+    ensures lasts { is_sound D.MaildirDisk F.FlatFile store.new → is_sure F.FlatFile store.old
+        → OnOk result (IsSafeStore F.FlatFile store.new × AllStayIn D.MaildirDisk store.new) }
+    ensures file_lasts { F.sound file.new → F.is_sure file.old → OnOk result (IsSafe F.FlatFile file.new) }
 {
     listed_has_row();
     let is_new = match read(alloc, file, seen) {

@@ -7,6 +7,8 @@ ghost use Rattle.fetch_rules.specs.RecordFile.{Two, file_of};
 ghost use Rattle.fetch_rules.specs.RecordMeaning.{Means, Rows};
 ghost use Rattle.fetch_rules.specs.RecordGrowth.{Grows};
 ghost use Rattle.fetch_session.specs.Record.{Writes, Saves, Steady, bytes_in, held_in, intent_at, with_open};
+ghost use Rattle.mail_store.specs.Power.{KeepsBytes};
+ghost use Rattle.fetch_session.specs.Lasting.{IsSafe};
 
 use crate::fault::Fault;
 use fetch_rules::{Seen, appended_counts, bytes_stand, cut_is_ignored};
@@ -19,6 +21,7 @@ pub(crate) fn save<F: FlatFile, H: BuildHasher>(file: &mut F, seen: &Seen<H>) ->
     ensures stands { Means (file_of seen.now.rows seen.now.intent) (Rows Two seen.now.rows seen.now.intent false) }
     ensures saves { F.sound file.new → F.sound file.old
         × Writes (F.stored file.old) (held_in seen.now) result (F.stored file.new) }
+    ensures lasts { F.sound file.new → OnOk result (IsSafe F.FlatFile file.new) }
 {
     bytes_stand();
     let Ok(bytes) = seen.bytes() else {
@@ -36,6 +39,8 @@ pub(crate) fn grow<F: FlatFile>(file: &mut F, group: &[u8]) -> Result<(), Fault>
     ensures saves { F.sound file.new → F.sound file.old
         × ((was now : Held) → Grows was.rows was.intent group.now now.rows now.intent
         → Saves (F.stored file.old) was now result (F.stored file.new)) }
+    ensures keeps { F.sound file.new → KeepsBytes (F.outlives file.old) (F.outlives file.new) }
+    ensures lasts { F.sound file.new → IsSafe F.FlatFile file.old → OnOk result (IsSafe F.FlatFile file.new) }
 {
     appended_counts();
     cut_is_ignored();
@@ -48,7 +53,7 @@ pub(crate) fn grow<F: FlatFile>(file: &mut F, group: &[u8]) -> Result<(), Fault>
     }
 }
 
-/// Writes down that the entry of an id's text is about to be appended to a mailbox file: at which size
+/// Writes down that the entry of an id's text is about to be appended to an mboxrd file: at which size
 /// of the file, and how long the entry is.
 pub(crate) fn intend<F: FlatFile, H: BuildHasher>(
     file: &mut F,
@@ -68,6 +73,8 @@ pub(crate) fn intend<F: FlatFile, H: BuildHasher>(
     ensures saves { F.sound file.new → F.sound file.old
         × Saves (F.stored file.old) (none_open seen.old.rows) (with_open seen.old.rows (intent_at uid.now start len)) result
         (F.stored file.new) }
+    ensures keeps { F.sound file.new → KeepsBytes (F.outlives file.old) (F.outlives file.new) }
+    ensures lasts { F.sound file.new → IsSafe F.FlatFile file.old → OnOk result (IsSafe F.FlatFile file.new) }
 {
     let Ok(line) = seen.intend(uid, start, len) else {
         return Err(Fault::NoMemory);
@@ -89,6 +96,8 @@ pub(crate) fn remember<F: FlatFile, H: BuildHasher>(
     ensures closed { OnOk result (seen.new.intent ≡ None) }
     ensures saves { F.sound file.new → F.sound file.old
         × Saves (F.stored file.old) (held_in seen.old) (none_open (marked seen.old.rows uid.now)) result (F.stored file.new) }
+    ensures keeps { F.sound file.new → KeepsBytes (F.outlives file.old) (F.outlives file.new) }
+    ensures lasts { F.sound file.new → IsSafe F.FlatFile file.old → OnOk result (IsSafe F.FlatFile file.new) }
 {
     let Ok(group) = seen.mark_rows(uid) else {
         return Err(Fault::NoMemory);

@@ -1,5 +1,5 @@
 //! What is done with each message.
-ghost use Rattle.std.specs.Prelude.{◌≡◌, ◌*◌, ℕ, List, None, false, true, length, OnOk};
+ghost use Rattle.std.specs.Prelude.{◌≡◌, ◌++◌, ◌*◌, ℕ, List, None, false, true, length, OnOk};
 ghost use Rattle.mail_terms.specs.UniqueId.{IsLegalId};
 ghost use Rattle.mail_store.specs.FileName.{is_held, stem_of, IsAccountText};
 ghost use Rattle.mail_store.specs.FlatFile.{Stored};
@@ -9,13 +9,16 @@ ghost use Rattle.pop3_client.specs.Client.{HasSameLink, place_of, link_of};
 ghost use Rattle.pop3_client.specs.Turns.{most, retr, dele};
 ghost use Rattle.std.specs.List.{AllByRecursion};
 ghost use Rattle.fetch_session.specs.Target.{AsFiles, Target, Stores, in_maildir, is_sound, kind_of, stores_of, target_of};
-ghost use Rattle.fetch_session.specs.Work.{IsReady, IsWritten, KeepsIds, WhereWorkSound};
+ghost use Rattle.fetch_session.specs.Work.{IsReady, IsWritten, KeepsIds, WhereWorkSound, scene_of};
 ghost use Rattle.fetch_session.specs.Store.{Grows, GrowsBy};
 ghost use Rattle.fetch_session.specs.Task.{stores, rereads, fetching, deleting, tasks_in, tasks_planned, ids_ahead, AreFresh};
 ghost use Rattle.fetch_session.specs.Refusal.{RefusesTillCut};
 ghost use Rattle.fetch_session.specs.Report.{HasRoom, Adds};
 ghost use Rattle.fetch_session.specs.Scene.{scene, TakesTask, Does, WhereAllSound};
 ghost use Rattle.fetch_session.specs.Intake.{TookTillCut, step_limit};
+ghost use Rattle.mail_store.specs.Power.{KeepsBytes, KeepsMail};
+ghost use Rattle.mail_store.specs.Maildir.{File};
+ghost use Rattle.fetch_session.specs.Lasting.{DoesForGood, IsSafe, IsSafeWork, KeepsMailIn, KeepsWork, NewOutlive};
 
 use crate::account::Store;
 use crate::appending::take_into_mbox;
@@ -73,6 +76,12 @@ fn take_into_maildir<W: Wire, D: MaildirDisk, F: FlatFile, H: BuildHasher>(
         ledger.new.lines.items)) }
     ensures took { W.sound client.new.wire.now → W.sound client.old.wire.now
         × TookTillCut (most (retr number)) (place_of W.Wire client.old) result (place_of W.Wire client.new) }
+    ensures keeps { D.sound disk.new → F.sound ledger.new.file
+        → KeepsMail (D.stays disk.old) (D.outlives disk.old) (D.stays disk.new) (D.outlives disk.new)
+        × KeepsBytes (F.outlives ledger.old.file) (F.outlives ledger.new.file) }
+    ensures lasts { D.sound disk.new → F.sound ledger.new.file → IsSafe F.FlatFile ledger.old.file
+        → OnOk result (IsSafe F.FlatFile ledger.new.file × ((files : List File)
+        → (D.maildir disk.new).in_new ≡ (D.maildir disk.old).in_new ++ files → AllByRecursion (D.outlives disk.new) files)) }
 {
     conversations_are_paced();
     marked_keeps_rows();
@@ -124,6 +133,11 @@ fn take<W: Wire, D: MaildirDisk, F: FlatFile, H: BuildHasher>(
         (λ old new. TakesTask (target_of work.old.store account.now) (stores number uid.now) old result new) }
     ensures took { W.sound client.new.wire.now → W.sound client.old.wire.now
         × TookTillCut (most (retr number)) (place_of W.Wire client.old) result (place_of W.Wire client.new) }
+    ensures keeps { is_sound D.MaildirDisk F.FlatFile work.new.store → F.sound work.new.ledger.file
+        → KeepsWork D.MaildirDisk F.FlatFile work.old work.new }
+    ensures lasts { is_sound D.MaildirDisk F.FlatFile work.new.store → F.sound work.new.ledger.file
+        → IsSafeWork F.FlatFile work.old
+        → OnOk result (IsSafeWork F.FlatFile work.new × NewOutlive D.MaildirDisk F.FlatFile work.old.store work.new.store) }
 {
     match &mut work.store {
         Store::Maildir(disk) => {
@@ -231,6 +245,11 @@ fn fetch_if<W: Wire, D: MaildirDisk, F: FlatFile, H: BuildHasher>(
         message.entry.size) old result new) }
     ensures took { W.sound client.new.wire.now → W.sound client.old.wire.now
         × TookTillCut (most (retr message.entry.step.number)) (place_of W.Wire client.old) result (place_of W.Wire client.new) }
+    ensures keeps { is_sound D.MaildirDisk F.FlatFile work.new.store → F.sound work.new.ledger.file
+        → KeepsWork D.MaildirDisk F.FlatFile work.old work.new }
+    ensures lasts { is_sound D.MaildirDisk F.FlatFile work.new.store → F.sound work.new.ledger.file
+        → IsSafeWork F.FlatFile work.old
+        → OnOk result (IsSafeWork F.FlatFile work.new × NewOutlive D.MaildirDisk F.FlatFile work.old.store work.new.store) }
 {
     let PlannedMessage {
         step,
@@ -281,6 +300,18 @@ fn do_step<W: Wire, D: MaildirDisk, F: FlatFile, H: BuildHasher>(
         old result new) }
     ensures took { W.sound client.new.wire.now → W.sound client.old.wire.now
         × TookTillCut step_limit (place_of W.Wire client.old) result (place_of W.Wire client.new) }
+    ensures keeps { is_sound D.MaildirDisk F.FlatFile work.new.store → F.sound work.new.ledger.file
+        → KeepsWork D.MaildirDisk F.FlatFile work.old work.new }
+    ensures lasts { is_sound D.MaildirDisk F.FlatFile work.new.store → F.sound work.new.ledger.file → IsSafeWork F.FlatFile work.old
+        → OnOk result (IsSafeWork F.FlatFile work.new) }
+    ensures good { W.sound client.new.wire.now
+        → is_sound D.MaildirDisk F.FlatFile work.new.store → F.sound work.new.ledger.file
+        → IsSafeWork F.FlatFile work.old
+        → DoesForGood D.MaildirDisk F.FlatFile (target_of work.old.store account.now)
+        (tasks_in message.entry.step (record { uid = message.entry.uid.now; size = message.entry.size }) message.entry.held)
+        (scene_of W.Wire D.MaildirDisk F.FlatFile client.old work.old) result
+        (scene_of W.Wire D.MaildirDisk F.FlatFile client.new work.new)
+        work.new.store work.new.ledger.file }
 {
     let step = message.step;
     if let Err(cut) = fetch_if(client, work, account, message) {
@@ -323,6 +354,17 @@ pub fn do_steps<W: Wire, D: MaildirDisk, F: FlatFile, H: BuildHasher>(
         (λ old new. Does (target_of work.old.store account.now) (tasks_planned steps.now listing.now held.now) old result new) }
     ensures took { W.sound client.new.wire.now → W.sound client.old.wire.now
         × TookTillCut (length listing.now * step_limit) (place_of W.Wire client.old) result (place_of W.Wire client.new) }
+    ensures keeps { W.sound client.new.wire.now
+        → is_sound D.MaildirDisk F.FlatFile work.new.store → F.sound work.new.ledger.file
+        → KeepsMailIn D.MaildirDisk work.old.store work.new.store }
+    ensures good { W.sound client.new.wire.now
+        → is_sound D.MaildirDisk F.FlatFile work.new.store → F.sound work.new.ledger.file
+        → IsSafeWork F.FlatFile work.old
+        → DoesForGood D.MaildirDisk F.FlatFile (target_of work.old.store account.now)
+        (tasks_planned steps.now listing.now held.now)
+        (scene_of W.Wire D.MaildirDisk F.FlatFile client.old work.old) result
+        (scene_of W.Wire D.MaildirDisk F.FlatFile client.new work.new)
+        work.new.store work.new.ledger.file }
 {
     one_more_is_held();
     for i in 0..listing.len() {

@@ -1,13 +1,14 @@
 //! How a text is taken: stored, or passed over where it is held already.
-ghost use Rattle.std.specs.Prelude.{◌≡◌, ◌≢◌, ◌≤◌, ℕ, List, [], None, IsSome, string_bytes};
+ghost use Rattle.std.specs.Prelude.{◌≡◌, ◌≢◌, ◌≤◌, ℕ, List, [], None, Some, IsSome, OnOk, string_bytes};
 ghost use Rattle.pop3_client.specs.Client.{HasSameLink, CountsRefusals, place_of, link_of};
 ghost use Rattle.pop3_wire.specs.Link.{WhereSound};
 ghost use Rattle.pop3_wire.specs.Place.{Place};
 ghost use Rattle.pop3_wire.specs.declared.unstuffer.Spot.TheVariants.{Done};
 ghost use Rattle.pop3_client.specs.Turns.{retr, text_limit};
 ghost use Rattle.pop3_client.specs.Texts.{Fetching};
-ghost use Rattle.mail_store.specs.FileName.{HasRoomForSize, sized};
-ghost use Rattle.mail_store.specs.Maildir.{IsInNew};
+ghost use Rattle.mail_store.specs.FileName.{HasRoomForSize, sized, sized_file};
+ghost use Rattle.mail_store.specs.Maildir.{File, IsInNew, file, with_file};
+ghost use Rattle.mail_store.specs.Power.{KeepsMail};
 ghost use Rattle.fetch_session.specs.Refusal.{RefusesTillCut};
 ghost use Rattle.fetch_session.specs.Store.{Starts, Puts, Ends, StoresText, ReadsText, PassesText};
 
@@ -21,6 +22,7 @@ fn begin_file<D: MaildirDisk>(disk: &mut D, name: &str) -> Result<(), Fault>
     requires { D.sound disk.old → (D.maildir disk.old).begun ≡ None }
     ensures starts { D.sound disk.new → D.sound disk.old
         × Starts (D.maildir disk.old) name.now result (D.maildir disk.new) }
+    ensures keeps { D.sound disk.new → KeepsMail (D.stays disk.old) (D.outlives disk.old) (D.stays disk.new) (D.outlives disk.new) }
 {
     match disk.begin(name) {
         Ok(()) => Ok(()),
@@ -35,6 +37,7 @@ fn put_piece<D: MaildirDisk>(disk: &mut D, bytes: &[u8]) -> Result<(), Fault>
     requires { D.sound disk.old → IsSome (D.maildir disk.old).begun }
     ensures puts { D.sound disk.new → D.sound disk.old
         × Puts (D.maildir disk.old) bytes.now result (D.maildir disk.new) }
+    ensures keeps { D.sound disk.new → KeepsMail (D.stays disk.old) (D.outlives disk.old) (D.stays disk.new) (D.outlives disk.new) }
 {
     if bytes.is_empty() {
         return Ok(());
@@ -55,6 +58,9 @@ fn settle_file<D: MaildirDisk>(disk: &mut D, stem: String, size: u64) -> Result<
     requires not_there { D.sound disk.old → IsInNew (D.maildir disk.old) (sized (string_bytes stem) size) → ⊥ }
     ensures ends { D.sound disk.new → D.sound disk.old
         × Ends (D.maildir disk.old) (sized (string_bytes stem) size) result (D.maildir disk.new) }
+    ensures keeps { D.sound disk.new → KeepsMail (D.stays disk.old) (D.outlives disk.old) (D.stays disk.new) (D.outlives disk.new) }
+    ensures lasts { D.sound disk.new → OnOk result ((f : File) → (D.maildir disk.old).begun ≡ Some f
+        → D.outlives disk.new (file (sized (string_bytes stem) size) f.content)) }
 {
     let mut name = stem;
     add_size(&mut name, size);
@@ -88,6 +94,10 @@ pub(crate) fn store_text<W: Wire, D: MaildirDisk>(
     ensures reads { W.sound client.new.wire.now → W.sound client.old.wire.now
         × ((number : ℕ) (start : Place) → Fetching (retr number) start (place_of W.Wire client.old) body []
         → (text : List ℕ) × ReadsText number start text result (place_of W.Wire client.new)) }
+    ensures keeps { D.sound disk.new → KeepsMail (D.stays disk.old) (D.outlives disk.old) (D.stays disk.new) (D.outlives disk.new) }
+    ensures lasts { D.sound disk.new → OnOk result ((text : List ℕ)
+        → D.maildir disk.new ≡ with_file (D.maildir disk.old) (sized_file (string_bytes stem) text)
+        → D.outlives disk.new (sized_file (string_bytes stem) text)) }
 {
     let mut rest = body;
     if let Err(fault) = begin_file(disk, stem.as_str()) {

@@ -1,7 +1,9 @@
 //! How a preview is told. Nothing of a password stands in it.
 ghost use Rattle.std.specs.Prelude.{◌≡◌, ◌++◌, IfOk, codes, if◌then◌else◌};
 ghost use Rattle.std.specs.String.{string_bytes};
-ghost use Rattle.fetch_session.specs.Telling.{counts, date_of, date_text, due_text, deleted_in, fate_text, fetched_in, is_deletion, is_fetch, notice, preview_text, prospect_text};
+ghost use Rattle.fetch_session.specs.Telling.{counts, date_of, date_text, due_text, deleted_in, fate_text};
+ghost use Rattle.fetch_session.specs.Telling.{fetched_in, is_deletion, is_fetch, notice, preview_text};
+ghost use Rattle.fetch_session.specs.Telling.{prospect_text};
 
 use crate::preview::Preview;
 use crate::prospect::{Fate, Prospect};

@@ -6,6 +6,7 @@ use Rattle.fetch_session.specs.Target.{stores_of, target_of}
 use Rattle.fetch_session.proofs.SessionLemmas.{dealt}
 use Rattle.fetch_session.proofs.IntakeLemmas.{takes_plain, took_entering, with_any_tail, with_tail_on, with_tail_less}
 use Rattle.fetch_session.proofs.RefusalLemmas.{cut_by, till_cut}
+use Rattle.fetch_session.proofs.GoodLemmas.{good_dealt}
 use Rattle.fetch_session.proofs.one_session.proceed.Goals as goal
 
 pub returns-clause-proceeds : goal.returns-clause-proceeds
@@ -66,3 +67,16 @@ returns-in-Err-reserve-clause-counted g c = inl c.in-Ok.ensures.counted
 
 pub returns-clause-counted : goal.returns-clause-counted
 returns-clause-counted g c = till_cut (g.W.Wire.seen c.args.client.now.wire.now) (g.W.Wire.seen c.enter.new.client.wire.now) (g.W.Wire.seen c.carry_out.new.client.wire.now) c.carry_out.result c.in-Ok.ensures.counted c.carry_out.ensures.counted
+
+-- ---- what outlives a loss of power
+
+pub returns-clause-good : goal.returns-clause-good
+returns-clause-good g c = λ w d f sure sure'.
+    let does = c.carry_out.ensures.carries w d f in
+    let entered = c.in-Ok.ensures.enters does.0 in
+    let new = c.carry_out.new in
+    good_dealt g.D.MaildirDisk g.F.FlatFile c.args.terms.settings.now (target_of c.args.work.now.store c.args.terms.account.now) c.args.terms.now (place_of g.W.Wire c.args.client.now)
+    (keeping (stores_of g.D.MaildirDisk g.F.FlatFile c.args.work.now.store) (g.F.FlatFile.stored c.args.work.now.ledger.file)) c.carry_out.result
+    (place_of g.W.Wire new.client) (keeping (stores_of g.D.MaildirDisk g.F.FlatFile new.work.store) (g.F.FlatFile.stored new.work.ledger.file)) (noted c.len-counts.result new.skipped new.work.ledger.lines.items)
+    c.in-Ok.listing (place_of g.W.Wire c.enter.new.client) c.reserve.new.self.items new.work.store new.work.ledger.file (c.reserve.ensures.items ∙ c.requires.nothing.2) entered.2 c.len-counts.ensures.count
+    (c.carry_out.ensures.good w d f sure sure')

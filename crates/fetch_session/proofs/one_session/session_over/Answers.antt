@@ -10,6 +10,8 @@ use Rattle.fetch_session.specs.Target.{is_sound, kind_of, stores_of, target_of}
 use Rattle.fetch_session.proofs.IntakeLemmas.{cut_within, ended_within}
 use Rattle.fetch_session.proofs.SessionLemmas.{cut_session, ended_session, entries_session, files_session}
 use Rattle.fetch_session.proofs.RefusalLemmas.{left_alone}
+use Rattle.fetch_session.specs.Lasting.{SessionForGood, is_sure}
+use Rattle.fetch_session.proofs.GoodLemmas.{good_cut_session, good_ended_session}
 use Rattle.fetch_session.proofs.one_session.session_over.Goals as goal
 
 pub returns-in-Err-clause-session : goal.returns-in-Err-clause-session
@@ -119,3 +121,35 @@ returns-clause-entries g c = λ w d f.
     entries_session g.D.MaildirDisk g.F.FlatFile old.store new.store (digits_of old.settings)
     (λ t s s'. SessionIn old.settings t c.args.now (g.W.Wire.seen c.args.client.now.wire.now) (keeping s (g.F.FlatFile.stored old.file)) c.tell-2.result (g.W.Wire.seen c.proceed.new.client.wire.now) (keeping s' (g.F.FlatFile.stored new.ledger.file)))
     _ _ _ (returns-clause-kind g c) (λ sound. returns-clause-session g c w sound f) d
+
+-- ---- what outlives a loss of power
+
+pub returns-in-Err-clause-power : goal.returns-in-Err-clause-power
+returns-in-Err-clause-power g c = λ w d f.
+    let says = c.leave.ensures.leaves w in
+    let done = c.proceed.new in
+    let inside = c.account.inside in
+    let after = keeping (stores_of g.D.MaildirDisk g.F.FlatFile done.work.store) (g.F.FlatFile.stored done.work.ledger.file) in
+    let new = place_of g.W.Wire c.leave.new.client in
+    subst (λ h. is_sure g.F.FlatFile h.store → g.F.FlatFile.is_sure h.file
+    → SessionForGood g.D.MaildirDisk g.F.FlatFile h.settings (target_of h.store (digits_of h.settings)) c.args.now (g.W.Wire.seen c.args.client.now.wire.now) (keeping (stores_of g.D.MaildirDisk g.F.FlatFile h.store) (g.F.FlatFile.stored h.file)) c.tell.result new.link after
+    done.work.store done.work.ledger.file) c.account.view_is
+    (λ sure sure'.
+    good_cut_session g.D.MaildirDisk g.F.FlatFile inside.settings (target_of inside.work.store (digits_of inside.settings)) (target_of inside.work.store inside.id) c.args.now (g.W.Wire.seen c.args.client.now.wire.now) c.args.client.now.reader
+    (keeping (stores_of g.D.MaildirDisk g.F.FlatFile inside.work.store) (g.F.FlatFile.stored inside.work.ledger.file)) c.in-Err.cut
+    (place_of g.W.Wire done.client) new after (noted done.counts.total done.counts.skipped done.work.ledger.lines.items) c.tell.result done.work.store done.work.ledger.file
+    (ap (λ (digits : List ℕ). target_of inside.work.store digits) c.account.invariant.1) c.requires (c.in-Err.ensures.good says.0 d f sure sure') says.2 (rw c.replace-lines.ensures.value at c.tell.ensures))
+
+pub returns-clause-power : goal.returns-clause-power
+returns-clause-power g c = λ w d f.
+    let done = c.proceed.new in
+    let inside = c.account.inside in
+    let after = keeping (stores_of g.D.MaildirDisk g.F.FlatFile done.work.store) (g.F.FlatFile.stored done.work.ledger.file) in
+    let mid = place_of g.W.Wire done.client in
+    subst (λ h. is_sure g.F.FlatFile h.store → g.F.FlatFile.is_sure h.file
+    → SessionForGood g.D.MaildirDisk g.F.FlatFile h.settings (target_of h.store (digits_of h.settings)) c.args.now (g.W.Wire.seen c.args.client.now.wire.now) (keeping (stores_of g.D.MaildirDisk g.F.FlatFile h.store) (g.F.FlatFile.stored h.file)) c.tell-2.result mid.link after
+    done.work.store done.work.ledger.file) c.account.view_is
+    (λ sure sure'.
+    good_ended_session g.D.MaildirDisk g.F.FlatFile inside.settings (target_of inside.work.store (digits_of inside.settings)) (target_of inside.work.store inside.id) c.args.now (g.W.Wire.seen c.args.client.now.wire.now) c.args.client.now.reader
+    (keeping (stores_of g.D.MaildirDisk g.F.FlatFile inside.work.store) (g.F.FlatFile.stored inside.work.ledger.file)) mid after (noted done.counts.total done.counts.skipped done.work.ledger.lines.items) c.tell-2.result done.work.store done.work.ledger.file
+    (ap (λ (digits : List ℕ). target_of inside.work.store digits) c.account.invariant.1) c.requires (c.in_default.ensures.good w d f sure sure') (rw c.replace-lines-2.ensures.value at c.tell-2.ensures))

@@ -1,4 +1,4 @@
-use Rattle.std.proofs.Common.{◌+◌, ◌*◌, List, [], Bool, inl, inr, arith, length, Err, sym, ap, subst, ◌∙◌, refl}
+use Rattle.std.proofs.Common.{◌+◌, ◌*◌, List, [], Bool, inl, inr, arith, length, Ok, Err, sym, ap, subst, ◌∙◌, refl}
 use Rattle.pop3_client.specs.Client.{place_of}
 use Rattle.fetch_rules.specs.Plan.{planned}
 use Rattle.fetch_rules.specs.declared.steps.Step.{Step}
@@ -11,6 +11,8 @@ use Rattle.fetch_session.proofs.PlanLemmas.{flags_same, fresh_firsts}
 use Rattle.fetch_session.proofs.CarryLemmas.{unprepared, carry_fell, carry_quit, carry_broke}
 use Rattle.fetch_session.proofs.IntakeLemmas.{takes_plain, took_nothing, took_less, took_on, with_any_tail, with_tail_on, with_tail_less, quit_told, quit_broke}
 use Rattle.fetch_session.proofs.RefusalLemmas.{before_cut, cut_by}
+use Rattle.fetch_session.specs.Lasting.{DoesForGood}
+use Rattle.fetch_session.proofs.GoodLemmas.{good_carry_broke, good_carry_fell, good_carry_quit}
 use Rattle.fetch_session.proofs.plan.carry_out.Goals as goal
 
 pub returns-in-Err-clause-carries : goal.returns-in-Err-clause-carries
@@ -162,3 +164,58 @@ returns-in-Ok-quit-clause-kind g c = c.do_steps.ensures.kind ∙ c.prepare.ensur
 
 pub returns-in-Err-do_steps-clause-kind : goal.returns-in-Err-do_steps-clause-kind
 returns-in-Err-do_steps-clause-kind g c = c.do_steps.ensures.kind ∙ c.prepare.ensures.kind
+
+-- ---- what outlives a loss of power
+
+pub returns-in-Err-clause-good : goal.returns-in-Err-clause-good
+returns-in-Err-clause-good g c = λ w d f sure sure'.
+    let ready = c.in-Err.ensures.readies d f in
+    ([], inl (c.requires.none_skipped, unprepared (target_of c.args.work.now.store c.args.terms.account.now) c.args.listing.now c.args.terms.now (place_of g.W.Wire c.args.client.now) (stores_of g.D.MaildirDisk g.F.FlatFile c.args.work.now.store) (g.F.FlatFile.stored c.args.work.now.ledger.file) c.args.work.now.ledger.lines.items c.in-Err.fault c.plain.result (stores_of g.D.MaildirDisk g.F.FlatFile c.prepare.new.store) (g.F.FlatFile.stored c.prepare.new.file) c.plain.ensures ready.2))
+
+pub returns-in-Err-do_steps-clause-good : goal.returns-in-Err-do_steps-clause-good
+returns-in-Err-do_steps-clause-good g c = λ w d f sure sure'.
+    let done = c.in-Err-do_steps.ensures.does w d f in
+    let ready = c.in-Ok.ensures.readies done.1 done.2 in
+    let store_lasts = c.in-Ok.ensures.lasts done.1 sure in
+    let file_lasts = c.in-Ok.ensures.file_lasts done.2 sure' in (
+      c.do_steps.new.work.ledger.seen.rows,
+      inr (good_carry_fell g.D.MaildirDisk g.F.FlatFile c.args.terms.settings.now (target_of c.args.work.now.store c.args.terms.account.now) c.args.listing.now c.args.terms.now (place_of g.W.Wire c.args.client.now) (stores_of g.D.MaildirDisk g.F.FlatFile c.args.work.now.store) (g.F.FlatFile.stored c.args.work.now.ledger.file)
+          c.args.work.now.ledger.lines.items c.in-Ok.ready c.prepare.new.seen.rows c.prepare.new.store c.do_steps.new.work.store c.do_steps.new.work.ledger.file (g.F.FlatFile.stored c.prepare.new.file) ready.2 c.deref-2.result.now c.deref-3.result.now c.deref-2.ensures.value c.deref-3.ensures.value
+          c.skipped_in.result (c.skipped_in.ensures ∙ ap skipped_in (c.deref.ensures.value ∙ sym c.deref-2.ensures.value)) store_lasts.1 (c.do_steps.ensures.keeps w d f)
+          (scene (place_of g.W.Wire c.do_steps.new.client) (stores_of g.D.MaildirDisk g.F.FlatFile c.do_steps.new.work.store) (g.F.FlatFile.stored c.do_steps.new.work.ledger.file) c.do_steps.new.work.ledger.seen.rows c.do_steps.new.work.ledger.lines.items) c.in-Err-do_steps.cut
+          (subst (λ (t : Target). DoesForGood g.D.MaildirDisk g.F.FlatFile t (tasks_planned c.deref-2.result.now c.args.listing.now c.deref-3.result.now) (scene (place_of g.W.Wire c.args.client.now) (stores_of g.D.MaildirDisk g.F.FlatFile c.prepare.new.store) (g.F.FlatFile.stored c.prepare.new.file) c.prepare.new.seen.rows c.args.work.now.ledger.lines.items) (Err c.in-Err-do_steps.cut) (scene (place_of g.W.Wire c.do_steps.new.client) (stores_of g.D.MaildirDisk g.F.FlatFile c.do_steps.new.work.store) (g.F.FlatFile.stored c.do_steps.new.work.ledger.file) c.do_steps.new.work.ledger.seen.rows c.do_steps.new.work.ledger.lines.items) c.do_steps.new.work.store c.do_steps.new.work.ledger.file)
+          (ap (λ (k : Kind). target_at k c.args.terms.account.now) c.prepare.ensures.kind) (c.in-Err-do_steps.ensures.good w d f (file_lasts, store_lasts.0)))),
+    )
+
+pub returns-in-Ok-quit-clause-good : goal.returns-in-Ok-quit-clause-good
+returns-in-Ok-quit-clause-good g c = λ w d f sure sure'.
+    let tells = c.in-Ok-quit.ensures.tells w in
+    let done = c.in_default.ensures.does tells.0 d f in
+    let ready = c.in-Ok.ensures.readies done.1 done.2 in
+    let store_lasts = c.in-Ok.ensures.lasts done.1 sure in
+    let file_lasts = c.in-Ok.ensures.file_lasts done.2 sure' in (
+      c.do_steps.new.work.ledger.seen.rows,
+      good_carry_quit g.D.MaildirDisk g.F.FlatFile c.args.terms.settings.now (target_of c.args.work.now.store c.args.terms.account.now) c.args.listing.now c.args.terms.now (place_of g.W.Wire c.args.client.now) (stores_of g.D.MaildirDisk g.F.FlatFile c.args.work.now.store) (g.F.FlatFile.stored c.args.work.now.ledger.file)
+          c.args.work.now.ledger.lines.items c.in-Ok.ready c.prepare.new.seen.rows c.prepare.new.store c.do_steps.new.work.store c.do_steps.new.work.ledger.file (g.F.FlatFile.stored c.prepare.new.file) ready.2 c.deref-2.result.now c.deref-3.result.now c.deref-2.ensures.value c.deref-3.ensures.value
+          c.skipped_in.result (c.skipped_in.ensures ∙ ap skipped_in (c.deref.ensures.value ∙ sym c.deref-2.ensures.value)) store_lasts.1 (c.do_steps.ensures.keeps tells.0 d f)
+          (place_of g.W.Wire c.do_steps.new.client) (place_of g.W.Wire c.quit.new.self) (stores_of g.D.MaildirDisk g.F.FlatFile c.do_steps.new.work.store) (g.F.FlatFile.stored c.do_steps.new.work.ledger.file) c.do_steps.new.work.ledger.seen.rows c.do_steps.new.work.ledger.lines.items tells.2.0
+          (subst (λ (t : Target). DoesForGood g.D.MaildirDisk g.F.FlatFile t (tasks_planned c.deref-2.result.now c.args.listing.now c.deref-3.result.now) (scene (place_of g.W.Wire c.args.client.now) (stores_of g.D.MaildirDisk g.F.FlatFile c.prepare.new.store) (g.F.FlatFile.stored c.prepare.new.file) c.prepare.new.seen.rows c.args.work.now.ledger.lines.items) (Ok tt) (scene (place_of g.W.Wire c.do_steps.new.client) (stores_of g.D.MaildirDisk g.F.FlatFile c.do_steps.new.work.store) (g.F.FlatFile.stored c.do_steps.new.work.ledger.file) c.do_steps.new.work.ledger.seen.rows c.do_steps.new.work.ledger.lines.items) c.do_steps.new.work.store c.do_steps.new.work.ledger.file)
+          (ap (λ (k : Kind). target_at k c.args.terms.account.now) c.prepare.ensures.kind) (c.in_default.ensures.good tells.0 d f (file_lasts, store_lasts.0))) tells.2.1,
+    )
+
+pub returns-clause-good : goal.returns-clause-good
+returns-clause-good g c = λ w d f sure sure'.
+    let tells = c.in-Err-quit.ensures.tells w in
+    let done = c.in_default.ensures.does tells.0 d f in
+    let ready = c.in-Ok.ensures.readies done.1 done.2 in
+    let store_lasts = c.in-Ok.ensures.lasts done.1 sure in
+    let file_lasts = c.in-Ok.ensures.file_lasts done.2 sure' in (
+      c.do_steps.new.work.ledger.seen.rows,
+      inr (good_carry_broke g.D.MaildirDisk g.F.FlatFile c.args.terms.settings.now (target_of c.args.work.now.store c.args.terms.account.now) c.args.listing.now c.args.terms.now (place_of g.W.Wire c.args.client.now) (stores_of g.D.MaildirDisk g.F.FlatFile c.args.work.now.store) (g.F.FlatFile.stored c.args.work.now.ledger.file)
+          c.args.work.now.ledger.lines.items c.in-Ok.ready c.prepare.new.seen.rows c.prepare.new.store c.do_steps.new.work.store c.do_steps.new.work.ledger.file (g.F.FlatFile.stored c.prepare.new.file) ready.2 c.deref-2.result.now c.deref-3.result.now c.deref-2.ensures.value c.deref-3.ensures.value
+          c.skipped_in.result (c.skipped_in.ensures ∙ ap skipped_in (c.deref.ensures.value ∙ sym c.deref-2.ensures.value)) store_lasts.1 (c.do_steps.ensures.keeps tells.0 d f)
+          (place_of g.W.Wire c.do_steps.new.client) (place_of g.W.Wire c.quit.new.self) (stores_of g.D.MaildirDisk g.F.FlatFile c.do_steps.new.work.store) (g.F.FlatFile.stored c.do_steps.new.work.ledger.file) c.do_steps.new.work.ledger.seen.rows c.do_steps.new.work.ledger.lines.items
+          c.in-Err-quit.fault c.told.result c.plain-in-Err-quit.result
+          (subst (λ (t : Target). DoesForGood g.D.MaildirDisk g.F.FlatFile t (tasks_planned c.deref-2.result.now c.args.listing.now c.deref-3.result.now) (scene (place_of g.W.Wire c.args.client.now) (stores_of g.D.MaildirDisk g.F.FlatFile c.prepare.new.store) (g.F.FlatFile.stored c.prepare.new.file) c.prepare.new.seen.rows c.args.work.now.ledger.lines.items) (Ok tt) (scene (place_of g.W.Wire c.do_steps.new.client) (stores_of g.D.MaildirDisk g.F.FlatFile c.do_steps.new.work.store) (g.F.FlatFile.stored c.do_steps.new.work.ledger.file) c.do_steps.new.work.ledger.seen.rows c.do_steps.new.work.ledger.lines.items) c.do_steps.new.work.store c.do_steps.new.work.ledger.file)
+          (ap (λ (k : Kind). target_at k c.args.terms.account.now) c.prepare.ensures.kind) (c.in_default.ensures.good tells.0 d f (file_lasts, store_lasts.0))) c.plain-in-Err-quit.ensures c.told.ensures tells.2),
+    )

@@ -1,4 +1,4 @@
-use Rattle.std.proofs.Common.{◌≡◌, ◌<◌, ◌+◌, ◌*◌, ℕ, List, true, false, length, drop, get_or, Err, sym, ap, subst, arith, refl, ◌∙◌}
+use Rattle.std.proofs.Common.{◌≡◌, ◌<◌, ◌+◌, ◌*◌, ℕ, List, true, false, length, drop, get_or, Ok, Err, sym, ap, subst, arith, refl, ◌∙◌}
 use Rattle.fetch_rules.specs.Record.{has_row}
 use Rattle.std.proofs.lemmas.List.{drop_all}
 use Rattle.pop3_client.specs.Client.{place_of}
@@ -7,12 +7,14 @@ use Rattle.fetch_rules.specs.declared.steps.Step.{Step}
 use Rattle.fetch_session.specs.Scene.{AllWent, Fell}
 use Rattle.fetch_session.specs.Target.{Kind, Target, stores_of, target as target_at, target_of}
 use Rattle.fetch_session.specs.Work.{scene_of}
+use Rattle.fetch_session.specs.Lasting.{DoesForGood}
 use Rattle.fetch_session.specs.Task.{Task, tasks_in, tasks_planned, fetching, ids_ahead, AreFresh}
 use Rattle.fetch_session.proofs.SceneLemmas.{leads_start, leads_on, leads_fell, leads_end}
 use Rattle.fetch_session.proofs.FreshLemmas.{fresh_step, fresh_later, grows_calm, step_at, later_at, tasks_left, no_item, row_at}
 use Rattle.fetch_session.proofs.ReportLemmas.{adds_on}
 use Rattle.fetch_session.proofs.IntakeLemmas.{took_on, took_less, took_nothing, takes_on, takes_less}
 use Rattle.fetch_session.proofs.RefusalLemmas.{before_cut}
+use Rattle.fetch_session.proofs.LastLemmas.{good_end, good_fell, good_on, good_start, keeps_same, mail_on, none_lasts}
 use Rattle.fetch_session.proofs.step.do_steps.Goals as goal
 
 pub do_step-requires-clause-free : goal.do_step-requires-clause-free
@@ -62,6 +64,7 @@ loop-i-init g c = (
   refl,
   refl,
   λ uid has. has,
+  λ w d f. ((λ name is. is, λ f is. is), λ safe. (safe, good_start g.D.MaildirDisk g.F.FlatFile _ _ _ _)),
 )
 
 pub loop-i-preserved : goal.loop-i-preserved
@@ -106,6 +109,19 @@ loop-i-preserved g c =
       c.do_step.ensures.link ∙ c.loop-i.invariant.6,
       c.do_step.ensures.kind ∙ c.loop-i.invariant.7,
       λ uid has. c.in_default.ensures.rows uid (c.loop-i.invariant.8 uid has),
+      λ w d f.
+          let done = c.in_default.ensures.does w d f in
+          let inv = c.loop-i.invariant.9 done.0 done.1 done.2 in
+          let keeps = (c.do_step.ensures.keeps d f).0 in (
+            mail_on g.D.MaildirDisk c.args.work.now.store c.loop-i.work.store c.do_step.new.work.store inv.0 keeps,
+            λ safe.
+                let leads = inv.1 safe in
+                let good = subst (λ (t : Target). DoesForGood g.D.MaildirDisk g.F.FlatFile t (tasks_in (step_at steps i) item (get_or held i false)) (scene_of g.W.Wire g.D.MaildirDisk g.F.FlatFile c.loop-i.client c.loop-i.work) (Ok tt) (scene_of g.W.Wire g.D.MaildirDisk g.F.FlatFile c.do_step.new.client c.do_step.new.work) c.do_step.new.work.store c.do_step.new.work.ledger.file)
+                (ap (λ (k : Kind). target_at k account) c.loop-i.invariant.7) (c.in_default.ensures.good w d f leads.0) in (
+                  c.in_default.ensures.lasts d f leads.0,
+                  good_on g.D.MaildirDisk g.F.FlatFile target (tasks_planned steps items held) _ (tasks_in (step_at steps i) item (get_or held i false)) (later_at steps items held i) _ _ _ c.loop-i.work.store c.do_step.new.work.store split leads.1 good.0 good.1.texts keeps,
+                ),
+          ),
     )
 
 pub returns-clause-does : goal.returns-clause-does
@@ -156,3 +172,41 @@ do_step-requires-clause-row g c =
     let i = c.loop-i.i in
     let in_items : i < length c.args.listing.now = omega (arith, c.loop-i-test.true, c.len-i-end.ensures.count) in
     c.loop-i.invariant.8 c.uid.result.now (subst (λ (uid : List ℕ). has_row c.args.work.now.ledger.seen.rows uid ≡ true) (sym (c.uid.ensures.value no_item)) (row_at c.args.work.now.ledger.seen.rows c.args.listing.now i in_items c.requires.rows))
+
+-- ---- what outlives a loss of power
+
+pub returns-clause-keeps : goal.returns-clause-keeps
+returns-clause-keeps g c = λ w d f. (c.loop-i.invariant.9 w d f).0
+
+pub returns-in-Err-clause-keeps : goal.returns-in-Err-clause-keeps
+returns-in-Err-clause-keeps g c = λ w d f.
+    let done = c.in-Err.ensures.does w d f in
+    mail_on g.D.MaildirDisk c.args.work.now.store c.loop-i.work.store c.do_step.new.work.store (c.loop-i.invariant.9 done.0 done.1 done.2).0 (c.do_step.ensures.keeps d f).0
+
+pub returns-in-Err-clause-good : goal.returns-in-Err-clause-good
+returns-in-Err-clause-good g c = λ w d f safe.
+    let i = c.loop-i.i in
+    let account = c.args.account.now in
+    let target = target_of c.args.work.now.store account in
+    let steps = c.args.steps.now in
+    let items = c.args.listing.now in
+    let held = c.args.held.now in
+    let item : Item = record { uid = c.uid.result.now; size = c.size.result } in
+    let in_items : i < length items = omega (arith, c.loop-i-test.true, c.len-i-end.ensures.count) in
+    let split = tasks_left steps items held i item in_items c.requires.all_steps c.requires.all_flags (c.uid.ensures.value no_item) (c.size.ensures no_item) in
+    let done = c.in-Err.ensures.does w d f in
+    let leads = (c.loop-i.invariant.9 done.0 done.1 done.2).1 safe in
+    good_fell g.D.MaildirDisk g.F.FlatFile target (tasks_planned steps items held) _ (tasks_in (step_at steps i) item (get_or held i false)) (later_at steps items held i) _ _ _ c.in-Err.cut
+    c.loop-i.work.store c.do_step.new.work.store c.do_step.new.work.ledger.file split leads.1 (c.do_step.ensures.keeps d f).0
+    (subst (λ (t : Target). DoesForGood g.D.MaildirDisk g.F.FlatFile t (tasks_in (step_at steps i) item (get_or held i false)) (scene_of g.W.Wire g.D.MaildirDisk g.F.FlatFile c.loop-i.client c.loop-i.work) (Err c.in-Err.cut) (scene_of g.W.Wire g.D.MaildirDisk g.F.FlatFile c.do_step.new.client c.do_step.new.work) c.do_step.new.work.store c.do_step.new.work.ledger.file)
+    (ap (λ (k : Kind). target_at k account) c.loop-i.invariant.7) (c.in-Err.ensures.good w d f leads.0))
+
+pub returns-clause-good : goal.returns-clause-good
+returns-clause-good g c = λ w d f safe.
+    let leads = (c.loop-i.invariant.9 w d f).1 safe in
+    let target = target_of c.args.work.now.store c.args.account.now in
+    let none = ap (λ (ss : List Step). tasks_planned ss (drop c.loop-i.i c.args.listing.now) (drop c.loop-i.i c.args.held.now))
+    (drop_all c.loop-i.i c.args.steps.now (omega (arith, c.loop-i-test.false, c.len-i-end.ensures.count, c.requires.all_steps))) in
+    good_end g.D.MaildirDisk g.F.FlatFile target (tasks_planned c.args.steps.now c.args.listing.now c.args.held.now) _ _ _ c.loop-i.work.store c.loop-i.work.ledger.file none leads.1
+    (none_lasts g.D.MaildirDisk g.F.FlatFile target (place_of g.W.Wire c.loop-i.client) c.loop-i.work c.loop-i.work leads.0
+    (keeps_same g.D.MaildirDisk g.F.FlatFile c.loop-i.work) (c.loop-i.invariant.1.written.steady f))

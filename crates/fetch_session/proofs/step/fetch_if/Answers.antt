@@ -7,6 +7,7 @@ use Rattle.fetch_session.specs.Scene.{scene, AllWent, Does}
 use Rattle.fetch_session.proofs.SceneLemmas.{takes_does, on_any}
 use Rattle.fetch_session.proofs.TakeLemmas.{skipped, no_fetch, one_reread, one_store, was_true, was_false}
 use Rattle.fetch_session.proofs.IntakeLemmas.{took_nothing, took_less}
+use Rattle.fetch_session.proofs.LastLemmas.{keeps_same, none_came}
 use Rattle.fetch_session.proofs.step.fetch_if.Goals as goal
 
 pub returns-then-not-step-clause-does : goal.returns-then-not-step-clause-does
@@ -73,3 +74,17 @@ returns-then-not-step-clause-rows g c = λ uid has. has
 
 pub returns-then-held-clause-rows : goal.returns-then-held-clause-rows
 returns-then-held-clause-rows g c = on_any c.reread.result (λ uid has. has)
+
+-- ---- what outlives a loss of power
+
+pub returns-then-not-step-clause-keeps : goal.returns-then-not-step-clause-keeps
+returns-then-not-step-clause-keeps g c = λ d f. keeps_same g.D.MaildirDisk g.F.FlatFile c.args.work.now
+
+pub returns-then-held-clause-keeps : goal.returns-then-held-clause-keeps
+returns-then-held-clause-keeps g c = λ d f. keeps_same g.D.MaildirDisk g.F.FlatFile c.args.work.now
+
+pub returns-then-not-step-clause-lasts : goal.returns-then-not-step-clause-lasts
+returns-then-not-step-clause-lasts g c = λ d f safe. (safe, none_came g.D.MaildirDisk g.F.FlatFile c.args.work.now.store)
+
+pub returns-then-held-clause-lasts : goal.returns-then-held-clause-lasts
+returns-then-held-clause-lasts g c = λ d f safe. on_any c.reread.result (safe, none_came g.D.MaildirDisk g.F.FlatFile c.args.work.now.store)

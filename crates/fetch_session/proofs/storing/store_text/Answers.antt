@@ -5,6 +5,7 @@ use Rattle.mail_store.specs.Maildir.{Maildir, IsInNew}
 use Rattle.mail_store.specs.FileName.{sized}
 use Rattle.std.specs.Prelude.{is_some, string_bytes}
 use Rattle.fetch_session.proofs.StoreLemmas.{refused_start, stopped_store, stopped_read, refused_piece, put_on, settled, refused_end, longer}
+use Rattle.fetch_session.proofs.LastLemmas.{keeps_mail_on, lasts_settled}
 use Rattle.pop3_client.proofs.ClientLemmas.{and_then, so_far}
 use Rattle.fetch_session.proofs.RefusalLemmas.{before_cut, cut_by}
 use Rattle.fetch_session.proofs.storing.store_text.Goals as goal
@@ -118,6 +119,7 @@ pieces-preserved g c = (
   so_far g.W.Wire c.pieces.invariant.3 c.in-Ok.ensures.takes (λ before took number start now. let till = before number start now in (_, (took number start till.0 till.1).0)),
   c.in-Ok.ensures.counted ∙ c.pieces.invariant.4,
   c.in-Ok.ensures.link ∙ c.pieces.invariant.5,
+  λ d. keeps_mail_on (c.pieces.invariant.6 (c.put_piece.ensures.puts d).0) (c.put_piece.ensures.keeps d),
 )
 
 pub returns-in-Err-clause-reads : goal.returns-in-Err-clause-reads
@@ -155,3 +157,31 @@ returns-in-Ok-settle_file-clause-counted g c = c.in-Ok.ensures.counted ∙ c.pie
 
 pub returns-in-Err-settle_file-clause-counted : goal.returns-in-Err-settle_file-clause-counted
 returns-in-Err-settle_file-clause-counted g c = inl (c.in-Ok.ensures.counted ∙ c.pieces.invariant.4)
+
+-- ---- what outlives a loss of power
+
+pub returns-in-Err-next_piece-clause-keeps : goal.returns-in-Err-next_piece-clause-keeps
+returns-in-Err-next_piece-clause-keeps g c = λ d. keeps_mail_on (c.pieces.invariant.6 (c.abandon.ensures.drops d).0) (c.abandon.ensures.lasts d)
+
+pub returns-in-Err-put_piece-clause-keeps : goal.returns-in-Err-put_piece-clause-keeps
+returns-in-Err-put_piece-clause-keeps g c = λ d. keeps_mail_on (c.pieces.invariant.6 (c.put_piece.ensures.puts d).0) (c.put_piece.ensures.keeps d)
+
+pub returns-in-Ok-settle_file-clause-keeps : goal.returns-in-Ok-settle_file-clause-keeps
+returns-in-Ok-settle_file-clause-keeps g c = λ d.
+    let ends = c.settle_file.ensures.ends d in
+    keeps_mail_on (c.pieces.invariant.6 (c.put_piece.ensures.puts ends.0).0) (keeps_mail_on (c.put_piece.ensures.keeps ends.0) (c.settle_file.ensures.keeps d))
+
+pub returns-in-Err-settle_file-clause-keeps : goal.returns-in-Err-settle_file-clause-keeps
+returns-in-Err-settle_file-clause-keeps g c = λ d.
+    let ends = c.settle_file.ensures.ends d in
+    keeps_mail_on (c.pieces.invariant.6 (c.put_piece.ensures.puts ends.0).0) (keeps_mail_on (c.put_piece.ensures.keeps ends.0) (c.settle_file.ensures.keeps d))
+
+pub returns-in-Ok-settle_file-clause-lasts : goal.returns-in-Ok-settle_file-clause-lasts
+returns-in-Ok-settle_file-clause-lasts g c = λ d.
+    let ends = c.in-Ok-settle_file.ensures.ends d in
+    let puts = c.in_default-put_piece.ensures.puts ends.0 in
+    let inv = c.pieces.invariant.2 puts.0 in
+    let bytes = take c.in-Ok.piece.put c.next_piece.new.out in
+    let is = put_on (g.D.MaildirDisk.maildir c.args.disk.now) (g.D.MaildirDisk.maildir c.pieces.disk) (g.D.MaildirDisk.maildir c.put_piece.new.disk) (string_bytes c.args.stem) inv.1.0 bytes inv.1.1 puts.1 in
+    lasts_settled (g.D.MaildirDisk.maildir c.args.disk.now) (g.D.MaildirDisk.maildir c.put_piece.new.disk) (g.D.MaildirDisk.maildir c.settle_file.new.disk) (string_bytes c.args.stem) (inv.1.0 ++ bytes)
+    (c.pieces.length + c.in-Ok.piece.put) (g.D.MaildirDisk.outlives c.settle_file.new.disk) is (longer c.pieces.length c.in-Ok.piece.put inv.1.0 c.next_piece.new.out inv.1.2 c.in-Ok.ensures.fits) ends.1 (c.in-Ok-settle_file.ensures.lasts d)

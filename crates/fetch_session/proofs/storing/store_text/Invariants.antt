@@ -5,6 +5,7 @@ use Rattle.pop3_wire.specs.declared.unstuffer.Spot.TheVariants.{Done}
 use Rattle.pop3_client.specs.Turns.{retr}
 use Rattle.pop3_client.specs.Texts.{Fetching}
 use Rattle.mail_store.specs.Maildir.{file}
+use Rattle.mail_store.specs.Power.{KeepsMail}
 use Rattle.fetch_session.specs.Store.{begun_with}
 use Rattle.fetch_session.proofs.storing.store_text.Given as goal
 
@@ -22,6 +23,7 @@ invariant-pieces g l =
     → (text : List ℕ) × Fetching (retr number) start (place_of g.W.Wire l.client) l.rest text))
     × ((g.W.Wire.seen l.client.wire.now).failures ≡ (g.W.Wire.seen l.fn.client.wire.now).failures)
     × HasSameLink l.fn.client l.client
+    × (g.D.MaildirDisk.sound l.disk → KeepsMail (g.D.MaildirDisk.stays l.fn.disk) (g.D.MaildirDisk.outlives l.fn.disk) (g.D.MaildirDisk.stays l.disk) (g.D.MaildirDisk.outlives l.disk))
 
 abbrev pub decreases-pieces : goal.decreases-pieces
 decreases-pieces g l = l.rest.left

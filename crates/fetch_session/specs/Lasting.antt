@@ -1,0 +1,177 @@
+-- What of a session outlives a loss of power, as its devices tell it.
+use Rattle.std.specs.Prelude.{◌≡◌, ◌⊎◌, ℕ, List, [], ◌++◌, length, Some, Result, Ok, Err, Contains}
+use Rattle.std.specs.List.{flat_map, AllByRecursion}
+use Rattle.mail_store.specs.declared.maildir.disk.Folder.{Folder}
+use Rattle.mail_store.specs.declared.maildir.disk.MaildirDisk.{Ghosts as DiskGhosts}
+use Rattle.mail_store.specs.declared.file.flat_file.FlatFile.{Ghosts as FileGhosts}
+use Rattle.mail_store.specs.FlatFile.{Stored}
+use Rattle.mail_store.specs.Maildir.{File, names_of, files_in}
+use Rattle.mail_store.specs.Mboxrd.{entry_of}
+use Rattle.mail_store.specs.Power.{AllStay, KeepsBytes, KeepsMail, KeepsWhole, LastsWhole}
+use Rattle.mail_terms.specs.Listing.{Item}
+use Rattle.pop3_wire.specs.Link.{Link}
+use Rattle.pop3_wire.specs.Place.{Place, at}
+use Rattle.rc_file.specs.declared.settings.Settings.{Settings}
+use Rattle.fetch_rules.specs.Record.{Row, none_open, marked_all}
+use Rattle.fetch_session.specs.declared.account.Store.{Store}
+use Rattle.fetch_session.specs.declared.account.Store.TheVariants.{Maildir as InMaildir, Mboxrd as InMbox}
+use Rattle.fetch_session.specs.declared.fault.Cut.{Cut}
+use Rattle.fetch_session.specs.declared.report.Report.{Report}
+use Rattle.fetch_session.specs.declared.report.ReportLine.{ReportLine}
+use Rattle.fetch_session.specs.declared.work.Work.{Work}
+use Rattle.fetch_session.specs.Plan.{Carried, Unprepared, tasks_ahead}
+use Rattle.fetch_session.specs.Record.{Steady}
+use Rattle.fetch_session.specs.Report.{Reports}
+use Rattle.fetch_session.specs.Scene.{Scene, scene, Does}
+use Rattle.fetch_session.specs.Session.{Enters_with, Keeping, LeavesLink, NoRoom, NotEntered, Noted, outcome_of}
+use Rattle.fetch_session.specs.Target.{Target, AsFiles, AsEntries, Stores, stores_of}
+use Rattle.fetch_session.specs.Task.{Task, Done, ids_of, files_of, texts_of}
+
+-- ---- what the devices tell
+
+-- a loss of power leaves a file of this name in the Maildir; and this file, whole
+abbrev pub stays_in : {D F : Type 0} → DiskGhosts D → Store D F → List ℕ → Type 0
+stays_in disk (InMaildir device) name = disk.stays device name
+stays_in disk (InMbox device) name = ⊥
+
+abbrev pub outlives_in : {D F : Type 0} → DiskGhosts D → Store D F → File → Type 0
+outlives_in disk (InMaildir device) f = disk.outlives device f
+outlives_in disk (InMbox device) f = ⊥
+
+-- whatever a loss of power leaves of the mboxrd file begins with these bytes
+abbrev pub front_in : {D F : Type 0} → FileGhosts F → Store D F → List ℕ → Type 0
+front_in file (InMaildir device) bytes = ⊥
+front_in file (InMbox device) bytes = file.outlives device bytes
+
+-- no flush of the mboxrd file was refused
+abbrev pub is_sure : {D F : Type 0} → FileGhosts F → Store D F → Type 0
+is_sure file (InMaildir device) = Unit {0}
+is_sure file (InMbox device) = file.is_sure device
+
+-- all bytes of a file outlive a loss of power, and no flush of it was refused
+abbrev pub IsSafe : {F : Type 0} → FileGhosts F → F → Type 0
+IsSafe file f = file.is_sure f × LastsWhole (file.stored f).content (file.outlives f)
+
+-- the same of an mboxrd file
+abbrev pub IsSafeStore : {D F : Type 0} → FileGhosts F → Store D F → Type 0
+IsSafeStore file (InMaildir device) = Unit {0}
+IsSafeStore file (InMbox device) = IsSafe file device
+
+-- each file of a Maildir stays
+abbrev pub AllStayIn : {D F : Type 0} → DiskGhosts D → Store D F → Type 0
+AllStayIn disk (InMaildir device) = AllStay (disk.maildir device) (disk.stays device)
+AllStayIn disk (InMbox device) = Unit {0}
+
+abbrev pub IsSafeWork : {D F H Z : Type 0} → FileGhosts F → Work D F H Z → Type 0
+IsSafeWork file work = IsSafe file work.ledger.file × IsSafeStore file work.store
+
+-- ---- what calls keep of it
+
+abbrev pub KeepsMailIn : {D F : Type 0} → DiskGhosts D → Store D F → Store D F → Type 0
+KeepsMailIn disk old new = KeepsMail (stays_in disk old) (outlives_in disk old) (stays_in disk new) (outlives_in disk new)
+
+abbrev pub KeepsMboxIn : {D F : Type 0} → DiskGhosts D → FileGhosts F → Store D F → Store D F → Type 0
+KeepsMboxIn disk file old new = KeepsWhole (stores_of disk file old).mbox.content (front_in file old) (front_in file new)
+
+abbrev pub KeepsWork : {D F H Z : Type 0} → DiskGhosts D → FileGhosts F → Work D F H Z → Work D F H Z → Type 0
+KeepsWork disk file old new = KeepsMailIn disk old.store new.store × KeepsMboxIn disk file old.store new.store
+    × KeepsBytes (file.outlives old.ledger.file) (file.outlives new.ledger.file)
+
+-- the files that came into a Maildir outlive a loss of power, whichever they are
+abbrev pub NewOutlive : {D F : Type 0} → DiskGhosts D → FileGhosts F → Store D F → Store D F → Type 0
+NewOutlive disk file old new = (files : List File)
+    → (stores_of disk file new).maildir.in_new ≡ (stores_of disk file old).maildir.in_new ++ files
+    → AllByRecursion (outlives_in disk new) files
+
+-- ---- what tasks leave that outlives it
+
+-- the texts that these tasks stored: each file, whole; or all entries, after the bytes that the mboxrd file had
+abbrev pub TextsLast : {D F : Type 0} → DiskGhosts D → FileGhosts F → Target → List Done → Stores → Store D F → Type 0
+TextsLast disk file (AsFiles account) dones old store = AllByRecursion (outlives_in disk store) (files_of account dones)
+TextsLast disk file AsEntries dones old store =
+    (was : List ℕ) → old.mbox.content ≡ Some was → front_in file store (was ++ flat_map entry_of (texts_of dones))
+
+-- whatever a loss of power leaves of the record's file begins with bytes that stand for these rows
+abbrev pub RowsLast : {F : Type 0} → FileGhosts F → F → List Row → Type 0
+RowsLast file f rows = (bytes : List ℕ) × ((bytes ≡ []) ⊎ file.outlives f bytes) × Steady (Some bytes) (none_open rows)
+
+-- what these tasks stored and marked outlives a loss of power
+pub record DonesLast {D F : Type 0} (disk : DiskGhosts D) (file : FileGhosts F) (target : Target) (dones : List Done) (old : Scene)
+    (store : Store D F) (f : F) : Type 0 where
+  pub texts : TextsLast disk file target dones old.store store
+  pub rows : RowsLast file f (marked_all old.rows (ids_of dones))
+
+-- the same of the tasks that were done of a list of tasks
+abbrev pub Lasts : {D F : Type 0} → DiskGhosts D → FileGhosts F → (target : Target) (tasks : List Task) (old : Scene)
+    (result : Result (Unit {0}) Cut) (new : Scene) → Does target tasks old result new → Store D F → F → Type 0
+Lasts disk file target tasks old (Ok done) new does store f = DonesLast disk file target does.dones old store f
+Lasts disk file target tasks old (Err cut) new does store f = DonesLast disk file target does.dones old store f
+
+abbrev pub DoesForGood : {D F : Type 0} → DiskGhosts D → FileGhosts F → Target → List Task → Scene → Result (Unit {0}) Cut → Scene
+    → Store D F → F → Type 0
+DoesForGood disk file target tasks old result new store f =
+    (does : Does target tasks old result new) × Lasts disk file target tasks old result new does store f
+
+-- ---- a whole session
+
+-- each file that was in the Maildir still stays
+abbrev pub StayFrom : {D F : Type 0} → DiskGhosts D → Target → Stores → Store D F → Type 0
+StayFrom disk (AsFiles account) old store =
+    (folder : Folder) (name : List ℕ) → Contains (names_of (files_in old.maildir folder)) name → stays_in disk store name
+StayFrom disk AsEntries old store = Unit {0}
+
+-- what was planned was done, or as much as went well: each file that was in the Maildir before stays, and so does what was done
+pub record CarriedForGood {D F : Type 0} (disk : DiskGhosts D) (files : FileGhosts F) (settings : Settings) (target : Target)
+    (items : List Item)
+    (now : ℕ) (place : Place) (old : Stores) (file : Stored) (lines : List ReportLine) (result : Result (Unit {0}) Cut) (new : Scene)
+    (skipped : ℕ) (store : Store D F) (f : F) : Type 0 where
+  pub carried : Carried settings target items now place old file lines result new skipped
+  pub lasts : Lasts disk files target
+      (tasks_ahead settings target items now old carried.mid.rows) carried.mid result new carried.does store f
+  pub stay : StayFrom disk target old store
+
+abbrev pub CarriesForGood : {D F : Type 0} → DiskGhosts D → FileGhosts F → Settings → Target → List Item → ℕ → Place → Stores → Stored
+    → List ReportLine → Result (Unit {0}) Cut → Place → Stores → Stored → List ReportLine → ℕ → Store D F → F → Type 0
+CarriesForGood disk files settings target items now place old file lines (Ok done) place' new file' lines' skipped store f =
+    (rows : List Row)
+    × CarriedForGood disk files settings target items now place old file lines (Ok done)
+    (scene place' new file' rows lines') skipped store f
+CarriesForGood disk files settings target items now place old file lines (Err cut) place' new file' lines' skipped store f =
+    (rows : List Row)
+    × (((skipped ≡ 0) × Unprepared target items now place old file lines cut (scene place' new file' rows lines'))
+    ⊎ CarriedForGood disk files settings target items now place old file lines (Err cut)
+    (scene place' new file' rows lines') skipped store f)
+
+-- as `Dealt`, for good
+pub record DealtForGood {D F : Type 0} (disk : DiskGhosts D) (files : FileGhosts F) (settings : Settings) (target : Target)
+    (now : ℕ) (old : Place)
+    (before : Keeping) (result : Result (Unit {0}) Cut) (new : Place) (after : Keeping) (notes : Noted) (store : Store D F)
+    (f : F) : Type 0 where
+  pub items : List Item
+  pub mid : Place
+  pub enters : Enters_with settings old (Ok items) mid
+  pub total : notes.total ≡ length items
+  pub carries : CarriesForGood disk files settings target items now mid before.store before.file [] result new after.store after.file
+      notes.lines notes.skipped store f
+
+-- as `Proceeds`, for good
+abbrev pub ProceedsForGood : {D F : Type 0} → DiskGhosts D → FileGhosts F → Settings → Target → ℕ → Place → Keeping → Result (Unit {0}) Cut
+    → Place → Keeping → Noted → Store D F → F → Type 0
+ProceedsForGood disk files settings target now old before (Ok done) new after notes store f =
+    DealtForGood disk files settings target now old before (Ok done) new after notes store f
+ProceedsForGood disk files settings target now old before
+    (Err cut) new after notes store f = NotEntered settings old before cut new after notes
+    ⊎ (NoRoom settings old before cut new after notes
+    ⊎ DealtForGood disk files settings target now old before (Err cut) new after notes store f)
+
+-- a whole session, as `SessionIn` says; and what was stored and marked for each task that was done outlives a loss of
+-- power. Tasks are done in order, and a deletion comes after its message's own, so a DELE is sent only for a message
+-- whose text outlives one
+pub record SessionForGood {D F : Type 0} (disk : DiskGhosts D) (files : FileGhosts F) (settings : Settings) (target : Target) (now : ℕ)
+    (link : Link) (before : Keeping) (report : Report) (link' : Link) (after : Keeping) (store : Store D F) (f : F) : Type 0 where
+  pub result : Result (Unit {0}) Cut
+  pub mid : Place
+  pub notes : Noted
+  pub proceeds : ProceedsForGood disk files settings target now (at link []) before result mid after notes store f
+  pub leaves : LeavesLink result mid link'
+  pub reports : Reports (outcome_of result) notes.total notes.skipped notes.lines report
