@@ -5,7 +5,8 @@ use Rattle.pop3_server.specs.Maildrop.{Mail}
 use Rattle.pop3_server.specs.ServerMachine.{Machine, Answers, Unanswered, deed, is_open}
 
 -- an open server answered one line, which is given here without its CR LF
-pub record AnswersLine {D : Type 0} (sound : D → Type 0) (mail : D → Mail) (old : Machine D) (line answer : List ℕ) (new : Machine D) : Type 0 where
+pub record AnswersLine {D : Type 0} (sound : D → Type 0) (mail : D → Mail) (old : Machine D)
+    (line answer : List ℕ) (new : Machine D) : Type 0 where
   pub was_open : is_open old.state ≡ true
   pub user : new.user ≡ old.user
   pub pass : new.pass ≡ old.pass

@@ -2,7 +2,8 @@
 use Rattle.std.specs.Prelude.{◌≡◌, ◌⊎◌, ℕ, Bool, true, List, [], ◌∷◌, ◌++◌, map, None}
 use Rattle.std.specs.List.{flat_map, AllByRecursion}
 use Rattle.pop3_wire.specs.declared.command.Command.{Command}
-use Rattle.pop3_wire.specs.declared.command.Command.TheVariants.{User, Pass, Stat, UidlAll, UidlOne, ListAll, ListOne, Retr, Dele, Rset, Noop, Top, Quit}
+use Rattle.pop3_wire.specs.declared.command.Command.TheVariants.{User, Pass, Stat, UidlAll, UidlOne, ListAll}
+use Rattle.pop3_wire.specs.declared.command.Command.TheVariants.{ListOne, Retr, Dele, Rset, Noop, Top, Quit}
 use Rattle.pop3_wire.specs.Line.{ended}
 use Rattle.pop3_wire.specs.Commands.{line_of, can_be_sent}
 use Rattle.pop3_wire.specs.CommandLine.{HasNumbers}
@@ -43,7 +44,8 @@ lines_of commands = map line_of commands
 abbrev pub AreLeft : List Message → List Bool → List Message → Type 0
 AreLeft [] marks after = after ≡ []
 AreLeft (m ∷ ms) [] after = ⊥
-AreLeft (m ∷ ms) (mark ∷ marks) after = ((rest : List Message) × (after ≡ m ∷ rest) × AreLeft ms marks rest) ⊎ ((mark ≡ true) × AreLeft ms marks after)
+AreLeft (m ∷ ms) (mark ∷ marks) after = ((rest : List Message) × (after ≡ m ∷ rest) × AreLeft ms marks rest)
+    ⊎ ((mark ≡ true) × AreLeft ms marks after)
 
 -- only marked messages are gone, and none while the server is open
 pub record Gone (before : List Message) (marks : List Bool) (state : State) (after : List Message) : Type 0 where

@@ -1,6 +1,8 @@
 -- The sizes that were counted for an earlier listing.
 use Rattle.std.specs.Prelude.{◌≡◌, ℕ, List, string_bytes}
 use Rattle.std.specs.List.{Contains}
+use Rattle.pop3_server.specs.declared.maildir_names.Folder.{Folder}
+use Rattle.pop3_server.specs.declared.maildir_names.Stamp.{Stamp}
 use Rattle.pop3_server.specs.declared.listed_file.ListedFile.{ListedFile}
 use Rattle.pop3_server.specs.declared.maildir_names.MailFile.{MailFile}
 
@@ -13,3 +15,10 @@ pub record WasCounted (files : List ListedFile) (found : MailFile) (counted : �
   pub name : string_bytes file.name ≡ string_bytes found.name
   pub stamp : file.stamp ≡ found.stamp
   pub size : file.size ≡ counted
+
+-- where a file is, and its length and time of change
+abbrev pub listed_place : ListedFile → Folder × List ℕ × Stamp
+listed_place file = (file.folder, string_bytes file.name, file.stamp)
+
+abbrev pub found_place : MailFile → Folder × List ℕ × Stamp
+found_place file = (file.folder, string_bytes file.name, file.stamp)

@@ -18,7 +18,8 @@ left_marked i (row ∷ rows) mail = (if row.marked && holds (slice_get mail.slot
 
 -- at most as many of the marked messages are left as refusals were counted
 abbrev pub FewAreLeft : Type 0
-FewAreLeft = (rows : List MessageRow) (old new : Mail) (all : Bool) → Empties 0 rows old all new → left_marked 0 rows new + old.failures ≤ new.failures
+FewAreLeft = (rows : List MessageRow) (old new : Mail) (all : Bool) → Empties 0 rows old all new
+    → left_marked 0 rows new + old.failures ≤ new.failures
 
 -- if all were removed, nothing was refused
 abbrev pub AllAreRemoved : Type 0

@@ -1,9 +1,12 @@
 -- The server as a machine: a state and a line lead to an answer and the next state (RFC 1939, sections 4 to 7).
-use Rattle.std.specs.Prelude.{◌≡◌, ◌⊎◌, ◌≤◌, ◌==◌, ℕ, zero, suc, ◌+◌, ◌-◌, Bool, true, false, not, ◌&&◌, List, [], ◌∷◌, ◌++◌, map, length, Option, Some, None, Result, Ok, Err, slice_get, codes, bytes_eq, if◌then◌else◌}
+use Rattle.std.specs.Prelude.{◌≡◌, ◌⊎◌, ◌≤◌, ◌==◌, ℕ, zero, suc, ◌+◌, ◌-◌, Bool, true, false}
+use Rattle.std.specs.Prelude.{not, ◌&&◌, List, [], ◌∷◌, ◌++◌, map, length, Option, Some, None}
+use Rattle.std.specs.Prelude.{Result, Ok, Err, slice_get, codes, bytes_eq, if◌then◌else◌}
 use Rattle.std.specs.List.{All, count_by, sum_by}
 use Rattle.std.specs.Fmt.{decimal}
 use Rattle.pop3_wire.specs.declared.command.Command.{Command}
-use Rattle.pop3_wire.specs.declared.command.Command.TheVariants.{User, Pass, Stat, UidlAll, UidlOne, ListAll, ListOne, Retr, Dele, Rset, Noop, Top, Quit}
+use Rattle.pop3_wire.specs.declared.command.Command.TheVariants.{User, Pass, Stat, UidlAll, UidlOne, ListAll}
+use Rattle.pop3_wire.specs.declared.command.Command.TheVariants.{ListOne, Retr, Dele, Rset, Noop, Top, Quit}
 use Rattle.pop3_wire.specs.declared.fault.WireFault.{WireFault}
 use Rattle.pop3_wire.specs.Line.{crlf, ended}
 use Rattle.pop3_wire.specs.Body.{dot}
@@ -232,7 +235,8 @@ Does sound mail (Give rows i line top) old answer next new =
 Does sound mail (Leave rows) old answer next new = (next ≡ Closed) × RemovesMarked sound mail rows old answer new
 
 -- a deed was done: its answer, the next state, and the maildrop before and after
-pub record Answers {D : Type 0} (sound : D → Type 0) (mail : D → Mail) (asked_for : Deed) (old : D) (answer : List ℕ) (next : State) (new : D) : Type 0 where
+pub record Answers {D : Type 0} (sound : D → Type 0) (mail : D → Mail) (asked_for : Deed) (old : D)
+    (answer : List ℕ) (next : State) (new : D) : Type 0 where
   pub removals : AsksRemovals (mail old) asked_for (mail new)
   pub does : Does sound mail asked_for old answer next new
 

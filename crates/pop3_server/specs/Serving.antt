@@ -77,7 +77,8 @@ BegunSent {D} sound mail refused old lines sent last =
     × (sent ≡ whole ++ answer)
 
 -- what was sent for these lines, and the server that is left, if this rest was got after them
-abbrev pub WentOut : {D : Type 0} → (D → Type 0) → (D → Mail) → Machine D → List (List ℕ) → List ℕ → List ℕ → Result (Unit {0}) ServerFault → Machine D → Type 0
+abbrev pub WentOut : {D : Type 0} → (D → Type 0) → (D → Mail) → Machine D → List (List ℕ) → List ℕ → List ℕ
+    → Result (Unit {0}) ServerFault → Machine D → Type 0
 -- all was answered while the server was open
 WentOut sound mail old lines rest sent (Ok done) new =
     AllSent sound mail old lines sent new × ((is_open new.state ≡ false) ⊎ IsLine rest)
@@ -99,13 +100,16 @@ SendsRest sound mail old text before (Ok done) new after =
 SendsRest sound mail old text before (Err ReadFailed) new after = ⊥
 SendsRest sound mail old text before (Err WriteFailed) new after =
     (front unsent : List ℕ) × (after ≡ record before { sent = before.sent ++ front; failures = before.failures + 1 })
-    × (GivesRest sound mail old text (front ++ unsent) new ⊎ ((next : TextBody) × GivesMore sound mail false old text (front ++ unsent) next new))
+    × (GivesRest sound mail old text (front ++ unsent) new
+    ⊎ ((next : TextBody) × GivesMore sound mail false old text (front ++ unsent) next new))
 SendsRest sound mail old text before (Err MaildropFailed) new after =
-    (given : List ℕ) × (next : TextBody) × GivesMore sound mail true old text given next new × (after ≡ record before { sent = before.sent ++ given })
+    (given : List ℕ) × (next : TextBody) × GivesMore sound mail true old text given next new
+    × (after ≡ record before { sent = before.sent ++ given })
 SendsRest sound mail old text before (Err NoMemory) new after = ⊥
 
 -- a line was answered, or a prefix of its answer was sent
-abbrev pub SendsAnswer : {D : Type 0} → (D → Type 0) → (D → Mail) → Machine D → List ℕ → Link → Result Bool ServerFault → Machine D → Link → Type 0
+abbrev pub SendsAnswer : {D : Type 0} → (D → Type 0) → (D → Mail) → Machine D → List ℕ → Link
+    → Result Bool ServerFault → Machine D → Link → Type 0
 SendsAnswer sound mail old line before (Ok closing) new after =
     (answer : List ℕ) × AnswersLine sound mail old line answer new × (after ≡ record before { sent = before.sent ++ answer })
 SendsAnswer sound mail old line before (Err ReadFailed) new after = ⊥
@@ -117,7 +121,8 @@ SendsAnswer sound mail old line before (Err MaildropFailed) new after =
 SendsAnswer sound mail old line before (Err NoMemory) new after = SameServer sound mail old new × (after ≡ before)
 
 -- the lines that were got were answered in order
-pub record Served {D : Type 0} (sound : D → Type 0) (mail : D → Mail) (old : Machine D) (before : Link) (result : Result (Unit {0}) ServerFault) (new : Machine D) (after : Link) : Type 0 where
+pub record Served {D : Type 0} (sound : D → Type 0) (mail : D → Mail) (old : Machine D) (before : Link)
+    (result : Result (Unit {0}) ServerFault) (new : Machine D) (after : Link) : Type 0 where
   pub gained : List ℕ
   pub got : after.got ≡ before.got ++ gained
   pub bound : length gained ≤ max_octets

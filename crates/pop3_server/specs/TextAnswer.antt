@@ -13,7 +13,8 @@ use Rattle.pop3_server.specs.TextPart.{BeginsTextAt}
 use Rattle.pop3_server.specs.TextPiece.{sent_end}
 
 -- the first line and some of the body after it were made, and the rest is to be given
-pub record BeginsText {D : Type 0} (sound : D → Type 0) (mail : D → Mail) (i : ℕ) (line : List ℕ) (top : Option ℕ) (old : D) (bytes : List ℕ) (rest : TextBody) (new : D) : Type 0 where
+pub record BeginsText {D : Type 0} (sound : D → Type 0) (mail : D → Mail) (i : ℕ) (line : List ℕ)
+    (top : Option ℕ) (old : D) (bytes : List ℕ) (rest : TextBody) (new : D) : Type 0 where
   -- at the start of the text
   pub first : TextBody
   pub place : first.place ≡ i
@@ -27,7 +28,8 @@ pub record BeginsText {D : Type 0} (sound : D → Type 0) (mail : D → Mail) (i
 abbrev pub BeginsDeed : {D : Type 0} → (D → Type 0) → (D → Mail) → Deed → D → List ℕ → TextBody → State → D → Type 0
 BeginsDeed sound mail (Say bytes state) old front rest next new = ⊥
 BeginsDeed sound mail Open old front rest next new = ⊥
-BeginsDeed sound mail (Give rows i line top) old front rest next new = (next ≡ Transaction rows) × BeginsText sound mail i line top old front rest new
+BeginsDeed sound mail (Give rows i line top) old front rest next new = (next ≡ Transaction rows)
+    × BeginsText sound mail i line top old front rest new
 BeginsDeed sound mail (Leave rows) old front rest next new = ⊥
 
 -- a deed was done, or its answer was begun if a text follows
@@ -37,7 +39,8 @@ AnswersOrBegins sound mail asked old bytes (Some rest) next new = BeginsDeed sou
 
 -- an open server answered one line with a text, as far as the text was read; then the maildrop refused a call
 -- or not
-pub record BeginsAnswer {D : Type 0} (sound : D → Type 0) (mail : D → Mail) (refused : Bool) (old : Machine D) (line answer : List ℕ) (new : Machine D) : Type 0 where
+pub record BeginsAnswer {D : Type 0} (sound : D → Type 0) (mail : D → Mail) (refused : Bool)
+    (old : Machine D) (line answer : List ℕ) (new : Machine D) : Type 0 where
   pub was_open : is_open old.state ≡ true
   pub user : new.user ≡ old.user
   pub pass : new.pass ≡ old.pass

@@ -28,7 +28,8 @@ after_call true old = refusing old
 after_call false old = old
 
 -- for a piece of a text more of its body was given, and then a call was refused or not
-pub record GivesMore {D : Type 0} (sound : D → Type 0) (mail : D → Mail) (refused : Bool) (old : D) (before : TextBody) (given : List ℕ) (after : TextBody) (new : D) : Type 0 where
+pub record GivesMore {D : Type 0} (sound : D → Type 0) (mail : D → Mail) (refused : Bool) (old : D)
+    (before : TextBody) (given : List ℕ) (after : TextBody) (new : D) : Type 0 where
   pub piece : List ℕ
   pub place : after.place ≡ before.place
   pub start : after.start ≡ before.start + length piece
@@ -38,9 +39,11 @@ pub record GivesMore {D : Type 0} (sound : D → Type 0) (mail : D → Mail) (re
   pub known : Known sound mail old new (λ m n. (n ≡ after_call refused m) × ArePart m before.place before.start piece)
 
 -- for a piece of a text the rest of its body was given, which is the same as for all of the text
-pub record GivesRest {D : Type 0} (sound : D → Type 0) (mail : D → Mail) (old : D) (before : TextBody) (given : List ℕ) (new : D) : Type 0 where
+pub record GivesRest {D : Type 0} (sound : D → Type 0) (mail : D → Mail) (old : D) (before : TextBody)
+    (given : List ℕ) (new : D) : Type 0 where
   pub piece : List ℕ
   pub ends : given ≡ still before piece
   pub removals : (mail new).removals ≡ (mail old).removals
   pub known : Known sound mail old new (λ m n. (n ≡ m)
-      × ((message : Message) × (slice_get m.slots before.place ≡ Some (Some message)) × (still before piece ≡ still before (drop before.start message.text))))
+      × ((message : Message) × (slice_get m.slots before.place ≡ Some (Some message))
+      × (still before piece ≡ still before (drop before.start message.text))))

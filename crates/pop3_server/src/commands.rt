@@ -1,12 +1,15 @@
 //! What a server does for each command: the table of states and commands (RFC 1939, sections 4 to 7).
-ghost use Rattle.std.specs.Prelude.{◌≡◌, ◌<◌, ◌-◌, ◌^◌, ℕ, Bool, List, Option, map, slice_get, Some, None, IfOk, IfErr, IfSome, MatchResult, bytes_eq, codes, ◌++◌};
+ghost use Rattle.std.specs.Prelude.{◌≡◌, ◌<◌, ◌-◌, ◌^◌, ℕ, Bool, List, Option, map, slice_get, Some};
+ghost use Rattle.std.specs.Prelude.{None, IfOk, IfErr, IfSome, MatchResult, bytes_eq, codes, ◌++◌};
 ghost use Rattle.pop3_wire.specs.declared.command.Command.TheVariants.{Retr, Top, Dele, Rset};
 ghost use Rattle.pop3_server.specs.declared.rows.MessageRow.{MessageRow};
 ghost use Rattle.pop3_server.specs.declared.state.State.{State};
 ghost use Rattle.pop3_server.specs.declared.state.State.TheVariants.{Authorization, Transaction, Closed};
 ghost use Rattle.mail_terms.specs.FailureCount.{counted_up};
 ghost use Rattle.pop3_server.specs.Maildrop.{HasPlace};
-ghost use Rattle.pop3_server.specs.ServerMachine.{Say, Open, Give, Leave, Answers, SamePlaces, Unanswered, Tied, Tries, Empties, with_marked, in_authorization, in_transaction, next_of, said, of_row, row_at, scan_line, uid_line, text_body};
+ghost use Rattle.pop3_server.specs.ServerMachine.{Say, Open, Give, Leave, Answers, SamePlaces, Unanswered, Tied};
+ghost use Rattle.pop3_server.specs.ServerMachine.{Tries, Empties, with_marked, in_authorization, in_transaction};
+ghost use Rattle.pop3_server.specs.ServerMachine.{next_of, said, of_row, row_at, scan_line, uid_line, text_body};
 ghost use Rattle.pop3_server.specs.TextAnswer.{AnswersOrBegins};
 ghost use Rattle.pop3_server.specs.TextBody.{still};
 
@@ -59,7 +62,8 @@ impl Step {
 
 /// PASS with the right password: lists the maildrop.
 fn open<D: Maildrop>(alloc: Global, drop: &mut D) -> Result<Step, ServerFault>
-    ensures ok { IfOk result (λ step. (state : State) → AnswersOrBegins D.sound D.mail Open drop.old step.bytes.items step.rest (next_of state step.next) drop.new) }
+    ensures ok { IfOk result (λ step. (state : State) → AnswersOrBegins D.sound D.mail Open
+        drop.old step.bytes.items step.rest (next_of state step.next) drop.new) }
     ensures tied { IfOk result (λ step. (state : State) → Tied (D.sound drop.new) (D.mail drop.new) (next_of state step.next)) }
     ensures whole { IfOk result (λ step. step.rest ≡ None) }
     ensures err { IfErr result (λ e. (e ≡ ServerFault.NoMemory) × Unanswered D.sound D.mail drop.old drop.new) }
@@ -86,8 +90,10 @@ fn give<D: Maildrop>(
 ) -> Result<Reply, ServerFault>
     requires place { D.sound drop.old → HasPlace (D.mail drop.old) text.place }
     requires start { text.start ≡ 0 }
-    ensures ok { IfOk result (λ given. (rows : List MessageRow) (top : Option ℕ) → ((octets : List ℕ) → still text octets ≡ text_body top octets)
-        → AnswersOrBegins D.sound D.mail (Give rows text.place reply.items top) drop.old given.0.items given.1 (Transaction rows) drop.new) }
+    ensures ok { IfOk result (λ given. (rows : List MessageRow) (top : Option ℕ)
+        → ((octets : List ℕ) → still text octets ≡ text_body top octets)
+        → AnswersOrBegins D.sound D.mail (Give rows text.place reply.items top)
+        drop.old given.0.items given.1 (Transaction rows) drop.new) }
     ensures limited { IfOk result (λ given. IfSome given.1 (λ _. limit < 2 ^ 64 - 1)) }
     ensures same_places { D.sound drop.new → D.sound drop.old × ((D.mail drop.new).slots ≡ (D.mail drop.old).slots) }
     ensures err { IfErr result (λ e. (e ≡ ServerFault.NoMemory) × Unanswered D.sound D.mail drop.old drop.new) }
@@ -111,7 +117,8 @@ fn retr<D: Maildrop>(
     limit: usize,
 ) -> Result<Reply, ServerFault>
     requires { Tied (D.sound drop.old) (D.mail drop.old) (Transaction rows.now) }
-    ensures ok { IfOk result (λ given. AnswersOrBegins D.sound D.mail (in_transaction rows.now (Retr number)) drop.old given.0.items given.1 (Transaction rows.now) drop.new) }
+    ensures ok { IfOk result (λ given. AnswersOrBegins D.sound D.mail (in_transaction rows.now (Retr number))
+        drop.old given.0.items given.1 (Transaction rows.now) drop.new) }
     ensures limited { IfOk result (λ given. IfSome given.1 (λ _. limit < 2 ^ 64 - 1)) }
     ensures tied { Tied (D.sound drop.new) (D.mail drop.new) (Transaction rows.now) }
     ensures err { IfErr result (λ e. (e ≡ ServerFault.NoMemory) × Unanswered D.sound D.mail drop.old drop.new) }
@@ -133,7 +140,8 @@ fn top<D: Maildrop>(
     limit: usize,
 ) -> Result<Reply, ServerFault>
     requires { Tied (D.sound drop.old) (D.mail drop.old) (Transaction rows.now) }
-    ensures ok { IfOk result (λ given. AnswersOrBegins D.sound D.mail (in_transaction rows.now (Top number count)) drop.old given.0.items given.1 (Transaction rows.now) drop.new) }
+    ensures ok { IfOk result (λ given. AnswersOrBegins D.sound D.mail (in_transaction rows.now (Top number count))
+        drop.old given.0.items given.1 (Transaction rows.now) drop.new) }
     ensures limited { IfOk result (λ given. IfSome given.1 (λ _. limit < 2 ^ 64 - 1)) }
     ensures tied { Tied (D.sound drop.new) (D.mail drop.new) (Transaction rows.now) }
     ensures err { IfErr result (λ e. (e ≡ ServerFault.NoMemory) × Unanswered D.sound D.mail drop.old drop.new) }
@@ -198,7 +206,9 @@ pub fn authorize<D: Maildrop>(
     kept: &Option<Bytes>,
     command: Command,
 ) -> Result<Step, ServerFault>
-    ensures ok { IfOk result (λ step. AnswersOrBegins D.sound D.mail (in_authorization user.now pass.now kept.now command) drop.old step.bytes.items step.rest (next_of (Authorization kept.now) step.next) drop.new) }
+    ensures ok { IfOk result (λ step. AnswersOrBegins D.sound D.mail
+        (in_authorization user.now pass.now kept.now command)
+        drop.old step.bytes.items step.rest (next_of (Authorization kept.now) step.next) drop.new) }
     ensures whole { IfOk result (λ step. step.rest ≡ None) }
     ensures tied { IfOk result (λ step. Tied (D.sound drop.new) (D.mail drop.new) (next_of (Authorization kept.now) step.next)) }
     ensures err { IfErr result (λ e. (e ≡ ServerFault.NoMemory) × Unanswered D.sound D.mail drop.old drop.new) }
@@ -309,7 +319,8 @@ pub fn transact<D: Maildrop>(
     limit: usize,
 ) -> Result<Step, ServerFault>
     requires { Tied (D.sound drop.old) (D.mail drop.old) (Transaction rows.old) }
-    ensures ok { IfOk result (λ step. AnswersOrBegins D.sound D.mail (in_transaction rows.old command.now) drop.old step.bytes.items step.rest (next_of (Transaction rows.new) step.next) drop.new) }
+    ensures ok { IfOk result (λ step. AnswersOrBegins D.sound D.mail (in_transaction rows.old command.now)
+        drop.old step.bytes.items step.rest (next_of (Transaction rows.new) step.next) drop.new) }
     ensures rest { IfOk result (λ step. IfSome step.rest (λ _. (limit < 2 ^ 64 - 1) × (step.next ≡ None) × (rows.new ≡ rows.old))) }
     ensures tied { MatchResult result
         (λ step. Tied (D.sound drop.new) (D.mail drop.new) (next_of (Transaction rows.new) step.next))

@@ -1,5 +1,6 @@
 //! When the folders of a Maildir were last changed, and how long an earlier listing of them stays valid.
 ghost use Rattle.std.specs.Prelude.{◌≡◌, ◌↔◌, IsTrue};
+ghost use Rattle.pop3_server.specs.declared.folders_look.FoldersLook.{FoldersLook};
 ghost use Rattle.pop3_server.specs.FoldersLook.{Stands};
 
 use std::fs::Metadata;
@@ -41,7 +42,9 @@ pub struct FoldersLook {
 
 impl FoldersLook {
     /// No look: no listing is valid after it.
-    pub fn none() -> FoldersLook {
+    pub fn none() -> FoldersLook
+        ensures { (later : FoldersLook) → Stands result later → ⊥ }
+    {
         let never = ChangeTime {
             seconds: 0,
             nanoseconds: 0,

@@ -1,5 +1,6 @@
 //! Reads the lines that a server gets, within its limits.
-ghost use Rattle.std.specs.Prelude.{◌≡◌, ◌≤◌, ◌<◌, ◌+◌, ◌-◌, ◌*◌, ◌++◌, ℕ, List, [], length, take, drop, true, false, IfOk, IfErr, IfSome, IfNone, Ok, Err};
+ghost use Rattle.std.specs.Prelude.{◌≡◌, ◌≤◌, ◌<◌, ◌+◌, ◌-◌, ◌*◌, ◌++◌, ℕ, List, [], length, take};
+ghost use Rattle.std.specs.Prelude.{drop, true, false, IfOk, IfErr, IfSome, IfNone, Ok, Err};
 ghost use Rattle.pop3_wire.specs.Link.{CountsFailure, WhereSound};
 ghost use Rattle.pop3_wire.specs.Place.{HasLine, HasNoLine};
 ghost use Rattle.pop3_server.specs.declared.intake.Heard.TheVariants.{LongLine};

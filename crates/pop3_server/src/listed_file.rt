@@ -1,7 +1,9 @@
 //! The files of a Maildir whose messages are listed, and their sizes as messages.
-ghost use Rattle.std.specs.Prelude.{◌≡◌, [], IsTrue, IfSome};
+ghost use Rattle.std.specs.Prelude.{◌≡◌, [], IsTrue, IfSome, IfOk, map};
 ghost use Rattle.std.specs.String.{string_bytes};
-ghost use Rattle.pop3_server.specs.ListedFiles.{WasCounted};
+ghost use Rattle.pop3_server.specs.declared.folders_look.FoldersLook.{FoldersLook};
+ghost use Rattle.pop3_server.specs.FoldersLook.{Stands};
+ghost use Rattle.pop3_server.specs.ListedFiles.{WasCounted, found_place, listed_place};
 
 use crate::folders_look::FoldersLook;
 use crate::maildir_names::{Folder, MailFile, PlacedFile, Stamp};
@@ -28,7 +30,7 @@ pub struct ListedFile {
 impl ListedFile {
     /// A file that was found, and its size.
     pub fn of(found: MailFile, size: u64) -> ListedFile
-        ensures { string_bytes result.name ≡ string_bytes found.name }
+        ensures { result ≡ record { folder = found.folder; name = found.name; stamp = found.stamp; size = size } }
     {
         let MailFile {
             folder,
@@ -105,7 +107,8 @@ pub struct Listing {
 impl Listing {
     /// No listing; it is never valid.
     pub fn none(alloc: Global) -> Listing
-        ensures { result.files.items ≡ [] }
+        ensures files { result.files.items ≡ [] }
+        ensures never { (later : FoldersLook) → Stands result.look later → ⊥ }
     {
         Listing {
             look: FoldersLook::none(),
@@ -114,7 +117,10 @@ impl Listing {
     }
 
     /// The listed files as they were found.
-    pub fn found(&self, alloc: Global) -> Result<FoundFiles, AllocError> {
+    pub fn found(&self, alloc: Global) -> Result<FoundFiles, AllocError>
+        ensures look { IfOk result (λ found. found.look ≡ self.now.look) }
+        ensures files { IfOk result (λ found. map found_place found.files.items ≡ map listed_place self.now.files.items) }
+    {
         let mut files = Vec::with_capacity(alloc, self.files.len())?;
         for file in self.files.as_slice() {
             let name = String::from_str(alloc, file.name.as_str())?;
@@ -137,7 +143,9 @@ pub struct Counted<'a> {
 
 impl<'a> Counted<'a> {
     /// The sizes of these files.
-    pub fn new(files: &'a [ListedFile]) -> Counted<'a> {
+    pub fn new(files: &'a [ListedFile]) -> Counted<'a>
+        ensures { result.files.now ≡ files.now }
+    {
         Counted { files }
     }
 

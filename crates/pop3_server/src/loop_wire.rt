@@ -1,5 +1,6 @@
 //! A link to a server in memory.
-ghost use Rattle.std.specs.Prelude.{◌≡◌, ◌≤◌, ◌<◌, ◌+◌, ◌++◌, ◌-◌, ◌^◌, ℕ, List, [], length, take, drop, true, false, IfOk, IfErr, IfSome, IfNone};
+ghost use Rattle.std.specs.Prelude.{◌≡◌, ◌≤◌, ◌<◌, ◌+◌, ◌++◌, ◌-◌, ◌^◌, ℕ, List, [], length};
+ghost use Rattle.std.specs.Prelude.{take, drop, true, false, IfOk, IfErr, IfSome, IfNone};
 ghost use Rattle.pop3_wire.specs.Link.{Link, with_failures, CountsFailure, Sends, Receives, WhereSound};
 ghost use Rattle.mail_terms.specs.FailureCount.{greatest_count, counted_up};
 ghost use Rattle.pop3_wire.specs.Place.{HasLine};

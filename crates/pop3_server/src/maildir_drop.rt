@@ -5,47 +5,49 @@ ghost use Rattle.std.specs.String.{string_bytes};
 ghost use Rattle.mail_terms.specs.Distinct.{AreDistinct};
 ghost use Rattle.mail_terms.specs.FailureCount.{Tallies, counted_up, refuses};
 ghost use Rattle.pop3_server.specs.Maildrop.{is_refusal};
-ghost use Rattle.pop3_server.specs.RealMaildir.{mail_of, names_of, uid_of, HaveIds, ListsNames};
+ghost use Rattle.pop3_server.specs.RealMaildir.{mail_of, uid_of, ListsNames};
 
-use crate::listed_file::{Counted, FoundFiles, ListedFile, Listing, PIECE};
+mod listing;
+mod texts;
+
+use crate::listed_file::Listing;
+use crate::maildir_drop::listing::ListedMessages;
 use crate::maildir_folders::{MaildirFolders, Unread};
-use crate::maildir_names::{MailFile, unique_id};
-use crate::maildrop::{DropFault, Entry, MAX_COUNT, MAX_SIZE, Maildrop};
+use crate::maildrop::{DropFault, Entry, MAX_COUNT, Maildrop};
 use crate::seen_files::SeenFiles;
-use mail_terms::{FailureCount, base};
-use std::collections::HashSet;
-use std::hash::RandomState;
-use std::io::{self, ErrorKind, Read, Seek, SeekFrom};
+use mail_terms::FailureCount;
+use std::io::{self, ErrorKind};
 use std::marker::Model;
 use std::random::RandomSource;
 use std::rt::Files;
 use std::time::Clock;
 
 /// A Maildir in a real folder. Nothing is known of what it holds: contracts see its path, the names of
-/// the files that were listed, and the counts.
+/// the files that were listed, and the counts. If it answers NoMemory although none of its own growths
+/// was refused, a call of the kernel answered ENOMEM, which it passes on.
 #[derive(Drop)]
 pub struct MaildirDrop<'a, R: Files + AllocGlobal + Clone + Drop> {
-    rt: &'a R,
-    folders: MaildirFolders<'a, R>,
-    listing: Listing,
+    pub(crate) rt: &'a R,
+    pub(crate) folders: MaildirFolders<'a, R>,
+    pub(crate) listing: Listing,
     /// An earlier server's listing, until this one has its own.
-    earlier: Listing,
+    pub(crate) earlier: Listing,
     /// The path of the file or folder that couldn't be read, if that refused a listing.
     unread: Option<String>,
     /// Where files were last seen that aren't where they were listed.
-    last_seen: SeenFiles,
+    pub(crate) last_seen: SeenFiles,
     /// The file of which a part was given last.
-    open: Option<OpenText<R::File>>,
+    pub(crate) open: Option<OpenText<R::File>>,
     failures: FailureCount,
     removals: u64,
 }
 
 /// A message's file that is read in parts: the message's place, and how many octets were read.
 #[derive(Drop)]
-struct OpenText<F: Drop> {
-    place: usize,
-    read: usize,
-    file: F,
+pub(crate) struct OpenText<F: Drop> {
+    pub(crate) place: usize,
+    pub(crate) read: usize,
+    pub(crate) file: F,
 }
 
 impl<'a, R: Files + AllocGlobal + Clone + Drop> Model for MaildirDrop<'a, R> {
@@ -60,18 +62,6 @@ impl<'a, R: Files + AllocGlobal + Clone + Drop> Model for MaildirDrop<'a, R> {
       failures = d.failures;
       removals = d.removals;
     } };
-}
-
-/// The error for a file that isn't there.
-fn missing() -> Unread {
-    io::Error::from(ErrorKind::NotFound).into()
-}
-
-/// The messages found in a Maildir, and the places of their files.
-#[derive(Drop)]
-struct ListedMessages {
-    entries: Vec<Entry>,
-    listing: Listing,
 }
 
 impl<'a, R: Files + Clock + RandomSource + AllocGlobal + Clone + Drop> MaildirDrop<'a, R> {
@@ -121,183 +111,6 @@ impl<'a, R: Files + Clock + RandomSource + AllocGlobal + Clone + Drop> MaildirDr
             Some(path) => Some(path.as_str()),
             None => None,
         }
-    }
-
-    /// The files of the Maildir: those of the earlier listing, if it is still valid.
-    fn find(&self, last_seen: &mut SeenFiles) -> Result<FoundFiles, Unread> {
-        let look = self.folders.look()?;
-        if self.earlier.look.stands_at(&look) {
-            return Ok(self.earlier.found(self.rt.alloc())?);
-        }
-        let placed = self.folders.list()?;
-        let mut files = Vec::with_capacity(self.rt.alloc(), placed.len())?;
-        for file in placed {
-            if let Some(stamp) = self.folders.stamp(last_seen, &file)? {
-                files.push(MailFile::of(file, stamp))?;
-            }
-        }
-        Ok(FoundFiles { look, files })
-    }
-
-    /// The size of a file: the one that is known, or else the file is read. None if it is gone.
-    fn size_of(
-        &self,
-        last_seen: &mut SeenFiles,
-        file: &MailFile,
-        known: Option<u64>,
-        piece: &mut [u8],
-    ) -> Result<Option<u64>, Unread> {
-        match known {
-            Some(size) => Ok(Some(size)),
-            None => self
-                .folders
-                .size(last_seen, file.folder, file.name.as_str(), piece),
-        }
-    }
-
-    /// The messages of these files: only the first of several with one id, none above the limits,
-    /// and none whose file is gone.
-    #[tactic(auto, using(crate::proofs::MaildirLemmas::ids_push))]
-    fn list(&self, last_seen: &mut SeenFiles, found: FoundFiles) -> Result<ListedMessages, Unread>
-        ensures within { IfOk result (λ listed. vec_len listed.entries ≤ MAX_COUNT) }
-        ensures distinct { IfOk result (λ listed. AreDistinct (map uid_of listed.entries.items)) }
-        ensures names { IfOk result (λ listed. HaveIds listed.entries.items (names_of listed.listing.files.items)) }
-    {
-        let alloc = self.rt.alloc();
-        let FoundFiles { look, files: found } = found;
-        // Random keys, since the names of files may come from ids that a server chose.
-        let keys = RandomState::new(self.rt)?;
-        let mut seen: HashSet<Vec<u8>, RandomState> = HashSet::with_capacity_and_hasher(
-            alloc,
-            found.len(),
-            keys,
-        )?;
-        let mut entries = Vec::with_capacity(alloc, found.len())?;
-        let mut files = Vec::with_capacity(alloc, found.len())?;
-        let mut counted = Counted::new(self.earlier.files.as_slice());
-        let mut piece = Vec::from_elem(alloc, 0u8, PIECE)?;
-        for file in found {
-            if entries.len() >= MAX_COUNT {
-                break;
-            }
-            let known = counted.size_of(&file);
-            let uid = unique_id(alloc, base(file.name.as_str()).as_bytes())?;
-            let key = Vec::from_slice(alloc, uid.as_slice())?;
-            // The size is at least the length.
-            if seen.contains(&key) || file.stamp.length > MAX_SIZE {
-                continue;
-            }
-            let Some(size) = self.size_of(last_seen, &file, known, piece.as_mut_slice())? else {
-                continue;
-            };
-            if size > MAX_SIZE {
-                continue;
-            }
-            seen.insert(key)?;
-            entries.push(Entry::new(uid, size))?;
-            files.push(ListedFile::of(file, size))?;
-        }
-        Ok(ListedMessages {
-            entries,
-            listing: Listing { look, files },
-        })
-    }
-
-    /// The messages of the Maildir as it is now.
-    fn look(&self, last_seen: &mut SeenFiles) -> Result<ListedMessages, Unread>
-        ensures within { IfOk result (λ listed. vec_len listed.entries ≤ MAX_COUNT) }
-        ensures distinct { IfOk result (λ listed. AreDistinct (map uid_of listed.entries.items)) }
-        ensures names { IfOk result (λ listed. HaveIds listed.entries.items (names_of listed.listing.files.items)) }
-    {
-        let found = self.find(last_seen)?;
-        self.list(last_seen, found)
-    }
-
-    /// Opens the file at a place of the last listing.
-    fn open_file(&mut self, i: usize) -> Result<R::File, Unread>
-        ensures same { self.new ≡ self.old }
-    {
-        let Some(listed) = self.listing.files.get(i) else {
-            return Err(missing());
-        };
-        let name = listed.name.as_str();
-        match self.folders.open(&mut self.last_seen, listed.folder, name)? {
-            Some(file) => Ok(file),
-            None => Err(missing()),
-        }
-    }
-
-    /// The bytes of the file at a place of the last listing. The buffer has room for one octet
-    /// more than the listing counted, so that the read that finds the end fits too; it grows only
-    /// if the file has grown.
-    fn read_file(&mut self, i: usize) -> Result<Vec<u8>, Unread>
-        ensures same { self.new ≡ self.old }
-    {
-        let mut file = self.open_file(i)?;
-        let length = match self.listing.files.get(i) {
-            Some(listed) => listed.stamp.length,
-            None => 0,
-        };
-        let room = (length as usize).saturating_add(1);
-        let mut text = Vec::with_capacity(self.rt.alloc(), room)?;
-        file.read_to_end(&mut text)?;
-        Ok(text)
-    }
-
-    /// Opens the file at a place of the last listing, to be read from the octet `start` on.
-    fn open_text(&mut self, i: usize, start: usize) -> Result<OpenText<R::File>, Unread>
-        ensures same { self.new ≡ self.old }
-    {
-        let mut file = self.open_file(i)?;
-        if start > 0 {
-            file.seek(SeekFrom::Start(start as u64))?;
-        }
-        Ok(OpenText {
-            place: i,
-            read: start,
-            file,
-        })
-    }
-
-    /// Reads a part of the file at a place. The file stays open until its end is read, so that
-    /// all parts are of the same file.
-    fn read_part(&mut self, i: usize, start: usize, piece: &mut [u8]) -> Result<usize, Unread>
-        ensures same { self.new ≡ self.old }
-        ensures within { IfOk result (λ n. n ≤ length piece.new) }
-        ensures countable { IfOk result (λ n. start + n < 2 ^ 64) }
-    {
-        let mut text = match self.open.take() {
-            Some(open) => {
-                if start > 0 && open.place == i && open.read == start {
-                    open
-                } else {
-                    self.open_text(i, start)?
-                }
-            }
-            None => self.open_text(i, start)?,
-        };
-        let n = text.file.read(piece)?;
-        let Some(read) = start.checked_add(n) else {
-            return Err(io::Error::from(ErrorKind::FileTooLarge).into());
-        };
-        if n > 0 {
-            text.read = read;
-            self.open = Some(text);
-        }
-        Ok(n)
-    }
-
-    /// Removes the file at a place of the last listing. One that is gone already counts as removed.
-    fn remove_file(&mut self, i: usize) -> Result<(), Unread>
-        ensures same { self.new ≡ self.old }
-    {
-        let Some(listed) = self.listing.files.get(i) else {
-            return Err(missing());
-        };
-        self.last_seen.begin_removals();
-        let name = listed.name.as_str();
-        self.folders
-            .remove(&mut self.last_seen, listed.folder, name)
     }
 
     /// The fault for an error of the system: NoMemory if memory ran out; any other error is a

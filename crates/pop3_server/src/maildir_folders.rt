@@ -1,6 +1,7 @@
 //! The two folders of a Maildir whose files are messages, and where such a file is now: mail software
 //! moves files from `new` to `cur` and changes their flags while they are served.
-ghost use Rattle.std.specs.Prelude.{◌≡◌};
+ghost use Rattle.std.specs.Prelude.{◌≡◌, ◌≢◌, Some, None};
+ghost use Rattle.std.specs.IoError.{error_kind};
 ghost use Rattle.std.specs.String.{string_bytes};
 
 use crate::folders_look::{ChangeTime, FoldersLook};
@@ -29,7 +30,11 @@ pub struct Unread {
 
 impl Unread {
     /// The failure to read a file or folder. If memory ran out, the path doesn't matter.
-    pub fn at(error: io::Error, path: String) -> Unread {
+    pub fn at(error: io::Error, path: String) -> Unread
+        ensures error { result.error ≡ error }
+        ensures path { error_kind error ≢ ErrorKind.OutOfMemory → result.path ≡ Some path }
+        ensures none { error_kind error ≡ ErrorKind.OutOfMemory → result.path ≡ None }
+    {
         let path = if error.kind() == ErrorKind::OutOfMemory {
             None
         } else {
@@ -40,6 +45,10 @@ impl Unread {
 }
 
 impl From<io::Error> for Unread {
+    ghost use Rattle.std.specs.Prelude.{◌≡◌, None};
+
+    ghost from_gives = { λ error unread. (unread.error ≡ error) × (unread.path ≡ None) };
+
     fn from(error: io::Error) -> Unread {
         Unread { error, path: None }
     }

@@ -1,6 +1,8 @@
 //! The folders and files of a Maildir, and the unique-id for a file's name.
 ghost use Rattle.std.specs.Prelude.{◌≡◌, true, length, IsTrue, IfOk};
 ghost use Rattle.std.specs.List.{list_all};
+ghost use Rattle.std.specs.String.{string_bytes};
+ghost use Rattle.mail_terms.specs.MaildirName.{base as base_of};
 ghost use Rattle.mail_terms.specs.UniqueId.{is_legal_id, is_id_byte};
 ghost use Rattle.pop3_server.specs.MaildirNames.{folder_name, id_of};
 ghost use Rattle.hex.specs.Hex.{encode_lower};
@@ -49,7 +51,10 @@ pub struct PlacedFile {
 
 impl PlacedFile {
     /// The file of this name.
-    pub fn of(alloc: Global, folder: Folder, name: String) -> Result<PlacedFile, AllocError> {
+    pub fn of(alloc: Global, folder: Folder, name: String) -> Result<PlacedFile, AllocError>
+        ensures base { IfOk result (λ file. file.base.items ≡ base_of (string_bytes name)) }
+        ensures place { IfOk result (λ file. (file.folder ≡ folder) × (file.name ≡ name)) }
+    {
         Ok(PlacedFile {
             base: Vec::from_slice(alloc, base(name.as_str()).as_bytes())?,
             folder,
@@ -70,7 +75,9 @@ pub struct MailFile {
 
 impl MailFile {
     /// A file at this place.
-    pub fn of(placed: PlacedFile, stamp: Stamp) -> MailFile {
+    pub fn of(placed: PlacedFile, stamp: Stamp) -> MailFile
+        ensures { result ≡ record { base = placed.base; folder = placed.folder; name = placed.name; stamp = stamp } }
+    {
         let PlacedFile { base, folder, name } = placed;
         MailFile {
             base,

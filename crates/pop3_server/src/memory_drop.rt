@@ -1,5 +1,6 @@
 //! A maildrop in memory.
-ghost use Rattle.std.specs.Prelude.{◌≡◌, ◌≤◌, ◌<◌, ◌+◌, ◌^◌, ◌∷◌, [], ◌++◌, ◌↔◌, ◌==◌, IsTrue, IfOk, IfErr, OnErr, IsOk, map, length, take, drop, vec_len, Some};
+ghost use Rattle.std.specs.Prelude.{◌≡◌, ◌≤◌, ◌<◌, ◌+◌, ◌^◌, ◌∷◌, [], ◌++◌, ◌↔◌, ◌==◌, IsTrue, IfOk};
+ghost use Rattle.std.specs.Prelude.{IfErr, OnErr, IsOk, map, length, take, drop, vec_len, Some};
 ghost use Rattle.std.specs.List.{Contains};
 ghost use Rattle.mail_terms.specs.UniqueId.{is_legal_id};
 ghost use Rattle.pop3_wire.specs.World.{Message};

@@ -66,7 +66,8 @@ impl Rows {
     pub fn place(&self, number: u32) -> Option<usize>
         ensures { MatchOption result
             (row_at self.now number ≡ None)
-            (λ i. (i ≡ number - 1) × (i < length self.now) × ((row : MessageRow) × (slice_get self.now i ≡ Some row) × (row_at self.now number ≡ Some row))) }
+            (λ i. (i ≡ number - 1) × (i < length self.now)
+            × ((row : MessageRow) × (slice_get self.now i ≡ Some row) × (row_at self.now number ≡ Some row))) }
     {
         if number == 0 {
             return None;

@@ -1,5 +1,5 @@
 //! Where the files of a Maildir were last seen, for those that aren't where they were listed.
-ghost use Rattle.std.specs.Prelude.{◌≡◌, IfSome};
+ghost use Rattle.std.specs.Prelude.{◌≡◌, ◌&&◌, if◌then◌else◌, None, Some, false, true, is_some, IfSome};
 
 use crate::maildir_names::PlacedFile;
 
@@ -14,7 +14,9 @@ pub struct SeenFiles {
 
 impl SeenFiles {
     /// No files: none was looked for yet.
-    pub fn none() -> SeenFiles {
+    pub fn none() -> SeenFiles
+        ensures { result ≡ record { files = None; are_removed = false } }
+    {
         SeenFiles {
             files: None,
             are_removed: false,
@@ -22,7 +24,9 @@ impl SeenFiles {
     }
 
     /// Replaces what was seen before; the files have to be in order.
-    pub fn renew(&mut self, files: Vec<PlacedFile>) {
+    pub fn renew(&mut self, files: Vec<PlacedFile>)
+        ensures { self.new ≡ record self.old { files = Some files } }
+    {
         self.files = Some(files);
     }
 
@@ -43,7 +47,9 @@ impl SeenFiles {
 
     /// From now on a file that wasn't seen counts as gone: one look is enough for all removals of a
     /// session.
-    pub fn begin_removals(&mut self) {
+    pub fn begin_removals(&mut self)
+        ensures { self.new ≡ (if self.old.are_removed then self.old else record { files = None; are_removed = true }) }
+    {
         if !self.are_removed {
             *self = SeenFiles {
                 files: None,
@@ -53,7 +59,9 @@ impl SeenFiles {
     }
 
     /// Whether a file that wasn't seen counts as gone.
-    pub fn tells_all(&self) -> bool {
+    pub fn tells_all(&self) -> bool
+        ensures { result ≡ (self.now.are_removed && is_some self.now.files) }
+    {
         self.are_removed && self.files.is_some()
     }
 }

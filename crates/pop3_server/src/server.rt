@@ -1,5 +1,6 @@
 //! The server: it takes lines and gives answers (RFC 1939).
-ghost use Rattle.std.specs.Prelude.{◌≡◌, ◌≤◌, ◌<◌, ◌+◌, ◌-◌, ◌^◌, ℕ, not, true, false, None, Ok, IfOk, IfErr, IfSome, vec_len, vec_capacity};
+ghost use Rattle.std.specs.Prelude.{◌≡◌, ◌≤◌, ◌<◌, ◌+◌, ◌-◌, ◌^◌, ℕ, not, true, false};
+ghost use Rattle.std.specs.Prelude.{None, Ok, IfOk, IfErr, IfSome, vec_len, vec_capacity};
 ghost use Rattle.mail_terms.specs.FailureCount.{counted_up};
 ghost use Rattle.pop3_wire.specs.CommandLine.{command_of};
 ghost use Rattle.pop3_server.specs.declared.state.State.TheVariants.{Authorization};

@@ -1,5 +1,6 @@
 //! Texts of a maildrop, read part by part.
-ghost use Rattle.std.specs.Prelude.{◌≡◌, ◌≤◌, ◌<◌, ◌+◌, ◌*◌, ◌^◌, ◌-◌, ◌++◌, ℕ, List, [], length, true, false, Ok, IsTrue, IfErr, vec_len, vec_capacity};
+ghost use Rattle.std.specs.Prelude.{◌≡◌, ◌≤◌, ◌<◌, ◌+◌, ◌*◌, ◌^◌, ◌-◌, ◌++◌, ℕ, List, [], length};
+ghost use Rattle.std.specs.Prelude.{true, false, Ok, IsTrue, IfErr, vec_len, vec_capacity};
 ghost use Rattle.mail_terms.specs.FailureCount.{Tallies, refuses};
 ghost use Rattle.pop3_server.specs.Maildrop.{Denies, HasPlace, is_refusal};
 ghost use Rattle.pop3_server.specs.ServerMachine.{Known, text_body};

@@ -1,0 +1,116 @@
+//! The listing of a Maildir: the files that are found, and the messages that they are.
+ghost use Rattle.std.specs.Prelude.{◌≤◌, map, vec_len, IfOk};
+ghost use Rattle.mail_terms.specs.Distinct.{AreDistinct};
+ghost use Rattle.pop3_server.specs.RealMaildir.{names_of, uid_of, HaveIds};
+
+use crate::listed_file::{Counted, FoundFiles, ListedFile, Listing, PIECE};
+use crate::maildir_drop::MaildirDrop;
+use crate::maildir_folders::Unread;
+use crate::maildir_names::{MailFile, unique_id};
+use crate::maildrop::{Entry, MAX_COUNT, MAX_SIZE};
+use crate::seen_files::SeenFiles;
+use mail_terms::base;
+use std::collections::HashSet;
+use std::hash::RandomState;
+use std::random::RandomSource;
+use std::rt::Files;
+use std::time::Clock;
+
+/// The messages found in a Maildir, and the places of their files.
+#[derive(Drop)]
+pub(crate) struct ListedMessages {
+    pub(crate) entries: Vec<Entry>,
+    pub(crate) listing: Listing,
+}
+
+impl<'a, R: Files + Clock + RandomSource + AllocGlobal + Clone + Drop> MaildirDrop<'a, R> {
+    /// The files of the Maildir: those of the earlier listing, if it is still valid.
+    fn find(&self, last_seen: &mut SeenFiles) -> Result<FoundFiles, Unread> {
+        let look = self.folders.look()?;
+        if self.earlier.look.stands_at(&look) {
+            return Ok(self.earlier.found(self.rt.alloc())?);
+        }
+        let placed = self.folders.list()?;
+        let mut files = Vec::with_capacity(self.rt.alloc(), placed.len())?;
+        for file in placed {
+            if let Some(stamp) = self.folders.stamp(last_seen, &file)? {
+                files.push(MailFile::of(file, stamp))?;
+            }
+        }
+        Ok(FoundFiles { look, files })
+    }
+
+    /// The size of a file: the one that is known, or else the file is read. None if it is gone.
+    fn size_of(
+        &self,
+        last_seen: &mut SeenFiles,
+        file: &MailFile,
+        known: Option<u64>,
+        piece: &mut [u8],
+    ) -> Result<Option<u64>, Unread> {
+        match known {
+            Some(size) => Ok(Some(size)),
+            None => self
+                .folders
+                .size(last_seen, file.folder, file.name.as_str(), piece),
+        }
+    }
+
+    /// The messages of these files: only the first of several with one id, none above the limits,
+    /// and none whose file is gone.
+    #[tactic(auto, using(crate::proofs::MaildirLemmas::ids_push))]
+    fn list(&self, last_seen: &mut SeenFiles, found: FoundFiles) -> Result<ListedMessages, Unread>
+        ensures within { IfOk result (λ listed. vec_len listed.entries ≤ MAX_COUNT) }
+        ensures distinct { IfOk result (λ listed. AreDistinct (map uid_of listed.entries.items)) }
+        ensures names { IfOk result (λ listed. HaveIds listed.entries.items (names_of listed.listing.files.items)) }
+    {
+        let alloc = self.rt.alloc();
+        let FoundFiles { look, files: found } = found;
+        // Random keys, since the names of files may come from ids that a server chose.
+        let keys = RandomState::new(self.rt)?;
+        let mut seen: HashSet<Vec<u8>, RandomState> = HashSet::with_capacity_and_hasher(
+            alloc,
+            found.len(),
+            keys,
+        )?;
+        let mut entries = Vec::with_capacity(alloc, found.len())?;
+        let mut files = Vec::with_capacity(alloc, found.len())?;
+        let mut counted = Counted::new(self.earlier.files.as_slice());
+        let mut piece = Vec::from_elem(alloc, 0u8, PIECE)?;
+        for file in found {
+            if entries.len() >= MAX_COUNT {
+                break;
+            }
+            let known = counted.size_of(&file);
+            let uid = unique_id(alloc, base(file.name.as_str()).as_bytes())?;
+            let key = Vec::from_slice(alloc, uid.as_slice())?;
+            // The size is at least the length.
+            if seen.contains(&key) || file.stamp.length > MAX_SIZE {
+                continue;
+            }
+            let Some(size) = self.size_of(last_seen, &file, known, piece.as_mut_slice())? else {
+                continue;
+            };
+            if size > MAX_SIZE {
+                continue;
+            }
+            seen.insert(key)?;
+            entries.push(Entry::new(uid, size))?;
+            files.push(ListedFile::of(file, size))?;
+        }
+        Ok(ListedMessages {
+            entries,
+            listing: Listing { look, files },
+        })
+    }
+
+    /// The messages of the Maildir as it is now.
+    pub(crate) fn look(&self, last_seen: &mut SeenFiles) -> Result<ListedMessages, Unread>
+        ensures within { IfOk result (λ listed. vec_len listed.entries ≤ MAX_COUNT) }
+        ensures distinct { IfOk result (λ listed. AreDistinct (map uid_of listed.entries.items)) }
+        ensures names { IfOk result (λ listed. HaveIds listed.entries.items (names_of listed.listing.files.items)) }
+    {
+        let found = self.find(last_seen)?;
+        self.list(last_seen, found)
+    }
+}

@@ -1,0 +1,108 @@
+//! The texts of a Maildir's messages: their files read, whole or in parts, and removed.
+ghost use Rattle.std.specs.Prelude.{◌≡◌, ◌≤◌, ◌<◌, ◌+◌, ◌^◌, length, IfOk};
+
+use crate::maildir_drop::{MaildirDrop, OpenText};
+use crate::maildir_folders::Unread;
+use std::io::{self, ErrorKind, Read, Seek, SeekFrom};
+use std::random::RandomSource;
+use std::rt::Files;
+use std::time::Clock;
+
+/// The error for a file that isn't there.
+fn missing() -> Unread {
+    io::Error::from(ErrorKind::NotFound).into()
+}
+
+impl<'a, R: Files + Clock + RandomSource + AllocGlobal + Clone + Drop> MaildirDrop<'a, R> {
+    /// Opens the file at a place of the last listing.
+    fn open_file(&mut self, i: usize) -> Result<R::File, Unread>
+        ensures same { self.new ≡ self.old }
+    {
+        let Some(listed) = self.listing.files.get(i) else {
+            return Err(missing());
+        };
+        let name = listed.name.as_str();
+        match self.folders.open(&mut self.last_seen, listed.folder, name)? {
+            Some(file) => Ok(file),
+            None => Err(missing()),
+        }
+    }
+
+    /// The bytes of the file at a place of the last listing. The buffer has room for one octet
+    /// more than the listing counted, so that the read that finds the end fits too; it grows only
+    /// if the file has grown.
+    pub(crate) fn read_file(&mut self, i: usize) -> Result<Vec<u8>, Unread>
+        ensures same { self.new ≡ self.old }
+    {
+        let mut file = self.open_file(i)?;
+        let length = match self.listing.files.get(i) {
+            Some(listed) => listed.stamp.length,
+            None => 0,
+        };
+        let room = (length as usize).saturating_add(1);
+        let mut text = Vec::with_capacity(self.rt.alloc(), room)?;
+        file.read_to_end(&mut text)?;
+        Ok(text)
+    }
+
+    /// Opens the file at a place of the last listing, to be read from the octet `start` on.
+    fn open_text(&mut self, i: usize, start: usize) -> Result<OpenText<R::File>, Unread>
+        ensures same { self.new ≡ self.old }
+    {
+        let mut file = self.open_file(i)?;
+        if start > 0 {
+            file.seek(SeekFrom::Start(start as u64))?;
+        }
+        Ok(OpenText {
+            place: i,
+            read: start,
+            file,
+        })
+    }
+
+    /// Reads a part of the file at a place. The file stays open until its end is read, so that
+    /// all parts are of the same file.
+    pub(crate) fn read_part(
+        &mut self,
+        i: usize,
+        start: usize,
+        piece: &mut [u8],
+    ) -> Result<usize, Unread>
+        ensures same { self.new ≡ self.old }
+        ensures within { IfOk result (λ n. n ≤ length piece.new) }
+        ensures countable { IfOk result (λ n. start + n < 2 ^ 64) }
+    {
+        let mut text = match self.open.take() {
+            Some(open) => {
+                if start > 0 && open.place == i && open.read == start {
+                    open
+                } else {
+                    self.open_text(i, start)?
+                }
+            }
+            None => self.open_text(i, start)?,
+        };
+        let n = text.file.read(piece)?;
+        let Some(read) = start.checked_add(n) else {
+            return Err(io::Error::from(ErrorKind::FileTooLarge).into());
+        };
+        if n > 0 {
+            text.read = read;
+            self.open = Some(text);
+        }
+        Ok(n)
+    }
+
+    /// Removes the file at a place of the last listing. One that is gone already counts as removed.
+    pub(crate) fn remove_file(&mut self, i: usize) -> Result<(), Unread>
+        ensures same { self.new ≡ self.old }
+    {
+        let Some(listed) = self.listing.files.get(i) else {
+            return Err(missing());
+        };
+        self.last_seen.begin_removals();
+        let name = listed.name.as_str();
+        self.folders
+            .remove(&mut self.last_seen, listed.folder, name)
+    }
+}
