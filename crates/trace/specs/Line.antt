@@ -1,5 +1,6 @@
 -- The lines of a trace.
-use Rattle.std.specs.Prelude.{◌≡◌, ◌↔◌, ◌+◌, ◌/◌, ◌%◌, ◌==◌, ◌&&◌, ◌||◌, ℕ, Bool, false, not, nat_le, nat_lt, List, [], ◌∷◌, ◌++◌, IsTrue, Option, codes, if◌then◌else◌}
+use Rattle.std.specs.Prelude.{◌≡◌, ◌↔◌, ◌+◌, ◌/◌, ◌%◌, ◌==◌, ◌&&◌, ◌||◌, ℕ, Bool, false, not, nat_le}
+use Rattle.std.specs.Prelude.{nat_lt, List, [], ◌∷◌, ◌++◌, IsTrue, Option, codes, if◌then◌else◌}
 use Rattle.std.specs.List.{flat_map, list_any}
 use Rattle.std.specs.Fmt.{decimal}
 use Rattle.std.specs.Str.{IsUtf8}
@@ -25,7 +26,12 @@ shown_octet wide octet =
 
 -- a line shows a mark and octets, those above ASCII as they are only if all together may be shown so
 abbrev pub IsTraceLine : List ℕ → List ℕ → List ℕ → Type 0
-IsTraceLine mark octets line = (wide : Bool) × (IsTrue wide ↔ IsShowable octets) × (line ≡ mark ++ (flat_map (shown_octet wide) octets ++ codes "\n"))
+IsTraceLine mark octets line = (wide : Bool) × (IsTrue wide ↔ IsShowable octets)
+    × (line ≡ mark ++ (flat_map (shown_octet wide) octets ++ codes "\n"))
+
+-- how many octets of a command or of an answer are shown
+abbrev pub most_shown : ℕ
+most_shown = 512
 
 -- such a line was written after what the writer held
 abbrev pub IsWritten : {E : Type 0} → (E → Option (List ℕ)) → E → E → List ℕ → List ℕ → Type 0
@@ -34,3 +40,8 @@ IsWritten contents old new mark octets = (line : List ℕ) × IsTraceLine mark o
 -- what is shown of a body
 abbrev pub count_text : ℕ → ℕ → List ℕ
 count_text lines octets = codes "(" ++ (decimal lines ++ (codes " lines, " ++ (decimal octets ++ codes " octets)")))
+
+-- the line of a refused call was written: its name, what it was asked for, and a reason
+abbrev pub TellsRefusal : {E : Type 0} → (E → Option (List ℕ)) → E → E → List ℕ → List ℕ → Type 0
+TellsRefusal contents old new call path =
+    (reason : List ℕ) × IsWritten contents old new (codes "trace: ") (call ++ (codes " " ++ (path ++ (codes ": " ++ reason))))

@@ -1,4 +1,8 @@
 //! The front of a line that is being gathered.
+ghost use Rattle.std.specs.Prelude.{◌≡◌, ◌==◌, ◌&&◌, ◌++◌, ◌∷◌, [], false, take};
+ghost use Rattle.trace.specs.Front.{without_end};
+
+use std::marker::Model;
 
 /// How many octets of a line are gathered: those that are shown, and a password that begins in them.
 const ROOM: usize = 1_012;
@@ -11,9 +15,22 @@ pub struct Front {
     is_after_return: bool,
 }
 
+impl Model for Front {
+    ghost use Rattle.std.specs.Prelude.{◌≤◌, take};
+    ghost use Rattle.trace.specs.Front.{Gathered};
+
+    ghost Value = { Gathered };
+
+    ghost view = { λ f. record { octets = take f.length f.octets; is_after_return = f.is_after_return } };
+
+    ghost invariant = { λ f. f.length ≤ 1012 };
+}
+
 impl Front {
     /// Nothing of the line has come.
-    pub fn new() -> Front {
+    pub fn new() -> Front
+        ensures { result ≡ record { octets = []; is_after_return = false } }
+    {
         Front {
             octets: [0; ROOM],
             length: 0,
@@ -22,7 +39,10 @@ impl Front {
     }
 
     /// One more octet came; says whether the line, which CR LF ends, is whole.
-    pub fn put(&mut self, octet: u8) -> bool {
+    pub fn put(&mut self, octet: u8) -> bool
+        ensures whole { result ≡ (self.old.is_after_return && octet == 10) }
+        ensures front { self.new ≡ record { octets = take ROOM (self.old.octets ++ octet ∷ []); is_after_return = octet == 13 } }
+    {
         if self.length < ROOM {
             self.octets[self.length] = octet;
             self.length += 1;
@@ -33,13 +53,17 @@ impl Front {
     }
 
     /// The octets that were gathered, without the CR LF at their end.
-    pub fn octets(&self) -> &[u8] {
+    pub fn octets(&self) -> &[u8]
+        ensures { result.now ≡ without_end self.now.octets }
+    {
         let octets = &self.octets[..self.length.min(ROOM)];
         octets.strip_suffix(b"\r\n".as_slice()).unwrap_or(octets)
     }
 
     /// Begins the next line.
-    pub fn clear(&mut self) {
+    pub fn clear(&mut self)
+        ensures { self.new ≡ record { octets = []; is_after_return = false } }
+    {
         self.length = 0;
         self.is_after_return = false;
     }

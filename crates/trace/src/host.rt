@@ -23,7 +23,7 @@ pub struct TracedHost<R, E> {
 impl<R, E: Write + Copy> TracedHost<R, E> {
     /// A runtime around this one.
     pub fn new(rt: R, err: Option<E>) -> TracedHost<R, E>
-        ensures { result.rt ≡ rt }
+        ensures { result ≡ record { rt = rt; err = err } }
     {
         TracedHost { rt, err }
     }

@@ -1,7 +1,8 @@
 //! The lines of a trace.
 ghost use Rattle.std.specs.Prelude.{◌≡◌, ◌<◌, ◌++◌, ◌↔◌, IfOk, OnOk, IsTrue, take};
 ghost use Rattle.std.specs.String.{string_bytes};
-ghost use Rattle.trace.specs.Line.{IsTraceLine, IsShowable, IsWritten, count_text, hex_digit, shown_octet};
+ghost use Rattle.trace.specs.Line.{IsTraceLine, IsShowable, IsWritten, count_text, hex_digit};
+ghost use Rattle.trace.specs.Line.{most_shown, shown_octet};
 
 use std::alloc::{AllocError, Global};
 use std::io::{self, Write};
@@ -76,7 +77,7 @@ pub fn write_line<E: Write>(alloc: Global, err: &mut E, mark: &str, octets: &[u8
 
 /// The front of an answer or a command that is shown.
 pub fn cut(octets: &[u8]) -> &[u8]
-    ensures { result.now ≡ take 512 octets.now }
+    ensures { result.now ≡ take most_shown octets.now }
 {
     &octets[..SHOWN.min(octets.len())]
 }

@@ -1,6 +1,7 @@
 //! The lines of refused calls of the system.
-ghost use Rattle.std.specs.Prelude.{◌≡◌, ◌++◌, IfOk, codes};
+ghost use Rattle.std.specs.Prelude.{◌≡◌, ◌++◌, IfOk, OnOk, codes};
 ghost use Rattle.std.specs.String.{string_bytes};
+ghost use Rattle.trace.specs.Line.{TellsRefusal};
 
 use crate::line::write_line;
 use std::alloc::{AllocError, Global};
@@ -34,7 +35,9 @@ pub fn tell_refusal<E: Write>(
     call: &str,
     path: &str,
     error: &io::Error,
-) -> io::Result<()> {
+) -> io::Result<()>
+    ensures { OnOk result (TellsRefusal E.contents err.old err.new call.now path.now) }
+{
     let words = format!(in alloc; "{error}")?;
     let text = refusal_text(alloc, call, path, reason(words.as_str()))?;
     write_line(alloc, err, "trace: ", text.as_bytes())

@@ -1,5 +1,5 @@
 //! A link that is traced.
-ghost use Rattle.std.specs.Prelude.{◌≡◌};
+ghost use Rattle.std.specs.Prelude.{◌≡◌, is_some};
 
 use crate::conversation::Conversation;
 use pop3_wire::{Wire, WireDown};
@@ -34,7 +34,8 @@ impl<W: Wire, E: Write + Drop> TracedWire<W, E> {
         err: Option<E>,
         password: Option<Vec<u8>>,
     ) -> TracedWire<W, E>
-        ensures { result.wire ≡ wire }
+        ensures wire { (result.wire ≡ wire) × (result.side ≡ side) }
+        ensures traced { is_some result.trace ≡ is_some err }
     {
         let trace = match err {
             Some(err) => Some(Conversation::new(alloc, err, password)),
@@ -52,7 +53,8 @@ impl<W: Wire, E: Write + Drop> TracedWire<W, E> {
     }
 
     fn note_sent(&mut self, octets: &[u8])
-        ensures { self.new.wire ≡ self.old.wire }
+        ensures wire { (self.new.wire ≡ self.old.wire) × (self.new.side ≡ self.old.side) }
+        ensures traced { is_some self.new.trace ≡ is_some self.old.trace }
     {
         if let Some(trace) = &mut self.trace {
             match self.side {
@@ -63,7 +65,8 @@ impl<W: Wire, E: Write + Drop> TracedWire<W, E> {
     }
 
     fn note_got(&mut self, octets: &[u8])
-        ensures { self.new.wire ≡ self.old.wire }
+        ensures wire { (self.new.wire ≡ self.old.wire) × (self.new.side ≡ self.old.side) }
+        ensures traced { is_some self.new.trace ≡ is_some self.old.trace }
     {
         if let Some(trace) = &mut self.trace {
             match self.side {
