@@ -228,7 +228,7 @@ class Stage:
                 where = "on the server" if (uid, text) in self.server.messages else "gone from the server"
                 found.append(f"{uid.rstrip(b'-').decode()} is held {times} times, {whole} of them whole, and is {where}")
         if self.scene.is_mboxrd and self.account.content() != entries([text for _, text in self.scene.wanted()]):
-            found.append(f"the mailbox file has something else than the entries, {len(self.account.content())} octets")
+            found.append(f"the mboxrd file has something else than the entries, {len(self.account.content())} octets")
         if self.scene.words and len(self.server.messages) != len(messages) - sum(m in self.scene.wanted() for m in messages):
             found.append("the server has another number of messages than is expected")
         return found

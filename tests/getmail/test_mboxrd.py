@@ -329,7 +329,7 @@ class Modes(Mboxrd):
         self.check_completed()
 
     def test_a_record_that_cannot_be_grown(self):
-        """The intent can't be written, so nothing is appended to the mailbox file."""
+        """The intent can't be written, so nothing is appended to the mboxrd file."""
         self.server.messages = []
         self.session("-q")
         rows = b"".join(b"%b 5 0\n" % uid for uid, _ in THREE)

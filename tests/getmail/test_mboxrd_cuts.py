@@ -1,6 +1,6 @@
 """Sessions into an mboxrd file that are cut anywhere: after one more session each text stands there once.
 
-They are cut after each octet of the server's replies, at each call of the link, of the mailbox file and of the record,
+They are cut after each octet of the server's replies, at each call of the link, of the mboxrd file and of the record,
 with its effect, half of it or none, at each growth of memory, and by a kill after each change. TESTS_KILLS is the number of
 kills at other moments.
 """
@@ -112,7 +112,7 @@ class Shared(Cut):
 
 
 class RefusedSteps(Shared):
-    """Each call of the link, of the mailbox file and of the record's file refused in turn."""
+    """Each call of the link, of the mboxrd file and of the record's file refused in turn."""
 
     @classmethod
     def setUpClass(cls):
@@ -256,7 +256,7 @@ class RefusedSteps(Shared):
                 self.assertEqual(len(account.content()), 149)
 
     def test_an_intent_that_is_refused(self):
-        """Nothing is appended to the mailbox file."""
+        """Nothing is appended to the mboxrd file."""
         number = self.number_of("write", "seen-", 4)
         for effect in ("none", "half", "whole"):
             with self.subTest(effect), MboxAccount(self.server.port) as account:

@@ -42,7 +42,7 @@ def flushes_an_intent(change, command):
 
 
 def flushes_entries_before_settling(change, command):
-    """The flush of the mailbox file after it was looked at, before the first message is fetched."""
+    """The flush of the mboxrd file after it was looked at, before the first message is fetched."""
     return isinstance(change, Flush) and change.path == "mbox" and command == b"LIST"
 
 
