@@ -69,57 +69,79 @@ fn scan_rows(alloc: Global, count: u32) -> Result<Vec<ScanRow>> {
     Ok(rows)
 }
 
-/// Prints the name of a call and the microseconds of the processor since `start`, and answers how
-/// much it has used now.
-fn tell(rt: &HostRuntime, call: &str, start: Duration) -> Result<Duration> {
+/// Prints the name of a call and the microseconds of the processor since `start`.
+fn tell(rt: &HostRuntime, call: &str, start: Duration) -> Result<()> {
     let used = rt.process_cpu_time()?.saturating_sub(start);
     println!(rt; "{call} {}", used.as_micros())?;
-    Ok(rt.process_cpu_time()?)
+    Ok(())
+}
+
+/// Joins the rows of `count` messages. The ids of half of them are those of a record of `count` rows.
+fn time_join(rt: &HostRuntime, count: u32) -> Result<Listing> {
+    let uids = uid_rows(rt.alloc(), count / 2, count)?;
+    let sizes = scan_rows(rt.alloc(), count)?;
+    ensure!(have_legal_ids(&uids), "ids of another form");
+    let start = rt.process_cpu_time()?;
+    let listing = Listing::join(rt.alloc(), count, &uids, &sizes)?;
+    tell(rt, "join", start)?;
+    Ok(listing)
+}
+
+/// Reads a record.
+fn time_reading(rt: &HostRuntime, file: &[u8]) -> Result<Seen<RandomState>> {
+    let hasher = RandomState::new(rt)?;
+    let start = rt.process_cpu_time()?;
+    let seen = Seen::read(rt.alloc(), file, hasher)?;
+    tell(rt, "read", start)?;
+    Ok(seen)
 }
 
 /// Merges a listing whose messages are all held.
-fn time_merge(
-    rt: &HostRuntime,
-    listing: &Listing,
-    seen: &mut Seen<RandomState>,
-    start: Duration,
-) -> Result<Duration> {
+fn time_merge(rt: &HostRuntime, listing: &Listing, seen: &mut Seen<RandomState>) -> Result<()> {
     ensure!(seen.intent().is_none(), "no intent is open");
     let held = vec![in rt.alloc(); true; listing.len() as usize]?;
+    let start = rt.process_cpu_time()?;
     seen.merge(listing, &held, 1_700_000_000)?;
     tell(rt, "merge", start)
+}
+
+/// Plans the steps of a session.
+fn time_plan(rt: &HostRuntime, listing: &Listing, seen: &Seen<RandomState>) -> Result<()> {
+    let settings = settings(rt.alloc());
+    let start = rt.process_cpu_time()?;
+    let steps = plan(rt.alloc(), &settings, seen, listing, 1_800_000_000)?;
+    tell(rt, "plan", start)?;
+    ensure!(
+        steps.len() == listing.len() as usize,
+        "a step for each message"
+    );
+    Ok(())
+}
+
+/// Writes a record that has at least the rows of a file of `least` octets.
+fn time_bytes(rt: &HostRuntime, least: usize, seen: &Seen<RandomState>) -> Result<()> {
+    let start = rt.process_cpu_time()?;
+    let bytes = seen.bytes()?;
+    tell(rt, "bytes", start)?;
+    ensure!(bytes.len() >= least, "no row is lost");
+    Ok(())
 }
 
 /// Makes the calls of one session over `count` messages and a record of as many rows. The record
 /// knows half of the messages.
 fn time_session(rt: &HostRuntime, count: u32) -> Result<()> {
-    let alloc = rt.alloc();
-    let settings = settings(alloc);
-    let file = file_of(alloc, count)?;
-    let uids = uid_rows(alloc, count / 2, count)?;
-    let sizes = scan_rows(alloc, count)?;
-    ensure!(have_legal_ids(&uids), "ids of another form");
-    let start = rt.process_cpu_time()?;
-    let listing = Listing::join(alloc, count, &uids, &sizes)?;
-    let start = tell(rt, "join", start)?;
-    let mut seen = Seen::read(alloc, &file, RandomState::new(rt)?)?;
-    let start = tell(rt, "read", start)?;
-    let start = time_merge(rt, &listing, &mut seen, start)?;
-    let steps = plan(alloc, &settings, &seen, &listing, 1_800_000_000)?;
-    let start = tell(rt, "plan", start)?;
-    let bytes = seen.bytes()?;
-    tell(rt, "bytes", start)?;
-    ensure!(steps.len() == count as usize, "a step for each message");
-    ensure!(bytes.len() >= file.len(), "no row is lost");
-    Ok(())
+    let listing = time_join(rt, count)?;
+    let file = file_of(rt.alloc(), count)?;
+    let mut seen = time_reading(rt, &file)?;
+    time_merge(rt, &listing, &mut seen)?;
+    time_plan(rt, &listing, &seen)?;
+    time_bytes(rt, file.len(), &seen)
 }
 
 /// Reads a record of `count` rows.
 fn time_read(rt: &HostRuntime, count: u32) -> Result<()> {
     let file = file_of(rt.alloc(), count)?;
-    let start = rt.process_cpu_time()?;
-    let seen = Seen::read(rt.alloc(), &file, RandomState::new(rt)?)?;
-    tell(rt, "read", start)?;
+    let seen = time_reading(rt, &file)?;
     ensure!(!seen.needs_rewrite(), "whole");
     Ok(())
 }

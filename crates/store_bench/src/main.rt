@@ -8,12 +8,12 @@ ghost use Rattle.std.specs.Prelude.{◌≡◌, IfOk, length};
 mod mbox;
 
 use anyhow::{Result, ensure};
-use folder_store::{FolderMaildir, HostFile, ProcessMark};
-use mail_store::{FlatFile, account_id, deliver, file_stem, held};
+use folder_store::{FolderMaildir, HostFile, HostFolder, ProcessMark};
+use mail_store::{FlatFile, MaildirDisk, account_id, deliver, file_stem, held};
 use mail_terms::{Listing, ScanRow, UidRow, have_legal_ids, is_legal_id};
 use std::alloc::Global;
 use std::env;
-use std::time::{CpuClock, Instant};
+use std::time::{CpuClock, Duration, Instant};
 
 /// The id of the message of a number, as the driver names its files.
 fn id_of(alloc: Global, number: u32) -> Result<String> {
@@ -40,74 +40,112 @@ fn listing_of(alloc: Global, count: u32) -> Result<Listing>
     Ok(Listing::join(alloc, count, &uids, &sizes)?)
 }
 
-/// Asks once which of `count` messages the Maildir holds. Prints how many, and the microseconds of
-/// the clock and of the processor.
-fn time_held(rt: &HostRuntime, path: &str, count: u32) -> Result<()> {
-    let alloc = rt.alloc();
-    let account = account_id("bench", 110, "bench");
-    let listing = listing_of(alloc, count)?;
-    let mut disk = FolderMaildir::at(rt, path, mark_of(rt)?);
-    let start = Instant::now(rt)?;
-    let used = rt.process_cpu_time()?;
-    let flags = held(alloc, &mut disk, &account, &listing)?;
-    let used = rt.process_cpu_time()?.saturating_sub(used);
-    let passed = start.elapsed(rt)?;
-    let found = flags.iter().filter(|flag| **flag).count();
-    println!(rt; "{found} {} {}", passed.as_micros(), used.as_micros())?;
-    Ok(())
+/// The clock and the time of the processor when a measurement began.
+#[derive(Clone, Copy)]
+struct Stopwatch {
+    start: Instant,
+    used: Duration,
 }
 
-/// Delivers `count` texts of 2,048 bytes. Prints how many, and the microseconds of the clock and of
-/// the processor.
-fn time_deliver(rt: &HostRuntime, path: &str, count: u32) -> Result<()> {
-    let alloc = rt.alloc();
-    let account = account_id("bench", 110, "bench");
-    let text = [b'x'; 2048];
-    let mut disk = FolderMaildir::at(rt, path, mark_of(rt)?);
-    let start = Instant::now(rt)?;
-    let used = rt.process_cpu_time()?;
-    for number in 1..=count {
-        let id = id_of(alloc, number)?;
-        ensure!(is_legal_id(id.as_bytes()), "an id of another form");
-        let stem = file_stem(alloc, &account, id.as_bytes())?;
-        deliver(alloc, &mut disk, stem.as_str(), text.as_slice())?;
+impl Stopwatch {
+    fn new(rt: &HostRuntime) -> Result<Stopwatch> {
+        let start = Instant::now(rt)?;
+        let used = rt.process_cpu_time()?;
+        Ok(Stopwatch { start, used })
     }
-    let used = rt.process_cpu_time()?.saturating_sub(used);
-    let passed = start.elapsed(rt)?;
-    println!(rt; "{count} {} {}", passed.as_micros(), used.as_micros())?;
-    Ok(())
+
+    /// Prints a count, and the microseconds of the clock and of the processor since the start.
+    fn tell(&self, rt: &HostRuntime, count: usize) -> Result<()> {
+        let used = rt.process_cpu_time()?.saturating_sub(self.used);
+        let passed = self.start.elapsed(rt)?;
+        println!(rt; "{count} {} {}", passed.as_micros(), used.as_micros())?;
+        Ok(())
+    }
 }
 
-/// Replaces a file by a text of 2,048 bytes, puts another one behind it and cuts that off again,
-/// `count` times.
-fn rewrite(rt: &HostRuntime, path: &str, count: u32) -> Result<()> {
+/// A Maildir in a folder.
+type HostMaildir<'a> = FolderMaildir<HostFolder<'a, HostRuntime>>;
+
+/// A file in a folder.
+type RealFile<'a> = HostFile<'a, HostFolder<'a, HostRuntime>>;
+
+/// Asks once which of `count` messages the Maildir holds. Prints how many, and the time.
+fn time_held(rt: &HostRuntime, path: &str, count: u32) -> Result<()> {
+    let listing = listing_of(rt.alloc(), count)?;
+    let mut disk = FolderMaildir::at(rt, path, mark_of(rt)?);
+    let watch = Stopwatch::new(rt)?;
+    let flags = held_in(rt.alloc(), &mut disk, &listing)?;
+    watch.tell(rt, flags.iter().filter(|flag| **flag).count())
+}
+
+/// Which messages the Maildir holds.
+fn held_in<D: MaildirDisk>(alloc: Global, disk: &mut D, listing: &Listing) -> Result<Vec<bool>> {
+    Ok(held(alloc, disk, &account_id("bench", 110, "bench"), listing)?)
+}
+
+/// Delivers the message of a number.
+fn deliver_one(alloc: Global, disk: &mut HostMaildir<'_>, number: u32) -> Result<()> {
     let text = [b'x'; 2048];
+    let id = id_of(alloc, number)?;
+    ensure!(is_legal_id(id.as_bytes()), "an id of another form");
+    let stem = file_stem(alloc, &account_id("bench", 110, "bench"), id.as_bytes())?;
+    Ok(deliver(alloc, disk, stem.as_str(), text.as_slice())?)
+}
+
+/// Delivers `count` texts of 2,048 bytes. Prints how many, and the time.
+fn time_deliver(rt: &HostRuntime, path: &str, count: u32) -> Result<()> {
+    let mut disk = FolderMaildir::at(rt, path, mark_of(rt)?);
+    let watch = Stopwatch::new(rt)?;
+    for number in 1..=count {
+        deliver_one(rt.alloc(), &mut disk, number)?;
+    }
+    watch.tell(rt, count as usize)
+}
+
+/// Replaces a file by a text of 2,048 bytes, puts another one behind it and cuts that off again.
+fn rewrite_once(file: &mut RealFile<'_>) -> Result<()> {
+    let text = [b'x'; 2048];
+    file.replace(text.as_slice())?;
+    file.append(text.as_slice())?;
+    Ok(file.cut_to(2048)?)
+}
+
+/// Rewrites a file `count` times.
+fn rewrite(rt: &HostRuntime, path: &str, count: u32) -> Result<()> {
     let mut file = HostFile::at(rt, path, mark_of(rt)?);
     for _ in 0..count {
-        file.replace(text.as_slice())?;
-        file.append(text.as_slice())?;
-        file.cut_to(2048)?;
+        rewrite_once(&mut file)?;
     }
     println!(rt; "{count}")?;
     Ok(())
+}
+
+/// Puts a text of `count` bytes behind a file.
+fn append_once<F: FlatFile>(alloc: Global, file: &mut F, count: u32) -> Result<()> {
+    let text = Vec::from_elem(alloc, b'x', count as usize)?;
+    file.edges()?;
+    Ok(file.append(&text)?)
 }
 
 /// Puts one text of `count` bytes behind a file, page by page as a record's.
 fn append_pages(rt: &HostRuntime, path: &str, count: u32) -> Result<()> {
-    let text = Vec::from_elem(rt.alloc(), b'x', count as usize)?;
     let mut file = HostFile::by_pages(rt, path, mark_of(rt)?);
-    file.edges()?;
-    file.append(&text)?;
+    append_once(rt.alloc(), &mut file, count)?;
     println!(rt; "{count}")?;
+    Ok(())
+}
+
+/// Removes what killed runs left beside the record of a Maildir.
+fn sweep_record(rt: &HostRuntime, path: &str, mark: ProcessMark) -> Result<()> {
+    let record = format!(in rt.alloc(); "{path}/seen")?;
+    HostFile::by_pages(rt, record.as_str(), mark).sweep();
     Ok(())
 }
 
 /// Removes what killed runs left in a Maildir and beside the record in it.
 fn sweep(rt: &HostRuntime, path: &str) -> Result<()> {
-    let alloc = rt.alloc();
     let mark = mark_of(rt)?;
-    let record = format!(in alloc; "{path}/seen")?;
-    HostFile::by_pages(rt, record.as_str(), mark).sweep();
+    sweep_record(rt, path, mark)?;
     FolderMaildir::at(rt, path, mark).sweep(&account_id("bench", 110, "bench"));
     Ok(())
 }
