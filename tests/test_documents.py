@@ -23,7 +23,7 @@ NAME = re.compile(r"[A-Za-z_][A-Za-z0-9_]*")
 # Names of other programs and of what users have: nothing here is called so.
 OTHERS = {"stunnel", "socat", "dovecot", "mutt", "fetchmail", "mpop", "Display", "BrokenUIDLPOP3Retriever"}
 # The sources of the lines that faults are told by.
-TELLING = ("crates/getmail/src/failure.rt", "crates/fetch_session/src/text.rt", "crates/rc_file/src/text.rt")
+TELLING = ("crates/getmail_program/src/failure.rt", "crates/fetch_session/src/text.rt", "crates/rc_file/src/text.rt")
 # Folders that a user or a build makes.
 MADE = ("~", "/", "bin/", "out/", "examples/demo/Maildir")
 

@@ -1,7 +1,7 @@
 //! The TCP connection to the server.
-use crate::failure::{Failure, failure_of};
 use crate::host::Host;
 use fetch_rules::Settings;
+use getmail_program::{Failure, failure_of};
 use pop3_wire::StreamWire;
 use std::alloc::AllocError;
 use std::io::{self, Stderr};

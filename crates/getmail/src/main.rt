@@ -1,52 +1,23 @@
 //! `getmail`: fetches mail from a POP3 server (RFC 1939) into a Maildir or an mboxrd file.
 #![tactic(auto)]
 
-ghost use Rattle.std.specs.Prelude.{◌≡◌};
 ghost use Rattle.rc_file.specs.Settings.{IsValid};
-ghost use Rattle.fetch_session.specs.Target.{IsCalm, kind_of};
-ghost use Rattle.getmail.specs.Places.{kind_in};
 
 mod connection;
-mod failure;
-mod fetching;
 mod host;
-mod place;
-mod progress;
-mod rehearsal;
-mod setup;
-mod shown_wire;
-mod transcript;
-mod words;
 
 use crate::connection::{connect, link_over};
-use crate::failure::{Failure, failure_of, tell};
-use crate::fetching::{Fetched, fetch_into, pretend_into};
 use crate::host::{Host, host_of};
-use crate::rehearsal::rehearse;
-use crate::setup::{Setup, account_of, set_up};
-use crate::shown_wire::ShownWire;
-use crate::words::{Words, WordsFault, command, read_words};
-use fetch_rules::{Dest, RcFault, Settings};
-use fetch_session::{Account, Store};
-use folder_store::{FolderMaildir, HostFile, HostFolder, ProcessMark};
-use mail_store::{FlatFile, MaildirDisk};
-use pop3_wire::Wire;
+use fetch_rules::RcFault;
+use folder_store::ProcessMark;
+use getmail_program::{
+    Failure, Setup, Words, WordsFault, command, failure_of, fetch_over, read_words, rehearse,
+    set_up, tell,
+};
 use std::env;
 use std::hash::RandomState;
-use std::io::{self, ErrorKind, IsTerminal, Stderr};
+use std::io::{self, ErrorKind};
 use std::process::ExitCode;
-use std::time::{SystemTime, UNIX_EPOCH};
-
-/// Now, in seconds since 1970; 0 before that.
-fn seconds_now(rt: &HostRuntime) -> u64 {
-    match SystemTime::now(rt) {
-        Ok(now) => match now.duration_since(UNIX_EPOCH) {
-            Ok(passed) => passed.as_secs(),
-            Err(_) => 0,
-        },
-        Err(_) => 0,
-    }
-}
 
 /// The random values of a run: keys for hashing, since a server chooses the unique-ids and mustn't be
 /// able to choose ids that collide, and the mark of the files that the run writes.
@@ -56,99 +27,32 @@ fn draw(rt: &HostRuntime) -> io::Result<(RandomState, ProcessMark)> {
     Ok((hasher, mark))
 }
 
-/// Where the line of progress is shown: on standard error, if that is a terminal and a report is wanted,
-/// and no trace is.
-fn screen_of(host: &Host, settings: &Settings) -> Option<Stderr> {
-    let screen = host.inner().stderr();
-    let is_shown = settings.verbose > 0 && host.err().is_none() && screen.is_terminal();
-    if is_shown { Some(screen) } else { None }
-}
-
-/// The Maildir of a run.
-type HostMaildir<'a> = FolderMaildir<HostFolder<'a, Host>>;
-
-/// The mboxrd file or the record of a run.
-type HostRecord<'a> = HostFile<'a, HostFolder<'a, Host>>;
-
-/// The store at a destination's path. Of an mboxrd file an entry is flushed once: what a loss of power
-/// left of one is found and cut off by the next run.
-fn store_at<'a>(
-    host: &'a Host,
-    dest: &Dest,
-    path: &'a str,
-    mark: ProcessMark,
-) -> Store<HostMaildir<'a>, HostRecord<'a>>
-    ensures kind { kind_of result ≡ kind_in dest.now }
-    ensures calm { IsCalm ⟦<HostMaildir<'a> as MaildirDisk>⟧ ⟦<HostRecord<'a> as FlatFile>⟧ result }
-{
-    match dest {
-        Dest::Maildir(_) => Store::Maildir(FolderMaildir::at(host, path, mark)),
-        Dest::Mboxrd(_) => Store::Mboxrd(HostFile::at(host, path, mark)),
-    }
-}
-
-/// The account of a run.
-type HostAccount<'a> = Account<HostMaildir<'a>, HostRecord<'a>, RandomState>;
-
-/// Runs one session, or only tells what it would do.
-fn converse<'a, W: Wire>(
-    rt: &HostRuntime,
-    account: &mut HostAccount<'a>,
-    wire: &mut ShownWire<W, Stderr>,
-    pretends: bool,
-) -> Fetched {
-    let now = seconds_now(rt);
-    let (mut out, mut err) = (rt.stdout(), rt.stderr());
-    if pretends {
-        return pretend_into(rt.alloc(), account, wire, now, &mut out, &mut err);
-    }
-    fetch_into(rt.alloc(), account, wire, now, &mut out, &mut err)
-}
-
-/// Removes what killed runs of the account left.
-fn sweep<'a>(
-    settings: &Settings,
-    store: &Store<HostMaildir<'a>, HostRecord<'a>>,
-    record: &HostRecord<'a>,
-) {
-    if let Store::Maildir(maildir) = store {
-        maildir.sweep(&account_of(settings));
-    }
-    record.sweep();
-}
-
 /// Connects, runs one session or only tells what it would do, and returns the exit status.
 fn fetch(host: &Host, setup: Setup, pretends: bool) -> u8
     requires { IsValid setup.settings }
 {
-    let Setup {
-        settings,
-        destination,
-        record,
-    } = setup;
     let rt = host.inner();
-    let (hasher, mark) = match draw(rt) {
+    let drawn = match draw(rt) {
         Ok(drawn) => drawn,
         Err(error) => return tell(rt, failure_of(error, Failure::CannotRead)),
     };
+    let settings = &setup.settings;
     let stream = match connect(host, settings.server.as_str(), settings.port) {
         Ok(stream) => stream,
         Err(failure) => return tell(rt, failure),
     };
-    let link = match link_over(host, &stream, &settings) {
+    let link = match link_over(host, &stream, settings) {
         Ok(link) => link,
         Err(error) => return tell(rt, error.into()),
     };
-    let mut wire = ShownWire::new(rt.alloc(), link, screen_of(host, &settings));
-    let store = store_at(host, &settings.dest, destination.as_str(), mark);
-    let record = HostFile::by_pages(host, record.as_str(), mark);
-    let mut account = Account::new(rt.alloc(), settings, store, record, hasher);
-    let fetched = converse(rt, &mut account, &mut wire, pretends);
-    let (settings, store, record) = account.into_parts();
-    if !pretends {
-        sweep(&settings, &store, &record);
-    }
-    fetched.status()
+    fetch_over(
+        host,
+        setup,
+        link,
+        drawn,
+        (&mut rt.stdout(), rt.stderr()),
+        pretends,
+    )
 }
 
 /// Does what the command line asks for, and returns the exit status.

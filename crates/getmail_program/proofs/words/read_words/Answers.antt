@@ -1,9 +1,9 @@
 use Rattle.std.proofs.Common.{◌∙◌, List, ap, map, rules, subst, sym}
 use Rattle.std.specs.String.{string_bytes}
 use Rattle.clap.specs.Words.{App, Row, fault_of, is_simple_and_free}
-use Rattle.getmail.specs.CommandLine.{AsksFor}
-use Rattle.getmail.proofs.WordsLemmas.{faultless, getmail_is_free, has_kind, help, mistake, rows_are}
-use Rattle.getmail.proofs.words.read_words.Goals as goal
+use Rattle.getmail_program.specs.CommandLine.{AsksFor}
+use Rattle.getmail_program.proofs.WordsLemmas.{faultless, getmail_is_free, has_kind, help, mistake, rows_are}
+use Rattle.getmail_program.proofs.words.read_words.Goals as goal
 
 pub returns-in_ok-words_of-in-Ok-clause-asks : goal.returns-in_ok-words_of-in-Ok-clause-asks
 returns-in_ok-words_of-in-Ok-clause-asks c =

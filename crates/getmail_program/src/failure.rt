@@ -1,7 +1,7 @@
 //! Why a run ends before its session: the line on standard error, and the exit status.
 ghost use Rattle.std.specs.Prelude.{◌≡◌, ◌≢◌};
 ghost use Rattle.std.specs.IoError.{error_kind};
-ghost use Rattle.getmail.specs.Failures.{status_of};
+ghost use Rattle.getmail_program.specs.Failures.{status_of};
 
 use fetch_rules::{RcFault, rc_text};
 use std::alloc::{AllocError, AllocFailed, Global};
@@ -24,7 +24,7 @@ pub enum Failure<'a> {
 
 impl<'a> From<AllocError> for Failure<'a> {
     ghost use Rattle.std.specs.Prelude.{◌≡◌};
-    ghost use Rattle.getmail.specs.declared.failure.Failure.TheVariants.{NoMemory};
+    ghost use Rattle.getmail_program.specs.declared.failure.Failure.TheVariants.{NoMemory};
 
     ghost from_gives = { λ _ failure. failure ≡ NoMemory };
 
@@ -35,7 +35,7 @@ impl<'a> From<AllocError> for Failure<'a> {
 
 impl<'a, T: Drop> From<AllocFailed<T>> for Failure<'a> {
     ghost use Rattle.std.specs.Prelude.{◌≡◌};
-    ghost use Rattle.getmail.specs.declared.failure.Failure.TheVariants.{NoMemory};
+    ghost use Rattle.getmail_program.specs.declared.failure.Failure.TheVariants.{NoMemory};
 
     ghost from_gives = { λ _ failure. failure ≡ NoMemory };
 
@@ -46,7 +46,7 @@ impl<'a, T: Drop> From<AllocFailed<T>> for Failure<'a> {
 
 impl<'a> From<RcFault> for Failure<'a> {
     ghost use Rattle.std.specs.Prelude.{◌≡◌};
-    ghost use Rattle.getmail.specs.declared.failure.Failure.TheVariants.{Rc};
+    ghost use Rattle.getmail_program.specs.declared.failure.Failure.TheVariants.{Rc};
 
     ghost from_gives = { λ fault failure. failure ≡ Rc fault };
 
@@ -68,7 +68,7 @@ pub fn failure_of<'a>(error: io::Error, failure: Failure<'a>) -> Failure<'a>
 }
 
 /// Writes the line of an rc file's fault.
-fn tell_rc_fault(rt: &HostRuntime, fault: &RcFault) {
+fn tell_rc_fault<R: Eprint + AllocGlobal>(rt: &R, fault: &RcFault) {
     let alloc: Global = rt.alloc();
     let _ = match rc_text(alloc, fault) {
         Ok(text) => rt.eprintln(format_args!("getmail: {text}")),
@@ -78,7 +78,7 @@ fn tell_rc_fault(rt: &HostRuntime, fault: &RcFault) {
 
 /// Writes a failure's line to standard error and returns the exit status: 1 if there was no
 /// connection, 2 for all that is found before. A line that can't be written changes nothing.
-pub fn tell(rt: &HostRuntime, failure: Failure<'_>) -> u8
+pub fn tell<R: Eprint + AllocGlobal>(rt: &R, failure: Failure<'_>) -> u8
     ensures { result ≡ status_of failure.entry }
 {
     let _ = match failure {

@@ -3,7 +3,7 @@ ghost use Rattle.std.specs.Prelude.{◌≡◌, ◌≢◌, ℕ, IfOk, IfErr, Err,
 ghost use Rattle.std.specs.String.{string_bytes};
 ghost use Rattle.clap.specs.Values.{kind_of};
 ghost use Rattle.clap.specs.Words.{app_of, fault_of, found_of, matches_of, rows_of, rule_of};
-ghost use Rattle.getmail.specs.CommandLine.{AsksFor, IsHelp, IsMistake, flag_rule, flags_in, getmail, long_flag_rule, value_rule};
+ghost use Rattle.getmail_program.specs.CommandLine.{AsksFor, IsHelp, IsMistake, flag_rule, flags_in, getmail, long_flag_rule, value_rule};
 
 use clap::error::ErrorKind;
 use clap::{Arg, ArgAction, ArgMatches, Command, Error};
@@ -40,7 +40,7 @@ pub enum WordsFault {
 
 impl From<AllocError> for WordsFault {
     ghost use Rattle.std.specs.Prelude.{◌≡◌};
-    ghost use Rattle.getmail.specs.declared.words.WordsFault.TheVariants.{NoMemory};
+    ghost use Rattle.getmail_program.specs.declared.words.WordsFault.TheVariants.{NoMemory};
 
     ghost from_gives = { λ _ fault. fault ≡ NoMemory };
 

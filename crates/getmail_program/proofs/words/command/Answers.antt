@@ -2,7 +2,7 @@ use Rattle.std.proofs.Common.{◌∙◌, ap, ap₂}
 use Rattle.std.proofs.lemmas.Result.{IfOk-weaker}
 use Rattle.clap.specs.Simple.{app_of_fields}
 use Rattle.clap.specs.Words.{with_rule}
-use Rattle.getmail.proofs.words.command.Goals as goal
+use Rattle.getmail_program.proofs.words.command.Goals as goal
 
 pub returns : goal.returns
 returns c =

@@ -1,7 +1,7 @@
 use Rattle.std.proofs.Common.{◌∙◌, nat_lt, ap, codes}
 use Rattle.clap.specs.Words.{found_of}
 use Rattle.clap.proofs.WalkLemmas.{first_value-rows}
-use Rattle.getmail.proofs.words.words_of.Goals as goal
+use Rattle.getmail_program.proofs.words.words_of.Goals as goal
 
 pub returns : goal.returns
 returns c =

@@ -1,6 +1,6 @@
 //! The commands that a rehearsal shows.
 ghost use Rattle.std.specs.Prelude.{◌≡◌};
-ghost use Rattle.getmail.specs.Rehearsal.{shown_of};
+ghost use Rattle.getmail_program.specs.Rehearsal.{shown_of};
 
 use std::io;
 use std::io::Write;

@@ -3,17 +3,19 @@ ghost use Rattle.std.specs.Prelude.{◌≡◌, ◌++◌, ℕ, List, IfOk, codes}
 ghost use Rattle.std.specs.String.{string_bytes};
 ghost use Rattle.rc_file.specs.Settings.{IsValid};
 ghost use Rattle.fetch_session.specs.Account.{digits_of};
-ghost use Rattle.getmail.specs.Places.{AreAsked, IsPlaced, joined, path_in, whole_path};
+ghost use Rattle.getmail_program.specs.Places.{AreAsked, IsPlaced, joined, path_in, whole_path};
 
 use crate::failure::{Failure, failure_of};
-use crate::host::Host;
 use crate::place::{folder, joined, rc_file, whole_path};
 use crate::words::Words;
 use fetch_rules::{Dest, Settings, Warning, override_with, read_rc, warning_text};
 use mail_store::{AccountId, account_id};
 use std::alloc::{AllocError, Global};
+use std::env::Env;
 use std::fs;
-use std::io::{self, Read};
+use std::io::{self, Read, Write};
+use std::rt::Files;
+use trace::TracedHost;
 
 /// One octet more than an rc file may have, so that a longer one is noticed.
 const RC_ROOM: u64 = 65_537;
@@ -30,14 +32,17 @@ pub struct Setup {
 }
 
 /// The octets of the rc file; of one that is too long, enough to notice it.
-fn read_file(host: &Host, path: &str) -> io::Result<Vec<u8>> {
+fn read_file<R: Files + AllocGlobal>(host: &R, path: &str) -> io::Result<Vec<u8>> {
     let mut bytes = Vec::new(host.alloc());
     fs::open(host, path)?.take(RC_ROOM).read_to_end(&mut bytes)?;
     Ok(bytes)
 }
 
 /// Writes the rc file's warnings.
-fn tell_warnings<'a>(rt: &HostRuntime, warnings: &[Warning]) -> Result<(), Failure<'a>> {
+fn tell_warnings<'a, R: Eprint + AllocGlobal>(
+    rt: &R,
+    warnings: &[Warning],
+) -> Result<(), Failure<'a>> {
     for warning in warnings {
         let text = warning_text(rt.alloc(), warning)?;
         let _ = rt.eprintln(format_args!("getmail: {text}"));
@@ -46,7 +51,11 @@ fn tell_warnings<'a>(rt: &HostRuntime, warnings: &[Warning]) -> Result<(), Failu
 }
 
 /// Reads the rc file, writes its warnings, and returns its settings, changed by the flags.
-fn settings_of<'a>(host: &Host, path: &str, words: &Words) -> Result<Settings, Failure<'a>>
+fn settings_of<'a, R: Files + Eprint + AllocGlobal, E: Write + Copy>(
+    host: &TracedHost<R, E>,
+    path: &str,
+    words: &Words,
+) -> Result<Settings, Failure<'a>>
     ensures valid { IfOk result IsValid }
     ensures asked { IfOk result (AreAsked words.now.flags) }
 {
@@ -82,7 +91,7 @@ fn record_path(alloc: Global, folder: &str, settings: &Settings) -> Result<Strin
 }
 
 /// The path of a destination, a Maildir or an mboxrd file.
-fn destination_path<'a>(rt: &HostRuntime, dest: &Dest) -> Result<String, Failure<'a>>
+fn destination_path<'a, R: Env + AllocGlobal>(rt: &R, dest: &Dest) -> Result<String, Failure<'a>>
     ensures { IfOk result (λ path. (home : List ℕ) × (string_bytes path ≡ whole_path home (path_in dest.now))) }
 {
     match dest {
@@ -93,7 +102,10 @@ fn destination_path<'a>(rt: &HostRuntime, dest: &Dest) -> Result<String, Failure
 
 /// The settings and the paths of a run, or the first of these failures: HOME is needed and not set,
 /// the rc file can't be read or is wrong, the flags are opposite.
-pub fn set_up<'a>(host: &Host, words: &Words) -> Result<Setup, Failure<'a>>
+pub fn set_up<'a, R: Files + Env + Eprint + AllocGlobal, E: Write + Copy>(
+    host: &TracedHost<R, E>,
+    words: &Words,
+) -> Result<Setup, Failure<'a>>
     ensures valid { IfOk result (λ setup. IsValid setup.settings) }
     ensures asked { IfOk result (λ setup. AreAsked words.now.flags setup.settings) }
     ensures placed { IfOk result (IsPlaced words.now) }

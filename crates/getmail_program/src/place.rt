@@ -1,12 +1,12 @@
 //! The paths of the rc file, the record and the destination.
 ghost use Rattle.std.specs.Prelude.{◌≡◌, ℕ, List, IfOk, option_map};
 ghost use Rattle.std.specs.String.{string_bytes};
-ghost use Rattle.getmail.specs.Places.{folder_given, joined, stands_alone, whole_path};
+ghost use Rattle.getmail_program.specs.Places.{folder_given, joined, stands_alone, whole_path};
 
 use crate::failure::Failure;
 use fetch_rules::full_path;
 use std::alloc::{AllocError, Global};
-use std::env::{self, VarError};
+use std::env::{self, Env, VarError};
 
 /// The default folder of the rc file and the record.
 const FOLDER: &str = "~/.getmail";
@@ -34,7 +34,7 @@ fn stands_alone(path: &str) -> bool
 }
 
 /// The user's home.
-fn home<'a>(rt: &HostRuntime) -> Result<String, Failure<'a>> {
+fn home<'a, R: Env + AllocGlobal>(rt: &R) -> Result<String, Failure<'a>> {
     match env::var(rt, "HOME") {
         Ok(home) => Ok(home),
         Err(VarError::OutOfMemory) => Err(Failure::NoMemory),
@@ -43,7 +43,7 @@ fn home<'a>(rt: &HostRuntime) -> Result<String, Failure<'a>> {
 }
 
 /// A path, with the home in place of a leading `~`. HOME is looked up only if it is needed.
-pub fn whole_path<'a>(rt: &HostRuntime, path: &str) -> Result<String, Failure<'a>>
+pub fn whole_path<'a, R: Env + AllocGlobal>(rt: &R, path: &str) -> Result<String, Failure<'a>>
     ensures { IfOk result (λ whole. (home : List ℕ) × (string_bytes whole ≡ whole_path home path.now)) }
 {
     if path.as_bytes().starts_with(b"~/") {
@@ -54,7 +54,7 @@ pub fn whole_path<'a>(rt: &HostRuntime, path: &str) -> Result<String, Failure<'a
 }
 
 /// The folder of the rc file and the record.
-pub fn folder<'a>(rt: &HostRuntime, given: Option<&str>) -> Result<String, Failure<'a>>
+pub fn folder<'a, R: Env + AllocGlobal>(rt: &R, given: Option<&str>) -> Result<String, Failure<'a>>
     ensures { IfOk result (λ folder. (home : List ℕ)
         × (string_bytes folder ≡ whole_path home (folder_given (option_map (λ text. text.now) given.entry)))) }
 {
@@ -65,8 +65,8 @@ pub fn folder<'a>(rt: &HostRuntime, given: Option<&str>) -> Result<String, Failu
 }
 
 /// The rc file's path: in the folder, unless it begins with `/` or `~/`.
-pub fn rc_file<'a>(
-    rt: &HostRuntime,
+pub fn rc_file<'a, R: Env + AllocGlobal>(
+    rt: &R,
     folder: &str,
     given: Option<&str>,
 ) -> Result<String, Failure<'a>> {

@@ -6,7 +6,7 @@ use Rattle.clap.specs.declared.error.kind.ErrorKind.TheVariants.{DisplayHelp}
 use Rattle.clap.specs.Words.{App, IsAmong, Kinds, Row, Rule, count_of, first_of, new_app, new_rule, with_rule}
 use Rattle.clap.specs.declared.builder.action.ArgAction.TheVariants.{Set, Count}
 use Rattle.rc_file.specs.declared.flags.Flags.{Flags}
-use Rattle.getmail.specs.declared.words.Words.{Words}
+use Rattle.getmail_program.specs.declared.words.Words.{Words}
 
 -- an option with a value, given at most once
 abbrev pub value_rule : List ℕ → ℕ → Rule

@@ -9,7 +9,7 @@ use Rattle.fetch_session.specs.declared.preview.Preview.{Preview}
 use Rattle.fetch_session.specs.declared.report.Report.{Report}
 use Rattle.fetch_session.specs.Telling.{preview_text}
 use Rattle.fetch_session.specs.Text.{fault_text, report_text}
-use Rattle.getmail.specs.declared.fetching.Fetched.{Fetched}
+use Rattle.getmail_program.specs.declared.fetching.Fetched.{Fetched}
 
 -- the line of a fault
 abbrev pub fault_line : Fault → List ℕ

@@ -9,7 +9,7 @@ ghost use Rattle.fetch_session.specs.Telling.{preview_text};
 ghost use Rattle.fetch_session.specs.Text.{report_text};
 ghost use Rattle.fetch_session.specs.declared.preview.Preview.{Preview};
 ghost use Rattle.fetch_session.specs.declared.report.Report.{Report};
-ghost use Rattle.getmail.specs.Telling.{Tells, TellsAhead, fault_line, outcome_line, status_of};
+ghost use Rattle.getmail_program.specs.Telling.{Tells, TellsAhead, fault_line, outcome_line, status_of};
 
 use crate::shown_wire::ShownWire;
 use fetch_rules::Settings;

@@ -8,9 +8,9 @@ use Rattle.clap.specs.declared.error.kind.ErrorKind.TheVariants.{DisplayHelp, Ou
 use Rattle.clap.specs.Words.{App, HasMatchesOf, fault_of, found_of, is_simple, is_simple_and_free, matches_of, rows_of}
 use Rattle.clap.specs.declared.parser.matches.ArgMatches.{ArgMatches}
 use Rattle.clap.proofs.OnLiterals.{clap_on_literals}
-use Rattle.getmail.specs.CommandLine.{IsHelp, IsMistake, getmail}
-use Rattle.getmail.specs.declared.words.WordsFault.{WordsFault}
-use Rattle.getmail.specs.declared.words.WordsFault.TheVariants.{Help, Usage, NoMemory}
+use Rattle.getmail_program.specs.CommandLine.{IsHelp, IsMistake, getmail}
+use Rattle.getmail_program.specs.declared.words.WordsFault.{WordsFault}
+use Rattle.getmail_program.specs.declared.words.WordsFault.TheVariants.{Help, Usage, NoMemory}
 
 getmail_is_simple : is_simple getmail ≡ true
 unfolding clap_on_literals

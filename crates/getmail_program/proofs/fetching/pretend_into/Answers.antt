@@ -1,5 +1,5 @@
 use Rattle.std.proofs.Common.{◌∙◌, refl, sym}
-use Rattle.getmail.proofs.fetching.pretend_into.Goals as goal
+use Rattle.getmail_program.proofs.fetching.pretend_into.Goals as goal
 
 pub returns-clause-tells : goal.returns-clause-tells
 returns-clause-tells g c =

@@ -11,8 +11,8 @@ use Rattle.rc_file.specs.declared.settings.Dest.{Dest}
 use Rattle.rc_file.specs.declared.settings.Dest.TheVariants.{Maildir, Mboxrd}
 use Rattle.fetch_session.specs.Account.{digits_of}
 use Rattle.fetch_session.specs.Target.{Kind, Files, Entries}
-use Rattle.getmail.specs.declared.setup.Setup.{Setup}
-use Rattle.getmail.specs.declared.words.Words.{Words}
+use Rattle.getmail_program.specs.declared.setup.Setup.{Setup}
+use Rattle.getmail_program.specs.declared.words.Words.{Words}
 
 -- the path of a file of a folder, with one '/' between them
 abbrev pub joined : List ℕ → List ℕ → List ℕ

@@ -1,0 +1,20 @@
+//! What `getmail` does with a command line, over any runtime.
+#![tactic(auto)]
+
+mod failure;
+mod fetching;
+mod place;
+mod progress;
+mod rehearsal;
+mod run;
+mod setup;
+mod shown_wire;
+mod transcript;
+mod words;
+
+pub use failure::{Failure, failure_of, tell};
+pub use fetching::Fetched;
+pub use rehearsal::rehearse;
+pub use run::fetch_over;
+pub use setup::{Setup, set_up};
+pub use words::{Words, WordsFault, command, read_words};
