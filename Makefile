@@ -45,6 +45,7 @@ store_bench record_bench:
 	cd crates/$@ && rt run > /dev/null
 
 test: all store_bench record_bench
+	cd crates/library_tests && rt test > /dev/null
 	cd crates/tests && rt test > /dev/null
 	python3 tests/test_sample.py
 	python3 tests/test_documents.py

@@ -5,6 +5,6 @@ import sys
 
 top = pathlib.Path(__file__).resolve().parent.parent
 sample = (top / "docs/getmailrc.sample").read_text()
-tests = (top / "crates/tests/src/rc_file_tests/file.rt").read_text()
+tests = (top / "crates/library_tests/src/rc_file_tests/file.rt").read_text()
 if f'"{sample}";' not in tests:
-    sys.exit("docs/getmailrc.sample and the text in crates/tests/src/rc_file_tests/file.rt differ")
+    sys.exit("docs/getmailrc.sample and the text in crates/library_tests/src/rc_file_tests/file.rt differ")

@@ -1,26 +1,10 @@
-//! The tests of the libraries, in a folder for each: what no contract says, with ample memory. They are
-//! here, above all that they test, since a library with tests of its own is proved twice.
+//! The tests of whole sessions, and of the libraries' calls without memory: what no contract says. The
+//! tests of the libraries below a session are in `library_tests`.
 #![tactic(auto)]
 
 #[cfg(test)]
-mod fetch_rules_tests;
-#[cfg(test)]
 mod fetch_session_tests;
-#[cfg(test)]
-mod folder_names_tests;
 #[cfg(test)]
 mod local_fetch_tests;
 #[cfg(test)]
-mod mail_store_tests;
-#[cfg(test)]
-mod mail_terms_tests;
-#[cfg(test)]
 mod no_memory_tests;
-#[cfg(test)]
-mod pop3_client_tests;
-#[cfg(test)]
-mod pop3_server_tests;
-#[cfg(test)]
-mod pop3_wire_tests;
-#[cfg(test)]
-mod rc_file_tests;

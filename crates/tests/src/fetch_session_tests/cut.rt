@@ -4,10 +4,10 @@ use crate::fetch_session_tests::list::expect_by_one_call;
 use crate::fetch_session_tests::visit::{
     A_LISTED, Kept, LISTED, ONE, THREE, TWO, Visit, expect, nothing_kept, run,
 };
-use crate::mail_store_tests::name::{name_of, stem_of};
 use mail_store::{Folder, MaildirDisk, MemoryFile, MemoryMaildir};
 use std::process::Abort;
 use std::test::Fail;
+use test_support::{name_of, stem_of};
 
 #[test]
 fn goes_on_after_a_cut(rt: HostRuntime) -> Result<(), Fail> {

@@ -4,10 +4,10 @@ use crate::fetch_session_tests::visit::{
     Fuse, LISTED, ONE, SOUND, THREE, TWO, Visit, account, held, kept_by, nothing_kept, run,
 };
 use crate::local_fetch_tests::ends::{Ends, MESSAGES, fetch, link};
-use crate::pop3_server_tests::memory_drop::maildrop_of;
 use fetch_session::{Outcome, session};
 use std::process::Abort;
 use std::test::Fail;
+use test_support::maildrop_of;
 
 /// What refuses calls in a session.
 #[derive(Clone, Copy)]

@@ -3,7 +3,6 @@
 use crate::fetch_session_tests::visit::{
     Kept, SOUND, account, counts, held, kept_by, nothing_kept,
 };
-use crate::pop3_server_tests::memory_drop::{maildrop_of, put};
 use fetch_runs::{Visit, run_sessions};
 use fetch_session::Report;
 use local_fetch::fetch_local;
@@ -13,6 +12,7 @@ use pop3_wire::FusedWire;
 use std::alloc::{AllocError, Global};
 use std::process::Abort;
 use std::test::Fail;
+use test_support::{maildrop_of, put};
 
 /// The messages of the maildrop.
 pub const MESSAGES: [(&str, &str); 3] = [("a", "one\n"), ("b", "two\n"), ("c", "three\n")];
@@ -120,7 +120,7 @@ fn long_maildrop(rt: &(impl Abort + AllocGlobal)) -> Result<MemoryDrop, Fail> {
         text.extend_from_slice(&[b'x'; 80])?;
         text.push(b'\n')?;
         let uid = format!(in alloc; "m{i}")?;
-        put(rt, &mut maildrop, uid.as_bytes(), text.as_slice())?;
+        put(&mut maildrop, uid.as_bytes(), text.as_slice())?;
     }
     Ok(maildrop)
 }

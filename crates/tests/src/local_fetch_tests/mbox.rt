@@ -2,7 +2,6 @@
 
 use crate::fetch_session_tests::visit::{Fred, Fuse, SOUND, counts, settings};
 use crate::local_fetch_tests::ends::MESSAGES;
-use crate::pop3_server_tests::memory_drop::maildrop_of;
 use fetch_session::{Account, Store};
 use local_fetch::fetch_local;
 use mail_store::{Fused, MemoryFile};
@@ -11,6 +10,7 @@ use std::alloc::Global;
 use std::hash::{BuildHasherDefault, FoldHasher};
 use std::process::Abort;
 use std::test::Fail;
+use test_support::maildrop_of;
 
 /// The entries of the three messages.
 const ENTRIES: &[u8] = b"From MAILER-DAEMON Thu Jan  1 00:00:00 1970\none\n\n\

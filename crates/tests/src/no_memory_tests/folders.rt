@@ -1,18 +1,20 @@
 //! Maildirs and files of the file system. A device for whose own growth there is no memory refuses.
 
-use crate::mail_store_tests::file::mark_of;
-use crate::mail_store_tests::maildir::make_maildir;
-use crate::mail_store_tests::name::{fred, stem_of};
-use crate::mail_terms_tests::listing::listing_of;
 use crate::no_memory_tests::stores::{tell_done, tell_flags};
 use crate::no_memory_tests::watched::{begin, end, tell, tell_bytes, tell_no_memory};
 use fetch_rules::Listing;
 use folder_names::list_names;
-use folder_store::{FolderMaildir, HostFile};
+use folder_store::{FolderMaildir, HostFile, ProcessMark};
 use mail_store::{FlatFile, append_entry, deliver, held, is_whole};
 use std::fs;
 use std::io::ErrorKind;
 use std::test::Fail;
+use test_support::{fred, listing_of, make_maildir, stem_of};
+
+/// The mark of this process.
+fn mark_of(rt: &HostRuntime) -> Result<ProcessMark, Fail> {
+    Ok(ProcessMark::new(rt.process(), rt)?)
+}
 
 /// Tells what a file holds.
 fn tell_file(rt: &HostRuntime, path: &str) {

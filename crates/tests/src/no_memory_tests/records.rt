@@ -1,13 +1,12 @@
 //! Listings, the record and plans.
 
-use crate::fetch_rules_tests::seen::{Record, read_record};
 use crate::fetch_session_tests::visit::settings;
-use crate::mail_terms_tests::listing::listing_of;
 use crate::no_memory_tests::watched::{begin, end, tell, tell_answer, tell_no_memory};
 use fetch_rules::{
     Listing, ListingFault, ScanRow, SeenFault, Settings, Step, UidRow, have_legal_ids, plan,
 };
 use std::test::Fail;
+use test_support::{Record, listing_of, read_record};
 
 /// A record of two rows, and one with an open intent too.
 const ROWS: &[u8] = b"getmail-seen 2\na 5 0\nb 6 1\n";

@@ -1,6 +1,5 @@
 //! The server: its maildrops, its answers, and whole conversations.
 
-use crate::mail_store_tests::maildir::make_maildir;
 use crate::no_memory_tests::watched::{begin, end, tell, tell_bytes, tell_no_memory};
 use pop3_server::{
     DropFault, Entry, LoopWire, MaildirDrop, Maildrop, MemoryDrop, Server, ServerFault, serve,
@@ -10,6 +9,7 @@ use pop3_wire::{ScriptWire, Wire, is_legal_id};
 use std::alloc::Global;
 use std::fs;
 use std::test::Fail;
+use test_support::make_maildir;
 
 const INPUT: &[u8] =
     b"USER u\r\nPASS p\r\nSTAT\r\nDELE 1\r\nRETR 1\r\nRSET\r\nRETR 1\r\nTOP 2 1\r\nUIDL\r\n\

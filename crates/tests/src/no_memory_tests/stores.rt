@@ -1,13 +1,12 @@
 //! Maildirs and files in memory. A device for whose own growth there is no memory refuses.
 
-use crate::mail_store_tests::name::{fred, stem_of};
-use crate::mail_terms_tests::listing::listing_of;
 use crate::no_memory_tests::watched::{begin, end, tell, tell_bytes, tell_no_memory};
 use fetch_rules::Listing;
 use mail_store::{
     FlatFile, Folder, MemoryFile, MemoryMaildir, StoreFault, append_entry, deliver, held, is_whole,
 };
 use std::test::Fail;
+use test_support::{fred, listing_of, stem_of};
 
 /// Tells a fault.
 pub fn tell_store_fault(rt: &HostRuntime, fault: StoreFault) {

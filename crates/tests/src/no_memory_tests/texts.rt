@@ -1,7 +1,6 @@
 //! Names of files, texts of an mboxrd file, and the texts of reports.
 
 use crate::fetch_session_tests::visit::settings;
-use crate::mail_store_tests::name::{fred, name_of};
 use crate::no_memory_tests::watched::{
     begin, end, tell, tell_answer, tell_bytes, tell_no_memory, tell_text,
 };
@@ -17,6 +16,7 @@ use mail_terms::is_legal_id;
 use pop3_client::Asked;
 use std::alloc::{AllocError, Global};
 use std::test::Fail;
+use test_support::{fred, name_of};
 
 fn make_stem(rt: &HostRuntime, account: &AccountId) {
     if !is_legal_id(b"a1") {

@@ -1,39 +1,11 @@
 //! A maildrop in memory, with ample memory.
 
-use pop3_server::{Maildrop, MemoryDrop, Server, size_of};
-use pop3_wire::is_legal_id;
-use std::process::Abort;
+use pop3_server::{Maildrop, MemoryDrop, Server};
 use std::test::Fail;
-
-/// Puts a message into a maildrop.
-pub fn put(
-    rt: &(impl Abort + AllocGlobal),
-    maildrop: &mut MemoryDrop,
-    uid: &[u8],
-    text: &[u8],
-) -> Result<(), Fail> {
-    assert!(rt; is_legal_id(uid));
-    assert!(rt; !maildrop.contains(uid));
-    assert!(rt; size_of(text) <= 100_000);
-    assert!(rt; maildrop.len() < 1000);
-    maildrop.push(uid, text)?;
-    Ok(())
-}
-
-/// A maildrop of these messages, each an id and a text.
-pub fn maildrop_of(
-    rt: &(impl Abort + AllocGlobal),
-    messages: &[(&str, &str)],
-) -> Result<MemoryDrop, Fail> {
-    let mut maildrop = MemoryDrop::new(rt.alloc());
-    for (uid, text) in messages {
-        put(rt, &mut maildrop, uid.as_bytes(), text.as_bytes())?;
-    }
-    Ok(maildrop)
-}
+use test_support::maildrop_of;
 
 /// A server over a maildrop of two messages, for user `u` with password `p`.
-pub fn server(rt: &(impl Abort + AllocGlobal)) -> Result<Server<MemoryDrop>, Fail> {
+pub fn server(rt: &impl AllocGlobal) -> Result<Server<MemoryDrop>, Fail> {
     let alloc = rt.alloc();
     let messages = [
         ("m1", "Subject: one\n\n.dot\n"),

@@ -1,9 +1,9 @@
 //! How often a server asks its maildrop for a text, and for parts of one.
 
-use crate::pop3_server_tests::memory_drop::put;
 use pop3_server::{DropFault, Entry, Maildrop, MemoryDrop, Server};
 use std::process::Abort;
 use std::test::Fail;
+use test_support::put;
 
 /// A maildrop that counts the calls for a text, and for a part of one.
 #[derive(Drop)]
@@ -51,7 +51,7 @@ fn asked(rt: &(impl Abort + AllocGlobal), command: &str) -> Result<(usize, u64, 
         text.push(b'\n')?;
     }
     let mut maildrop = MemoryDrop::new(alloc);
-    put(rt, &mut maildrop, b"m1", text.as_slice())?;
+    put(&mut maildrop, b"m1", text.as_slice())?;
     let counting = CountingDrop {
         maildrop,
         texts: 0,

@@ -1,17 +1,9 @@
 //! The record of what was seen and delivered, and its file.
 
-use crate::mail_terms_tests::listing::listing_of;
 use fetch_rules::{Listing, ScanRow, Seen, SeenFault, UidRow, have_legal_ids};
 use std::alloc::Global;
-use std::hash::{BuildHasherDefault, FoldHasher};
 use std::test::Fail;
-
-/// A record whose hasher has a fixed seed.
-pub(crate) type Record = Seen<BuildHasherDefault<FoldHasher>>;
-
-pub(crate) fn read_record(alloc: Global, bytes: &[u8]) -> Result<Record, SeenFault> {
-    Seen::read(alloc, bytes, BuildHasherDefault::new())
-}
+use test_support::{listing_of, read_record};
 
 /// Whether a record changes when messages of these ids are merged into it, with those flagged
 /// that are held, and the record's file afterwards.

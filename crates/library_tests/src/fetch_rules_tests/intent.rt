@@ -1,9 +1,9 @@
 //! The record's second version: intents, and files of the first version.
 
-use crate::fetch_rules_tests::seen::read_record;
 use fetch_rules::SeenFault;
 use std::alloc::Global;
 use std::test::Fail;
+use test_support::read_record;
 
 /// What a file stands for: the open intent, whether the file must be written anew, and the record
 /// as a file.

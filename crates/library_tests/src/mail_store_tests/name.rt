@@ -1,32 +1,12 @@
 //! Names of files, against digests and texts from outside.
 
-use mail_store::{AccountId, account_id, file_name, file_stem, stem, uid_of};
-use mail_terms::{base, is_legal_id};
-use std::alloc::Global;
+use mail_store::{account_id, stem, uid_of};
+use mail_terms::base;
 use std::test::Fail;
+use test_support::{fred, name_of, stem_of};
 
 /// The SHA-256 of `mail.example.org`, NUL, `110`, NUL, `fred`.
 const FRED: &str = "1d53aa641fcca1246692d2efb237b6d92298f9330900c9994d1975e0963f5d80";
-
-pub fn fred() -> AccountId {
-    account_id("mail.example.org", 110, "fred")
-}
-
-/// The stem of the files of an id.
-pub fn stem_of(alloc: Global, uid: &[u8]) -> Result<String, Fail> {
-    if !is_legal_id(uid) {
-        return Err(Fail::new("no legal id"));
-    }
-    Ok(file_stem(alloc, &fred(), uid)?)
-}
-
-/// The name of the file of an id that has so many bytes.
-pub fn name_of(alloc: Global, uid: &[u8], size: u64) -> Result<String, Fail> {
-    if !is_legal_id(uid) {
-        return Err(Fail::new("no legal id"));
-    }
-    Ok(file_name(alloc, &fred(), uid, size)?)
-}
 
 #[test]
 fn names_files_by_account_and_id(rt: HostRuntime) -> Result<(), Fail> {

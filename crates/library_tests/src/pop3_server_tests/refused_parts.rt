@@ -1,12 +1,12 @@
 //! What is sent of a text if a maildrop gives its first parts and refuses the next one.
 ghost use Rattle.std.specs.Prelude.{[]};
 
-use crate::pop3_server_tests::memory_drop::put;
 use mail_terms::FailureCount;
 use pop3_server::{DropFault, Entry, Maildrop, MemoryDrop, Server, ServerFault, serve};
 use pop3_wire::ScriptWire;
 use std::process::Abort;
 use std::test::Fail;
+use test_support::put;
 
 /// A maildrop that gives so many parts of texts, and refuses all else but its listing.
 #[derive(Drop)]
@@ -74,7 +74,7 @@ fn served(
         text.push(b'\n')?;
     }
     let mut maildrop = MemoryDrop::new(alloc);
-    put(rt, &mut maildrop, b"m1", text.as_slice())?;
+    put(&mut maildrop, b"m1", text.as_slice())?;
     let stopping = StoppingDrop {
         maildrop,
         left: parts,

@@ -1,10 +1,10 @@
 //! Plans of sessions.
 
-use crate::fetch_rules_tests::seen::{listing_of_hundreds, read_record};
-use crate::mail_terms_tests::listing::listing_of;
+use crate::fetch_rules_tests::seen::listing_of_hundreds;
 use fetch_rules::{Dest, Settings, plan};
 use std::alloc::Global;
 use std::test::Fail;
+use test_support::{listing_of, read_record};
 
 /// Settings that ask for nothing more: only new messages, nothing deleted, no limits.
 fn settings(alloc: Global) -> Settings {

@@ -3,22 +3,7 @@
 use mail_terms::{Listing, ListingFault, ScanRow, UidRow, have_legal_ids, is_legal_id};
 use std::alloc::{AllocError, Global};
 use std::test::Fail;
-
-/// A listing of these ids and sizes, numbered in this order.
-pub fn listing_of(alloc: Global, items: &[(&str, u64)]) -> Result<Listing, ListingFault> {
-    let mut uids = Vec::new(alloc);
-    let mut sizes = Vec::new(alloc);
-    let mut number = 0u32;
-    for (uid, size) in items {
-        number = number.saturating_add(1);
-        uids.push(uid_row(alloc, number, uid)?)?;
-        sizes.push(scan_row(number, *size))?;
-    }
-    if !have_legal_ids(&uids) {
-        return Err(ListingFault::Disagree);
-    }
-    Listing::join(alloc, number, &uids, &sizes)
-}
+use test_support::listing_of;
 
 fn uid_row(alloc: Global, number: u32, uid: &str) -> Result<UidRow, AllocError> {
     Ok(UidRow {

@@ -1,12 +1,11 @@
 //! Devices with a fuse, each of their calls refused in turn.
 
-use crate::mail_store_tests::name::fred;
-use crate::mail_terms_tests::listing::listing_of;
 use mail_store::{
     FlatFile, Folder, Fused, MaildirDisk, MemoryFile, MemoryMaildir, StoreFault, deliver, held,
 };
 use std::alloc::Global;
 use std::test::Fail;
+use test_support::{fred, listing_of};
 
 /// Delivers with a fuse, and returns whether it was refused, how many calls were, and how many
 /// files are in `new` then.

@@ -1,12 +1,11 @@
 //! Delivery to a Maildir in memory and to one in a folder.
 
 use crate::mail_store_tests::file::{mark_of, text_of};
-use crate::mail_store_tests::name::{fred, name_of, stem_of};
-use crate::mail_terms_tests::listing::listing_of;
 use folder_store::FolderMaildir;
 use mail_store::{Folder, Fused, MaildirDisk, MemoryMaildir, StoreFault, deliver, held};
 use std::fs;
 use std::test::Fail;
+use test_support::{fred, listing_of, make_maildir, name_of, stem_of};
 
 #[test]
 fn delivers_to_a_maildir_in_memory(rt: HostRuntime) -> Result<(), Fail> {
@@ -54,21 +53,6 @@ fn moves_no_file_over_another(rt: HostRuntime) -> Result<(), Fail> {
         assert_eq!(rt; disk.move_to_cur("one", ":2,S")?, place == 0);
     }
     assert_eq!(rt; disk.files(Folder::New).len(), 1);
-    Ok(())
-}
-
-/// A Maildir in a folder of the test's own, with these files.
-pub fn make_maildir(rt: &HostRuntime, path: &str, files: &[(&str, &str)]) -> Result<(), Fail> {
-    let _ = fs::remove_dir_all(rt, path);
-    fs::create_dir(rt, path)?;
-    for folder in ["tmp", "new", "cur"] {
-        let at = format!(in rt.alloc(); "{path}/{folder}")?;
-        fs::create_dir(rt, at.as_str())?;
-    }
-    for (name, content) in files {
-        let at = format!(in rt.alloc(); "{path}/{name}")?;
-        fs::write(rt, at.as_str(), content.as_bytes())?;
-    }
     Ok(())
 }
 
