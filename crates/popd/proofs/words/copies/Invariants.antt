@@ -1,7 +1,0 @@
-use Rattle.std.proofs.Common.{map, ◌≡◌, take}
-use Rattle.std.specs.String.{string_bytes}
-use Rattle.popd.proofs.words.copies.Given as goal
-
--- the texts copied so far are those in front
-abbrev pub invariant-loop-text : goal.invariant-loop-text
-invariant-loop-text l = map string_bytes l.owned.items ≡ map (λ t. t.now) (take l.text-index l.texts)

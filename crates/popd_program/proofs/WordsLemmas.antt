@@ -1,0 +1,31 @@
+-- What clap's matches of the command line are.
+use Rattle.std.proofs.Common.{◌≡◌, ◌∙◌, ℕ, List, Option, None, Some, Result, Ok, Err, true, ap, refl}
+use Rattle.std.specs.Prelude.{unwrap_or}
+use Rattle.std.specs.Str.Parse.{ParsesUnsigned}
+use Rattle.clap.specs.Words.{App, HasMatchesOf, ReadsOne, found_of, is_simple, is_simple_and_free, matches_of, rows_of}
+use Rattle.clap.specs.declared.parser.matches.ArgMatches.{ArgMatches}
+use Rattle.clap.proofs.OnLiterals.{clap_on_literals}
+use Rattle.popd_program.specs.CommandLine.{Numbers, popd}
+
+popd_is_simple : is_simple popd ≡ true
+unfolding clap_on_literals
+popd_is_simple = refl
+
+pub popd_is_free : is_simple_and_free popd ≡ true
+unfolding clap_on_literals
+popd_is_free = refl
+
+-- the rows of a parse are the matches of the words
+pub rows_are : (app : App) (words : List (List ℕ)) (matches : ArgMatches) → app ≡ popd → HasMatchesOf app words matches
+    → rows_of (found_of matches) ≡ matches_of popd words
+rows_are app words matches same has =
+    (has (ap is_simple same ∙ popd_is_simple)).0 ∙ ap (λ (a : App). matches_of a words) same
+
+-- a number that was read of its text, or the greatest where there is no text
+pub numbers : {E : Type 0} (G : List ℕ → Result ℕ E → Type 0) (text : Option (List ℕ)) (read : Option ℕ) (count : ℕ)
+    → ((u : List ℕ) (x : Result ℕ E) → G u x → ParsesUnsigned 32 10 u x)
+    → (text ≡ None → read ≡ None) → ((t : List ℕ) → text ≡ Some t → ReadsOne G t read) → count ≡ unwrap_or read 4294967295
+    → Numbers text count
+numbers G None read count only none value is = is ∙ ap (λ (r : Option ℕ). unwrap_or r 4294967295) (none refl)
+numbers G (Some t) (Some n) count only none value is = λ numeral small. is ∙ (only t (Ok n) (value t refl)).1
+numbers G (Some t) None count only none value is = λ numeral small. let h = value t refl in absurd (only t (Err h.0) h.1 (numeral, small))

@@ -1,0 +1,44 @@
+-- How the program ends: the exit status, and what each failure says of the words.
+use Rattle.std.specs.Prelude.{◌≡◌, ◌≢◌, ◌||◌, ℕ, Bool, true, false, not, List, Some, Result, Ok, Err, is_some, option_map, if◌then◌else◌}
+use Rattle.std.specs.String.{string_bytes}
+use Rattle.pop3_server.specs.declared.fault.ServerFault.TheVariants.{NoMemory}
+use Rattle.popd_program.specs.CommandLine.{is_bare, is_whole}
+use Rattle.popd_program.specs.declared.failure.Failure.{Failure}
+use Rattle.popd_program.specs.declared.failure.Failure.TheVariants.{WrongCount, CannotRead, CannotListen, Fault}
+use Rattle.popd_program.specs.declared.words.Words.{Words}
+
+-- 0: served; 1: a file, an address, the link or memory failed; 2: usage
+abbrev pub status_of : Result (Unit {0}) Failure → ℕ
+status_of (Ok done) = 0
+status_of (Err WrongCount) = 2
+status_of (Err (CannotRead name)) = 1
+status_of (Err (CannotListen address)) = 1
+status_of (Err (Fault fault)) = 1
+
+-- as many words as are wanted: none for a rehearsal, else USER PASSFILE MAILDIR
+abbrev pub has_right_count : Words → Bool
+has_right_count words = if words.rehearse then is_bare words else is_whole words
+
+-- standard input and output are served, and no address
+abbrev pub serves_streams : Words → Bool
+serves_streams words = words.rehearse || not (is_some words.listen)
+
+-- the words name PASSFILE so, and it is wanted
+pub record NamesPassfile (words : Words) (name : List ℕ) : Type 0 where
+  pub count : has_right_count words ≡ true
+  pub wanted : words.rehearse ≡ false
+  pub named : option_map string_bytes words.passfile ≡ Some name
+
+-- the words name ADDRESS so, and it is listened on
+pub record NamesAddress (words : Words) (address : List ℕ) : Type 0 where
+  pub count : has_right_count words ≡ true
+  pub wanted : words.rehearse ≡ false
+  pub named : option_map string_bytes words.listen ≡ Some address
+
+-- what a failure says of the words
+abbrev pub IsCause : Words → Failure → Type 0
+IsCause words WrongCount = has_right_count words ≡ false
+IsCause words (CannotRead name) = NamesPassfile words name.now
+IsCause words (CannotListen address) = NamesAddress words address.now
+-- only the link of standard input and output ends the program; memory may be wanting anywhere
+IsCause words (Fault fault) = (has_right_count words ≡ true) × (fault ≢ NoMemory → serves_streams words ≡ true)

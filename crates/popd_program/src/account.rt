@@ -1,0 +1,97 @@
+//! The account that is served: user, password and Maildir.
+ghost use Rattle.std.specs.Prelude.{◌≡◌, ℕ, List, [], true, false, IfOk, IfErr, codes};
+ghost use Rattle.std.specs.String.{string_bytes};
+ghost use Rattle.popd_program.specs.Account.{IsAccount};
+ghost use Rattle.popd_program.specs.Password.{password_of};
+ghost use Rattle.popd_program.specs.Failures.{IsCause};
+ghost use Rattle.popd_program.specs.Start.{at_start};
+
+use crate::failure::{Failure, failure_of};
+use crate::password::password;
+use crate::words::Words;
+use pop3_server::{MaildirDrop, Maildrop, Server};
+use std::alloc::{AllocError, Global};
+use std::fs;
+use std::random::RandomSource;
+use std::rt::{Clock, Files};
+
+/// The account that is served.
+#[derive(Drop)]
+pub struct Account {
+    pub user: Vec<u8>,
+    pub password: Vec<u8>,
+    /// The path of the Maildir, as written.
+    pub maildir: String,
+}
+
+impl Account {
+    /// A copy of the account.
+    pub fn copy(&self, alloc: Global) -> Result<Account, AllocError>
+        ensures { IfOk result (λ account. (account.user.items ≡ self.now.user.items)
+            × (account.password.items ≡ self.now.password.items)
+            × (string_bytes account.maildir ≡ string_bytes self.now.maildir)) }
+    {
+        Ok(Account {
+            user: Vec::from_slice(alloc, self.user.as_slice())?,
+            password: Vec::from_slice(alloc, self.password.as_slice())?,
+            maildir: String::from_str(alloc, self.maildir.as_str())?,
+        })
+    }
+
+    /// The account's Maildir; nothing of it is listed yet.
+    pub fn open_maildir<'a, H>(&self, host: &'a H) -> Result<MaildirDrop<'a, H>, AllocError>
+    where
+        H: Files + Clock + RandomSource + AllocGlobal + Clone + Drop,
+        ensures { IfOk result (λ maildir.
+            maildir ≡ record { path = string_bytes self.now.maildir; names = []; failures = 0; removals = 0 }) }
+    {
+        let path = String::from_str(host.alloc(), self.maildir.as_str())?;
+        Ok(MaildirDrop::at(host, path))
+    }
+
+    /// A server over this maildrop at the start of a session, for this account's user and password.
+    pub fn into_server<D: Maildrop + Drop>(self, alloc: Global, maildrop: D) -> Server<D>
+        ensures { result ≡ at_start self.user.items self.password.items maildrop }
+    {
+        let Account { user, password, .. } = self;
+        Server::new(alloc, maildrop, user, password)
+    }
+}
+
+/// The account of a user, with the password from a password file of these bytes, and of a Maildir.
+fn account_of(alloc: Global, user: &str, file: &[u8], maildir: &str) -> Result<Account, AllocError>
+    ensures { IfOk result (λ account. (account.user.items ≡ user.now)
+        × (account.password.items ≡ password_of file.now)
+        × (string_bytes account.maildir ≡ maildir.now)) }
+{
+    Ok(Account {
+        user: Vec::from_slice(alloc, user.as_bytes())?,
+        password: Vec::from_slice(alloc, password(file))?,
+        maildir: String::from_str(alloc, maildir)?,
+    })
+}
+
+/// The account that the words USER PASSFILE MAILDIR name, with the password from PASSFILE. A wrong
+/// number of words is reported before that file is read.
+pub fn read_account<'a, H: Files + AllocGlobal>(
+    host: &H,
+    words: &'a Words,
+) -> Result<Account, Failure<'a>>
+    requires { words.now.rehearse ≡ false }
+    ensures ok { IfOk result (λ account. (file : List ℕ) × IsAccount words.now file account) }
+    ensures err { IfErr result (IsCause words.now) }
+{
+    let alloc = host.alloc();
+    let (Some(user), Some(passfile), Some(maildir)) = (&words.user, &words.passfile, &words.maildir)
+    else {
+        return Err(Failure::WrongCount);
+    };
+    if !words.more.is_empty() {
+        return Err(Failure::WrongCount);
+    }
+    let file = match fs::read(host, passfile.as_str()) {
+        Ok(file) => file,
+        Err(error) => return Err(failure_of(error, Failure::CannotRead(passfile.as_str()))),
+    };
+    Ok(account_of(alloc, user.as_str(), file.as_slice(), maildir.as_str())?)
+}

@@ -1,0 +1,86 @@
+//! Why the program serves nothing, or ends early: its line on standard error and its exit status.
+ghost use Rattle.std.specs.Prelude.{◌≡◌, ◌≢◌};
+ghost use Rattle.std.specs.IoError.{error_kind};
+ghost use Rattle.popd_program.specs.Failures.{status_of};
+
+use pop3_server::ServerFault;
+use std::alloc::AllocError;
+use std::io::{self, ErrorKind};
+
+/// Why the program serves nothing, or ends early.
+#[derive(Clone, Copy)]
+pub enum Failure<'a> {
+    /// There are too many or too few words besides the options.
+    WrongCount,
+    /// The password file of this name can't be read.
+    CannotRead(&'a str),
+    /// This address can't be listened on.
+    CannotListen(&'a str),
+    /// The link failed, or memory ran out.
+    Fault(ServerFault),
+}
+
+impl<'a> From<ServerFault> for Failure<'a> {
+    ghost use Rattle.std.specs.Prelude.{◌≡◌};
+    ghost use Rattle.popd_program.specs.declared.failure.Failure.TheVariants.{Fault};
+
+    ghost from_gives = { λ fault f. f ≡ Fault fault };
+
+    fn from(fault: ServerFault) -> Failure<'a> {
+        Failure::Fault(fault)
+    }
+}
+
+impl<'a> From<AllocError> for Failure<'a> {
+    ghost use Rattle.std.specs.Prelude.{◌≡◌};
+    ghost use Rattle.popd_program.specs.declared.failure.Failure.TheVariants.{Fault};
+    ghost use Rattle.pop3_server.specs.declared.fault.ServerFault.TheVariants.{NoMemory};
+
+    ghost from_gives = { λ _ f. f ≡ Fault NoMemory };
+
+    fn from(_error: AllocError) -> Failure<'a> {
+        Failure::Fault(ServerFault::NoMemory)
+    }
+}
+
+/// The failure for an error of the system: `failure`, unless memory ran out.
+pub fn failure_of<'a>(error: io::Error, failure: Failure<'a>) -> Failure<'a>
+    ensures memory { error_kind error ≡ ErrorKind.OutOfMemory → result ≡ Failure.Fault ServerFault.NoMemory }
+    ensures other { error_kind error ≢ ErrorKind.OutOfMemory → result ≡ failure.entry }
+{
+    if error.kind() == ErrorKind::OutOfMemory {
+        Failure::Fault(ServerFault::NoMemory)
+    } else {
+        failure
+    }
+}
+
+/// Writes a failure's line to standard error. It allocates nothing, and a line that can't be written
+/// changes nothing.
+pub fn tell<R: Eprint>(rt: &R, failure: Failure<'_>) {
+    let _ = match failure {
+        Failure::WrongCount => rt.eprintln("popd: wrong number of arguments"),
+        Failure::CannotRead(name) => rt.eprintln(format_args!("popd: cannot read {name}")),
+        Failure::CannotListen(address) => {
+            rt.eprintln(format_args!("popd: cannot listen on {address}"))
+        }
+        Failure::Fault(fault) => rt.eprintln(format_args!("popd: {fault}")),
+    };
+}
+
+/// Writes the failure's line, if there was a failure, and returns the exit status: 0 if there was
+/// none, 2 for a wrong number of words, 1 for any other failure.
+pub fn end<R: Eprint>(rt: &R, outcome: Result<(), Failure<'_>>) -> u8
+    ensures { result ≡ status_of outcome.entry }
+{
+    match outcome {
+        Ok(()) => 0,
+        Err(failure) => {
+            tell(rt, failure);
+            match failure {
+                Failure::WrongCount => 2,
+                _ => 1,
+            }
+        }
+    }
+}

@@ -1,0 +1,16 @@
+//! What `popd` does with its command line, over any runtime.
+#![tactic(auto)]
+
+mod account;
+mod failure;
+mod host;
+mod password;
+mod rehearsal;
+mod serving;
+mod start;
+mod telling;
+mod waits;
+mod warning;
+mod words;
+
+pub use start::obey_command_line;

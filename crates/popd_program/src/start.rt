@@ -1,0 +1,130 @@
+//! What the command line asks for is done, from its words to the exit status.
+ghost use Rattle.std.specs.Prelude.{◌≡◌, ◌≢◌, ◌≤◌, ◌⊎◌, true, IfErr, MatchResult};
+ghost use Rattle.clap.specs.Values.{kind_of};
+ghost use Rattle.popd_program.specs.Failures.{IsCause, has_right_count};
+
+use crate::account::read_account;
+use crate::failure::{Failure, end, failure_of};
+use crate::host::{Host, host_of};
+use crate::rehearsal::rehearsal_server;
+use crate::serving::{listen, serve_maildir, serve_streams};
+use crate::warning::warn_of;
+use crate::words::{Words, command, read_words};
+use clap::Error;
+use clap::error::ErrorKind;
+use pop3_server::ServerFault;
+use std::env;
+use std::io::{Read, Write};
+use std::net::{Net, TcpListener, TcpStream};
+use std::random::RandomSource;
+use std::rt::{Clock, Env, Files};
+
+/// The words of the command line, the program's name first. If they can't be read, for example because
+/// one isn't UTF-8, the failure is that of a wrong number of words.
+fn arguments<R: Env + AllocGlobal>(rt: &R) -> Result<Vec<String>, Failure<'static>>
+    ensures { IfErr result (λ f. (f ≡ Failure.WrongCount) ⊎ (f ≡ Failure.Fault ServerFault.NoMemory)) }
+{
+    match env::args(rt) {
+        Ok(words) => Ok(words.collect(rt.alloc())?),
+        Err(error) => Err(failure_of(error, Failure::WrongCount)),
+    }
+}
+
+/// Does what the command line asks for, or returns the first of these failures: a wrong number of
+/// words, a password file that can't be read, an address that can't be listened on, a fault of the
+/// link. With an address to listen on, a fault of one connection isn't a failure of the run. Without
+/// one, the streams are served: standard input and output.
+fn run<'a, R, E, I, O>(
+    host: &Host<R, E>,
+    words: &'a Words,
+    streams: (I, O),
+) -> Result<(), Failure<'a>>
+where
+    R: Net<Listener = TcpListener, Stream = TcpStream> + Files + Clock,
+    R: RandomSource + AllocGlobal + Eprint + Copy + Drop,
+    E: Write + Copy + Drop,
+    I: Read + Drop,
+    O: Write + Drop,
+    ensures { MatchResult result (λ _. has_right_count words.now ≡ true) (IsCause words.now) }
+{
+    if words.rehearse {
+        if !words.is_bare() {
+            return Err(Failure::WrongCount);
+        }
+        let mut server = rehearsal_server(host.alloc())?;
+        return Ok(serve_streams(host, &mut server, words.verbose, streams)?);
+    }
+    let account = read_account(host, words)?;
+    warn_of(host, &account, words.passfile.as_deref())?;
+    match &words.listen {
+        Some(address) => listen(host, address.as_str(), words, &account),
+        None => Ok(serve_maildir(host, account, words.verbose, streams)?),
+    }
+}
+
+/// Writes clap's text, help to standard output and a mistake to standard error, and returns the exit
+/// status: 0 for help that was written, 2 for a mistake.
+fn show<R: Print + Eprint>(rt: &R, error: &Error) -> u8
+    ensures memory { kind_of error.now ≡ ErrorKind.OutOfMemory → result ≡ 1 }
+    ensures help { kind_of error.now ≡ ErrorKind.DisplayHelp → result ≤ 1 }
+    ensures mistake { kind_of error.now ≢ ErrorKind.OutOfMemory
+        → kind_of error.now ≢ ErrorKind.DisplayHelp → result ≡ 2 }
+{
+    let kind = error.kind();
+    if kind == ErrorKind::OutOfMemory {
+        return end(rt, Err(Failure::Fault(ServerFault::NoMemory)));
+    }
+    let shown = error.print(rt);
+    if kind != ErrorKind::DisplayHelp {
+        return 2;
+    }
+    if shown.is_ok() { 0 } else { 1 }
+}
+
+/// Writes the usage to standard error.
+fn show_usage<R: Eprint + AllocGlobal>(rt: &R) {
+    if let Ok(mut command) = command(rt.alloc()) {
+        if let Ok(usage) = command.render_usage() {
+            let _ = rt.eprintln(usage);
+        }
+    }
+}
+
+/// Does what the command line asks for, and returns the exit status. If it is empty, the usage is
+/// shown too.
+fn obey<R, E, I, O>(rt: &R, arguments: &[String], streams: (I, O), err: E) -> u8
+where
+    R: Net<Listener = TcpListener, Stream = TcpStream> + Files + Clock,
+    R: RandomSource + AllocGlobal + Print + Eprint + Copy + Drop,
+    E: Write + Copy + Drop,
+    I: Read + Drop,
+    O: Write + Drop,
+{
+    match read_words(rt.alloc(), arguments) {
+        Ok(words) => {
+            let host = host_of(rt, err, words.trace);
+            let status = end(rt, run(&host, &words, streams));
+            if arguments.len() <= 1 {
+                show_usage(rt);
+            }
+            status
+        }
+        Err(error) => show(rt, &error),
+    }
+}
+
+/// Does what the command line of a runtime asks for, and returns the exit status. The streams are
+/// standard input and output; a trace goes to `err`.
+pub fn obey_command_line<R, E, I, O>(rt: &R, streams: (I, O), err: E) -> u8
+where
+    R: Net<Listener = TcpListener, Stream = TcpStream> + Files + Env + Clock,
+    R: RandomSource + AllocGlobal + Print + Eprint + Copy + Drop,
+    E: Write + Copy + Drop,
+    I: Read + Drop,
+    O: Write + Drop,
+{
+    match arguments(rt) {
+        Ok(arguments) => obey(rt, arguments.as_slice(), streams, err),
+        Err(failure) => end(rt, Err(failure)),
+    }
+}

@@ -1,0 +1,115 @@
+//! How long a client may keep the server waiting (RFC 1939, section 3, asks for at least ten minutes
+//! after the login).
+ghost use Rattle.std.specs.Prelude.{◌≡◌, ◌≤◌, ◌+◌, ◌*◌, IfSome, None};
+ghost use Rattle.std.specs.Duration.{as_nanos};
+
+use pop3_server::{Event, Journal};
+use std::cell::Cell;
+use std::io::{self, ErrorKind, Read, Write};
+use std::net::TcpStream;
+use std::rt::Clock;
+use std::time::{Duration, Instant};
+
+/// How long one read or write may wait for a client that is logged in.
+const IDLE_SECONDS: u64 = 600;
+
+/// How long a client has to log in, all reads and writes together, so that one which sends an octet now
+/// and then keeps the next client out for no longer.
+const LOGIN_SECONDS: u64 = 180;
+
+/// How much of the time to log in is left after so long, if any.
+fn left_after(passed: Duration) -> Option<Duration>
+    ensures some { IfSome result (λ left. as_nanos left + as_nanos passed ≡ 180 * 1_000_000_000) }
+    ensures none { result ≡ None → 180 * 1_000_000_000 ≤ as_nanos passed }
+{
+    match Duration::from_secs(LOGIN_SECONDS).checked_sub(passed) {
+        Some(left) if !left.is_zero() => Some(left),
+        _ => None,
+    }
+}
+
+/// A connection whose reads and writes have a time limit. One that takes longer fails, which ends the
+/// connection and removes nothing.
+#[derive(Drop)]
+pub struct BoundedStream<'a, R> {
+    rt: &'a R,
+    stream: &'a TcpStream,
+    /// When the connection was accepted; none after the login.
+    taken: Cell<Option<Instant>>,
+}
+
+impl<'a, R: Clock> BoundedStream<'a, R> {
+    /// A connection that was just accepted.
+    pub fn new(rt: &'a R, stream: &'a TcpStream) -> io::Result<BoundedStream<'a, R>> {
+        let now = Instant::now(rt)?;
+        Ok(BoundedStream {
+            rt,
+            stream,
+            taken: Cell::new(Some(now)),
+        })
+    }
+
+    /// How much of the time to log in is left. None after the login.
+    fn left(&self) -> io::Result<Option<Duration>> {
+        let Some(taken) = self.taken.get() else {
+            return Ok(None);
+        };
+        match left_after(taken.elapsed(self.rt)?) {
+            Some(left) => Ok(Some(left)),
+            None => Err(ErrorKind::TimedOut.into()),
+        }
+    }
+
+    /// Limits how long each read and each write waits from now on.
+    fn bound_waits(&self, wait: Duration) -> io::Result<()> {
+        self.stream.set_read_timeout(Some(wait))?;
+        self.stream.set_write_timeout(Some(wait))
+    }
+
+    /// The client has logged in.
+    fn end_login(&self) {
+        if self.bound_waits(Duration::from_secs(IDLE_SECONDS)).is_ok() {
+            self.taken.set(None);
+        }
+    }
+}
+
+impl<'a, R: Clock> Read for &BoundedStream<'a, R> {
+    fn read(&mut self, buf: &mut [u8]) -> io::Result<usize> {
+        if let Some(left) = self.left()? {
+            self.stream.set_read_timeout(Some(left))?;
+        }
+        let mut stream = self.stream;
+        stream.read(buf)
+    }
+}
+
+impl<'a, R: Clock> Write for &BoundedStream<'a, R> {
+    fn write(&mut self, buf: &[u8]) -> io::Result<usize> {
+        if let Some(left) = self.left()? {
+            self.stream.set_write_timeout(Some(left))?;
+        }
+        let mut stream = self.stream;
+        stream.write(buf)
+    }
+
+    fn flush(&mut self) -> io::Result<()> {
+        Ok(())
+    }
+}
+
+/// A journal that passes events on to another one, and lifts the limit on logging in after the login.
+#[derive(Drop)]
+pub struct LoginJournal<'a, R, J: Journal + Drop> {
+    pub stream: &'a BoundedStream<'a, R>,
+    pub journal: &'a mut J,
+}
+
+impl<'a, R: Clock, J: Journal + Drop> Journal for LoginJournal<'a, R, J> {
+    fn note(&mut self, event: Event) {
+        if let Event::LoggedIn(_) = event {
+            self.stream.end_login();
+        }
+        self.journal.note(event);
+    }
+}

@@ -1,0 +1,118 @@
+//! Warnings: the program goes on after them.
+use crate::account::Account;
+use crate::host::Host;
+use mail_terms::is_credential;
+use pop3_server::ServerFault;
+use std::alloc::AllocError;
+use std::fmt::{self, Display, Formatter, Write};
+use std::net::SocketAddr;
+use std::os::unix::fs::PermissionsExt;
+use std::rt::Files;
+use std::{fs, io};
+
+/// Something that may be wrong, though the program goes on.
+#[derive(Clone, Copy)]
+pub enum Warning<'a> {
+    /// The Maildir of this name has no such folder.
+    NoFolder(&'a str, &'static str),
+    /// No client can give the user's name.
+    NoUser,
+    /// No client can give the password.
+    NoPassword,
+    /// Others than its owner may read or write the password file of this name.
+    OpenPassfile(&'a str),
+    /// A message's file, or a folder of the Maildir, can't be read.
+    Unread(&'a str),
+    /// This fault ended the connection from this address.
+    Cut(SocketAddr, ServerFault),
+}
+
+/// A path as a line shows it: with control characters escaped.
+#[derive(Clone, Copy)]
+struct Shown<'a>(&'a str);
+
+impl<'a> Display for Shown<'a> {
+    fn fmt<W: Write>(&self, f: &mut Formatter<W>) -> fmt::Result {
+        for character in self.0.chars() {
+            if character.is_control() {
+                write!(f, "\\u{{{:x}}}", character as u32)?;
+            } else {
+                f.write_char(character)?;
+            }
+        }
+        Ok(())
+    }
+}
+
+/// Why no client can give a name or a password.
+const NOT_GIVEN: &str = "it is empty, longer than 500 octets, or has a CR, LF or NUL in it";
+
+/// Writes a warning to standard error. It allocates nothing.
+pub fn warn<R: Eprint>(rt: &R, warning: Warning<'_>) {
+    let _ = match warning {
+        Warning::NoFolder(path, name) => rt.eprintln(format_args!(
+            "popd: warning: {} has no folder {name}",
+            Shown(path)
+        )),
+        Warning::NoUser => rt.eprintln(format_args!(
+            "popd: warning: no client can give this USER: {NOT_GIVEN}"
+        )),
+        Warning::NoPassword => rt.eprintln(format_args!(
+            "popd: warning: no client can give this password: {NOT_GIVEN}"
+        )),
+        Warning::OpenPassfile(path) => rt.eprintln(format_args!(
+            "popd: warning: others than its owner may read or write {}",
+            Shown(path)
+        )),
+        Warning::Unread(path) => {
+            rt.eprintln(format_args!("popd: warning: cannot read {}", Shown(path)))
+        }
+        Warning::Cut(client, fault) => {
+            rt.eprintln(format_args!("popd: warning: {client}: {fault}"))
+        }
+    };
+}
+
+/// Whether there is a folder at this path.
+fn is_folder<H: Files>(host: &H, path: &str) -> bool {
+    match fs::metadata(host, path) {
+        Ok(metadata) => metadata.is_dir(),
+        Err(_) => false,
+    }
+}
+
+/// Whether others than its owner may read or write a file.
+fn is_others_too<H: Files>(host: &H, path: &str) -> bool {
+    match fs::metadata(host, path) {
+        Ok(metadata) => metadata.permissions().mode() & 0o066 != 0,
+        Err(_) => false,
+    }
+}
+
+/// Warns of all that may keep this account from being served properly.
+pub fn warn_of<R: Files + AllocGlobal + Eprint, E: io::Write + Copy>(
+    host: &Host<R, E>,
+    account: &Account,
+    passfile: Option<&str>,
+) -> Result<(), AllocError> {
+    let rt = host.inner();
+    if !is_credential(account.user.as_slice()) {
+        warn(rt, Warning::NoUser);
+    }
+    if !is_credential(account.password.as_slice()) {
+        warn(rt, Warning::NoPassword);
+    }
+    if let Some(passfile) = passfile {
+        if is_others_too(host, passfile) {
+            warn(rt, Warning::OpenPassfile(passfile));
+        }
+    }
+    let maildir = account.maildir.as_str();
+    for name in ["new", "cur"] {
+        let path = format!(in rt.alloc(); "{maildir}/{name}")?;
+        if !is_folder(host, path.as_str()) {
+            warn(rt, Warning::NoFolder(maildir, name));
+        }
+    }
+    Ok(())
+}
