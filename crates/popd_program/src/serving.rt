@@ -27,9 +27,6 @@ const PAUSE_SECONDS: u64 = 1;
 /// A link over two streams, with the trace that the program's runtime has.
 type Link<I, O, E> = TracedWire<StreamWire<Traced<I, E>, Traced<O, E>>, E>;
 
-/// A Maildir in a folder of the program's runtime.
-type RealMaildir<'a, R, E> = MaildirDrop<'a, Host<R, E>>;
-
 /// A link over two streams, with the trace that the program's runtime has. Refused calls are told under
 /// the names of the streams.
 fn link_over<R: AllocGlobal, E: Write + Copy, I: Read, O: Write>(
@@ -160,47 +157,64 @@ where
     serve_and_note(server, &mut wire, &mut journal)
 }
 
-/// Serves one connection over the Maildir as it is now, and gives the Maildir back for the next one.
-fn serve_stream<'a, R, E>(
-    host: &'a Host<R, E>,
+/// Serves a connection over a maildrop, and gives the maildrop back.
+fn serve_connection<R, E, D>(
+    host: &Host<R, E>,
     telling: &mut Telling<'_, R>,
-    stream: &TcpStream,
-    account: &Account,
-    maildir: RealMaildir<'a, R, E>,
-) -> (Result<(), ServerFault>, RealMaildir<'a, R, E>)
+    connection: Connection<'_, R>,
+    maildrop: D,
+) -> (Result<(), ServerFault>, D)
 where
-    R: Files + Clock + RandomSource + AllocGlobal + Eprint + Copy + Drop,
+    R: Clock + AllocGlobal + Eprint + Drop,
     E: Write + Copy + Drop,
+    D: Maildrop + Drop,
 {
-    let begun = match begin(host, stream, telling.peer, account) {
-        Ok(begun) => begun,
-        Err(fault) => return (Err(fault), maildir),
-    };
-    // Without it the connection works too, only slower.
-    let _ = stream.set_nodelay(true);
     let Connection {
         account,
         stream,
         name,
-    } = begun;
-    let mut server = account.into_server(host.alloc(), maildir);
+    } = connection;
+    let mut server = account.into_server(host.alloc(), maildrop);
     let served = serve_bounded(host, &mut server, telling, &stream, name.as_str());
-    let maildir = server.into_drop();
+    (served, server.into_drop())
+}
+
+/// Serves one connection over the Maildir as it is now, and gives the Maildir back for the next one.
+fn serve_stream<'a, R, E, H>(
+    host: &Host<R, E>,
+    telling: &mut Telling<'_, R>,
+    stream: &TcpStream,
+    account: &Account,
+    maildir: MaildirDrop<'a, H>,
+) -> (Result<(), ServerFault>, MaildirDrop<'a, H>)
+where
+    R: Clock + AllocGlobal + Eprint + Drop,
+    E: Write + Copy + Drop,
+    H: Files + Clock + RandomSource + AllocGlobal + Clone + Drop,
+{
+    let connection = match begin(host, stream, telling.peer, account) {
+        Ok(connection) => connection,
+        Err(fault) => return (Err(fault), maildir),
+    };
+    // Without it the connection works too, only slower.
+    let _ = stream.set_nodelay(true);
+    let (served, maildir) = serve_connection(host, telling, connection, maildir);
     warn_of_unread(host.inner(), &maildir);
     (served, maildir.renewed())
 }
 
 /// Serves one client's connection, and gives the Maildir back for the next one. A fault is reported.
-fn serve_client<'a, R, E>(
-    host: &'a Host<R, E>,
+fn serve_client<'a, R, E, H>(
+    host: &Host<R, E>,
     verbose: bool,
     taken: &(TcpStream, SocketAddr),
     account: &Account,
-    maildir: RealMaildir<'a, R, E>,
-) -> RealMaildir<'a, R, E>
+    maildir: MaildirDrop<'a, H>,
+) -> MaildirDrop<'a, H>
 where
-    R: Files + Clock + RandomSource + AllocGlobal + Eprint + Copy + Drop,
+    R: Clock + AllocGlobal + Eprint + Drop,
     E: Write + Copy + Drop,
+    H: Files + Clock + RandomSource + AllocGlobal + Clone + Drop,
 {
     let rt = host.inner();
     let (stream, client) = (&taken.0, taken.1);
@@ -217,6 +231,65 @@ where
     left
 }
 
+/// Serves the next client, and gives the Maildir back for the one after it. If no connection can be
+/// accepted, that is reported after a pause.
+fn serve_next<'a, R, E, H>(
+    host: &Host<R, E>,
+    (listener, address): (&TcpListener, &str),
+    verbose: bool,
+    account: &Account,
+    maildir: MaildirDrop<'a, H>,
+) -> MaildirDrop<'a, H>
+where
+    R: Clock + AllocGlobal + Eprint + Drop,
+    E: Write + Copy + Drop,
+    H: Files + Clock + RandomSource + AllocGlobal + Clone + Drop,
+{
+    match host.told("accept", address, listener.accept()) {
+        Ok(taken) => serve_client(host, verbose, &taken, account, maildir),
+        Err(_) => {
+            let rt = host.inner();
+            thread::sleep(rt, Duration::from_secs(PAUSE_SECONDS));
+            tell(rt, Failure::Fault(ServerFault::ReadFailed));
+            maildir
+        }
+    }
+}
+
+/// Serves connections, one after the other, as many as the words say. The Maildir is one of `disk`.
+fn serve_clients<R, E, H>(
+    host: &Host<R, E>,
+    disk: &H,
+    (listener, address): (&TcpListener, &str),
+    words: &Words,
+    account: &Account,
+) -> Result<(), AllocError>
+where
+    R: Clock + AllocGlobal + Eprint + Drop,
+    E: Write + Copy + Drop,
+    H: Files + Clock + RandomSource + AllocGlobal + Clone + Drop,
+{
+    let mut maildir = account.open_maildir(disk)?;
+    for _ in 0..words.connections {
+        maildir = serve_next(host, (listener, address), words.verbose, account, maildir);
+    }
+    Ok(())
+}
+
+/// What listens on an address.
+fn bind<'a, R, E>(host: &Host<R, E>, address: &'a str) -> Result<TcpListener, Failure<'a>>
+where
+    R: Net<Listener = TcpListener, Stream = TcpStream> + AllocGlobal,
+    E: Write + Copy,
+    ensures { IfErr result (λ f. (f ≡ Failure.CannotListen address.entry) ⊎ (f ≡ Failure.Fault ServerFault.NoMemory)) }
+{
+    let bound = TcpListener::bind(host.inner(), address);
+    match host.told("bind", address, bound) {
+        Ok(listener) => Ok(listener),
+        Err(error) => Err(failure_of(error, Failure::CannotListen(address))),
+    }
+}
+
 /// Serves connections to an address, one after the other, as many as the words say. A fault of one of
 /// them, or in accepting it, is reported, and the next one is served.
 pub fn listen<'a, R, E>(
@@ -231,20 +304,7 @@ where
     E: Write + Copy + Drop,
     ensures { IfErr result (λ f. (f ≡ Failure.CannotListen address.entry) ⊎ (f ≡ Failure.Fault ServerFault.NoMemory)) }
 {
-    let rt = host.inner();
-    let listener = match host.told("bind", address, TcpListener::bind(rt, address)) {
-        Ok(listener) => listener,
-        Err(error) => return Err(failure_of(error, Failure::CannotListen(address))),
-    };
-    let mut maildir = account.open_maildir(host)?;
-    for _ in 0..words.connections {
-        match host.told("accept", address, listener.accept()) {
-            Ok(taken) => maildir = serve_client(host, words.verbose, &taken, account, maildir),
-            Err(_) => {
-                thread::sleep(rt, Duration::from_secs(PAUSE_SECONDS));
-                tell(rt, Failure::Fault(ServerFault::ReadFailed));
-            }
-        }
-    }
+    let listener = bind(host, address)?;
+    serve_clients(host, host, (&listener, address), words, account)?;
     Ok(())
 }

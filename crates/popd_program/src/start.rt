@@ -10,8 +10,8 @@ use crate::rehearsal::rehearsal_server;
 use crate::serving::{listen, serve_maildir, serve_streams};
 use crate::warning::warn_of;
 use crate::words::{Words, command, read_words};
-use clap::Error;
 use clap::error::ErrorKind;
+use clap::{Command, Error};
 use pop3_server::ServerFault;
 use std::env;
 use std::io::{Read, Write};
@@ -81,12 +81,17 @@ fn show<R: Print + Eprint>(rt: &R, error: &Error) -> u8
     if shown.is_ok() { 0 } else { 1 }
 }
 
+/// Writes the usage of a command to standard error.
+fn show_usage_of<R: Eprint>(rt: &R, command: &mut Command<'_>) {
+    if let Ok(usage) = command.render_usage() {
+        let _ = rt.eprintln(usage);
+    }
+}
+
 /// Writes the usage to standard error.
 fn show_usage<R: Eprint + AllocGlobal>(rt: &R) {
     if let Ok(mut command) = command(rt.alloc()) {
-        if let Ok(usage) = command.render_usage() {
-            let _ = rt.eprintln(usage);
-        }
+        show_usage_of(rt, &mut command);
     }
 }
 

@@ -89,30 +89,50 @@ fn is_others_too<H: Files>(host: &H, path: &str) -> bool {
     }
 }
 
-/// Warns of all that may keep this account from being served properly.
-pub fn warn_of<R: Files + AllocGlobal + Eprint, E: io::Write + Copy>(
-    host: &Host<R, E>,
-    account: &Account,
-    passfile: Option<&str>,
-) -> Result<(), AllocError> {
-    let rt = host.inner();
+/// Warns of a name or a password that no client can give.
+fn warn_of_login<R: Eprint>(rt: &R, account: &Account) {
     if !is_credential(account.user.as_slice()) {
         warn(rt, Warning::NoUser);
     }
     if !is_credential(account.password.as_slice()) {
         warn(rt, Warning::NoPassword);
     }
+}
+
+/// Warns if the Maildir has no folder of this name.
+fn warn_of_folder<R, E>(
+    host: &Host<R, E>,
+    maildir: &str,
+    name: &'static str,
+) -> Result<(), AllocError>
+where
+    R: Files + AllocGlobal + Eprint,
+    E: io::Write + Copy,
+{
+    let path = format!(in host.alloc(); "{maildir}/{name}")?;
+    if !is_folder(host, path.as_str()) {
+        warn(host.inner(), Warning::NoFolder(maildir, name));
+    }
+    Ok(())
+}
+
+/// Warns of all that may keep this account from being served properly.
+pub fn warn_of<R, E>(
+    host: &Host<R, E>,
+    account: &Account,
+    passfile: Option<&str>,
+) -> Result<(), AllocError>
+where
+    R: Files + AllocGlobal + Eprint,
+    E: io::Write + Copy,
+{
+    warn_of_login(host.inner(), account);
     if let Some(passfile) = passfile {
         if is_others_too(host, passfile) {
-            warn(rt, Warning::OpenPassfile(passfile));
+            warn(host.inner(), Warning::OpenPassfile(passfile));
         }
     }
     let maildir = account.maildir.as_str();
-    for name in ["new", "cur"] {
-        let path = format!(in rt.alloc(); "{maildir}/{name}")?;
-        if !is_folder(host, path.as_str()) {
-            warn(rt, Warning::NoFolder(maildir, name));
-        }
-    }
-    Ok(())
+    warn_of_folder(host, maildir, "new")?;
+    warn_of_folder(host, maildir, "cur")
 }
