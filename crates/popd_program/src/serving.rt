@@ -88,23 +88,45 @@ where
     }
 }
 
-/// Serves the account's Maildir over two streams: standard input and output.
-pub fn serve_maildir<R, E, I, O>(
+/// Serves an account's maildrop over two streams, and gives the maildrop back.
+fn serve_maildrop<R, E, I, O, D>(
     host: &Host<R, E>,
+    account: Account,
+    maildrop: D,
+    verbose: bool,
+    streams: (I, O),
+) -> (Result<(), ServerFault>, D)
+where
+    R: AllocGlobal + Eprint + Drop,
+    E: Write + Copy + Drop,
+    I: Read + Drop,
+    O: Write + Drop,
+    D: Maildrop + Drop,
+{
+    let mut server = account.into_server(host.alloc(), maildrop);
+    let served = serve_streams(host, &mut server, verbose, streams);
+    (served, server.into_drop())
+}
+
+/// Serves the account's Maildir over two streams: standard input and output. The Maildir is one of
+/// `disk`.
+pub fn serve_maildir<R, E, H, I, O>(
+    host: &Host<R, E>,
+    disk: &H,
     account: Account,
     verbose: bool,
     streams: (I, O),
 ) -> Result<(), ServerFault>
 where
-    R: Files + Clock + RandomSource + AllocGlobal + Eprint + Copy + Drop,
+    R: AllocGlobal + Eprint + Drop,
     E: Write + Copy + Drop,
+    H: Files + Clock + RandomSource + AllocGlobal + Clone + Drop,
     I: Read + Drop,
     O: Write + Drop,
 {
-    let maildir = account.open_maildir(host)?;
-    let mut server = account.into_server(host.alloc(), maildir);
-    let served = serve_streams(host, &mut server, verbose, streams);
-    warn_of_unread(host.inner(), &server.into_drop());
+    let maildir = account.open_maildir(disk)?;
+    let (served, maildir) = serve_maildrop(host, account, maildir, verbose, streams);
+    warn_of_unread(host.inner(), &maildir);
     served
 }
 

@@ -58,7 +58,7 @@ where
     warn_of(host, &account, words.passfile.as_deref())?;
     match &words.listen {
         Some(address) => listen(host, address.as_str(), words, &account),
-        None => Ok(serve_maildir(host, account, words.verbose, streams)?),
+        None => Ok(serve_maildir(host, host, account, words.verbose, streams)?),
     }
 }
 
