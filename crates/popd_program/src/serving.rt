@@ -24,7 +24,7 @@ use trace::{Side, Traced, TracedWire};
 /// the next one can't be accepted at once either.
 const PAUSE_SECONDS: u64 = 1;
 
-/// A link over two streams, with the trace that the program's runtime has.
+/// A link over two streams, which shows what goes through it and which calls are refused.
 type Link<I, O, E> = TracedWire<StreamWire<Traced<I, E>, Traced<O, E>>, E>;
 
 /// A link over two streams, with the trace that the program's runtime has. Refused calls are told under
