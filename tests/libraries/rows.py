@@ -69,6 +69,8 @@ def device(call, answer, **more):
 TEXTS = ("a=one/", "b=two/", "c=three/")
 SEPARATOR = "From MAILER-DAEMON Thu Jan  1 00:00:00 1970/"
 ENTRIES = "".join(f"{SEPARATOR}{text[2:]}/" for text in TEXTS)
+# The entry of a message whose lines are quoted.
+QUOTED = f"{SEPARATOR}>From x/>>From y/ From z//"
 
 # How a session may end since memory ran out: for a growth of its own, of the record's file, of the link.
 WANTING = ("Cut(NoMemory)", "Cut(SeenRefused)", "Cut(WriteFailed)")
@@ -81,12 +83,13 @@ class Session:
 
     Without a refusal the first ends as `outcome`. Whatever was refused, what is stored after it is a front of the three
     messages, and no more messages were deleted than are stored. The second session ends well, and then each message is there
-    once.
+    once. An mboxrd file then has `entries`.
     """
 
     call: str
     outcome: str
     is_mbox: bool = False
+    entries: str = ENTRIES
 
     def fault_of(self, parts):
         _, *rest = parts
@@ -95,12 +98,12 @@ class Session:
         first, second = lines[:of_one], lines[of_one:]
         stored = self.stored(first[1])
         word, deleted = re.fullmatch(r"(\S+) \d+/\d+ \d+ s\d+ d(\d+)", first[0]).groups()
-        is_front = ENTRIES.startswith(stored) if self.is_mbox else stored == TEXTS[:len(stored)]
+        is_front = self.entries.startswith(stored) if self.is_mbox else stored == TEXTS[:len(stored)]
         if not is_front:
             raise NotAllowed(f"stored by the first session: {stored}")
         if not self.is_mbox and int(deleted) > len(stored):
             raise NotAllowed(f"deleted, but not stored: {lines}")
-        if not second[0].startswith("Ended ") or self.stored(second[1]) != (ENTRIES if self.is_mbox else TEXTS):
+        if not second[0].startswith("Ended ") or self.stored(second[1]) != (self.entries if self.is_mbox else TEXTS):
             raise NotAllowed(f"the second session: {second}")
         if first[0] == self.outcome:
             return None
@@ -257,6 +260,8 @@ ROWS = {
     "sessions::mbox_row": Session("session", ALL, is_mbox=True),
     "sessions::mbox_cut_row": Session("session", ALL, is_mbox=True),
     "sessions::mbox_whole_row": Session("session", "Ended 2/3 10 s1 d0", is_mbox=True),
+    "sessions::mbox_quoting_row": Session("session", "Ended 1/1 23 s0 d0", is_mbox=True, entries=QUOTED),
+    "sessions::mbox_quoting_cut_row": Session("session", "Ended 1/1 23 s0 d0", is_mbox=True, entries=QUOTED),
     "sessions::pretend_row": pretended("Held", (KEPT,)),
     "sessions::pretend_mbox_row": pretended("Fetched", OPEN),
     "sessions::run_sessions_row": Sessions("run_sessions"),

@@ -141,9 +141,14 @@ fn tell_files(rt: &HostRuntime, files: &Files) {
     tell_bytes(rt, files.record.content().unwrap_or(b"no file".as_slice()));
 }
 
-/// Runs a session to an mboxrd file over these replies, and then a whole one over a server with the three
+/// Runs a session to an mboxrd file over these replies, and then a whole one over a server with these
 /// messages. Tells how each ended and what it leaves.
-fn append_twice(rt: &HostRuntime, files: Files, replies: &[&str]) -> Result<(), Fail> {
+fn append_twice(
+    rt: &HostRuntime,
+    files: Files,
+    replies: &[&str],
+    messages: &[(&str, &str)],
+) -> Result<(), Fail> {
     let alloc = rt.alloc();
     let visit = Visit::new(alloc, "", 0, replies)?;
     let mut wire = visit.link(alloc, 4096)?;
@@ -152,7 +157,7 @@ fn append_twice(rt: &HostRuntime, files: Files, replies: &[&str]) -> Result<(), 
     let files = files_of(alloc, account);
     tell_report(rt, &report);
     tell_files(rt, &files);
-    append_all(rt, files)?;
+    append_all(rt, files, messages)?;
     Ok(())
 }
 
@@ -174,7 +179,7 @@ fn files_with(alloc: Global, mbox: &[u8], record: &[u8]) -> Result<Files, Fail> 
 #[test]
 fn mbox_row(rt: HostRuntime) -> Result<(), Fail> {
     let files = files_with(rt.alloc(), b"", b"")?;
-    append_twice(&rt, files, &[LISTED, ONE, TWO, THREE, "+OK|"])
+    append_twice(&rt, files, &[LISTED, ONE, TWO, THREE, "+OK|"], &MESSAGES)
 }
 
 /// A record whose first message was about to be appended, in an entry of 49 bytes.
@@ -183,7 +188,7 @@ const OPEN: &[u8] = b"getmail-seen 2\na 0 0\nb 0 0\nc 0 0\n! a 0 49\n";
 #[test]
 fn mbox_cut_row(rt: HostRuntime) -> Result<(), Fail> {
     let files = files_with(rt.alloc(), b"From MAILER-DAEMON Thu", OPEN)?;
-    append_twice(&rt, files, &[LISTED, ONE, TWO, THREE, "+OK|"])
+    append_twice(&rt, files, &[LISTED, ONE, TWO, THREE, "+OK|"], &MESSAGES)
 }
 
 const WHOLE: &[u8] = b"From MAILER-DAEMON Thu Jan  1 00:00:00 1970\none\n\n";
@@ -191,7 +196,25 @@ const WHOLE: &[u8] = b"From MAILER-DAEMON Thu Jan  1 00:00:00 1970\none\n\n";
 #[test]
 fn mbox_whole_row(rt: HostRuntime) -> Result<(), Fail> {
     let files = files_with(rt.alloc(), WHOLE, OPEN)?;
-    append_twice(&rt, files, &[LISTED, TWO, THREE, "+OK|"])
+    append_twice(&rt, files, &[LISTED, TWO, THREE, "+OK|"], &MESSAGES)
+}
+
+/// A message with lines that an mboxrd file quotes, and the replies of a session that fetches it.
+const QUOTED: [(&str, &str); 1] = [("a", "From x\n>From y\n From z\n")];
+
+const QUOTED_REPLIES: [&str; 3] = [A_LISTED, "+OK|From x|>From y| From z|.|", "+OK|"];
+
+#[test]
+fn mbox_quoting_row(rt: HostRuntime) -> Result<(), Fail> {
+    let files = files_with(rt.alloc(), b"", b"")?;
+    append_twice(&rt, files, &QUOTED_REPLIES, &QUOTED)
+}
+
+#[test]
+fn mbox_quoting_cut_row(rt: HostRuntime) -> Result<(), Fail> {
+    let front = b"From MAILER-DAEMON Thu Jan  1 00:00";
+    let files = files_with(rt.alloc(), front, b"getmail-seen 2\na 0 0\n! a 0 70\n")?;
+    append_twice(&rt, files, &QUOTED_REPLIES, &QUOTED)
 }
 
 /// Tells what a session would do.
@@ -312,11 +335,11 @@ fn fetch_local_row(rt: HostRuntime) -> Result<(), Fail> {
     complete(&rt, kept, "")
 }
 
-/// Runs a whole session to an mboxrd file over a server with the three messages, and tells how it ended
-/// and what it leaves.
-fn append_all(rt: &HostRuntime, files: Files) -> Result<Files, Fail> {
+/// Runs a whole session to an mboxrd file over a server with these messages, and tells how it ended and
+/// what it leaves.
+fn append_all(rt: &HostRuntime, files: Files, messages: &[(&str, &str)]) -> Result<Files, Fail> {
     let alloc = rt.alloc();
-    let maildrop = maildrop_of(alloc, &MESSAGES)?;
+    let maildrop = maildrop_of(alloc, messages)?;
     let mut account = mbox_account(alloc, files, (SOUND, SOUND))?;
     fetch_one(rt, &mut account, maildrop);
     let files = files_of(alloc, account);
@@ -327,7 +350,7 @@ fn append_all(rt: &HostRuntime, files: Files) -> Result<Files, Fail> {
 #[test]
 fn fetch_local_mbox_row(rt: HostRuntime) -> Result<(), Fail> {
     let files = files_with(rt.alloc(), b"", b"")?;
-    let files = append_all(&rt, files)?;
-    append_all(&rt, files)?;
+    let files = append_all(&rt, files, &MESSAGES)?;
+    append_all(&rt, files, &MESSAGES)?;
     Ok(())
 }
