@@ -1,17 +1,17 @@
 //! The record's second version: intents, and files of the first version.
 
+use crate::fetch_rules_tests::seen::file_of;
 use fetch_rules::SeenFault;
 use std::alloc::Global;
 use std::test::Fail;
-use test_support::read_record;
+use test_support::{Record, read_record};
 
 /// What a file stands for: the open intent, whether the file must be written anew, and the record
 /// as a file.
 fn read(alloc: Global, file: &str) -> Result<String, Fail> {
     let seen = read_record(alloc, file.as_bytes())?;
     let stale = seen.needs_rewrite();
-    let bytes = seen.bytes()?;
-    let bytes = String::from_utf8_lossy(alloc, bytes.as_slice())?;
+    let bytes = file_of(alloc, &seen)?;
     match seen.intent() {
         Some(intent) => Ok(format!(in alloc; "{} {} {stale} {bytes}", intent.start, intent.len)?),
         None => Ok(format!(in alloc; "- {stale} {bytes}")?),
@@ -101,8 +101,7 @@ fn reads_files_of_both_versions(rt: HostRuntime) -> Result<(), Fail> {
 fn closed(alloc: Global, whole: bool) -> Result<String, Fail> {
     let mut seen = read_record(alloc, b"getmail-seen 2\na 5 0\n! a 0 49\n")?;
     seen.close(whole);
-    let bytes = seen.bytes()?;
-    let bytes = String::from_utf8_lossy(alloc, bytes.as_slice())?;
+    let bytes = file_of(alloc, &seen)?;
     let stale = seen.needs_rewrite();
     Ok(format!(in alloc; "{stale} {bytes}")?)
 }
@@ -116,16 +115,20 @@ fn closes_an_intent(rt: HostRuntime) -> Result<(), Fail> {
     Ok(())
 }
 
-/// What an intent for `a` and the mark that ends it append to the record's file, and whether an intent
-/// is open after them.
-fn marked(alloc: Global, file: &str) -> Result<String, Fail> {
-    let mut seen = read_record(alloc, file.as_bytes())?;
+/// What an intent for `a` and the mark that ends it append to the record's file.
+fn append_marked(alloc: Global, seen: &mut Record) -> Result<String, Fail> {
     if !seen.has_row(b"a") || seen.intent().is_some() {
         return Err(Fail::from("a row, and no intent"));
     }
     let mut appended = seen.intend(b"a", 49, 24)?;
     appended.extend_from_slice(&seen.mark_rows(b"a")?)?;
-    let appended = String::from_utf8_lossy(alloc, appended.as_slice())?;
+    Ok(String::from_utf8_lossy(alloc, appended.as_slice())?)
+}
+
+/// What they append, and whether an intent is open after them.
+fn marked(alloc: Global, file: &str) -> Result<String, Fail> {
+    let mut seen = read_record(alloc, file.as_bytes())?;
+    let appended = append_marked(alloc, &mut seen)?;
     let is_open = seen.intent().is_some();
     Ok(format!(in alloc; "{appended}{is_open}")?)
 }

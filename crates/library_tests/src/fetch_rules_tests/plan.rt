@@ -1,7 +1,7 @@
 //! Plans of sessions.
 
 use crate::fetch_rules_tests::seen::listing_of_hundreds;
-use fetch_rules::{Dest, Settings, plan};
+use fetch_rules::{Dest, Settings, Step, plan};
 use std::alloc::Global;
 use std::test::Fail;
 use test_support::{listing_of, read_record};
@@ -23,8 +23,20 @@ fn settings(alloc: Global) -> Settings {
     }
 }
 
-/// The steps of a session over messages of these ids and sizes: each number, with `f` if the
-/// message is fetched and `d` if it is deleted.
+/// Steps: the number of each, with `f` if the message is fetched and `d` if it is deleted.
+fn shown(alloc: Global, steps: &[Step]) -> Result<String, Fail> {
+    let mut text = String::new(alloc);
+    for step in steps {
+        let number = step.number;
+        let fetched = if step.retrieve { "f" } else { "" };
+        let deleted = if step.delete { "d" } else { "" };
+        let told = format!(in alloc; " {number}{fetched}{deleted}")?;
+        text.push_str(told.as_str())?;
+    }
+    Ok(text)
+}
+
+/// The steps of a session over messages of these ids and sizes, shown.
 fn steps(
     alloc: Global,
     settings: &Settings,
@@ -34,15 +46,8 @@ fn steps(
 ) -> Result<String, Fail> {
     let seen = read_record(alloc, record.as_bytes())?;
     let listing = listing_of(alloc, ids)?;
-    let mut text = String::new(alloc);
-    for step in &plan(alloc, settings, &seen, &listing, now)? {
-        let number = step.number;
-        let fetched = if step.retrieve { "f" } else { "" };
-        let deleted = if step.delete { "d" } else { "" };
-        let told = format!(in alloc; " {number}{fetched}{deleted}")?;
-        text.push_str(told.as_str())?;
-    }
-    Ok(text)
+    let steps = plan(alloc, settings, &seen, &listing, now)?;
+    shown(alloc, &steps)
 }
 
 #[test]

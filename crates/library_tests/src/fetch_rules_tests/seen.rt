@@ -3,7 +3,29 @@
 use fetch_rules::{Listing, ScanRow, Seen, SeenFault, UidRow, have_legal_ids};
 use std::alloc::Global;
 use std::test::Fail;
-use test_support::{listing_of, read_record};
+use test_support::{Record, listing_of, read_record};
+
+/// A record's file, as text.
+pub(crate) fn file_of(alloc: Global, seen: &Record) -> Result<String, Fail> {
+    let bytes = seen.bytes()?;
+    Ok(String::from_utf8_lossy(alloc, bytes.as_slice())?)
+}
+
+/// Merges messages of these ids into a record, with those flagged that are held. Returns whether the
+/// record changed.
+fn merge(
+    alloc: Global,
+    seen: &mut Record,
+    ids: &[(&str, u64)],
+    held: &[bool],
+    now: u64,
+) -> Result<bool, Fail> {
+    let listing = listing_of(alloc, ids)?;
+    if listing.len() as usize != held.len() || seen.intent().is_some() {
+        return Err(Fail::from("as many flags as messages, and no intent"));
+    }
+    Ok(seen.merge(&listing, held, now)?)
+}
 
 /// Whether a record changes when messages of these ids are merged into it, with those flagged
 /// that are held, and the record's file afterwards.
@@ -15,13 +37,8 @@ fn merged(
     now: u64,
 ) -> Result<String, Fail> {
     let mut seen = read_record(alloc, file.as_bytes())?;
-    let listing = listing_of(alloc, ids)?;
-    if listing.len() as usize != held.len() || seen.intent().is_some() {
-        return Err(Fail::from("as many flags as messages, and no intent"));
-    }
-    let changed = seen.merge(&listing, held, now)?;
-    let after = seen.bytes()?;
-    let after = String::from_utf8_lossy(alloc, after.as_slice())?;
+    let changed = merge(alloc, &mut seen, ids, held, now)?;
+    let after = file_of(alloc, &seen)?;
     Ok(format!(in alloc; "{changed} {after}")?)
 }
 
