@@ -4,6 +4,7 @@ ghost use Rattle.std.specs.String.{string_bytes};
 ghost use Rattle.clap.specs.Values.{kind_of};
 ghost use Rattle.clap.specs.Words.{app_of, fault_of, found_of, matches_of, rows_of, rule_of};
 ghost use Rattle.getmail_program.specs.CommandLine.{AsksFor, IsHelp, IsMistake, flag_rule, flags_in, getmail, long_flag_rule, value_rule};
+ghost use Rattle.getmail_program.specs.CommandLine.{with_choices, with_loudness, with_places};
 
 use clap::error::ErrorKind;
 use clap::{Arg, ArgAction, ArgMatches, Command, Error};
@@ -118,21 +119,44 @@ const PRETEND: &str = "Say what would be fetched and deleted, and do nothing";
 
 const REHEARSE: &str = "Hold a session with standard input as the server, and store nothing";
 
+/// With the options that say where the files are.
+fn with_places<'a>(alloc: Global, command: Command<'a>) -> Result<Command<'a>, AllocError>
+    ensures { IfOk result (λ added. app_of added ≡ with_places (app_of command.entry)) }
+{
+    command
+        .arg(value_option(alloc, "rcfile", 'r', "FILE", RCFILE))?
+        .arg(value_option(alloc, "getmaildir", 'g', "DIR", GETMAILDIR))
+}
+
+/// With the flags that say how much is told.
+fn with_loudness<'a>(alloc: Global, command: Command<'a>) -> Result<Command<'a>, AllocError>
+    ensures { IfOk result (λ added. app_of added ≡ with_loudness (app_of command.entry)) }
+{
+    command
+        .arg(flag(alloc, "verbose", 'v', VERBOSE))?
+        .arg(flag(alloc, "quiet", 'q', QUIET))?
+        .arg(long_flag(alloc, "trace", TRACE))
+}
+
+/// With the flags that say what is fetched and deleted.
+fn with_choices<'a>(alloc: Global, command: Command<'a>) -> Result<Command<'a>, AllocError>
+    ensures { IfOk result (λ added. app_of added ≡ with_choices (app_of command.entry)) }
+{
+    command
+        .arg(flag(alloc, "all", 'a', ALL))?
+        .arg(flag(alloc, "new", 'n', NEW))?
+        .arg(flag(alloc, "delete", 'd', DELETE))?
+        .arg(flag(alloc, "dont-delete", 'l', DONT_DELETE))
+}
+
 /// The options and flags of the program.
 pub fn command<'a>(alloc: Global) -> Result<Command<'a>, AllocError>
     ensures { IfOk result (λ command. app_of command ≡ getmail) }
 {
-    Command::new(alloc, "getmail")
-        .about(ABOUT)
-        .arg(value_option(alloc, "rcfile", 'r', "FILE", RCFILE))?
-        .arg(value_option(alloc, "getmaildir", 'g', "DIR", GETMAILDIR))?
-        .arg(flag(alloc, "verbose", 'v', VERBOSE))?
-        .arg(flag(alloc, "quiet", 'q', QUIET))?
-        .arg(long_flag(alloc, "trace", TRACE))?
-        .arg(flag(alloc, "all", 'a', ALL))?
-        .arg(flag(alloc, "new", 'n', NEW))?
-        .arg(flag(alloc, "delete", 'd', DELETE))?
-        .arg(flag(alloc, "dont-delete", 'l', DONT_DELETE))?
+    let command = Command::new(alloc, "getmail").about(ABOUT);
+    let command = with_places(alloc, command)?;
+    let command = with_loudness(alloc, command)?;
+    with_choices(alloc, command)?
         .arg(long_flag(alloc, "pretend", PRETEND))?
         .arg(long_flag(alloc, "rehearse", REHEARSE))
 }

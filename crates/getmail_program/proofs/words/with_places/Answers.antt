@@ -1,0 +1,9 @@
+use Rattle.std.proofs.Common.{◌∙◌, ap₂, refl}
+use Rattle.std.proofs.lemmas.Result.{IfOk-weaker}
+use Rattle.clap.specs.Words.{with_rule}
+use Rattle.getmail_program.proofs.words.with_places.Goals as goal
+
+pub returns : goal.returns
+returns c =
+    let first = c.in_ok-arg.ensures.shape c.value_option.ensures.local ∙ ap₂ with_rule refl c.value_option.ensures.rule in
+    IfOk-weaker c.arg-2.result _ _ (λ command added. added.shape c.value_option-2.ensures.local ∙ ap₂ with_rule first c.value_option-2.ensures.rule) c.arg-2.ensures
