@@ -65,8 +65,12 @@ def is_there(name, paths):
 
 
 def faults_in(document, paths, words, targets):
-    """Every name in the document that nothing has, a line for each."""
-    for number, piece in pieces_of((TOP / document).read_text()):
+    """Every name in the document that nothing has, and what a merge left open, a line for each."""
+    text = (TOP / document).read_text()
+    for number, line in enumerate(text.splitlines(), 1):
+        if re.match(r"(<<<<<<<|=======|>>>>>>>)( |$)", line):
+            yield f"{document}:{number}: a merge is open here"
+    for number, piece in pieces_of(text):
         made = re.match(r"make ([a-z][a-z-]*)(?: |$)", piece)
         if made and made[1] not in targets:
             yield f"{document}:{number}: no target '{made[1]}' in the Makefile"
