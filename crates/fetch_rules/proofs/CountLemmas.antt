@@ -4,6 +4,8 @@ use Rattle.std.specs.Prelude.{bytes_eq, filter}
 use Rattle.std.specs.List.{AllByRecursion}
 use Rattle.std.proofs.lemmas.Bool.{cases_Bool, true≢false, or_left, or_right, or_parts, or_from, or_cases, not_from_false, not_from_true, and_parts}
 use Rattle.std.proofs.lemmas.List.{length-map}
+use Rattle.std.proofs.lemmas.List.Sums.{length-filter, count_by-le-length}
+use Rattle.std.proofs.lemmas.Map.Views.{any-filter_same}
 use Rattle.mail_terms.specs.Listing.{Item, is_flagged}
 use Rattle.mail_terms.specs.UniqueId.{has_id}
 use Rattle.fetch_rules.specs.Record.{Row, IsRecord, is_of, has_row, with_held, new_ids, distinct_ids, merged}
@@ -12,14 +14,10 @@ use Rattle.fetch_rules.proofs.FilterLemmas.{filter_keeps, filter_leaves}
 use Rattle.fetch_rules.proofs.IdLemmas.{same_from_test, test_from_same, test_from_other}
 use Rattle.fetch_rules.proofs.RecordLemmas.{uid_of, rest_of}
 use Rattle.fetch_rules.proofs.RowLemmas.{apart}
-use Rattle.fetch_rules.proofs.NewIdLemmas.{AreApart, has_id-filter, has_id-filter_false, has_id-distinct_ids}
+use Rattle.fetch_rules.proofs.NewIdLemmas.{AreApart, has_id-filter, has_id-distinct_ids}
 
 filter_short : (p : List ℕ → Bool) (ids : List (List ℕ)) → length (filter p ids) ≤ length ids
-filter_short p [] = omega arith
-filter_short p (id ∷ ids) = elim (cases_Bool (p id)) [
-  | inl hit ↦ omega (arith, filter_short p ids, ap length (filter_keeps p id ids hit))
-  | inr miss ↦ omega (arith, filter_short p ids, ap length (filter_leaves p id ids miss))
-]
+filter_short p ids = omega (arith, length-filter p ids, count_by-le-length p ids)
 
 abbrev without : List ℕ → List (List ℕ) → List (List ℕ)
 without uid ids = filter (λ other. not (bytes_eq uid other)) ids
@@ -117,7 +115,8 @@ new_listed rows listing held now uid [] = refl
 new_listed rows listing held now uid (id ∷ ids) = ap (λ (b : Bool). bytes_eq uid id || b) (new_listed rows listing held now uid ids)
 
 true_from_kept : (p : List ℕ → Bool) (ids : List (List ℕ)) (uid : List ℕ) → has_id (filter p ids) uid ≡ true → has_id ids uid ≡ true
-true_from_kept p ids uid there = elim (cases_Bool (has_id ids uid)) [ inl is ↦ is | inr none ↦ absurd (true≢false (sym there ∙ has_id-filter_false p ids uid none)) ]
+true_from_kept p ids uid there =
+    (and_parts (p uid) (has_id ids uid) (sym (any-filter_same (bytes_eq uid) p (p uid) (λ id e. ap p (sym (same_from_test uid id e))) ids) ∙ there)).1
 
 pub merge_is_short : (rows : List Row) (listing : List Item) (held : List Bool) (now : ℕ) → IsRecord (merged rows listing held now) → length (changed rows (merged rows listing held now)) ≤ length listing
 merge_is_short rows listing held now is =

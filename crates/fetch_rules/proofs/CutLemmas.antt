@@ -1,14 +1,14 @@
 -- Bytes have one meaning.
-use Rattle.std.proofs.Common.{Bool, Some, None, refl, get_or, ◌≡◌, ℕ, ◌+◌, List, [], ◌∷◌, ◌++◌, length, sym, ◌∙◌, ap, subst, arith, append_assoc, inl, inr, drop}
-use Rattle.std.specs.Prelude.{flat_map, Option}
+use Rattle.std.proofs.Common.{Some, None, refl, get_or, ◌≡◌, ℕ, ◌+◌, List, [], ◌∷◌, ◌++◌, length, sym, ◌∙◌, ap, subst, arith, append_assoc, inl, inr, drop}
+use Rattle.std.specs.Prelude.{flat_map}
 use Rattle.std.specs.List.{AllByRecursion}
 use Rattle.std.proofs.lemmas.List.Elements.{recursion_from_All}
 use Rattle.fetch_rules.specs.RecordFile.{Version, One, Two, header, Line, text_of, IsLine}
 use Rattle.fetch_rules.specs.RecordMeaning.{ByLines, Meaning, Rows, Fault, Judged, judged, after_line, Stands, Fails, InBase, at_end, Ends}
 use Rattle.fetch_rules.specs.RecordGrowth.{OneMeaning, OneRecord}
-use Rattle.fetch_rules.specs.Record.{Row, Intent}
 use Rattle.fetch_rules.specs.declared.seen.SeenFault.{SeenFault}
 use Rattle.fetch_rules.proofs.LineLemmas.{text_unique}
+use Rattle.fetch_rules.proofs.JudgedLemmas.{same_rows}
 
 ends_fails : (version : Version) (n k : ℕ) (fault : SeenFault) (lines : List Line) (rest : List ℕ) (meaning : Meaning) → Ends version k (judged version n (Fails fault) lines) rest meaning → meaning ≡ Fault fault
 ends_fails version n k fault [] rest meaning ends = ends
@@ -27,14 +27,11 @@ same_ends version n (Stands progress) (l ∷ ls) (m ∷ ms) r s a b p q e x y =
     (subst (λ (k : ℕ). Ends version k (judged version (n + 1) (after_line version n progress m) ls) r a) (omega arith) (subst (λ (line : Line). Ends version (n + length (l ∷ ls)) (judged version (n + 1) (after_line version n progress line) ls) r a) first.0 x))
     (subst (λ (k : ℕ). Ends version k (judged version (n + 1) (after_line version n progress m) ms) s b) (omega arith) y)
 
-versions_differ : ◌≡◌ {A = ℕ} 49 50 → ⊥
-versions_differ e = omega arith
-
 pub same_lines : (v w : Version) (xs ys : List ℕ) → header v ++ xs ≡ header w ++ ys → (v ≡ w) × (xs ≡ ys)
 same_lines One One xs ys e = (refl, ap (drop 15) e)
 same_lines Two Two xs ys e = (refl, ap (drop 15) e)
-same_lines One Two xs ys e = absurd (versions_differ (ap (λ (l : List ℕ). get_or l 13 0) e))
-same_lines Two One xs ys e = absurd (versions_differ (sym (ap (λ (l : List ℕ). get_or l 13 0) e)))
+same_lines One Two xs ys e = absurd (omega (arith, ap (λ (l : List ℕ). get_or l 13 0) e))
+same_lines Two One xs ys e = absurd (omega (arith, ap (λ (l : List ℕ). get_or l 13 0) e))
 
 pub no_header : (version : Version) (xs : List ℕ) → header version ++ xs ≡ [] → ⊥
 no_header One xs e = cc
@@ -60,9 +57,6 @@ one_meaning bytes m n (inr (inr a)) (inl b) = absurd (no_header a.version _ (sym
 one_meaning bytes m n (inr (inr a)) (inr (inl b)) = absurd (b.1 a.version _ a.cut.whole)
 one_meaning bytes m n (inr (inr a)) (inr (inr b)) = by_lines_same bytes m n a b
 
-pub same_rows : (v w : Version) (a b : List Row) (i j : Option Intent) (s t : Bool) → Rows v a i s ≡ Rows w b j t → (a ≡ b) × (i ≡ j)
-same_rows v w a b i j s t e = (cc, cc)
-
 pub one_record : OneRecord
 one_record None a b i j x y = (x.0 ∙ sym y.0, x.1 ∙ sym y.1)
-one_record (Some bytes) a b i j x y = same_rows x.0 y.0 a b i j x.1 y.1 (one_meaning bytes (Rows x.0 a i x.1) (Rows y.0 b j y.1) x.2 y.2)
+one_record (Some bytes) a b i j x y = let same = same_rows (one_meaning bytes (Rows x.0 a i x.1) (Rows y.0 b j y.1) x.2 y.2) in (same.1, same.2)

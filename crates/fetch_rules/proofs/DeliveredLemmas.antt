@@ -1,8 +1,9 @@
 -- Rows that are all recorded as delivered.
 use Rattle.std.proofs.Common.{◌≡◌, ◌∙◌, ℕ, suc, ◌<◌, ◌≤◌, ◌+◌, Bool, true, false, List, [], ◌∷◌, length, take, get_or, refl, sym, ap, inl, inr, arith}
-use Rattle.std.specs.Prelude.{All, HoldsAt, ◌&&◌, ◌||◌, not, if◌then◌else◌}
-use Rattle.std.proofs.lemmas.Bool.{cases_lt}
+use Rattle.std.specs.Prelude.{All, HoldsAt, ◌||◌, not, if◌then◌else◌}
+use Rattle.std.proofs.lemmas.Bool.{cases_lt, not-false}
 use Rattle.std.proofs.lemmas.List.{take_all}
+use Rattle.std.proofs.Math.Bool.{and-not_self}
 use Rattle.mail_terms.specs.Listing.{Item, is_flagged}
 use Rattle.fetch_rules.specs.Record.{Row, with_delivered, with_held}
 use Rattle.fetch_rules.specs.RecordFile.{changed, written}
@@ -17,16 +18,12 @@ AreDeliveredTo rows place = (k : ℕ) (d : Row) → k < place → (get_or rows k
 pub AreDeliveredTo-none : (rows : List Row) → AreDeliveredTo rows 0
 AreDeliveredTo-none rows = λ k d within. let no : ⊥ = omega (arith, within) in absurd no
 
-true_from_not : (b : Bool) → not b ≡ false → b ≡ true
-true_from_not true is = refl
-true_from_not false is = sym is
-
 pub AreDeliveredTo-more : (rows : List Row) (place : ℕ) (row : Row) → AreDeliveredTo rows place → HoldsAt (λ (r : Row). r ≡ row) rows place
     → not row.delivered ≡ false → AreDeliveredTo rows (place + 1)
 AreDeliveredTo-more rows place row was is delivered = λ k d within.
     elim (cases_lt k place) [
       | inl before ↦ was k d before
-      | inr past ↦ ap (λ (n : ℕ). (get_or rows n d).delivered) (omega (arith, past, within)) ∙ ap (λ (r : Row). r.delivered) (is d) ∙ true_from_not row.delivered delivered
+      | inr past ↦ ap (λ (n : ℕ). (get_or rows n d).delivered) (omega (arith, past, within)) ∙ ap (λ (r : Row). r.delivered) (is d) ∙ not-false row.delivered delivered
     ]
 
 pub AreDeliveredTo-all : (rows : List Row) (place : ℕ) → AreDeliveredTo rows place → length rows ≤ place → AreDelivered rows
@@ -42,13 +39,9 @@ with_held-same listing held (row ∷ rows) all =
     ap (λ (r : Row). r ∷ with_held listing held rows) (same_row row (is_flagged listing held row.uid) (all 0 row (omega arith)))
     ∙ ap (λ (rs : List Row). row ∷ rs) (with_held-same listing held rows (λ k d inside. all (suc k) d (omega (arith, inside))))
 
-never_anew : (b : Bool) → (b && not b) ≡ false
-never_anew true = refl
-never_anew false = refl
-
-changed-same : (rows : List Row) → changed rows rows ≡ []
+pub changed-same : (rows : List Row) → changed rows rows ≡ []
 changed-same [] = refl
-changed-same (row ∷ rows) = ap (λ (b : Bool). if b then (row ∷ changed rows rows) else changed rows rows) (never_anew row.delivered) ∙ changed-same rows
+changed-same (row ∷ rows) = ap (λ (b : Bool). if b then (row ∷ changed rows rows) else changed rows rows) (and-not_self row.delivered) ∙ changed-same rows
 
 -- no group is written
 pub written-none : (listing : List Item) (held : List Bool) (rows : List Row) (count : ℕ) (bytes : List ℕ) → AreDelivered rows → count ≡ length rows → bytes ≡ []

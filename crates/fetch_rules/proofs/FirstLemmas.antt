@@ -1,8 +1,8 @@
 -- A plan fetches only messages whose id no earlier message has.
-use Rattle.std.proofs.Common.{◌≡◌, ◌<◌, ◌+◌, ◌-◌, ℕ, Bool, true, false, List, [], ◌∷◌, ◌++◌, map, take, get_or, length, refl, sym, ap, ◌∙◌, arith, append_assoc, length-append}
-use Rattle.std.specs.Prelude.{◌&&◌, not}
+use Rattle.std.proofs.Common.{◌≡◌, ◌<◌, ◌+◌, ◌-◌, ℕ, true, false, List, [], ◌∷◌, ◌++◌, map, take, get_or, length, refl, sym, ap, ◌∙◌, arith, append_assoc, length-append}
+use Rattle.std.specs.Prelude.{not}
 use Rattle.std.specs.List.{enumerate_from}
-use Rattle.std.proofs.lemmas.Bool.{true≢false}
+use Rattle.std.proofs.lemmas.Bool.{and_parts, not-true}
 use Rattle.std.proofs.lemmas.List.{take_at}
 use Rattle.std.proofs.lemmas.List.FromFn.{get_or-enumerate_from}
 use Rattle.mail_terms.specs.Listing.{Item, has_item, numbered, is_first}
@@ -13,20 +13,12 @@ use Rattle.fetch_rules.specs.Laws.{FetchesFirsts}
 use Rattle.rc_file.specs.declared.settings.Settings.{Settings}
 use Rattle.fetch_rules.proofs.PlanLemmas.{has_number-at_most}
 
-both_true : (a b : Bool) → (a && b) ≡ true → (a ≡ true) × (b ≡ true)
-both_true true b e = (refl, e)
-both_true false b e = absurd (true≢false (sym e))
-
-not_true : (a : Bool) → not a ≡ true → a ≡ false
-not_true true e = sym e
-not_true false e = refl
-
 -- the plan fetches only such messages
 first_of : (settings : Settings) (rows : List Row) (front is : List Item) (i : Item) (now : ℕ)
     → (step_of settings rows (front ++ i ∷ is) now (length front + 1, i)).retrieve ≡ true → has_item front i.uid ≡ false
 first_of settings rows front is i now fetched =
-    not_true (has_item front i.uid)
-    (ap (λ (l : List Item). not (has_item l i.uid)) (sym whole) ∙ (both_true (is_first listing (length front + 1, i)) (is_asked_for settings rows (length front + 1, i)) candidate).0)
+    not-true (has_item front i.uid)
+    (ap (λ (l : List Item). not (has_item l i.uid)) (sym whole) ∙ (and_parts (is_first listing (length front + 1, i)) (is_asked_for settings rows (length front + 1, i)) candidate).0)
   where
     listing : List Item
     listing = front ++ i ∷ is
@@ -47,7 +39,7 @@ first_of settings rows front is i now fetched =
 
     candidate : is_candidate settings rows (front ++ i ∷ is) (length front + 1, i) ≡ true
     candidate = ap (is_candidate settings rows (front ++ i ∷ is)) (sym (at (0, i)))
-        ∙ (both_true (is_candidate settings rows (front ++ i ∷ is) (get_or (numbered (front ++ i ∷ is)) (length front) (0, i))) _
+        ∙ (and_parts (is_candidate settings rows (front ++ i ∷ is) (get_or (numbered (front ++ i ∷ is)) (length front) (0, i))) _
         (sym (has_number-at_most (is_candidate settings rows (front ++ i ∷ is)) settings.max_count (length front) (front ++ i ∷ is) (0, i) inside) ∙ fetched)).0
 
 firsts_from : (settings : Settings) (rows : List Row) (listing front rest : List Item) (now k : ℕ) → listing ≡ front ++ rest → k ≡ length front + 1

@@ -12,10 +12,9 @@ use Rattle.fetch_rules.specs.Record.{Row, Intent, IsRow, IsIntent, has_row}
 use Rattle.fetch_rules.specs.RecordFile.{Version, Two, header, Line, RowLine, GroupLine, IntentLine, intent_line, text_of, line_of, group_of, group_line, IsLine}
 use Rattle.fetch_rules.specs.RecordMeaning.{IsCut, ByLines, Meaning, Rows, Fault, Means, Progress, Judged, judged, after_line, after_intent, left_open, Stands, Fails, InBase, BetweenGroups, InGroup, at_end, Ends, line_after, counted, is_open, has_line_feed, has_bytes, taken}
 use Rattle.fetch_rules.specs.RecordGrowth.{AppendedCounts, CutIsIgnored, taken_all, MayFollow, IsGroup}
-use Rattle.fetch_rules.specs.declared.seen.SeenFault.{SeenFault}
-use Rattle.fetch_rules.specs.declared.seen.SeenFault.TheVariants.{BadHeader, BadRow, RepeatedId}
+use Rattle.fetch_rules.specs.declared.seen.SeenFault.TheVariants.{BadRow, RepeatedId}
 use Rattle.fetch_rules.proofs.LineLemmas.{HasNo, HasBody, body_of, no_line, same_cons}
-use Rattle.fetch_rules.proofs.JudgedLemmas.{judged_append}
+use Rattle.fetch_rules.proofs.JudgedLemmas.{judged_append, rows_no_fault, same_rows}
 use Rattle.fetch_rules.proofs.BaseLemmas.{texts_of_rows}
 
 -- a front of a group
@@ -60,12 +59,6 @@ record Ended (so_far : Judged) (rest : List ℕ) (rows : List Row) (intent : Opt
   free : is_open progress ≡ false
   nothing : rest ≡ []
 
-rows_no_fault : (version : Version) (rows : List Row) (intent : Option Intent) (torn : Bool) (fault : SeenFault) → Rows version rows intent torn ≡ Fault fault → ⊥
-rows_no_fault version rows intent torn fault e = cc
-
-same_rows : (v w : Version) (r s : List Row) (i j : Option Intent) (a b : Bool) → Rows v r i a ≡ Rows w s j b → (v ≡ w) × (r ≡ s) × (i ≡ j) × (a ≡ b)
-same_rows v w r s i j a b e = (cc, cc, cc, cc)
-
 no_bytes : (within : Bool) (rest : List ℕ) → false ≡ within || has_bytes rest → (within ≡ false) × (rest ≡ [])
 no_bytes within [] e = (sym (e ∙ or-false within), refl)
 no_bytes within (x ∷ xs) e = absurd (true≢false (sym (e ∙ or-true within)))
@@ -73,11 +66,11 @@ no_bytes within (x ∷ xs) e = absurd (true≢false (sym (e ∙ or-true within))
 -- such a file is of version 2
 ended : (version : Version) (n : ℕ) (so_far : Judged) (rest : List ℕ) (rows : List Row) (intent : Option Intent) → Ends version n so_far rest (Rows Two rows intent false)
     → (version ≡ Two) × Ended so_far rest rows intent
-ended version n (Fails fault) rest rows intent e = absurd (rows_no_fault Two rows intent false fault e)
+ended version n (Fails fault) rest rows intent e = absurd (rows_no_fault e)
 ended version n (Stands progress) rest rows intent e = elim (cases_Bool (has_line_feed rest)) [
-  | inl feed ↦ absurd (rows_no_fault Two rows intent false (BadRow (line_after n)) (e.1 ∙ ap (λ (b : Bool). cond b (Fault (BadRow (line_after n))) (Rows version (counted progress) (left_open progress) (is_open progress || has_bytes rest))) feed))
+  | inl feed ↦ absurd (rows_no_fault (e.1 ∙ ap (λ (b : Bool). cond b (Fault (BadRow (line_after n))) (Rows version (counted progress) (left_open progress) (is_open progress || has_bytes rest))) feed))
   | inr plain ↦
-      let same = same_rows _ _ _ _ _ _ _ _ (e.1 ∙ ap (λ (b : Bool). cond b (Fault (BadRow (line_after n))) (Rows version (counted progress) (left_open progress) (is_open progress || has_bytes rest))) plain) in
+      let same = same_rows (e.1 ∙ ap (λ (b : Bool). cond b (Fault (BadRow (line_after n))) (Rows version (counted progress) (left_open progress) (is_open progress || has_bytes rest))) plain) in
       let none = no_bytes (is_open progress) rest same.3 in
       (sym same.0, record { progress = progress; is = refl; rows_are = sym same.1; intent_is = sym same.2; free = none.0; nothing = none.1 })
 ]
@@ -85,7 +78,7 @@ ended version n (Stands progress) rest rows intent e = elim (cases_Bool (has_lin
 -- more lines and a torn piece behind a file with no torn end
 by_lines_of : (bytes : List ℕ) (rows : List Row) (intent : Option Intent) → bytes ≢ [] → Means bytes (Rows Two rows intent false) → ByLines bytes (Rows Two rows intent false)
 by_lines_of bytes rows intent some (inl none) = absurd (some none.0)
-by_lines_of bytes rows intent some (inr (inl wrong)) = absurd (rows_no_fault Two rows intent false BadHeader wrong.2)
+by_lines_of bytes rows intent some (inr (inl wrong)) = absurd (rows_no_fault wrong.2)
 by_lines_of bytes rows intent some (inr (inr by)) = by
 
 longer : (version : Version) (bytes : List ℕ) (lines more : List Line) (old rest tail : List ℕ) → IsCut version bytes lines old → old ≡ [] → AllByRecursion IsLine more → tail ≡ flat_map text_of more ++ rest

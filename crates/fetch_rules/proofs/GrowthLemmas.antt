@@ -16,7 +16,7 @@ use Rattle.fetch_rules.proofs.IdLemmas.{test_from_same}
 use Rattle.fetch_rules.proofs.RecordLemmas.{with_delivered-true, rest_of}
 use Rattle.fetch_rules.proofs.BaseLemmas.{fresh}
 use Rattle.fetch_rules.proofs.CountLemmas.{merge_is_short}
-use Rattle.fetch_rules.proofs.RowLemmas.{unmarked, apart}
+use Rattle.fetch_rules.proofs.RowLemmas.{unmarked, apart, no_row}
 
 -- a record's first rows are those of an older one, where some were delivered since
 abbrev pub GrewFrom : List Row → List Row → Type 0
@@ -57,18 +57,6 @@ leads_new rows (row ∷ new) is =
 behind_rows : (front rows : List Row) → IsRecord (front ++ rows) → IsRecord rows
 behind_rows [] rows is = is
 behind_rows (row ∷ front) rows is = behind_rows front rows (rest_of row (front ++ rows) is)
-
-no_row : (uid : List ℕ) (rows : List Row) → has_row rows uid ≡ false → AllByRecursion (λ other. is_of uid other ≡ false) rows
-no_row uid [] none = tt
-no_row uid (row ∷ rows) none = (left (is_of uid row) none, no_row uid rows (right (is_of uid row) none))
-  where
-    left : (b : Bool) → (b || has_row rows uid) ≡ false → b ≡ false
-    left true e = e
-    left false e = refl
-
-    right : (b : Bool) → (b || has_row rows uid) ≡ false → has_row rows uid ≡ false
-    right true e = cc
-    right false e = e
 
 -- the older rows have no id that the newer ones lack
 older_lack : (uid : List ℕ) (old new : List Row) → GrewFrom old new → AllByRecursion (λ other. is_of uid other ≡ false) new → AllByRecursion (λ other. is_of uid other ≡ false) old

@@ -12,49 +12,44 @@ use Rattle.fetch_rules.specs.declared.seen.SeenFault.{SeenFault}
 use Rattle.fetch_rules.specs.declared.seen.SeenFault.TheVariants.{BadRow, RepeatedId}
 use Rattle.fetch_rules.specs.Intents.{IsNoneOrOf}
 use Rattle.fetch_rules.proofs.IdLemmas.{same_from_test}
+use Rattle.fetch_rules.proofs.JudgedLemmas.{no_stand, same_progress, rows_no_fault, same_rows}
 
 abbrev IsHeldAt : Progress → Type 0
 IsHeldAt progress = IntentHasRow (counted progress) (left_open progress)
 
-no_stand : (fault : SeenFault) (progress : Progress) → Fails fault ≡ Stands progress → ⊥
-no_stand fault progress e = cc
-
-same_progress : (p q : Progress) → Stands p ≡ Stands q → p ≡ q
-same_progress p q e = cc
-
 from_same : (p q : Progress) → Stands p ≡ Stands q → IsHeldAt p → IsHeldAt q
-from_same p q e held = subst IsHeldAt (same_progress p q e) held
+from_same p q e held = subst IsHeldAt (same_progress e) held
 
 opened : (version : Version) (n : ℕ) (rows : List Row) (before : Option Intent) (intent : Intent) (q : Progress) → IsIntent intent → after_intent version n rows before intent ≡ Stands q → IsHeldAt q
-opened One n rows before intent q is e = absurd (no_stand (BadRow (line_after n)) q e)
-opened Two n rows (Some other) intent q is e = absurd (no_stand (BadRow (line_after n)) q e)
+opened One n rows before intent q is e = absurd (no_stand e)
+opened Two n rows (Some other) intent q is e = absurd (no_stand e)
 opened Two n rows None intent q is e = by (has_row rows intent.uid) refl
   where
     by : (b : Bool) → has_row rows intent.uid ≡ b → IsHeldAt q
     by true h = from_same (BetweenGroups rows (Some intent)) q (ap (λ b. cond b (Stands (BetweenGroups rows (Some intent))) (Fails (BadRow (line_after n)))) (sym h) ∙ e) (is, h)
-    by false h = absurd (no_stand (BadRow (line_after n)) q (ap (λ b. cond b (Stands (BetweenGroups rows (Some intent))) (Fails (BadRow (line_after n)))) (sym h) ∙ e))
+    by false h = absurd (no_stand (ap (λ b. cond b (Stands (BetweenGroups rows (Some intent))) (Fails (BadRow (line_after n)))) (sym h) ∙ e))
 
 by_test : (b : Bool) (p q : Progress) (fault : SeenFault) → cond b (Stands p) (Fails fault) ≡ Stands q → IsHeldAt p → IsHeldAt q
 by_test true p q fault e held = from_same p q e held
-by_test false p q fault e held = absurd (no_stand fault q e)
+by_test false p q fault e held = absurd (no_stand e)
 
 by_none : (b : Bool) (p q : Progress) (fault : SeenFault) → cond b (Fails fault) (Stands p) ≡ Stands q → IsHeldAt p → IsHeldAt q
-by_none true p q fault e held = absurd (no_stand fault q e)
+by_none true p q fault e held = absurd (no_stand e)
 by_none false p q fault e held = from_same p q e held
 
 step : (version : Version) (n : ℕ) (p : Progress) (line : Line) (q : Progress) → IsLine line → after_line version n p line ≡ Stands q → IsHeldAt p → IsHeldAt q
 step version n (InBase rows) (RowLine row) q is e held = by_none (has_row rows row.uid) (InBase (rows ++ row ∷ [])) q (RepeatedId (line_after n)) e tt
 step version n (InBase rows) (GroupLine count) q is e held = from_same (InGroup rows None rows (count - 1)) q e tt
 step version n (InBase rows) (IntentLine intent) q is e held = opened version n rows None intent q is e
-step version n (BetweenGroups rows before) (RowLine row) q is e held = absurd (no_stand (BadRow (line_after n)) q e)
+step version n (BetweenGroups rows before) (RowLine row) q is e held = absurd (no_stand e)
 step version n (BetweenGroups rows before) (GroupLine count) q is e held = from_same (InGroup rows before rows (count - 1)) q e held
 step version n (BetweenGroups rows before) (IntentLine intent) q is e held = opened version n rows before intent q is e
 step version n (InGroup old before rows zero) (RowLine row) q is e held = by_test (may_take version rows row) (BetweenGroups (taken rows row) None) q (RepeatedId (line_after n)) e tt
 step version n (InGroup old before rows (suc more)) (RowLine row) q is e held = by_test (may_take version rows row) (InGroup old before (taken rows row) more) q (RepeatedId (line_after n)) e held
-step version n (InGroup old before rows zero) (GroupLine count) q is e held = absurd (no_stand (BadRow (line_after n)) q e)
-step version n (InGroup old before rows (suc more)) (GroupLine count) q is e held = absurd (no_stand (BadRow (line_after n)) q e)
-step version n (InGroup old before rows zero) (IntentLine intent) q is e held = absurd (no_stand (BadRow (line_after n)) q e)
-step version n (InGroup old before rows (suc more)) (IntentLine intent) q is e held = absurd (no_stand (BadRow (line_after n)) q e)
+step version n (InGroup old before rows zero) (GroupLine count) q is e held = absurd (no_stand e)
+step version n (InGroup old before rows (suc more)) (GroupLine count) q is e held = absurd (no_stand e)
+step version n (InGroup old before rows zero) (IntentLine intent) q is e held = absurd (no_stand e)
+step version n (InGroup old before rows (suc more)) (IntentLine intent) q is e held = absurd (no_stand e)
 
 abbrev HeldIf : Judged → Type 0
 HeldIf (Stands progress) = IsHeldAt progress
@@ -69,28 +64,22 @@ lines_held version n j [] each held = held
 lines_held version n (Fails fault) (line ∷ lines) each held = tt
 lines_held version n (Stands p) (line ∷ lines) each held = lines_held version (n + 1) (after_line version n p line) lines each.1 (next_held version n p line (after_line version n p line) each.0 refl held)
 
-no_fault : (v : Version) (rows : List Row) (intent : Option Intent) (torn : Bool) (fault : SeenFault) → Rows v rows intent torn ≡ Fault fault → ⊥
-no_fault v rows intent torn fault e = cc
-
-same_rows : (v w : Version) (r s : List Row) (i j : Option Intent) (a b : Bool) → Rows v r i a ≡ Rows w s j b → (r ≡ s) × (i ≡ j)
-same_rows v w r s i j a b e = (cc, cc)
-
 same_held : (v w : Version) (r s : List Row) (i j : Option Intent) (a b : Bool) → Rows v r i a ≡ Rows w s j b → IntentHasRow s j → IntentHasRow r i
 same_held v w r s i j a b e held =
-    let same = same_rows v w r s i j a b e in
-    subst (λ k. IntentHasRow r k) (sym same.1) (subst (λ rows. IntentHasRow rows j) (sym same.0) held)
+    let same = same_rows e in
+    subst (λ k. IntentHasRow r k) (sym same.2) (subst (λ rows. IntentHasRow rows j) (sym same.1) held)
 
 ends_held : (version v : Version) (n : ℕ) (j : Judged) (rest : List ℕ) (rows : List Row) (intent : Option Intent) (torn : Bool) → Ends version n j rest (Rows v rows intent torn) → HeldIf j → IntentHasRow rows intent
-ends_held version v n (Fails fault) rest rows intent torn e held = absurd (no_fault v rows intent torn fault e)
+ends_held version v n (Fails fault) rest rows intent torn e held = absurd (rows_no_fault e)
 ends_held version v n (Stands p) rest rows intent torn e held = by (has_line_feed rest) e.1
   where
     by : (b : Bool) → Rows v rows intent torn ≡ cond b (Fault (BadRow (line_after n))) (Rows version (counted p) (left_open p) (is_open p || has_bytes rest)) → IntentHasRow rows intent
-    by true h = absurd (no_fault v rows intent torn (BadRow (line_after n)) h)
+    by true h = absurd (rows_no_fault h)
     by false h = same_held v version rows (counted p) intent (left_open p) torn (is_open p || has_bytes rest) h held
 
 pub open_has_row : (bytes : List ℕ) (v : Version) (rows : List Row) (intent : Option Intent) (torn : Bool) → Means bytes (Rows v rows intent torn) → IntentHasRow rows intent
 open_has_row bytes v rows intent torn (inl none) = same_held v Two rows [] intent None torn false none.1 tt
-open_has_row bytes v rows intent torn (inr (inl wrong)) = absurd (no_fault v rows intent torn Rattle.fetch_rules.specs.declared.seen.SeenFault.TheVariants.BadHeader wrong.2)
+open_has_row bytes v rows intent torn (inr (inl wrong)) = absurd (rows_no_fault wrong.2)
 open_has_row bytes v rows intent torn (inr (inr by)) =
     ends_held by.version v (length by.lines) (judged by.version 0 (Stands (InBase [])) by.lines) by.rest rows intent torn by.ends
     (lines_held by.version 0 (Stands (InBase [])) by.lines (recursion_from_All IsLine by.lines by.cut.each) tt)

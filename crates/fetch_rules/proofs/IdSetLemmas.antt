@@ -1,13 +1,12 @@
 -- Ids in a set that compares them.
-use Rattle.std.proofs.Common.{◌≡◌, ℕ, List, [], ◌∷◌, Bool, true, false, ◌||◌, cond, map, Bor, refl, sym, ◌∙◌, ap, inl, inr}
+use Rattle.std.proofs.Common.{◌≡◌, ℕ, List, [], ◌∷◌, Bool, true, false, ◌||◌, cond, map, Bor, refl, sym, ◌∙◌, ap}
 use Rattle.std.specs.Prelude.{bytes_eq}
 use Rattle.std.specs.List.{list_any}
 use Rattle.std.specs.Ordering.{is_eq, nat_cmp}
 use Rattle.std.specs.Cmp.Lexicographic.{slice_cmp}
-use Rattle.std.proofs.lemmas.Bool.{cases_Bool, true≢false}
 use Rattle.std.proofs.lemmas.Map.Text.{is_eq-slice_cmp}
+use Rattle.std.proofs.lemmas.Cmp.{nat_list_eq_equiv}
 use Rattle.mail_terms.specs.UniqueId.{has_id}
-use Rattle.fetch_rules.proofs.IdLemmas.{same_from_test, test_from_same, test_from_other}
 
 -- whether a set's keys have this one
 abbrev pub has_key : List (Bor (List ℕ)) → List ℕ → Bool
@@ -19,12 +18,6 @@ has_id-keys uid (key ∷ keys) =
     ap (λ (b : Bool). b || has_key keys uid) (is_eq-slice_cmp uid key.now)
     ∙ ap (λ (b : Bool). bytes_eq uid key.now || b) (has_id-keys uid keys)
 
-pub bytes_eq_symm : (a b : List ℕ) → bytes_eq a b ≡ bytes_eq b a
-bytes_eq_symm a b = elim (cases_Bool (bytes_eq a b)) [
-  | inl same ↦ same ∙ sym (test_from_same b a (sym (same_from_test a b same)))
-  | inr other ↦ other ∙ sym (test_from_other b a (λ same. true≢false (sym (test_from_same a b (sym same)) ∙ other)))
-]
-
 or_cond : (b c : Bool) → cond b true c ≡ (b || c)
 or_cond true c = refl
 or_cond false c = refl
@@ -35,6 +28,6 @@ pub has_id-more : (id uid : List ℕ) (keys keys' : List (Bor (List ℕ))) (ids 
     → has_id (map (λ key. key.now) keys') id ≡ (bytes_eq id uid || has_id ids id)
 has_id-more id uid keys keys' ids ids_are updated =
     sym (has_id-keys id keys') ∙ updated
-    ∙ ap (λ (b : Bool). cond b true (has_key keys id)) (is_eq-slice_cmp uid id ∙ bytes_eq_symm uid id)
+    ∙ ap (λ (b : Bool). cond b true (has_key keys id)) (is_eq-slice_cmp uid id ∙ nat_list_eq_equiv.symm uid id)
     ∙ or_cond (bytes_eq id uid) (has_key keys id)
     ∙ ap (λ (b : Bool). bytes_eq id uid || b) (has_id-keys id keys ∙ ap (λ (xs : List (List ℕ)). has_id xs id) ids_are)

@@ -1,18 +1,16 @@
 -- What a merge and a mark record as delivered, and of which ids there are rows afterwards.
-use Rattle.std.proofs.Common.{◌≡◌, ℕ, List, [], ◌∷◌, Bool, true, false, cond, not, ◌&&◌, ◌||◌, map, refl, sym, ◌∙◌, ap, inl, inr}
+use Rattle.std.proofs.Common.{◌≡◌, ℕ, List, [], ◌∷◌, Bool, true, false, not, ◌&&◌, ◌||◌, map, refl, sym, ◌∙◌, ap}
 use Rattle.std.specs.Prelude.{bytes_eq}
 use Rattle.std.specs.List.{list_any, filter}
-use Rattle.std.proofs.lemmas.Bool.{both_ways, cases_Bool}
 use Rattle.std.proofs.lemmas.List.Folds.{list_any-append}
+use Rattle.std.proofs.lemmas.Cmp.{nat_list_eq_equiv}
+use Rattle.std.proofs.lemmas.Map.Views.{any-filter_same}
+use Rattle.std.proofs.Math.Bool.{and_comm, and-false, or_self, or-false}
 use Rattle.mail_terms.specs.Listing.{Item, has_item, is_flagged}
 use Rattle.fetch_rules.specs.Record.{Row, is_of, has_row, is_delivered, with_delivered, marked, distinct_ids, new_ids, with_held, merged}
-use Rattle.fetch_rules.proofs.IdLemmas.{same_from_test, test_from_other, test_from_same}
-
-bytes_swap : (a b : List ℕ) → bytes_eq a b ≡ bytes_eq b a
-bytes_swap a b = elim (cases_Bool (bytes_eq a b)) [
-  | inl test ↦ test ∙ sym (test_from_same b a (sym (same_from_test a b test)))
-  | inr test ↦ test ∙ sym (test_from_other b a (λ same. both_ways (bytes_eq a b) test (test_from_same a b (sym same))))
-]
+use Rattle.fetch_rules.proofs.IdLemmas.{same_from_test}
+use Rattle.mail_terms.specs.UniqueId.{has_id}
+use Rattle.fetch_rules.proofs.NewIdLemmas.{has_id-distinct_ids}
 
 any-map : {X Y : Type 0} (p : Y → Bool) (f : X → Y) (xs : List X) → list_any p (map f xs) ≡ list_any (λ x. p (f x)) xs
 any-map p f [] = refl
@@ -52,60 +50,31 @@ has_row-marked rows uid other = has_row-with (bytes_eq uid) rows other
 
 -- ---- the ids of a listing that have no row
 
--- whether an id is one of these
-abbrev is_one : List (List ℕ) → List ℕ → Bool
-is_one ids uid = list_any (bytes_eq uid) ids
-
-filtered_table : (q e h g p : Bool) → (e ≡ true → q ≡ p) → g ≡ (h && p) → cond q (e || g) g ≡ ((e || h) && p)
-filtered_table true true h g true s i = refl
-filtered_table true true h g false s i = absurd (both_ways false refl (sym (s refl)))
-filtered_table true false h g p s i = i
-filtered_table false true h g true s i = absurd (both_ways false refl (s refl))
-filtered_table false true true g false s i = i
-filtered_table false true false g false s i = i
-filtered_table false false h g p s i = i
-
-is_one-cond : (q : Bool) (x : List ℕ) (xs : List (List ℕ)) (uid : List ℕ) → is_one (cond q (x ∷ xs) xs) uid ≡ cond q (bytes_eq uid x || is_one xs uid) (is_one xs uid)
-is_one-cond true x xs uid = refl
-is_one-cond false x xs uid = refl
-
-is_one-filter : (p : List ℕ → Bool) (ids : List (List ℕ)) (uid : List ℕ) → is_one (filter p ids) uid ≡ (is_one ids uid && p uid)
-is_one-filter p [] uid = refl
-is_one-filter p (x ∷ xs) uid =
-    is_one-cond (p x) x (filter p xs) uid
-    ∙ filtered_table (p x) (bytes_eq uid x) (is_one xs uid) (is_one (filter p xs) uid) (p uid) (λ e. ap p (sym (same_from_test uid x e))) (is_one-filter p xs uid)
+has_id-kept : (p : List ℕ → Bool) (ids : List (List ℕ)) (uid : List ℕ) → has_id (filter p ids) uid ≡ (has_id ids uid && p uid)
+has_id-kept p ids uid = any-filter_same (bytes_eq uid) p (p uid) (λ id e. ap p (sym (same_from_test uid id e))) ids ∙ and_comm (p uid) (has_id ids uid)
 
 or_not : (a b : Bool) → (a || (b && not a)) ≡ (a || b)
 or_not true b = refl
 or_not false true = refl
 or_not false false = refl
 
-is_one-distinct : (ids : List (List ℕ)) (uid : List ℕ) → is_one (distinct_ids ids) uid ≡ is_one ids uid
-is_one-distinct [] uid = refl
-is_one-distinct (x ∷ xs) uid =
-    ap (λ (b : Bool). bytes_eq uid x || b) (is_one-filter (λ other. not (bytes_eq x other)) (distinct_ids xs) uid
-    ∙ ap (λ (b : Bool). b && not (bytes_eq x uid)) (is_one-distinct xs uid) ∙ ap (λ (b : Bool). is_one xs uid && not b) (bytes_swap x uid))
-    ∙ or_not (bytes_eq uid x) (is_one xs uid)
-
-is_one-new : (rows : List Row) (listing : List Item) (uid : List ℕ) → is_one (new_ids rows listing) uid ≡ (has_item listing uid && not (has_row rows uid))
-is_one-new rows listing uid =
-    is_one-filter (λ id. not (has_row rows id)) (distinct_ids (map (λ (item : Item). item.uid) listing)) uid
-    ∙ ap (λ (b : Bool). b && not (has_row rows uid)) (is_one-distinct (map (λ (item : Item). item.uid) listing) uid ∙ any-map (bytes_eq uid) (λ (item : Item). item.uid) listing)
+has_id-new_ids : (rows : List Row) (listing : List Item) (uid : List ℕ) → has_id (new_ids rows listing) uid ≡ (has_item listing uid && not (has_row rows uid))
+has_id-new_ids rows listing uid =
+    has_id-kept (λ id. not (has_row rows id)) (distinct_ids (map (λ (item : Item). item.uid) listing)) uid
+    ∙ ap (λ (b : Bool). b && not (has_row rows uid)) (has_id-distinct_ids uid (map (λ (item : Item). item.uid) listing) ∙ any-map (bytes_eq uid) (λ (item : Item). item.uid) listing)
 
 -- ---- a merge
 
 and_table : (a e r h : Bool) → (e ≡ true → a ≡ h) → ((e && a) || (r && h)) ≡ ((e || r) && h)
-and_table a true true true s = ap (λ (b : Bool). b || true) (s refl)
-and_table a true false true s = ap (λ (b : Bool). b || false) (s refl)
-and_table a true true false s = ap (λ (b : Bool). b || false) (s refl)
-and_table a true false false s = ap (λ (b : Bool). b || false) (s refl)
+and_table a true true h s = ap (λ (b : Bool). b || h) (s refl) ∙ or_self h
+and_table a true false h s = ap (λ (b : Bool). b || false) (s refl) ∙ or-false h
 and_table a false r h s = refl
 
-any-and : (h : List ℕ → Bool) (ids : List (List ℕ)) (uid : List ℕ) → list_any (λ id. bytes_eq uid id && h id) ids ≡ (is_one ids uid && h uid)
+any-and : (h : List ℕ → Bool) (ids : List (List ℕ)) (uid : List ℕ) → list_any (λ id. bytes_eq uid id && h id) ids ≡ (has_id ids uid && h uid)
 any-and h [] uid = refl
 any-and h (x ∷ xs) uid =
     ap (λ (b : Bool). (bytes_eq uid x && h x) || b) (any-and h xs uid)
-    ∙ and_table (h x) (bytes_eq uid x) (is_one xs uid) (h uid) (λ e. ap h (sym (same_from_test uid x e)))
+    ∙ and_table (h x) (bytes_eq uid x) (has_id xs uid) (h uid) (λ e. ap h (sym (same_from_test uid x e)))
 
 held_table : (h e L X : Bool) → X ≡ (L && X) → ((h && e) || X) ≡ ((e || L) && ((h && e) || X))
 held_table true true L X p = refl
@@ -116,14 +85,10 @@ held_table false false L X p = p
 -- what is held is listed
 held_is_listed : (listing : List Item) (held : List Bool) (uid : List ℕ) → is_flagged listing held uid ≡ (has_item listing uid && is_flagged listing held uid)
 held_is_listed [] held uid = refl
-held_is_listed (item ∷ items) [] uid = sym (none (has_item (item ∷ items) uid))
-  where
-    none : (b : Bool) → (b && false) ≡ false
-    none true = refl
-    none false = refl
+held_is_listed (item ∷ items) [] uid = sym (and-false (has_item (item ∷ items) uid))
 held_is_listed (item ∷ items) (flag ∷ held) uid =
     held_table flag (bytes_eq item.uid uid) (has_item items uid) (is_flagged items held uid) (held_is_listed items held uid)
-    ∙ ap (λ (b : Bool). (b || has_item items uid) && ((flag && bytes_eq item.uid uid) || is_flagged items held uid)) (bytes_swap item.uid uid)
+    ∙ ap (λ (b : Bool). (b || has_item items uid) && ((flag && bytes_eq item.uid uid) || is_flagged items held uid)) (nat_list_eq_equiv.symm item.uid uid)
 
 merge_table : (D R L H : Bool) → H ≡ (L && H) → ((D || (R && H)) || ((L && not R) && H)) ≡ (D || H)
 merge_table true R L H p = refl
@@ -149,12 +114,12 @@ delivered-merged rows listing held now uid =
     news : is_delivered (map (fresh listing held now) (new_ids rows listing)) uid ≡ ((has_item listing uid && not (has_row rows uid)) && is_flagged listing held uid)
     news = any-map (λ (row : Row). is_of uid row && row.delivered) (fresh listing held now) (new_ids rows listing)
         ∙ any-and (is_flagged listing held) (new_ids rows listing) uid
-        ∙ ap (λ (b : Bool). b && is_flagged listing held uid) (is_one-new rows listing uid)
+        ∙ ap (λ (b : Bool). b && is_flagged listing held uid) (has_id-new_ids rows listing uid)
 
 pub has_row-merged : (rows : List Row) (listing : List Item) (held : List Bool) (now : ℕ) (uid : List ℕ)
     → has_row (merged rows listing held now) uid ≡ has_row rows uid || has_item listing uid
 has_row-merged rows listing held now uid =
     list_any-append (is_of uid) (with_held listing held rows) (map (fresh listing held now) (new_ids rows listing))
     ∙ ap (λ (b : Bool). b || has_row (map (fresh listing held now) (new_ids rows listing)) uid) (has_row-with (is_flagged listing held) rows uid)
-    ∙ ap (λ (b : Bool). has_row rows uid || b) (any-map (is_of uid) (fresh listing held now) (new_ids rows listing) ∙ is_one-new rows listing uid)
+    ∙ ap (λ (b : Bool). has_row rows uid || b) (any-map (is_of uid) (fresh listing held now) (new_ids rows listing) ∙ has_id-new_ids rows listing uid)
     ∙ or_not (has_row rows uid) (has_item listing uid)

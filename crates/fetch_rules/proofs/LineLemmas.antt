@@ -65,14 +65,11 @@ intent_split intent behind =
     ∙ ap (λ (xs : List ℕ). intent.uid ++ 32 ∷ xs) (append_assoc (decimal intent.start) (32 ∷ (decimal intent.len ++ 10 ∷ [])) behind
     ∙ ap (λ (xs : List ℕ). decimal intent.start ++ 32 ∷ xs) (append_assoc (decimal intent.len) (10 ∷ []) behind)))
 
-digits_differ : ◌≡◌ {A = ℕ} 48 49 → ⊥
-digits_differ e = omega arith
-
 pub state_unique : (a b : Bool) (x y : List ℕ) → state_of a ++ x ≡ state_of b ++ y → (a ≡ b) × (x ≡ y)
 state_unique true true x y e = (refl, (same_cons _ _ _ _ (same_cons _ _ _ _ e).1).1)
 state_unique false false x y e = (refl, (same_cons _ _ _ _ (same_cons _ _ _ _ e).1).1)
-state_unique true false x y e = absurd (digits_differ (sym (same_cons 49 48 _ _ e).0))
-state_unique false true x y e = absurd (digits_differ (same_cons 48 49 _ _ e).0)
+state_unique true false x y e = absurd (omega (arith, (same_cons 49 48 _ _ e).0))
+state_unique false true x y e = absurd (omega (arith, (same_cons 48 49 _ _ e).0))
 
 pub line_unique : (a b : Row) (x y : List ℕ) → IsRow a → IsRow b → line_of a ++ x ≡ line_of b ++ y → (a ≡ b) × (x ≡ y)
 line_unique a b x y is_a is_b e =
@@ -85,17 +82,11 @@ line_unique a b x y is_a is_b e =
       states.1,
     )
 
-feed_is_no_space : ◌≡◌ {A = ℕ} 32 10 → ⊥
-feed_is_no_space e = omega arith
-
 -- a row has three fields, the line of a group two
 row_no_group : (row : Row) (n : ℕ) (x y : List ℕ) → IsRow row → n ≤ 100000 → line_of row ++ x ≡ group_line n ++ y → ⊥
 row_no_group row n x y is small e =
     let ids = cut_unique 32 row.uid (43 ∷ []) _ _ (HasNo-uid 32 (omega arith) row is) ((λ same. absurd (omega (arith, same))), tt) (sym (line_split row x) ∙ e ∙ group_split n y) in
-    ends_clash 32 10 (decimal row.first_seen) (decimal n) _ _ feed_is_no_space (HasNo-decimal 10 (omega arith) row.first_seen is.fits) (HasNo-decimal 32 (omega arith) n (fits_of n small)) ids.1
-
-space_is_no_feed : ◌≡◌ {A = ℕ} 10 32 → ⊥
-space_is_no_feed e = omega arith
+    ends_clash 32 10 (decimal row.first_seen) (decimal n) _ _ (λ same. absurd (omega (arith, same))) (HasNo-decimal 10 (omega arith) row.first_seen is.fits) (HasNo-decimal 32 (omega arith) n (fits_of n small)) ids.1
 
 -- a row has three fields, the line of an intent four
 row_no_intent : (row : Row) (intent : Intent) (x y : List ℕ) → IsRow row → IsIntent intent → line_of row ++ x ≡ intent_line intent ++ y → ⊥
@@ -105,14 +96,11 @@ row_no_intent row intent x y is is_one e =
     by row.delivered numbers.1
   where
     by : (d : Bool) → state_of d ++ x ≡ decimal intent.start ++ 32 ∷ (decimal intent.len ++ 10 ∷ y) → ⊥
-    by true e' = ends_clash 10 32 (49 ∷ []) (decimal intent.start) x _ space_is_no_feed ((λ same. absurd (omega (arith, same))), tt) (HasNo-decimal 10 (omega arith) intent.start is_one.start) e'
-    by false e' = ends_clash 10 32 (48 ∷ []) (decimal intent.start) x _ space_is_no_feed ((λ same. absurd (omega (arith, same))), tt) (HasNo-decimal 10 (omega arith) intent.start is_one.start) e'
-
-signs_differ : ◌≡◌ {A = ℕ} 43 33 → ⊥
-signs_differ e = omega arith
+    by true e' = ends_clash 10 32 (49 ∷ []) (decimal intent.start) x _ (λ same. absurd (omega (arith, same))) ((λ same. absurd (omega (arith, same))), tt) (HasNo-decimal 10 (omega arith) intent.start is_one.start) e'
+    by false e' = ends_clash 10 32 (48 ∷ []) (decimal intent.start) x _ (λ same. absurd (omega (arith, same))) ((λ same. absurd (omega (arith, same))), tt) (HasNo-decimal 10 (omega arith) intent.start is_one.start) e'
 
 group_no_intent : (n : ℕ) (intent : Intent) (x y : List ℕ) → group_line n ++ x ≡ intent_line intent ++ y → ⊥
-group_no_intent n intent x y e = signs_differ (same_cons 43 33 _ _ (sym (group_split n x) ∙ e ∙ intent_split intent y)).0
+group_no_intent n intent x y e = absurd (omega (arith, (same_cons 43 33 _ _ (sym (group_split n x) ∙ e ∙ intent_split intent y)).0))
 
 pub intent_unique : (a b : Intent) (x y : List ℕ) → IsIntent a → IsIntent b → intent_line a ++ x ≡ intent_line b ++ y → (a ≡ b) × (x ≡ y)
 intent_unique a b x y is_a is_b e =

@@ -7,11 +7,11 @@ use Rattle.std.proofs.lemmas.List.{take_more, take_all, map-append}
 use Rattle.std.proofs.lemmas.List.Folds.{list_any-append}
 use Rattle.std.proofs.lemmas.List.Sums.{sum_by-cons}
 use Rattle.std.proofs.lemmas.Slice.Zip.{length-zip, get_or-zip}
-use Rattle.std.proofs.Math.Bool.{or_assoc, or-false}
+use Rattle.std.proofs.Math.Bool.{or_assoc, or-false, and-false}
 use Rattle.std.proofs.lemmas.Bool.{true≢false}
+use Rattle.std.proofs.lemmas.Cmp.{nat_list_eq_equiv}
 use Rattle.fetch_rules.proofs.RecordLemmas.{with_delivered-false}
 use Rattle.fetch_rules.proofs.IdLemmas.{same_from_test}
-use Rattle.fetch_rules.proofs.IdSetLemmas.{bytes_eq_symm}
 use Rattle.mail_terms.specs.UniqueId.{has_id}
 use Rattle.mail_terms.specs.Listing.{Item, is_flagged}
 use Rattle.fetch_rules.specs.Record.{Row, IsRecord, is_of, with_delivered, marked, is_delivered, with_held, new_ids, undelivered, merged}
@@ -203,7 +203,7 @@ HasHeldAnew-held rows listing held i ids new uid were same inside is fresh at ad
   where
     here : (id : List ℕ) → bytes_eq id uid ≡ stands_for id (get_or listing i nobody, get_or held i false)
     here id =
-        bytes_eq_symm id uid ∙ ap (λ (u : List ℕ). bytes_eq u id) (at nobody)
+        nat_list_eq_equiv.symm id uid ∙ ap (λ (u : List ℕ). bytes_eq u id) (at nobody)
         ∙ ap (λ (b : Bool). b && bytes_eq (get_or listing i nobody).uid id) (sym is)
 
     or_both : (old fresh : Bool) → fresh ≡ true → true ≡ ((old || true) && fresh)
@@ -231,21 +231,13 @@ HasHeldAnew-known rows listing held i ids uid were same inside known at = λ id.
         let known_too : not (is_delivered rows id) ≡ false =
         ap (λ (u : List ℕ). not (is_delivered rows u)) (sym (at nobody ∙ same_from_test (get_or listing i nobody).uid id found)) ∙ ap not known in
         ap (λ (b : Bool). list_any (stands_for id) (take i (zip listing held)) && b) known_too
-        ∙ neither (list_any (stands_for id) (take i (zip listing held))) (flag && bytes_eq (get_or listing i nobody).uid id)
+        ∙ and-false (list_any (stands_for id) (take i (zip listing held)))
+        ∙ sym (and-false (list_any (stands_for id) (take i (zip listing held)) || (flag && bytes_eq (get_or listing i nobody).uid id)))
         ∙ ap (λ (b : Bool). (list_any (stands_for id) (take i (zip listing held)) || (flag && bytes_eq (get_or listing i nobody).uid id)) && b) (sym known_too)
-      where
-        neither : (a b : Bool) → (a && false) ≡ ((a || b) && false)
-        neither true b = refl
-        neither false true = refl
-        neither false false = refl
     by id false found flag =
         ap (λ (b : Bool). b && not (is_delivered rows id))
         (sym (or-false (list_any (stands_for id) (take i (zip listing held))))
-        ∙ ap (λ (b : Bool). list_any (stands_for id) (take i (zip listing held)) || b) (sym (unflagged flag) ∙ ap (λ (b : Bool). flag && b) (sym found)))
-      where
-        unflagged : (flag : Bool) → (flag && false) ≡ false
-        unflagged true = refl
-        unflagged false = refl
+        ∙ ap (λ (b : Bool). list_any (stands_for id) (take i (zip listing held)) || b) (sym (and-false flag) ∙ ap (λ (b : Bool). flag && b) (sym found)))
 
 -- an item that isn't held
 pub HasHeldAnew-free : (rows : List Row) (listing : List Item) (held : List Bool) (i : ℕ) (ids : List (List ℕ)) → HasHeldAnew rows listing held i ids → length held ≡ length listing

@@ -1,11 +1,12 @@
 -- The ids of a listing that have no row yet.
 use Rattle.std.proofs.Common.{◌≡◌, ℕ, ◌<◌, ◌+◌, List, [], ◌∷◌, ◌++◌, Bool, true, false, not, ◌||◌, length, get_or, take, map, refl, sym, ◌∙◌, ap, append_assoc, inl, inr}
 use Rattle.std.specs.Prelude.{bytes_eq, filter}
-use Rattle.std.proofs.lemmas.Bool.{cases_Bool, or_left, or_from, or_parts, or_cases, not_from_true, not_from_false}
+use Rattle.std.proofs.lemmas.Bool.{cases_Bool, or_left, or_parts, or_cases, not_from_true, not_from_false}
 use Rattle.std.proofs.lemmas.List.{take_more, map-append, append-nil}
 use Rattle.std.proofs.lemmas.List.Elements.{filter-append}
 use Rattle.std.proofs.lemmas.List.Folds.{list_any-append}
 use Rattle.std.proofs.lemmas.Bool.{true≢false}
+use Rattle.std.proofs.lemmas.Map.Views.{any-filter_same}
 use Rattle.fetch_rules.proofs.FilterLemmas.{filter_keeps, filter_leaves}
 use Rattle.fetch_rules.proofs.IdLemmas.{same_from_test, test_from_same, test_from_other, cases_id}
 use Rattle.mail_terms.specs.Listing.{Item}
@@ -14,13 +15,7 @@ use Rattle.fetch_rules.specs.Record.{Row, is_of, has_row, distinct_ids, new_ids,
 
 -- a filter that an id passes doesn't take it away
 pub has_id-filter : (p : List ℕ → Bool) (uid : List ℕ) (ids : List (List ℕ)) → p uid ≡ true → has_id (filter p ids) uid ≡ has_id ids uid
-has_id-filter p uid [] passes = refl
-has_id-filter p uid (id ∷ ids) passes = elim (cases_Bool (p id)) [
-  | inl hit ↦ ap (λ (xs : List (List ℕ)). has_id xs uid) (filter_keeps p id ids hit) ∙ ap (λ (b : Bool). bytes_eq uid id || b) (has_id-filter p uid ids passes)
-  | inr miss ↦
-      ap (λ (xs : List (List ℕ)). has_id xs uid) (filter_leaves p id ids miss) ∙ has_id-filter p uid ids passes
-      ∙ ap (λ (b : Bool). b || has_id ids uid) (sym (test_from_other uid id (λ same. true≢false (sym passes ∙ ap p same ∙ miss))))
-]
+has_id-filter p uid ids passes = any-filter_same (bytes_eq uid) p true (λ id e. ap p (sym (same_from_test uid id e)) ∙ passes) ids
 
 pub has_id-distinct_ids : (uid : List ℕ) (ids : List (List ℕ)) → has_id (distinct_ids ids) uid ≡ has_id ids uid
 has_id-distinct_ids uid [] = refl
@@ -127,13 +122,6 @@ AreNew-new rows listing now i added uid are at inside none none_added =
 abbrev pub AreApart : List (List ℕ) → Type 0
 AreApart [] = Unit {0}
 AreApart (id ∷ ids) = (has_id ids id ≡ false) × AreApart ids
-
-pub has_id-filter_false : (p : List ℕ → Bool) (ids : List (List ℕ)) (uid : List ℕ) → has_id ids uid ≡ false → has_id (filter p ids) uid ≡ false
-has_id-filter_false p [] uid none = refl
-has_id-filter_false p (id ∷ ids) uid none = elim (cases_Bool (p id)) [
-  | inl hit ↦ ap (λ (xs : List (List ℕ)). has_id xs uid) (filter_keeps p id ids hit) ∙ or_from _ _ (or_parts _ _ none).0 (has_id-filter_false p ids uid (or_parts _ _ none).1)
-  | inr miss ↦ ap (λ (xs : List (List ℕ)). has_id xs uid) (filter_leaves p id ids miss) ∙ has_id-filter_false p ids uid (or_parts _ _ none).1
-]
 
 -- a loop that adds rows: the items before the i-th have rows
 abbrev pub HasAdded : List Row → List Item → ℕ → ℕ → List Row → Type 0

@@ -4,16 +4,14 @@ use Rattle.std.specs.Prelude.{bytes_eq}
 use Rattle.std.proofs.lemmas.Bool.{true≢false}
 use Rattle.std.proofs.lemmas.List.{length-map, get_or-map, take_more, take_all, drop_more, drop_all, drop-set, map_push}
 use Rattle.std.proofs.lemmas.List.Folds.{list_any-append}
-use Rattle.std.proofs.lemmas.List.FromFn.{length-enumerate_from, get_or-enumerate_from}
+use Rattle.std.proofs.lemmas.List.FromFn.{length-enumerate_from}
 use Rattle.std.proofs.Math.Bool.{or-false, or_comm}
 use Rattle.mail_terms.specs.Listing.{Item, numbered, has_item, is_first, is_last}
 use Rattle.mail_terms.specs.UniqueId.{has_id}
+use Rattle.fetch_rules.proofs.PlanLemmas.{message_at}
 
 abbrev pub nobody : Item
 nobody = record { uid = []; size = 0 }
-
-message_at : (listing : List Item) (i : ℕ) → i < length listing → get_or (numbered listing) i (0, nobody) ≡ (i + 1, get_or listing i nobody)
-message_at listing i inside = get_or-enumerate_from 1 listing i (0, nobody) inside ∙ ap (λ (n : ℕ). (n, get_or listing i nobody)) (omega arith)
 
 -- the ids of the first i messages, and which of these are the first with theirs
 pub record HasFirsts (listing : List Item) (i : ℕ) (ids : List (List ℕ)) (flags : List Bool) : Type 0 where
@@ -35,7 +33,7 @@ HasFirsts-more listing i ids ids' flags uid new was inside uid_is new_is grown =
       ∙ ap (λ (items : List Item). has_item items id) (sym (take_more listing i nobody inside));
   flags_are =
       ap (λ (bs : List Bool). bs ++ new ∷ []) was.flags_are
-      ∙ ap (λ (b : Bool). map (is_first listing) (take i (numbered listing)) ++ b ∷ []) (first_is ∙ ap (is_first listing) (sym (message_at listing i inside)))
+      ∙ ap (λ (b : Bool). map (is_first listing) (take i (numbered listing)) ++ b ∷ []) (first_is ∙ ap (is_first listing) (sym (message_at listing i nobody inside)))
       ∙ sym (map_push (is_first listing) (take i (numbered listing)) (get_or (numbered listing) i (0, nobody)))
       ∙ ap (map (is_first listing)) (sym (take_more (numbered listing) i (0, nobody) (omega (arith, inside, length-enumerate_from 1 listing))));
 }
@@ -81,7 +79,7 @@ HasLasts-more listing i ids ids' flags uid new was inside uid_is new_is grown ke
   flags_are =
       drop-set flags i new (omega (arith, inside, was.count))
       ∙ ap (λ (bs : List Bool). new ∷ bs) was.flags_are
-      ∙ ap (λ (b : Bool). b ∷ map (is_last listing) (drop (i + 1) (numbered listing))) (last_is ∙ ap (is_last listing) (sym (message_at listing i inside)))
+      ∙ ap (λ (b : Bool). b ∷ map (is_last listing) (drop (i + 1) (numbered listing))) (last_is ∙ ap (is_last listing) (sym (message_at listing i nobody inside)))
       ∙ ap (map (is_last listing)) (sym (drop_more (numbered listing) i (0, nobody) (omega (arith, inside, length-enumerate_from 1 listing))));
 }
   where
@@ -98,7 +96,7 @@ pub flag_at : (test : ℕ × Item → Bool) (listing : List Item) (flags : List 
 flag_at test listing flags i flag are inside is item =
     is ∙ ap (λ (bs : List Bool). get_or bs i flag) are
     ∙ get_or-map test (numbered listing) i (0, item) flag (omega (arith, inside, length-enumerate_from 1 listing))
-    ∙ ap test (get_or-enumerate_from 1 listing i (0, item) inside ∙ ap (λ (n : ℕ). (n, get_or listing i item)) (omega arith))
+    ∙ ap test (message_at listing i item inside)
 
 -- a test that is only made where another one passed
 pub both-true : (x y both : Bool) → x ≡ true → both ≡ y → both ≡ (x && y)

@@ -1,8 +1,8 @@
 -- A file of version 1 behind the header of version 2.
-use Rattle.std.proofs.Common.{◌≡◌, ℕ, zero, suc, ◌+◌, ◌-◌, List, [], ◌∷◌, ◌++◌, Bool, true, false, ◌&&◌, ◌||◌, not, cond, length, refl, sym, ◌∙◌, ap, subst, inl, inr}
+use Rattle.std.proofs.Common.{◌≡◌, ℕ, zero, suc, ◌+◌, List, [], ◌∷◌, ◌++◌, Bool, true, false, ◌&&◌, ◌||◌, not, cond, length, refl, sym, ◌∙◌, ap, subst, inl, inr}
 use Rattle.std.specs.Prelude.{flat_map, ◌==◌, Option, None}
 use Rattle.std.specs.List.{list_any}
-use Rattle.std.proofs.lemmas.Bool.{or_cases, and_parts, or_left, or_right}
+use Rattle.std.proofs.lemmas.Bool.{or_cases, and_parts, or_left, or_right, and_from}
 use Rattle.fetch_rules.specs.Record.{Row, Intent, is_of, has_row}
 use Rattle.fetch_rules.specs.RecordFile.{Version, One, Two, header, Line, RowLine, GroupLine, IntentLine, text_of}
 use Rattle.fetch_rules.specs.RecordMeaning.{IsCut, Rows, Fault, Means, Progress, Judged, judged, after_line, may_take, delivers, taken, Stands, Fails, InBase, BetweenGroups, InGroup, Ends, line_after, counted, left_open, is_open, has_line_feed, has_bytes}
@@ -10,6 +10,7 @@ use Rattle.fetch_rules.specs.RecordGrowth.{OneIsRead}
 use Rattle.fetch_rules.specs.declared.seen.SeenFault.{SeenFault}
 use Rattle.fetch_rules.specs.declared.seen.SeenFault.TheVariants.{BadRow, RepeatedId}
 use Rattle.fetch_rules.proofs.CutLemmas.{same_lines, no_header}
+use Rattle.fetch_rules.proofs.JudgedLemmas.{no_stand, same_progress, rows_no_fault, same_rows}
 
 any_weaker : {X : Type 0} (p q : X → Bool) (xs : List X) → ((x : X) → p x ≡ true → q x ≡ true) → list_any p xs ≡ true → list_any q xs ≡ true
 any_weaker p q [] f e = e
@@ -17,9 +18,6 @@ any_weaker p q (x ∷ xs) f e = elim (or_cases (p x) (list_any p xs) e) [
   | inl first ↦ or_left _ _ (f x first)
   | inr later ↦ or_right _ _ (any_weaker p q xs f later)
 ]
-
-all_true : (a b c : Bool) → a ≡ true → b ≡ true → c ≡ true → (a && (b && c)) ≡ true
-all_true a b c p q r = ap (λ x. x && (b && c)) p ∙ ap (λ x. x && c) q ∙ r
 
 -- what a group may hold in version 1 it may hold in version 2
 may_take_more : (rows : List Row) (row : Row) → may_take One rows row ≡ true → may_take Two rows row ≡ true
@@ -30,14 +28,8 @@ may_take_more rows row e = elim (or_cases (not (has_row rows row.uid)) (delivers
       or_right _ _ (ap (λ b. b && list_any (λ (o : Row). is_of row.uid o && (true && (o.first_seen == row.first_seen))) rows) parts.0
       ∙ any_weaker (λ (o : Row). is_of row.uid o && (not o.delivered && (o.first_seen == row.first_seen))) (λ (o : Row). is_of row.uid o && (true && (o.first_seen == row.first_seen))) rows
       (λ o h. let both = and_parts (is_of row.uid o) (not o.delivered && (o.first_seen == row.first_seen)) h in
-      all_true (is_of row.uid o) true (o.first_seen == row.first_seen) both.0 refl (and_parts (not o.delivered) (o.first_seen == row.first_seen) both.1).1) parts.1)
+      and_from (is_of row.uid o) (o.first_seen == row.first_seen) both.0 (and_parts (not o.delivered) (o.first_seen == row.first_seen) both.1).1) parts.1)
 ]
-
-stands_not : (fault : SeenFault) (progress : Progress) → Fails fault ≡ Stands progress → ⊥
-stands_not fault progress e = cc
-
-same_progress : (p q : Progress) → Stands p ≡ Stands q → p ≡ q
-same_progress p q e = cc
 
 abbrev Stays : ℕ → Progress → Line → Progress → Type 0
 Stays n p line q = (after_line Two n p line ≡ Stands q) × (left_open q ≡ None)
@@ -47,42 +39,42 @@ step : (n : ℕ) (p : Progress) (line : Line) (q : Progress) → left_open p ≡
 step n (InBase rows) (RowLine row) q none e = by (has_row rows row.uid) refl
   where
     by : (b : Bool) → has_row rows row.uid ≡ b → Stays n (InBase rows) (RowLine row) q
-    by true h = absurd (stands_not (RepeatedId (line_after n)) q (ap (λ b. cond b (Fails (RepeatedId (line_after n))) (Stands (InBase (rows ++ row ∷ [])))) (sym h) ∙ e))
+    by true h = absurd (no_stand (ap (λ b. cond b (Fails (RepeatedId (line_after n))) (Stands (InBase (rows ++ row ∷ [])))) (sym h) ∙ e))
     by false h =
-        let is : InBase (rows ++ row ∷ []) ≡ q = same_progress _ _ (ap (λ b. cond b (Fails (RepeatedId (line_after n))) (Stands (InBase (rows ++ row ∷ [])))) (sym h) ∙ e) in
+        let is : InBase (rows ++ row ∷ []) ≡ q = same_progress (ap (λ b. cond b (Fails (RepeatedId (line_after n))) (Stands (InBase (rows ++ row ∷ [])))) (sym h) ∙ e) in
         (e, sym (ap left_open is))
-step n (InBase rows) (GroupLine count) q none e = (e, sym (ap left_open (same_progress (InGroup rows None rows (count - 1)) q e)))
-step n (InBase rows) (IntentLine intent) q none e = absurd (stands_not (BadRow (line_after n)) q e)
-step n (BetweenGroups rows before) (RowLine row) q none e = absurd (stands_not (BadRow (line_after n)) q e)
-step n (BetweenGroups rows before) (GroupLine count) q none e = (e, sym (ap left_open (same_progress (InGroup rows before rows (count - 1)) q e)) ∙ none)
-step n (BetweenGroups rows before) (IntentLine intent) q none e = absurd (stands_not (BadRow (line_after n)) q e)
+step n (InBase rows) (GroupLine count) q none e = (e, sym (ap left_open (same_progress e)))
+step n (InBase rows) (IntentLine intent) q none e = absurd (no_stand e)
+step n (BetweenGroups rows before) (RowLine row) q none e = absurd (no_stand e)
+step n (BetweenGroups rows before) (GroupLine count) q none e = (e, sym (ap left_open (same_progress e)) ∙ none)
+step n (BetweenGroups rows before) (IntentLine intent) q none e = absurd (no_stand e)
 step n (InGroup old before rows zero) (RowLine row) q none e = by (may_take One rows row) refl
   where
     by : (b : Bool) → may_take One rows row ≡ b → Stays n (InGroup old before rows zero) (RowLine row) q
-    by false h = absurd (stands_not (RepeatedId (line_after n)) q (ap (λ b. cond b (Stands (BetweenGroups (taken rows row) None)) (Fails (RepeatedId (line_after n)))) (sym h) ∙ e))
+    by false h = absurd (no_stand (ap (λ b. cond b (Stands (BetweenGroups (taken rows row) None)) (Fails (RepeatedId (line_after n)))) (sym h) ∙ e))
     by true h =
-        let is : BetweenGroups (taken rows row) None ≡ q = same_progress _ _ (ap (λ b. cond b (Stands (BetweenGroups (taken rows row) None)) (Fails (RepeatedId (line_after n)))) (sym h) ∙ e) in
+        let is : BetweenGroups (taken rows row) None ≡ q = same_progress (ap (λ b. cond b (Stands (BetweenGroups (taken rows row) None)) (Fails (RepeatedId (line_after n)))) (sym h) ∙ e) in
         (ap (λ b. cond b (Stands (BetweenGroups (taken rows row) None)) (Fails (RepeatedId (line_after n)))) (may_take_more rows row h) ∙ ap Stands is, sym (ap left_open is))
 step n (InGroup old before rows (suc more)) (RowLine row) q none e = by (may_take One rows row) refl
   where
     by : (b : Bool) → may_take One rows row ≡ b → Stays n (InGroup old before rows (suc more)) (RowLine row) q
-    by false h = absurd (stands_not (RepeatedId (line_after n)) q (ap (λ b. cond b (Stands (InGroup old before (taken rows row) more)) (Fails (RepeatedId (line_after n)))) (sym h) ∙ e))
+    by false h = absurd (no_stand (ap (λ b. cond b (Stands (InGroup old before (taken rows row) more)) (Fails (RepeatedId (line_after n)))) (sym h) ∙ e))
     by true h =
-        let is : InGroup old before (taken rows row) more ≡ q = same_progress _ _ (ap (λ b. cond b (Stands (InGroup old before (taken rows row) more)) (Fails (RepeatedId (line_after n)))) (sym h) ∙ e) in
+        let is : InGroup old before (taken rows row) more ≡ q = same_progress (ap (λ b. cond b (Stands (InGroup old before (taken rows row) more)) (Fails (RepeatedId (line_after n)))) (sym h) ∙ e) in
         (ap (λ b. cond b (Stands (InGroup old before (taken rows row) more)) (Fails (RepeatedId (line_after n)))) (may_take_more rows row h) ∙ ap Stands is, sym (ap left_open is) ∙ none)
-step n (InGroup old before rows zero) (GroupLine count) q none e = absurd (stands_not (BadRow (line_after n)) q e)
-step n (InGroup old before rows (suc more)) (GroupLine count) q none e = absurd (stands_not (BadRow (line_after n)) q e)
-step n (InGroup old before rows zero) (IntentLine intent) q none e = absurd (stands_not (BadRow (line_after n)) q e)
-step n (InGroup old before rows (suc more)) (IntentLine intent) q none e = absurd (stands_not (BadRow (line_after n)) q e)
+step n (InGroup old before rows zero) (GroupLine count) q none e = absurd (no_stand e)
+step n (InGroup old before rows (suc more)) (GroupLine count) q none e = absurd (no_stand e)
+step n (InGroup old before rows zero) (IntentLine intent) q none e = absurd (no_stand e)
+step n (InGroup old before rows (suc more)) (IntentLine intent) q none e = absurd (no_stand e)
 
 steps : (n : ℕ) (j : Judged) (p : Progress) (lines : List Line) (q : Progress) → j ≡ Stands p → left_open p ≡ None → judged One n j lines ≡ Stands q
     → (judged Two n j lines ≡ Stands q) × (left_open q ≡ None)
-steps n j p [] q is none e = (e, ap left_open (sym (same_progress p q (sym is ∙ e))) ∙ none)
-steps n (Fails fault) p (line ∷ lines) q is none e = absurd (stands_not fault p is)
+steps n j p [] q is none e = (e, ap left_open (sym (same_progress (sym is ∙ e))) ∙ none)
+steps n (Fails fault) p (line ∷ lines) q is none e = absurd (no_stand is)
 steps n (Stands r) p (line ∷ lines) q is none e = next (after_line One n r line) refl (λ s' none' e'. steps (n + 1) (Stands s') s' lines q refl none' e')
   where
     open_none : left_open r ≡ None
-    open_none = ap left_open (same_progress r p is) ∙ none
+    open_none = ap left_open (same_progress is) ∙ none
 
     next : (k : Judged) → after_line One n r line ≡ k
         → ((s : Progress) → left_open s ≡ None → judged One (n + 1) (Stands s) lines ≡ Stands q → (judged Two (n + 1) (Stands s) lines ≡ Stands q) × (left_open q ≡ None))
@@ -90,32 +82,26 @@ steps n (Stands r) p (line ∷ lines) q is none e = next (after_line One n r lin
     next (Fails fault) k ih = absurd (fails_stay (n + 1) fault lines (ap (λ (x : Judged). judged One (n + 1) x lines) (sym k) ∙ e))
       where
         fails_stay : (m : ℕ) (f : SeenFault) (ls : List Line) → judged One m (Fails f) ls ≡ Stands q → ⊥
-        fails_stay m f [] h = stands_not f q h
-        fails_stay m f (l ∷ ls) h = stands_not f q h
+        fails_stay m f [] h = no_stand h
+        fails_stay m f (l ∷ ls) h = no_stand h
     next (Stands s) k ih =
         let one = step n r line s open_none k in
         let more = ih s one.1 (ap (λ (x : Judged). judged One (n + 1) x lines) (sym k) ∙ e) in
         (ap (λ (x : Judged). judged Two (n + 1) x lines) one.0 ∙ more.0, more.1)
 
-no_fault : (version : Version) (rows : List Row) (intent : Option Intent) (torn : Bool) (fault : SeenFault) → Rows version rows intent torn ≡ Fault fault → ⊥
-no_fault version rows intent torn fault e = cc
-
-same_rows : (v w : Version) (r s : List Row) (i j : Option Intent) (a b : Bool) → Rows v r i a ≡ Rows w s j b → (v ≡ w) × (r ≡ s) × (i ≡ j) × (a ≡ b)
-same_rows v w r s i j a b e = (cc, cc, cc, cc)
-
 ends : (rest : List ℕ) (version : Version) (rows : List Row) (intent : Option Intent) (torn : Bool) (lines : List Line) (tail : List ℕ) (j : Judged) → IsCut One (header One ++ rest) lines tail
     → judged One 0 (Stands (InBase [])) lines ≡ j → Ends One (length lines) j tail (Rows version rows intent torn)
     → (version ≡ One) × (intent ≡ None) × Means (header Two ++ rest) (Rows Two rows None torn)
-ends rest version rows intent torn lines tail (Fails fault) cut is e = absurd (no_fault version rows intent torn fault e)
+ends rest version rows intent torn lines tail (Fails fault) cut is e = absurd (rows_no_fault e)
 ends rest version rows intent torn lines tail (Stands p) cut is e = by (has_line_feed tail) refl
   where
     two : (judged Two 0 (Stands (InBase [])) lines ≡ Stands p) × (left_open p ≡ None)
     two = steps 0 (Stands (InBase [])) (InBase []) lines p refl refl is
 
     by : (b : Bool) → has_line_feed tail ≡ b → (version ≡ One) × (intent ≡ None) × Means (header Two ++ rest) (Rows Two rows None torn)
-    by true feed = absurd (no_fault version rows intent torn (BadRow (line_after (length lines))) (e.1 ∙ ap (λ (b : Bool). cond b (Fault (BadRow (line_after (length lines)))) (Rows One (counted p) (left_open p) (is_open p || has_bytes tail))) feed))
+    by true feed = absurd (rows_no_fault (e.1 ∙ ap (λ (b : Bool). cond b (Fault (BadRow (line_after (length lines)))) (Rows One (counted p) (left_open p) (is_open p || has_bytes tail))) feed))
     by false plain =
-        let same = same_rows _ _ _ _ _ _ _ _ (e.1 ∙ ap (λ (b : Bool). cond b (Fault (BadRow (line_after (length lines)))) (Rows One (counted p) (left_open p) (is_open p || has_bytes tail))) plain) in (
+        let same = same_rows (e.1 ∙ ap (λ (b : Bool). cond b (Fault (BadRow (line_after (length lines)))) (Rows One (counted p) (left_open p) (is_open p || has_bytes tail))) plain) in (
           same.0,
           same.2 ∙ two.1,
           inr (inr (record {

@@ -157,7 +157,7 @@ pub record HasPlanned (settings : Settings) (rows : List Row) (listing : List It
   pub steps_are : steps ≡ take i (planned settings rows listing now)
   pub count_is : count ≡ count_by (is_candidate settings rows listing) (take i (numbered listing))
 
-message_at : (listing : List Item) (i : ℕ) (d : Item) → i < length listing → get_or (numbered listing) i (0, d) ≡ (i + 1, get_or listing i d)
+pub message_at : (listing : List Item) (i : ℕ) (d : Item) → i < length listing → get_or (numbered listing) i (0, d) ≡ (i + 1, get_or listing i d)
 message_at listing i d inside = get_or-enumerate_from 1 listing i (0, d) inside ∙ ap (λ (n : ℕ). (n, get_or listing i d)) (omega arith)
 
 pub HasPlanned-more : (settings : Settings) (rows : List Row) (listing : List Item) (now i : ℕ) (steps : List Step) (count : ℕ) (candidate fetched deleted : Bool) (next : ℕ)

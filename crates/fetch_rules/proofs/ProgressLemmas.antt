@@ -18,6 +18,7 @@ use Rattle.fetch_rules.specs.declared.seen.reading.End.TheVariants.{Counted, Ope
 use Rattle.fetch_rules.proofs.LineLemmas.{body_of, no_line}
 use Rattle.fetch_rules.proofs.CutLemmas.{one_meaning}
 use Rattle.fetch_rules.proofs.ReadLemmas.{IsBehind, behind_header, behind_more, behind_fails}
+use Rattle.fetch_rules.proofs.JudgedLemmas.{rows_no_fault, same_rows}
 
 pub record Reads (bytes : List ℕ) (older : Bool) (part : Part) (intent : Option Intent) (rows : List Row) (rest : List ℕ) (number front : ℕ) : Type 0 where
   pub n : ℕ
@@ -214,12 +215,6 @@ shorter rest line behind is line_is =
     let b = body_of line is in
     omega (arith, ap length (line_is ∙ b.text_is behind), length-append b.body (10 ∷ behind))
 
-same_parts : (v w : Version) (a b : List Row) (i j : Option Intent) (s t : Bool) → Rows v a i s ≡ Rows w b j t → (a ≡ b) × (i ≡ j) × (s ≡ t)
-same_parts v w a b i j s t e = (cc, cc, cc)
-
-rows_no_fault : (v : Version) (a : List Row) (i : Option Intent) (t : Bool) (fault : SeenFault) → Rows v a i t ≡ Fault fault → ⊥
-rows_no_fault v a i t fault e = cc
-
 -- where a group lacks rows, what stands before it is read again
 pub record StoodOpen (bytes : List ℕ) (older : Bool) (front : ℕ) (intent : Option Intent) : Type 0 where
   pub before : List Row
@@ -233,14 +228,14 @@ pub rows_again : (bytes piece : List ℕ) (older anew : Bool) (front : ℕ) (int
     → EndsAt piece anew end then new → Means bytes (Rows (version_of older) new intent true)
 rows_again bytes piece older anew front intent then rows (Counted torn) new ends is again =
     let at = open_ends bytes older front intent rows ends in
-    let same = same_parts (version_of older) (version_of anew) at.before new intent then false torn (one_meaning piece (Rows (version_of older) at.before intent false) (Rows (version_of anew) new then torn) (subst (λ (xs : List ℕ). Means xs (Rows (version_of older) at.before intent false)) (sym is) at.whole) again) in
-    subst (λ (xs : List Row). Means bytes (Rows (version_of older) xs intent true)) same.0 at.torn
+    let same = same_rows (one_meaning piece (Rows (version_of older) at.before intent false) (Rows (version_of anew) new then torn) (subst (λ (xs : List ℕ). Means xs (Rows (version_of older) at.before intent false)) (sym is) at.whole) again) in
+    subst (λ (xs : List Row). Means bytes (Rows (version_of older) xs intent true)) same.1 at.torn
 rows_again bytes piece older anew front intent then rows (Open further) new ends is again =
     let at = open_ends bytes older front intent rows ends in
     let later = open_ends piece anew further then new again in
-    absurd (true≢false (sym (same_parts (version_of older) (version_of anew) at.before later.before intent then false true (one_meaning piece (Rows (version_of older) at.before intent false) (Rows (version_of anew) later.before then true) (subst (λ (xs : List ℕ). Means xs (Rows (version_of older) at.before intent false)) (sym is) at.whole) later.torn)).2))
+    absurd (true≢false (sym (same_rows (one_meaning piece (Rows (version_of older) at.before intent false) (Rows (version_of anew) later.before then true) (subst (λ (xs : List ℕ). Means xs (Rows (version_of older) at.before intent false)) (sym is) at.whole) later.torn)).3))
 
 pub no_fault_again : (bytes piece : List ℕ) (older : Bool) (front : ℕ) (intent : Option Intent) (rows : List Row) (fault : SeenFault) → EndsAt bytes older (Open front) intent rows → piece ≡ take front bytes → Means piece (Fault fault) → ⊥
 no_fault_again bytes piece older front intent rows fault ends is again =
     let at = open_ends bytes older front intent rows ends in
-    rows_no_fault (version_of older) at.before intent false fault (one_meaning piece (Rows (version_of older) at.before intent false) (Fault fault) (subst (λ (xs : List ℕ). Means xs (Rows (version_of older) at.before intent false)) (sym is) at.whole) again)
+    rows_no_fault (one_meaning piece (Rows (version_of older) at.before intent false) (Fault fault) (subst (λ (xs : List ℕ). Means xs (Rows (version_of older) at.before intent false)) (sym is) at.whole) again)

@@ -6,8 +6,9 @@ use Rattle.std.specs.Bool.{OnTrue}
 use Rattle.std.specs.Global.{Global}
 use Rattle.std.specs.Map.{lookup, set_value}
 use Rattle.std.proofs.Math.Bool.{or-false}
-use Rattle.std.proofs.lemmas.Bool.{true≢false}
+use Rattle.std.proofs.lemmas.Bool.{true≢false, or_parts}
 use Rattle.std.proofs.lemmas.List.Elements.{All-from_get_or, recursion_from_All}
+use Rattle.std.proofs.lemmas.Option.{same_Some, none-some}
 use Rattle.mail_terms.specs.UniqueId.{IsLegalId}
 use Rattle.fetch_rules.specs.Record.{Row, Intent, IsRow, IsRecord, is_of, has_row, marked, with_delivered, is_delivered}
 use Rattle.fetch_rules.specs.RecordFile.{changed, marking, written}
@@ -16,6 +17,7 @@ use Rattle.fetch_rules.specs.Rows.{row_from, row_of, rows_of, state_of, state_in
 use Rattle.fetch_rules.specs.declared.seen.row_map.State.{State}
 use Rattle.fetch_rules.proofs.IdLemmas.{same_from_test, test_from_same, test_from_other}
 use Rattle.fetch_rules.proofs.RecordLemmas.{with_delivered-false, with_delivered-true, rows_differ, rest_of}
+use Rattle.fetch_rules.proofs.DeliveredLemmas.{changed-same}
 
 pub lookup_state : (uid : List ℕ) (es : List (String Global × State)) → lookup (λ key. bytes_eq uid (string_bytes key)) es ≡ state_in (rows_of es) uid
 lookup_state uid [] = refl
@@ -47,13 +49,10 @@ set_here uid (e ∷ es) state new is found new_is = by (bytes_eq uid (string_byt
         → (lookup (λ key. bytes_eq uid (string_bytes key)) es ≡ Some state → rows_of (set_value (λ key. bytes_eq uid (string_bytes key)) es new) ≡ marked (rows_of es) uid)
         → rows_of (cond here ((e.0, new) ∷ es) (e ∷ set_value (λ key. bytes_eq uid (string_bytes key)) es new)) ≡ marked (row_of e ∷ rows_of es) uid
     by true test at rest =
-        ap (λ (s : State). row_of (e.0, s) ∷ rows_of es) (new_is ∙ ap (λ (s : State). record s { delivered = true }) (sym (some_same e.1 state at)))
+        ap (λ (s : State). row_of (e.0, s) ∷ rows_of es) (new_is ∙ ap (λ (s : State). record s { delivered = true }) (sym (same_Some e.1 state at)))
         ∙ ap (λ (r : Row). r ∷ rows_of es) (sym (with_delivered-true (row_of e)))
         ∙ ap (λ (b : Bool). with_delivered b (row_of e) ∷ rows_of es) (sym test)
         ∙ ap (λ (rs : List Row). with_delivered (is_of uid (row_of e)) (row_of e) ∷ rs) (sym (unmarked uid (rows_of es) (apart uid (row_of e) (rows_of es) is test)))
-      where
-        some_same : (s t : State) → Some s ≡ Some t → s ≡ t
-        some_same s t same = cc
     by false test at rest =
         ap (λ (rs : List Row). row_of e ∷ rs) (rest at)
         ∙ ap (λ (r : Row). r ∷ marked (rows_of es) uid) (sym (with_delivered-false (row_of e)))
@@ -67,47 +66,30 @@ none_here : (uid : List ℕ) (rows : List Row) → state_in rows uid ≡ None �
 none_here uid [] none = tt
 none_here uid (row ∷ rows) none = by (is_of uid row) refl none (λ at. none_here uid rows at)
   where
-    no_some : (s : State) → Some s ≡ None → ⊥
-    no_some s e = cc
-
     by : (here : Bool) → is_of uid row ≡ here → option_map state_of (cond here (Some row) (find (is_of uid) rows)) ≡ None
         → (state_in rows uid ≡ None → AllByRecursion (λ other. is_of uid other ≡ false) rows) → AllByRecursion (λ other. is_of uid other ≡ false) (row ∷ rows)
-    by true test at rest = absurd (no_some (state_of row) at)
+    by true test at rest = absurd (none-some (state_of row) (sym at))
     by false test at rest = (test, rest at)
 
 pub unmarked_none : (uid : List ℕ) (rows : List Row) → state_in rows uid ≡ None → marked rows uid ≡ rows
 unmarked_none uid rows none = unmarked uid rows (none_here uid rows none)
 
 -- what a mark changes
-pub unchanged : (rows : List Row) → changed rows rows ≡ []
-unchanged [] = refl
-unchanged (row ∷ rows) = by row.delivered (unchanged rows)
-  where
-    by : (d : Bool) → changed rows rows ≡ [] → cond (d && not d) (row ∷ changed rows rows) (changed rows rows) ≡ []
-    by true rest = rest
-    by false rest = rest
-
 pub changed-marked : (uid : List ℕ) (rows : List Row) (state : State) → IsRecord rows → state_in rows uid ≡ Some state → state.delivered ≡ false
     → changed rows (marked rows uid) ≡ record { uid = uid; first_seen = state.first_seen; delivered = true } ∷ []
-changed-marked uid [] state is found fresh = absurd (no_none state found)
-  where
-    no_none : (s : State) → None ≡ Some s → ⊥
-    no_none s e = cc
+changed-marked uid [] state is found fresh = absurd (none-some state found)
 changed-marked uid (row ∷ rows) state is found fresh = by (is_of uid row) refl found (λ at. changed-marked uid rows state (rest_of row rows is) at fresh)
   where
-    some_same : (s t : State) → Some s ≡ Some t → s ≡ t
-    some_same s t same = cc
-
     by : (here : Bool) → is_of uid row ≡ here → option_map state_of (cond here (Some row) (find (is_of uid) rows)) ≡ Some state
         → (state_in rows uid ≡ Some state → changed rows (marked rows uid) ≡ record { uid = uid; first_seen = state.first_seen; delivered = true } ∷ [])
         → changed (row ∷ rows) (marked (row ∷ rows) uid) ≡ record { uid = uid; first_seen = state.first_seen; delivered = true } ∷ []
     by true test at rest =
-        let same = some_same (state_of row) state at in
+        let same = same_Some (state_of row) state at in
         ap (λ (rs : List Row). changed (row ∷ rows) (with_delivered (is_of uid row) row ∷ rs)) (unmarked uid rows (apart uid row rows is test))
         ∙ ap (λ (b : Bool). changed (row ∷ rows) (with_delivered b row ∷ rows)) test
         ∙ ap (λ (r : Row). changed (row ∷ rows) (r ∷ rows)) (with_delivered-true row)
         ∙ ap (λ (d : Bool). cond (true && not d) (record row { delivered = true } ∷ changed rows rows) (changed rows rows)) (ap (λ (s : State). s.delivered) same ∙ fresh)
-        ∙ ap (λ (rs : List Row). record row { delivered = true } ∷ rs) (unchanged rows)
+        ∙ ap (λ (rs : List Row). record row { delivered = true } ∷ rs) (changed-same rows)
         ∙ ap (λ (u : List ℕ). record { uid = u; first_seen = row.first_seen; delivered = true } ∷ []) (sym (same_from_test uid row.uid test))
         ∙ ap (λ (s : State). record { uid = uid; first_seen = s.first_seen; delivered = true } ∷ []) same
     by false test at rest =
@@ -127,15 +109,9 @@ none_kept uid (row ∷ rows) none = ap (λ (b : Bool). cond b (row ∷ filter (i
 -- the one row of an id behind a mark
 pub filter-marked : (uid : List ℕ) (rows : List Row) (state : State) → IsRecord rows → state_in rows uid ≡ Some state
     → filter (is_of uid) (marked rows uid) ≡ record { uid = uid; first_seen = state.first_seen; delivered = true } ∷ []
-filter-marked uid [] state is found = absurd (no_none state found)
-  where
-    no_none : (s : State) → None ≡ Some s → ⊥
-    no_none s e = cc
+filter-marked uid [] state is found = absurd (none-some state found)
 filter-marked uid (row ∷ rows) state is found = by (is_of uid row) refl found (λ at. filter-marked uid rows state (rest_of row rows is) at)
   where
-    some_same : (s t : State) → Some s ≡ Some t → s ≡ t
-    some_same s t same = cc
-
     by : (here : Bool) → is_of uid row ≡ here → option_map state_of (cond here (Some row) (find (is_of uid) rows)) ≡ Some state
         → (state_in rows uid ≡ Some state → filter (is_of uid) (marked rows uid) ≡ record { uid = uid; first_seen = state.first_seen; delivered = true } ∷ [])
         → filter (is_of uid) (marked (row ∷ rows) uid) ≡ record { uid = uid; first_seen = state.first_seen; delivered = true } ∷ []
@@ -146,7 +122,7 @@ filter-marked uid (row ∷ rows) state is found = by (is_of uid row) refl found 
         ∙ ap (λ (rs : List Row). record row { delivered = true } ∷ filter (is_of uid) rs) (unmarked uid rows (apart uid row rows is test))
         ∙ ap (λ (rs : List Row). record row { delivered = true } ∷ rs) (none_kept uid rows (apart uid row rows is test))
         ∙ ap (λ (u : List ℕ). record { uid = u; first_seen = row.first_seen; delivered = true } ∷ []) (sym (same_from_test uid row.uid test))
-        ∙ ap (λ (s : State). record { uid = uid; first_seen = s.first_seen; delivered = true } ∷ []) (some_same (state_of row) state at)
+        ∙ ap (λ (s : State). record { uid = uid; first_seen = s.first_seen; delivered = true } ∷ []) (same_Some (state_of row) state at)
     by false test at rest =
         ap (λ (b : Bool). cond b (with_delivered (is_of uid row) row ∷ filter (is_of uid) (marked rows uid)) (filter (is_of uid) (marked rows uid))) test
         ∙ rest at
@@ -159,7 +135,7 @@ mark_is_written None uid rows state is found (inr some) = absurd (some refl)
 mark_is_written (Some intent) uid rows state is found why = filter-marked uid rows state is found
 
 pub none_written : (intent : Option Intent) (uid : List ℕ) (rows : List Row) → intent ≡ None → written (marking intent uid rows rows) ≡ []
-none_written intent uid rows none = ap (λ (i : Option Intent). written (marking i uid rows rows)) none ∙ ap written (unchanged rows)
+none_written intent uid rows none = ap (λ (i : Option Intent). written (marking i uid rows rows)) none ∙ ap written (changed-same rows)
 
 -- where a mark changes nothing
 pub marked_parts : (delivered : Bool) (intent : Option Intent) (result : Bool) → result ≡ (delivered && not (has_intent intent)) → result ≡ true → (delivered ≡ true) × (intent ≡ None)
@@ -171,24 +147,18 @@ marked_parts false (Some intent) result is here = absurd (true≢false (sym here
 pub unmarked_parts : (delivered : Bool) (intent : Option Intent) (result : Bool) → result ≡ (delivered && not (has_intent intent)) → result ≡ false → (delivered ≡ false) ⊎ (intent ≢ None)
 unmarked_parts false intent result is here = inl refl
 unmarked_parts true None result is here = absurd (true≢false (sym is ∙ here))
-unmarked_parts true (Some intent) result is here = inr (no_some intent)
-  where
-    no_some : (i : Intent) → Some i ≢ None
-    no_some i e = cc
+unmarked_parts true (Some intent) result is here = inr (λ e. none-some intent (sym e))
 
 -- an id that was delivered stays as it is
 pub marked-delivered : (uid : List ℕ) (rows : List Row) (state : State) → IsRecord rows → state_in rows uid ≡ Some state → state.delivered ≡ true → marked rows uid ≡ rows
 marked-delivered uid [] state is found old = refl
 marked-delivered uid (row ∷ rows) state is found old = by (is_of uid row) refl found (λ at. marked-delivered uid rows state (rest_of row rows is) at old)
   where
-    some_same : (s t : State) → Some s ≡ Some t → s ≡ t
-    some_same s t same = cc
-
     by : (here : Bool) → is_of uid row ≡ here → option_map state_of (cond here (Some row) (find (is_of uid) rows)) ≡ Some state
         → (state_in rows uid ≡ Some state → marked rows uid ≡ rows) → marked (row ∷ rows) uid ≡ row ∷ rows
     by true test at rest =
         ap (λ (b : Bool). with_delivered b row ∷ marked rows uid) test
-        ∙ ap (λ (r : Row). r ∷ marked rows uid) (with_delivered-true row ∙ ap (λ (d : Bool). record row { delivered = d }) (sym (ap (λ (s : State). s.delivered) (some_same (state_of row) state at) ∙ old)))
+        ∙ ap (λ (r : Row). r ∷ marked rows uid) (with_delivered-true row ∙ ap (λ (d : Bool). record row { delivered = d }) (sym (ap (λ (s : State). s.delivered) (same_Some (state_of row) state at) ∙ old)))
         ∙ ap (λ (rs : List Row). row ∷ rs) (unmarked uid rows (apart uid row rows is test))
     by false test at rest =
         ap (λ (b : Bool). with_delivered b row ∷ marked rows uid) test
@@ -204,59 +174,56 @@ mark_changes uid rows new state is found new_is = by state.delivered refl
   where
     by : (d : Bool) → state.delivered ≡ d → OnTrue (not d) (new ≢ rows)
     by true old = tt
-    by false fresh = λ same. no_nil _ (sym (changed-marked uid rows state is found fresh) ∙ ap (changed rows) (sym new_is ∙ same) ∙ unchanged rows)
+    by false fresh = λ same. no_nil _ (sym (changed-marked uid rows state is found fresh) ∙ ap (changed rows) (sym new_is ∙ same) ∙ changed-same rows)
 
-not_delivered : (uid : List ℕ) (rows : List Row) → AllByRecursion (λ other. is_of uid other ≡ false) rows → is_delivered rows uid ≡ false
-not_delivered uid [] none = refl
-not_delivered uid (row ∷ rows) none = ap (λ (b : Bool). (b && row.delivered) || is_delivered rows uid) none.0 ∙ not_delivered uid rows none.1
+none_of : (q : State → Bool) (uid : List ℕ) (rows : List Row) → AllByRecursion (λ other. is_of uid other ≡ false) rows → list_any (λ row. is_of uid row && q (state_of row)) rows ≡ false
+none_of q uid [] none = refl
+none_of q uid (row ∷ rows) none = ap (λ (b : Bool). (b && q (state_of row)) || list_any (λ other. is_of uid other && q (state_of other)) rows) none.0 ∙ none_of q uid rows none.1
+
+-- what holds of some row of an id holds of its state
+pub any_of : (q : State → Bool) (uid : List ℕ) (rows : List Row) (state : State) → IsRecord rows → state_in rows uid ≡ Some state → list_any (λ row. is_of uid row && q (state_of row)) rows ≡ q state
+any_of q uid [] state is found = absurd (none-some state found)
+any_of q uid (row ∷ rows) state is found = by (is_of uid row) refl found (λ at. any_of q uid rows state (rest_of row rows is) at)
+  where
+    by : (here : Bool) → is_of uid row ≡ here → option_map state_of (cond here (Some row) (find (is_of uid) rows)) ≡ Some state
+        → (state_in rows uid ≡ Some state → list_any (λ other. is_of uid other && q (state_of other)) rows ≡ q state) → list_any (λ other. is_of uid other && q (state_of other)) (row ∷ rows) ≡ q state
+    by true test at rest =
+        ap (λ (b : Bool). (b && q (state_of row)) || list_any (λ other. is_of uid other && q (state_of other)) rows) test
+        ∙ ap (λ (b : Bool). q (state_of row) || b) (none_of q uid rows (apart uid row rows is test))
+        ∙ or-false (q (state_of row))
+        ∙ ap q (same_Some (state_of row) state at)
+    by false test at rest =
+        ap (λ (b : Bool). (b && q (state_of row)) || list_any (λ other. is_of uid other && q (state_of other)) rows) test
+        ∙ rest at
 
 pub is_delivered-none : (uid : List ℕ) (rows : List Row) → state_in rows uid ≡ None → is_delivered rows uid ≡ false
-is_delivered-none uid rows none = not_delivered uid rows (none_here uid rows none)
+is_delivered-none uid rows none = none_of (λ state. state.delivered) uid rows (none_here uid rows none)
 
 pub is_delivered-some : (uid : List ℕ) (rows : List Row) (state : State) → IsRecord rows → state_in rows uid ≡ Some state → is_delivered rows uid ≡ state.delivered
-is_delivered-some uid [] state is found = absurd (no_none state found)
-  where
-    no_none : (s : State) → None ≡ Some s → ⊥
-    no_none s e = cc
-is_delivered-some uid (row ∷ rows) state is found = by (is_of uid row) refl found (λ at. is_delivered-some uid rows state (rest_of row rows is) at)
-  where
-    some_same : (s t : State) → Some s ≡ Some t → s ≡ t
-    some_same s t same = cc
-
-    or_false : (d : Bool) → d || false ≡ d
-    or_false true = refl
-    or_false false = refl
-
-    by : (here : Bool) → is_of uid row ≡ here → option_map state_of (cond here (Some row) (find (is_of uid) rows)) ≡ Some state
-        → (state_in rows uid ≡ Some state → is_delivered rows uid ≡ state.delivered) → is_delivered (row ∷ rows) uid ≡ state.delivered
-    by true test at rest =
-        ap (λ (b : Bool). (b && row.delivered) || is_delivered rows uid) test
-        ∙ ap (λ (b : Bool). row.delivered || b) (not_delivered uid rows (apart uid row rows is test))
-        ∙ or_false row.delivered
-        ∙ ap (λ (s : State). s.delivered) (some_same (state_of row) state at)
-    by false test at rest =
-        ap (λ (b : Bool). (b && row.delivered) || is_delivered rows uid) test
-        ∙ rest at
+is_delivered-some uid rows state is found = any_of (λ s. s.delivered) uid rows state is found
 
 -- a row says of its id whether it was delivered
 pub is_delivered-at : (rows : List Row) (i : ℕ) (d : Row) → IsRecord rows → i < length rows → is_delivered rows (get_or rows i d).uid ≡ (get_or rows i d).delivered
 is_delivered-at [] i d is inside = absurd (omega (arith, inside))
 is_delivered-at (row ∷ rows) zero d is inside =
     ap (λ (b : Bool). (b && row.delivered) || is_delivered rows row.uid) (test_from_same row.uid row.uid refl)
-    ∙ ap (λ (b : Bool). row.delivered || b) (not_delivered row.uid rows (apart row.uid row rows is (test_from_same row.uid row.uid refl)))
+    ∙ ap (λ (b : Bool). row.delivered || b) (none_of (λ state. state.delivered) row.uid rows (apart row.uid row rows is (test_from_same row.uid row.uid refl)))
     ∙ or-false row.delivered
 is_delivered-at (row ∷ rows) (suc i) d is inside =
     ap (λ (b : Bool). (b && row.delivered) || is_delivered rows (get_or rows i d).uid)
     (test_from_other (get_or rows i d).uid row.uid (λ same. rows_differ (row ∷ rows) is 0 (suc i) d (omega arith) (omega (arith, inside)) (sym same)))
     ∙ is_delivered-at rows i d (rest_of row rows is) (omega (arith, inside))
 
+pub no_row : (uid : List ℕ) (rows : List Row) → has_row rows uid ≡ false → AllByRecursion (λ other. is_of uid other ≡ false) rows
+no_row uid [] none = tt
+no_row uid (row ∷ rows) none = let parts = or_parts (is_of uid row) (has_row rows uid) none in (parts.0, no_row uid rows parts.1)
+
+nowhere : (uid : List ℕ) (rows : List Row) → AllByRecursion (λ other. is_of uid other ≡ false) rows → state_in rows uid ≡ None
+nowhere uid [] none = refl
+nowhere uid (row ∷ rows) none = ap (λ (here : Bool). option_map state_of (cond here (Some row) (find (is_of uid) rows))) none.0 ∙ nowhere uid rows none.1
+
 pub state_in-none : (uid : List ℕ) (rows : List Row) → list_any (is_of uid) rows ≡ false → state_in rows uid ≡ None
-state_in-none uid [] none = refl
-state_in-none uid (row ∷ rows) none = by (is_of uid row) none (λ at. state_in-none uid rows at)
-  where
-    by : (here : Bool) → here || list_any (is_of uid) rows ≡ false → (list_any (is_of uid) rows ≡ false → state_in rows uid ≡ None) → option_map state_of (cond here (Some row) (find (is_of uid) rows)) ≡ None
-    by true at rest = absurd (true≢false at)
-    by false at rest = rest at
+state_in-none uid rows none = nowhere uid rows (no_row uid rows none)
 
 pub rows_of-append : (es fs : List (String Global × State)) → rows_of (es ++ fs) ≡ rows_of es ++ rows_of fs
 rows_of-append [] fs = refl
@@ -292,10 +259,6 @@ illegal uid (row ∷ rows) each bad = (
 
 pub no_state : (uid : List ℕ) (rows : List Row) → IsRecord rows → (IsLegalId uid → ⊥) → None ≡ state_in rows uid
 no_state uid rows is bad = sym (nowhere uid rows (illegal uid rows (recursion_from_All IsRow rows is.each) bad))
-  where
-    nowhere : (uid : List ℕ) (rows : List Row) → AllByRecursion (λ other. is_of uid other ≡ false) rows → state_in rows uid ≡ None
-    nowhere uid [] none = refl
-    nowhere uid (row ∷ rows) none = ap (λ (here : Bool). option_map state_of (cond here (Some row) (find (is_of uid) rows))) none.0 ∙ nowhere uid rows none.1
 
 pub no_mark : (uid : List ℕ) (rows : List Row) → IsRecord rows → (IsLegalId uid → ⊥) → rows ≡ marked rows uid
 no_mark uid rows is bad = sym (unmarked uid rows (illegal uid rows (recursion_from_All IsRow rows is.each) bad))

@@ -1,6 +1,5 @@
 -- Texts split into lines.
-use Rattle.std.proofs.Common.{◌≡◌, inl, inr, ℕ, zero, suc, ◌+◌, ◌<◌, List, [], ◌∷◌, ◌-◌, Option, Some, None, length, take, drop, refl, arith, sym}
-use Rattle.std.proofs.lemmas.Grind.{common_steps}
+use Rattle.std.proofs.Common.{◌≡◌, inl, inr, ℕ, zero, suc, ◌+◌, ◌<◌, List, [], ◌∷◌, Option, Some, None, length, take, drop, refl, arith, sym}
 use Rattle.std.specs.List.{position_or_len}
 use Rattle.std.specs.Option.{unwrap_or}
 use Rattle.std.proofs.lemmas.Bool.{false_from_ne_true}
@@ -42,8 +41,3 @@ first_text_line (byte ∷ rest) (suc n) h some = elim (eqb_tells byte 10) [
       let step : suc n + 1 ≡ suc (n + 1) = omega arith in
       rw (p.0, step, first_text_line rest n (omega arith) (omega arith)) refl
 ]
-
--- ---- a line of a text holds no LF
-
-pub to_end : (bytes : List ℕ) (n : ℕ) → take (length bytes - n) (drop n bytes) ≡ drop n bytes
-to_end bytes n = grind (arith, common_steps)

@@ -5,15 +5,15 @@ use Rattle.rc_file.specs.SectionReading.{key_fault}
 use Rattle.rc_file.specs.Answer.{fault_in}
 use Rattle.rc_file.specs.KeyTable.{all_keys}
 use Rattle.rc_file.specs.RcMeaning.{Warned, too_long, first_bad, missing_section, fault_at, first_fault, faults_of, settings_in, warnings_in, meant, rc_meaning}
-use Rattle.rc_file.specs.RowReading.{row_at, rows_in}
+use Rattle.rc_file.specs.RowReading.{rows_in}
 use Rattle.rc_file.specs.FileRows.{RcRow, rows_of}
 use Rattle.rc_file.specs.Settings.{Content}
 use Rattle.rc_file.specs.declared.fault.RcFault.{RcFault}
 use Rattle.rc_file.specs.declared.fault.RcFault.TheVariants.{TooLong}
 use Rattle.rc_file.specs.declared.key.Section.TheVariants.{Retriever, Destination}
-use Rattle.rc_file.specs.declared.row.Entry.{Entry}
 use Rattle.rc_file.specs.declared.row.ReadRow.{ReadRow}
 use Rattle.rc_file.proofs.ValueLemmas.{first_fault-here, first_fault-next}
+use Rattle.rc_file.proofs.RowLemmas.{good_row}
 
 fault_in-meant : (fault : Option RcFault) (rows : List RcRow) → fault_in (meant fault rows) ≡ fault
 fault_in-meant None rows = refl
@@ -45,10 +45,6 @@ bad_meant bytes fault within found =
 good_rows : (read : List ReadRow) → first_bad (rows_in read) ≡ None
 good_rows [] = refl
 good_rows (row ∷ read) = good_row row.line row.section.now row.entry (rows_in read) ∙ good_rows read
-  where
-    good_row : (n : ℕ) (name : List ℕ) (entry : Option Entry) (others : List RcRow) → first_bad (row_at n name entry ∷ others) ≡ first_bad others
-    good_row n name None others = refl
-    good_row n name (Some entry) others = refl
 
 pub from_sections : (bytes : List ℕ) (read : List ReadRow) → length bytes ≤ 65536
     → first_fault (faults_of bytes (rows_in read))

@@ -2,6 +2,7 @@
 use Rattle.std.proofs.Common.{◌≡◌, ℕ, ◌+◌, ◌-◌, ◌<◌, ◌≤◌, suc, zero, Result, Ok, Err, List, [], ◌∷◌, ◌++◌, length, take, get_or, set, map, true, false, Option, Some, None, sym, ap, ◌∙◌, refl, inl, inr, arith}
 use Rattle.std.proofs.lemmas.List.{append-nil, append_assoc, map-append}
 use Rattle.std.specs.Char.{to_ascii_lowercase}
+use Rattle.std.proofs.lemmas.Bool.{false≢true}
 use Rattle.rc_file.specs.LineRules.{RcLine, skipped, more, section, key, bad}
 use Rattle.rc_file.specs.FileRows.{RcRow, section_row, key_row, bad_row, added, rows_from}
 use Rattle.rc_file.specs.RcMeaning.{first_bad}
@@ -60,14 +61,8 @@ file_rows-key rows n name word value lines within =
 pub file_rows-more : (rows : List RcRow) (row : RcRow) (n : ℕ) (text : List ℕ) (lines : List RcLine) → is_key_row row ≡ true
     → file_rows (rows ++ (row ∷ [])) n (more text ∷ lines) ≡ file_rows (rows ++ (continued_row row (10 ∷ text) ∷ [])) (n + 1) lines
 unfolding file_rows
-file_rows-more rows (section_row m name) n text lines is_key = absurd (none is_key)
-  where
-    none : false ≡ true → ⊥
-    none h = cc
-file_rows-more rows (bad_row m) n text lines is_key = absurd (none is_key)
-  where
-    none : false ≡ true → ⊥
-    none h = cc
+file_rows-more rows (section_row m name) n text lines is_key = absurd (false≢true is_key)
+file_rows-more rows (bad_row m) n text lines is_key = absurd (false≢true is_key)
 file_rows-more rows (key_row m name word value) n text lines is_key =
     rw (
       continued-last rows (key_row m name word value) (10 ∷ (text ++ added lines)),
@@ -80,6 +75,10 @@ file_rows-more rows (key_row m name word value) n text lines is_key =
     (ap (λ (v : List ℕ). (rows ++ (key_row m name word v ∷ [])) ++ rows_from (Some name) true (n + 1) lines) (sym (append_assoc value (10 ∷ text) (added lines))))
 
 -- rows that were read are never bad
+pub good_row : (n : ℕ) (name : List ℕ) (entry : Option Entry) (others : List RcRow) → first_bad (row_at n name entry ∷ others) ≡ first_bad others
+good_row n name None others = refl
+good_row n name (Some entry) others = refl
+
 first_bad-read : (read : List ReadRow) (text : List ℕ) (more_rows : List RcRow) → first_bad (continued (rows_in read) text ++ more_rows) ≡ first_bad more_rows
 first_bad-read [] text others = refl
 first_bad-read (row ∷ []) text others = last_read row.line row.section.now row.entry text others
@@ -88,11 +87,7 @@ first_bad-read (row ∷ []) text others = last_read row.line row.section.now row
     last_read n name None text others = refl
     last_read n name (Some entry) text others = refl
 first_bad-read (row ∷ next ∷ read) text others =
-    read_before row.line row.section.now row.entry (continued (rows_in (next ∷ read)) text ++ others) ∙ first_bad-read (next ∷ read) text others
-  where
-    read_before : (n : ℕ) (name : List ℕ) (entry : Option Entry) (others : List RcRow) → first_bad (row_at n name entry ∷ others) ≡ first_bad others
-    read_before n name None others = refl
-    read_before n name (Some entry) others = refl
+    good_row row.line row.section.now row.entry (continued (rows_in (next ∷ read)) text ++ others) ∙ first_bad-read (next ∷ read) text others
 
 pub first_bad-bad : (read : List ReadRow) (n : ℕ) (lines : List RcLine) → first_bad (file_rows (rows_in read) n (bad ∷ lines)) ≡ Some (BadLine n)
 unfolding file_rows

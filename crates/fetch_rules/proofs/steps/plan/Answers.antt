@@ -2,7 +2,7 @@ use Rattle.std.proofs.Common.{◌≡◌, ℕ, ◌+◌, Bool, true, false, ◌&&�
 use mir.Val.{bool_byte}
 use Rattle.std.specs.Prelude.{◌==◌, nat_lt}
 use Rattle.std.proofs.lemmas.Bool.{eq-eqb, cases_Bool}
-use Rattle.std.proofs.Math.Bool.{and_comm}
+use Rattle.std.proofs.Math.Bool.{and_comm, and-false}
 use Rattle.mail_terms.specs.Listing.{Item, is_first, is_last}
 use Rattle.fetch_rules.specs.Record.{is_delivered}
 use Rattle.fetch_rules.specs.Wanted.{is_asked_for, is_candidate}
@@ -62,7 +62,7 @@ deleted : (g : _) (c : goal.After-from-candidates g) (item : Item)
     → c.if-alone.delete ≡ is_deleted c.args.settings.now c.args.seen.now.rows c.args.listing.now c.args.now c.if-candidate.retrieve (c.loop-i.i + 1, get_or c.args.listing.now c.loop-i.i item)
 deleted g c item = done_is ∙ elim (cases_Bool (may_delete c.args.settings.now)) [
   | inl asked ↦ and_comm c.if-first.alone done ∙ ap (λ (b : Bool). done && b) (alone g c item asked)
-  | inr never ↦ ap (λ (b : Bool). c.if-first.alone && (b && known)) (never_due c.args.settings.now c.args.now since never) ∙ no_more c.if-first.alone
+  | inr never ↦ ap (λ (b : Bool). c.if-first.alone && (b && known)) (never_due c.args.settings.now c.args.now since never) ∙ and-false c.if-first.alone
       ∙ sym (ap (λ (b : Bool). (b && known) && single) (never_due c.args.settings.now c.args.now since never))
 ]
   where
@@ -77,10 +77,6 @@ deleted g c item = done_is ∙ elim (cases_Bool (may_delete c.args.settings.now)
 
     single : Bool
     single = is_first c.args.listing.now (c.loop-i.i + 1, get_or c.args.listing.now c.loop-i.i item) && is_last c.args.listing.now (c.loop-i.i + 1, get_or c.args.listing.now c.loop-i.i item)
-
-    no_more : (b : Bool) → (b && false) ≡ false
-    no_more true = refl
-    no_more false = refl
 
     done_is : c.if-alone.delete ≡ (c.if-first.alone && done)
     done_is = elim c.if-alone.branch [
