@@ -9,28 +9,19 @@ use Rattle.pop3_wire.specs.declared.unstuffer.Spot.{Spot}
 use Rattle.pop3_wire.specs.declared.unstuffer.Spot.TheVariants.{Start, Dot, DotCr, Middle, Cr, Done}
 use Rattle.pop3_wire.specs.Unstuffing.{Partly, Reaches}
 use Rattle.pop3_wire.proofs.LineLemmas.{cons_same, first_line_same, same_cons, lf_is_not_cr, IsLine-back, IsLine-front}
-use Rattle.pop3_wire.proofs.BodyLemmas.{IsLine-dot, one_body}
+use Rattle.pop3_wire.proofs.BodyLemmas.{IsLine-dot, one_body, ended_first}
 
 -- the lines that were read are the first lines of every body that begins with them
 first_lines : (lines : List (List ℕ)) (rest : List ℕ) (others : List (List ℕ)) → AllByRecursion IsContent lines → AllByRecursion IsContent others
     → flat_map ended lines ++ rest ≡ body_of others → (later : List (List ℕ)) × (others ≡ lines ++ later) × (rest ≡ body_of later)
 first_lines [] rest others content content' e = (others, refl, e)
 first_lines (line ∷ lines) rest [] content content' e =
-    let same = first_line_same line dot (flat_map ended lines ++ rest) [] content.0.0 IsLine-dot (sym first ∙ e) in
+    let same = first_line_same line dot (flat_map ended lines ++ rest) [] content.0.0 IsLine-dot (sym (ended_first line (flat_map ended lines) rest) ∙ e) in
     absurd (content.0.1 same.0)
-  where
-    first : (ended line ++ flat_map ended lines) ++ rest ≡ line ++ (crlf ++ (flat_map ended lines ++ rest))
-    first = simp append_assoc
 first_lines (line ∷ lines) rest (other ∷ others) content content' e =
-    let same = first_line_same line other (flat_map ended lines ++ rest) (body_of others) content.0.0 content'.0.0 (sym first ∙ e ∙ other_first) in
+    let same = first_line_same line other (flat_map ended lines ++ rest) (body_of others) content.0.0 content'.0.0 (sym (ended_first line (flat_map ended lines) rest) ∙ e ∙ ended_first other (flat_map ended others) (ended dot)) in
     let more = first_lines lines rest others content.1 content'.1 same.1 in
     (more.0, cons_same other line others (lines ++ more.0) (sym same.0) more.1, more.2)
-  where
-    first : (ended line ++ flat_map ended lines) ++ rest ≡ line ++ (crlf ++ (flat_map ended lines ++ rest))
-    first = simp append_assoc
-
-    other_first : (ended other ++ flat_map ended others) ++ ended dot ≡ other ++ (crlf ++ (flat_map ended others ++ ended dot))
-    other_first = simp append_assoc
 
 -- no CR LF is split between the two
 Apart : List ℕ → List ℕ → Type 0
@@ -67,12 +58,9 @@ part_begins (b ∷ part) rest [] other is apart e =
     alone [] behind e' = cons_same b 46 [] [] (sym (same_cons 46 b [] behind e').0) refl
     alone (c ∷ p) behind e' = cc
 part_begins (b ∷ part) rest (line ∷ lines) other is apart e =
-    let behind = line_begins (b ∷ part) rest line (body_of lines) is apart (e ∙ first) in
+    let behind = line_begins (b ∷ part) rest line (body_of lines) is apart (e ∙ ended_first line (flat_map ended lines) (ended dot)) in
     (behind.0 ++ (10 ∷ [] ++ text_of lines), ap (λ (l : List ℕ). kept l ++ text_of lines) behind.1 ∙ shown behind.0)
   where
-    first : (ended line ++ flat_map ended lines) ++ ended dot ≡ line ++ (crlf ++ (flat_map ended lines ++ ended dot))
-    first = simp append_assoc
-
     shown : (behind : List ℕ) → kept ((b ∷ part) ++ behind) ++ text_of lines ≡ unstuffed (b ∷ part) ++ (behind ++ (10 ∷ [] ++ text_of lines))
     shown behind =
         let undotted : unstuffed ((b ∷ part) ++ behind) ≡ unstuffed (b ∷ part) ++ behind = grind arith in

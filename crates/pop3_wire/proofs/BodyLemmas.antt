@@ -19,28 +19,25 @@ IsLine-dot (b ∷ []) rest e = cc
 IsLine-dot (b ∷ d ∷ front) rest e = cc
 
 -- ended lines in front, with the parentheses moved
-ended_first : (line : List ℕ) (more rest : List ℕ) → (ended line ++ more) ++ rest ≡ line ++ (crlf ++ (more ++ rest))
+pub ended_first : (line : List ℕ) (more rest : List ℕ) → (ended line ++ more) ++ rest ≡ line ++ (crlf ++ (more ++ rest))
 ended_first line more rest = simp append_assoc
+
+body_first : (line : List ℕ) (lines : List (List ℕ)) (rest : List ℕ) → body_of (line ∷ lines) ++ rest ≡ line ++ (crlf ++ (body_of lines ++ rest))
+body_first line lines rest = simp append_assoc
 
 -- lines of a body, followed by a line that never ends, hold no body
 no_body_in : (lines : List (List ℕ)) (rest : List ℕ) (others : List (List ℕ)) (more : List ℕ) → AllByRecursion IsContent lines → IsLine rest
     → AllByRecursion IsContent others → flat_map ended lines ++ rest ≡ body_of others ++ more → ⊥
 no_body_in [] rest [] more content line content' e = line dot more (e ∙ append_assoc dot crlf more)
 no_body_in [] rest (other ∷ others) more content line content' e =
-    line other ((flat_map ended others ++ ended dot) ++ more) (e ∙ other_first)
-  where
-    other_first : ((ended other ++ flat_map ended others) ++ ended dot) ++ more ≡ other ++ (crlf ++ ((flat_map ended others ++ ended dot) ++ more))
-    other_first = simp append_assoc
+    line other (body_of others ++ more) (e ∙ body_first other others more)
 no_body_in (line ∷ lines) rest [] more content tail content' e =
     let same = first_line_same line dot (flat_map ended lines ++ rest) more content.0.0 IsLine-dot (sym (ended_first line (flat_map ended lines) rest) ∙ e ∙ append_assoc dot crlf more) in
     content.0.1 same.0
 no_body_in (line ∷ lines) rest (other ∷ others) more content tail content' e =
-    let same = first_line_same line other (flat_map ended lines ++ rest) ((flat_map ended others ++ ended dot) ++ more) content.0.0 content'.0.0
-    (sym (ended_first line (flat_map ended lines) rest) ∙ e ∙ other_first) in
+    let same = first_line_same line other (flat_map ended lines ++ rest) (body_of others ++ more) content.0.0 content'.0.0
+    (sym (ended_first line (flat_map ended lines) rest) ∙ e ∙ body_first other others more) in
     no_body_in lines rest others more content.1 tail content'.1 same.1
-  where
-    other_first : ((ended other ++ flat_map ended others) ++ ended dot) ++ more ≡ other ++ (crlf ++ ((flat_map ended others ++ ended dot) ++ more))
-    other_first = simp append_assoc
 
 pub no_body : (bytes rest text : List ℕ) → Reads bytes rest text → IsLine rest → HasNoBody bytes
 no_body bytes rest text reads line body other more is e =
@@ -51,24 +48,15 @@ pub same_lines : (lines others : List (List ℕ)) (x y : List ℕ) → AllByRecu
     → body_of lines ++ x ≡ body_of others ++ y → (lines ≡ others) × (x ≡ y)
 same_lines [] [] x y content content' e = (refl, append_cancel_left (ended dot) x y e)
 same_lines [] (other ∷ others) x y content content' e =
-    let same = first_line_same dot other x (body_of others ++ y) IsLine-dot content'.0.0 (sym (append_assoc dot crlf x) ∙ e ∙ first) in
+    let same = first_line_same dot other x (body_of others ++ y) IsLine-dot content'.0.0 (sym (append_assoc dot crlf x) ∙ e ∙ body_first other others y) in
     absurd (content'.0.1 (sym same.0))
-  where
-    first : ((ended other ++ flat_map ended others) ++ ended dot) ++ y ≡ other ++ (crlf ++ ((flat_map ended others ++ ended dot) ++ y))
-    first = simp append_assoc
 same_lines (line ∷ lines) [] x y content content' e =
-    let same = first_line_same line dot (body_of lines ++ x) y content.0.0 IsLine-dot (sym first ∙ e ∙ append_assoc dot crlf y) in
+    let same = first_line_same line dot (body_of lines ++ x) y content.0.0 IsLine-dot (sym (body_first line lines x) ∙ e ∙ append_assoc dot crlf y) in
     absurd (content.0.1 same.0)
-  where
-    first : ((ended line ++ flat_map ended lines) ++ ended dot) ++ x ≡ line ++ (crlf ++ ((flat_map ended lines ++ ended dot) ++ x))
-    first = simp append_assoc
 same_lines (line ∷ lines) (other ∷ others) x y content content' e =
-    let same = first_line_same line other (body_of lines ++ x) (body_of others ++ y) content.0.0 content'.0.0 (sym (first line lines x) ∙ e ∙ first other others y) in
+    let same = first_line_same line other (body_of lines ++ x) (body_of others ++ y) content.0.0 content'.0.0 (sym (body_first line lines x) ∙ e ∙ body_first other others y) in
     let later = same_lines lines others x y content.1 content'.1 same.1 in
     (cons_same line other lines others same.0 later.0, later.1)
-  where
-    first : (l : List ℕ) (ls : List (List ℕ)) (z : List ℕ) → ((ended l ++ flat_map ended ls) ++ ended dot) ++ z ≡ l ++ (crlf ++ ((flat_map ended ls ++ ended dot) ++ z))
-    first l ls z = simp append_assoc
 
 pub one_body : (a b s t x y : List ℕ) → Body a s → Body b t → a ++ x ≡ b ++ y → (a ≡ b) × (s ≡ t) × (x ≡ y)
 one_body a b s t x y left right e =

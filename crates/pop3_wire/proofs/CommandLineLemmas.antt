@@ -5,7 +5,6 @@ use Rattle.std.proofs.lemmas.List.Sums.{fails_before_first, suffix_len_is}
 use Rattle.std.proofs.lemmas.List.Splits.{slice_split_none, slice_split_first, length-slice_split}
 use Rattle.std.proofs.lemmas.List.Elements.{All-from_get_or}
 use Rattle.std.proofs.lemmas.List.{drop_all}
-use Rattle.std.proofs.lemmas.Grind.{common_steps}
 use Rattle.pop3_wire.specs.Fields.{is_space}
 use Rattle.pop3_wire.specs.CommandLine.{trimmed, no_argument, one_number, number_or_none, two_numbers}
 use Rattle.pop3_wire.specs.declared.fault.WireFault.TheVariants.{BadArgument}
@@ -20,9 +19,6 @@ no_rest bytes h = drop_all (position_or_len is_space bytes + 1) bytes (omega ari
 -- otherwise the first word ends at the first space
 pub first_word : (bytes : List ℕ) (n : ℕ) → n ≡ position_or_len is_space bytes → n < length bytes → slice_split is_space bytes ≡ take n bytes ∷ slice_split is_space (drop (n + 1) bytes)
 first_word bytes n h lt = rw h (slice_split_first is_space bytes 0 (let e : position_or_len is_space bytes < length bytes = omega arith in e))
-
-pub to_end : (bytes : List ℕ) (n : ℕ) → take (length bytes - n) (drop n bytes) ≡ drop n bytes
-to_end bytes n = grind (arith, common_steps)
 
 -- the line without the spaces at its end, by counting them
 pub trimmed_at : (line : List ℕ) (n : ℕ) → n ≤ length line → ((k : ℕ) → n ≤ k → k < length line → is_space (get_or line k 0) ≡ true) → (0 < n → is_space (get_or line (n - 1) 0) ≡ false) → take n line ≡ trimmed line

@@ -1,5 +1,5 @@
 -- The line that asks for a command is read as that command.
-use Rattle.std.proofs.Common.{ℕ, zero, suc, ◌+◌, ◌-◌, ◌*◌, ◌^◌, ◌<◌, ◌≤◌, ◌≡◌, true, false, List, [], ◌∷◌, ◌++◌, length, drop, get_or, refl, sym, ap, ◌∙◌, arith, rules, Result, Ok, Some, length-append, append_assoc}
+use Rattle.std.proofs.Common.{ℕ, ◌+◌, ◌-◌, ◌*◌, ◌^◌, ◌<◌, ◌≤◌, ◌≡◌, true, false, List, [], ◌∷◌, ◌++◌, length, drop, get_or, refl, sym, ap, ◌∙◌, arith, rules, Result, Ok, Some, length-append, append_assoc}
 use Rattle.std.specs.Prelude.{not, nat_lt, nat_le, ◌&&◌, codes}
 use Rattle.std.specs.List.{before_first, slice_split, suffix_len, list_all, All}
 use Rattle.std.specs.Fmt.{decimal}
@@ -10,8 +10,7 @@ use Rattle.std.proofs.lemmas.Bool.Decides.{nat_tests}
 use Rattle.std.proofs.lemmas.Fmt.{digits_decimal, decimal_is_IsNumeral, length-decimal-le, decimal_nonempty}
 use Rattle.std.proofs.lemmas.Str.Parse.{IsNumeralModel, numerals_by_fold}
 use Rattle.std.proofs.lemmas.List.Splits.{slice_split_none, slice_split_at}
-use Rattle.std.proofs.lemmas.List.Elements.{All-from_get_or}
-use Rattle.std.proofs.lemmas.List.Sums.{suffix_len_is}
+use Rattle.std.proofs.lemmas.List.Sums.{suffix_len_is, AllPass-from_list_all}
 use Rattle.std.proofs.lemmas.List.{get_or-append_right, take_all}
 use Rattle.pop3_wire.specs.declared.fault.WireFault.{WireFault}
 use Rattle.pop3_wire.specs.declared.command.Command.TheVariants.{User, Pass, UidlAll, UidlOne, ListAll, ListOne, Retr, Dele, Top}
@@ -36,25 +35,15 @@ digits_of_decimal n few = digits_decimal own n few
 pub no_space : (d : ℕ) → is_ascii_digit d ≡ true → is_space d ≡ false
 no_space d e = grind (arith, nat_tests)
 
-no_space_at : (ds : List ℕ) (k : ℕ) → list_all is_ascii_digit ds ≡ true → k < length ds → is_space (get_or ds k 0) ≡ false
-no_space_at [] k e lt = absurd (omega arith)
-no_space_at (d ∷ ds) zero e lt = no_space d (and_parts (is_ascii_digit d) (list_all is_ascii_digit ds) e).0
-no_space_at (d ∷ ds) (suc k) e lt = no_space_at ds k (and_parts (is_ascii_digit d) (list_all is_ascii_digit ds) e).1 (omega arith)
-
 -- it holds no space
 abbrev Word : List ℕ → Type 0
 Word ds = All (λ x. is_space x ≡ false) ds
 
-word_at : (ds : List ℕ) (k : ℕ) → list_all (λ x. not (is_space x)) ds ≡ true → k < length ds → is_space (get_or ds k 0) ≡ false
-word_at [] k e lt = absurd (omega arith)
-word_at (d ∷ ds) zero e lt = not-true (is_space d) (and_parts (not (is_space d)) (list_all (λ x. not (is_space x)) ds) e).0
-word_at (d ∷ ds) (suc k) e lt = word_at ds k (and_parts (not (is_space d)) (list_all (λ x. not (is_space x)) ds) e).1 (omega arith)
-
 word_by : (ds : List ℕ) → list_all (λ x. not (is_space x)) ds ≡ true → Word ds
-word_by ds e = All-from_get_or (λ x. is_space x ≡ false) ds 0 (λ k lt. word_at ds k e lt)
+word_by ds e = λ k d inside. not-true _ (AllPass-from_list_all (λ x. not (is_space x)) ds e k d inside)
 
 number_word : (n : ℕ) → n < 2 ^ 32 → Word (decimal n)
-number_word n few = All-from_get_or (λ x. is_space x ≡ false) (decimal n) 0 (λ k lt. no_space_at (decimal n) k (digits_of_decimal n (omega arith)) lt)
+number_word n few = λ k d inside. no_space _ (AllPass-from_list_all is_ascii_digit (decimal n) (digits_of_decimal n (omega arith)) k d inside)
 
 some_digit : (n : ℕ) → n < 2 ^ 32 → 0 < length (decimal n)
 some_digit n few = decimal_nonempty n (omega arith)
@@ -66,12 +55,11 @@ few_digits n few = length-decimal-le 10 n (omega arith) (omega arith) (omega ari
 read_number : (n : ℕ) → n < 2 ^ 32 → argument_number (decimal n) ≡ Ok n
 unfolding argument_number number
 read_number n few =
-    let short : length (decimal n) ≤ 10 = length-decimal-le 10 n (omega arith) (omega arith) (omega arith) in
-    let some : 0 < length (decimal n) = decimal_nonempty n (omega arith) in
+    let short : length (decimal n) ≤ 10 = few_digits n few in
     let value : digits_value 10 (decimal n) ≡ n = (decimal_is_IsNumeral n (omega arith)).1 in
     let fits : digits_value 10 (decimal n) ≤ 4294967295 = omega arith in
     let good : (is_numeral (decimal n) && nat_le (digits_value 10 (decimal n)) 4294967295) ≡ true =
-    and_from _ _ (and_from _ _ (and_from _ _ (lt-ltb 0 (length (decimal n)) some) (le-leb (length (decimal n)) 20 (omega arith))) (digits_of_decimal n (omega arith))) (le-leb _ _ fits) in
+    and_from _ _ (and_from _ _ (and_from _ _ (lt-ltb 0 (length (decimal n)) (some_digit n few)) (le-leb (length (decimal n)) 20 (omega arith))) (digits_of_decimal n (omega arith))) (le-leb _ _ fits) in
     cond-true _ _ _ (le-leb (length (decimal n)) 10 short) ∙ cond-true _ _ _ good ∙ ap (λ (v : ℕ). Ok v) value
 
 -- a line that doesn't end in a space stays as it is

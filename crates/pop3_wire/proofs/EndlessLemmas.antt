@@ -1,17 +1,11 @@
 -- What a link gives if it repeats a pattern.
-use Rattle.std.proofs.Common.{◌≡◌, ◌⊎◌, inl, inr, ◌<◌, ◌≤◌, ◌+◌, ◌-◌, ◌%◌, ◌++◌, ℕ, zero, suc, List, length, take, drop, sym, ap, ◌∙◌, arith, append_assoc, length-append, length-take-le, length-drop}
+use Rattle.std.proofs.Common.{◌≡◌, inl, inr, ◌<◌, ◌≤◌, ◌+◌, ◌-◌, ◌%◌, ◌++◌, ℕ, zero, suc, List, length, take, drop, sym, ap, ◌∙◌, arith, append_assoc, length-append, length-take-le}
 use Rattle.std.specs.List.{repeat}
-use Rattle.std.proofs.lemmas.Bool.{cases_order}
-use Rattle.std.proofs.lemmas.List.{take-append-le, drop-append-le, take_all}
+use Rattle.std.proofs.lemmas.Bool.{cases_lt}
+use Rattle.std.proofs.lemmas.List.{take-append-le, drop-append-le, take_all, take_rest}
 use Rattle.std.proofs.Math.Seq.{take-add, drop-append-add}
 use Rattle.std.proofs.Math.Nat.{mod-eq_of_lt, add-mod_left}
 use Rattle.pop3_wire.specs.Endless.{first_given}
-
-lt_cases : (a b : ℕ) → (a < b) ⊎ (b ≤ a)
-lt_cases a b = elim (cases_order a b) [
-  | inl e ↦ inr (omega arith)
-  | inr r ↦ elim r [ inl l ↦ inl l | inr l ↦ inr (omega arith) ]
-]
 
 repeat_long : (n : ℕ) (p : List ℕ) → 0 < length p → n ≤ length (repeat n p)
 repeat_long zero p some = omega arith
@@ -30,7 +24,7 @@ repeat_more (suc n) d p =
 pub repeat_at : (count place : ℕ) (p : List ℕ) → 0 < length p → place < count
     → (rest : List ℕ) × (drop place (repeat count p) ≡ drop (place % length p) p ++ rest)
 repeat_at zero place p some below = absurd (omega arith)
-repeat_at (suc count) place p some below = elim (lt_cases place (length p)) [
+repeat_at (suc count) place p some below = elim (cases_lt place (length p)) [
   | inl first ↦ (
     repeat count p,
     drop-append-le place p (repeat count p) (omega arith)
@@ -72,18 +66,13 @@ given_length front p given some =
     let long : given ≤ length (repeat given p) = repeat_long given p some in
     length-take-le given (front ++ repeat given p) (omega arith)
 
-rest_whole : (place : ℕ) (l : List ℕ) → take (length l - place) (drop place l) ≡ drop place l
-rest_whole place l =
-    let size : length (drop place l) ≡ length l - place = length-drop place l in
-    take_all (length l - place) (drop place l) (omega arith)
-
 -- the next piece in the front
 pub front_follows : (front p : List ℕ) (given count : ℕ) → given < length front
     → (rest : List ℕ) × (drop given (front ++ repeat count p) ≡ take (length front - given) (drop given front) ++ rest)
 front_follows front p given count within = (
   repeat count p,
   drop-append-le given front (repeat count p) (omega arith)
-      ∙ ap (λ (l : List ℕ). l ++ repeat count p) (sym (rest_whole given front)),
+      ∙ ap (λ (l : List ℕ). l ++ repeat count p) (sym (take_rest front given)),
 )
 
 -- the next piece after the front
@@ -97,7 +86,7 @@ pattern_follows front p given count some past below =
       ap (λ (k : ℕ). drop k (front ++ repeat count p)) place
           ∙ drop-append-add front (repeat count p) (given - length front)
           ∙ found.1
-          ∙ ap (λ (l : List ℕ). l ++ found.0) (sym (rest_whole ((given - length front) % length p) p)),
+          ∙ ap (λ (l : List ℕ). l ++ found.0) (sym (take_rest p ((given - length front) % length p))),
     )
 
 -- what was given is determined by its length

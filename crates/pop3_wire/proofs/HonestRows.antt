@@ -1,14 +1,15 @@
 -- Rows of listings are read as a server means them, and hold no line break.
 use Rattle.std.proofs.Common.{ℕ, ◌^◌, ◌<◌, ◌≤◌, ◌≡◌, ◌≢◌, ◌∙◌, true, List, [], ◌∷◌, ◌++◌, length, refl, sym, ap, subst, append_assoc, arith, Ok, ne_eqb}
-use Rattle.std.specs.Prelude.{◌&&◌, Bool, codes}
+use Rattle.std.specs.Prelude.{Bool, codes}
 use Rattle.std.specs.List.{list_all}
 use Rattle.std.specs.Fmt.{decimal}
 use Rattle.std.specs.Char.{is_ascii_digit}
-use Rattle.std.proofs.lemmas.Bool.{and_parts, and_from, cond-false, le-leb, lt-ltb}
+use Rattle.std.proofs.lemmas.Bool.{and_parts, and_from, cond-false, le-leb, lt-ltb, not-true, eqb-false}
 use Rattle.std.proofs.lemmas.Bool.Decides.{nat_tests}
 use Rattle.std.proofs.lemmas.Fmt.{decimal_is_IsNumeral, length-decimal-le, decimal_nonempty}
 use Rattle.std.proofs.lemmas.List.{append-nil}
-use Rattle.pop3_wire.specs.Line.{crlf, IsLine, is_no_lf}
+use Rattle.std.proofs.lemmas.List.Folds.{list_all-append}
+use Rattle.pop3_wire.specs.Line.{IsLine, is_no_lf}
 use Rattle.pop3_wire.specs.Body.{unstuffed}
 use Rattle.pop3_wire.specs.declared.reply.Status.TheVariants.{Positive, Negative}
 use Rattle.pop3_wire.specs.Honest.{FirstLinesAreRead}
@@ -18,6 +19,9 @@ use Rattle.mail_terms.specs.Numeral.{greatest_number, greatest_size}
 use Rattle.mail_terms.specs.UniqueId.{is_id_byte, is_legal_id}
 use Rattle.pop3_wire.proofs.CommandRoundTrip.{digits_of_decimal}
 use Rattle.pop3_wire.proofs.RowsLemmas.{all_pass, bytes_of, scan_form_read, uid_form_read}
+use Rattle.mail_terms.specs.Text.{HasNoLf}
+use Rattle.pop3_wire.proofs.LineLemmas.{same_cons}
+use Rattle.pop3_wire.proofs.StuffLemmas.{no_pair}
 
 -- bytes with a first one that passes
 starts : (test : ℕ → Bool) (ds : List ℕ) → 0 < length ds → list_all test ds ≡ true → (d : ℕ) × (rest : List ℕ) × (ds ≡ d ∷ rest) × (test d ≡ true)
@@ -68,23 +72,17 @@ uid_read k uid few legal = uid_form_read (decimal k ++ 32 ∷ uid) k uid (record
 
 -- ---- these hold no line break
 
+each_no_lf : (line : List ℕ) → list_all is_no_lf line ≡ true → HasNoLf line
+each_no_lf [] e = tt
+each_no_lf (byte ∷ line) e =
+    let parts = and_parts (is_no_lf byte) (list_all is_no_lf line) e in
+    (eqb-false byte 10 (not-true _ parts.0), each_no_lf line parts.1)
+
 pub line_without_lf : (line : List ℕ) → list_all is_no_lf line ≡ true → IsLine line
-line_without_lf [] e [] rest h = cc
-line_without_lf [] e (b ∷ front) rest h = cc
-line_without_lf (byte ∷ []) e [] rest h = cc
-line_without_lf (byte ∷ next ∷ line) e [] rest h =
-    let same : next ≡ 10 = cc in
-    let parts = and_parts (is_no_lf byte) (is_no_lf next && list_all is_no_lf line) e in
-    let other : is_no_lf next ≡ true = (and_parts (is_no_lf next) (list_all is_no_lf line) parts.1).0 in
-    absurd (grind (arith, nat_tests))
-line_without_lf (byte ∷ line) e (b ∷ front) rest h =
-    line_without_lf line (and_parts (is_no_lf byte) (list_all is_no_lf line) e).1 front rest (let same : line ≡ front ++ (crlf ++ rest) = cc in same)
+line_without_lf line e = no_pair line (each_no_lf line e)
 
 pub no_lf_append : (xs ys : List ℕ) → list_all is_no_lf xs ≡ true → list_all is_no_lf ys ≡ true → list_all is_no_lf (xs ++ ys) ≡ true
-no_lf_append [] ys a b = b
-no_lf_append (x ∷ xs) ys a b =
-    let parts = and_parts (is_no_lf x) (list_all is_no_lf xs) a in
-    and_from (is_no_lf x) (list_all is_no_lf (xs ++ ys)) parts.0 (no_lf_append xs ys parts.1 b)
+no_lf_append xs ys a b = list_all-append is_no_lf xs ys ∙ and_from _ _ a b
 
 pub no_lf_decimal : (n : ℕ) → n < 2 ^ 64 → list_all is_no_lf (decimal n) ≡ true
 no_lf_decimal n fits = all_pass is_ascii_digit is_no_lf (λ d e. grind (arith, nat_tests)) (decimal n) (digits_of_decimal n fits)
@@ -101,15 +99,12 @@ digit_content k rest fits none =
     let first = digit_first k fits in
     let begin : decimal k ++ rest ≡ first.0 ∷ (first.1 ++ rest) = ap (λ (l : List ℕ). l ++ rest) first.2 in
     let other : first.0 ≢ 46 = (λ (e : first.0 ≡ 46). digit_no_stop first.0 first.3 e) in (
-      (line_without_lf (decimal k ++ rest) (no_lf_append (decimal k) rest (no_lf_decimal k fits) none), λ e. other (first_same first.0 46 (first.1 ++ rest) [] (sym begin ∙ e))),
+      (line_without_lf (decimal k ++ rest) (no_lf_append (decimal k) rest (no_lf_decimal k fits) none), λ e. other (same_cons first.0 46 (first.1 ++ rest) [] (sym begin ∙ e)).0),
       ap unstuffed begin ∙ cond-false _ _ _ (ne_eqb first.0 46 other) ∙ sym begin,
     )
   where
     digit_no_stop : (d : ℕ) → is_ascii_digit d ≡ true → d ≡ 46 → ⊥
     digit_no_stop d e is = grind (arith, nat_tests)
-
-    first_same : (a b : ℕ) (x y : List ℕ) → a ∷ x ≡ b ∷ y → a ≡ b
-    first_same a b x y e = cc
 
 -- ---- what is written is read
 

@@ -1,6 +1,6 @@
 -- The octets that wait: where the search for a line's end goes on, and what it finds.
-use Rattle.std.proofs.Common.{◌≡◌, ◌⊎◌, inl, inr, ◌<◌, ◌≤◌, ◌+◌, ◌-◌, ℕ, List, ◌++◌, length, take, drop, min, max, refl, sym, ap, subst, ◌∙◌, arith, append_assoc, take-append-drop, length-append, length-take-le, length-drop}
-use Rattle.std.proofs.lemmas.Bool.{cases_order}
+use Rattle.std.proofs.Common.{◌≡◌, inl, inr, ◌≤◌, ◌+◌, ◌-◌, ℕ, List, ◌++◌, length, take, drop, min, max, refl, sym, ap, subst, ◌∙◌, arith, append_assoc, take-append-drop, length-append, length-take-le, length-drop}
+use Rattle.std.proofs.lemmas.Bool.{cases_lt}
 use Rattle.std.proofs.lemmas.List.{take-take, take_all, drop-append-le, drop-take, drop-drop, take_at, drop_at}
 use Rattle.std.proofs.Math.Seq.{take-append-add}
 use Rattle.std.proofs.lemmas.List.{length-take}
@@ -9,12 +9,6 @@ use borrow.Rule.Slice.PartMut.{put_mid}
 use Rattle.pop3_wire.specs.Line.{crlf, IsLine}
 use Rattle.pop3_wire.specs.Place.{HasLine, HasNoLine}
 use Rattle.pop3_wire.proofs.LineLemmas.{IsLine-nil, IsLine-front, IsLine-back}
-
-le_cases : (a b : ℕ) → (a ≤ b) ⊎ (b < a)
-le_cases a b = elim (cases_order a b) [
-  | inl e ↦ inl (omega arith)
-  | inr r ↦ elim r [ inl l ↦ inl (omega arith) | inr l ↦ inr l ]
-]
 
 pub no_line_zero : (w : List ℕ) → HasNoLine 0 w
 no_line_zero w = record { none = IsLine-nil }
@@ -30,26 +24,26 @@ no_line_all n w line =
     record { none = IsLine-front (take n w) (drop n w) (subst IsLine (sym (take-append-drop n w)) line) }
 
 pub no_line_skip : (n s : ℕ) (w : List ℕ) → HasNoLine s w → HasNoLine (s - n) (drop n w)
-no_line_skip n s w known = elim (le_cases n s) [
-  | inl small ↦
+no_line_skip n s w known = elim (cases_lt s n) [
+  | inr small ↦
       let rest : drop n (take s w) ≡ take (s - n) (drop n w) =
       ap (λ (k : ℕ). drop n (take k w)) (omega arith) ∙ drop-take n (s - n) w in
       let back : IsLine (drop n (take s w)) = IsLine-back (take n (take s w)) (drop n (take s w)) (subst IsLine (sym (take-append-drop n (take s w))) known.none) in
       record { none = subst IsLine rest back }
-  | inr past ↦ subst (λ (k : ℕ). HasNoLine k (drop n w)) (omega arith) (no_line_zero (drop n w))
+  | inl past ↦ subst (λ (k : ℕ). HasNoLine k (drop n w)) (omega arith) (no_line_zero (drop n w))
 ]
 
 -- if neither the first s octets nor those from the last of them on hold a line end, there is none
 seam : (u : List ℕ) (s : ℕ) → HasNoLine s u → IsLine (drop (s - 1) u) → IsLine u
-seam u s known later front rest e = elim (le_cases (length (front ++ crlf)) s) [
-  | inl early ↦
+seam u s known later front rest e = elim (cases_lt s (length (front ++ crlf))) [
+  | inr early ↦
       let split : take s u ≡ front ++ (crlf ++ take (s - length (front ++ crlf)) rest) =
       ap (take s) (e ∙ sym (append_assoc front crlf rest))
       ∙ ap (λ (k : ℕ). take k ((front ++ crlf) ++ rest)) (omega arith)
       ∙ take-append-add (front ++ crlf) rest (s - length (front ++ crlf))
       ∙ append_assoc front crlf (take (s - length (front ++ crlf)) rest) in
       known.none front (take (s - length (front ++ crlf)) rest) split
-  | inr late ↦
+  | inl late ↦
       let size : length (front ++ crlf) ≡ length front + 2 = length-append front crlf in
       let low : s - 1 ≤ length front = omega arith in
       let split : drop (s - 1) u ≡ drop (s - 1) front ++ (crlf ++ rest) =
@@ -59,9 +53,9 @@ seam u s known later front rest e = elim (le_cases (length (front ++ crlf)) s) [
 
 -- if the first s octets hold no line end, a prefix of the octets holds none there either
 front_known : (s m : ℕ) (w : List ℕ) → HasNoLine s w → HasNoLine s (take m w)
-front_known s m w known = elim (le_cases s m) [
-  | inl small ↦ record { none = subst IsLine (sym (take-take s m w small)) known.none }
-  | inr past ↦ no_line_all s (take m w) ((no_line_less m s w (omega arith) known).none)
+front_known s m w known = elim (cases_lt m s) [
+  | inr small ↦ record { none = subst IsLine (sym (take-take s m w small)) known.none }
+  | inl past ↦ no_line_all s (take m w) ((no_line_less m s w (omega arith) known).none)
 ]
 
 take_of_drop : (from n until : ℕ) (w : List ℕ) → from ≤ until → n ≤ until - from → take n (take (until - from) (drop from w)) ≡ drop from (take (from + n) w)
@@ -121,15 +115,15 @@ line_end_none w limit searched until from is_until is_from known window =
     window_is = sym (drop-take from (until - from) w) ∙ ap (λ (k : ℕ). drop from (take k w)) (omega (arith, low))
 
 pub no_line_max : (s until : ℕ) (w : List ℕ) → HasNoLine s w → HasNoLine until w → HasNoLine (max s until) w
-no_line_max s until w known found = elim (le_cases s until) [
-  | inl small ↦ subst (λ (k : ℕ). HasNoLine k w) (omega arith) found
-  | inr past ↦ subst (λ (k : ℕ). HasNoLine k w) (omega arith) known
+no_line_max s until w known found = elim (cases_lt until s) [
+  | inr small ↦ subst (λ (k : ℕ). HasNoLine k w) (omega arith) found
+  | inl past ↦ subst (λ (k : ℕ). HasNoLine k w) (omega arith) known
 ]
 
 pub no_line_limit : (limit until : ℕ) (w : List ℕ) → until ≡ min limit (length w) → HasNoLine until w → HasNoLine limit w
-no_line_limit limit until w is_until found = elim (le_cases limit (length w)) [
-  | inl small ↦ subst (λ (k : ℕ). HasNoLine k w) (omega arith) found
-  | inr past ↦
+no_line_limit limit until w is_until found = elim (cases_lt (length w) limit) [
+  | inr small ↦ subst (λ (k : ℕ). HasNoLine k w) (omega arith) found
+  | inl past ↦
       let all : take until w ≡ take limit w = take_all until w (omega arith) ∙ sym (take_all limit w (omega arith)) in
       record { none = subst IsLine all found.none }
 ]

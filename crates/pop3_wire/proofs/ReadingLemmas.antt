@@ -12,11 +12,7 @@ use Rattle.pop3_wire.proofs.BodyLemmas.{same_lines}
 -- no line has both a positive and a negative status
 two_statuses : (line rest more : List ℕ) → IsFirstLine line Positive rest → IsFirstLine line Negative more → ⊥
 two_statuses line rest more good bad =
-    let heads = same_cons 43 45 _ _ (sym good.1 ∙ bad.1) in
-    differ 43 45 refl refl heads.0
-  where
-    differ : (a b : ℕ) → a ≡ 43 → b ≡ 45 → a ≡ b → ⊥
-    differ a b p q e = absurd (omega arith)
+    let heads = same_cons 43 45 _ _ (sym good.1 ∙ bad.1) in absurd (omega (arith, heads.0))
 
 -- bytes begin with at most one body, if there is one, and with none if there isn't
 one_body_if : (with_body : Bool) (body other : Option (List (List ℕ))) (x y : List ℕ) → IsBodyIf with_body body → IsBodyIf with_body other

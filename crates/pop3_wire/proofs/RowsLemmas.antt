@@ -7,11 +7,13 @@ use Rattle.std.specs.Str.Parse.{digits_value}
 use Rattle.std.proofs.lemmas.Bool.{and_parts, and_from, cond-true, cond-false, cases_Bool, leb-true, le-leb, ltb-true}
 use Rattle.std.proofs.lemmas.List.{append-nil, take_at, drop_at}
 use Rattle.std.proofs.lemmas.Bool.Decides.{nat_tests}
+use Rattle.std.proofs.lemmas.List.Sums.{AllPass-from_list_all, list_all-from_AllPass}
 use Rattle.pop3_wire.specs.Fields.{◌>>=◌, is_space, is_in_field, past, number, next_field, message_number, number_and_size, legal_id, nothing_more, number_and_id}
 use Rattle.mail_terms.specs.Numeral.{is_numeral, greatest_number, greatest_size}
 use Rattle.mail_terms.specs.UniqueId.{is_id_byte, is_legal_id, IsLegalId}
 use Rattle.pop3_wire.specs.declared.fault.WireFault.{WireFault}
 use Rattle.pop3_wire.specs.Rows.{AreSpaces, StandsFor, HasNumber, HasScanForm, HasUidForm, ScanRowsHaveForm, UidRowsHaveForm}
+use Rattle.pop3_wire.proofs.LineLemmas.{same_cons}
 
 -- ---- the prefix of bytes that pass a test, and what follows
 
@@ -45,7 +47,7 @@ behind_fails test (byte ∷ bytes) next rest e = elim (cases_Bool (test byte)) [
 ok_is_no_err : {A E : Type 0} (e : E) (a : A) → Err e ≡ Ok a → ⊥
 ok_is_no_err e a h = cc
 
-ok_same : {A E : Type 0} (a b : A) (r : Result A E) → r ≡ Ok a → r ≡ Ok b → a ≡ b
+pub ok_same : {A E : Type 0} (a b : A) (r : Result A E) → r ≡ Ok a → r ≡ Ok b → a ≡ b
 ok_same a b r left right = cc
 
 bind_ok : {A B E : Type 0} (r : Result A E) (f : A → Result B E) (b : B) → (r >>= f) ≡ Ok b → (a : A) × (r ≡ Ok a) × (f a ≡ Ok b)
@@ -204,11 +206,8 @@ next_read spaces field blank (byte, more, is, other) =
     let gone : past is_space (spaces ++ field) ≡ field = front_passed is_space spaces field blank (stops byte more is other) in
     rw gone (cond-false _ _ _ (some byte more is))
   where
-    same_byte : (a b : ℕ) (x y : List ℕ) → a ∷ x ≡ b ∷ y → a ≡ b
-    same_byte a b x y e = cc
-
     stops : (b : ℕ) (rest : List ℕ) → field ≡ b ∷ rest → is_space b ≡ false → Stops is_space field
-    stops b rest begins space c after e = subst (λ (d : ℕ). is_space d ≡ false) (same_byte b c rest after (sym begins ∙ e)) space
+    stops b rest begins space c after e = subst (λ (d : ℕ). is_space d ≡ false) (same_cons b c rest after (sym begins ∙ e)).0 space
 
     some : (b : ℕ) (rest : List ℕ) → field ≡ b ∷ rest → (length field == 0) ≡ false
     some b rest begins = let size : length field ≡ length (b ∷ rest) = ap length begins in grind (arith, nat_tests)
@@ -222,10 +221,7 @@ number_read limit digits n stands =
 
 -- bytes that pass one test pass another
 pub all_pass : (p q : ℕ → Bool) → ((b : ℕ) → p b ≡ true → q b ≡ true) → (bytes : List ℕ) → list_all p bytes ≡ true → list_all q bytes ≡ true
-all_pass p q h [] all = refl
-all_pass p q h (byte ∷ bytes) all =
-    let parts = and_parts (p byte) (list_all p bytes) all in
-    and_from (q byte) (list_all q bytes) (h byte parts.0) (all_pass p q h bytes parts.1)
+all_pass p q h bytes all = list_all-from_AllPass q bytes (λ k d inside. h _ (AllPass-from_list_all p bytes all k d inside))
 
 digit_in_field : (byte : ℕ) → is_ascii_digit byte ≡ true → is_in_field byte ≡ true
 digit_in_field byte e = grind (arith, nat_tests)

@@ -1,11 +1,12 @@
 -- The octets sent determine the commands.
-use Rattle.std.proofs.Common.{◌≡◌, ◌⊎◌, inl, inr, ◌<◌, ◌^◌, ℕ, List, [], ◌∷◌, ◌++◌, true, not, ◌==◌, refl, sym, ◌∙◌, ap, arith, append_assoc, Ok, Result}
+use Rattle.std.proofs.Common.{◌≡◌, ◌⊎◌, inl, inr, ◌<◌, ◌^◌, ℕ, List, [], ◌∷◌, ◌++◌, true, refl, sym, ◌∙◌, ap, arith, append_assoc, length, length-append}
 use Rattle.std.specs.Prelude.{codes}
 use Rattle.std.specs.List.{list_all, AllByRecursion}
 use Rattle.std.specs.Fmt.{decimal}
-use Rattle.std.proofs.lemmas.Bool.{and_parts, and_from}
+use Rattle.std.proofs.lemmas.Bool.{and_parts}
 use Rattle.std.proofs.lemmas.List.Folds.{list_all-append}
-use Rattle.pop3_wire.specs.declared.fault.WireFault.{WireFault}
+use Rattle.std.proofs.lemmas.Bool.Decides.{nat_tests}
+use Rattle.std.proofs.lemmas.List.{nil_from_length}
 use Rattle.pop3_wire.specs.declared.command.Command.{Command}
 use Rattle.pop3_wire.specs.declared.command.Command.TheVariants.{User, Pass, UidlOne, ListOne, Retr, Dele, Top}
 use Rattle.pop3_wire.specs.Line.{crlf, IsLine, ended, is_no_lf}
@@ -14,16 +15,12 @@ use Rattle.mail_terms.specs.Credential.{is_credential, is_plain}
 use Rattle.pop3_wire.specs.CommandLine.{HasNumbers, CommandsAreLines, command_of}
 use Rattle.pop3_wire.specs.Honest.{Asked, BeginsNext, OneListOfCommands, FrontsAreAsked}
 use Rattle.pop3_wire.proofs.CommandRoundTrip.{round_trip}
-use Rattle.pop3_wire.proofs.LineLemmas.{first_line_same, same_cons}
+use Rattle.pop3_wire.proofs.LineLemmas.{first_line_same, same_cons, cons_same}
 use Rattle.pop3_wire.proofs.HonestRows.{line_without_lf, no_lf_append, no_lf_decimal}
+use Rattle.pop3_wire.proofs.RowsLemmas.{ok_same, all_pass}
 
 plain_no_lf : (bytes : List ℕ) → list_all is_plain bytes ≡ true → list_all is_no_lf bytes ≡ true
-plain_no_lf [] h = refl
-plain_no_lf (b ∷ bytes) h =
-    let parts = and_parts (is_plain b) (list_all is_plain bytes) h in
-    let inner = and_parts _ (not (b == 0)) parts.0 in
-    let lf = and_parts (not (b == 13)) (not (b == 10)) inner.0 in
-    and_from (is_no_lf b) (list_all is_no_lf bytes) lf.1 (plain_no_lf bytes parts.1)
+plain_no_lf bytes h = all_pass is_plain is_no_lf (λ b e. grind (arith, nat_tests)) bytes h
 
 argument_no_lf : (bytes : List ℕ) → is_credential bytes ≡ true → list_all is_no_lf bytes ≡ true
 argument_no_lf bytes h = plain_no_lf bytes (and_parts _ (list_all is_plain bytes) h).1
@@ -46,20 +43,11 @@ line_no_lf other h s = refl
 pub is_line : CommandsAreLines
 is_line c h s = line_without_lf (line_of c) (line_no_lf c h s)
 
-abbrev ok : Command → Result Command WireFault
-ok c = Ok c
-
-same_ok : (c d : Command) → ok c ≡ ok d → c ≡ d
-same_ok c d e = cc
-
 same_command : (c d : Command) → HasNumbers c → HasNumbers d → can_be_sent c ≡ true → can_be_sent d ≡ true → line_of c ≡ line_of d → c ≡ d
-same_command c d hc hd sc sd e = same_ok c d (sym (round_trip c hc sc) ∙ ap command_of e ∙ round_trip d hd sd)
+same_command c d hc hd sc sd e = ok_same c d (command_of (line_of c)) (round_trip c hc sc) (ap command_of e ∙ round_trip d hd sd)
 
 first_sent : (c : Command) (cs : List Command) (part : List ℕ) → octets_of (c ∷ cs) ++ part ≡ line_of c ++ (crlf ++ (octets_of cs ++ part))
 first_sent c cs part = append_assoc (ended (line_of c)) (octets_of cs) part ∙ append_assoc (line_of c) crlf (octets_of cs ++ part)
-
-cons_both : (c d : Command) (cs ds : List Command) → c ≡ d → cs ≡ ds → c ∷ cs ≡ d ∷ ds
-cons_both c d cs ds e f = cc
 
 same_commands : (cs ds : List Command) (part other : List ℕ) → AllByRecursion HasNumbers cs → AllByRecursion HasNumbers ds
     → AllByRecursion (λ c. can_be_sent c ≡ true) cs → AllByRecursion (λ c. can_be_sent c ≡ true) ds → IsLine part → IsLine other
@@ -70,7 +58,7 @@ same_commands (c ∷ cs) [] part other hc hd sc sd lp lo e = absurd (lo (line_of
 same_commands (c ∷ cs) (d ∷ ds) part other hc hd sc sd lp lo e =
     let both = first_line_same (line_of c) (line_of d) (octets_of cs ++ part) (octets_of ds ++ other) (is_line c hc.0 sc.0) (is_line d hd.0 sd.0)
     (sym (first_sent c cs part) ∙ e ∙ first_sent d ds other) in
-    cons_both c d cs ds (same_command c d hc.0 hd.0 sc.0 sd.0 both.0) (same_commands cs ds part other hc.1 hd.1 sc.1 sd.1 lp lo both.1)
+    cons_same c d cs ds (same_command c d hc.0 hd.0 sc.0 sd.0 both.0) (same_commands cs ds part other hc.1 hd.1 sc.1 sd.1 lp lo both.1)
 
 pub one_list_of_commands : OneListOfCommands
 one_list_of_commands commands others sent asked again =
@@ -125,11 +113,7 @@ asked_first c cs front m s h e asked = record {
 }
 
 nothing_front : (front rest : List ℕ) → [] ≡ front ++ rest → front ≡ []
-nothing_front [] rest e = refl
-nothing_front (x ∷ front) rest e = absurd (never (x ∷ (front ++ rest)) refl e)
-  where
-    never : (l : List ℕ) → l ≡ x ∷ (front ++ rest) → [] ≡ l → ⊥
-    never l is e = cc
+nothing_front front rest e = nil_from_length front (omega (arith, ap length e, length-append front rest))
 
 pub fronts_are_asked : FrontsAreAsked
 fronts_are_asked [] front rest sendable numbers e =

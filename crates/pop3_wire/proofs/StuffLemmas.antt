@@ -21,7 +21,7 @@ text_lines (byte ∷ rest) = elim (eqb_tells byte 10) [
   | inr p ↦ rw p.0 (all_onto_first byte (lines_of_text rest) p.1 (text_lines rest))
 ]
 
-no_pair : (line : List ℕ) → HasNoLf line → IsLine line
+pub no_pair : (line : List ℕ) → HasNoLf line → IsLine line
 no_pair [] all [] rest e = cc
 no_pair [] all (b ∷ front) rest e = cc
 no_pair (byte ∷ []) all [] rest e = cc

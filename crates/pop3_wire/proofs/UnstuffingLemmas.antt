@@ -215,12 +215,8 @@ reached_no_body Cr bytes text h other = partly_no_body bytes text (h.part ++ 13 
 reached_no_body Done bytes text h other = absurd (other refl)
 
 pub reached_body : (spot : Spot) (bytes text whole : List ℕ) → Reaches spot bytes text → Body bytes whole → spot ≡ Done
-reached_body Start bytes text whole h is = absurd (reached_no_body Start bytes text h (λ e. cc) bytes whole [] is (sym (append-nil bytes)))
-reached_body Dot bytes text whole h is = absurd (reached_no_body Dot bytes text h (λ e. cc) bytes whole [] is (sym (append-nil bytes)))
-reached_body DotCr bytes text whole h is = absurd (reached_no_body DotCr bytes text h (λ e. cc) bytes whole [] is (sym (append-nil bytes)))
-reached_body Middle bytes text whole h is = absurd (reached_no_body Middle bytes text h (λ e. cc) bytes whole [] is (sym (append-nil bytes)))
-reached_body Cr bytes text whole h is = absurd (reached_no_body Cr bytes text h (λ e. cc) bytes whole [] is (sym (append-nil bytes)))
 reached_body Done bytes text whole h is = refl
+reached_body spot bytes text whole h is = absurd (reached_no_body spot bytes text h (λ e. cc) bytes whole [] is (sym (append-nil bytes)))
 
 -- octets of a line without CR are shown as they are
 pub middle_run : (piece : List ℕ) (n : ℕ) → n ≤ length piece → ((k : ℕ) → k < n → get_or piece k 0 ≢ 13)

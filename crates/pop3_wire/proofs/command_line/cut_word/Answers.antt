@@ -1,7 +1,8 @@
 use Rattle.std.proofs.Common.{◌≡◌, ℕ, ◌+◌, ◌<◌, length, arith, refl}
 use Rattle.std.specs.List.{position_or_len}
+use Rattle.std.proofs.lemmas.List.{take_rest}
 use Rattle.pop3_wire.specs.Fields.{is_space}
-use Rattle.pop3_wire.proofs.CommandLineLemmas.{one_word, no_rest, first_word, to_end}
+use Rattle.pop3_wire.proofs.CommandLineLemmas.{one_word, no_rest, first_word}
 use Rattle.pop3_wire.proofs.command_line.cut_word.Goals as goal
 
 pub returns-then-length-bytes-clause-rest : goal.returns-then-length-bytes-clause-rest
@@ -13,5 +14,5 @@ pub returns-clause-rest : goal.returns-clause-rest
 returns-clause-rest c =
     let n : ℕ = c.field_length-length.result in
     let lt : c.field_length-length.result < length c.args.bytes.now = omega arith in
-    rw (to_end c.args.bytes.now (c.field_length-length.result + 1))
+    rw (take_rest c.args.bytes.now (c.field_length-length.result + 1))
     (first_word c.args.bytes.now c.field_length-length.result c.field_length-length.ensures.value lt, rw c.field_length-length.ensures.value refl)
