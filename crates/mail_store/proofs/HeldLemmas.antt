@@ -1,13 +1,14 @@
 -- What a set of stems says of the files whose names it came from.
-use Rattle.std.proofs.Common.{◌≡◌, ℕ, ◌+◌, ◌<◌, Bool, true, false, cond, List, [], ◌∷◌, ◌++◌, length, take, get_or, map, refl, sym, ap, ◌∙◌, arith, inl, inr, subst, Ok, Vec, String, string_bytes}
+use Rattle.std.proofs.Common.{◌≡◌, ℕ, ◌+◌, ◌<◌, Bool, true, false, cond, List, [], ◌∷◌, ◌++◌, length, take, get_or, map, refl, sym, ap, ◌∙◌, arith, subst, Ok, Vec, String, string_bytes}
 use Rattle.std.specs.Prelude.{◌||◌, ◌&&◌, bytes_eq, Contains, IsPermutation, HoldsAt}
 use Rattle.std.specs.List.{list_any}
-use Rattle.std.proofs.lemmas.Bool.{cases_Bool, false_from_ne_true, true≢false}
-use Rattle.std.proofs.Math.Bool.{or_assoc}
+use Rattle.std.proofs.Math.Bool.{or_assoc, or-true, or-false, or_comm, and_comm, or_self}
 use Rattle.std.proofs.lemmas.List.{append_cancel_left, take_more, map-append, length-map, get_or-map}
 use Rattle.std.proofs.lemmas.List.Folds.{list_any-append, list_any_at}
 use Rattle.std.proofs.lemmas.List.Sorted.{Contains-permutation, list_any-IsPermutation}
 use Rattle.std.proofs.lemmas.Slice.Eq.{bytes_eq-Decides}
+use Rattle.std.proofs.lemmas.Bool.Decides.{same_from_decides, Decides-like}
+use Rattle.std.proofs.lemmas.Cmp.{nat_list_eq_equiv}
 use Rattle.mail_terms.specs.Listing.{Item, has_item, is_flagged}
 use Rattle.mail_terms.specs.UniqueId.{IsLegalId}
 use Rattle.mail_store.specs.declared.maildir.disk.Folder.TheVariants.{New, Cur}
@@ -20,30 +21,15 @@ use Rattle.mail_store.specs.Power.{AllStay}
 
 -- ---- one more name
 
-bytes_eq-sym : (xs ys : List ℕ) → bytes_eq xs ys ≡ bytes_eq ys xs
-bytes_eq-sym xs ys =
-    elim (cases_Bool (bytes_eq ys xs)) [
-      | inl same ↦ (bytes_eq-Decides xs ys).1 (sym ((bytes_eq-Decides ys xs).0 same)) ∙ sym same
-      | inr apart ↦
-          false_from_ne_true (bytes_eq xs ys) (λ same. true≢false (sym ((bytes_eq-Decides ys xs).1 (sym ((bytes_eq-Decides xs ys).0 same))) ∙ apart))
-          ∙ sym apart
-    ]
-
 cond_or : (e old : Bool) → cond e true old ≡ (old || e)
-cond_or true true = refl
-cond_or true false = refl
-cond_or false true = refl
-cond_or false false = refl
+cond_or true old = sym (or-true old)
+cond_or false old = sym (or-false old)
 
 same_digits : (account a b : List ℕ) → bytes_eq (account ++ 46 ∷ a) (account ++ 46 ∷ b) ≡ bytes_eq b a
 same_digits account a b =
-    elim (cases_Bool (bytes_eq b a)) [
-      | inl same ↦ (bytes_eq-Decides (account ++ 46 ∷ a) (account ++ 46 ∷ b)).1 (ap (λ (xs : List ℕ). account ++ 46 ∷ xs) (sym ((bytes_eq-Decides b a).0 same))) ∙ sym same
-      | inr apart ↦
-          false_from_ne_true (bytes_eq (account ++ 46 ∷ a) (account ++ 46 ∷ b))
-          (λ same. true≢false (sym ((bytes_eq-Decides b a).1 (sym (ap tail_of (append_cancel_left account (46 ∷ a) (46 ∷ b) ((bytes_eq-Decides (account ++ 46 ∷ a) (account ++ 46 ∷ b)).0 same))))) ∙ apart))
-          ∙ sym apart
-    ]
+    same_from_decides _ _ (bytes_eq-Decides (account ++ 46 ∷ a) (account ++ 46 ∷ b)) (Decides-like (bytes_eq b a)
+    (λ same. ap (λ (xs : List ℕ). account ++ 46 ∷ xs) (sym same))
+    (λ same. sym (ap tail_of (append_cancel_left account (46 ∷ a) (46 ∷ b) same))) (bytes_eq-Decides b a))
 
 -- the digits in a name's stem were put into the set
 pub name_added : (account text digits q : List ℕ) (new old : Bool) → text ≡ account ++ 46 ∷ digits → new ≡ cond (bytes_eq digits q) true old
@@ -130,23 +116,12 @@ held_where_in_new account uid size maildir a c =
 
 stem_eq : HaveRanges → (account a b : List ℕ) → IsLegalId a → IsLegalId b → bytes_eq (stem_of account b) (stem_of account a) ≡ bytes_eq b a
 stem_eq ranges account a b la lb =
-    elim (cases_Bool (bytes_eq b a)) [
-      | inl same ↦ (bytes_eq-Decides (stem_of account b) (stem_of account a)).1 (ap (stem_of account) ((bytes_eq-Decides b a).0 same)) ∙ sym same
-      | inr apart ↦
-          false_from_ne_true (bytes_eq (stem_of account b) (stem_of account a))
-          (λ same. true≢false (sym ((bytes_eq-Decides b a).1 (stem_of-injective ranges account b a lb la ((bytes_eq-Decides (stem_of account b) (stem_of account a)).0 same))) ∙ apart))
-          ∙ sym apart
-    ]
+    same_from_decides _ _ (bytes_eq-Decides (stem_of account b) (stem_of account a))
+    (Decides-like (bytes_eq b a) (ap (stem_of account)) (stem_of-injective ranges account b a lb la) (bytes_eq-Decides b a))
 
 or_shuffle : (n e c : Bool) → ((n || (e || false)) || c) ≡ ((n || c) || e)
-or_shuffle true true true = refl
-or_shuffle true true false = refl
-or_shuffle true false true = refl
-or_shuffle true false false = refl
-or_shuffle false true true = refl
-or_shuffle false true false = refl
-or_shuffle false false true = refl
-or_shuffle false false false = refl
+or_shuffle true e c = refl
+or_shuffle false e c = ap (λ (b : Bool). b || c) (or-false e) ∙ or_comm e c
 
 -- a file that came into `new` under an id's name makes that id held, and no other
 pub held_with_file : HaveRanges → (account a b content : List ℕ) (maildir : Maildir) → IsAccountText account → IsLegalId a → IsLegalId b
@@ -165,23 +140,11 @@ held_with_file ranges account a b content maildir h la lb =
 
 -- ---- flags of a listing
 
-and_swap : (a b : Bool) → (a && b) ≡ (b && a)
-and_swap true true = refl
-and_swap true false = refl
-and_swap false true = refl
-and_swap false false = refl
-
 -- the item of an id, in front of items of which it is known whether they have the id
 and_more : (flag same among held : Bool) → (same ≡ true → flag ≡ held) → ((same && flag) || (among && held)) ≡ ((same || among) && held)
-and_more true true among true agree = refl
-and_more true true among false agree = absurd (true≢false (agree refl))
-and_more false true among true agree = absurd (true≢false (sym (agree refl)))
-and_more false true true false agree = refl
-and_more false true false false agree = refl
-and_more true false true held agree = refl
-and_more true false false held agree = refl
-and_more false false true held agree = refl
-and_more false false false held agree = refl
+and_more flag true true held agree = ap (λ (b : Bool). b || held) (agree refl) ∙ or_self held
+and_more flag true false held agree = ap (λ (b : Bool). b || false) (agree refl) ∙ or-false held
+and_more flag false among held agree = refl
 
 pub flagged_where_held : (account : List ℕ) (maildir : Maildir) (items : List Item) (uid : List ℕ)
     → is_flagged items (flags_of account maildir items) uid ≡ (has_item items uid && is_held account maildir uid)
@@ -189,7 +152,7 @@ flagged_where_held account maildir [] uid = refl
 flagged_where_held account maildir (item ∷ items) uid =
     ap (λ b. (is_held account maildir item.uid && bytes_eq item.uid uid) || b) (flagged_where_held account maildir items uid)
     ∙ ap (λ b. b || (has_item items uid && is_held account maildir uid))
-    (and_swap (is_held account maildir item.uid) (bytes_eq item.uid uid) ∙ ap (λ b. b && is_held account maildir item.uid) (bytes_eq-sym item.uid uid))
+    (and_comm (is_held account maildir item.uid) (bytes_eq item.uid uid) ∙ ap (λ b. b && is_held account maildir item.uid) (nat_list_eq_equiv.symm item.uid uid))
     ∙ and_more (is_held account maildir item.uid) (bytes_eq uid item.uid) (has_item items uid) (is_held account maildir uid)
     (λ same. ap (is_held account maildir) (sym ((bytes_eq-Decides uid item.uid).0 same)))
 

@@ -1,11 +1,12 @@
 -- Whether a line but the first begins with `From `, looked for window by window.
-use Rattle.std.proofs.Common.{◌≡◌, ◌⊎◌, inl, inr, ℕ, zero, suc, ◌+◌, ◌≤◌, Bool, true, false, ◌||◌, ◌&&◌, List, [], ◌∷◌, ◌++◌, length, take, drop, refl, sym, ap, subst, ◌∙◌, arith, append_assoc, length-append}
+use Rattle.std.proofs.Common.{◌≡◌, inl, inr, ℕ, zero, suc, ◌+◌, ◌≤◌, Bool, true, false, ◌||◌, ◌&&◌, List, [], ◌∷◌, ◌++◌, length, take, drop, refl, sym, ap, subst, ◌∙◌, arith, append_assoc, length-append}
 use Rattle.std.specs.Prelude.{not, ◌==◌}
 use Rattle.std.specs.List.{flat_map, list_all, onto_first}
-use Rattle.std.proofs.lemmas.Bool.{cases_Bool, true≢false}
+use Rattle.std.proofs.lemmas.Bool.{cases_Bool, true≢false, or_right, or_cases, and_parts}
 use Rattle.std.proofs.lemmas.Bool.Decides.{eqb_tells}
 use Rattle.std.proofs.Math.Seq.{drop-append_seam, take-append-add}
 use Rattle.std.proofs.lemmas.List.{take-append-drop}
+use Rattle.std.proofs.Math.Bool.{or_assoc}
 use Rattle.memchr.specs.Find.{OccursAt, Nowhere}
 use Rattle.memchr.proofs.lemmas.MatchLemmas.{OccursAt-split, OccursAt-from_part}
 use Rattle.mail_store.specs.Mboxrd.{lines_of, from_words, begins_entry}
@@ -60,9 +61,9 @@ lines_apart bytes = by (lines_of bytes) refl
         rw none refl
     by (line ∷ lines) e = ap (λ (b : Bool). not b && list_all (λ line. not (begins_entry line)) lines) (first_begins bytes line lines e)
 
-and_is : (a b : Bool) → (not a && not b) ≡ not (a || b)
-and_is true b = refl
-and_is false b = refl
+pub not_or : (a b : Bool) → not (a || b) ≡ (not a && not b)
+not_or true b = refl
+not_or false b = refl
 
 onto_others : (byte : ℕ) (parts : List (List ℕ)) → drop 1 (onto_first byte parts) ≡ drop 1 parts
 onto_others byte [] = refl
@@ -71,26 +72,11 @@ onto_others byte (part ∷ parts) = refl
 pub one_entry_is : (bytes : List ℕ) → is_one_entry bytes ≡ not (holds_needle bytes)
 one_entry_is [] = refl
 one_entry_is (byte ∷ rest) = elim (eqb_tells byte 10) [
-  | inl p ↦ rw p.0 (lines_apart rest ∙ ap (λ (b : Bool). not (begins_entry rest) && b) (one_entry_is rest) ∙ and_is (begins_entry rest) (holds_needle rest))
+  | inl p ↦ rw p.0 (lines_apart rest ∙ ap (λ (b : Bool). not (begins_entry rest) && b) (one_entry_is rest) ∙ sym (not_or (begins_entry rest) (holds_needle rest)))
   | inr p ↦ rw p.0 (ap (list_all (λ line. not (begins_entry line))) (onto_others byte (lines_of rest)) ∙ one_entry_is rest)
 ]
 
 -- ---- where the needle stands
-
-or_left : (a b : Bool) → a ≡ true → (a || b) ≡ true
-or_left a b e = rw e refl
-
-or_right : (a b : Bool) → b ≡ true → (a || b) ≡ true
-or_right true b e = refl
-or_right false b e = e
-
-or_cases : (a b : Bool) → (a || b) ≡ true → (a ≡ true) ⊎ (b ≡ true)
-or_cases true b e = inl refl
-or_cases false b e = inr e
-
-and_parts : (a b : Bool) → (a && b) ≡ true → (a ≡ true) × (b ≡ true)
-and_parts true b e = (refl, e)
-and_parts false b e = absurd (true≢false (sym e))
 
 pub needle_split : (bytes : List ℕ) → holds_needle bytes ≡ true → (front : List ℕ) × (back : List ℕ) × (bytes ≡ front ++ (needle ++ back))
 needle_split [] e = absurd (true≢false (sym e))
@@ -167,10 +153,6 @@ begins_by_five n bytes = both_ways (begins_entry (take (n + 5) bytes)) (begins_e
         begins_entry_by (take (n + 5) bytes) (take n (drop 5 bytes)) (
         ap (λ (k : ℕ). take k bytes) size ∙ ap (take (length from_words + n)) (begins_with bytes is) ∙ take-append-add from_words (drop 5 bytes) n
         )
-
-or_assoc : (a b c : Bool) → ((a || b) || c) ≡ (a || (b || c))
-or_assoc true b c = refl
-or_assoc false b c = refl
 
 -- the needle stands in a window, or in what begins five bytes before the window's end
 pub window_next : (n : ℕ) (bytes : List ℕ) → holds_needle bytes ≡ (holds_needle (take (n + 5) bytes) || holds_needle (drop n bytes))

@@ -1,11 +1,12 @@
 -- Bytes cut where the pages of their file begin.
-use Rattle.std.proofs.Common.{◌≡◌, ◌⊎◌, inl, inr, ℕ, ◌+◌, ◌-◌, ◌<◌, ◌≤◌, ◌%◌, Bool, true, false, ◌||◌, List, [], ◌∷◌, ◌++◌, length, take, drop, refl, sym, ap, subst, ◌∙◌, arith, append_assoc, length-append}
+use Rattle.std.proofs.Common.{◌≡◌, ◌⊎◌, inl, inr, ℕ, ◌+◌, ◌-◌, ◌<◌, ◌≤◌, ◌%◌, Bool, true, ◌||◌, List, [], ◌∷◌, ◌++◌, length, take, drop, refl, sym, ap, subst, ◌∙◌, arith, append_assoc, length-append}
 use Rattle.std.specs.Prelude.{nat_eq}
 use Rattle.std.specs.List.{flat_map, onto_first, starts_with}
 use Rattle.std.proofs.lemmas.Bool.Decides.{eqb_tells, Decides-eqb}
 use Rattle.std.proofs.lemmas.List.{take-append-drop, length-take-le, drop_all}
 use Rattle.std.proofs.lemmas.Slice.Eq.{starts_is}
 use Rattle.std.proofs.Math.Seq.{drop-append_seam}
+use Rattle.std.proofs.Math.Bool.{or-true}
 use Rattle.mail_store.specs.Settling.{page_size, pages, pages_from, agree, begin_with}
 
 abbrev joined : List (List ℕ) → List ℕ
@@ -77,14 +78,10 @@ Fronts words bytes = ((more : List ℕ) × (words ≡ bytes ++ more)) ⊎ ((more
 agree_left : (words bytes more : List ℕ) → words ≡ bytes ++ more → agree words bytes ≡ true
 agree_left words bytes more e = ap (λ (b : Bool). b || starts_with nat_eq bytes words) ((starts_is Decides-eqb words bytes (starts_with nat_eq words bytes) refl).1 more e)
 
-or_true : (b : Bool) → (b || true) ≡ true
-or_true true = refl
-or_true false = refl
-
 agree_right : (words bytes more : List ℕ) → bytes ≡ words ++ more → agree words bytes ≡ true
 agree_right words bytes more e =
     ap (λ (b : Bool). starts_with nat_eq words bytes || b) ((starts_is Decides-eqb bytes words (starts_with nat_eq bytes words) refl).1 more e)
-    ∙ or_true (starts_with nat_eq words bytes)
+    ∙ or-true (starts_with nat_eq words bytes)
 
 -- the front of a list, and that of words which begin it
 pub page_words : (page rest words more : List ℕ) → page ++ rest ≡ words ++ more

@@ -5,6 +5,8 @@ use Rattle.std.specs.List.{list_all, AllByRecursion}
 use Rattle.std.proofs.lemmas.Bool.{cases_Bool, cases_lt, true≢false, lt-ltb, le-leb, lt-leb, eq-eqb, ne_eqb}
 use Rattle.std.proofs.lemmas.List.{append-nil, drop-drop, drop-take, drop_all, length-drop, length-take-le, nil_from_length, take_all}
 use Rattle.std.proofs.Math.Seq.{drop-append_seam, take-append_seam}
+use Rattle.std.proofs.Math.Bool.{and-true, and-false, and_assoc}
+use Rattle.std.proofs.lemmas.Option.{same_Some}
 use Rattle.mail_terms.specs.Text.{IsWhole}
 use Rattle.mail_store.specs.declared.fault.StoreFault.{StoreFault}
 use Rattle.mail_store.specs.declared.fault.StoreFault.TheVariants.{Refused}
@@ -17,27 +19,11 @@ use Rattle.mail_store.specs.Mboxrd.{separator, begins_entry, quoted_text, entry_
 use Rattle.mail_store.specs.MboxScan.{IsApart}
 use Rattle.mail_store.specs.Settling.{page_size, pages_from, is_hole, agree, begin_with, is_one_entry, ends_empty, are_unbroken, is_ours, is_entry, stands_whole, settled_file, FrontsAreSettled, IsLook, LooksBehind, SettlesFile}
 use Rattle.mail_store.proofs.Pages.{Fronts, next_page, page_words, begin_with_words}
-use Rattle.mail_store.proofs.OneEntry.{holds_needle, one_entry_is, needle_short, needle_in_front, window_first, window_next}
+use Rattle.mail_store.proofs.OneEntry.{holds_needle, one_entry_is, needle_short, needle_in_front, window_first, window_next, not_or}
 use Rattle.mail_store.proofs.MboxGroups.{inner_apart, entry_group, entry_is_group, entry_adds_text, texts_go_on}
 use Rattle.mail_store.proofs.MboxFronts.{entry_lines}
 
 -- ---- truth values
-
-not_or : (a b : Bool) → not (a || b) ≡ (not a && not b)
-not_or true b = refl
-not_or false b = refl
-
-and_assoc : (a b c : Bool) → (a && (b && c)) ≡ ((a && b) && c)
-and_assoc true b c = refl
-and_assoc false b c = refl
-
-and_true : (a : Bool) → (a && true) ≡ a
-and_true true = refl
-and_true false = refl
-
-and_false : (a : Bool) → (a && false) ≡ false
-and_false true = refl
-and_false false = refl
 
 -- ---- windows
 
@@ -132,13 +118,13 @@ seen_more start rest done page words here window look new was read begins unbrok
   begins = was.begins ∙ ap (λ (ps : List (List ℕ)). look.begins && begin_with (drop done separator) ps) cut
       ∙ ap (λ (w : List ℕ). look.begins && ((agree w here || is_hole here) && begin_with (drop (length here) (drop done separator)) more)) (sym read.words_are)
       ∙ ap (λ (w : List ℕ). look.begins && ((agree words here || is_hole here) && begin_with w more)) behind
-      ∙ and_assoc look.begins (agree words here || is_hole here) (begin_with (drop (done + page) separator) more)
+      ∙ sym (and_assoc look.begins (agree words here || is_hole here) (begin_with (drop (done + page) separator) more))
       ∙ ap (λ (b : Bool). b && begin_with (drop (done + page) separator) more) (sym begins);
   unbroken = was.unbroken ∙ ap (λ (ps : List (List ℕ)). look.is_unbroken && are_unbroken ps) cut
-      ∙ and_assoc look.is_unbroken (not (is_hole here)) (are_unbroken more)
+      ∙ sym (and_assoc look.is_unbroken (not (is_hole here)) (are_unbroken more))
       ∙ ap (λ (b : Bool). b && are_unbroken more) (sym unbroken);
   one = was.one ∙ ap (λ (b : Bool). look.is_one_entry && b) (window_seen start rest done page words here window read)
-      ∙ and_assoc look.is_one_entry (is_one_entry window) (is_one_entry (drop (done + page - 5) rest))
+      ∙ sym (and_assoc look.is_one_entry (is_one_entry window) (is_one_entry (drop (done + page - 5) rest)))
       ∙ ap (λ (b : Bool). b && is_one_entry (drop (done + page - 5) rest)) (sym one);
 }
   where
@@ -156,22 +142,19 @@ seen_all start rest done look all was =
     let none : drop done rest ≡ [] = drop_all done rest (omega (arith, all)) in
     let left = length-drop (done - 5) rest in
     record {
-      begins = sym (was.begins ∙ ap (λ (l : List ℕ). look.begins && begin_with (drop done separator) (pages_from (start + done) l)) none ∙ and_true look.begins);
-      unbroken = sym (was.unbroken ∙ ap (λ (l : List ℕ). look.is_unbroken && are_unbroken (pages_from (start + done) l)) none ∙ and_true look.is_unbroken);
-      one = sym (was.one ∙ ap (λ (b : Bool). look.is_one_entry && b) (one_entry_short (drop (done - 5) rest) (omega (arith, left, all))) ∙ and_true look.is_one_entry);
+      begins = sym (was.begins ∙ ap (λ (l : List ℕ). look.begins && begin_with (drop done separator) (pages_from (start + done) l)) none ∙ and-true look.begins);
+      unbroken = sym (was.unbroken ∙ ap (λ (l : List ℕ). look.is_unbroken && are_unbroken (pages_from (start + done) l)) none ∙ and-true look.is_unbroken);
+      one = sym (was.one ∙ ap (λ (b : Bool). look.is_one_entry && b) (one_entry_short (drop (done - 5) rest) (omega (arith, left, all))) ∙ and-true look.is_one_entry);
     }
 
 -- ---- what a read puts into the window
-
-same_some : (a b : List ℕ) → Some a ≡ Some b → a ≡ b
-same_some a b e = cc
 
 -- the window is full, and its last part is the page
 pub window_read : (old new : Stored) (was buf : List ℕ) (start done behind front page count : ℕ) → ReadsAt old (start + done - front) (Ok count) buf new → old.content ≡ Some was
     → length (drop start was) ≡ behind → front ≡ min done 5 → length buf ≡ front + page → done + page ≤ behind
     → (count ≡ length buf) × (buf ≡ take (min done 5 + page) (drop (done - min done 5) (drop start was))) × (drop front buf ≡ take page (drop done (drop start was)))
 window_read old new was buf start done behind front page count reads is size before wide within =
-    let same : reads.0.0 ≡ was = same_some reads.0.0 was (sym reads.0.1 ∙ is) in
+    let same : reads.0.0 ≡ was = same_Some reads.0.0 was (sym reads.0.1 ∙ is) in
     let rest = drop start was in
     let at : start + done - front ≡ start + (done - front) = omega (arith, before) in
     let left = length-drop (done - front) rest in
@@ -230,7 +213,7 @@ last_two (a ∷ b ∷ rest) many =
 
 few_empty : (bytes : List ℕ) → length bytes < 2 → ends_empty bytes ≡ false
 few_empty [] few = refl
-few_empty (a ∷ []) few = and_false (a == 10)
+few_empty (a ∷ []) few = and-false (a == 10)
 few_empty (a ∷ b ∷ rest) few = absurd (omega (arith, few))
 
 -- the ends of a file tell whether what follows a place ends with an empty line
@@ -257,15 +240,15 @@ kept_holding old was is = ap (λ (c : Option (List ℕ)). record old { content =
 pub settles_none : (start len : ℕ) (was : List ℕ) → length (drop start was) ≡ 0 → (stands_whole start len was ≡ false) × (settled_file start len was ≡ was)
 settles_none start len was none =
     let nil : drop start was ≡ [] = nil_from_length (drop start was) none in
-    let isn't : stands_whole start len was ≡ false = ap (λ (l : List ℕ). length l == len && is_entry start l) nil ∙ and_false (0 == len) in
+    let isn't : stands_whole start len was ≡ false = ap (λ (l : List ℕ). length l == len && is_entry start l) nil ∙ and-false (0 == len) in
     (isn't, ap (λ (l : List ℕ). cond ((nat_lt 0 (length l) && nat_le (length l) len) && (is_ours start l && not (stands_whole start len was))) (take start was) was) nil)
 
 -- it is whole
 pub settles_whole : (start len : ℕ) (was : List ℕ) → stands_whole start len was ≡ true → settled_file start len was ≡ was
 settles_whole start len was whole =
     ap (λ (b : Bool). cond ((nat_lt 0 (length rest) && nat_le (length rest) len) && (is_ours start rest && not b)) (take start was) was) whole
-    ∙ ap (λ (b : Bool). cond ((nat_lt 0 (length rest) && nat_le (length rest) len) && b) (take start was) was) (and_false (is_ours start rest))
-    ∙ ap (λ (b : Bool). cond b (take start was) was) (and_false (nat_lt 0 (length rest) && nat_le (length rest) len))
+    ∙ ap (λ (b : Bool). cond ((nat_lt 0 (length rest) && nat_le (length rest) len) && b) (take start was) was) (and-false (is_ours start rest))
+    ∙ ap (λ (b : Bool). cond b (take start was) was) (and-false (nat_lt 0 (length rest) && nat_le (length rest) len))
   where
     rest : List ℕ
     rest = drop start was
@@ -445,7 +428,7 @@ whole_told old new edges start behind len look is =
     rest = drop start is.was
 
     by : (a b c d e : Bool) → (a && b && c && d && e) ≡ (a && (b && (c && (d && e))))
-    by true true c d e = sym (and_assoc c d e)
+    by true true c d e = and_assoc c d e
     by true false c d e = refl
     by false b c d e = refl
 
