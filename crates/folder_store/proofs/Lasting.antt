@@ -231,7 +231,7 @@ tells_leaves old new (Err Refused) (inr e) = flushed_leaves old new e
 tells_leaves old new (Err NotMbox) t = absurd t
 tells_leaves old new (Err NoMemory) t = absurd t
 
-none_found : (name : List ℕ) (es : List Entry) → (Contains (names_in es) name → ⊥) → find name es ≡ None
+pub none_found : (name : List ℕ) (es : List Entry) → (Contains (names_in es) name → ⊥) → find name es ≡ None
 none_found name [] free = refl
 none_found name (e ∷ es) free =
     by (bytes_eq name e.name) (bytes_eq-Decides name e.name).0 (none_found name es (λ c. free (suc c.0, omega (arith, c.1), c.2)))

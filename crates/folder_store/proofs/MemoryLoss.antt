@@ -1,7 +1,7 @@
 -- What is left of a folder in memory after a loss of power.
 use Rattle.std.proofs.Common.{◌≡◌, ℕ, zero, suc, ◌+◌, ◌≤◌, ◌<◌, length, get_or, refl, List, [], ◌∷◌, ◌++◌, take, drop, map, cond, sym, ap, subst, ◌∙◌, arith, Bool, true, false, Option, Some, None, Result, Ok, Err, inl, inr, String, Global, Vec, string_bytes, append_assoc, length-append, ◌-◌, slice_index}
 use Rattle.std.specs.Prelude.{◌⊎◌, ◌≢◌, Contains, HoldsAt, IfOk, bytes_eq, option_map}
-use Rattle.std.proofs.lemmas.List.{append-nil, get_or-take, length-take-le, take-append-drop, take_all, map-append, length-take, get_or_append_left, get_or-append_right}
+use Rattle.std.proofs.lemmas.List.{append-nil, get_or-take, length-take-le, take-append-drop, take_all, map-append, length-take, get_or_append_left, get_or-append_right, take-take}
 use Rattle.std.proofs.Math.Seq.{take-suc}
 use Rattle.std.proofs.lemmas.List.Elements.{Contains-get_or}
 use Rattle.std.proofs.lemmas.List.Kept.{AllPairs-cons}
@@ -15,12 +15,7 @@ use Rattle.folder_store.specs.MemoryFolder.{blob_of, entry_of, entries_of, older
 use Rattle.folder_store.proofs.MemoryFiles.{Pair}
 use Rattle.folder_store.proofs.Files.{some_is_not_none}
 use Rattle.folder_store.proofs.PowerLoss.{found}
-
-take_less : (m n : ℕ) (xs : List ℕ) → m ≤ n → take m (take n xs) ≡ take m xs
-take_less zero n xs le = refl
-take_less (suc m) zero xs le = absurd (omega (arith, le))
-take_less (suc m) (suc n) [] le = refl
-take_less (suc m) (suc n) (x ∷ xs) le = ap (λ (ys : List ℕ). x ∷ ys) (take_less m n xs (omega (arith, le)))
+use Rattle.folder_store.proofs.Lasting.{none_found}
 
 -- the first bytes of a file, with all that was flushed and not cut off since
 pub front_left : (b : Blob) (n : ℕ) → b.uncut ≤ n → IsLeft b (take n b.content)
@@ -35,7 +30,7 @@ front_left b n enough = elim (cases_lt n (length b.content)) [
           behind = drop b.uncut (take n b.content);
           kept =
               sym (take-append-drop b.uncut (take n b.content))
-              ∙ ap (λ (xs : List ℕ). xs ++ drop b.uncut (take n b.content)) (take_less b.uncut n b.content enough);
+              ∙ ap (λ (xs : List ℕ). xs ++ drop b.uncut (take n b.content)) (take-take b.uncut n b.content enough);
           most = inl (omega (arith, size, below));
           each = λ i from inside. inl (omega (arith, inside, size, below), get_or-take n b.content i 0 (omega (arith, inside, size)));
         }
@@ -62,7 +57,7 @@ zeroed_left b n left enough (zeros, is, all, le) = subst (λ (xs : List ℕ). Is
   behind = drop b.uncut (take n b.content) ++ zeros;
   kept =
       ap (λ (xs : List ℕ). xs ++ zeros) (sym (take-append-drop b.uncut (take n b.content))
-      ∙ ap (λ (xs : List ℕ). xs ++ drop b.uncut (take n b.content)) (take_less b.uncut n b.content enough))
+      ∙ ap (λ (xs : List ℕ). xs ++ drop b.uncut (take n b.content)) (take-take b.uncut n b.content enough))
       ∙ append_assoc (take b.uncut b.content) (drop b.uncut (take n b.content)) zeros;
   most = inl short;
   each = λ i from inside. elim (cases_lt i (length (take n b.content))) [
@@ -180,15 +175,6 @@ distinct_cons : (x : List ℕ) (xs : List (List ℕ)) → (Contains xs x → ⊥
 distinct_cons x xs absent distinct =
     AllPairs-cons (λ a b. a ≢ b) x xs (λ k d fits e. absent (subst (λ y. Contains xs y) (sym e) (Contains-get_or xs k d fits))) distinct
 
--- a name that isn't there leads to no file
-none_of : (name : List ℕ) (es : List Entry) → (Contains (names_in es) name → ⊥) → find name es ≡ None
-none_of name [] free = refl
-none_of name (e ∷ es) free = by (bytes_eq name e.name) (bytes_eq-Decides name e.name).0 (none_of name es (λ c. free (suc c.0, omega (arith, c.1), c.2)))
-  where
-    by : (v : Bool) → (v ≡ true → name ≡ e.name) → find name es ≡ None → cond v (Some e.blob) (find name es) ≡ None
-    by true same later = absurd (free (0, omega arith, sym (same refl)))
-    by false same later = later
-
 survives_find : (older : List Older) (es left : List Entry) (name : List ℕ) → AreDistinct (names_in es) → Survive older es left → Stays older es left name
 unfolding secured_of
 survives_find older [] left name distinct is = (None, ap (find name) is, inl tt)
@@ -213,7 +199,7 @@ survives_find older (e ∷ es) left name distinct h =
     by go (inl (may, rest)) true same =
         let titled : e.name ≡ name = sym ((bytes_eq-Decides name e.name).0 same) in
         let gone : find name es ≡ None =
-        none_of name es (λ c. distinct_head e.name (names_in es) distinct (subst (λ (n : List ℕ). Contains (names_in es) n) (sym titled) c)) in
+        none_found name es (λ c. distinct_head e.name (names_in es) distinct (subst (λ (n : List ℕ). Contains (names_in es) n) (sym titled) c)) in
         (None, survives_none older es left name rest gone, named None titled same may)
     by go (inr (bytes, rest, is, may, more)) true same =
         let titled : e.name ≡ name = sym ((bytes_eq-Decides name e.name).0 same) in
@@ -234,7 +220,7 @@ survives_names older [] left is distinct = subst (λ (xs : List Entry). AreDisti
 survives_names older (e ∷ es) left (inl (gone, rest)) distinct = survives_names older es left rest (distinct_tail e.name (names_in es) distinct)
 survives_names older (e ∷ es) left (inr (bytes, rest, is, may, more)) distinct =
     let gone : find e.name rest ≡ None =
-    survives_none older es rest e.name more (none_of e.name es (distinct_head e.name (names_in es) distinct)) in
+    survives_none older es rest e.name more (none_found e.name es (distinct_head e.name (names_in es) distinct)) in
     subst (λ (xs : List Entry). AreDistinct (names_in xs)) (sym is)
     (distinct_cons e.name (names_in rest) (found e.name rest gone) (survives_names older es rest more (distinct_tail e.name (names_in es) distinct)))
 
