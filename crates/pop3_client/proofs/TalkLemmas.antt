@@ -317,16 +317,16 @@ pub stopped_first : (turn : Turn) (turns : List Turn) (old new : Place) (fault :
 stopped_first turn turns old new fault broke =
     record { done = []; replies = []; next = turn; later = turns; mid = old; split = refl; talked = talked_none old; broke = broke }
 
-pub stopped_next : (turn : Turn) (turns : List Turn) (reply : WholeReply) (a b new : Place) (fault : Fault)
-    → Talked (turn ∷ []) (reply ∷ []) a b → Stopped turns b new fault → Stopped (turn ∷ turns) a new fault
-stopped_next turn turns reply a b new fault first then = record {
-  done = turn ∷ then.done;
-  replies = reply ∷ then.replies;
+-- after turns that were talked, others stopped
+pub stopped_behind : (xs ys : List Turn) (rs : List WholeReply) (a b new : Place) (fault : Fault) → Talked xs rs a b → Stopped ys b new fault → Stopped (xs ++ ys) a new fault
+stopped_behind xs ys rs a b new fault first then = record {
+  done = xs ++ then.done;
+  replies = rs ++ then.replies;
   next = then.next;
   later = then.later;
   mid = then.mid;
-  split = ap (λ (ts : List Turn). turn ∷ ts) then.split;
-  talked = talked_on (turn ∷ []) then.done (reply ∷ []) then.replies a b then.mid first then.talked;
+  split = ap (λ (ts : List Turn). xs ++ ts) then.split ∙ sym (append_assoc xs then.done (then.next ∷ then.later));
+  talked = talked_on xs then.done rs then.replies a b then.mid first then.talked;
   broke = then.broke;
 }
 
@@ -352,4 +352,4 @@ tells_talks turn old new (Err fault) tells = stopped_first turn [] old new fault
 pub tells_then : (turn : Turn) (turns : List Turn) (old mid new : Place) (reply : WholeReply) (result : Result (Unit {0}) Fault)
     → Talked (turn ∷ []) (reply ∷ []) old mid → Talks turns mid result new → Talks (turn ∷ turns) old result new
 tells_then turn turns old mid new reply (Ok done) first then = (reply ∷ then.0, talked_on (turn ∷ []) turns (reply ∷ []) then.0 old mid new first then.1)
-tells_then turn turns old mid new reply (Err fault) first then = stopped_next turn turns reply old mid new fault first then
+tells_then turn turns old mid new reply (Err fault) first then = stopped_behind (turn ∷ []) turns (reply ∷ []) old mid new fault first then

@@ -1,7 +1,7 @@
 use Rattle.std.proofs.Common.{◌∷◌, [], refl}
 use Rattle.pop3_client.specs.Turns.{greeting, user, pass}
 use Rattle.pop3_client.proofs.ClientLemmas.{in_words, and_then, and_then_two}
-use Rattle.pop3_client.proofs.TalkLemmas.{asks_tells, tells_talks, tells_then, talked_line, stopped_first, stopped_next}
+use Rattle.pop3_client.proofs.TalkLemmas.{asks_tells, tells_talks, tells_then, talked_line, stopped_first, stopped_behind}
 use Rattle.pop3_client.proofs.client.Client.log_in_by.Goals as goal
 
 pub returns-in-Err-clause-talks : goal.returns-in-Err-clause-talks
@@ -10,7 +10,7 @@ returns-in-Err-clause-talks g c = in_words g.W.Wire c.in-Err.ensures.asks (λ as
 
 pub returns-in-Err-ask-clause-talks : goal.returns-in-Err-ask-clause-talks
 returns-in-Err-ask-clause-talks g c = and_then g.W.Wire g.met.W.Wire.leads_on c.in_default.ensures.asks c.in-Err-ask.ensures.asks (λ first second name password is also.
-    stopped_next greeting (user name ∷ pass password ∷ []) _ _ _ _ c.in-Err-ask.fault (talked_line greeting first.0 _ _ first.1 refl)
+    stopped_behind (greeting ∷ []) (user name ∷ pass password ∷ []) _ _ _ _ c.in-Err-ask.fault (talked_line greeting first.0 _ _ first.1 refl)
     (stopped_first (user name) (pass password ∷ []) _ _ c.in-Err-ask.fault (second (user name) (name, refl) refl is)))
 
 pub returns-clause-talks : goal.returns-clause-talks
