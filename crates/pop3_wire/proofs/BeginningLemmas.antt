@@ -8,7 +8,7 @@ use Rattle.pop3_wire.specs.Body.{dot, IsContent, unstuffed, kept, body_of, text_
 use Rattle.pop3_wire.specs.declared.unstuffer.Spot.{Spot}
 use Rattle.pop3_wire.specs.declared.unstuffer.Spot.TheVariants.{Start, Dot, DotCr, Middle, Cr, Done}
 use Rattle.pop3_wire.specs.Unstuffing.{Partly, Reaches}
-use Rattle.pop3_wire.proofs.LineLemmas.{cons_same, first_line_same, same_cons, lf_is_not_cr, IsLine-back, IsLine-front}
+use Rattle.pop3_wire.proofs.LineLemmas.{cons_same, first_line_same, same_cons, IsLine-back, IsLine-front}
 use Rattle.pop3_wire.proofs.BodyLemmas.{IsLine-dot, one_body, ended_first}
 
 -- the lines that were read are the first lines of every body that begins with them
@@ -96,7 +96,7 @@ reached_begins Middle bytes text rest whole h is =
 reached_begins Cr bytes text rest whole h is =
     text_begins bytes text (h.part ++ 13 ∷ []) (unstuffed h.part) rest whole h.partly is
     (λ later e. part_begins h.part (13 ∷ rest) later h.other (IsLine-front h.part (13 ∷ []) h.partly.line)
-    (λ front after p q. lf_is_not_cr 13 (same_cons 13 10 rest after q).0 refl) (sym (append_assoc h.part (13 ∷ []) rest) ∙ e))
+    (λ front after p q. absurd (omega (arith, (same_cons 13 10 rest after q).0))) (sym (append_assoc h.part (13 ∷ []) rest) ∙ e))
 reached_begins Done bytes text rest whole h is =
     let one = one_body bytes (bytes ++ rest) text whole rest [] h is (sym (append-nil (bytes ++ rest))) in
     ([], sym one.1 ∙ sym (append-nil text))

@@ -58,13 +58,10 @@ line_found bytes k first occurs = (whole, split)
 pub same_cons : (b c : ℕ) (x y : List ℕ) → b ∷ x ≡ c ∷ y → (b ≡ c) × (x ≡ y)
 same_cons b c x y e = (cc, cc)
 
-pub lf_is_not_cr : (b : ℕ) → b ≡ 10 → b ≡ 13 → ⊥
-lf_is_not_cr b e f = absurd (omega arith)
-
 -- a line that isn't empty doesn't begin with the pair
 no_front : (c : ℕ) (b x y : List ℕ) → IsLine (c ∷ b) → 13 ∷ 10 ∷ x ≡ c ∷ (b ++ (crlf ++ y)) → ⊥
 no_front c [] x y line e =
-    lf_is_not_cr 10 refl (same_cons 10 13 x (10 ∷ y) ((same_cons 13 c (10 ∷ x) (13 ∷ 10 ∷ y) e).1)).0
+    absurd (omega (arith, (same_cons 10 13 x (10 ∷ y) ((same_cons 13 c (10 ∷ x) (13 ∷ 10 ∷ y) e).1)).0))
 no_front c (d ∷ b) x y line e =
     let heads = same_cons 13 c (10 ∷ x) (d ∷ (b ++ (crlf ++ y))) e in
     let next = same_cons 10 d x (b ++ (crlf ++ y)) heads.1 in

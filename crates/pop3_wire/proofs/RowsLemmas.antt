@@ -286,10 +286,7 @@ bytes_of uid legal =
     ((and_parts (nat_lt 0 (length uid)) (nat_le (length uid) 70) parts.0).0, parts.1)
 
 spaces_end : (spaces : List ℕ) → AreSpaces spaces → Stops is_in_field spaces
-spaces_end [] blank byte more e = absurd (let h : [] ≡ byte ∷ more = e in cc)
-spaces_end (space ∷ spaces) blank byte more e =
-    let same : space ≡ byte = cc in
-    subst (λ (b : ℕ). is_in_field b ≡ false) same (space_ends_field space (and_parts (is_space space) (list_all is_space spaces) blank).0)
+spaces_end spaces blank byte more e = spaces_end_field spaces [] blank (λ none. let h : [] ≡ byte ∷ more = sym none ∙ e in cc) byte more (append-nil spaces ∙ e)
 
 no_more_read : (id spaces : List ℕ) → AreSpaces spaces → nothing_more id spaces ≡ Ok id
 unfolding nothing_more

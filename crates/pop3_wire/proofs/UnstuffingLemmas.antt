@@ -55,22 +55,15 @@ one_more bytes text part shown shown' byte given partly line more =
 NoCr-nil : NoCr []
 NoCr-nil front e = push-some front 13 (sym e)
 
-cr_is_no_dot : (byte : ℕ) → byte ≡ 13 → byte ≢ 46
-cr_is_no_dot byte e f = absurd (omega arith)
-
 NoCr-dot : NoCr dot
-NoCr-dot front e =
-    cr_is_no_dot 13 refl (sym (same_from_push [] front 46 13 e).1)
-
-cr_is_not_lf : (byte : ℕ) → byte ≡ 13 → byte ≢ 10
-cr_is_not_lf byte e f = absurd (omega arith)
+NoCr-dot front e = absurd (omega (arith, (same_from_push [] front 46 13 e).1))
 
 pub start_cr : (bytes text : List ℕ) → Partly bytes text [] [] → AtCr (bytes ++ 13 ∷ []) (text ++ [])
 start_cr bytes text h =
     record {
       part = [];
       other = λ e. cc;
-      partly = one_more bytes text [] [] [] 13 [] h (IsLine-push [] 13 IsLine-nil (inl (cr_is_not_lf 13 refl))) refl;
+      partly = one_more bytes text [] [] [] 13 [] h (IsLine-push [] 13 IsLine-nil (inl (λ e. absurd (omega (arith, e))))) refl;
     }
 
 pub start_other : (bytes text : List ℕ) (byte : ℕ) → byte ≢ 46 → byte ≢ 13 → Partly bytes text [] [] → InLine (bytes ++ byte ∷ []) (text ++ byte ∷ [])
@@ -84,7 +77,7 @@ start_other bytes text byte no_dot no_cr h =
     }
 
 pub dot_cr : (bytes text : List ℕ) → Partly bytes text dot [] → Partly (bytes ++ 13 ∷ []) (text ++ []) (46 ∷ 13 ∷ []) []
-dot_cr bytes text h = one_more bytes text dot [] [] 13 [] h (IsLine-push dot 13 IsLine-dot (inl (cr_is_not_lf 13 refl))) refl
+dot_cr bytes text h = one_more bytes text dot [] [] 13 [] h (IsLine-push dot 13 IsLine-dot (inl (λ e. absurd (omega (arith, e))))) refl
 
 pub dot_other : (bytes text : List ℕ) (byte : ℕ) → byte ≢ 13 → Partly bytes text dot [] → InLine (bytes ++ byte ∷ []) (text ++ byte ∷ [])
 dot_other bytes text byte no_cr h =
@@ -101,7 +94,7 @@ dot_cr_cr bytes text h =
     record {
       part = 46 ∷ 13 ∷ [];
       other = λ e. cc;
-      partly = one_more bytes text (46 ∷ 13 ∷ []) [] (13 ∷ []) 13 (13 ∷ []) h (IsLine-push (46 ∷ 13 ∷ []) 13 h.line (inl (cr_is_not_lf 13 refl))) refl;
+      partly = one_more bytes text (46 ∷ 13 ∷ []) [] (13 ∷ []) 13 (13 ∷ []) h (IsLine-push (46 ∷ 13 ∷ []) 13 h.line (inl (λ e. absurd (omega (arith, e))))) refl;
     }
 
 pub dot_cr_other : (bytes text : List ℕ) (byte : ℕ) → byte ≢ 10 → byte ≢ 13 → Partly bytes text (46 ∷ 13 ∷ []) [] → InLine (bytes ++ byte ∷ []) (text ++ 13 ∷ byte ∷ [])
@@ -119,7 +112,7 @@ middle_cr bytes text h =
     record {
       part = h.part;
       other = h.other;
-      partly = one_more bytes text h.part (unstuffed h.part) (unstuffed h.part) 13 [] h.partly (IsLine-push h.part 13 h.partly.line (inl (cr_is_not_lf 13 refl))) (sym (append-nil (unstuffed h.part)));
+      partly = one_more bytes text h.part (unstuffed h.part) (unstuffed h.part) 13 [] h.partly (IsLine-push h.part 13 h.partly.line (inl (λ e. absurd (omega (arith, e))))) (sym (append-nil (unstuffed h.part)));
     }
 
 pub middle_other : (bytes text : List ℕ) (byte : ℕ) → byte ≢ 13 → InLine bytes text → InLine (bytes ++ byte ∷ []) (text ++ byte ∷ [])
@@ -158,9 +151,9 @@ pub cr_cr : (bytes text : List ℕ) → AtCr bytes text → AtCr (bytes ++ 13 �
 cr_cr bytes text h =
     record {
       part = h.part ++ 13 ∷ [];
-      other = λ e. cr_is_no_dot 13 refl (same_from_push h.part [] 13 46 e).1;
+      other = λ e. absurd (omega (arith, (same_from_push h.part [] 13 46 e).1));
       partly = one_more bytes text (h.part ++ 13 ∷ []) (unstuffed h.part) (unstuffed (h.part ++ 13 ∷ [])) 13 (13 ∷ []) h.partly
-          (IsLine-push (h.part ++ 13 ∷ []) 13 h.partly.line (inl (cr_is_not_lf 13 refl))) (unstuffed-push h.part 13 (inr (cr_is_no_dot 13 refl)));
+          (IsLine-push (h.part ++ 13 ∷ []) 13 h.partly.line (inl (λ e. absurd (omega (arith, e))))) (unstuffed-push h.part 13 (inr (λ e. absurd (omega (arith, e)))));
     }
 
 pub cr_other : (bytes text : List ℕ) (byte : ℕ) → byte ≢ 10 → byte ≢ 13 → AtCr bytes text → InLine (bytes ++ byte ∷ []) (text ++ 13 ∷ byte ∷ [])
@@ -176,7 +169,7 @@ cr_other bytes text byte no_lf no_cr h =
   where
     shown : unstuffed ((h.part ++ 13 ∷ []) ++ byte ∷ []) ≡ unstuffed h.part ++ 13 ∷ byte ∷ []
     shown = unstuffed-push (h.part ++ 13 ∷ []) byte (inl (push-some h.part 13))
-        ∙ ap (λ (t : List ℕ). t ++ byte ∷ []) (unstuffed-push h.part 13 (inr (cr_is_no_dot 13 refl))) ∙ append_assoc (unstuffed h.part) (13 ∷ []) (byte ∷ [])
+        ∙ ap (λ (t : List ℕ). t ++ byte ∷ []) (unstuffed-push h.part 13 (inr (λ e. absurd (omega (arith, e))))) ∙ append_assoc (unstuffed h.part) (13 ∷ []) (byte ∷ [])
 
 -- the end of a line, both octets of it
 middle_cr_lf : (bytes text : List ℕ) → InLine bytes text → Partly (bytes ++ crlf) (text ++ 10 ∷ []) [] []
