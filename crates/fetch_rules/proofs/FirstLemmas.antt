@@ -4,14 +4,14 @@ use Rattle.std.specs.Prelude.{not}
 use Rattle.std.specs.List.{enumerate_from}
 use Rattle.std.proofs.lemmas.Bool.{and_parts, not-true}
 use Rattle.std.proofs.lemmas.List.{take_at}
-use Rattle.std.proofs.lemmas.List.FromFn.{get_or-enumerate_from}
+use Rattle.std.proofs.Math.Seq.{get_or-append_seam}
 use Rattle.mail_terms.specs.Listing.{Item, has_item, numbered, is_first}
 use Rattle.fetch_rules.specs.Record.{Row}
 use Rattle.fetch_rules.specs.Wanted.{is_asked_for, is_candidate}
 use Rattle.fetch_rules.specs.Plan.{planned, step_of}
 use Rattle.fetch_rules.specs.Laws.{FetchesFirsts}
 use Rattle.rc_file.specs.declared.settings.Settings.{Settings}
-use Rattle.fetch_rules.proofs.PlanLemmas.{has_number-at_most}
+use Rattle.fetch_rules.proofs.PlanLemmas.{has_number-at_most, message_at}
 
 -- the plan fetches only such messages
 first_of : (settings : Settings) (rows : List Row) (front is : List Item) (i : Item) (now : ℕ)
@@ -29,16 +29,11 @@ first_of settings rows front is i now fetched =
     whole : take (length front + 1 - 1) (front ++ i ∷ is) ≡ front
     whole = ap (λ (n : ℕ). take n (front ++ i ∷ is)) (omega arith) ∙ take_at front (i ∷ is) (length front) refl
 
-    at : (d : ℕ × Item) → get_or (numbered (front ++ i ∷ is)) (length front) d ≡ (length front + 1, i)
-    at d = get_or-enumerate_from 1 (front ++ i ∷ is) (length front) d inside ∙ ap (λ (n : ℕ). let m : ℕ × Item = (n, get_or (front ++ i ∷ is) (length front) d.1) in m) (omega arith)
-        ∙ ap (λ (item : Item). let m : ℕ × Item = (length front + 1, item) in m) (middle front)
-      where
-        middle : (front : List Item) → get_or (front ++ i ∷ is) (length front) d.1 ≡ i
-        middle [] = refl
-        middle (x ∷ xs) = middle xs
+    at : get_or (numbered (front ++ i ∷ is)) (length front) (0, i) ≡ (length front + 1, i)
+    at = message_at (front ++ i ∷ is) (length front) i inside ∙ ap (λ (item : Item). let m : ℕ × Item = (length front + 1, item) in m) (get_or-append_seam front i is i)
 
     candidate : is_candidate settings rows (front ++ i ∷ is) (length front + 1, i) ≡ true
-    candidate = ap (is_candidate settings rows (front ++ i ∷ is)) (sym (at (0, i)))
+    candidate = ap (is_candidate settings rows (front ++ i ∷ is)) (sym at)
         ∙ (and_parts (is_candidate settings rows (front ++ i ∷ is) (get_or (numbered (front ++ i ∷ is)) (length front) (0, i))) _
         (sym (has_number-at_most (is_candidate settings rows (front ++ i ∷ is)) settings.max_count (length front) (front ++ i ∷ is) (0, i) inside) ∙ fetched)).0
 

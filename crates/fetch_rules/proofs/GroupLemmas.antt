@@ -1,10 +1,9 @@
 -- What an appended group does to what a file stands for.
 use Rattle.std.proofs.Common.{◌≡◌, ◌≢◌, ◌⊎◌, ℕ, zero, suc, ◌+◌, ◌-◌, ◌<◌, ◌≤◌, List, [], ◌∷◌, ◌++◌, Bool, true, false, ◌||◌, cond, length, refl, sym, ◌∙◌, ap, subst, append_assoc, inl, inr, arith, length-append, map}
-use Rattle.std.specs.Prelude.{flat_map, ◌==◌, Option, Some, None}
+use Rattle.std.specs.Prelude.{flat_map, Option, Some, None}
 use Rattle.std.specs.List.{AllByRecursion}
 use Rattle.std.proofs.Math.Bool.{or-false, or-true}
-use Rattle.std.proofs.lemmas.Bool.{cases_Bool, true≢false}
-use Rattle.std.proofs.lemmas.Bool.Decides.{Decides-eqb}
+use Rattle.std.proofs.lemmas.Bool.{cases_Bool, true≢false, ne_eqb}
 use Rattle.std.proofs.lemmas.List.{append-nil}
 use Rattle.std.proofs.lemmas.List.Concat.{flat_map-append}
 use Rattle.std.proofs.lemmas.List.Elements.{All-append, All-from_recursion, recursion_from_All}
@@ -94,10 +93,7 @@ longer version bytes lines more old rest tail cut none each tail_is = record {
 
 feedless : (rest : List ℕ) → HasNo 10 rest → has_line_feed rest ≡ false
 feedless [] plain = refl
-feedless (x ∷ xs) plain = ap (λ (b : Bool). b || has_line_feed xs) (other x plain.0) ∙ feedless xs plain.1
-  where
-    other : (byte : ℕ) → byte ≢ 10 → (byte == 10) ≡ false
-    other byte differs = elim (cases_Bool (byte == 10)) [ inl same ↦ absurd (differs ((Decides-eqb byte 10).0 same)) | inr differ ↦ differ ]
+feedless (x ∷ xs) plain = ap (λ (b : Bool). b || has_line_feed xs) (ne_eqb x 10 plain.0) ∙ feedless xs plain.1
 
 at_end_rows : (n : ℕ) (progress : Progress) (rest : List ℕ) → HasNo 10 rest → at_end Two n progress rest ≡ Rows Two (counted progress) (left_open progress) (is_open progress || has_bytes rest)
 at_end_rows n progress rest plain =
@@ -206,10 +202,7 @@ record RowsFront (rows : List Row) (front : List ℕ) : Type 0 where
 
 rows_front : (rows : List Row) (front behind : List ℕ) → AllByRecursion IsRow rows → front ++ behind ≡ flat_map line_of rows → behind ≢ [] → RowsFront rows front
 rows_front [] [] behind each e some = absurd (some e)
-rows_front [] (c ∷ front) behind each e some = absurd (not_nil c (front ++ behind) e)
-  where
-    not_nil : (b : ℕ) (bs : List ℕ) → b ∷ bs ≡ [] → ⊥
-    not_nil b bs e' = cc
+rows_front [] (c ∷ front) behind each e some = absurd (let none : c ∷ (front ++ behind) ≡ [] = e in cc)
 rows_front (row ∷ rows) front behind each e some =
     let b = body_of (RowLine row) each.0 in
     elim (split_at_feed b.body (flat_map line_of rows) front behind b.plain (e ∙ b.text_is (flat_map line_of rows))) [

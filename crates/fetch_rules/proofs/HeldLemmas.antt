@@ -41,15 +41,11 @@ step : (version : Version) (n : ℕ) (p : Progress) (line : Line) (q : Progress)
 step version n (InBase rows) (RowLine row) q is e held = by_none (has_row rows row.uid) (InBase (rows ++ row ∷ [])) q (RepeatedId (line_after n)) e tt
 step version n (InBase rows) (GroupLine count) q is e held = from_same (InGroup rows None rows (count - 1)) q e tt
 step version n (InBase rows) (IntentLine intent) q is e held = opened version n rows None intent q is e
-step version n (BetweenGroups rows before) (RowLine row) q is e held = absurd (no_stand e)
 step version n (BetweenGroups rows before) (GroupLine count) q is e held = from_same (InGroup rows before rows (count - 1)) q e held
 step version n (BetweenGroups rows before) (IntentLine intent) q is e held = opened version n rows before intent q is e
 step version n (InGroup old before rows zero) (RowLine row) q is e held = by_test (may_take version rows row) (BetweenGroups (taken rows row) None) q (RepeatedId (line_after n)) e tt
 step version n (InGroup old before rows (suc more)) (RowLine row) q is e held = by_test (may_take version rows row) (InGroup old before (taken rows row) more) q (RepeatedId (line_after n)) e held
-step version n (InGroup old before rows zero) (GroupLine count) q is e held = absurd (no_stand e)
-step version n (InGroup old before rows (suc more)) (GroupLine count) q is e held = absurd (no_stand e)
-step version n (InGroup old before rows zero) (IntentLine intent) q is e held = absurd (no_stand e)
-step version n (InGroup old before rows (suc more)) (IntentLine intent) q is e held = absurd (no_stand e)
+step version n p line q is e held = absurd (no_stand e)
 
 abbrev HeldIf : Judged → Type 0
 HeldIf (Stands progress) = IsHeldAt progress

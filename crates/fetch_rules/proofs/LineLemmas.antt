@@ -10,7 +10,7 @@ use Rattle.std.proofs.lemmas.List.Elements.{All-weaker, recursion_from_All}
 use Rattle.std.proofs.lemmas.Fmt.{decimal_injective}
 use Rattle.mail_terms.specs.UniqueId.{IsLegalId}
 use Rattle.fetch_rules.specs.Record.{Row, IsRow, Intent, IsIntent}
-use Rattle.fetch_rules.specs.RecordFile.{Version, header, state_of, line_of, group_line, intent_line, Line, RowLine, GroupLine, IntentLine, text_of, IsLine}
+use Rattle.fetch_rules.specs.RecordFile.{state_of, line_of, group_line, intent_line, Line, RowLine, GroupLine, IntentLine, text_of, IsLine}
 use Rattle.fetch_rules.proofs.IdLemmas.{id_characters}
 use Rattle.fetch_rules.proofs.NumeralLemmas.{none_below-decimal}
 
@@ -230,16 +230,10 @@ group_whole_line bytes line number rest count bytes_are cut is =
     bytes_are ∙ ap (λ (xs : List ℕ). 43 ∷ 32 ∷ xs) (cut ∙ ap (λ (xs : List ℕ). xs ++ 10 ∷ rest) is) ∙ sym (group_split count rest)
 
 -- what was stripped
-pub signed : (bytes : List ℕ) (line : Bor (List ℕ)) → MatchOption (Some line) (pointwise nat_eq (take 2 bytes) (43 ∷ 32 ∷ []) ≡ false) (λ x. (pointwise nat_eq (take 2 bytes) (43 ∷ 32 ∷ []) ≡ true) × (x.now ≡ drop 2 bytes) × (length x.now + 2 ≡ length bytes)) → bytes ≡ 43 ∷ 32 ∷ line.now
-signed bytes line cases = strip_prefix_is Decides-eqb bytes (43 ∷ 32 ∷ []) (Some line) cases
-
-pub stripped : (version : Version) (bytes : List ℕ) (lines : Bor (List ℕ)) → MatchOption (Some lines) (pointwise nat_eq (take (length (header version)) bytes) (header version) ≡ false) (λ x. (pointwise nat_eq (take (length (header version)) bytes) (header version) ≡ true) × (x.now ≡ drop (length (header version)) bytes) × (length x.now + length (header version) ≡ length bytes)) → bytes ≡ header version ++ lines.now
-stripped version bytes lines cases = strip_prefix_is Decides-eqb bytes (header version) (Some lines) cases
+pub stripped : (prefix bytes : List ℕ) (rest : Bor (List ℕ)) → MatchOption (Some rest) (pointwise nat_eq (take (length prefix) bytes) prefix ≡ false) (λ x. (pointwise nat_eq (take (length prefix) bytes) prefix ≡ true) × (x.now ≡ drop (length prefix) bytes) × (length x.now + length prefix ≡ length bytes)) → bytes ≡ prefix ++ rest.now
+stripped prefix bytes rest cases = strip_prefix_is Decides-eqb bytes prefix (Some rest) cases
 
 -- the fields of an intent's line
-pub signed_intent : (bytes : List ℕ) (line : Bor (List ℕ)) → MatchOption (Some line) (pointwise nat_eq (take 2 bytes) (33 ∷ 32 ∷ []) ≡ false) (λ x. (pointwise nat_eq (take 2 bytes) (33 ∷ 32 ∷ []) ≡ true) × (x.now ≡ drop 2 bytes) × (length x.now + 2 ≡ length bytes)) → bytes ≡ 33 ∷ 32 ∷ line.now
-signed_intent bytes line cases = strip_prefix_is Decides-eqb bytes (33 ∷ 32 ∷ []) (Some line) cases
-
 pub behind_intent_sign : (bytes line : List ℕ) (intent : Intent) (behind : List ℕ) → bytes ≡ 33 ∷ 32 ∷ line → bytes ≡ intent_line intent ++ behind
     → line ≡ intent.uid ++ 32 ∷ (decimal intent.start ++ 32 ∷ (decimal intent.len ++ 10 ∷ behind))
 behind_intent_sign bytes line intent behind bytes_are is =

@@ -44,10 +44,7 @@ step n (InBase rows) (RowLine row) q none e = by (has_row rows row.uid) refl
         let is : InBase (rows ++ row ∷ []) ≡ q = same_progress (ap (λ b. cond b (Fails (RepeatedId (line_after n))) (Stands (InBase (rows ++ row ∷ [])))) (sym h) ∙ e) in
         (e, sym (ap left_open is))
 step n (InBase rows) (GroupLine count) q none e = (e, sym (ap left_open (same_progress e)))
-step n (InBase rows) (IntentLine intent) q none e = absurd (no_stand e)
-step n (BetweenGroups rows before) (RowLine row) q none e = absurd (no_stand e)
 step n (BetweenGroups rows before) (GroupLine count) q none e = (e, sym (ap left_open (same_progress e)) ∙ none)
-step n (BetweenGroups rows before) (IntentLine intent) q none e = absurd (no_stand e)
 step n (InGroup old before rows zero) (RowLine row) q none e = by (may_take One rows row) refl
   where
     by : (b : Bool) → may_take One rows row ≡ b → Stays n (InGroup old before rows zero) (RowLine row) q
@@ -62,10 +59,7 @@ step n (InGroup old before rows (suc more)) (RowLine row) q none e = by (may_tak
     by true h =
         let is : InGroup old before (taken rows row) more ≡ q = same_progress (ap (λ b. cond b (Stands (InGroup old before (taken rows row) more)) (Fails (RepeatedId (line_after n)))) (sym h) ∙ e) in
         (ap (λ b. cond b (Stands (InGroup old before (taken rows row) more)) (Fails (RepeatedId (line_after n)))) (may_take_more rows row h) ∙ ap Stands is, sym (ap left_open is) ∙ none)
-step n (InGroup old before rows zero) (GroupLine count) q none e = absurd (no_stand e)
-step n (InGroup old before rows (suc more)) (GroupLine count) q none e = absurd (no_stand e)
-step n (InGroup old before rows zero) (IntentLine intent) q none e = absurd (no_stand e)
-step n (InGroup old before rows (suc more)) (IntentLine intent) q none e = absurd (no_stand e)
+step n p line q none e = absurd (no_stand e)
 
 steps : (n : ℕ) (j : Judged) (p : Progress) (lines : List Line) (q : Progress) → j ≡ Stands p → left_open p ≡ None → judged One n j lines ≡ Stands q
     → (judged Two n j lines ≡ Stands q) × (left_open q ≡ None)

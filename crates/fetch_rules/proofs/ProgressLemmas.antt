@@ -18,7 +18,7 @@ use Rattle.fetch_rules.specs.declared.seen.reading.End.TheVariants.{Counted, Ope
 use Rattle.fetch_rules.proofs.LineLemmas.{body_of, no_line}
 use Rattle.fetch_rules.proofs.CutLemmas.{one_meaning}
 use Rattle.fetch_rules.proofs.ReadLemmas.{IsBehind, behind_header, behind_more, behind_fails}
-use Rattle.fetch_rules.proofs.JudgedLemmas.{rows_no_fault, same_rows}
+use Rattle.fetch_rules.proofs.JudgedLemmas.{rows_no_fault, same_rows, no_stand}
 
 pub record Reads (bytes : List ℕ) (older : Bool) (part : Part) (intent : Option Intent) (rows : List Row) (rest : List ℕ) (number front : ℕ) : Type 0 where
   pub n : ℕ
@@ -47,10 +47,7 @@ next_number n number is = omega (arith, is)
 stays_out : (version : Version) (part next : Part) (n : ℕ) (intent after : Option Intent) (before rows new : List Row) (row : Row)
     → after_line version n (progress_of part intent before rows) (RowLine row) ≡ Stands (progress_of next after before new) → is_within next ≡ true → is_within part ≡ true
 stays_out version (Within more) next n intent after before rows new row leads within = refl
-stays_out version Between next n intent after before rows new row leads within = absurd (apart leads)
-  where
-    apart : Fails (BadRow (line_after n)) ≡ Stands (progress_of next after before new) → ⊥
-    apart e = cc
+stays_out version Between next n intent after before rows new row leads within = absurd (no_stand leads)
 stays_out version Base Base n intent after before rows new row leads within = absurd (true≢false (sym within))
 stays_out version Base Between n intent after before rows new row leads within = absurd (true≢false (sym within))
 stays_out version Base (Within more) n intent after before rows new row leads within = absurd (by (has_row rows row.uid) leads)
@@ -59,31 +56,22 @@ stays_out version Base (Within more) n intent after before rows new row leads wi
     by true e = cc
     by false e = cc
 
-fault_no_base : (fault : SeenFault) (rows : List Row) → Fails fault ≡ Stands (InBase rows) → ⊥
-fault_no_base fault rows e = cc
-
-between_no_base : (rows new : List Row) (intent : Option Intent) → Stands (BetweenGroups rows intent) ≡ Stands (InBase new) → ⊥
-between_no_base rows new intent e = cc
-
-group_no_base : (old rows new : List Row) (intent : Option Intent) (more : ℕ) → Stands (InGroup old intent rows more) ≡ Stands (InBase new) → ⊥
-group_no_base old rows new intent more e = cc
-
 placed_behind : (version : Version) (part next : Part) (n : ℕ) (intent : Option Intent) (before rows new : List Row) (row : Row)
     → after_line version n (progress_of part intent before rows) (RowLine row) ≡ Stands (progress_of next (open_behind next intent) before new) → IsPlaced part intent → IsPlaced next (open_behind next intent)
 placed_behind version part Between n intent before rows new row leads placed = tt
 placed_behind version part (Within more) n intent before rows new row leads placed = tt
 placed_behind version Base Base n intent before rows new row leads placed = placed
-placed_behind version Between Base n intent before rows new row leads placed = absurd (fault_no_base (BadRow (line_after n)) new leads)
+placed_behind version Between Base n intent before rows new row leads placed = absurd (no_stand leads)
 placed_behind version (Within zero) Base n intent before rows new row leads placed = absurd (by (may_take version rows row) leads)
   where
     by : (b : Bool) → cond b (Stands (BetweenGroups (taken rows row) None)) (Fails (RepeatedId (line_after n))) ≡ Stands (InBase new) → ⊥
-    by true e = between_no_base (taken rows row) new None e
-    by false e = fault_no_base (RepeatedId (line_after n)) new e
+    by true e = cc
+    by false e = cc
 placed_behind version (Within (suc more)) Base n intent before rows new row leads placed = absurd (by (may_take version rows row) leads)
   where
     by : (b : Bool) → cond b (Stands (InGroup before intent (taken rows row) more)) (Fails (RepeatedId (line_after n))) ≡ Stands (InBase new) → ⊥
-    by true e = group_no_base before (taken rows row) new intent more e
-    by false e = fault_no_base (RepeatedId (line_after n)) new e
+    by true e = cc
+    by false e = cc
 
 open_within : (next : Part) (intent : Option Intent) → is_within next ≡ true → open_behind next intent ≡ intent
 open_within Base intent within = refl

@@ -2,7 +2,7 @@
 use Rattle.std.proofs.Common.{◌≡◌, ℕ, ◌+◌, ◌<◌, ◌^◌, List, [], ◌∷◌, ◌++◌, Some, Bool, true, false, ◌&&◌, cond, length, refl, sym, ◌∙◌, ap, subst, append_assoc, inr, arith, length-append}
 use Rattle.std.specs.Prelude.{flat_map, ◌==◌, find, option_map}
 use Rattle.std.specs.List.{AllByRecursion, list_any}
-use Rattle.std.proofs.lemmas.Bool.{eq-eqb, or_left, or_right}
+use Rattle.std.proofs.lemmas.Bool.{eq-eqb, or_left, or_right, and_from}
 use Rattle.std.proofs.lemmas.List.{append-nil}
 use Rattle.std.proofs.lemmas.List.Concat.{flat_map-append}
 use Rattle.std.proofs.lemmas.List.Elements.{All-push, recursion_from_All, All-cons, All-nil}
@@ -74,16 +74,13 @@ is_there : (uid : List ℕ) (rows : List Row) (state : State) → IsLegalId uid 
 is_there uid [] state legal each found = absurd (none-some state found)
 is_there uid (row ∷ rows) state legal each found = by (is_of uid row) refl found (λ at. is_there uid rows state legal each.1 at)
   where
-    both : (a c : Bool) → a ≡ true → c ≡ true → (a && (true && c)) ≡ true
-    both a c p r = ap (λ (x : Bool). x && c) p ∙ r
-
     by : (here : Bool) → is_of uid row ≡ here → option_map state_of (cond here (Some row) (find (is_of uid) rows)) ≡ Some state
         → (state_in rows uid ≡ Some state → IsThere rows uid state.first_seen) → IsThere (row ∷ rows) uid state.first_seen
     by true test at rest =
         let same = same_Some (state_of row) state at in
         record {
           has = or_left _ _ test;
-          there = or_left _ _ (both (is_of uid row) (row.first_seen == state.first_seen) test (eq-eqb row.first_seen state.first_seen (ap (λ (s : State). s.first_seen) same)));
+          there = or_left _ _ (and_from (is_of uid row) (row.first_seen == state.first_seen) test (eq-eqb row.first_seen state.first_seen (ap (λ (s : State). s.first_seen) same)));
           row = record { legal = legal; fits = subst (λ (k : ℕ). k < 2 ^ 64) (ap (λ (s : State). s.first_seen) same) each.0.fits };
         }
     by false test at rest =
