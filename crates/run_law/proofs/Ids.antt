@@ -2,9 +2,12 @@
 use Rattle.std.proofs.Common.{◌≡◌, ◌≤◌, inl, inr, ℕ, zero, suc, List, [], ◌∷◌, ◌++◌, Bool, true, false, cond, ◌&&◌, ◌||◌, length, take, map, refl, sym, ◌∙◌, ap, subst, arith}
 use Rattle.std.specs.Prelude.{bytes_eq, Contains}
 use Rattle.std.specs.List.{filter, AllByRecursion}
-use Rattle.std.proofs.lemmas.Bool.{both_ways, or_parts, or_cases, or_from, cases_Bool, false_from_ne_true}
+use Rattle.std.proofs.lemmas.Bool.{both_ways, or_parts, or_cases, or_from, false_from_ne_true}
 use Rattle.std.proofs.lemmas.Slice.Eq.{bytes_eq-Decides}
 use Rattle.std.proofs.lemmas.List.Folds.{Any-from_list_any}
+use Rattle.std.proofs.lemmas.Cmp.{nat_list_eq_equiv}
+use Rattle.std.proofs.lemmas.Map.Views.{any-filter_same}
+use Rattle.std.proofs.Math.Bool.{and_comm}
 use Rattle.mail_terms.specs.Distinct.{AreDistinct}
 use Rattle.pop3_wire.specs.World.{Message}
 use Rattle.mail_terms.specs.UniqueId.{has_id}
@@ -18,31 +21,12 @@ pub bytes_self : (a : List ℕ) → bytes_eq a a ≡ true
 bytes_self a = (bytes_eq-Decides a a).1 refl
 
 pub bytes_swap : (a b : List ℕ) → bytes_eq a b ≡ bytes_eq b a
-bytes_swap a b = elim (cases_Bool (bytes_eq a b)) [
-  | inl t ↦ t ∙ sym ((bytes_eq-Decides b a).1 (sym (bytes_same a b t)))
-  | inr f ↦ f ∙ sym (false_from_ne_true _ (λ t. both_ways (bytes_eq a b) f ((bytes_eq-Decides a b).1 (sym (bytes_same b a t)))))
-]
+bytes_swap a b = nat_list_eq_equiv.symm a b
 
 -- ---- whether an id is among these
 
-has_cond : (q : Bool) (x : List ℕ) (f : List (List ℕ)) (id : List ℕ) → has_id (cond q (x ∷ f) f) id ≡ cond q (bytes_eq id x || has_id f id) (has_id f id)
-has_cond true x f id = refl
-has_cond false x f id = refl
-
-filtered_table : (q e h g p : Bool) → (e ≡ true → q ≡ p) → g ≡ (h && p) → cond q (e || g) g ≡ ((e || h) && p)
-filtered_table true true h g true s i = refl
-filtered_table true true h g false s i = absurd (both_ways false refl (sym (s refl)))
-filtered_table true false h g p s i = i
-filtered_table false true h g true s i = absurd (both_ways false refl (s refl))
-filtered_table false true true g false s i = i
-filtered_table false true false g false s i = i
-filtered_table false false h g p s i = i
-
 pub has_filtered : (p : List ℕ → Bool) (ids : List (List ℕ)) (id : List ℕ) → has_id (filter p ids) id ≡ (has_id ids id && p id)
-has_filtered p [] id = refl
-has_filtered p (x ∷ xs) id =
-    has_cond (p x) x (filter p xs) id
-    ∙ filtered_table (p x) (bytes_eq id x) (has_id xs id) (has_id (filter p xs) id) (p id) (λ e. ap p (sym (bytes_same id x e))) (has_filtered p xs id)
+has_filtered p ids id = any-filter_same (bytes_eq id) p (p id) (λ x e. ap p (sym (bytes_same id x e))) ids ∙ and_comm (p id) (has_id ids id)
 
 pub ids_filtered : (p : List ℕ → Bool) (ms : List Message) (id : List ℕ) → has_id (ids_of (filter (λ (m : Message). p m.uid) ms)) id ≡ (has_id (ids_of ms) id && p id)
 ids_filtered p ms id = ap (λ l. has_id l id) (sym (filter-map p (λ (m : Message). m.uid) ms)) ∙ has_filtered p (ids_of ms) id

@@ -1,10 +1,10 @@
 -- What a record says of an id after a listing was merged with nothing held, and after ids that have rows were
 -- marked.
-use Rattle.std.proofs.Common.{◌≡◌, inl, inr, ℕ, List, [], ◌∷◌, Bool, true, false, ◌&&◌, ◌||◌, refl, sym, ◌∙◌, ap}
+use Rattle.std.proofs.Common.{◌≡◌, inl, inr, ℕ, List, [], ◌∷◌, true, false, ◌&&◌, ◌||◌, refl, sym, ◌∙◌, ap}
 use Rattle.std.specs.Prelude.{bytes_eq}
 use Rattle.std.specs.List.{AllByRecursion}
 use Rattle.std.proofs.lemmas.Bool.{cases_Bool}
-use Rattle.std.proofs.Math.Bool.{or-false}
+use Rattle.std.proofs.Math.Bool.{or-false, and-false, or_assoc}
 use Rattle.mail_terms.specs.Listing.{Item, is_flagged}
 use Rattle.mail_terms.specs.UniqueId.{has_id}
 use Rattle.fetch_rules.specs.Record.{Row, has_row, is_delivered, marked, merged, marked_all}
@@ -27,12 +27,8 @@ delivered_unheld laws rows listing now id = laws.held rows listing (none_held li
 pub delivered_one : RowLaws → (rows : List Row) (uid id : List ℕ) → has_row rows uid ≡ true → is_delivered (marked rows uid) id ≡ (is_delivered rows id || bytes_eq id uid)
 delivered_one laws rows uid id has = laws.marks rows uid id ∙ ap (λ b. is_delivered rows id || b) (elim (cases_Bool (bytes_eq id uid)) [
   | inl same ↦ ap (λ b. has_row rows id && b) (bytes_swap uid id ∙ same) ∙ ap (λ b. b && true) (ap (has_row rows) (bytes_same id uid same) ∙ has) ∙ sym same
-  | inr other ↦ ap (λ b. has_row rows id && b) (bytes_swap uid id ∙ other) ∙ and_false (has_row rows id) ∙ sym other
+  | inr other ↦ ap (λ b. has_row rows id && b) (bytes_swap uid id ∙ other) ∙ and-false (has_row rows id) ∙ sym other
 ])
-  where
-    and_false : (b : Bool) → (b && false) ≡ false
-    and_false true = refl
-    and_false false = refl
 
 pub rows_marked : RowLaws → (rows : List Row) (uids : List (List ℕ)) (id : List ℕ) → has_row (marked_all rows uids) id ≡ has_row rows id
 rows_marked laws rows [] id = refl
@@ -45,8 +41,4 @@ delivered_all laws rows [] id h = sym (or-false (is_delivered rows id))
 delivered_all laws rows (uid ∷ uids) id h =
     delivered_all laws (marked rows uid) uids id (all_map (λ u. has_row rows u ≡ true) (λ u. has_row (marked rows uid) u ≡ true) (λ u k. laws.keeps rows uid u ∙ k) uids h.1)
     ∙ ap (λ b. b || has_id uids id) (delivered_one laws rows uid id h.0)
-    ∙ assoc (is_delivered rows id) (bytes_eq id uid) (has_id uids id)
-  where
-    assoc : (a b c : Bool) → ((a || b) || c) ≡ (a || (b || c))
-    assoc true b c = refl
-    assoc false b c = refl
+    ∙ or_assoc (is_delivered rows id) (bytes_eq id uid) (has_id uids id)

@@ -1,8 +1,9 @@
 -- No server makes a session with an mboxrd lose a text, or delete a message that isn't known.
-use Rattle.std.proofs.Common.{◌≡◌, inl, inr, ◌≤◌, ℕ, zero, suc, Bool, true, false, ◌&&◌, ◌||◌, List, [], ◌∷◌, ◌++◌, take, zip, length, refl, sym, ap, ◌∙◌, arith, append_assoc}
+use Rattle.std.proofs.Common.{◌≡◌, inl, inr, ◌≤◌, ℕ, zero, suc, true, ◌&&◌, ◌||◌, List, [], ◌∷◌, ◌++◌, take, zip, length, refl, sym, ap, ◌∙◌, arith, append_assoc}
 use Rattle.std.specs.Prelude.{bytes_eq, ◌⊎◌}
 use Rattle.std.proofs.lemmas.Bool.{or_cases, and_parts, true≢false}
 use Rattle.std.proofs.lemmas.List.{append-nil}
+use Rattle.std.proofs.Math.Bool.{or-true}
 use Rattle.mail_terms.specs.Listing.{Item, is_first, is_last}
 use Rattle.rc_file.specs.declared.settings.Settings.{Settings}
 use Rattle.fetch_rules.specs.Record.{Row, has_row, is_delivered, marked, marked_all}
@@ -12,7 +13,7 @@ use Rattle.run_law.specs.Steps.{Effect, ids_wanted}
 use Rattle.run_law.specs.Sessions.{IsBegun, BeginsOne}
 use Rattle.run_law.specs.Mboxes.{MboxAccount, settled, mbox_rows, mbox_wanted, entries, MboxStores}
 use Rattle.pop3_wire.specs.declared.command.Command.{Command}
-use Rattle.pop3_wire.specs.declared.command.Command.TheVariants.{User, Pass, Stat, UidlAll, UidlOne, ListAll, ListOne, Retr, Dele, Rset, Noop, Top, Quit}
+use Rattle.pop3_wire.specs.declared.command.Command.TheVariants.{Dele}
 use Rattle.run_law.specs.Safety.{IsAmong}
 use Rattle.run_law.specs.MboxSafety.{WasAppended, MboxDeletesKept, MboxSessionsAreSafe}
 use Rattle.run_law.proofs.Lists.{all_map}
@@ -29,12 +30,8 @@ marked_ids laws rows (uid ∷ uids) id e = elim (marked_ids laws (marked rows ui
     | inl before ↦ inl before
     | inr now ↦ inr (ap (λ b. b || has_id uids id) (bytes_swap id uid ∙ (and_parts (has_row rows id) (bytes_eq uid id) now).1))
   ]
-  | inr more ↦ inr (ap (λ b. bytes_eq id uid || b) more ∙ or_true (bytes_eq id uid))
+  | inr more ↦ inr (ap (λ b. bytes_eq id uid || b) more ∙ or-true (bytes_eq id uid))
 ]
-  where
-    or_true : (b : Bool) → (b || true) ≡ true
-    or_true true = refl
-    or_true false = refl
 
 -- the entry of a wanted message's text is among the entries
 record HasText (qs : List (ℕ × Item)) (texts : List (List ℕ)) (id bytes : List ℕ) : Type 0 where

@@ -5,6 +5,7 @@ use Rattle.std.specs.Prelude.{bytes_eq}
 use Rattle.std.proofs.lemmas.Bool.{both_ways, or_cases, and_parts}
 use Rattle.std.proofs.lemmas.List.Elements.{filter-append}
 use Rattle.std.proofs.Math.Bool.{or-true}
+use Rattle.std.proofs.lemmas.Simd.{map-map}
 use Rattle.mail_terms.specs.UniqueId.{is_legal_id, has_id}
 use Rattle.pop3_wire.specs.World.{Message, IsMessage, maildrop_of}
 use Rattle.mail_terms.specs.Listing.{Item}
@@ -16,7 +17,7 @@ use Rattle.mail_store.specs.FileName.{is_held}
 use Rattle.mail_store.specs.Held.{flags_of}
 use Rattle.run_law.specs.Mails.{ids_of, item_of, listing_of, is_selected, selected}
 use Rattle.run_law.specs.Runs.{Frame, IsFrame, Situation, Kept, WantsNext}
-use Rattle.run_law.proofs.Lists.{filter-filter, any-map, map-map, all_map, all_both, all_take, head_same, tail_same}
+use Rattle.run_law.proofs.Lists.{filter-filter, any-map, all_map, all_both, all_take, head_same, tail_same}
 use Rattle.run_law.proofs.Ids.{Distinct, distinct_is, distinct_take, distinct_filter, all_ids_at, bytes_self}
 use Rattle.run_law.proofs.Below.{Records}
 use Rattle.run_law.proofs.Records.{delivered_merged}

@@ -1,7 +1,8 @@
 -- What a record says of an id after it was merged and marked.
-use Rattle.std.proofs.Common.{◌≡◌, ◌⊎◌, inl, inr, ℕ, List, [], ◌∷◌, Bool, true, false, ◌&&◌, ◌||◌, refl, sym, ◌∙◌, ap}
+use Rattle.std.proofs.Common.{◌≡◌, ◌⊎◌, inl, inr, ℕ, List, [], ◌∷◌, true, ◌&&◌, ◌||◌, sym, ◌∙◌, ap}
 use Rattle.std.specs.Prelude.{bytes_eq}
 use Rattle.std.proofs.lemmas.Bool.{or_cases, and_parts}
+use Rattle.std.proofs.Math.Bool.{or-true}
 use Rattle.mail_terms.specs.Listing.{Item, has_item}
 use Rattle.fetch_rules.specs.Record.{Row, has_row, is_delivered, marked, merged, marked_all}
 use Rattle.mail_store.specs.Maildir.{Maildir}
@@ -20,12 +21,8 @@ delivered_marked laws rows (uid ∷ uids) id e = elim (delivered_marked laws (ma
     | inl before ↦ inl before
     | inr now ↦ inr (ap (λ b. b || has_id uids id) (bytes_swap id uid ∙ (and_parts (has_row rows id) (bytes_eq uid id) now).1))
   ]
-  | inr more ↦ inr (ap (λ b. bytes_eq id uid || b) more ∙ or_true (bytes_eq id uid))
+  | inr more ↦ inr (ap (λ b. bytes_eq id uid || b) more ∙ or-true (bytes_eq id uid))
 ]
-  where
-    or_true : (b : Bool) → (b || true) ≡ true
-    or_true true = refl
-    or_true false = refl
 
 -- after a merge an id is recorded exactly if it was before, or is listed and held
 pub delivered_merged : Records → (account : List ℕ) (maildir : Maildir) (rows : List Row) (items : List Item) (now : ℕ) (id : List ℕ)

@@ -3,10 +3,11 @@ use Rattle.std.proofs.Common.{◌≡◌, ◌≤◌, ◌≢◌, ◌+◌, ◌-◌,
 use Rattle.std.specs.Prelude.{bytes_eq, zip}
 use Rattle.std.specs.List.{filter, enumerate_from, AllByRecursion}
 use Rattle.std.proofs.lemmas.Bool.{both_ways, or_parts}
-use Rattle.std.proofs.lemmas.List.{take-map, append-nil}
+use Rattle.std.proofs.lemmas.List.{take-map, append-nil, drop-map}
 use Rattle.std.proofs.lemmas.List.Elements.{All-from_recursion}
 use Rattle.std.proofs.lemmas.List.Kept.{AllPairs-cons}
 use Rattle.std.proofs.lemmas.Option.{same_Some}
+use Rattle.std.proofs.lemmas.Simd.{map-map}
 use Rattle.pop3_wire.specs.World.{Message}
 use Rattle.mail_terms.specs.Listing.{Item, HasDistinctIds}
 use Rattle.fetch_rules.specs.Record.{Row, is_delivered}
@@ -18,7 +19,7 @@ use Rattle.mail_terms.specs.UniqueId.{has_id}
 use Rattle.run_law.specs.Mails.{ids_of, item_of, listing_of}
 use Rattle.run_law.specs.Steps.{AreTexts, file_for, is_unheld, ids_wanted}
 use Rattle.run_law.specs.Runs.{past_limit}
-use Rattle.run_law.proofs.Lists.{filter-map, map-map, all_take, all_filter}
+use Rattle.run_law.proofs.Lists.{filter-map, all_take, all_filter}
 use Rattle.run_law.proofs.Ids.{Distinct, bytes_self}
 use Rattle.run_law.proofs.Files.{message_file}
 
@@ -168,11 +169,6 @@ begins n limit xs =
     by : (b : Bool) → cond b xs (take limit xs) ++ cond b [] (drop limit xs) ≡ xs
     by true = append-nil xs
     by false = take-append-drop limit xs
-
-drop-map : {X Y : Type 0} (f : X → Y) (k : ℕ) (l : List X) → drop k (map f l) ≡ map f (drop k l)
-drop-map f zero l = refl
-drop-map f (suc k) [] = refl
-drop-map f (suc k) (x ∷ l) = drop-map f k l
 
 pub past-map : {X Y : Type 0} (f : X → Y) (n : ℕ) (xs : List X) → past_limit n (map f xs) ≡ map f (past_limit n xs)
 past-map f n xs = by (n == 0)
