@@ -17,9 +17,9 @@ use Rattle.pop3_wire.specs.Reading.{WholeReply}
 use Rattle.pop3_client.specs.Turns.{IsGood, retr}
 use Rattle.pop3_client.specs.Texts.{body_text}
 use Rattle.fetch_session.specs.declared.fault.Cut.{Cut}
-use Rattle.fetch_session.specs.declared.fault.Fault.{Fault}
-use Rattle.fetch_session.specs.declared.fault.Fault.TheVariants.{ConnectionEnded, ReadFailed, WriteFailed, ReplyTooLong, BadReply, Refused, BadListing, ListingsDisagree, TooMany, TextTooLong, StoreRefused, SeenRefused, NoMemory, BadSeen}
-use Rattle.fetch_session.specs.declared.fault.Why.TheVariants as why
+use Rattle.pop3_client.specs.declared.fault.Fault.{Fault}
+use Rattle.pop3_client.specs.declared.fault.Fault.TheVariants.{ConnectionEnded, ReadFailed, WriteFailed, ReplyTooLong, BadReply, Refused, BadListing, ListingsDisagree, TooMany, TextTooLong, StoreRefused, SeenRefused, NoMemory, BadSeen}
+use Rattle.pop3_client.specs.declared.fault.Why.TheVariants as why
 use Rattle.fetch_session.specs.declared.report.ReportLine.{ReportLine}
 use Rattle.fetch_session.specs.Report.{retrieved_in}
 use Rattle.fetch_session.specs.Laws.{SteadyFilesKeep, UnsavedFilesKeep}

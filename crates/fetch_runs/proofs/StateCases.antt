@@ -23,9 +23,9 @@ use Rattle.fetch_runs.proofs.Courses.{course, stored_done, spare_in, spare_of, c
 use Rattle.fetch_runs.proofs.StatePlan.{Safe, deleted_by}
 use Rattle.fetch_runs.proofs.StateMarks.{safe_next, safe_done}
 use Rattle.fetch_runs.proofs.StateBuilt.{Laws, Leads, Part, safe_tasks, recorded_all, wanted_all, lead}
-use Rattle.fetch_session.specs.declared.fault.Fault.{Fault}
-use Rattle.fetch_session.specs.declared.fault.Fault.TheVariants.{ConnectionEnded, ReadFailed, WriteFailed, ReplyTooLong, BadReply, Refused, BadListing, ListingsDisagree, TooMany, TextTooLong, StoreRefused, SeenRefused, NoMemory, BadSeen}
-use Rattle.fetch_session.specs.declared.fault.Why.TheVariants as why
+use Rattle.pop3_client.specs.declared.fault.Fault.{Fault}
+use Rattle.pop3_client.specs.declared.fault.Fault.TheVariants.{ConnectionEnded, ReadFailed, WriteFailed, ReplyTooLong, BadReply, Refused, BadListing, ListingsDisagree, TooMany, TextTooLong, StoreRefused, SeenRefused, NoMemory, BadSeen}
+use Rattle.pop3_client.specs.declared.fault.Why.TheVariants as why
 use Rattle.fetch_session.specs.declared.report.ReportLine.{ReportLine}
 use Rattle.fetch_session.specs.Report.{retrieved_in}
 use Rattle.fetch_runs.proofs.StateDone.{counted_by}

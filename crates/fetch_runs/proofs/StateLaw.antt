@@ -12,9 +12,9 @@ use Rattle.mail_store.specs.Held.{flags_of}
 use Rattle.pop3_wire.specs.Link.{Link}
 use Rattle.pop3_wire.specs.Place.{Place, at}
 use Rattle.fetch_session.specs.declared.fault.Cut.{Cut}
-use Rattle.fetch_session.specs.declared.fault.Fault.{Fault}
-use Rattle.fetch_session.specs.declared.fault.Fault.TheVariants.{ConnectionEnded, ReadFailed, WriteFailed, ReplyTooLong, BadReply, Refused, BadListing, ListingsDisagree, TooMany, TextTooLong, StoreRefused, SeenRefused, NoMemory, BadSeen}
-use Rattle.fetch_session.specs.declared.fault.Why.TheVariants as why
+use Rattle.pop3_client.specs.declared.fault.Fault.{Fault}
+use Rattle.pop3_client.specs.declared.fault.Fault.TheVariants.{ConnectionEnded, ReadFailed, WriteFailed, ReplyTooLong, BadReply, Refused, BadListing, ListingsDisagree, TooMany, TextTooLong, StoreRefused, SeenRefused, NoMemory, BadSeen}
+use Rattle.pop3_client.specs.declared.fault.Why.TheVariants as why
 use Rattle.fetch_session.specs.declared.report.Report.{Report}
 use Rattle.fetch_session.specs.declared.report.ReportLine.{ReportLine}
 use Rattle.fetch_session.specs.Record.{Keeps, KeepsRows}

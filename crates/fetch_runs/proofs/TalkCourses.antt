@@ -10,7 +10,6 @@ use Rattle.pop3_wire.specs.Bodies.{Rest}
 use Rattle.pop3_wire.specs.Link.{Link}
 use Rattle.pop3_wire.specs.Place.{Place}
 use Rattle.pop3_wire.specs.Reading.{WholeReply}
-use Rattle.pop3_client.specs.declared.fault.Fault.{Fault as TalkFault}
 use Rattle.pop3_client.specs.Turns.{Turn, turn_bytes, retr}
 use Rattle.pop3_client.specs.Conversation.{Talked, Talks, ConversationsArePaced}
 use Rattle.pop3_client.specs.Texts.{body_text}
@@ -18,7 +17,7 @@ use Rattle.mail_terms.specs.Listing.{Item}
 use Rattle.mail_store.specs.FileName.{stem_of}
 use Rattle.run_law.specs.Readings.{Retrieves}
 use Rattle.fetch_session.specs.declared.fault.Cut.{Cut}
-use Rattle.fetch_session.specs.declared.fault.Fault.{Fault}
+use Rattle.pop3_client.specs.declared.fault.Fault.{Fault}
 use Rattle.fetch_session.specs.Task.{Task, stores, Done, task_in, turns_in, tasks_of, turns_of, replies_of, IsAnswered}
 use Rattle.fetch_session.specs.Store.{RefusesText}
 use Rattle.fetch_session.specs.Tail.{tail, LeftBy, Left, turns_in as tail_turns}
@@ -62,7 +61,7 @@ module _ (joining : TurnsJoin) (paced : ConversationsArePaced) (items : List Ite
   -- the tail after a cut with no reply under way
   tailed : (cut : Cut) (there last : Place) → cut.rest ≡ None → Left cut there last → Fronted (tail_turns (tail cut.fault)) there.link last.link
   tailed cut there last none left =
-      let said : (result : Result (Unit {0}) TalkFault) × Talks (tail_turns (tail cut.fault)) there result last = subst (λ (r : Option Rest). LeftBy cut.fault r there last) none left in
+      let said : (result : Result (Unit {0}) Fault) × Talks (tail_turns (tail cut.fault)) there result last = subst (λ (r : Option Rest). LeftBy cut.fault r there last) none left in
       fronted paced (tail_turns (tail cut.fault)) there last said.0 said.1
 
   -- the next turn was begun, and its text isn't stored
@@ -89,9 +88,7 @@ module _ (joining : TurnsJoin) (paced : ConversationsArePaced) (items : List Ite
       → Took (course items dones [] (next ∷ [])) first.place (tail_turns (tail cut.fault)) last.link
   took_broken dones next first mid new cut last talked plain each broken left =
       begun_next dones next broken.turn (tail_turns (tail cut.fault)) first.place mid.place last.link broken.takes talked plain each
-      (subst (λ (f : Fault). Goes (broken.turn ∷ []) (tail_turns (tail f)) mid.place.link last.link) (sym broken.is)
-      (goes_broke broken.turn mid.place new.place last broken.why broken.broke
-      (subst (λ (f : Fault). Fronted (tail_turns (tail f)) new.place.link last.link) broken.is (tailed cut new.place last broken.none left))))
+      (goes_broke broken.turn mid.place new.place last cut.fault broken.broke (tailed cut new.place last broken.none left))
 
   -- the text was read to its end, and the store refused it
   with_spare : (dones : List Done) (next : Task) (number : ℕ) (uid : List ℕ) (reply : WholeReply) (tail : List Turn) (first mid there : Place) (link : Link) → next ≡ stores number uid

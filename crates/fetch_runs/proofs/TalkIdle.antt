@@ -6,14 +6,13 @@ use Rattle.pop3_wire.specs.declared.command.Command.{Command}
 use Rattle.pop3_wire.specs.Honest.{Asked, FrontsAreAsked}
 use Rattle.pop3_wire.specs.Link.{Link}
 use Rattle.pop3_wire.specs.Place.{Place}
-use Rattle.pop3_client.specs.declared.fault.Fault.{Fault as TalkFault}
+use Rattle.pop3_client.specs.declared.fault.Fault.{Fault}
 use Rattle.pop3_client.specs.Turns.{Turn}
 use Rattle.pop3_client.specs.Conversation.{ConversationsArePaced, Stopped, Talks}
 use Rattle.mail_terms.specs.Credential.{is_credential}
 use Rattle.mail_terms.specs.declared.listing.UidRow.{UidRow}
 use Rattle.mail_terms.specs.declared.listing.ScanRow.{ScanRow}
 use Rattle.run_law.specs.Sessions.{BeginsOne}
-use Rattle.fetch_session.specs.Fault.{fault_of}
 use Rattle.fetch_session.specs.Opening.{opening, Opened, Enters}
 use Rattle.fetch_session.specs.Tail.{tail, turns_in as tail_turns}
 use Rattle.fetch_runs.specs.Conversations.{Converses}
@@ -33,10 +32,10 @@ pub record Opens (name word : List ℕ) (turns : List Turn) (old new : Link) : T
   pub said : Converses (opening name word) turns sent got
 
 module _ (paced : ConversationsArePaced) (name word : List ℕ) (start new last : Place) (none : start.waiting ≡ []) where
-  opens_stopped : (why : TalkFault) → Stopped (opening name word) start new why → (result : Result (Unit {0}) TalkFault) → Talks (tail_turns (tail (fault_of why))) new result last
-      → Opens name word (tail_turns (tail (fault_of why))) start.link last.link
+  opens_stopped : (why : Fault) → Stopped (opening name word) start new why → (result : Result (Unit {0}) Fault) → Talks (tail_turns (tail why)) new result last
+      → Opens name word (tail_turns (tail why)) start.link last.link
   opens_stopped why s result talks =
-      let turns = tail_turns (tail (fault_of why)) in
+      let turns = tail_turns (tail why) in
       let is = conversation s.done s.replies (s.next ∷ []) turns start s.mid last.link none s.talked (goes_broke s.next s.mid new last why s.broke (fronted paced turns new last result talks)) in
       record {
         sent = is.0;
@@ -46,7 +45,7 @@ module _ (paced : ConversationsArePaced) (name word : List ℕ) (start new last 
         said = record { done = s.done; begun = s.next ∷ []; later = s.later; replies = s.replies; split = s.split; one = inr (s.next, refl); is = is.4 };
       }
 
-  pub opens_all : (count : ℕ) (uids : List UidRow) (sizes : List ScanRow) (turns : List Turn) → Opened name word start new count uids sizes → (result : Result (Unit {0}) TalkFault)
+  pub opens_all : (count : ℕ) (uids : List UidRow) (sizes : List ScanRow) (turns : List Turn) → Opened name word start new count uids sizes → (result : Result (Unit {0}) Fault)
       → Talks turns new result last → Opens name word turns start.link last.link
   opens_all count uids sizes turns opened result talks =
       let replies = opened.welcome ++ opened.counted ∷ opened.named ∷ opened.sized ∷ [] in
@@ -60,11 +59,11 @@ module _ (paced : ConversationsArePaced) (name word : List ℕ) (start new last 
       }
 
   -- no listing was joined
-  pub opens_cut : (why : TalkFault) → Enters name word start (Err why) new → (result : Result (Unit {0}) TalkFault) → Talks (tail_turns (tail (fault_of why))) new result last
-      → Opens name word (tail_turns (tail (fault_of why))) start.link last.link
+  pub opens_cut : (why : Fault) → Enters name word start (Err why) new → (result : Result (Unit {0}) Fault) → Talks (tail_turns (tail why)) new result last
+      → Opens name word (tail_turns (tail why)) start.link last.link
   opens_cut why (inl stopped) result talks = opens_stopped why stopped result talks
-  opens_cut why (inr (inl (is, (count, uids, sizes, opened, never)))) result talks = opens_all count uids sizes (tail_turns (tail (fault_of why))) opened result talks
-  opens_cut why (inr (inr (is, (count, uids, sizes, opened)))) result talks = opens_all count uids sizes (tail_turns (tail (fault_of why))) opened result talks
+  opens_cut why (inr (inl (is, (count, uids, sizes, opened, never)))) result talks = opens_all count uids sizes (tail_turns (tail why)) opened result talks
+  opens_cut why (inr (inr (is, (count, uids, sizes, opened)))) result talks = opens_all count uids sizes (tail_turns (tail why)) opened result talks
 
 -- the commands of a conversation of the opening
 pub commanded_opening : FrontsAreAsked → (name word : List ℕ) → is_credential name ≡ true → is_credential word ≡ true → (turns : List Turn) → IsTail turns → (sent got : List ℕ)

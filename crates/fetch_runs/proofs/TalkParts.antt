@@ -5,10 +5,9 @@ use Rattle.std.proofs.lemmas.List.{append-nil, append_cancel_left}
 use Rattle.pop3_wire.specs.Link.{Link}
 use Rattle.pop3_wire.specs.Place.{Place}
 use Rattle.pop3_wire.specs.Reading.{WholeReply, reply_bytes}
-use Rattle.pop3_client.specs.declared.fault.Fault.{Fault as TalkFault}
+use Rattle.pop3_client.specs.declared.fault.Fault.{Fault}
 use Rattle.pop3_client.specs.Turns.{Turn, turn_bytes, asking}
 use Rattle.pop3_client.specs.Conversation.{Talked, Talks, Broke, IsFrontOfNext, ConversationsArePaced}
-use Rattle.fetch_session.specs.Fault.{fault_of}
 use Rattle.fetch_session.specs.Tail.{turns_in, tail}
 use Rattle.fetch_runs.specs.Conversations.{SentBehind, Conversation}
 
@@ -31,7 +30,7 @@ pub record Fronted (turns : List Turn) (old new : Link) : Type 0 where
   pub sent : new.sent ≡ old.sent ++ part
   pub got : new.got ≡ old.got ++ gained
 
-pub fronted : ConversationsArePaced → (turns : List Turn) (old new : Place) (result : Result (Unit {0}) TalkFault) → Talks turns old result new → Fronted turns old.link new.link
+pub fronted : ConversationsArePaced → (turns : List Turn) (old new : Place) (result : Result (Unit {0}) Fault) → Talks turns old result new → Fronted turns old.link new.link
 fronted paced turns old new result talks =
     let p = paced turns old new result talks in
     record { part = asking p.done ++ p.part; later = p.front.0; gained = p.gained; split = p.front.1; sent = p.sent; got = p.got }
@@ -75,17 +74,17 @@ goes_part turn tail old mid new front rest split sent got f = record {
 }
 
 -- a turn that broke, and the tail for its fault
-pub goes_broke : (turn : Turn) (old mid new : Place) (why : TalkFault) → Broke turn old mid why → Fronted (turns_in (tail (fault_of why))) mid.link new.link
-    → Goes (turn ∷ []) (turns_in (tail (fault_of why))) old.link new.link
+pub goes_broke : (turn : Turn) (old mid new : Place) (why : Fault) → Broke turn old mid why → Fronted (turns_in (tail why)) mid.link new.link
+    → Goes (turn ∷ []) (turns_in (tail why)) old.link new.link
 goes_broke turn old mid new why (inl (is, said)) f =
-    goes_part turn (turns_in (tail (fault_of why))) old.link mid.link new.link said.front said.rest said.split said.sent said.got
-    (subst (λ (w : TalkFault). Fronted (turns_in (tail (fault_of w))) mid.link new.link) is f)
+    goes_part turn (turns_in (tail why)) old.link mid.link new.link said.front said.rest said.split said.sent said.got
+    (subst (λ (w : Fault). Fronted (turns_in (tail w)) mid.link new.link) is f)
 goes_broke turn old mid new why (inr (inl bad)) f =
-    goes_whole turn (turns_in (tail (fault_of why))) old.link mid.link new.link bad.gained bad.sent bad.got f
+    goes_whole turn (turns_in (tail why)) old.link mid.link new.link bad.gained bad.sent bad.got f
 goes_broke turn old mid new why (inr (inr (is, may, same))) f =
-    goes_part turn (turns_in (tail (fault_of why))) old.link mid.link new.link [] (turn_bytes turn) refl
+    goes_part turn (turns_in (tail why)) old.link mid.link new.link [] (turn_bytes turn) refl
     (ap (λ (p : Place). p.link.sent) same ∙ sym (append-nil old.link.sent)) (ap (λ (p : Place). p.link.got) same)
-    (subst (λ (w : TalkFault). Fronted (turns_in (tail (fault_of w))) mid.link new.link) is f)
+    (subst (λ (w : Fault). Fronted (turns_in (tail w)) mid.link new.link) is f)
 
 under_way : (turn : Turn) (tail done rest : List Turn) (part : List ℕ) → turn ∷ tail ≡ done ++ rest → IsFrontOfNext part rest
     → (later : List ℕ) → asking (turn ∷ tail) ≡ (asking done ++ part) ++ later → SentBehind (turn ∷ []) tail (asking done ++ part)
@@ -105,7 +104,7 @@ under_way turn tail (d ∷ done) rest part split begun later front =
     whole = append_assoc (turn_bytes d) (asking done) part ∙ ap (λ (t : Turn). turn_bytes t ++ (asking done ++ part)) (sym (cons_parts turn d tail (done ++ rest) split).0)
 
 -- a turn whose reply is read to its end, and the tail
-pub goes_under : ConversationsArePaced → (turn : Turn) (tail : List Turn) (old new : Place) (result : Result (Unit {0}) TalkFault) → Talks (turn ∷ tail) old result new
+pub goes_under : ConversationsArePaced → (turn : Turn) (tail : List Turn) (old new : Place) (result : Result (Unit {0}) Fault) → Talks (turn ∷ tail) old result new
     → Goes (turn ∷ []) tail old.link new.link
 goes_under paced turn tail old new result talks =
     let p = paced (turn ∷ tail) old new result talks in

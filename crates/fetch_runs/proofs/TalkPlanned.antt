@@ -9,7 +9,6 @@ use Rattle.pop3_wire.specs.Honest.{Asked, FrontsAreAsked}
 use Rattle.pop3_wire.specs.Link.{Link}
 use Rattle.pop3_wire.specs.Place.{Place, at}
 use Rattle.pop3_wire.specs.Reading.{WholeReply}
-use Rattle.pop3_client.specs.declared.fault.Fault.{Fault as TalkFault}
 use Rattle.pop3_client.specs.Turns.{Turn, quit}
 use Rattle.pop3_client.specs.Conversation.{ConversationsArePaced, Talks}
 use Rattle.mail_terms.specs.Listing.{Item, Joins}
@@ -21,10 +20,9 @@ use Rattle.fetch_rules.specs.Plan.{planned}
 use Rattle.fetch_rules.specs.declared.steps.Step.{Step}
 use Rattle.run_law.specs.Plans.{step_commands, IsFrontOfPlan}
 use Rattle.fetch_session.specs.declared.fault.Cut.{Cut}
-use Rattle.fetch_session.specs.declared.fault.Fault.{Fault}
-use Rattle.fetch_session.specs.declared.fault.Fault.TheVariants.{NoMemory}
+use Rattle.pop3_client.specs.declared.fault.Fault.{Fault}
+use Rattle.pop3_client.specs.declared.fault.Fault.TheVariants.{NoMemory}
 use Rattle.fetch_session.specs.Laws.{TurnsJoin}
-use Rattle.fetch_session.specs.Fault.{fault_of}
 use Rattle.fetch_session.specs.Opening.{opening, Opened}
 use Rattle.fetch_session.specs.Task.{Task, turns_in}
 use Rattle.fetch_session.specs.Tail.{tail, Left, turns_in as tail_turns}
@@ -146,12 +144,12 @@ module _ (joining : TurnsJoin) (paced : ConversationsArePaced) (law : FrontsAreA
       → Opens name word (tail_turns (tail cut.fault)) link link'
   opens cut is leaves = subst (λ (l : Link). Opens name word (tail_turns (tail cut.fault)) link l) (sym leaves.2) (by is)
     where
-      said : (fault : Fault) → cut.fault ≡ fault → ((result : Result (Unit {0}) TalkFault) → Talks (tail_turns (tail fault)) new result leaves.0 → Opens name word (tail_turns (tail fault)) link leaves.0.link)
-          → (result : Result (Unit {0}) TalkFault) × Talks (tail_turns (tail fault)) new result leaves.0 → Opens name word (tail_turns (tail cut.fault)) link leaves.0.link
+      said : (fault : Fault) → cut.fault ≡ fault → ((result : Result (Unit {0}) Fault) → Talks (tail_turns (tail fault)) new result leaves.0 → Opens name word (tail_turns (tail fault)) link leaves.0.link)
+          → (result : Result (Unit {0}) Fault) × Talks (tail_turns (tail fault)) new result leaves.0 → Opens name word (tail_turns (tail cut.fault)) link leaves.0.link
       said fault same f talks = subst (λ (f : Fault). Opens name word (tail_turns (tail f)) link leaves.0.link) (sym same) (f talks.0 talks.1)
 
       by : NotEntered settings (at link []) before cut new after notes ⊎ NoRoom settings (at link []) before cut new after notes → Opens name word (tail_turns (tail cut.fault)) link leaves.0.link
-      by (inl is) = said (fault_of is.why) (ap (λ (c : Cut). c.fault) is.is) (opens_cut paced name word (at link []) new leaves.0 refl is.why is.enters) (subst (λ (c : Cut). Left c new leaves.0) is.is leaves.1)
+      by (inl is) = said is.why (ap (λ (c : Cut). c.fault) is.is) (opens_cut paced name word (at link []) new leaves.0 refl is.why is.enters) (subst (λ (c : Cut). Left c new leaves.0) is.is leaves.1)
       by (inr is) =
           said NoMemory (ap (λ (c : Cut). c.fault) is.is) (opens_all paced name word (at link []) new leaves.0 refl is.enters.0 is.enters.1 is.enters.2 (tail_turns (tail NoMemory)) is.enters.3)
           (subst (λ (c : Cut). Left c new leaves.0) is.is leaves.1)

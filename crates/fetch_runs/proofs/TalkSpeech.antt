@@ -19,8 +19,8 @@ use Rattle.run_law.specs.Sessions.{BeginsOne}
 use Rattle.fetch_session.specs.Opening.{opening, Opened}
 use Rattle.fetch_session.specs.Task.{Task, turns_in}
 use Rattle.pop3_client.specs.declared.fault.Asked.TheVariants.{Greeting as ByGreeting, User as ByUser, Pass as ByPass, Stat as ByStat, Uidl as ByUidl, List as ByList, Retr as ByRetr, Dele as ByDele, Quit as ByQuit}
-use Rattle.fetch_session.specs.declared.fault.Fault.{Fault}
-use Rattle.fetch_session.specs.declared.fault.Fault.TheVariants.{ConnectionEnded, ReadFailed, WriteFailed, ReplyTooLong, BadReply, Refused, BadListing, ListingsDisagree, TooMany, TextTooLong, StoreRefused, SeenRefused, NoMemory, BadSeen}
+use Rattle.pop3_client.specs.declared.fault.Fault.{Fault}
+use Rattle.pop3_client.specs.declared.fault.Fault.TheVariants.{ConnectionEnded, ReadFailed, WriteFailed, ReplyTooLong, BadReply, Refused, BadListing, ListingsDisagree, TooMany, TextTooLong, StoreRefused, SeenRefused, NoMemory, BadSeen}
 use Rattle.fetch_session.specs.Tail.{tail, turns_in as tail_turns}
 use Rattle.fetch_session.specs.Laws.{TurnsJoin}
 use Rattle.fetch_runs.specs.Conversations.{Conversation}

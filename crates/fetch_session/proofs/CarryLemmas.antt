@@ -10,15 +10,14 @@ use Rattle.fetch_rules.specs.Plan.{planned, step_of}
 use Rattle.rc_file.specs.declared.settings.Settings.{Settings}
 use Rattle.fetch_rules.specs.declared.steps.Step.{Step}
 use Rattle.mail_store.specs.FlatFile.{Stored}
-use Rattle.pop3_client.specs.declared.fault.Fault.{Fault as TalkFault}
 use Rattle.pop3_client.specs.Turns.{Turn, quit}
 use Rattle.pop3_wire.specs.Reading.{WholeReply}
 use Rattle.pop3_client.specs.Conversation.{Talked, Broke}
-use Rattle.fetch_session.specs.declared.fault.Fault.{Fault}
+use Rattle.pop3_client.specs.declared.fault.Fault.{Fault}
 use Rattle.fetch_session.specs.declared.readiness.Ready.{Ready}
 use Rattle.fetch_session.specs.declared.fault.Cut.{Cut}
 use Rattle.fetch_session.specs.declared.report.ReportLine.{ReportLine}
-use Rattle.fetch_session.specs.Fault.{fault_of, cut_of}
+use Rattle.fetch_session.specs.Fault.{cut_of}
 use Rattle.fetch_session.specs.Task.{Task, says, tasks_planned}
 use Rattle.fetch_session.specs.Readiness.{IsReady, Unready}
 use Rattle.fetch_session.specs.Target.{Target, Stores}
@@ -86,15 +85,15 @@ module _ (settings : Settings) (target : Target) (items : List Item) (now : ℕ)
         (said target quit reply a b store'' file'' rows lines' talked));
   }
 
-  pub carry_broke : (a b : Place) (store'' : Stores) (file'' : Stored) (rows : List Row) (lines' : List ReportLine) (why : TalkFault) (fault : Fault) (cut : Cut)
-      → AllWent target (tasks_planned steps items held) (scene place store' file' after lines) (scene a store'' file'' rows lines') → cut ≡ cut_of fault None → fault ≡ fault_of why → Broke quit a b why
+  pub carry_broke : (a b : Place) (store'' : Stores) (file'' : Stored) (rows : List Row) (lines' : List ReportLine) (fault : Fault) (cut : Cut)
+      → AllWent target (tasks_planned steps items held) (scene place store' file' after lines) (scene a store'' file'' rows lines') → cut ≡ cut_of fault None → Broke quit a b fault
       → Carried settings target items now place store file lines (Err cut) (scene b store'' file'' rows lines') skipped
-  carry_broke a b store'' file'' rows lines' why fault cut went plain is_fault broke = record {
+  carry_broke a b store'' file'' rows lines' fault cut went plain broke = record {
     mid = scene place store' file' after lines;
     prepared = prepared;
     skips = skips;
     does = subst (λ (ts : List Task). Fell target ts (scene place store' file' after lines) cut (scene b store'' file'' rows lines')) same_tasks
         (fell_on target (tasks_planned steps items held) (says quit ∷ []) (scene place store' file' after lines) (scene a store'' file'' rows lines') (scene b store'' file'' rows lines') cut went
         (fell_first target (says quit) [] (scene a store'' file'' rows lines') (scene b store'' file'' rows lines') cut
-        (text_broken target (says quit) quit a b store'' file'' rows lines' why fault cut refl plain is_fault broke)));
+        (text_broken target (says quit) quit a b store'' file'' rows lines' fault cut refl plain broke)));
   }

@@ -18,18 +18,17 @@ use Rattle.mail_store.specs.declared.maildir.disk.Folder.{Folder}
 use Rattle.mail_store.specs.declared.maildir.disk.Folder.TheVariants.{New, Cur}
 use Rattle.mail_store.specs.declared.maildir.disk.MaildirDisk.{Ghosts as DiskGhosts}
 use Rattle.mail_store.specs.declared.file.flat_file.FlatFile.{Ghosts as FileGhosts}
-use Rattle.pop3_client.specs.declared.fault.Fault.{Fault as TalkFault}
 use Rattle.pop3_client.specs.Turns.{quit}
 use Rattle.pop3_client.specs.Conversation.{Talked, Broke}
 use Rattle.fetch_session.specs.declared.account.Store.{Store}
 use Rattle.fetch_session.specs.declared.account.Store.TheVariants.{Maildir as InMaildir, Mboxrd as InMbox}
 use Rattle.fetch_session.specs.declared.fault.Cut.{Cut}
-use Rattle.fetch_session.specs.declared.fault.Fault.{Fault}
+use Rattle.pop3_client.specs.declared.fault.Fault.{Fault}
 use Rattle.fetch_session.specs.declared.readiness.Ready.{Ready}
 use Rattle.fetch_session.specs.declared.report.Outcome.TheVariants.{Ended, Cut as WasCut}
 use Rattle.fetch_session.specs.declared.report.Report.{Report}
 use Rattle.fetch_session.specs.declared.report.ReportLine.{ReportLine}
-use Rattle.fetch_session.specs.Fault.{fault_of, cut_of}
+use Rattle.fetch_session.specs.Fault.{cut_of}
 use Rattle.fetch_session.specs.Lasting.{AllStayIn, CarriedForGood, CarriesForGood, DoesForGood, DonesLast, KeepsMailIn, ProceedsForGood, RowsLast, SessionForGood, StayFrom, TextsLast, front_in, outlives_in}
 use Rattle.fetch_session.specs.Readiness.{IsReady, Settles}
 use Rattle.fetch_session.specs.Report.{Reports, skipped_in}
@@ -111,16 +110,16 @@ module _ {D F : Type 0} (disk : DiskGhosts D) (files : FileGhosts F) (settings :
         said_lasts disk files target does.0.dones (reply ∷ []) mid end f does.1,
       )
 
-  pub good_carry_broke : (a b : Place) (store'' : Stores) (file'' : Stored) (rows : List Row) (lines' : List ReportLine) (why : TalkFault) (fault : Fault) (cut : Cut)
+  pub good_carry_broke : (a b : Place) (store'' : Stores) (file'' : Stored) (rows : List Row) (lines' : List ReportLine) (fault : Fault) (cut : Cut)
       → DoesForGood disk files target (tasks_planned steps items held) mid (Ok tt) (scene a store'' file'' rows lines') end f
-      → cut ≡ cut_of fault None → fault ≡ fault_of why → Broke quit a b why
+      → cut ≡ cut_of fault None → Broke quit a b fault
       → CarriedForGood disk files settings target items now place store file lines (Err cut) (scene b store'' file'' rows lines') skipped end f
   unfolding fell_on fell_first
-  good_carry_broke a b store'' file'' rows lines' why fault cut does plain is_fault broke =
+  good_carry_broke a b store'' file'' rows lines' fault cut does plain broke =
       carried (Err cut) (scene b store'' file'' rows lines') (
         fell_on target (tasks_planned steps items held) (says quit ∷ []) mid (scene a store'' file'' rows lines') (scene b store'' file'' rows lines') cut does.0
             (fell_first target (says quit) [] (scene a store'' file'' rows lines') (scene b store'' file'' rows lines') cut
-            (text_broken target (says quit) quit a b store'' file'' rows lines' why fault cut refl plain is_fault broke)),
+            (text_broken target (says quit) quit a b store'' file'' rows lines' fault cut refl plain broke)),
         subst (λ (dones : List Done). DonesLast disk files target dones mid end f) (sym (append-nil does.0.dones)) does.1,
       )
 

@@ -8,8 +8,6 @@ use Rattle.pop3_wire.specs.Bodies.{Rest}
 use Rattle.pop3_wire.specs.declared.command.Command.TheVariants.{Quit}
 use Rattle.mail_terms.specs.Listing.{Item}
 use Rattle.std.proofs.lemmas.Bool.{true≢false}
-use Rattle.pop3_client.specs.declared.fault.Fault.{Fault as TalkFault}
-use Rattle.pop3_client.specs.declared.fault.Fault.TheVariants as Talk
 use Rattle.pop3_client.specs.declared.fault.Asked.{Asked}
 use Rattle.pop3_client.specs.declared.fault.Asked.TheVariants.{Greeting as ByGreeting, User as ByUser, Pass as ByPass, Stat as ByStat, Uidl as ByUidl, List as ByList, Retr as ByRetr, Dele as ByDele, Quit as ByQuit}
 use Rattle.pop3_client.specs.Turns.{Turn, Names, retr, dele, quit}
@@ -17,12 +15,14 @@ use Rattle.pop3_wire.specs.Line.{crlf, ended}
 use Rattle.pop3_client.specs.Texts.{Fetching}
 use Rattle.fetch_session.specs.Mbox.{HoldsText}
 use Rattle.pop3_client.specs.Conversation.{Talked, Talks, Tells, Broke, most_of, ConversationsArePaced}
-use Rattle.fetch_session.specs.declared.fault.Fault.{Fault}
-use Rattle.fetch_session.specs.declared.fault.Fault.TheVariants.{Refused}
+use Rattle.pop3_client.specs.declared.fault.Fault.{Fault}
+use Rattle.pop3_client.specs.declared.fault.Fault.TheVariants.{Refused, StoreRefused, SeenRefused, BadSeen}
+use Rattle.pop3_client.specs.Fault.{IsOfConversation}
+use Rattle.pop3_client.specs.Causes.{Cause}
 use Rattle.fetch_session.specs.declared.fault.Cut.{Cut}
 use Rattle.fetch_session.specs.declared.tail.Tail.{Tail}
 use Rattle.fetch_session.specs.declared.tail.Tail.TheVariants.{Nothing, Leave, Undo}
-use Rattle.fetch_session.specs.Fault.{fault_of, cut_of}
+use Rattle.fetch_session.specs.Fault.{cut_of}
 use Rattle.fetch_session.specs.Store.{ReadsText, StopsReading, PassesText}
 use Rattle.fetch_session.specs.Tail.{turns_in as tail_turns, tail, Left, LeftBy}
 use Rattle.fetch_session.specs.Opening.{opening, Enters}
@@ -105,27 +105,33 @@ only_quit (ByRetr number) e = absurd (true≢false (ap is_quit e))
 only_quit (ByDele number) e = absurd (true≢false (ap is_quit e))
 only_quit ByQuit e = refl
 
-abbrev is_negative : TalkFault → Bool
-is_negative (Talk.Refused to) = true
+-- a conversation breaks for a fault of its own
+conversation_caused : (fault : Fault) (turn : Turn) (old new : Link) (bytes : List ℕ) → Cause fault turn old new bytes → IsOfConversation fault
+conversation_caused (StoreRefused reason) turn old new bytes never = never
+conversation_caused SeenRefused turn old new bytes never = never
+conversation_caused (BadSeen line) turn old new bytes never = never
+conversation_caused other turn old new bytes cause = tt
+
+conversation_broke : (turn : Turn) (a b : Place) (fault : Fault) → Broke turn a b fault → IsOfConversation fault
+conversation_broke turn a b fault (inl cut) = subst IsOfConversation (sym cut.0) tt
+conversation_broke turn a b fault (inr (inl bad)) = conversation_caused fault turn a.link b.link (a.waiting ++ bad.gained) bad.cause
+conversation_broke turn a b fault (inr (inr none)) = subst IsOfConversation (sym none.0) tt
+
+abbrev is_negative : Fault → Bool
+is_negative (Refused to) = true
 is_negative _ = false
 
-quit_tail : (why : TalkFault) (a b : Place) → Broke quit a b why → tail (fault_of why) ≡ Nothing
-quit_tail Talk.ConnectionEnded a b broke = refl
-quit_tail Talk.ReadFailed a b broke = refl
-quit_tail Talk.WriteFailed a b broke = refl
-quit_tail Talk.ReplyTooLong a b broke = refl
-quit_tail Talk.BadReply a b broke = refl
-quit_tail (Talk.Refused to) a b broke =
+quit_tail : (fault : Fault) (a b : Place) → Broke quit a b fault → tail fault ≡ Nothing
+quit_tail (Refused to) a b broke =
     elim broke [
       | inl cut ↦ absurd (true≢false (ap is_negative cut.0))
       | inr (inl bad) ↦ only_quit to bad.cause.0
       | inr (inr none) ↦ absurd (true≢false (ap is_negative none.0))
     ]
-quit_tail Talk.BadListing a b broke = refl
-quit_tail Talk.ListingsDisagree a b broke = refl
-quit_tail Talk.TooMany a b broke = refl
-quit_tail Talk.TextTooLong a b broke = refl
-quit_tail Talk.NoMemory a b broke = refl
+quit_tail (StoreRefused reason) a b broke = absurd (conversation_broke quit a b (StoreRefused reason) broke)
+quit_tail SeenRefused a b broke = absurd (conversation_broke quit a b SeenRefused broke)
+quit_tail (BadSeen line) a b broke = absurd (conversation_broke quit a b (BadSeen line) broke)
+quit_tail other a b broke = refl
 
 -- ---- with what is said after a fault
 
@@ -168,19 +174,19 @@ took_fetching number start new rest text is =
 -- ---- conversations
 
 module _ (paced : ConversationsArePaced) where
-  took_talks : (turns : List Turn) (old new : Place) (result : Result (Unit {0}) TalkFault) → Talks turns old result new → Took (most_of turns) old new
+  took_talks : (turns : List Turn) (old new : Place) (result : Result (Unit {0}) Fault) → Talks turns old result new → Took (most_of turns) old new
   took_talks turns old new result talks = let p = paced turns old new result talks in record { gained = p.gained; got = p.got; within = p.within }
 
   took_talked : (turns : List Turn) (replies : List WholeReply) (old new : Place) → Talked turns replies old new → Took (most_of turns) old new
   took_talked turns replies old new talked = took_talks turns old new (Ok tt) (replies, talked)
 
-  took_broke : (turn : Turn) (old new : Place) (why : TalkFault) → Broke turn old new why → Took (most_of (turn ∷ [])) old new
+  took_broke : (turn : Turn) (old new : Place) (why : Fault) → Broke turn old new why → Took (most_of (turn ∷ [])) old new
   took_broke turn old new why broke = took_talks (turn ∷ []) old new (Err why) (stopped_first turn [] old new why broke)
 
-  pub took_retr : (number : ℕ) (old new : Place) (why : TalkFault) → Broke (retr number) old new why → Took 268437504 old new
+  pub took_retr : (number : ℕ) (old new : Place) (why : Fault) → Broke (retr number) old new why → Took 268437504 old new
   took_retr number old new why broke = took_broke (retr number) old new why broke
 
-  pub took_entering : (name password : List ℕ) (old new : Place) (result : Result (List Item) TalkFault) → Enters name password old result new → Took opening_limit old new
+  pub took_entering : (name password : List ℕ) (old new : Place) (result : Result (List Item) Fault) → Enters name password old result new → Took opening_limit old new
   took_entering name password old new (Ok items) (count, uids, sizes, opened, joins) = took_talked (opening name password) _ old new opened.talked
   took_entering name password old new (Err fault) enters =
       elim enters [
@@ -193,10 +199,10 @@ module _ (paced : ConversationsArePaced) where
   pub quit_told : (old new : Place) → Tells quit old (Ok tt) new → Took 2048 old new
   quit_told old new tells = took_talked (quit ∷ []) _ old new tells.1
 
-  pub quit_broke : (old new : Place) (why : TalkFault) (fault : Fault) (cut : Cut) → Broke quit old new why → fault ≡ fault_of why → cut ≡ cut_of fault None → TookWithTail 2048 old (Err cut) new
-  quit_broke old new why fault cut broke is plain =
-      let none : most_of (tail_turns (tail cut.fault)) ≡ 0 = ap (λ (k : Tail). most_of (tail_turns k)) (ap (λ (c : Cut). tail c.fault) plain ∙ ap tail is ∙ quit_tail why old new broke) in
-      (2048, subst (λ (rest : Option Rest). TookBefore 2048 old rest new) (sym (ap (λ (c : Cut). c.rest) plain)) (took_broke quit old new why broke), omega (arith, none))
+  pub quit_broke : (old new : Place) (fault : Fault) (cut : Cut) → Broke quit old new fault → cut ≡ cut_of fault None → TookWithTail 2048 old (Err cut) new
+  quit_broke old new fault cut broke plain =
+      let none : most_of (tail_turns (tail cut.fault)) ≡ 0 = ap (λ (k : Tail). most_of (tail_turns k)) (ap (λ (c : Cut). tail c.fault) plain ∙ quit_tail fault old new broke) in
+      (2048, subst (λ (rest : Option Rest). TookBefore 2048 old rest new) (sym (ap (λ (c : Cut). c.rest) plain)) (took_broke quit old new fault broke), omega (arith, none))
 
   -- a text that was asked for and read
   pub takes_text : (number : ℕ) (start : Place) (text : List ℕ) (octets : ℕ) (new : Place) → ReadsText number start text (Ok octets) new → Took 268437504 start new
@@ -206,16 +212,16 @@ module _ (paced : ConversationsArePaced) where
   takes_stopped number start text cut new reads = by_rest cut.fault cut.rest reads
     where
       by_rest : (fault : Fault) (rest : Option Rest) → StopsReading number start text fault rest new → TookBefore 268437504 start rest new
-      by_rest fault None broke = took_broke (retr number) start new broke.0 broke.2
+      by_rest fault None broke = took_broke (retr number) start new fault broke
       by_rest fault (Some rest) reads =
           record { before = 0; number = number; start = start; text = text; took = took_nothing start; fetching = reads.0; within = omega arith }
 
   -- a text that was dropped, and a message that was deleted
-  pub took_passing : (number : ℕ) (start : Place) (result : Result ℕ TalkFault) (new : Place) → PassesText number start result new → Took 268437504 start new
+  pub took_passing : (number : ℕ) (start : Place) (result : Result ℕ Fault) (new : Place) → PassesText number start result new → Took 268437504 start new
   took_passing number start (Ok octets) new passes = took_talked (retr number ∷ []) _ start new passes.1
   took_passing number start (Err why) new broke = took_broke (retr number) start new why broke
 
-  pub took_deleting : (number : ℕ) (old new : Place) (result : Result (Unit {0}) TalkFault) → Tells (dele number) old result new → Took 2048 old new
+  pub took_deleting : (number : ℕ) (old new : Place) (result : Result (Unit {0}) Fault) → Tells (dele number) old result new → Took 2048 old new
   took_deleting number old new (Ok done) tells = took_talked (dele number ∷ []) _ old new tells.1
   took_deleting number old new (Err why) broke = took_broke (dele number) old new why broke
 
@@ -243,6 +249,6 @@ module _ (paced : ConversationsArePaced) where
   pub takes_held : (number : ℕ) (start : Place) (cut : Cut) (new : Place) → HoldsText number start (Err cut) new → TookTillCut 268437504 start (Err cut) new
   takes_held number start cut new (none, why) =
       subst (λ (rest : Option Rest). TookBefore 268437504 start rest new) (sym none) (elim why [
-        | inl (fault, is, broke) ↦ took_broke (retr number) start new fault broke
+        | inl broke ↦ took_broke (retr number) start new cut.fault broke
         | inr (wants, (rest, text, fetching)) ↦ took_fetching number start new rest text fetching
       ])

@@ -17,16 +17,15 @@ use Rattle.mail_store.specs.declared.fault.StoreFault.TheVariants as refused
 use Rattle.mail_store.specs.declared.file.flat_file.Edges.{Edges}
 use Rattle.pop3_wire.specs.Bodies.{Rest}
 use Rattle.pop3_wire.specs.Place.{Place}
-use Rattle.pop3_client.specs.declared.fault.Fault.{Fault as TalkFault}
 use Rattle.pop3_client.specs.Conversation.{Broke}
 use Rattle.pop3_client.specs.Texts.{Fetched, Fetching, body_text}
 use Rattle.pop3_client.specs.Turns.{retr}
 use Rattle.fetch_session.specs.declared.fault.Cut.{Cut}
-use Rattle.fetch_session.specs.declared.fault.Fault.{Fault}
-use Rattle.fetch_session.specs.declared.fault.Fault.TheVariants.{StoreRefused, SeenRefused, NoMemory, ConnectionEnded, ReadFailed, WriteFailed, ReplyTooLong, BadReply, BadListing, ListingsDisagree, TooMany, TextTooLong, BadSeen}
-use Rattle.fetch_session.specs.declared.fault.Fault.TheVariants.{Refused as RefusedReply}
+use Rattle.pop3_client.specs.declared.fault.Fault.{Fault}
+use Rattle.pop3_client.specs.declared.fault.Fault.TheVariants.{StoreRefused, SeenRefused, NoMemory, ConnectionEnded, ReadFailed, WriteFailed, ReplyTooLong, BadReply, BadListing, ListingsDisagree, TooMany, TextTooLong, BadSeen}
+use Rattle.pop3_client.specs.declared.fault.Fault.TheVariants.{Refused as RefusedReply}
 use Rattle.fetch_session.specs.declared.readiness.Found.{Found}
-use Rattle.fetch_session.specs.Fault.{fault_of, cut_of}
+use Rattle.fetch_session.specs.Fault.{cut_of}
 use Rattle.fetch_session.specs.Mbox.{AppendsText, AsksMbox, HoldsText, IsIntended, IsSettledAtMost, IsStoreFault, MarksEntry, RefusesEntry, SettlesIntent, intent_of}
 use Rattle.fetch_session.specs.Record.{Saves, Steady, held_in, intent_at, with_open}
 use Rattle.fetch_session.specs.Scene.{scene, Stops, TakesTask}
@@ -131,8 +130,8 @@ asks_refused intent old mid new stored items refused.NoMemory fault settles neve
 
 -- ---- a text that is read whole
 
-pub held_broke : (number : ℕ) (start new : Place) (cut : Cut) (fault : Fault) (why : TalkFault) → cut ≡ cut_of fault None → fault ≡ fault_of why → Broke (retr number) start new why → HoldsText number start (Err cut) new
-held_broke number start new cut fault why plain is broke = (ap (λ (c : Cut). c.rest) plain, inl (why, ap (λ (c : Cut). c.fault) plain ∙ is, broke))
+pub held_broke : (number : ℕ) (start new : Place) (cut : Cut) (fault : Fault) → cut ≡ cut_of fault None → Broke (retr number) start new fault → HoldsText number start (Err cut) new
+held_broke number start new cut fault plain broke = (ap (λ (c : Cut). c.rest) plain, inl (subst (λ (c : Cut). Broke (retr number) start new c.fault) (sym plain) broke))
 
 pub held_wanting : (number : ℕ) (start new : Place) (cut : Cut) (rest : Rest) (text : List ℕ) → cut ≡ cut_of NoMemory None → Fetching (retr number) start new rest text → HoldsText number start (Err cut) new
 held_wanting number start new cut rest text plain fetching = (ap (λ (c : Cut). c.rest) plain, inr (ap (λ (c : Cut). c.fault) plain, (rest, text, fetching)))
@@ -237,8 +236,8 @@ body_whole (Some lines) = text_whole lines
 -- the text wasn't read whole
 pub not_held : (n : ℕ) (uid : List ℕ) (a b : Place) (store : Stores) (file : Stored) (rows : List Row) (lines : List ReportLine) (cut : Cut) → HoldsText n a (Err cut) b
     → Stops AsEntries (stores n uid) (scene a store file rows lines) cut (scene b store file rows lines)
-not_held n uid a b store file rows lines cut (none, inl (why, is, broke)) =
-    inl (record { none = none; turn = retr n; why = why; takes = refl; is = is; broke = broke; store = refl; file = refl; rows = refl; lines = refl })
+not_held n uid a b store file rows lines cut (none, inl broke) =
+    inl (record { none = none; turn = retr n; takes = refl; broke = broke; store = refl; file = refl; rows = refl; lines = refl })
 not_held n uid a b store file rows lines cut (none, inr (wants, (rest, text, fetching))) =
     inr (inl (inl (record { none = none; number = n; uid = uid; rest = rest; text = text; is = refl; wants = wants; fetching = fetching; store = refl; file = refl; rows = refl; lines = refl })))
 

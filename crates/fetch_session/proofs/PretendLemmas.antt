@@ -3,7 +3,6 @@ use Rattle.std.proofs.Common.{◌≡◌, inr, ℕ, Bool, false, List, [], ◌∷
 use Rattle.pop3_wire.specs.Link.{Link}
 use Rattle.pop3_wire.specs.Place.{Place, at}
 use Rattle.mail_terms.specs.Listing.{Item}
-use Rattle.pop3_client.specs.declared.fault.Fault.{Fault as TalkFault}
 use Rattle.pop3_client.specs.Conversation.{Talks}
 use Rattle.pop3_client.specs.Turns.{quit}
 use Rattle.rc_file.specs.declared.settings.Settings.{Settings}
@@ -13,13 +12,13 @@ use Rattle.fetch_rules.specs.Plan.{planned}
 use Rattle.fetch_rules.specs.declared.steps.Step.{Step}
 use Rattle.mail_store.specs.FlatFile.{Stored}
 use Rattle.fetch_session.specs.declared.fault.Cut.{Cut}
-use Rattle.fetch_session.specs.declared.fault.Fault.{Fault}
+use Rattle.pop3_client.specs.declared.fault.Fault.{Fault}
 use Rattle.fetch_session.specs.declared.preview.Foreseen.{Foreseen}
 use Rattle.fetch_session.specs.declared.preview.Looked.{Looked}
 use Rattle.fetch_session.specs.declared.preview.Preview.{Preview}
 use Rattle.fetch_session.specs.declared.prospect.Prospect.{Prospect}
 use Rattle.fetch_session.specs.declared.report.Outcome.TheVariants.{Ended, Cut as WasCut}
-use Rattle.fetch_session.specs.Fault.{fault_of, cut_of}
+use Rattle.fetch_session.specs.Fault.{cut_of}
 use Rattle.fetch_session.specs.Pretend.{Foresees, Foretells, HoldsTheSame, IsUntouched, LooksIn, Pretends, Surveys, counted_as, foretold, told_in}
 use Rattle.fetch_session.specs.Prospect.{prospects}
 use Rattle.fetch_session.specs.Record.{ReadAs, held_in}
@@ -70,11 +69,11 @@ module _ (settings : Settings) (target : Target) (items : List Item) (now : ℕ)
 -- ---- the session
 
 module _ (settings : Settings) (target : Target) (now : ℕ) (old : Place) (before : Keeping) where
-  pub not_ended : (items : List Item) (mid new : Place) (after : Keeping) (ahead : Foreseen) (n : ℕ) (why : TalkFault) (fault : Fault) (cut : Cut) → Enters_with settings old (Ok items) mid
-      → Foresees settings target items now before (Ok ahead) after → n ≡ length items → Talks (quit ∷ []) mid (Err why) new → cut ≡ cut_of fault None → fault ≡ fault_of why
+  pub not_ended : (items : List Item) (mid new : Place) (after : Keeping) (ahead : Foreseen) (n : ℕ) (fault : Fault) (cut : Cut) → Enters_with settings old (Ok items) mid
+      → Foresees settings target items now before (Ok ahead) after → n ≡ length items → Talks (quit ∷ []) mid (Err fault) new → cut ≡ cut_of fault None
       → Surveys settings target now old before (Err cut) new after (record { total = n; unsettled = ahead.unsettled; prospects = ahead.prospects.items })
-  not_ended items mid new after ahead n why fault cut enters says count quits plain is = (
-    inr (inr (why, plain ∙ ap (λ (f : Fault). cut_of f None) is, record { items = items; mid = mid; enters = enters; total = count; foretells = says.0; quits = quits })),
+  not_ended items mid new after ahead n fault cut enters says count quits plain = (
+    inr (inr (fault, plain, record { items = items; mid = mid; enters = enters; total = count; foretells = says.0; quits = quits })),
     says.1,
   )
 

@@ -2,15 +2,14 @@
 use Rattle.std.proofs.Common.{◌≡◌, inl, inr, Bool, true, false, None, Result, Ok, Err, refl, sym, ap, subst, ◌∙◌}
 use Rattle.mail_terms.specs.FailureCount.{Tallies, counted_up}
 use Rattle.pop3_wire.specs.Link.{Link}
-use Rattle.pop3_client.specs.declared.fault.Fault.{Fault as TalkFault}
-use Rattle.pop3_client.specs.declared.fault.Fault.TheVariants as Talk
 use Rattle.pop3_client.specs.Conversation.{is_refusal}
-use Rattle.fetch_session.specs.declared.fault.Fault.{Fault}
+use Rattle.pop3_client.specs.declared.fault.Fault.{Fault}
+use Rattle.pop3_client.specs.declared.fault.Fault.TheVariants.{ConnectionEnded, ReadFailed, WriteFailed, ReplyTooLong, BadReply, Refused, BadListing, ListingsDisagree, TooMany, TextTooLong, StoreRefused, SeenRefused, NoMemory, BadSeen}
 use Rattle.fetch_session.specs.declared.fault.Cut.{Cut}
 use Rattle.fetch_session.specs.declared.report.Outcome.{Outcome}
 use Rattle.fetch_session.specs.declared.report.Outcome.TheVariants.{Cut as WasCut}
 use Rattle.fetch_session.specs.declared.tail.Tail.TheVariants.{Nothing}
-use Rattle.fetch_session.specs.Fault.{fault_of, cut_of}
+use Rattle.fetch_session.specs.Fault.{cut_of}
 use Rattle.fetch_session.specs.Tail.{tail}
 use Rattle.fetch_session.specs.Refusal.{RefusesNone, RefusesAtMostOne, RefusesBefore, RefusesTillCut, RefusesByOutcome}
 
@@ -32,22 +31,24 @@ till_cut a b c (Ok done) first same = same ∙ first
 till_cut a b c (Err cut) first then = before_cut a b c cut first then
 
 -- a fault of the conversation: behind a refused call nothing is said
-by_fault : (why : TalkFault) (old new : Link) → Tallies (is_refusal why) old.failures new.failures → RefusesBefore old (cut_of (fault_of why) None) new
-by_fault Talk.ConnectionEnded old new same = inl same
-by_fault Talk.ReadFailed old new up = inr (up, refl, refl)
-by_fault Talk.WriteFailed old new up = inr (up, refl, refl)
-by_fault Talk.ReplyTooLong old new same = inl same
-by_fault Talk.BadReply old new same = inl same
-by_fault (Talk.Refused to) old new same = inl same
-by_fault Talk.BadListing old new same = inl same
-by_fault Talk.ListingsDisagree old new same = inl same
-by_fault Talk.TooMany old new same = inl same
-by_fault Talk.TextTooLong old new same = inl same
-by_fault Talk.NoMemory old new same = inl same
+by_fault : (why : Fault) (old new : Link) → Tallies (is_refusal why) old.failures new.failures → RefusesBefore old (cut_of why None) new
+by_fault ConnectionEnded old new same = inl same
+by_fault ReadFailed old new up = inr (up, refl, refl)
+by_fault WriteFailed old new up = inr (up, refl, refl)
+by_fault ReplyTooLong old new same = inl same
+by_fault BadReply old new same = inl same
+by_fault (Refused to) old new same = inl same
+by_fault BadListing old new same = inl same
+by_fault ListingsDisagree old new same = inl same
+by_fault TooMany old new same = inl same
+by_fault TextTooLong old new same = inl same
+by_fault (StoreRefused reason) old new same = inl same
+by_fault SeenRefused old new same = inl same
+by_fault NoMemory old new same = inl same
+by_fault (BadSeen line) old new same = inl same
 
-pub cut_by : (why : TalkFault) (fault : Fault) (cut : Cut) (old new : Link) → cut ≡ cut_of fault None → fault ≡ fault_of why → Tallies (is_refusal why) old.failures new.failures → RefusesBefore old cut new
-cut_by why fault cut old new plain is counts =
-    subst (λ (c : Cut). RefusesBefore old c new) (sym (plain ∙ ap (λ (f : Fault). cut_of f None) is)) (by_fault why old new counts)
+pub cut_by : (fault : Fault) (cut : Cut) (old new : Link) → cut ≡ cut_of fault None → Tallies (is_refusal fault) old.failures new.failures → RefusesBefore old cut new
+cut_by fault cut old new plain counts = subst (λ (c : Cut). RefusesBefore old c new) (sym plain) (by_fault fault old new counts)
 
 -- a session that was cut and left
 pub left_alone : (cut : Cut) (a b c : Link) (outcome : Outcome) → outcome ≡ WasCut cut.fault → RefusesBefore a cut b → RefusesAtMostOne b c → (cut.rest ≡ None → tail cut.fault ≡ Nothing → RefusesNone b c) → RefusesByOutcome a outcome c

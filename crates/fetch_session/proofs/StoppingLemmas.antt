@@ -7,14 +7,13 @@ use Rattle.pop3_wire.specs.Place.{Place}
 use Rattle.fetch_rules.specs.Record.{Row, Held, none_open, marked, marked_all}
 use Rattle.mail_store.specs.Maildir.{Maildir, File, dropped, counted}
 use Rattle.mail_store.specs.FlatFile.{Stored}
-use Rattle.pop3_client.specs.declared.fault.Fault.{Fault as TalkFault}
 use Rattle.pop3_client.specs.Turns.{Turn, retr}
 use Rattle.pop3_wire.specs.Reading.{WholeReply, reply_bytes}
 use Rattle.pop3_client.specs.Conversation.{Talked, Broke}
 use Rattle.pop3_client.proofs.TalkLemmas.{talked_on}
-use Rattle.fetch_session.specs.declared.fault.Fault.{Fault}
-use Rattle.fetch_session.specs.declared.fault.Fault.TheVariants.{ConnectionEnded, ReadFailed, WriteFailed, ReplyTooLong, BadReply, Refused, BadListing, ListingsDisagree, TooMany, TextTooLong, StoreRefused, SeenRefused, NoMemory, BadSeen}
-use Rattle.fetch_session.specs.declared.fault.Why.TheVariants.{Refused as DeviceRefused}
+use Rattle.pop3_client.specs.declared.fault.Fault.{Fault}
+use Rattle.pop3_client.specs.declared.fault.Fault.TheVariants.{ConnectionEnded, ReadFailed, WriteFailed, ReplyTooLong, BadReply, Refused, BadListing, ListingsDisagree, TooMany, TextTooLong, StoreRefused, SeenRefused, NoMemory, BadSeen}
+use Rattle.pop3_client.specs.declared.fault.Why.TheVariants.{Refused as DeviceRefused}
 use Rattle.fetch_session.specs.Task.{Task, Done, stores, task_in, tasks_of, turns_in, turns_of, replies_of, ids_in, ids_of, files_in, files_of, file_from, delivered, lines_in, lines_of}
 use Rattle.fetch_session.specs.declared.fault.Cut.{Cut}
 use Rattle.fetch_session.specs.declared.report.ReportLine.{ReportLine}
@@ -30,7 +29,7 @@ use Rattle.fetch_session.proofs.SceneLemmas.{marked_on}
 use Rattle.fetch_session.proofs.RecordLemmas.{keeps_at, steady_keeps}
 
 -- what came after the replies
-broke_got : (turn : Turn) (mid new : Place) (why : TalkFault) → Broke turn mid new why → (more : List ℕ) × (new.link.got ≡ mid.link.got ++ more)
+broke_got : (turn : Turn) (mid new : Place) (why : Fault) → Broke turn mid new why → (more : List ℕ) × (new.link.got ≡ mid.link.got ++ more)
 broke_got turn mid new why (inl said) = ([], said.1.got ∙ sym (append-nil mid.link.got))
 broke_got turn mid new why (inr (inl there)) = (there.gained, there.got)
 broke_got turn mid new why (inr (inr wanting)) = ([], ap (λ (p : Place). p.link.got) wanting.2 ∙ sym (append-nil mid.link.got))
@@ -50,7 +49,7 @@ stand turns replies old mid new more none talked is = (
 short_broken : (account : List ℕ) (tasks : List Task) (old new : Scene) (cut : Cut) (fell : Fell (AsFiles account) tasks old cut new) → old.place.waiting ≡ [] → Steady old.file.content (none_open old.rows)
     → Broken fell.next fell.mid new cut → CutShort account tasks old cut.fault new
 short_broken account tasks old new cut fell none stood broken =
-    let more = broke_got broken.turn fell.mid.place new.place broken.why broken.broke in
+    let more = broke_got broken.turn fell.mid.place new.place cut.fault broken.broke in
     record {
       taken = fell.dones;
       next = fell.next ∷ fell.later;

@@ -3,13 +3,12 @@ use Rattle.std.proofs.Common.{◌≡◌, inl, inr, ◌≤◌, ◌+◌, ℕ, List
 use Rattle.std.proofs.lemmas.List.{length-take-le}
 use Rattle.mail_store.specs.Maildir.{Maildir, File, file, with_file, dropped, counted}
 use Rattle.mail_store.specs.FileName.{sized, sized_file}
-use Rattle.fetch_session.specs.declared.fault.Fault.{Fault}
+use Rattle.pop3_client.specs.declared.fault.Fault.{Fault}
 use Rattle.fetch_session.specs.declared.fault.Cut.{Cut}
-use Rattle.fetch_session.specs.Fault.{fault_of, cut_of}
+use Rattle.fetch_session.specs.Fault.{cut_of}
 use Rattle.pop3_wire.specs.Place.{Place}
 use Rattle.pop3_wire.specs.Bodies.{Rest}
 use Rattle.pop3_wire.specs.declared.unstuffer.Spot.TheVariants.{Done}
-use Rattle.pop3_client.specs.declared.fault.Fault.{Fault as TalkFault}
 use Rattle.pop3_client.specs.Conversation.{Broke}
 use Rattle.pop3_client.specs.Turns.{retr}
 use Rattle.fetch_session.specs.Store.{Gained, Grows, begun_with, Starts, Puts, Ends, RefusesText, StopsStoring, StoresText, StopsReading}
@@ -54,9 +53,9 @@ pub stopped_store : (old now new : Maildir) (name text : List ℕ) (cut : Cut) (
 stopped_store old now new name text cut fault calm was is plain =
     subst (λ (c : Cut). StopsStoring name old text c.fault c.rest new) (sym plain) (is ∙ ap dropped was ∙ dropped_calm old calm)
 
-pub stopped_read : (n : ℕ) (start new : Place) (text : List ℕ) (cut : Cut) (fault : Fault) (why : TalkFault) → cut ≡ cut_of fault None → fault ≡ fault_of why → Broke (retr n) start new why
+pub stopped_read : (n : ℕ) (start new : Place) (text : List ℕ) (cut : Cut) (fault : Fault) → cut ≡ cut_of fault None → Broke (retr n) start new fault
     → StopsReading n start text cut.fault cut.rest new
-stopped_read n start new text cut fault why plain is broke = subst (λ (c : Cut). StopsReading n start text c.fault c.rest new) (sym plain) (why, is, broke)
+stopped_read n start new text cut fault plain broke = subst (λ (c : Cut). StopsReading n start text c.fault c.rest new) (sym plain) broke
 
 pub refused_piece : (old now new : Maildir) (name text bytes more : List ℕ) (rest : Rest) (fault : Fault) → now ≡ begun_with old (file name text) → Puts now bytes (Err fault) new → RefusesText old name rest more fault new
 refused_piece old now new name text bytes more rest fault was puts =

@@ -5,18 +5,16 @@ use Rattle.fetch_rules.specs.Record.{Row, none_open, marked}
 use Rattle.mail_store.specs.Maildir.{Maildir, File, with_file}
 use Rattle.mail_store.specs.FlatFile.{Stored}
 use Rattle.mail_store.specs.FileName.{stem_of, sized_file, mail_file}
-use Rattle.pop3_client.specs.declared.fault.Fault.{Fault as TalkFault}
-use Rattle.pop3_client.specs.declared.fault.Fault.TheVariants.{NoMemory as NoTalkMemory}
 use Rattle.pop3_client.specs.Turns.{Turn, retr, dele}
 use Rattle.pop3_wire.specs.Reading.{WholeReply}
 use Rattle.pop3_client.specs.Conversation.{Talked, Broke}
 use Rattle.pop3_client.specs.Texts.{body_text}
-use Rattle.fetch_session.specs.declared.fault.Fault.{Fault}
-use Rattle.fetch_session.specs.declared.fault.Fault.TheVariants.{NoMemory}
+use Rattle.pop3_client.specs.declared.fault.Fault.{Fault}
+use Rattle.pop3_client.specs.declared.fault.Fault.TheVariants.{NoMemory}
 use Rattle.fetch_session.specs.declared.fault.Cut.{Cut}
 use Rattle.fetch_session.specs.declared.report.ReportLine.{ReportLine}
 use Rattle.fetch_session.specs.declared.report.ReportLine.TheVariants.{Delivered, Held, Skipped, Deleted}
-use Rattle.fetch_session.specs.Fault.{fault_of, cut_of}
+use Rattle.fetch_session.specs.Fault.{cut_of}
 use Rattle.pop3_wire.specs.Bodies.{Rest}
 use Rattle.fetch_session.specs.Task.{Task, stores, skips, rereads, deletes, turns_in, file_from, delivered, fetching, deleting}
 use Rattle.fetch_session.specs.Store.{RefusesText, StopsStoring, StoresText, StopsReading, ReadsText, PassesText}
@@ -30,16 +28,14 @@ use Rattle.fetch_session.specs.Target.{Target, AsFiles, Stores, in_maildir}
 use Rattle.fetch_session.proofs.StoreLemmas.{gained_file}
 
 -- the conversation broke
-pub text_broken : (target : Target) (task : Task) (turn : Turn) (a b : Place) (store : Stores) (file : Stored) (rows : List Row) (lines : List ReportLine) (why : TalkFault) (fault : Fault) (cut : Cut)
-    → turns_in task ≡ turn ∷ [] → cut ≡ cut_of fault None → fault ≡ fault_of why → Broke turn a b why → Stops target task (scene a store file rows lines) cut (scene b store file rows lines)
-text_broken target task turn a b store file rows lines why fault cut takes plain is broke =
+pub text_broken : (target : Target) (task : Task) (turn : Turn) (a b : Place) (store : Stores) (file : Stored) (rows : List Row) (lines : List ReportLine) (fault : Fault) (cut : Cut)
+    → turns_in task ≡ turn ∷ [] → cut ≡ cut_of fault None → Broke turn a b fault → Stops target task (scene a store file rows lines) cut (scene b store file rows lines)
+text_broken target task turn a b store file rows lines fault cut takes plain broke =
     inl (record {
       none = ap (λ (c : Cut). c.rest) plain;
       turn = turn;
-      why = why;
       takes = takes;
-      is = ap (λ (c : Cut). c.fault) plain ∙ is;
-      broke = broke;
+      broke = subst (λ (c : Cut). Broke turn a b c.fault) (sym plain) broke;
       store = refl;
       file = refl;
       rows = refl;
@@ -50,7 +46,7 @@ text_broken target task turn a b store file rows lines why fault cut takes plain
 pub text_wanting : (account : List ℕ) (n : ℕ) (uid : List ℕ) (a : Place) (maildir : Maildir) (file : Stored) (rows : List Row) (lines : List ReportLine) (cut : Cut) → cut ≡ cut_of NoMemory None
     → Stops (AsFiles account) (stores n uid) (scene a (in_maildir maildir) file rows lines) cut (scene a (in_maildir maildir) file rows lines)
 text_wanting account n uid a maildir file rows lines cut plain =
-    text_broken (AsFiles account) (stores n uid) (retr n) a a (in_maildir maildir) file rows lines NoTalkMemory NoMemory cut refl plain refl (inr (inr (refl, refl, refl)))
+    text_broken (AsFiles account) (stores n uid) (retr n) a a (in_maildir maildir) file rows lines NoMemory cut refl plain (inr (inr (refl, refl, refl)))
 
 -- it wasn't stored
 pub text_stops : (account : List ℕ) (n : ℕ) (uid text stem : List ℕ) (a b : Place) (maildir maildir' : Maildir) (file' : Stored) (rows : List Row) (lines : List ReportLine) (cut : Cut)
@@ -61,7 +57,7 @@ text_stops account n uid text stem a b maildir maildir' file' rows lines cut nam
     by_rest : (fault : Fault) (rest : Option Rest) → StopsStoring stem maildir text fault rest maildir' → StopsReading n a text fault rest b
         → Stops (AsFiles account) (stores n uid) (scene a (in_maildir maildir) file' rows lines) (cut_of fault rest) (scene b (in_maildir maildir') file' rows lines)
     by_rest fault None same broke =
-        inl (record { none = refl; turn = retr n; why = broke.0; takes = refl; is = broke.1; broke = broke.2; store = ap in_maildir same; file = refl; rows = refl; lines = refl })
+        inl (record { none = refl; turn = retr n; takes = refl; broke = broke; store = ap in_maildir same; file = refl; rows = refl; lines = refl })
     by_rest fault (Some rest) refuses reads =
         inr (inl (record {
           number = n;

@@ -8,10 +8,10 @@ use Rattle.pop3_wire.specs.Reading.{WholeReply, reply_bytes}
 use Rattle.pop3_wire.specs.Place.{Place}
 use Rattle.pop3_client.specs.Conversation.{Talked}
 use Rattle.pop3_client.specs.Turns.{Turn, IsGood}
-use Rattle.fetch_session.specs.declared.fault.Fault.{Fault}
+use Rattle.pop3_client.specs.declared.fault.Fault.{Fault}
 use Rattle.fetch_session.specs.declared.fault.Cut.{Cut}
-use Rattle.fetch_session.specs.declared.fault.Fault.TheVariants.{StoreRefused, SeenRefused, NoMemory}
-use Rattle.fetch_session.specs.declared.fault.Why.TheVariants.{Refused}
+use Rattle.pop3_client.specs.declared.fault.Fault.TheVariants.{StoreRefused, SeenRefused, NoMemory}
+use Rattle.pop3_client.specs.declared.fault.Why.TheVariants.{Refused}
 use Rattle.fetch_session.specs.Task.{Task, Done, stores, tasks_of, turns_of, replies_of, ids_of, files_of, file_from, lines_of}
 use Rattle.fetch_session.specs.Record.{Keeps, Steady, Saves}
 use Rattle.fetch_session.specs.Scene.{Scene, Fell}

@@ -4,13 +4,12 @@ use Rattle.pop3_wire.specs.Place.{Place}
 use Rattle.std.specs.List.{AllByRecursion}
 use Rattle.fetch_rules.specs.Record.{Row, none_open, marked, marked_all}
 use Rattle.mail_store.specs.FlatFile.{Stored}
-use Rattle.pop3_client.specs.declared.fault.Fault.{Fault as TalkFault}
+use Rattle.pop3_client.specs.declared.fault.Fault.{Fault}
 use Rattle.pop3_client.specs.Turns.{Turn, retr}
 use Rattle.pop3_wire.specs.Reading.{WholeReply}
 use Rattle.pop3_client.specs.Conversation.{Talked, Broke}
 use Rattle.fetch_session.specs.declared.report.ReportLine.{ReportLine}
 use Rattle.fetch_session.specs.declared.fault.Cut.{Cut}
-use Rattle.fetch_session.specs.Fault.{fault_of}
 use Rattle.pop3_wire.specs.Bodies.{Rest}
 use Rattle.pop3_wire.specs.declared.unstuffer.Spot.TheVariants.{Done as AtEnd}
 use Rattle.pop3_client.specs.Texts.{Fetching, Fetched, body_text}
@@ -20,7 +19,7 @@ use Rattle.fetch_session.specs.Task.{file_from, delivered, lines_of}
 use Rattle.fetch_session.specs.Store.{RefusesText, Gained, Appended, Brings}
 use Rattle.fetch_session.specs.Target.{Target, AsFiles, AsEntries, Stores}
 use Rattle.fetch_session.specs.Mbox.{RefusesEntry, MarksEntry}
-use Rattle.fetch_session.specs.declared.fault.Fault.TheVariants.{NoMemory}
+use Rattle.pop3_client.specs.declared.fault.Fault.TheVariants.{NoMemory}
 use Rattle.fetch_session.specs.Record.{Steady, Saves}
 
 -- the link and what waits, what the store holds, the record's file, the record, and what was told so far
@@ -48,10 +47,8 @@ pub record Went (target : Target) (dones : List Done) (old new : Scene) : Type 0
 pub record Broken (next : Task) (old new : Scene) (cut : Cut) : Type 0 where
   pub none : cut.rest ≡ None
   pub turn : Turn
-  pub why : TalkFault
   pub takes : turns_in next ≡ turn ∷ []
-  pub is : cut.fault ≡ fault_of why
-  pub broke : Broke turn old.place new.place why
+  pub broke : Broke turn old.place new.place cut.fault
   pub store : new.store ≡ old.store
   pub file : new.file ≡ old.file
   pub rows : new.rows ≡ old.rows

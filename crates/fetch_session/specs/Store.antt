@@ -8,18 +8,16 @@ use Rattle.fetch_session.specs.Task.{Done, files_of, texts_of}
 use Rattle.pop3_wire.specs.Place.{Place}
 use Rattle.pop3_wire.specs.Bodies.{Rest}
 use Rattle.pop3_wire.specs.declared.unstuffer.Spot.TheVariants.{Done as AtEnd}
-use Rattle.pop3_client.specs.declared.fault.Fault.{Fault as TalkFault}
 use Rattle.pop3_wire.specs.Reading.{WholeReply}
 use Rattle.pop3_client.specs.Conversation.{Talked, Broke}
 use Rattle.pop3_client.specs.Turns.{retr}
 use Rattle.pop3_client.specs.Texts.{Fetching, Fetched, body_text}
-use Rattle.fetch_session.specs.Fault.{fault_of}
 use Rattle.fetch_session.specs.declared.fault.Cut.{Cut}
 use Rattle.mail_store.specs.Maildir.{Maildir, File, file, with_file, dropped, counted}
 use Rattle.mail_store.specs.FileName.{stem_of, sized_file}
-use Rattle.fetch_session.specs.declared.fault.Fault.{Fault}
-use Rattle.fetch_session.specs.declared.fault.Fault.TheVariants.{StoreRefused}
-use Rattle.fetch_session.specs.declared.fault.Why.TheVariants.{Missing, Refused}
+use Rattle.pop3_client.specs.declared.fault.Fault.{Fault}
+use Rattle.pop3_client.specs.declared.fault.Fault.TheVariants.{StoreRefused}
+use Rattle.pop3_client.specs.declared.fault.Why.TheVariants.{Missing, Refused}
 
 -- `new` gained these files behind the others, and nothing else changed
 pub record Gained (old new : Maildir) (files : List File) : Type 0 where
@@ -97,7 +95,7 @@ StoresText stem old text (Err cut) new = StopsStoring stem old text cut.fault cu
 
 -- the conversation broke; or the reply is under way, or whole
 abbrev pub StopsReading : ℕ → Place → List ℕ → Fault → Option Rest → Place → Type 0
-StopsReading number start text fault None new = (why : TalkFault) × (fault ≡ fault_of why) × Broke (retr number) start new why
+StopsReading number start text fault None new = Broke (retr number) start new fault
 StopsReading number start text fault (Some rest) new = Fetching (retr number) start new rest text
     × (rest.spot ≡ AtEnd → Fetched (retr number) start text new)
 
@@ -106,7 +104,7 @@ ReadsText number start text (Ok octets) new = Fetched (retr number) start text n
 ReadsText number start text (Err cut) new = StopsReading number start text cut.fault cut.rest new
 
 -- a text that is read and not stored: its length
-abbrev pub PassesText : ℕ → Place → Result ℕ TalkFault → Place → Type 0
+abbrev pub PassesText : ℕ → Place → Result ℕ Fault → Place → Type 0
 PassesText number start (Ok octets) new = (reply : WholeReply) × Talked (retr number ∷ []) (reply ∷ []) start new
     × (octets ≡ length (body_text reply.body))
 PassesText number start (Err why) new = Broke (retr number) start new why

@@ -6,11 +6,10 @@ use Rattle.pop3_client.specs.Texts.{Fetching, TakesRest}
 use Rattle.fetch_session.specs.declared.fault.Cut.{Cut}
 use Rattle.pop3_wire.specs.Place.{Place}
 use Rattle.pop3_client.specs.declared.fault.Asked.TheVariants.{Quit}
-use Rattle.pop3_client.specs.declared.fault.Fault.{Fault as TalkFault}
 use Rattle.pop3_client.specs.Turns.{Turn, asking, quit, rset, retr}
 use Rattle.pop3_client.specs.Conversation.{Talks}
-use Rattle.fetch_session.specs.declared.fault.Fault.{Fault}
-use Rattle.fetch_session.specs.declared.fault.Fault.TheVariants.{Refused, StoreRefused, SeenRefused, BadSeen}
+use Rattle.pop3_client.specs.declared.fault.Fault.{Fault}
+use Rattle.pop3_client.specs.declared.fault.Fault.TheVariants.{Refused, StoreRefused, SeenRefused, BadSeen}
 use Rattle.fetch_session.specs.declared.tail.Tail.{Tail}
 use Rattle.fetch_session.specs.declared.tail.Tail.TheVariants.{Nothing, Leave, Undo}
 
@@ -30,7 +29,7 @@ tail (BadSeen line) = Undo
 tail _ = Nothing
 
 -- the rest of the reply under way, if one is, was read and dropped, where nothing is left of a whole one; or its turn broke
-abbrev pub Drops : Option Rest → Place → Result (Unit {0}) TalkFault → Place → Type 0
+abbrev pub Drops : Option Rest → Place → Result (Unit {0}) Fault → Place → Type 0
 Drops None old (Ok done) new = new ≡ old
 Drops None old (Err fault) new = ⊥
 Drops (Some rest) old result new = (rest.spot ≡ Done → (result ≡ Ok tt) × (new ≡ old))
@@ -49,11 +48,11 @@ pub record WentOn (turns : List Turn) (old new : Place) : Type 0 where
 -- where that turn began, where what is sent and what comes go on from what had been sent and had come; and behind a
 -- whole reply the tail alone
 abbrev pub LeftBy : Fault → Option Rest → Place → Place → Type 0
-LeftBy fault None old new = (result : Result (Unit {0}) TalkFault) × Talks (turns_in (tail fault)) old result new
-LeftBy fault (Some rest) old new = (rest.spot ≡ Done → (result : Result (Unit {0}) TalkFault)
+LeftBy fault None old new = (result : Result (Unit {0}) Fault) × Talks (turns_in (tail fault)) old result new
+LeftBy fault (Some rest) old new = (rest.spot ≡ Done → (result : Result (Unit {0}) Fault)
     × Talks (turns_in (tail fault)) old result new)
     × ((number : ℕ) (start : Place) (text : List ℕ) → Fetching (retr number) start old rest text
-    → (result : Result (Unit {0}) TalkFault) × Talks (retr number ∷ turns_in (tail fault)) start result new
+    → (result : Result (Unit {0}) Fault) × Talks (retr number ∷ turns_in (tail fault)) start result new
     × WentOn (turns_in (tail fault)) old new)
 
 abbrev pub Left : Cut → Place → Place → Type 0

@@ -5,13 +5,14 @@ use Rattle.std.specs.String.{string_bytes}
 use Rattle.rc_file.specs.declared.settings.Settings.{Settings}
 use Rattle.pop3_client.specs.declared.fault.Asked.{Asked}
 use Rattle.pop3_client.specs.declared.fault.Asked.TheVariants.{Greeting, User, Pass, Stat, Uidl, List as ListAsked, Retr, Dele, Quit}
-use Rattle.fetch_session.specs.declared.fault.Why.{Why}
-use Rattle.fetch_session.specs.declared.fault.Why.TheVariants as why
-use Rattle.fetch_session.specs.declared.fault.Fault.{Fault}
-use Rattle.fetch_session.specs.declared.fault.Fault.TheVariants.{ConnectionEnded, ReadFailed, WriteFailed}
-use Rattle.fetch_session.specs.declared.fault.Fault.TheVariants.{ReplyTooLong, BadReply, Refused, BadListing}
-use Rattle.fetch_session.specs.declared.fault.Fault.TheVariants.{ListingsDisagree, TooMany, TextTooLong, StoreRefused}
-use Rattle.fetch_session.specs.declared.fault.Fault.TheVariants.{SeenRefused, NoMemory, BadSeen}
+use Rattle.pop3_client.specs.declared.fault.Why.{Why}
+use Rattle.pop3_client.specs.declared.fault.Why.TheVariants as why
+use Rattle.pop3_client.specs.declared.fault.Fault.{Fault}
+use Rattle.pop3_client.specs.declared.fault.Fault.TheVariants.{ConnectionEnded, ReadFailed, WriteFailed}
+use Rattle.pop3_client.specs.declared.fault.Fault.TheVariants.{ReplyTooLong, BadReply, Refused, BadListing}
+use Rattle.pop3_client.specs.declared.fault.Fault.TheVariants.{ListingsDisagree, TooMany, TextTooLong, StoreRefused}
+use Rattle.pop3_client.specs.declared.fault.Fault.TheVariants.{SeenRefused, NoMemory, BadSeen}
+use Rattle.pop3_client.specs.Fault.{number_of}
 use Rattle.fetch_session.specs.declared.report.Outcome.{Outcome}
 use Rattle.fetch_session.specs.declared.report.Outcome.TheVariants.{Ended, Cut}
 use Rattle.fetch_session.specs.declared.report.Report.{Report}
@@ -51,27 +52,10 @@ fault_text SeenRefused = codes "seen file refused"
 fault_text NoMemory = codes "out of memory"
 fault_text (BadSeen line) = codes "seen file not understood at line " ++ decimal line
 
--- the number of a fault
-abbrev pub fault_number : Fault → ℕ
-fault_number ConnectionEnded = 1
-fault_number ReadFailed = 2
-fault_number WriteFailed = 3
-fault_number ReplyTooLong = 4
-fault_number BadReply = 5
-fault_number (Refused asked) = 6
-fault_number BadListing = 7
-fault_number ListingsDisagree = 8
-fault_number TooMany = 9
-fault_number TextTooLong = 10
-fault_number (StoreRefused reason) = 11
-fault_number SeenRefused = 12
-fault_number NoMemory = 13
-fault_number (BadSeen line) = 14
-
 -- how a session came out, as a number: 0 where it ended
 abbrev pub outcome_number : Outcome → ℕ
 outcome_number Ended = 0
-outcome_number (Cut fault) = fault_number fault
+outcome_number (Cut fault) = number_of fault
 
 -- whose mail it is: the first line
 abbrev pub heading : Settings → List ℕ

@@ -16,7 +16,7 @@ ghost use Rattle.fetch_session.specs.Target.{IsCalm, IsSoundMaildir, IsSoundMbox
 ghost use Rattle.fetch_session.specs.Target.{is_sound, kind_of, maildir_of, mbox_of, stores_of, target_of};
 
 use crate::account::Account;
-use crate::fault::{Cut, Fault, plain, told};
+use crate::fault::{Cut, plain};
 use crate::opening::enter;
 use crate::plan::carry_out;
 use crate::report::{Outcome, Report, ReportLine, report_of};
@@ -24,7 +24,7 @@ use crate::tail::leave;
 use crate::terms::Terms;
 use crate::work::Work;
 use mail_store::{FlatFile, MaildirDisk};
-use pop3_client::{Client, conversations_are_paced};
+use pop3_client::{Client, Fault, conversations_are_paced};
 use pop3_wire::Wire;
 use std::hash::BuildHasher;
 use std::mem;
@@ -83,7 +83,7 @@ fn proceed<W: Wire, D: MaildirDisk, F: FlatFile, H: BuildHasher>(
     conversations_are_paced();
     let listing = match enter(work.ledger.alloc, terms.settings, client) {
         Ok(listing) => listing,
-        Err(fault) => return Err(plain(told(fault))),
+        Err(fault) => return Err(plain(fault)),
     };
     counts.total = listing.len();
     if let Err(_) = work.ledger.lines.reserve(2 * listing.len() as usize) {

@@ -9,7 +9,7 @@ ghost use Rattle.fetch_session.specs.Opening.{Enters};
 
 use fetch_rules::Settings;
 use mail_terms::Listing;
-use pop3_client::{Client, Fault as TalkFault};
+use pop3_client::{Client, Fault};
 use pop3_wire::Wire;
 use std::alloc::Global;
 
@@ -18,7 +18,7 @@ pub(crate) fn enter<W: Wire>(
     alloc: Global,
     settings: &Settings,
     client: &mut Client<'_, W>,
-) -> Result<Listing, TalkFault>
+) -> Result<Listing, Fault>
     requires { IsValid settings.now }
     ensures link { HasSameLink client.old client.new }
     ensures counted { CountsRefusals W.Wire client.old result client.new }

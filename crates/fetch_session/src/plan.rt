@@ -13,7 +13,7 @@ ghost use Rattle.fetch_session.specs.Plan.{Carries};
 ghost use Rattle.fetch_session.specs.Refusal.{RefusesTillCut};
 ghost use Rattle.fetch_session.specs.Report.{HasRoom, Adds};
 
-use crate::fault::{Cut, plain, told};
+use crate::fault::{Cut, plain};
 use crate::readiness::{Ready, prepare};
 use crate::report::skipped_in;
 use crate::step::do_steps;
@@ -82,6 +82,6 @@ pub fn carry_out<W: Wire, D: MaildirDisk, F: FlatFile, H: BuildHasher>(
     }
     match client.quit() {
         Ok(()) => Ok(()),
-        Err(fault) => Err(plain(told(fault))),
+        Err(fault) => Err(plain(fault)),
     }
 }

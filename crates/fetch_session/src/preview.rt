@@ -12,7 +12,7 @@ ghost use Rattle.fetch_session.specs.Target.{IsCalm, is_sound, kind_of, none_hel
 
 use crate::account::{Account, Store};
 use crate::appending::refused;
-use crate::fault::{Cut, Fault, plain, told};
+use crate::fault::{Cut, plain};
 use crate::opening::enter;
 use crate::prospect::{Prospect, prospects};
 use crate::readiness::{ask_held, read};
@@ -22,7 +22,7 @@ use crate::terms::Terms;
 use crate::work::Work;
 use fetch_rules::{Listing, Seen, plan};
 use mail_store::{AccountId, FlatFile, MaildirDisk, check_mbox};
-use pop3_client::Client;
+use pop3_client::{Client, Fault};
 use pop3_wire::Wire;
 use std::alloc::{AllocError, Global};
 use std::hash::BuildHasher;
@@ -198,7 +198,7 @@ fn survey<W: Wire, D: MaildirDisk, F: FlatFile, H: BuildHasher>(
 {
     let listing = match enter(work.ledger.alloc, terms.settings, client) {
         Ok(listing) => listing,
-        Err(fault) => return Err(plain(told(fault))),
+        Err(fault) => return Err(plain(fault)),
     };
     preview.total = listing.len();
     let foreseen = match foresee(
@@ -220,7 +220,7 @@ fn survey<W: Wire, D: MaildirDisk, F: FlatFile, H: BuildHasher>(
     preview.prospects = prospects;
     match client.quit() {
         Ok(()) => Ok(()),
-        Err(fault) => Err(plain(told(fault))),
+        Err(fault) => Err(plain(fault)),
     }
 }
 

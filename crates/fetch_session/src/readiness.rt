@@ -14,11 +14,11 @@ ghost use Rattle.fetch_session.specs.Record.{Gets, Reads, ReadAs, Merges, IsLine
 
 use crate::account::Store;
 use crate::appending::refused;
-use crate::fault::{Fault, Why};
 use crate::record::{grow, save};
 use crate::terms::Terms;
 use fetch_rules::{Listing, Seen, SeenFault, Step, listed_has_row, plan};
 use mail_store::{AccountId, FlatFile, MaildirDisk, StoreFault, check_mbox, held, settle_file};
+use pop3_client::{Fault, Why};
 use std::alloc::Global;
 use std::hash::BuildHasher;
 use std::vec::Vec;

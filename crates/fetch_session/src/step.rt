@@ -22,7 +22,7 @@ ghost use Rattle.fetch_session.specs.Lasting.{DoesForGood, IsSafe, IsSafeWork, K
 
 use crate::account::Store;
 use crate::appending::take_into_mbox;
-use crate::fault::{Cut, Fault, plain, told};
+use crate::fault::{Cut, plain};
 use crate::record::remember;
 use crate::report::{ReportLine, note};
 use crate::storing::{pass_text, store_text};
@@ -31,7 +31,7 @@ use fetch_rules::{Listing, Step, marked_keeps_rows};
 use mail_store::{
     AccountId, FlatFile, MaildirDisk, file_stem, one_more_is_held, unheld_ids_are_not_in_new,
 };
-use pop3_client::{Client, conversations_are_paced};
+use pop3_client::{Client, Fault, conversations_are_paced};
 use pop3_wire::Wire;
 use std::alloc::Global;
 use std::hash::BuildHasher;
@@ -92,7 +92,7 @@ fn take_into_maildir<W: Wire, D: MaildirDisk, F: FlatFile, H: BuildHasher>(
     };
     let body = match client.open(ledger.alloc, number) {
         Ok(body) => body,
-        Err(fault) => return Err(plain(told(fault))),
+        Err(fault) => return Err(plain(fault)),
     };
     let length = match store_text(client, disk, stem, body) {
         Ok(length) => length,
@@ -169,14 +169,14 @@ fn reread<W: Wire>(
     conversations_are_paced();
     let body = match client.open(alloc, number) {
         Ok(body) => body,
-        Err(fault) => return Err(plain(told(fault))),
+        Err(fault) => return Err(plain(fault)),
     };
     match pass_text(client, body) {
         Ok(length) => {
             note(lines, ReportLine::Held { number, length });
             Ok(())
         }
-        Err(fault) => Err(plain(told(fault))),
+        Err(fault) => Err(plain(fault)),
     }
 }
 
@@ -209,7 +209,7 @@ fn delete_if<W: Wire>(
             note(lines, ReportLine::Deleted { number });
             Ok(())
         }
-        Err(fault) => Err(plain(told(fault))),
+        Err(fault) => Err(plain(fault)),
     }
 }
 

@@ -12,9 +12,9 @@ ghost use Rattle.mail_store.specs.Power.{KeepsMail};
 ghost use Rattle.fetch_session.specs.Refusal.{RefusesTillCut};
 ghost use Rattle.fetch_session.specs.Store.{Starts, Puts, Ends, StoresText, ReadsText, PassesText};
 
-use crate::fault::{Cut, Fault, Why, plain, told};
+use crate::fault::{Cut, plain};
 use mail_store::{MaildirDisk, StoreFault, add_size};
-use pop3_client::{Client, Fault as TalkFault};
+use pop3_client::{Client, Fault, Why};
 use pop3_wire::{BodyReader, Wire};
 
 /// Begins an empty file of this name.
@@ -113,7 +113,7 @@ pub(crate) fn store_text<W: Wire, D: MaildirDisk>(
             Ok(piece) => piece,
             Err(fault) => {
                 disk.abandon();
-                return Err(plain(told(fault)));
+                return Err(plain(fault));
             }
         };
         if let Err(fault) = put_piece(disk, &out[..piece.put]) {
@@ -136,10 +136,7 @@ pub(crate) fn store_text<W: Wire, D: MaildirDisk>(
 }
 
 /// Takes a text that is under way, drops it, and says how long it was, in bytes, lines ended by LF.
-pub(crate) fn pass_text<W: Wire>(
-    client: &mut Client<'_, W>,
-    body: BodyReader,
-) -> Result<u64, TalkFault>
+pub(crate) fn pass_text<W: Wire>(client: &mut Client<'_, W>, body: BodyReader) -> Result<u64, Fault>
     requires open { body.spot ≢ Done }
     requires within { body.left ≤ text_limit }
     ensures link { HasSameLink client.old client.new }

@@ -6,8 +6,8 @@ ghost use Rattle.pop3_client.specs.Conversation.{Talks};
 ghost use Rattle.fetch_session.specs.Refusal.{RefusesNone, RefusesAtMostOne};
 ghost use Rattle.fetch_session.specs.Tail.{turns_in, tail, Drops, Left};
 
-use crate::fault::{Cut, Fault};
-use pop3_client::{Asked, Client, Fault as TalkFault};
+use crate::fault::Cut;
+use pop3_client::{Asked, Client, Fault};
 use pop3_wire::{BodyReader, Wire};
 
 /// What is said after a fault.
@@ -31,7 +31,7 @@ fn tail_of(fault: Fault) -> Tail
     }
 }
 
-fn say_tail<W: Wire>(client: &mut Client<'_, W>, kind: Tail) -> Result<(), TalkFault>
+fn say_tail<W: Wire>(client: &mut Client<'_, W>, kind: Tail) -> Result<(), Fault>
     ensures link { HasSameLink client.old client.new }
     ensures counted { CountsRefusals W.Wire client.old result client.new }
     ensures nothing { kind ≡ Tail.Nothing → result ≡ Ok tt }
@@ -49,7 +49,7 @@ fn say_tail<W: Wire>(client: &mut Client<'_, W>, kind: Tail) -> Result<(), TalkF
 fn drop_under_way<W: Wire>(
     client: &mut Client<'_, W>,
     rest: Option<BodyReader>,
-) -> Result<(), TalkFault>
+) -> Result<(), Fault>
     ensures link { HasSameLink client.old client.new }
     ensures counted { CountsRefusals W.Wire client.old result client.new }
     ensures nothing { rest ≡ None → result ≡ Ok tt }

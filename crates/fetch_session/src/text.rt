@@ -1,13 +1,12 @@
 //! How faults and reports are told. Nothing of a password stands in them.
 ghost use Rattle.std.specs.Prelude.{◌≡◌, ◌++◌, IfOk, codes};
 ghost use Rattle.std.specs.String.{string_bytes};
-ghost use Rattle.fetch_session.specs.Text.{asked_text, fault_number, fault_text, heading, line_text, message_text};
+ghost use Rattle.fetch_session.specs.Text.{asked_text, fault_text, heading, line_text, message_text};
 ghost use Rattle.fetch_session.specs.Text.{outcome_number, report_text, summary};
 
-use crate::fault::{Fault, Why};
 use crate::report::{Outcome, Report, ReportLine};
 use fetch_rules::Settings;
-use pop3_client::Asked;
+use pop3_client::{Asked, Fault, Why};
 use std::alloc::{AllocError, Global};
 
 /// What a refused reply was asked for, behind `server refused `.
@@ -51,35 +50,13 @@ pub fn fault_text(alloc: Global, fault: &Fault) -> Result<String, AllocError>
     }
 }
 
-/// The number of a fault, 1 to 14.
-fn number_of(fault: &Fault) -> u8
-    ensures { result ≡ fault_number fault.now }
-{
-    match fault {
-        Fault::ConnectionEnded => 1,
-        Fault::ReadFailed => 2,
-        Fault::WriteFailed => 3,
-        Fault::ReplyTooLong => 4,
-        Fault::BadReply => 5,
-        Fault::Refused(_) => 6,
-        Fault::BadListing => 7,
-        Fault::ListingsDisagree => 8,
-        Fault::TooMany => 9,
-        Fault::TextTooLong => 10,
-        Fault::StoreRefused(_) => 11,
-        Fault::SeenRefused => 12,
-        Fault::NoMemory => 13,
-        Fault::BadSeen(_) => 14,
-    }
-}
-
 /// The number of an outcome: 0 where the session ended, else its fault's.
 pub fn fault_number(outcome: &Outcome) -> u8
     ensures { result ≡ outcome_number outcome.now }
 {
     match outcome {
         Outcome::Ended => 0,
-        Outcome::Cut(fault) => number_of(fault),
+        Outcome::Cut(fault) => pop3_client::fault_number(*fault),
     }
 }
 

@@ -13,7 +13,7 @@ use Rattle.pop3_wire.specs.Place.{Place, at, GoesOn, Gains, HasLine}
 use Rattle.pop3_wire.specs.Bodies.{Drew}
 use Rattle.pop3_client.specs.declared.fault.Asked.{Asked}
 use Rattle.pop3_client.specs.declared.fault.Fault.{Fault}
-use Rattle.pop3_client.specs.declared.fault.Fault.TheVariants.{ConnectionEnded, ReadFailed, WriteFailed, ReplyTooLong, BadReply, Refused, BadListing, ListingsDisagree, TooMany, TextTooLong, NoMemory}
+use Rattle.pop3_client.specs.declared.fault.Fault.TheVariants.{ConnectionEnded, ReadFailed, WriteFailed, ReplyTooLong, BadReply, Refused, BadListing, ListingsDisagree, TooMany, TextTooLong, StoreRefused, SeenRefused, NoMemory, BadSeen}
 use Rattle.pop3_client.specs.Turns.{Turn, uidl, list, IsRow, IsListing, IsShort, tells_count, LinesFit, line_limit, row_limit, most}
 use Rattle.pop3_client.specs.Causes.{IsPartOfListing, IsPartOfBody, HasRows, NextLine, BeginsPositive, Cause}
 use Rattle.pop3_client.specs.Conversation.{Opened}
@@ -178,7 +178,10 @@ module _ {R : Type 0} (turn : Turn) (StandsFor : List ℕ → R → Type 0) (old
         },
       )
       by TextTooLong w = absurd w
+      by (StoreRefused why) w = absurd w
+      by SeenRefused w = absurd w
       by NoMemory w = absurd w
+      by (BadSeen line) w = absurd w
 
   -- the end mark was taken
   pub rows_end : (new : Place) (more : List ℕ) → Drew here.link new.link more → GoesOn here.link new.link → here.waiting ++ more ≡ ended dot ++ new.waiting
@@ -238,6 +241,9 @@ cause_of_rows ListingsDisagree turn old new bytes after begins listing why = abs
 cause_of_rows TooMany turn old new bytes after begins listing why =
     (inr (why.0, next_line_of turn bytes after why.0 row_limit begins why.1), λ to is. cc)
 cause_of_rows TextTooLong turn old new bytes after begins listing why = absurd why
+cause_of_rows (StoreRefused reason) turn old new bytes after begins listing why = absurd why
+cause_of_rows SeenRefused turn old new bytes after begins listing why = absurd why
+cause_of_rows (BadSeen line) turn old new bytes after begins listing why = absurd why
 cause_of_rows NoMemory turn old new bytes after begins listing why =
     ((why.0, why.1, next_line_of turn bytes after why.0 why.1 begins why.2, why.3, why.4), λ to is. cc)
 

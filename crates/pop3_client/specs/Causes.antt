@@ -12,7 +12,7 @@ use Rattle.pop3_wire.specs.declared.command.Command.TheVariants.{UidlAll, ListAl
 use Rattle.pop3_client.specs.declared.fault.Fault.{Fault}
 use Rattle.pop3_client.specs.declared.fault.Fault.TheVariants.{ConnectionEnded, ReadFailed, WriteFailed, ReplyTooLong}
 use Rattle.pop3_client.specs.declared.fault.Fault.TheVariants.{BadReply, Refused, BadListing, ListingsDisagree}
-use Rattle.pop3_client.specs.declared.fault.Fault.TheVariants.{TooMany, TextTooLong, NoMemory}
+use Rattle.pop3_client.specs.declared.fault.Fault.TheVariants.{TooMany, TextTooLong, StoreRefused, SeenRefused, NoMemory, BadSeen}
 use Rattle.pop3_client.specs.Turns.{Turn, Names, tells_count, retr, line_limit, text_limit, row_limit, IsShort, IsListing, IsRow}
 
 -- the octets begin with a positive first line, and these follow it
@@ -93,4 +93,7 @@ Cause TooMany turn old new bytes =
     ⊎ ((row : List ℕ) × NextLine turn bytes row row_limit)
 Cause TextTooLong turn old new bytes = ((number : ℕ) × (turn ≡ retr number)) × ((after : List ℕ) × BeginsPositive bytes after
     × HasNoBody (take text_limit after) × (text_limit ≤ length after))
+Cause (StoreRefused why) turn old new bytes = ⊥
+Cause SeenRefused turn old new bytes = ⊥
 Cause NoMemory turn old new bytes = (row : List ℕ) × (rows : ℕ) × NextLine turn bytes row rows × (rows < row_limit) × IsRow turn row
+Cause (BadSeen line) turn old new bytes = ⊥

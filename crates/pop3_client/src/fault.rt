@@ -3,7 +3,6 @@ ghost use Rattle.std.specs.Prelude.{◌≡◌};
 ghost use Rattle.pop3_client.specs.Fault.{number_of};
 
 use std::alloc::{AllocError, AllocFailed};
-use thiserror::Error;
 
 /// What a reply answers.
 #[derive(Clone, Copy, Debug, PartialEq, Eq)]
@@ -28,42 +27,51 @@ pub enum Asked {
     Quit,
 }
 
+/// Why a store refused a call.
+#[derive(Clone, Copy, Debug, PartialEq, Eq)]
+pub enum Why {
+    /// A folder or a file isn't there.
+    Missing,
+    /// The device refused the call.
+    Refused,
+    /// The file is no mboxrd file.
+    NotMbox,
+}
+
 /// Why a session is cut. Each has a number, which `cut N` shows.
-#[derive(Clone, Copy, Debug, PartialEq, Eq, Error)]
+///
+/// The calls of this crate answer only 1 to 10 and 13. The store and the record's file of a session give
+/// 11, 12 and 14.
+#[derive(Clone, Copy, Debug, PartialEq, Eq)]
 pub enum Fault {
     /// 1: the link gave 0 octets before the reply was whole.
-    #[error("connection ended by the server")]
     ConnectionEnded,
     /// 2: the link refused a `recv`.
-    #[error("reading from the server failed")]
     ReadFailed,
     /// 3: the link refused a `send`.
-    #[error("writing to the server failed")]
     WriteFailed,
     /// 4: 2,048 octets hold no whole line.
-    #[error("reply line too long")]
     ReplyTooLong,
     /// 5: a first line is neither positive nor negative, or STAT's doesn't give a count and a size.
-    #[error("reply not understood")]
     BadReply,
     /// 6: the reply to this is negative.
-    #[error("server refused a command")]
     Refused(Asked),
     /// 7: a row of a listing can't be read.
-    #[error("listing not understood")]
     BadListing,
     /// 8: both listings are whole, but don't agree with the count or with each other.
-    #[error("listings disagree")]
     ListingsDisagree,
     /// 9: there are more than 100,000 messages.
-    #[error("too many messages")]
     TooMany,
     /// 10: 268,435,456 octets hold no whole body.
-    #[error("message too long")]
     TextTooLong,
+    /// 11: the store refused a call.
+    StoreRefused(Why),
+    /// 12: the record's file refused a call.
+    SeenRefused,
     /// 13: out of memory.
-    #[error("out of memory")]
     NoMemory,
+    /// 14: the record's file has no record. This line of it is the first that isn't understood.
+    BadSeen(u32),
 }
 
 impl From<AllocError> for Fault {
@@ -103,6 +111,9 @@ pub fn fault_number(fault: Fault) -> u8
         Fault::ListingsDisagree => 8,
         Fault::TooMany => 9,
         Fault::TextTooLong => 10,
+        Fault::StoreRefused(_) => 11,
+        Fault::SeenRefused => 12,
         Fault::NoMemory => 13,
+        Fault::BadSeen(_) => 14,
     }
 }

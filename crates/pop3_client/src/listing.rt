@@ -6,6 +6,7 @@ ghost use Rattle.pop3_wire.specs.Bodies.{items_of};
 ghost use Rattle.pop3_wire.specs.Place.{HasLine};
 ghost use Rattle.pop3_wire.specs.Reading.{IsUidLine, IsScanLine};
 ghost use Rattle.pop3_client.specs.Client.{HasSameLink, CountsRefusals, WhereLinkSound};
+ghost use Rattle.pop3_client.specs.Fault.{IsOfConversation};
 ghost use Rattle.pop3_client.specs.Turns.{line_limit, row_limit};
 ghost use Rattle.pop3_client.specs.Listing.{NextRow, TakesRows, ListsRows, GetsListing};
 
@@ -41,6 +42,7 @@ impl<'a, W: Wire> Client<'a, W> {
     fn next_row(&mut self, rows: usize) -> Result<Option<usize>, Fault>
         ensures link { HasSameLink self.old self.new }
         ensures counted { CountsRefusals W.Wire self.old result self.new }
+        ensures own { IfErr result IsOfConversation }
         ensures line { IfOk result (λ found. IfSome found (HasLine line_limit self.new.reader)) }
         ensures few { IfOk result (λ found. IfSome found (λ n. rows < row_limit)) }
         ensures next { WhereLinkSound W.Wire self.old self.new (λ old new. NextRow rows old result new) }
@@ -63,6 +65,7 @@ impl<'a, W: Wire> Client<'a, W> {
     fn rows<R: ListedRow>(&mut self, alloc: Global) -> Result<Vec<R>, Fault>
         ensures link { HasSameLink self.old self.new }
         ensures counted { CountsRefusals W.Wire self.old result self.new }
+        ensures own { IfErr result IsOfConversation }
         ensures fit { IfOk result (λ rows. All R.is_fit rows.items) }
         ensures takes { WhereLinkSound W.Wire self.old self.new
             (λ old new. TakesRows R.turn R.stands_for old (items_of result) new) }
@@ -89,6 +92,7 @@ impl<'a, W: Wire> Client<'a, W> {
     fn listing<R: ListedRow>(&mut self, alloc: Global) -> Result<Vec<R>, Fault>
         ensures link { HasSameLink self.old self.new }
         ensures counted { CountsRefusals W.Wire self.old result self.new }
+        ensures own { IfErr result IsOfConversation }
         ensures fit { IfOk result (λ rows. All R.is_fit rows.items) }
         ensures lists { WhereLinkSound W.Wire self.old self.new
             (λ old new. ListsRows R.turn R.stands_for old (items_of result) new) }
@@ -105,6 +109,7 @@ impl<'a, W: Wire> Client<'a, W> {
         requires { count ≤ row_limit }
         ensures link { HasSameLink self.old self.new }
         ensures counted { CountsRefusals W.Wire self.old result self.new }
+        ensures own { IfErr result IsOfConversation }
         ensures legal { IfOk result (λ listing. All (λ item. IsLegalId item.uid) listing) }
         ensures lists { WhereLinkSound W.Wire self.old self.new (λ old new. GetsListing count old result new) }
     {

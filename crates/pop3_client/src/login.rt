@@ -2,6 +2,7 @@
 ghost use Rattle.std.specs.Prelude.{◌≡◌, true, List, ℕ, IfOk, IfErr};
 ghost use Rattle.mail_terms.specs.Credential.{is_credential};
 ghost use Rattle.pop3_client.specs.Client.{HasSameLink, CountsRefusals, WhereLinkSound};
+ghost use Rattle.pop3_client.specs.Fault.{IsOfConversation};
 ghost use Rattle.pop3_client.specs.Turns.{turn_bytes, user, pass};
 ghost use Rattle.pop3_client.specs.Conversation.{login, Talks};
 
@@ -44,6 +45,7 @@ impl<'a, W: Wire> Client<'a, W> {
     fn log_in_by(&mut self, name_line: &[u8], password_line: &[u8]) -> Result<(), Fault>
         ensures link { HasSameLink self.old self.new }
         ensures counted { CountsRefusals W.Wire self.old result self.new }
+        ensures own { IfErr result IsOfConversation }
         ensures talks { WhereLinkSound W.Wire self.old self.new
             (λ old new. (name password : List ℕ) → name_line.now ≡ turn_bytes (user name) → password_line.now ≡ turn_bytes (pass password)
             → Talks (login name password) old result new) }
@@ -63,6 +65,7 @@ impl<'a, W: Wire> Client<'a, W> {
         requires password { is_credential password.now ≡ true }
         ensures link { HasSameLink self.old self.new }
         ensures counted { CountsRefusals W.Wire self.old result self.new }
+        ensures own { IfErr result IsOfConversation }
         ensures talks { WhereLinkSound W.Wire self.old self.new
             (λ old new. Talks (login name.now password.now) old result new) }
     {

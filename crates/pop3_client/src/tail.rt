@@ -1,6 +1,7 @@
 //! The last turns of a session that was cut.
-ghost use Rattle.std.specs.Prelude.{◌≡◌, ◌∷◌, [], if◌then◌else◌};
+ghost use Rattle.std.specs.Prelude.{◌≡◌, ◌∷◌, [], if◌then◌else◌, IfErr};
 ghost use Rattle.pop3_client.specs.Client.{HasSameLink, CountsRefusals, WhereLinkSound};
+ghost use Rattle.pop3_client.specs.Fault.{IsOfConversation};
 ghost use Rattle.pop3_client.specs.Turns.{rset, quit as quit_turn};
 ghost use Rattle.pop3_client.specs.Conversation.{Tells, Talks, tail_of, undoing};
 
@@ -24,6 +25,7 @@ impl<'a, W: Wire> Client<'a, W> {
     fn reset(&mut self) -> Result<(), Fault>
         ensures link { HasSameLink self.old self.new }
         ensures counted { CountsRefusals W.Wire self.old result self.new }
+        ensures own { IfErr result IsOfConversation }
         ensures tells { WhereLinkSound W.Wire self.old self.new (λ old new. Tells rset old result new) }
     {
         self.ask(Asked::Quit, b"RSET\r\n")
@@ -35,6 +37,7 @@ impl<'a, W: Wire> Client<'a, W> {
     pub fn leave(&mut self, fault: Fault) -> Result<(), Fault>
         ensures link { HasSameLink self.old self.new }
         ensures counted { CountsRefusals W.Wire self.old result self.new }
+        ensures own { IfErr result IsOfConversation }
         ensures talks { WhereLinkSound W.Wire self.old self.new (λ old new. Talks (tail_of fault) old result new) }
     {
         if says_quit(fault) {
@@ -48,6 +51,7 @@ impl<'a, W: Wire> Client<'a, W> {
     pub fn reset_and_quit(&mut self) -> Result<(), Fault>
         ensures link { HasSameLink self.old self.new }
         ensures counted { CountsRefusals W.Wire self.old result self.new }
+        ensures own { IfErr result IsOfConversation }
         ensures talks { WhereLinkSound W.Wire self.old self.new (λ old new. Talks undoing old result new) }
     {
         if let Err(fault) = self.reset() {

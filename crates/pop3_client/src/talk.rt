@@ -1,9 +1,10 @@
 //! One turn of a conversation: a command is sent, and the first line of its reply is read
 //! (RFC 1939, section 3).
-ghost use Rattle.std.specs.Prelude.{◌≡◌, ◌≤◌, false, ℕ, List, take, IfOk};
+ghost use Rattle.std.specs.Prelude.{◌≡◌, ◌≤◌, false, ℕ, List, take, IfOk, IfErr};
 ghost use Rattle.pop3_wire.specs.Place.{Gains, HasLine};
 ghost use Rattle.pop3_wire.specs.Reply.{IsFirstLine};
 ghost use Rattle.pop3_client.specs.Client.{HasSameLink, CountsRefusals, WhereLinkSound};
+ghost use Rattle.pop3_client.specs.Fault.{IsOfConversation};
 ghost use Rattle.pop3_client.specs.Turns.{Turn, Names, turn_bytes, tells_count, greeting, dele, quit, line_limit, row_limit};
 ghost use Rattle.pop3_client.specs.Conversation.{Waits, Heard, Sent, AsksTurn, CountsMessages, Tells, TellsFew};
 
@@ -42,6 +43,7 @@ impl<'a, W: Wire> Client<'a, W> {
     pub(crate) fn next_line(&mut self) -> Result<usize, Fault>
         ensures link { HasSameLink self.old self.new }
         ensures counted { CountsRefusals W.Wire self.old result self.new }
+        ensures own { IfErr result IsOfConversation }
         ensures line { IfOk result (HasLine line_limit self.new.reader) }
         ensures waits { WhereLinkSound W.Wire self.old self.new
             (λ old new. ((gained : List ℕ) × Gains old new gained) × Waits old result new) }
@@ -58,6 +60,7 @@ impl<'a, W: Wire> Client<'a, W> {
     fn say(&mut self, bytes: &[u8]) -> Result<(), Fault>
         ensures link { HasSameLink self.old self.new }
         ensures counted { CountsRefusals W.Wire self.old result self.new }
+        ensures own { IfErr result IsOfConversation }
         ensures silent { self.new.reader ≡ self.old.reader }
         ensures sent { WhereLinkSound W.Wire self.old self.new (λ old new. Sent bytes.now old.link result new.link) }
     {
@@ -72,6 +75,7 @@ impl<'a, W: Wire> Client<'a, W> {
     fn hear(&mut self, asked: Asked) -> Result<usize, Fault>
         ensures link { HasSameLink self.old self.new }
         ensures counted { CountsRefusals W.Wire self.old result self.new }
+        ensures own { IfErr result IsOfConversation }
         ensures line { IfOk result (HasLine line_limit self.new.reader) }
         ensures positive { IfOk result (λ n. (rest : List ℕ) × IsFirstLine (take n self.new.reader) Status.Positive rest) }
         ensures heard { WhereLinkSound W.Wire self.old self.new
@@ -95,6 +99,7 @@ impl<'a, W: Wire> Client<'a, W> {
     pub(crate) fn greet(&mut self) -> Result<(), Fault>
         ensures link { HasSameLink self.old self.new }
         ensures counted { CountsRefusals W.Wire self.old result self.new }
+        ensures own { IfErr result IsOfConversation }
         ensures asks { WhereLinkSound W.Wire self.old self.new (λ old new. AsksTurn greeting old result new) }
     {
         let length = match self.hear(Asked::Greeting) {
@@ -110,6 +115,7 @@ impl<'a, W: Wire> Client<'a, W> {
     pub(crate) fn ask(&mut self, asked: Asked, bytes: &[u8]) -> Result<(), Fault>
         ensures link { HasSameLink self.old self.new }
         ensures counted { CountsRefusals W.Wire self.old result self.new }
+        ensures own { IfErr result IsOfConversation }
         ensures asks { WhereLinkSound W.Wire self.old self.new
             (λ old new. (turn : Turn) → Names asked turn → tells_count turn ≡ false → bytes.now ≡ turn_bytes turn
             → AsksTurn turn old result new) }
@@ -129,6 +135,7 @@ impl<'a, W: Wire> Client<'a, W> {
     pub fn count(&mut self) -> Result<u32, Fault>
         ensures link { HasSameLink self.old self.new }
         ensures counted { CountsRefusals W.Wire self.old result self.new }
+        ensures own { IfErr result IsOfConversation }
         ensures few { IfOk result (λ n. n ≤ row_limit) }
         ensures counts { WhereLinkSound W.Wire self.old self.new (λ old new. CountsMessages old result new) }
     {
@@ -153,6 +160,7 @@ impl<'a, W: Wire> Client<'a, W> {
     pub fn delete(&mut self, alloc: Global, number: u32) -> Result<(), Fault>
         ensures link { HasSameLink self.old self.new }
         ensures counted { CountsRefusals W.Wire self.old result self.new }
+        ensures own { IfErr result IsOfConversation }
         ensures tells { WhereLinkSound W.Wire self.old self.new (λ old new. Tells (dele number) old result new) }
     {
         let Ok(line) = command_bytes(alloc, &Command::Dele(number)) else {
@@ -165,6 +173,7 @@ impl<'a, W: Wire> Client<'a, W> {
     pub fn quit(&mut self) -> Result<(), Fault>
         ensures link { HasSameLink self.old self.new }
         ensures counted { CountsRefusals W.Wire self.old result self.new }
+        ensures own { IfErr result IsOfConversation }
         ensures tells { WhereLinkSound W.Wire self.old self.new (λ old new. Tells quit old result new) }
     {
         self.ask(Asked::Quit, b"QUIT\r\n")

@@ -3,6 +3,7 @@ ghost use Rattle.std.specs.Prelude.{◌≡◌, ◌≢◌, ◌≤◌, ◌<◌, �
 ghost use Rattle.pop3_wire.specs.declared.unstuffer.Spot.TheVariants.{Done};
 ghost use Rattle.pop3_wire.specs.Place.{Place};
 ghost use Rattle.pop3_client.specs.Client.{HasSameLink, CountsRefusals, WhereLinkSound, place_of};
+ghost use Rattle.pop3_client.specs.Fault.{IsOfConversation};
 ghost use Rattle.pop3_client.specs.Turns.{turn_bytes, retr, text_limit};
 ghost use Rattle.pop3_client.specs.Texts.{Fetching, Opens, FetchesPiece, TakesRest};
 
@@ -19,6 +20,7 @@ impl<'a, W: Wire> Client<'a, W> {
     fn open_by(&mut self, number: u32, line: &[u8]) -> Result<BodyReader, Fault>
         ensures link { HasSameLink self.old self.new }
         ensures counted { CountsRefusals W.Wire self.old result self.new }
+        ensures own { IfErr result IsOfConversation }
         ensures open { IfOk result (λ body. body.spot ≢ Done) }
         ensures within { IfOk result (λ body. body.left ≤ text_limit) }
         ensures opens { WhereLinkSound W.Wire self.old self.new
@@ -35,6 +37,7 @@ impl<'a, W: Wire> Client<'a, W> {
     pub fn open(&mut self, alloc: Global, number: u32) -> Result<BodyReader, Fault>
         ensures link { HasSameLink self.old self.new }
         ensures counted { CountsRefusals W.Wire self.old result self.new }
+        ensures own { IfErr result IsOfConversation }
         ensures open { IfOk result (λ body. body.spot ≢ Done) }
         ensures within { IfOk result (λ body. body.left ≤ text_limit) }
         ensures opens { WhereLinkSound W.Wire self.old self.new (λ old new. Opens (retr number) old result new) }
@@ -55,6 +58,7 @@ impl<'a, W: Wire> Client<'a, W> {
         requires { body.old.spot ≢ Done }
         ensures link { HasSameLink self.old self.new }
         ensures counted { CountsRefusals W.Wire self.old result self.new }
+        ensures own { IfErr result IsOfConversation }
         ensures fits { IfOk result (λ piece. piece.put ≤ length out.new) }
         ensures ended { IfOk result (λ piece. IsTrue piece.ended ↔ (body.new.spot ≡ Done)) }
         ensures less { OnOk result (body.new.spot ≢ Done → body.new.left < body.old.left) }
@@ -77,6 +81,7 @@ impl<'a, W: Wire> Client<'a, W> {
     pub fn drop_rest(&mut self, body: &mut BodyReader) -> Result<(), Fault>
         ensures link { HasSameLink self.old self.new }
         ensures counted { CountsRefusals W.Wire self.old result self.new }
+        ensures own { IfErr result IsOfConversation }
         ensures ended { OnOk result (body.new.spot ≡ Done) }
         ensures frugal { IfErr result (λ fault. fault ≢ Fault.NoMemory) }
         ensures whole { body.old.spot ≡ Done → (result ≡ Ok tt) × (place_of W.Wire self.new ≡ place_of W.Wire self.old) }

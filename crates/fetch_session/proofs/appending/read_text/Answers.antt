@@ -10,7 +10,7 @@ use Rattle.fetch_session.proofs.appending.read_text.Goals as goal
 
 pub returns-in-Err-clause-holds : goal.returns-in-Err-clause-holds
 returns-in-Err-clause-holds g c = and_then g.W.Wire g.met.W.Wire.leads_on c.pieces.invariant.1 c.in-Err.ensures.takes (λ before took number start now.
-    held_broke number start (place_of g.W.Wire c.next_piece.new.self) c.plain.result c.told.result c.in-Err.fault c.plain.ensures c.told.ensures (inr (inl (took number start c.pieces.text.items (before number start now)))))
+    held_broke number start (place_of g.W.Wire c.next_piece.new.self) c.plain.result c.in-Err.fault c.plain.ensures (inr (inl (took number start c.pieces.text.items (before number start now)))))
 
 pub returns-in-Err-extend_from_slice-clause-holds : goal.returns-in-Err-extend_from_slice-clause-holds
 returns-in-Err-extend_from_slice-clause-holds g c = and_then g.W.Wire g.met.W.Wire.leads_on c.pieces.invariant.1 c.in-Ok.ensures.takes (λ before took number start now.
@@ -33,7 +33,7 @@ pieces-preserved g c = (
 pub returns-in-Err-clause-counted : goal.returns-in-Err-clause-counted
 returns-in-Err-clause-counted g c =
     before_cut (g.W.Wire.seen c.args.client.now.wire.now) (g.W.Wire.seen c.pieces.client.wire.now) (g.W.Wire.seen c.next_piece.new.self.wire.now) c.plain.result c.pieces.invariant.2
-    (cut_by c.in-Err.fault c.told.result c.plain.result (g.W.Wire.seen c.pieces.client.wire.now) (g.W.Wire.seen c.next_piece.new.self.wire.now) c.plain.ensures c.told.ensures c.in-Err.ensures.counted)
+    (cut_by c.in-Err.fault c.plain.result (g.W.Wire.seen c.pieces.client.wire.now) (g.W.Wire.seen c.next_piece.new.self.wire.now) c.plain.ensures c.in-Err.ensures.counted)
 
 pub returns-in-Err-extend_from_slice-clause-counted : goal.returns-in-Err-extend_from_slice-clause-counted
 returns-in-Err-extend_from_slice-clause-counted g c = inl (c.in-Ok.ensures.counted ∙ c.pieces.invariant.2)

@@ -3,7 +3,7 @@ use Rattle.std.proofs.lemmas.Bool.{true≢false}
 use Rattle.mail_terms.specs.Text.{IsWhole}
 use Rattle.fetch_rules.specs.Record.{Row, has_row}
 use Rattle.pop3_client.specs.Client.{place_of}
-use Rattle.fetch_session.specs.declared.fault.Fault.TheVariants.{BadReply}
+use Rattle.pop3_client.specs.declared.fault.Fault.TheVariants.{BadReply}
 use Rattle.fetch_session.specs.Target.{AsEntries, in_mbox}
 use Rattle.fetch_session.specs.Task.{stores}
 use Rattle.fetch_session.specs.declared.report.ReportLine.{ReportLine}
@@ -23,7 +23,7 @@ returns-in-Err-clause-takes g c = λ w m f.
       f,
       opened.1,
       text_broken AsEntries (stores c.args.number c.args.uid.now) _ (place_of g.W.Wire c.args.client.now) (place_of g.W.Wire c.open.new.self) (in_mbox (g.F.FlatFile.stored c.args.mbox.now)) (g.F.FlatFile.stored c.args.ledger.now.file) c.args.ledger.now.seen.rows c.args.ledger.now.lines.items
-          c.in-Err.fault c.told.result c.plain.result refl c.plain.ensures c.told.ensures opened.2,
+          c.in-Err.fault c.plain.result refl c.plain.ensures opened.2,
     )
 
 pub returns-in-Err-read_text-clause-takes : goal.returns-in-Err-read_text-clause-takes
@@ -122,7 +122,7 @@ returns-in-Ok-remember-clause-rows g c = λ other has.
 
 pub returns-in-Err-clause-took : goal.returns-in-Err-clause-took
 returns-in-Err-clause-took g c = did_so g.W.Wire c.in-Err.ensures.opens (λ opened.
-    takes_plain 268437504 _ _ c.told.result c.plain.result c.plain.ensures (took_retr c.conversations_are_paced.ensures c.args.number _ _ c.in-Err.fault opened))
+    takes_plain 268437504 _ _ c.in-Err.fault c.plain.result c.plain.ensures (took_retr c.conversations_are_paced.ensures c.args.number _ _ c.in-Err.fault opened))
 
 pub returns-in-Err-read_text-clause-took : goal.returns-in-Err-read_text-clause-took
 returns-in-Err-read_text-clause-took g c = λ w.
@@ -171,7 +171,7 @@ returns-clause-took g c = λ w.
 
 pub returns-in-Err-clause-counted : goal.returns-in-Err-clause-counted
 returns-in-Err-clause-counted g c =
-    cut_by c.in-Err.fault c.told.result c.plain.result (g.W.Wire.seen c.args.client.now.wire.now) (g.W.Wire.seen c.open.new.self.wire.now) c.plain.ensures c.told.ensures c.in-Err.ensures.counted
+    cut_by c.in-Err.fault c.plain.result (g.W.Wire.seen c.args.client.now.wire.now) (g.W.Wire.seen c.open.new.self.wire.now) c.plain.ensures c.in-Err.ensures.counted
 
 pub returns-in-Err-read_text-clause-counted : goal.returns-in-Err-read_text-clause-counted
 returns-in-Err-read_text-clause-counted g c = before_cut (g.W.Wire.seen c.args.client.now.wire.now) (g.W.Wire.seen c.open.new.self.wire.now) (g.W.Wire.seen c.read_text.new.client.wire.now) c.in-Err-read_text.cut c.in-Ok.ensures.counted c.in-Err-read_text.ensures.counted

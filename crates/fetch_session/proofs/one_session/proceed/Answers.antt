@@ -1,6 +1,6 @@
 use Rattle.std.proofs.Common.{◌+◌, ◌*◌, length, Ok, Err, arith, ◌∙◌, inl}
 use Rattle.pop3_client.specs.Client.{place_of}
-use Rattle.fetch_session.specs.declared.fault.Fault.TheVariants.{NoMemory}
+use Rattle.pop3_client.specs.declared.fault.Fault.TheVariants.{NoMemory}
 use Rattle.fetch_session.specs.Session.{keeping, noted}
 use Rattle.fetch_session.specs.Target.{stores_of, target_of}
 use Rattle.fetch_session.proofs.SessionLemmas.{dealt}
@@ -32,7 +32,7 @@ returns-in-Err-clause-took g c = λ w.
     let cut = c.plain.result in (
       entered.0,
       with_tail_less (409616384 + 4096) (409616384 + (c.args.counts.now.total * 268439552 + 4096)) old new (Err cut) (omega arith)
-          (with_any_tail 409616384 old new cut (takes_plain 409616384 old new c.told.result cut c.plain.ensures (took_entering c.conversations_are_paced.ensures _ _ old new (Err c.in-Err.fault) entered.2))),
+          (with_any_tail 409616384 old new cut (takes_plain 409616384 old new c.in-Err.fault cut c.plain.ensures (took_entering c.conversations_are_paced.ensures _ _ old new (Err c.in-Err.fault) entered.2))),
     )
 
 pub returns-in-Err-reserve-clause-took : goal.returns-in-Err-reserve-clause-took
@@ -60,7 +60,7 @@ returns-clause-took g c = λ w.
     )
 
 pub returns-in-Err-clause-counted : goal.returns-in-Err-clause-counted
-returns-in-Err-clause-counted g c = cut_by c.in-Err.fault c.told.result c.plain.result (g.W.Wire.seen c.args.client.now.wire.now) (g.W.Wire.seen c.enter.new.client.wire.now) c.plain.ensures c.told.ensures c.in-Err.ensures.counted
+returns-in-Err-clause-counted g c = cut_by c.in-Err.fault c.plain.result (g.W.Wire.seen c.args.client.now.wire.now) (g.W.Wire.seen c.enter.new.client.wire.now) c.plain.ensures c.in-Err.ensures.counted
 
 pub returns-in-Err-reserve-clause-counted : goal.returns-in-Err-reserve-clause-counted
 returns-in-Err-reserve-clause-counted g c = inl c.in-Ok.ensures.counted

@@ -98,9 +98,9 @@ returns-clause-carries g c = λ w d f.
         c.do_steps.new.work.ledger.seen.rows,
         inr (carry_broke c.args.terms.settings.now (target_of c.args.work.now.store c.args.terms.account.now) c.args.listing.now c.args.terms.now old store file c.args.work.now.ledger.lines.items c.in-Ok.ready c.prepare.new.seen.rows (stores_of g.D.MaildirDisk g.F.FlatFile c.prepare.new.store) (g.F.FlatFile.stored c.prepare.new.file) ready.2 c.deref-2.result.now c.deref-3.result.now c.deref-2.ensures.value c.deref-3.ensures.value c.skipped_in.result (c.skipped_in.ensures ∙ ap skipped_in (c.deref.ensures.value ∙ sym c.deref-2.ensures.value))
             (place_of g.W.Wire c.do_steps.new.client) (place_of g.W.Wire c.quit.new.self)
-            (stores_of g.D.MaildirDisk g.F.FlatFile c.do_steps.new.work.store) (g.F.FlatFile.stored c.do_steps.new.work.ledger.file) c.do_steps.new.work.ledger.seen.rows c.do_steps.new.work.ledger.lines.items c.in-Err-quit.fault c.told.result c.plain-in-Err-quit.result (subst (λ (t : Target). AllWent t (tasks_planned c.deref-2.result.now c.args.listing.now c.deref-3.result.now) (scene old (stores_of g.D.MaildirDisk g.F.FlatFile c.prepare.new.store) (g.F.FlatFile.stored c.prepare.new.file) c.prepare.new.seen.rows c.args.work.now.ledger.lines.items)
+            (stores_of g.D.MaildirDisk g.F.FlatFile c.do_steps.new.work.store) (g.F.FlatFile.stored c.do_steps.new.work.ledger.file) c.do_steps.new.work.ledger.seen.rows c.do_steps.new.work.ledger.lines.items c.in-Err-quit.fault c.plain-in-Err-quit.result (subst (λ (t : Target). AllWent t (tasks_planned c.deref-2.result.now c.args.listing.now c.deref-3.result.now) (scene old (stores_of g.D.MaildirDisk g.F.FlatFile c.prepare.new.store) (g.F.FlatFile.stored c.prepare.new.file) c.prepare.new.seen.rows c.args.work.now.ledger.lines.items)
             (scene (place_of g.W.Wire c.do_steps.new.client) (stores_of g.D.MaildirDisk g.F.FlatFile c.do_steps.new.work.store) (g.F.FlatFile.stored c.do_steps.new.work.ledger.file) c.do_steps.new.work.ledger.seen.rows c.do_steps.new.work.ledger.lines.items))
-            (ap (λ (k : Kind). target_at k c.args.terms.account.now) c.prepare.ensures.kind) done.4) c.plain-in-Err-quit.ensures c.told.ensures tells.2),
+            (ap (λ (k : Kind). target_at k c.args.terms.account.now) c.prepare.ensures.kind) done.4) c.plain-in-Err-quit.ensures tells.2),
       ),
     )
 
@@ -140,7 +140,7 @@ returns-clause-took g c = λ w.
     let cut = c.plain-in-Err-quit.result in (
       done.0,
       with_tail_less (most + 2048) (most + 4096) old new (Err cut) (omega arith) (with_tail_on most 2048 old mid new (Err cut) done.1
-          (quit_broke c.conversations_are_paced.ensures mid new c.in-Err-quit.fault c.told.result cut tells.2 c.told.ensures c.plain-in-Err-quit.ensures)),
+          (quit_broke c.conversations_are_paced.ensures mid new c.in-Err-quit.fault cut tells.2 c.plain-in-Err-quit.ensures)),
     )
 
 -- ---- refused calls of the link
@@ -154,7 +154,7 @@ returns-in-Ok-quit-clause-counted g c = c.in-Ok-quit.ensures.counted ∙ c.in_de
 pub returns-clause-counted : goal.returns-clause-counted
 returns-clause-counted g c =
     before_cut (g.W.Wire.seen c.args.client.now.wire.now) (g.W.Wire.seen c.do_steps.new.client.wire.now) (g.W.Wire.seen c.quit.new.self.wire.now) c.plain-in-Err-quit.result c.in_default.ensures.counted
-    (cut_by c.in-Err-quit.fault c.told.result c.plain-in-Err-quit.result (g.W.Wire.seen c.do_steps.new.client.wire.now) (g.W.Wire.seen c.quit.new.self.wire.now) c.plain-in-Err-quit.ensures c.told.ensures c.in-Err-quit.ensures.counted)
+    (cut_by c.in-Err-quit.fault c.plain-in-Err-quit.result (g.W.Wire.seen c.do_steps.new.client.wire.now) (g.W.Wire.seen c.quit.new.self.wire.now) c.plain-in-Err-quit.ensures c.in-Err-quit.ensures.counted)
 
 pub returns-clause-kind : goal.returns-clause-kind
 returns-clause-kind g c = c.do_steps.ensures.kind ∙ c.prepare.ensures.kind
@@ -215,7 +215,7 @@ returns-clause-good g c = λ w d f sure sure'.
           c.args.work.now.ledger.lines.items c.in-Ok.ready c.prepare.new.seen.rows c.prepare.new.store c.do_steps.new.work.store c.do_steps.new.work.ledger.file (g.F.FlatFile.stored c.prepare.new.file) ready.2 c.deref-2.result.now c.deref-3.result.now c.deref-2.ensures.value c.deref-3.ensures.value
           c.skipped_in.result (c.skipped_in.ensures ∙ ap skipped_in (c.deref.ensures.value ∙ sym c.deref-2.ensures.value)) store_lasts.1 (c.do_steps.ensures.keeps tells.0 d f)
           (place_of g.W.Wire c.do_steps.new.client) (place_of g.W.Wire c.quit.new.self) (stores_of g.D.MaildirDisk g.F.FlatFile c.do_steps.new.work.store) (g.F.FlatFile.stored c.do_steps.new.work.ledger.file) c.do_steps.new.work.ledger.seen.rows c.do_steps.new.work.ledger.lines.items
-          c.in-Err-quit.fault c.told.result c.plain-in-Err-quit.result
+          c.in-Err-quit.fault c.plain-in-Err-quit.result
           (subst (λ (t : Target). DoesForGood g.D.MaildirDisk g.F.FlatFile t (tasks_planned c.deref-2.result.now c.args.listing.now c.deref-3.result.now) (scene (place_of g.W.Wire c.args.client.now) (stores_of g.D.MaildirDisk g.F.FlatFile c.prepare.new.store) (g.F.FlatFile.stored c.prepare.new.file) c.prepare.new.seen.rows c.args.work.now.ledger.lines.items) (Ok tt) (scene (place_of g.W.Wire c.do_steps.new.client) (stores_of g.D.MaildirDisk g.F.FlatFile c.do_steps.new.work.store) (g.F.FlatFile.stored c.do_steps.new.work.ledger.file) c.do_steps.new.work.ledger.seen.rows c.do_steps.new.work.ledger.lines.items) c.do_steps.new.work.store c.do_steps.new.work.ledger.file)
-          (ap (λ (k : Kind). target_at k c.args.terms.account.now) c.prepare.ensures.kind) (c.in_default.ensures.good tells.0 d f (file_lasts, store_lasts.0))) c.plain-in-Err-quit.ensures c.told.ensures tells.2),
+          (ap (λ (k : Kind). target_at k c.args.terms.account.now) c.prepare.ensures.kind) (c.in_default.ensures.good tells.0 d f (file_lasts, store_lasts.0))) c.plain-in-Err-quit.ensures tells.2),
     )

@@ -20,6 +20,6 @@ returns-clause-surveys g c = λ w d f.
       g.met.W.Wire.leads_on _ _ _ entered.1 tells.1,
       not_ended c.args.terms.settings.now (target_of c.args.work.now.store c.args.terms.account.now) c.args.terms.now (place_of g.W.Wire c.args.client.now)
           (keeping (stores_of g.D.MaildirDisk g.F.FlatFile c.args.work.now.store) (g.F.FlatFile.stored c.args.work.now.ledger.file)) c.in-Ok.listing mid new
-          (keeping (stores_of g.D.MaildirDisk g.F.FlatFile c.foresee.new.store) (g.F.FlatFile.stored c.foresee.new.file)) c.in-Ok-foresee.foreseen c.len-preview.result c.in-Err-quit.fault c.told-in-Err-quit.result c.plain-in-Err-quit.result
-          entered.2 ahead.2 c.len-preview.ensures.count (tells_talks quit mid new (Err c.in-Err-quit.fault) tells.2) c.plain-in-Err-quit.ensures c.told-in-Err-quit.ensures,
+          (keeping (stores_of g.D.MaildirDisk g.F.FlatFile c.foresee.new.store) (g.F.FlatFile.stored c.foresee.new.file)) c.in-Ok-foresee.foreseen c.len-preview.result c.in-Err-quit.fault c.plain-in-Err-quit.result
+          entered.2 ahead.2 c.len-preview.ensures.count (tells_talks quit mid new (Err c.in-Err-quit.fault) tells.2) c.plain-in-Err-quit.ensures,
     )

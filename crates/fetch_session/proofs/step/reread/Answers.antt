@@ -20,11 +20,11 @@ returns-in-Err-pass_text-clause-rereads g c = λ account uid maildir file rows.
     let old = place_of g.W.Wire c.args.client.now in
     and_then g.W.Wire g.met.W.Wire.leads_on c.in-Ok.ensures.opens c.in-Err-pass_text.ensures.passes (λ opened passed.
     text_broken account (rereads c.args.number uid) (retr c.args.number) old (place_of g.W.Wire c.pass_text.new.client) maildir file rows c.args.lines.now.items
-    c.in-Err-pass_text.fault c.told-in-Err-pass_text.result c.plain-in-Err-pass_text.result refl c.plain-in-Err-pass_text.ensures c.told-in-Err-pass_text.ensures (passed c.args.number old opened))
+    c.in-Err-pass_text.fault c.plain-in-Err-pass_text.result refl c.plain-in-Err-pass_text.ensures (passed c.args.number old opened))
 
 pub returns-in-Err-clause-took : goal.returns-in-Err-clause-took
 returns-in-Err-clause-took g c = did_so g.W.Wire c.in-Err.ensures.opens (λ opened.
-    takes_plain 268437504 _ _ c.told.result c.plain.result c.plain.ensures (took_retr c.conversations_are_paced.ensures c.args.number _ _ c.in-Err.fault opened))
+    takes_plain 268437504 _ _ c.in-Err.fault c.plain.result c.plain.ensures (took_retr c.conversations_are_paced.ensures c.args.number _ _ c.in-Err.fault opened))
 
 pub returns-in-Ok-pass_text-clause-took : goal.returns-in-Ok-pass_text-clause-took
 returns-in-Ok-pass_text-clause-took g c =
@@ -37,11 +37,11 @@ returns-in-Err-pass_text-clause-took g c =
     let old = place_of g.W.Wire c.args.client.now in
     let new = place_of g.W.Wire c.pass_text.new.client in
     did_both g.W.Wire c.in-Ok.ensures.opens c.in-Err-pass_text.ensures.passes (λ opened passed.
-    takes_plain 268437504 old new c.told-in-Err-pass_text.result c.plain-in-Err-pass_text.result c.plain-in-Err-pass_text.ensures
+    takes_plain 268437504 old new c.in-Err-pass_text.fault c.plain-in-Err-pass_text.result c.plain-in-Err-pass_text.ensures
     (took_passing c.conversations_are_paced.ensures c.args.number old (Err c.in-Err-pass_text.fault) new (passed c.args.number old opened)))
 
 pub returns-in-Err-clause-counted : goal.returns-in-Err-clause-counted
-returns-in-Err-clause-counted g c = cut_by c.in-Err.fault c.told.result c.plain.result (g.W.Wire.seen c.args.client.now.wire.now) (g.W.Wire.seen c.open.new.self.wire.now) c.plain.ensures c.told.ensures c.in-Err.ensures.counted
+returns-in-Err-clause-counted g c = cut_by c.in-Err.fault c.plain.result (g.W.Wire.seen c.args.client.now.wire.now) (g.W.Wire.seen c.open.new.self.wire.now) c.plain.ensures c.in-Err.ensures.counted
 
 pub returns-in-Ok-pass_text-clause-counted : goal.returns-in-Ok-pass_text-clause-counted
 returns-in-Ok-pass_text-clause-counted g c = c.in-Ok-pass_text.ensures.counted ∙ c.in-Ok.ensures.counted
@@ -49,4 +49,4 @@ returns-in-Ok-pass_text-clause-counted g c = c.in-Ok-pass_text.ensures.counted �
 pub returns-in-Err-pass_text-clause-counted : goal.returns-in-Err-pass_text-clause-counted
 returns-in-Err-pass_text-clause-counted g c =
     before_cut (g.W.Wire.seen c.args.client.now.wire.now) (g.W.Wire.seen c.open.new.self.wire.now) (g.W.Wire.seen c.pass_text.new.client.wire.now) c.plain-in-Err-pass_text.result c.in-Ok.ensures.counted
-    (cut_by c.in-Err-pass_text.fault c.told-in-Err-pass_text.result c.plain-in-Err-pass_text.result (g.W.Wire.seen c.open.new.self.wire.now) (g.W.Wire.seen c.pass_text.new.client.wire.now) c.plain-in-Err-pass_text.ensures c.told-in-Err-pass_text.ensures c.in-Err-pass_text.ensures.counted)
+    (cut_by c.in-Err-pass_text.fault c.plain-in-Err-pass_text.result (g.W.Wire.seen c.open.new.self.wire.now) (g.W.Wire.seen c.pass_text.new.client.wire.now) c.plain-in-Err-pass_text.ensures c.in-Err-pass_text.ensures.counted)

@@ -5,10 +5,12 @@ use Rattle.fetch_session.proofs.RecordLemmas.{held_is, none_or_of}
 use Rattle.pop3_client.specs.Client.{place_of}
 use Rattle.mail_store.specs.Maildir.{IsInNew}
 use Rattle.mail_store.specs.FileName.{sized}
-use Rattle.fetch_session.specs.declared.fault.Fault.TheVariants.{NoMemory}
+use Rattle.pop3_client.specs.declared.fault.Fault.TheVariants.{NoMemory}
 use Rattle.fetch_session.specs.Store.{Grows}
+use Rattle.fetch_session.specs.Target.{AsFiles, in_maildir}
+use Rattle.fetch_session.specs.Task.{stores}
 use Rattle.fetch_session.proofs.StoreLemmas.{stores_grows}
-use Rattle.fetch_session.proofs.TakeLemmas.{text_wanting, text_stops, text_stored, text_not_saved}
+use Rattle.fetch_session.proofs.TakeLemmas.{text_broken, text_wanting, text_stops, text_stored, text_not_saved}
 use Rattle.fetch_session.proofs.IntakeLemmas.{takes_plain, took_retr, took_nothing, took_less, takes_text, takes_stopped}
 use Rattle.fetch_session.proofs.RefusalLemmas.{before_cut, cut_by}
 use Rattle.pop3_client.proofs.ClientLemmas.{did_so, so_on}
@@ -135,9 +137,20 @@ returns-in-Err-clause-took g c = λ w.
     let here = place_of g.W.Wire c.args.client.now in
     (w, takes_plain 268437504 here here NoMemory c.plain.result c.plain.ensures (took_less 0 268437504 here here (omega arith) (took_nothing here)))
 
+pub returns-in-Err-open-clause-takes : goal.returns-in-Err-open-clause-takes
+returns-in-Err-open-clause-takes g c = λ w m f.
+    let opened = c.in-Err-open.ensures.opens w in (
+      opened.0,
+      m,
+      f,
+      opened.1,
+      text_broken (AsFiles c.args.account.now) (stores c.args.number c.args.uid.now) _ (place_of g.W.Wire c.args.client.now) (place_of g.W.Wire c.open.new.self) (in_maildir (g.D.MaildirDisk.maildir c.args.disk.now)) (g.F.FlatFile.stored c.args.ledger.now.file) c.args.ledger.now.seen.rows c.args.ledger.now.lines.items
+          c.in-Err-open.fault c.plain-in-Err-open.result refl c.plain-in-Err-open.ensures opened.2,
+    )
+
 pub returns-in-Err-open-clause-took : goal.returns-in-Err-open-clause-took
 returns-in-Err-open-clause-took g c = did_so g.W.Wire c.in-Err-open.ensures.opens (λ opened.
-    takes_plain 268437504 _ _ c.told.result c.plain-in-Err-open.result c.plain-in-Err-open.ensures (took_retr c.conversations_are_paced.ensures c.args.number _ _ c.in-Err-open.fault opened))
+    takes_plain 268437504 _ _ c.in-Err-open.fault c.plain-in-Err-open.result c.plain-in-Err-open.ensures (took_retr c.conversations_are_paced.ensures c.args.number _ _ c.in-Err-open.fault opened))
 
 pub returns-in-Err-store_text-clause-took : goal.returns-in-Err-store_text-clause-took
 returns-in-Err-store_text-clause-took g c =
@@ -169,7 +182,7 @@ returns-in-Err-clause-counted g c = inl refl
 
 pub returns-in-Err-open-clause-counted : goal.returns-in-Err-open-clause-counted
 returns-in-Err-open-clause-counted g c =
-    cut_by c.in-Err-open.fault c.told.result c.plain-in-Err-open.result (g.W.Wire.seen c.args.client.now.wire.now) (g.W.Wire.seen c.open.new.self.wire.now) c.plain-in-Err-open.ensures c.told.ensures c.in-Err-open.ensures.counted
+    cut_by c.in-Err-open.fault c.plain-in-Err-open.result (g.W.Wire.seen c.args.client.now.wire.now) (g.W.Wire.seen c.open.new.self.wire.now) c.plain-in-Err-open.ensures c.in-Err-open.ensures.counted
 
 pub returns-in-Err-store_text-clause-counted : goal.returns-in-Err-store_text-clause-counted
 returns-in-Err-store_text-clause-counted g c = before_cut (g.W.Wire.seen c.args.client.now.wire.now) (g.W.Wire.seen c.open.new.self.wire.now) (g.W.Wire.seen c.store_text.new.client.wire.now) c.in-Err-store_text.cut c.in-Ok-open.ensures.counted c.in-Err-store_text.ensures.counted

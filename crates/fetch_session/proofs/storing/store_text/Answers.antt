@@ -29,8 +29,8 @@ returns-in-Err-next_piece-clause-stores g c = λ d.
       (
         inv.1.0,
         stopped_store (g.D.MaildirDisk.maildir c.args.disk.now) (g.D.MaildirDisk.maildir c.pieces.disk) (g.D.MaildirDisk.maildir c.abandon.new.self) (string_bytes c.args.stem) inv.1.0
-            c.plain.result c.told.result (c.requires.calm inv.0) inv.1.1 drops.1 c.plain.ensures,
-        and_then g.W.Wire g.met.W.Wire.leads_on inv.1.3 c.in-Err-next_piece.ensures.takes (λ before took number start now. stopped_read number start (place_of g.W.Wire c.next_piece.new.self) inv.1.0 c.plain.result c.told.result c.in-Err-next_piece.fault c.plain.ensures c.told.ensures (inr (inl (took number start inv.1.0 (before number start now))))),
+            c.plain.result c.in-Err-next_piece.fault (c.requires.calm inv.0) inv.1.1 drops.1 c.plain.ensures,
+        and_then g.W.Wire g.met.W.Wire.leads_on inv.1.3 c.in-Err-next_piece.ensures.takes (λ before took number start now. stopped_read number start (place_of g.W.Wire c.next_piece.new.self) inv.1.0 c.plain.result c.in-Err-next_piece.fault c.plain.ensures (inr (inl (took number start inv.1.0 (before number start now))))),
       ),
     )
 
@@ -127,7 +127,7 @@ returns-in-Err-clause-reads g c = λ w. (w, λ number start now. ([], (now, λ d
 
 pub returns-in-Err-next_piece-clause-reads : goal.returns-in-Err-next_piece-clause-reads
 returns-in-Err-next_piece-clause-reads g c = so_far g.W.Wire c.pieces.invariant.3 c.in-Err-next_piece.ensures.takes (λ before took number start now.
-    let till = before number start now in (till.0, stopped_read number start (place_of g.W.Wire c.next_piece.new.self) till.0 c.plain.result c.told.result c.in-Err-next_piece.fault c.plain.ensures c.told.ensures (inr (inl (took number start till.0 till.1)))))
+    let till = before number start now in (till.0, stopped_read number start (place_of g.W.Wire c.next_piece.new.self) till.0 c.plain.result c.in-Err-next_piece.fault c.plain.ensures (inr (inl (took number start till.0 till.1)))))
 
 pub returns-in-Err-put_piece-clause-reads : goal.returns-in-Err-put_piece-clause-reads
 returns-in-Err-put_piece-clause-reads g c = so_far g.W.Wire c.pieces.invariant.3 c.in-Ok.ensures.takes (λ before took number start now.
@@ -147,7 +147,7 @@ returns-in-Err-clause-counted g c = inl refl
 pub returns-in-Err-next_piece-clause-counted : goal.returns-in-Err-next_piece-clause-counted
 returns-in-Err-next_piece-clause-counted g c =
     before_cut (g.W.Wire.seen c.args.client.now.wire.now) (g.W.Wire.seen c.pieces.client.wire.now) (g.W.Wire.seen c.next_piece.new.self.wire.now) c.plain.result c.pieces.invariant.4
-    (cut_by c.in-Err-next_piece.fault c.told.result c.plain.result (g.W.Wire.seen c.pieces.client.wire.now) (g.W.Wire.seen c.next_piece.new.self.wire.now) c.plain.ensures c.told.ensures c.in-Err-next_piece.ensures.counted)
+    (cut_by c.in-Err-next_piece.fault c.plain.result (g.W.Wire.seen c.pieces.client.wire.now) (g.W.Wire.seen c.next_piece.new.self.wire.now) c.plain.ensures c.in-Err-next_piece.ensures.counted)
 
 pub returns-in-Err-put_piece-clause-counted : goal.returns-in-Err-put_piece-clause-counted
 returns-in-Err-put_piece-clause-counted g c = inl (c.in-Ok.ensures.counted ∙ c.pieces.invariant.4)

@@ -3,7 +3,7 @@ use Rattle.pop3_client.specs.Client.{place_of}
 use Rattle.pop3_client.specs.Conversation.{Talks}
 use Rattle.pop3_wire.specs.Link.{CountsRefusal}
 use Rattle.pop3_client.specs.Conversation.{is_refusal}
-use Rattle.pop3_client.specs.declared.fault.Fault.{Fault as TalkFault}
+use Rattle.pop3_client.specs.declared.fault.Fault.{Fault}
 use Rattle.fetch_session.specs.Tail.{turns_in}
 use Rattle.fetch_session.specs.declared.tail.Tail.{Tail}
 use Rattle.fetch_session.proofs.TailLemmas.{left_dropped, left_broken, failed}
@@ -38,4 +38,4 @@ returns-clause-counted g c = then_at_most_one (g.W.Wire.seen c.args.client.now.w
 
 pub returns-clause-silent : goal.returns-clause-silent
 returns-clause-silent g c =
-    λ none nothing. subst (λ (r : Result (Unit {0}) TalkFault). CountsRefusal is_refusal (g.W.Wire.seen c.drop_under_way.new.client.wire.now) r (g.W.Wire.seen c.say_tail.new.client.wire.now)) (c.say_tail.ensures.nothing (c.tail_of.ensures ∙ nothing)) c.say_tail.ensures.counted ∙ c.in_default.ensures.counted
+    λ none nothing. subst (λ (r : Result (Unit {0}) Fault). CountsRefusal is_refusal (g.W.Wire.seen c.drop_under_way.new.client.wire.now) r (g.W.Wire.seen c.say_tail.new.client.wire.now)) (c.say_tail.ensures.nothing (c.tail_of.ensures ∙ nothing)) c.say_tail.ensures.counted ∙ c.in_default.ensures.counted
