@@ -2,7 +2,9 @@
 use Rattle.std.specs.Prelude.{ℕ, ◌+◌, ◌*◌, ◌==◌, ◌&&◌, ◌||◌, not, nat_le, nat_lt, min, Bool, List, [], ◌∷◌, Option}
 use Rattle.std.specs.Prelude.{Some, None, if◌then◌else◌}
 use Rattle.mail_terms.specs.Listing.{Item}
+use Rattle.mail_terms.specs.Numeral.{greatest_size}
 use Rattle.rc_file.specs.declared.settings.Settings.{Settings}
+use Rattle.fetch_rules.specs.Due.{seconds_per_day}
 use Rattle.fetch_rules.specs.Record.{Row, is_delivered}
 use Rattle.fetch_rules.specs.Plan.{seen_since}
 use Rattle.fetch_rules.specs.Wanted.{is_within}
@@ -47,9 +49,13 @@ fate_of settings step known fetched =
 abbrev pub waits : Settings → Step → Known → Bool
 waits settings step known = not settings.delete && (not (settings.delete_after == 0) && (known.delivered || step.retrieve))
 
+-- the last second of 64 bits, which is as great as the greatest size
+abbrev pub greatest_second : ℕ
+greatest_second = greatest_size
+
 -- from when on a message is deleted that was first seen then, as far as 64 bits go
 abbrev pub due_second : Settings → ℕ → ℕ
-due_second settings since = min (since + min (86400 * settings.delete_after) 18446744073709551615) 18446744073709551615
+due_second settings since = min (since + min (seconds_per_day * settings.delete_after) greatest_second) greatest_second
 
 -- when a message is old enough to be deleted, if it isn't yet
 abbrev pub due_of : Settings → Step → Known → ℕ → Option ℕ

@@ -3,6 +3,7 @@ use Rattle.std.specs.Prelude.{◌≡◌, ◌+◌, ◌*◌, ◌≤◌, ℕ, Bool,
 use Rattle.std.specs.Vec.{vec_len, vec_capacity}
 use Rattle.std.specs.List.{filter, count_by, sum_by}
 use Rattle.mail_terms.specs.Listing.{message_limit}
+use Rattle.mail_terms.specs.Numeral.{greatest_size}
 use Rattle.fetch_rules.specs.declared.steps.Step.{Step}
 use Rattle.pop3_client.specs.declared.fault.Fault.TheVariants.{StoreRefused, SeenRefused, BadSeen}
 use Rattle.fetch_session.specs.declared.report.Report.{Report}
@@ -66,7 +67,7 @@ kept_lines outcome lines = if takes_back outcome then without_deletions lines el
 
 -- a number of bytes, as far as 64 bits go
 abbrev pub most_bytes : ℕ → ℕ
-most_bytes n = min n 18446744073709551615
+most_bytes n = min n greatest_size
 
 -- how many lines a session tells at most: two of each message
 abbrev pub most_lines : ℕ

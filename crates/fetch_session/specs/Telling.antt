@@ -4,6 +4,7 @@ use Rattle.std.specs.Prelude.{Option, Some, None, if◌then◌else◌, codes}
 use Rattle.std.specs.List.{count_by}
 use Rattle.std.specs.Fmt.{decimal}
 use Rattle.rc_file.specs.declared.settings.Settings.{Settings}
+use Rattle.fetch_rules.specs.Due.{seconds_per_day}
 use Rattle.fetch_session.specs.declared.preview.Preview.{Preview}
 use Rattle.fetch_session.specs.declared.prospect.Fate.{Fate}
 use Rattle.fetch_session.specs.declared.prospect.Fate.TheVariants.{Fetched, FetchedAndDeleted, Deleted, Held}
@@ -14,9 +15,13 @@ use Rattle.fetch_session.specs.Text.{heading, message_text}
 
 -- ---- dates
 
+-- 9999-12-31, in days since 1970
+abbrev pub last_day : ℕ
+last_day = 2932896
+
 -- the days since 1 March of the year 0 of a second since 1970, at most those of 9999-12-31
 abbrev pub days_of : ℕ → ℕ
-days_of second = min (second / 86400) 2932896 + 719468
+days_of second = min (second / seconds_per_day) last_day + 719468
 
 -- the years that begin in March, of so many days of four centuries: 1,460 days have a leap day at their end, but not the 36,524th, but the
 -- 146,096th

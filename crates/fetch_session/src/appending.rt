@@ -31,7 +31,7 @@ use crate::work::Ledger;
 use fetch_rules::marked_keeps_rows;
 use mail_store::{FlatFile, StoreFault, append_entry, entry_len, is_whole};
 use pop3_client::{Client, Fault, Why, conversations_are_paced};
-use pop3_wire::{BodyReader, Wire};
+use pop3_wire::{BodyReader, PIECE_ROOM, Wire};
 use std::alloc::Global;
 use std::hash::BuildHasher;
 use std::vec::Vec;
@@ -63,7 +63,7 @@ fn read_text<W: Wire>(
 {
     let mut rest = body;
     let mut text = Vec::new(alloc);
-    let mut out = [0u8; 4097];
+    let mut out = [0u8; PIECE_ROOM];
     'pieces: loop {
         let piece = match client.next_piece(&mut rest, &mut out) {
             Ok(piece) => piece,

@@ -25,7 +25,7 @@ use crate::terms::Terms;
 use crate::work::Work;
 use mail_store::{FlatFile, MaildirDisk};
 use pop3_client::{Client, Fault, conversations_are_paced};
-use pop3_wire::Wire;
+use pop3_wire::{PIECE_ROOM, Wire};
 use std::hash::BuildHasher;
 use std::mem;
 use std::vec::Vec;
@@ -141,14 +141,14 @@ fn session_over<W: Wire, D: MaildirDisk, F: FlatFile, H: BuildHasher>(
     if let Err(cut) = proceed(client, &mut account.work, terms, &mut counts) {
         let outcome = Outcome::Cut(cut.fault);
         leave(client, cut);
-        prove!(client.waiting().len() <= 4096);
+        prove!(client.waiting().len() < PIECE_ROOM);
         let lines = mem::replace(
             &mut account.work.ledger.lines,
             Vec::new(account.work.ledger.alloc),
         );
         return tell(outcome, counts, lines);
     }
-    prove!(client.waiting().len() <= 4096);
+    prove!(client.waiting().len() < PIECE_ROOM);
     let lines = mem::replace(
         &mut account.work.ledger.lines,
         Vec::new(account.work.ledger.alloc),

@@ -9,7 +9,8 @@ use std::alloc::{AllocError, Global};
 use std::hash::BuildHasher;
 use std::vec::Vec;
 
-const SECONDS_PER_DAY: u64 = 86_400;
+/// How many seconds a day has.
+pub(crate) const SECONDS_PER_DAY: u64 = 86_400;
 
 /// What a run would do with a message, or why it would do nothing with it.
 #[derive(Clone, Copy, Debug, PartialEq, Eq)]

@@ -15,7 +15,7 @@ ghost use Rattle.fetch_session.specs.Store.{Starts, Puts, Ends, StoresText, Read
 use crate::fault::{Cut, plain};
 use mail_store::{MaildirDisk, StoreFault, add_size};
 use pop3_client::{Client, Fault, Why};
-use pop3_wire::{BodyReader, Wire};
+use pop3_wire::{BodyReader, PIECE_ROOM, Wire};
 
 /// Begins an empty file of this name.
 fn begin_file<D: MaildirDisk>(disk: &mut D, name: &str) -> Result<(), Fault>
@@ -107,7 +107,7 @@ pub(crate) fn store_text<W: Wire, D: MaildirDisk>(
         });
     }
     let mut length = 0u64;
-    let mut out = [0u8; 4097];
+    let mut out = [0u8; PIECE_ROOM];
     'pieces: loop {
         let piece = match client.next_piece(&mut rest, &mut out) {
             Ok(piece) => piece,
@@ -147,7 +147,7 @@ pub(crate) fn pass_text<W: Wire>(client: &mut Client<'_, W>, body: BodyReader) -
 {
     let mut rest = body;
     let mut length = 0u64;
-    let mut out = [0u8; 4097];
+    let mut out = [0u8; PIECE_ROOM];
     'pieces: loop {
         let piece = match client.next_piece(&mut rest, &mut out) {
             Ok(piece) => piece,

@@ -6,7 +6,7 @@ ghost use Rattle.fetch_session.specs.Telling.{fetched_in, is_deletion, is_fetch,
 ghost use Rattle.fetch_session.specs.Telling.{prospect_text};
 
 use crate::preview::Preview;
-use crate::prospect::{Fate, Prospect};
+use crate::prospect::{Fate, Prospect, SECONDS_PER_DAY};
 use crate::text::heading;
 use fetch_rules::Settings;
 use std::alloc::{AllocError, Global};
@@ -27,7 +27,7 @@ struct Date {
 fn date_of(second: u64) -> Date
     ensures { result ≡ date_of second }
 {
-    let days = (second / 86_400).min(LAST_DAY) + 719_468;
+    let days = (second / SECONDS_PER_DAY).min(LAST_DAY) + 719_468;
     let rest = days % 146_097;
     let years = (rest + rest / 36_524).saturating_sub(rest / 1_460 + rest / 146_096) / 365;
     let within = (rest + years / 100).saturating_sub(365 * years + years / 4);

@@ -1,5 +1,5 @@
 use Rattle.std.proofs.Common.{◌≤◌, ◌+◌, ◌*◌, ℕ, List, length, Err, sym, ap, subst, ◌∙◌}
-use Rattle.pop3_wire.specs.Place.{at}
+use Rattle.pop3_wire.specs.Place.{at, most_waiting}
 use Rattle.pop3_client.specs.Client.{place_of}
 use Rattle.fetch_session.specs.Account.{digits_of}
 use Rattle.fetch_session.specs.declared.report.Outcome.{Outcome}
@@ -64,7 +64,7 @@ returns-in-Err-clause-bounded g c = λ w.
     subst (λ (n : ℕ). GotAtMost (session_limit n) link last.link) (sym c.tell.ensures.total_is)
     (cut_within c.conversations_are_paced.ensures n link c.in-Err.cut mid last
     (subst (λ (r : List ℕ). TookWithTail (opening_limit + (n * step_limit + tail_limit)) (at link r) (Err c.in-Err.cut) mid) c.requires took.1) says.2
-    (subst (λ (r : List ℕ). length r ≤ 4096) c.waiting.ensures.value c.waiting.ensures.short))
+    (subst (λ (r : List ℕ). length r ≤ most_waiting) c.waiting.ensures.value c.waiting.ensures.short))
 
 pub returns-clause-bounded : goal.returns-clause-bounded
 returns-clause-bounded g c = λ w.
@@ -75,7 +75,7 @@ returns-clause-bounded g c = λ w.
     let n = done.counts.total in
     subst (λ (n : ℕ). GotAtMost (session_limit n) link mid.link) (sym c.tell-2.ensures.total_is)
     (ended_within n link mid (subst (λ (r : List ℕ). Took (opening_limit + (n * step_limit + tail_limit)) (at link r) mid) c.requires took.1)
-    (subst (λ (r : List ℕ). length r ≤ 4096) c.waiting-2.ensures.value c.waiting-2.ensures.short))
+    (subst (λ (r : List ℕ). length r ≤ most_waiting) c.waiting-2.ensures.value c.waiting-2.ensures.short))
 
 pub returns-in-Err-clause-counted : goal.returns-in-Err-clause-counted
 returns-in-Err-clause-counted g c =
