@@ -7,10 +7,6 @@ use Rattle.pop3_server.specs.ServerMachine.{Tries, Empties, none, stays, goes}
 use Rattle.pop3_server.specs.HonestServer.{AreLeft}
 use Rattle.pop3_server.proofs.HonestLemmas.{row_with, rows_with}
 
-pub there_some : (ms : List Message) → there (map Some ms) ≡ ms
-there_some [] = refl
-there_some (m ∷ ms) = ap (λ (l : List Message). m ∷ l) (there_some ms)
-
 pub none_gone : (ms : List Message) (marks : List Bool) → length marks ≡ length ms → AreLeft ms marks ms
 none_gone [] marks e = refl
 none_gone (m ∷ ms) [] e = absurd (omega arith)

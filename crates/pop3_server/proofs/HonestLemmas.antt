@@ -5,6 +5,7 @@ use Rattle.std.specs.List.{flat_map, All, AllByRecursion, AllZip, count_by, list
 use Rattle.std.specs.Fmt.{decimal}
 use Rattle.std.specs.Char.{is_ascii_digit}
 use Rattle.std.proofs.lemmas.Bool.{and_parts, and_from, cond-true, cond-false}
+use Rattle.std.proofs.lemmas.List.{length-map}
 use Rattle.std.proofs.lemmas.List.Folds.{list_all-append}
 use Rattle.std.proofs.lemmas.Bool.Decides.{eqb_tells, nat_tests}
 use Rattle.std.proofs.lemmas.List.Elements.{recursion_from_All}
@@ -48,14 +49,10 @@ all_served : (ms : List Message) → AllByRecursion IsMessage ms → AllByRecurs
 all_served [] messages small = tt
 all_served (m ∷ ms) messages small = (record { is_message = messages.0; within = small.0 }, all_served ms messages.1 small.1)
 
-rows_length : (ms : List Message) → length (map row_of ms) ≡ length ms
-rows_length [] = refl
-rows_length (m ∷ ms) = let ih = rows_length ms in omega arith
-
 pub are_served : (ms : List Message) (rows : List MessageRow) → AllByRecursion IsMessage ms → KeepLimits rows → rows ≡ map row_of ms → AreServed ms
 are_served ms rows messages limits is =
     let few : length rows ≤ 100000 = limits.few in
-    let count : length rows ≡ length ms = ap length is ∙ rows_length ms in
+    let count : length rows ≡ length ms = ap length is ∙ length-map ms row_of in
     record {
       served = all_served ms messages (recursion_from_All IsSmall (map row_of ms) (subst (All IsSmall) is limits.small));
       few = omega arith;
@@ -75,29 +72,16 @@ pub fresh_rows : (ms : List Message) → map row_of ms ≡ rows_with ms (no_mark
 fresh_rows [] = refl
 fresh_rows (m ∷ ms) = ap (λ (rows : List MessageRow). row_with m false ∷ rows) (fresh_rows ms)
 
-pub fresh_length : (ms : List Message) → length (no_marks ms) ≡ length ms
-fresh_length [] = refl
-fresh_length (m ∷ ms) = let ih = fresh_length ms in omega arith
-
 pub cleared_rows : (ms : List Message) (bs : List Bool) → map unmarked (rows_with ms bs) ≡ rows_with ms (map (λ _. false) bs)
 cleared_rows [] bs = refl
 cleared_rows (m ∷ ms) [] = refl
 cleared_rows (m ∷ ms) (b ∷ bs) = ap (λ (rows : List MessageRow). row_with m false ∷ rows) (cleared_rows ms bs)
-
-pub cleared_length : (bs : List Bool) → length (map (λ _. false) bs) ≡ length bs
-cleared_length [] = refl
-cleared_length (b ∷ bs) = let ih = cleared_length bs in omega arith
 
 pub marked_rows : (ms : List Message) (bs : List Bool) (i : ℕ) → mark_at (rows_with ms bs) i ≡ rows_with ms (slice_set bs i true)
 marked_rows [] bs i = refl
 marked_rows (m ∷ ms) [] i = refl
 marked_rows (m ∷ ms) (b ∷ bs) zero = refl
 marked_rows (m ∷ ms) (b ∷ bs) (suc i) = ap (λ (rows : List MessageRow). row_with m b ∷ rows) (marked_rows ms bs i)
-
-pub marked_length : (bs : List Bool) (i : ℕ) → length (slice_set bs i true) ≡ length bs
-marked_length [] i = refl
-marked_length (b ∷ bs) zero = refl
-marked_length (b ∷ bs) (suc i) = let ih = marked_length bs i in omega arith
 
 -- the row at a place is that of an unmarked message, or there is none
 found_at : (ms : List Message) (bs : List Bool) (i : ℕ)

@@ -3,7 +3,7 @@ use Rattle.std.proofs.Common.{◌≡◌, inl, inr, ◌<◌, ◌≤◌, ◌-◌, 
 use Rattle.std.specs.Prelude.{codes, not, slice_get, slice_set, bytes_eq, ◌&&◌}
 use Rattle.std.specs.List.{flat_map, AllByRecursion, count_by}
 use Rattle.std.specs.Fmt.{decimal}
-use Rattle.std.proofs.lemmas.List.{append-nil}
+use Rattle.std.proofs.lemmas.List.{append-nil, length-map, length-set}
 use Rattle.std.proofs.lemmas.List.Sums.{count_by-le-length}
 use Rattle.pop3_wire.specs.declared.command.Command.{Command}
 use Rattle.pop3_wire.specs.declared.command.Command.TheVariants.{User, Pass, Stat, UidlAll, UidlOne, ListAll, ListOne, Retr, Dele, Rset, Noop, Top, Quit}
@@ -25,8 +25,9 @@ use Rattle.pop3_server.specs.Maildrop.{Mail, there}
 use Rattle.pop3_server.specs.ServerMachine.{Machine, Deed, Say, Open, Give, Leave, Does, Opens, RemovesMarked, deed, is_open, said, left_count, left_total, mark_at, unmarked, row_of, scan_line, uid_line, octets_line, give, dele, in_authorization, in_transaction, greeting}
 use Rattle.pop3_server.specs.AnswersLines.{AnswersLines}
 use Rattle.pop3_server.specs.HonestServer.{IsOfSession, IsAsked, lines_of, IsHonest, AreLeft, Gone}
-use Rattle.pop3_server.proofs.GoneLemmas.{there_some, none_gone, left_by_quit}
-use Rattle.pop3_server.proofs.HonestLemmas.{Written, AreServed, are_served, row_with, rows_with, fresh_rows, fresh_length, cleared_rows, cleared_length, marked_rows, marked_length, found, served_at, text_at, counted_left, total_left, no_lf_append, no_lf_decimal, granted, refused, scan_rows, uid_rows, lists_all}
+use Rattle.pop3_server.proofs.GoneLemmas.{none_gone, left_by_quit}
+use Rattle.pop3_server.proofs.SlotLemmas.{there_map}
+use Rattle.pop3_server.proofs.HonestLemmas.{Written, AreServed, are_served, row_with, rows_with, fresh_rows, cleared_rows, marked_rows, found, served_at, text_at, counted_left, total_left, no_lf_append, no_lf_decimal, granted, refused, scan_rows, uid_rows, lists_all}
 
 -- the laws of the wire on what is written
 pub record Laws : Type 0 where
@@ -89,7 +90,7 @@ opened laws sound mail ms word old answer next new messages same s (inr (rows, l
       no_marks ms,
       inr (granted laws.written answer ((32 ∷ decimal (length rows)) ++ codes " messages") is none, refl),
       subst (λ (st : State). Stands ms st (mail new) (no_marks ms)) (sym state)
-          (ap (λ (m : Mail). m.slots) drop.0 ∙ ap (map Some) same, fresh_length ms, same_rows ∙ fresh_rows ms, are_served ms rows messages limits same_rows),
+          (ap (λ (m : Mail). m.slots) drop.0 ∙ ap (map Some) same, length-map ms (λ _. false), same_rows ∙ fresh_rows ms, are_served ms rows messages limits same_rows),
     )
 
 passed : Laws → {D : Type 0} (sound : D → Type 0) (mail : D → Mail) (ms : List Message) (word : List ℕ) (old : D) (answer : List ℕ) (next : State) (new : D)
@@ -109,7 +110,7 @@ in_auth laws sound mail ms user pass (Some name) (Pass word) old answer next new
     passed laws sound mail ms word old answer next new messages same s (bytes_eq name user && bytes_eq word pass) does
 in_auth laws sound mail ms user pass kept Quit old answer next new messages same s asked does =
     says_yes laws mail ms (no_marks ms) (no_marks ms) Quit old answer (codes " bye") Closed next new does refl (λ says. (says, refl))
-    (subst (AreLeft ms (no_marks ms)) (sym same) (none_gone ms (no_marks ms) (fresh_length ms)))
+    (subst (AreLeft ms (no_marks ms)) (sym same) (none_gone ms (no_marks ms) (length-map ms (λ _. false))))
 in_auth laws sound mail ms user pass kept Stat old answer next new messages same s asked does = says_no laws mail ms (no_marks ms) Stat old answer (codes " not now") (Authorization kept) next new does refl (same, refl)
 in_auth laws sound mail ms user pass kept UidlAll old answer next new messages same s asked does = says_no laws mail ms (no_marks ms) UidlAll old answer (codes " not now") (Authorization kept) next new does refl (same, refl)
 in_auth laws sound mail ms user pass kept (UidlOne n) old answer next new messages same s asked does = absurd asked
@@ -231,13 +232,13 @@ module _ (laws : Laws) where
   unfolding InRows
   marked sound mail ms marks k m old answer next new rows at does =
       says_yes laws mail ms marks (slice_set marks (k - 1) true) (Dele k) old answer (codes " marked") (Transaction (mark_at (rows_with ms marks) (k - 1))) next new does refl
-      (λ says. (m, says, at, refl)) (rows.0, marked_length marks (k - 1) ∙ rows.1, marked_rows ms marks (k - 1), rows.2)
+      (λ says. (m, says, at, refl)) (rows.0, length-set marks (k - 1) true ∙ rows.1, marked_rows ms marks (k - 1), rows.2)
 
   -- RSET
   cleared : {D : Type 0} (sound : D → Type 0) (mail : D → Mail) (ms : List Message) (marks : List Bool) (old : D)
       → InRows ms marks (mail old) → Stands ms (Transaction (map unmarked (rows_with ms marks))) (mail old) (map (λ _. false) marks)
   unfolding InRows
-  cleared sound mail ms marks old rows = (rows.0, cleared_length marks ∙ rows.1, cleared_rows ms marks, rows.2)
+  cleared sound mail ms marks old rows = (rows.0, length-map marks (λ _. false) ∙ rows.1, cleared_rows ms marks, rows.2)
 
   in_trans : {D : Type 0} (sound : D → Type 0) (mail : D → Mail) (ms : List Message) (marks : List Bool) (c : Command) (old : D) (answer : List ℕ) (next : State) (new : D)
       → AreServed ms → InRows ms marks (mail old) → sound new → IsOfSession c → Does sound mail (in_transaction (rows_with ms marks) c) old answer next new → Replied ms marks c answer next (mail new)
@@ -316,9 +317,9 @@ module _ (laws : Laws) where
 
   gone_at : (ms : List Message) (marks : List Bool) (state : State) (mail : Mail) → Stands ms state mail marks → Gone ms marks state (there mail.slots)
   gone_at ms marks (Authorization kept) mail stands =
-      record { left = subst (AreLeft ms marks) (sym stands.0) (none_gone ms marks (ap length stands.1 ∙ fresh_length ms)); before_quit = λ _. stands.0 }
+      record { left = subst (AreLeft ms marks) (sym stands.0) (none_gone ms marks (ap length stands.1 ∙ length-map ms (λ _. false))); before_quit = λ _. stands.0 }
   gone_at ms marks (Transaction rows) mail stands =
-      let same : there mail.slots ≡ ms = ap there stands.0 ∙ there_some ms in
+      let same : there mail.slots ≡ ms = ap there stands.0 ∙ there_map ms in
       record { left = subst (AreLeft ms marks) (sym same) (none_gone ms marks stands.1); before_quit = λ _. same }
   gone_at ms marks Closed mail stands = record { left = stands; before_quit = λ e. absurd (let h : false ≡ true = e in cc) }
 

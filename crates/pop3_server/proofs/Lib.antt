@@ -1,5 +1,4 @@
 mod CloseLemmas
-mod DigestLemmas
 mod DistinctLemmas
 mod EventLemmas
 mod GoneLemmas
@@ -7,9 +6,7 @@ mod HonestLemmas
 mod HonestLoopLemmas
 mod HonestTurns
 mod LeaveLemmas
-mod ListingLemmas
 mod LoopLemmas
-mod MaildirLemmas
 mod OpenLemmas
 mod RemovalLemmas
 mod RowLemmas

@@ -19,7 +19,7 @@ slot_other (slot ∷ slots) zero (suc k) other = refl
 slot_other (slot ∷ slots) (suc i) zero other = refl
 slot_other (slot ∷ slots) (suc i) (suc k) other = slot_other slots i k (λ e. other (ap suc e))
 
-tries_other : (old new : Mail) (i k : ℕ) (done : Bool) → Tries old i done new → (k ≡ i → ⊥) → slice_get new.slots k ≡ slice_get old.slots k
+pub tries_other : (old new : Mail) (i k : ℕ) (done : Bool) → Tries old i done new → (k ≡ i → ⊥) → slice_get new.slots k ≡ slice_get old.slots k
 tries_other old new i k true tries other = ap (λ (m : Mail). slice_get m.slots k) tries ∙ slot_other old.slots i k other
 tries_other old new i k false tries other =
     elim tries [

@@ -3,7 +3,7 @@ use Rattle.std.proofs.Common.{◌≡◌, inl, inr, ◌<◌, ◌+◌, ℕ, true, 
 use Rattle.std.specs.Prelude.{codes}
 use Rattle.std.specs.List.{flat_map, AllByRecursion}
 use Rattle.std.proofs.lemmas.Bool.{cond-true, lt-ltb}
-use Rattle.std.proofs.lemmas.List.{append-nil}
+use Rattle.std.proofs.lemmas.List.{append-nil, flat_map_more}
 use Rattle.pop3_wire.specs.declared.fault.WireFault.TheVariants.{BadCommand}
 use Rattle.pop3_wire.specs.CommandLine.{command_of}
 use Rattle.pop3_wire.specs.Line.{crlf, IsLine, ended}
@@ -55,10 +55,6 @@ all_push : (lines : List (List ℕ)) (line : List ℕ) → AllByRecursion IsLine
 all_push [] line all is = (is, tt)
 all_push (first ∷ lines) line all is = (all.0, all_push lines line all.1 is)
 
-flat_push : (lines : List (List ℕ)) (line : List ℕ) → flat_map ended (lines ++ line ∷ []) ≡ flat_map ended lines ++ ended line
-flat_push [] line = append-nil (ended line)
-flat_push (first ∷ lines) line = ap (λ (l : List ℕ). ended first ++ l) (flat_push lines line) ∙ sym (append_assoc (ended first) (flat_map ended lines) (ended line))
-
 -- one more line came and was answered
 pub progress_line : {D : Type 0} (sound : D → Type 0) (mail : D → Mail) (old server next : Machine D) (before link taken sent : Link) (waiting after : Waiting) (g line answer : List ℕ)
     → Progress sound mail old before server link waiting → Drew link taken g → waiting.octets ++ g ≡ ended line ++ after.octets → length g + after.left ≡ waiting.left → IsLine line
@@ -70,7 +66,7 @@ progress_line sound mail old server next before link taken sent waiting after g 
   each = all_push p.lines line p.each is;
   got = ap (λ (l : Link). l.got) sends ∙ took.got ∙ ap (λ (l : List ℕ). l ++ g) p.got ∙ append_assoc before.got p.gained g;
   heard = ap (λ (l : List ℕ). l ++ g) p.heard ∙ append_assoc (flat_map ended p.lines) waiting.octets g ∙ ap (λ (l : List ℕ). flat_map ended p.lines ++ l) octets
-      ∙ sym (append_assoc (flat_map ended p.lines) (ended line) after.octets) ∙ ap (λ (l : List ℕ). l ++ after.octets) (sym (flat_push p.lines line));
+      ∙ sym (append_assoc (flat_map ended p.lines) (ended line) after.octets) ∙ ap (λ (l : List ℕ). l ++ after.octets) (flat_map_more ended [] p.lines line);
   left = let start : length p.gained + waiting.left ≡ 16777216 = p.left in omega (arith, length-append p.gained g);
   sent = ap (λ (l : Link). l.sent) sends ∙ ap (λ (l : List ℕ). l ++ answer) (took.sent ∙ p.sent) ∙ moved before.sent greeting p.answers answer;
   run = runs_on sound mail old server next p.lines (line ∷ []) p.answers answer p.run (run_one sound mail server next line answer turn);
@@ -122,7 +118,7 @@ served_last sound mail old server next before link taken sent waiting after g li
       rest = after.octets;
       each = all_push p.lines line p.each is;
       heard = ap (λ (l : List ℕ). l ++ g) p.heard ∙ append_assoc (flat_map ended p.lines) waiting.octets g ∙ ap (λ (l : List ℕ). flat_map ended p.lines ++ l) octets
-          ∙ sym (append_assoc (flat_map ended p.lines) (ended line) after.octets) ∙ ap (λ (l : List ℕ). l ++ after.octets) (sym (flat_push p.lines line));
+          ∙ sym (append_assoc (flat_map ended p.lines) (ended line) after.octets) ∙ ap (λ (l : List ℕ). l ++ after.octets) (flat_map_more ended [] p.lines line);
       out = (greeting ++ p.answers) ++ front;
       sent = sends ∙ ap (λ (l : List ℕ). l ++ front) (took.sent ∙ p.sent) ∙ append_assoc before.sent (greeting ++ p.answers) front;
       answered = answered;

@@ -1,15 +1,11 @@
 pub mod AnswersLines
 pub mod Events
-pub mod FoldersLook
 pub mod Got
 pub mod HonestLoop
 pub mod HonestServer
-pub mod ListedFiles
 pub mod LoopLaws
 pub mod LoopLink
-pub mod MaildirNames
 pub mod Maildrop
-pub mod RealMaildir
 pub mod Removal
 pub mod ServerMachine
 pub mod Serving

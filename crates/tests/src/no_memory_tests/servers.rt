@@ -1,9 +1,9 @@
 //! The server: its maildrops, its answers, and whole conversations.
 
 use crate::no_memory_tests::watched::{begin, end, tell, tell_bytes, tell_no_memory};
+use folder_drop::MaildirDrop;
 use pop3_server::{
-    DropFault, Entry, LoopWire, MaildirDrop, Maildrop, MemoryDrop, Server, ServerFault, serve,
-    size_of,
+    DropFault, Entry, LoopWire, Maildrop, MemoryDrop, Server, ServerFault, serve, size_of,
 };
 use pop3_wire::{ScriptWire, Wire, is_legal_id};
 use std::alloc::Global;

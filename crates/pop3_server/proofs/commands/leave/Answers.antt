@@ -1,8 +1,9 @@
 use Rattle.std.proofs.Common.{◌≡◌, refl, ◌+◌, ◌&&◌, drop, ap, sym, ◌∙◌, subst, arith, true, []}
+use Rattle.std.proofs.Math.Bool.{and_assoc, and-true}
 use Rattle.std.proofs.lemmas.Grind.{common_steps}
 use Rattle.std.proofs.lemmas.Option.{slice_get_read}
 use Rattle.pop3_server.specs.ServerMachine.{Empties, none, stays, goes, with_marked}
-use Rattle.pop3_server.proofs.LeaveLemmas.{drop_row, later_place, and_assoc, and_true, count_stays, count_goes}
+use Rattle.pop3_server.proofs.LeaveLemmas.{drop_row, later_place, count_stays, count_goes}
 use Rattle.pop3_server.proofs.commands.leave.Goals as goal
 
 pub remove_at-done-requires : goal.remove_at-done-requires
@@ -46,4 +47,4 @@ returns-clause-empties g c = λ s.
     let rows = c.args.rows.now in
     let mail = g.D.Maildrop.mail c.loop-i.drop in
     let over : drop c.loop-i.i rows ≡ [] = grind (arith, common_steps) in
-    (inv.0, subst (λ all. Empties 0 rows (g.D.Maildrop.mail c.args.drop.now) all mail) (and_true c.loop-i.all) (inv.2 true mail (subst (λ rs. Empties c.loop-i.i rs mail true mail) (sym over) (none c.loop-i.i mail))))
+    (inv.0, subst (λ all. Empties 0 rows (g.D.Maildrop.mail c.args.drop.now) all mail) (and-true c.loop-i.all) (inv.2 true mail (subst (λ rs. Empties c.loop-i.i rs mail true mail) (sym over) (none c.loop-i.i mail))))

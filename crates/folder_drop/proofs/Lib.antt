@@ -1,0 +1,3 @@
+mod DigestLemmas
+mod ListingLemmas
+mod MaildirLemmas

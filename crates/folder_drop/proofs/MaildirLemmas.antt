@@ -1,0 +1,54 @@
+-- One more file of a Maildir is listed.
+use Rattle.std.proofs.Common.{◌≡◌, ◌≢◌, ◌++◌, ◌∷◌, [], ℕ, Bool, true, false, cond, List, Vec, map, refl, ap, sym, subst, ◌∙◌, inl, inr}
+use Rattle.std.specs.List.{Contains}
+use Rattle.std.specs.HashSet.{HashSet, contains, Updates}
+use Rattle.std.proofs.lemmas.Bool.{false≢true}
+use Rattle.std.proofs.lemmas.List.Elements.{Contains-get_or, Contains-push_cases}
+use Rattle.std.proofs.lemmas.Slice.Eq.{bytes_eq-Decides}
+use Rattle.mail_terms.specs.Distinct.{AreDistinct}
+use Rattle.std.proofs.lemmas.List.{map_push}
+use Rattle.std.proofs.lemmas.List.Quantifiers.{all_pairs_push}
+use Rattle.folder_drop.specs.declared.listed_file.ListedFile.{ListedFile}
+use Rattle.pop3_server.specs.Maildrop.{Listed}
+use Rattle.folder_drop.specs.ListedIds.{same_key}
+use Rattle.folder_drop.specs.RealMaildir.{uid_of, id_of_name, name_of, names_of, HaveIds}
+
+pub ids_push : (entries : List Listed) (files : List ListedFile) (entry : Listed) (file : ListedFile) → HaveIds entries (names_of files) → entry.uid ≡ id_of_name (name_of file) → HaveIds (entries ++ entry ∷ []) (names_of (files ++ file ∷ []))
+ids_push entries files entry file before same =
+    map_push uid_of entries entry ∙ ap (λ ids. ids ++ uid_of entry ∷ []) before ∙ ap (λ id. map id_of_name (names_of files) ++ id ∷ []) same
+    ∙ sym (ap (map id_of_name) (map_push name_of files file) ∙ map_push id_of_name (names_of files) (name_of file))
+
+-- each of these ids is in the set
+abbrev pub AreSeen : {Z S : Type 0} → HashSet (Vec ℕ Z) S → List (List ℕ) → Type 0
+AreSeen {Z} {S} seen ids = (key : Vec ℕ Z) → Contains ids key.items → contains same_key seen key ≡ true
+
+same_bytes : {Z : Type 0} (a b : Vec ℕ Z) → a.items ≡ b.items → same_key a b ≡ true
+same_bytes a b same = (bytes_eq-Decides a.items b.items).1 same
+
+either_way : (b kept : Bool) → kept ≡ true → cond b true kept ≡ true
+either_way true kept is = refl
+either_way false kept is = is
+
+-- the set with one more key has one more id
+pub seen_push : {Z S : Type 0} (old new : HashSet (Vec ℕ Z) S) (key : Vec ℕ Z) → Updates same_key old new key true → (ids : List (List ℕ)) (id : List ℕ) → key.items ≡ id → AreSeen old ids → AreSeen new (ids ++ id ∷ [])
+seen_push old new key updates ids id is seen = λ q h. updates.0 q ∙ elim (Contains-push_cases ids id q.items h) [
+  | inl before ↦ either_way (same_key key q) (contains same_key old q) (seen q before)
+  | inr now ↦ ap (λ (b : Bool). cond b true (contains same_key old q)) (same_bytes key q (is ∙ now))
+]
+
+-- an id that isn't in the set is none of these
+pub unseen : {Z S : Type 0} (seen : HashSet (Vec ℕ Z) S) (key : Vec ℕ Z) (ids : List (List ℕ)) → AreSeen seen ids → contains same_key seen key ≡ false → Contains ids key.items → ⊥
+unseen seen key ids all none h = false≢true (sym none ∙ all key h)
+
+-- one more message, whose id isn't in the set, is listed
+pub distinct_more : {Z S : Type 0} (seen : HashSet (Vec ℕ Z) S) (key : Vec ℕ Z) (entries : List Listed) (entry : Listed) → key.items ≡ entry.uid → AreDistinct (map uid_of entries)
+    → AreSeen seen (map uid_of entries) → contains same_key seen key ≡ false → AreDistinct (map uid_of (entries ++ entry ∷ []))
+distinct_more seen key entries entry is distinct all none =
+    subst (λ (l : List (List ℕ)). AreDistinct l) (sym (map_push uid_of entries entry))
+    (all_pairs_push (λ a b. a ≢ b) (map uid_of entries) entry.uid distinct
+    (λ k d fits e. unseen seen key (map uid_of entries) all none (subst (λ id. Contains (map uid_of entries) id) (e ∙ sym is) (Contains-get_or (map uid_of entries) k d fits))))
+
+pub seen_more : {Z S : Type 0} (old new : HashSet (Vec ℕ Z) S) (key : Vec ℕ Z) (entries : List Listed) (entry : Listed) → key.items ≡ entry.uid → Updates same_key old new key true
+    → AreSeen old (map uid_of entries) → AreSeen new (map uid_of (entries ++ entry ∷ []))
+seen_more old new key entries entry is updates all =
+    subst (λ (l : List (List ℕ)). AreSeen new l) (sym (map_push uid_of entries entry)) (seen_push old new key updates (map uid_of entries) entry.uid is all)

@@ -1,0 +1,5 @@
+pub mod FoldersLook
+pub mod ListedFiles
+pub mod ListedIds
+pub mod MaildirNames
+pub mod RealMaildir

@@ -1,0 +1,15 @@
+-- The folders of a Maildir, and the unique-id for a file's name.
+use Rattle.std.specs.Prelude.{ℕ, List, codes, if◌then◌else◌}
+use Rattle.hex.specs.Hex.{encode_lower}
+use Rattle.sha2.specs.Sha256.{sha256}
+use Rattle.mail_terms.specs.UniqueId.{is_legal_id}
+use Rattle.folder_drop.specs.declared.maildir_names.Folder.{Folder}
+use Rattle.folder_drop.specs.declared.maildir_names.Folder.TheVariants.{Cur, New}
+
+abbrev pub folder_name : Folder → List ℕ
+folder_name Cur = codes "cur"
+folder_name New = codes "new"
+
+-- the base itself if it is a legal id, else its digest in lower-case hexadecimal
+abbrev pub id_of : List ℕ → List ℕ
+id_of base = if is_legal_id base then base else encode_lower (sha256 base)

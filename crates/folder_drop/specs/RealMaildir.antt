@@ -1,0 +1,39 @@
+-- A Maildir in a real folder: what is known of it, whatever the folder does.
+use Rattle.std.specs.Prelude.{◌≡◌, ℕ, List, [], map, string_bytes, Result, Ok, Err, Vec}
+use Rattle.folder_drop.specs.declared.listed_file.ListedFile.{ListedFile}
+use Rattle.pop3_server.specs.declared.maildrop.DropFault.{DropFault}
+use Rattle.mail_terms.specs.MaildirName.{base}
+use Rattle.folder_drop.specs.MaildirNames.{id_of}
+use Rattle.pop3_server.specs.Maildrop.{Listed, Mail}
+
+-- its path; the names of the files of the last listing that succeeded, by their places; and the two counts
+pub record RealMaildir : Type 0 where
+  pub path : List ℕ
+  pub names : List (List ℕ)
+  pub failures : ℕ
+  pub removals : ℕ
+
+-- as a maildrop: nothing is known of its messages
+abbrev pub mail_of : RealMaildir → Mail
+mail_of maildir = record { slots = []; failures = maildir.failures; removals = maildir.removals }
+
+abbrev pub name_of : ListedFile → List ℕ
+name_of file = string_bytes file.name
+
+abbrev pub names_of : List ListedFile → List (List ℕ)
+names_of files = map name_of files
+
+abbrev pub uid_of : Listed → List ℕ
+uid_of entry = entry.uid
+
+abbrev pub id_of_name : List ℕ → List ℕ
+id_of_name name = id_of (base name)
+
+-- each entry has the id of its file's name
+abbrev pub HaveIds : List Listed → List (List ℕ) → Type 0
+HaveIds entries names = map uid_of entries ≡ map id_of_name names
+
+-- each place has the id of its file's name; after a fault each place has the file that it had
+abbrev pub ListsNames : {Z : Type 0} → RealMaildir → Result (Vec Listed Z) DropFault → RealMaildir → Type 0
+ListsNames old (Ok entries) new = HaveIds entries.items new.names
+ListsNames old (Err fault) new = new.names ≡ old.names

@@ -1,0 +1,72 @@
+//! When the folders of a Maildir were last changed, and how long an earlier listing of them stays valid.
+ghost use Rattle.std.specs.Prelude.{◌≡◌, ◌↔◌, IsTrue};
+ghost use Rattle.folder_drop.specs.declared.folders_look.FoldersLook.{FoldersLook};
+ghost use Rattle.folder_drop.specs.FoldersLook.{Stands};
+
+use std::fs::Metadata;
+use std::os::unix::fs::MetadataExt;
+
+/// How long ago a folder must have been changed, so that each later change gives it a different time:
+/// no file system's clock ticks in longer steps.
+const SETTLED_SECONDS: u64 = 2;
+
+/// How long a listing stays valid while the folders don't change: for so long the server may miss that
+/// a file was changed in place.
+const STANDING_SECONDS: u64 = 3_600;
+
+/// A folder's time of change, in seconds and nanoseconds since 1970. It moves when a file comes, goes
+/// or gets another name, and nobody can set it.
+#[derive(Clone, Copy, PartialEq, Eq)]
+pub struct ChangeTime {
+    pub seconds: u64,
+    pub nanoseconds: i64,
+}
+
+impl ChangeTime {
+    /// The time of change of a folder. One before 1970 counts as a time that never passes.
+    pub fn of(folder: &Metadata) -> ChangeTime {
+        ChangeTime {
+            seconds: u64::try_from(folder.ctime()).unwrap_or(u64::MAX),
+            nanoseconds: folder.ctime_nsec(),
+        }
+    }
+}
+
+/// A look at both folders: their times of change, and when it was, in seconds since 1970.
+#[derive(Clone, Copy)]
+pub struct FoldersLook {
+    pub new: ChangeTime,
+    pub cur: ChangeTime,
+    pub at: u64,
+}
+
+impl FoldersLook {
+    /// No look: no listing is valid after it.
+    pub fn none() -> FoldersLook
+        ensures { (later : FoldersLook) → Stands result later → ⊥ }
+    {
+        let never = ChangeTime {
+            seconds: 0,
+            nanoseconds: 0,
+        };
+        FoldersLook {
+            new: never,
+            cur: never,
+            at: 0,
+        }
+    }
+
+    /// Whether a listing that was made after this look is still valid at a later look: the folders were
+    /// settled and haven't changed since, and the listing isn't too old.
+    pub fn stands_at(&self, later: &FoldersLook) -> bool
+        ensures { IsTrue result ↔ Stands self.now later.now }
+    {
+        let settled = self.at.saturating_sub(SETTLED_SECONDS);
+        self.new.seconds < settled
+            && self.cur.seconds < settled
+            && later.new == self.new
+            && later.cur == self.cur
+            && self.at <= later.at
+            && later.at - self.at < STANDING_SECONDS
+    }
+}

@@ -1,0 +1,11 @@
+//! A maildrop for the server whose messages are the files of a Maildir in a real folder.
+#![tactic(auto)]
+
+mod folders_look;
+mod listed_file;
+mod maildir_drop;
+mod maildir_folders;
+mod maildir_names;
+mod seen_files;
+
+pub use maildir_drop::MaildirDrop;

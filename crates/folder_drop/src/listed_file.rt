@@ -1,0 +1,181 @@
+//! The files of a Maildir whose messages are listed, and their sizes as messages.
+ghost use Rattle.std.specs.Prelude.{◌≡◌, [], IsTrue, IfSome, IfOk, map};
+ghost use Rattle.std.specs.String.{string_bytes};
+ghost use Rattle.folder_drop.specs.declared.folders_look.FoldersLook.{FoldersLook};
+ghost use Rattle.folder_drop.specs.FoldersLook.{Stands};
+ghost use Rattle.folder_drop.specs.ListedFiles.{WasCounted, found_place, listed_place};
+
+use crate::folders_look::FoldersLook;
+use crate::maildir_names::{Folder, MailFile, PlacedFile, Stamp};
+use mail_terms::base;
+use pop3_server::SizeCount;
+use std::alloc::{AllocError, Global};
+use std::fs::Metadata;
+use std::io::{self, Read};
+use std::time::UNIX_EPOCH;
+
+/// How many octets of a file are read at a time.
+pub const PIECE: usize = 65_536;
+
+/// The place of a listed message's file, its length and time of change when its size was counted, and
+/// that size, with each line's end counted as two octets.
+#[derive(Drop)]
+pub struct ListedFile {
+    pub folder: Folder,
+    pub name: String,
+    pub stamp: Stamp,
+    pub size: u64,
+}
+
+impl ListedFile {
+    /// A file that was found, and its size.
+    pub fn of(found: MailFile, size: u64) -> ListedFile
+        ensures { result ≡ record { folder = found.folder; name = found.name; stamp = found.stamp; size = size } }
+    {
+        let MailFile {
+            folder,
+            name,
+            stamp,
+            ..
+        } = found;
+        ListedFile {
+            folder,
+            name,
+            stamp,
+            size,
+        }
+    }
+
+    /// The counted size, if the file hasn't changed since.
+    fn size_at(&self, stamp: Stamp) -> Option<u64>
+        ensures { IfSome result (λ size. (size ≡ self.now.size) × (stamp ≡ self.now.stamp)) }
+    {
+        if self.stamp == stamp {
+            Some(self.size)
+        } else {
+            None
+        }
+    }
+
+    /// Whether its place is that of a file that was found.
+    fn is_same(&self, found: &MailFile) -> bool
+        ensures { IsTrue result → (self.now.folder ≡ found.now.folder) × (string_bytes self.now.name ≡ string_bytes found.now.name) }
+    {
+        self.folder == found.folder && self.name.as_str() == found.name.as_str()
+    }
+
+    /// Whether it comes before a file that was found.
+    fn is_before(&self, found: &MailFile) -> bool {
+        let name = self.name.as_str();
+        let place = (base(name).as_bytes(), self.folder, name);
+        place < (found.base.as_slice(), found.folder, found.name.as_str())
+    }
+}
+
+/// The stamp of a file. A time that is before 1970, or that the system doesn't give, counts as 1970.
+pub fn stamp_of(metadata: &Metadata) -> Stamp {
+    let mut stamp = Stamp {
+        length: metadata.len(),
+        seconds: 0,
+        nanoseconds: 0,
+    };
+    if let Ok(modified) = metadata.modified() {
+        if let Ok(passed) = modified.duration_since(UNIX_EPOCH) {
+            stamp.seconds = passed.as_secs();
+            stamp.nanoseconds = passed.subsec_nanos();
+        }
+    }
+    stamp
+}
+
+/// The files found in a Maildir, in the order in which their messages are listed, and the look at the
+/// folders after which they were found.
+#[derive(Drop)]
+pub struct FoundFiles {
+    pub look: FoldersLook,
+    pub files: Vec<MailFile>,
+}
+
+/// The files of the listed messages, in their order, and the look at the folders after which they were
+/// found.
+#[derive(Drop)]
+pub struct Listing {
+    pub look: FoldersLook,
+    pub files: Vec<ListedFile>,
+}
+
+impl Listing {
+    /// No listing; it is never valid.
+    pub fn none(alloc: Global) -> Listing
+        ensures files { result.files.items ≡ [] }
+        ensures never { (later : FoldersLook) → Stands result.look later → ⊥ }
+    {
+        Listing {
+            look: FoldersLook::none(),
+            files: Vec::new(alloc),
+        }
+    }
+
+    /// The listed files as they were found.
+    pub fn found(&self, alloc: Global) -> Result<FoundFiles, AllocError>
+        ensures look { IfOk result (λ found. found.look ≡ self.now.look) }
+        ensures files { IfOk result (λ found. map found_place found.files.items ≡ map listed_place self.now.files.items) }
+    {
+        let mut files = Vec::with_capacity(alloc, self.files.len())?;
+        for file in self.files.as_slice() {
+            let name = String::from_str(alloc, file.name.as_str())?;
+            let placed = PlacedFile::of(alloc, file.folder, name)?;
+            files.push(MailFile::of(placed, file.stamp))?;
+        }
+        Ok(FoundFiles {
+            look: self.look,
+            files,
+        })
+    }
+}
+
+/// Sizes that were counted for an earlier listing, in the order in which files are listed. They have to
+/// be asked for in that order too.
+#[derive(Drop)]
+pub struct Counted<'a> {
+    files: &'a [ListedFile],
+}
+
+impl<'a> Counted<'a> {
+    /// The sizes of these files.
+    pub fn new(files: &'a [ListedFile]) -> Counted<'a>
+        ensures { result.files.now ≡ files.now }
+    {
+        Counted { files }
+    }
+
+    /// The counted size of a file that was found, if there is one and the file is as it was then. Files
+    /// that come before it are skipped.
+    pub fn size_of(&mut self, found: &MailFile) -> Option<u64>
+        ensures { IfSome result (λ size. WasCounted self.old.files.now found.now size) }
+    {
+        while let [file, rest @ ..] = self.files {
+            if file.is_same(found) {
+                return file.size_at(found.stamp);
+            }
+            if !file.is_before(found) {
+                return None;
+            }
+            self.files = rest;
+        }
+        None
+    }
+}
+
+/// The size of a file as a message. The file is read in pieces to its end.
+pub fn count_size<F: Read>(file: &mut F, piece: &mut [u8]) -> io::Result<u64> {
+    let mut count = SizeCount::new();
+    for _ in 0..u64::MAX {
+        let n = file.read(piece)?;
+        if n == 0 {
+            break;
+        }
+        count.add(&piece[..n]);
+    }
+    Ok(count.size())
+}

@@ -1,0 +1,219 @@
+//! A Maildir in a real folder as a maildrop: the files of `cur` and `new` whose names don't begin with
+//! a full stop. In the Maildir format a name stays the same up to its first colon; flags follow.
+ghost use Rattle.std.specs.Prelude.{◌≡◌, ◌≤◌, ◌<◌, ◌+◌, ◌^◌, length, map, vec_len, IfOk, IfErr, []};
+ghost use Rattle.std.specs.String.{string_bytes};
+ghost use Rattle.mail_terms.specs.Distinct.{AreDistinct};
+ghost use Rattle.mail_terms.specs.FailureCount.{Tallies, counted_up, refuses};
+ghost use Rattle.pop3_server.specs.Maildrop.{is_refusal};
+ghost use Rattle.folder_drop.specs.RealMaildir.{mail_of, uid_of, ListsNames};
+
+mod listing;
+mod texts;
+
+use crate::listed_file::Listing;
+use crate::maildir_drop::listing::ListedMessages;
+use crate::maildir_folders::{MaildirFolders, Unread};
+use crate::seen_files::SeenFiles;
+use mail_terms::FailureCount;
+use pop3_server::{DropFault, Entry, MAX_COUNT, Maildrop};
+use std::io::{self, ErrorKind};
+use std::marker::Model;
+use std::random::RandomSource;
+use std::rt::Files;
+use std::time::Clock;
+
+/// A Maildir in a real folder. Nothing is known of what it holds: contracts see its path, the names of
+/// the files that were listed, and the counts. If it answers NoMemory although none of its own growths
+/// was refused, a call of the kernel answered ENOMEM, which it passes on.
+#[derive(Drop)]
+pub struct MaildirDrop<'a, R: Files + AllocGlobal + Clone + Drop> {
+    pub(crate) rt: &'a R,
+    pub(crate) folders: MaildirFolders<'a, R>,
+    pub(crate) listing: Listing,
+    /// An earlier server's listing, until this one has its own.
+    pub(crate) earlier: Listing,
+    /// The path of the file or folder that couldn't be read, if that refused a listing.
+    unread: Option<String>,
+    /// Where files were last seen that aren't where they were listed.
+    pub(crate) last_seen: SeenFiles,
+    /// The file of which a part was given last.
+    pub(crate) open: Option<OpenText<R::File>>,
+    failures: FailureCount,
+    removals: u64,
+}
+
+/// A message's file that is read in parts: the message's place, and how many octets were read.
+#[derive(Drop)]
+pub(crate) struct OpenText<F: Drop> {
+    pub(crate) place: usize,
+    pub(crate) read: usize,
+    pub(crate) file: F,
+}
+
+impl<'a, R: Files + AllocGlobal + Clone + Drop> Model for MaildirDrop<'a, R> {
+    ghost use Rattle.std.specs.String.{string_bytes};
+    ghost use Rattle.folder_drop.specs.RealMaildir.{RealMaildir, names_of};
+
+    ghost Value = { RealMaildir };
+
+    ghost view = { λ d. record {
+      path = d.folders;
+      names = names_of d.listing.files.items;
+      failures = d.failures;
+      removals = d.removals;
+    } };
+}
+
+impl<'a, R: Files + Clock + RandomSource + AllocGlobal + Clone + Drop> MaildirDrop<'a, R> {
+    /// The maildrop of the Maildir at this path, which must have the folders `new` and `cur`.
+    pub fn at(rt: &'a R, path: String) -> MaildirDrop<'a, R>
+        ensures { result ≡ record { path = string_bytes path; names = []; failures = 0; removals = 0 } }
+    {
+        MaildirDrop {
+            rt,
+            folders: MaildirFolders::at(rt, path),
+            listing: Listing::none(rt.alloc()),
+            earlier: Listing::none(rt.alloc()),
+            unread: None,
+            last_seen: SeenFiles::none(),
+            open: None,
+            failures: FailureCount::new(),
+            removals: 0,
+        }
+    }
+
+    /// The same Maildir for another server, as at the start, except that the folders aren't searched
+    /// again while the last listing is valid, and the sizes of unchanged files aren't counted again.
+    pub fn renewed(self) -> MaildirDrop<'a, R>
+        ensures { result ≡ record { path = self.entry.path; names = []; failures = 0; removals = 0 } }
+    {
+        let MaildirDrop {
+            rt,
+            folders,
+            listing,
+            earlier,
+            ..
+        } = self;
+        let earlier = if listing.files.is_empty() {
+            earlier
+        } else {
+            listing
+        };
+        MaildirDrop {
+            earlier,
+            ..MaildirDrop::at(rt, folders.into_path())
+        }
+    }
+
+    /// The path of the file or folder that couldn't be read, if that refused a listing.
+    pub fn unread(&self) -> Option<&str> {
+        match &self.unread {
+            Some(path) => Some(path.as_str()),
+            None => None,
+        }
+    }
+
+    /// The fault for an error of the system: NoMemory if memory ran out; any other error is a
+    /// refusal, which is counted.
+    fn refuse(&mut self, error: io::Error) -> DropFault
+        ensures others { self.new ≡ record self.old { failures = self.new.failures } }
+        ensures count { Tallies (is_refusal result) self.old.failures self.new.failures }
+    {
+        if error.kind() == ErrorKind::OutOfMemory {
+            return DropFault::NoMemory;
+        }
+        self.failures.count_up();
+        DropFault::Refused
+    }
+}
+
+impl<'a, R: Files + Clock + RandomSource + AllocGlobal + Clone + Drop> Maildrop
+    for MaildirDrop<'a, R> {
+    ghost mail = { λ d. mail_of d };
+
+    ghost sound = { λ _. ⊥ };
+
+    fn entries(&mut self) -> Result<Vec<Entry>, DropFault>
+        ensures within { IfOk result (λ entries. vec_len entries ≤ MAX_COUNT) }
+        ensures distinct { IfOk result (λ entries. AreDistinct (map uid_of entries.items)) }
+        ensures tally { Tallies (refuses is_refusal result) self.old.failures self.new.failures }
+        ensures removes_none { self.new.removals ≡ self.old.removals }
+        ensures names { ListsNames self.old result self.new }
+        ensures path { self.new.path ≡ self.old.path }
+    {
+        if self.failures.is_full() {
+            return Err(DropFault::Refused);
+        }
+        let mut last_seen = SeenFiles::none();
+        match self.look(&mut last_seen) {
+            Ok(ListedMessages { entries, listing }) => {
+                self.listing = listing;
+                self.last_seen = last_seen;
+                self.earlier = Listing::none(self.rt.alloc());
+                Ok(entries)
+            }
+            Err(Unread { error, path }) => {
+                self.unread = path;
+                Err(self.refuse(error))
+            }
+        }
+    }
+
+    fn text(&mut self, i: usize) -> Result<Vec<u8>, DropFault>
+        ensures tally { Tallies (refuses is_refusal result) self.old.failures self.new.failures }
+        ensures others { self.new ≡ record self.old { failures = self.new.failures } }
+    {
+        if self.failures.is_full() {
+            return Err(DropFault::Refused);
+        }
+        match self.read_file(i) {
+            Ok(text) => Ok(text),
+            Err(unread) => Err(self.refuse(unread.error)),
+        }
+    }
+
+    fn part(&mut self, i: usize, start: usize, piece: &mut [u8]) -> Result<usize, DropFault>
+        ensures within { IfOk result (λ n. n ≤ length piece.new) }
+        ensures countable { IfOk result (λ n. start + n < 2 ^ 64) }
+        ensures later { 0 < start → IfErr result (λ e. e ≡ DropFault.Refused) }
+        ensures tally { Tallies (refuses is_refusal result) self.old.failures self.new.failures }
+        ensures others { self.new ≡ record self.old { failures = self.new.failures } }
+    {
+        if self.failures.is_full() {
+            return Err(DropFault::Refused);
+        }
+        match self.read_part(i, start, piece) {
+            Ok(n) => Ok(n),
+            Err(unread) => {
+                if start == 0 {
+                    return Err(self.refuse(unread.error));
+                }
+                self.failures.count_up();
+                Err(DropFault::Refused)
+            }
+        }
+    }
+
+    fn remove(&mut self, i: usize) -> Result<(), DropFault>
+        ensures err { IfErr result (λ e. e ≡ DropFault.Refused) }
+        ensures tally { Tallies (refuses is_refusal result) self.old.failures self.new.failures }
+        ensures asks { self.new.removals ≡ counted_up self.old.removals }
+        ensures others { (self.new.path ≡ self.old.path) × (self.new.names ≡ self.old.names) }
+    {
+        self.removals = self.removals.saturating_add(1);
+        if self.failures.is_full() {
+            return Err(DropFault::Refused);
+        }
+        match self.remove_file(i) {
+            Ok(()) => Ok(()),
+            Err(_) => {
+                self.failures.count_up();
+                Err(DropFault::Refused)
+            }
+        }
+    }
+
+    fn failures(&self) -> u64 {
+        self.failures.count()
+    }
+}

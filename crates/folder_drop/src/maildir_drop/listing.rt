@@ -1,0 +1,144 @@
+//! The listing of a Maildir: the files that are found, and the messages that they are.
+ghost use Rattle.std.specs.Prelude.{◌≡◌, ◌≤◌, false, map, vec_len, IfOk, IfSome};
+ghost use Rattle.std.specs.HashSet.{IsEmpty, contains};
+ghost use Rattle.std.specs.String.{string_bytes};
+ghost use Rattle.mail_terms.specs.Distinct.{AreDistinct};
+ghost use Rattle.folder_drop.specs.ListedIds.{same_key};
+ghost use Rattle.folder_drop.specs.RealMaildir.{id_of_name, names_of, uid_of, HaveIds};
+
+use crate::listed_file::{Counted, FoundFiles, ListedFile, Listing, PIECE};
+use crate::maildir_drop::MaildirDrop;
+use crate::maildir_folders::Unread;
+use crate::maildir_names::{MailFile, unique_id};
+use crate::seen_files::SeenFiles;
+use mail_terms::base;
+use pop3_server::{Entry, MAX_COUNT, MAX_SIZE};
+use std::collections::HashSet;
+use std::hash::RandomState;
+use std::random::RandomSource;
+use std::rt::Files;
+use std::time::Clock;
+
+/// Ids of messages.
+type Ids = HashSet<Vec<u8>, RandomState>;
+
+/// The messages found in a Maildir, and the places of their files.
+#[derive(Drop)]
+pub(crate) struct ListedMessages {
+    pub(crate) entries: Vec<Entry>,
+    pub(crate) listing: Listing,
+}
+
+impl<'a, R: Files + Clock + RandomSource + AllocGlobal + Clone + Drop> MaildirDrop<'a, R> {
+    /// The files of the Maildir: those of the earlier listing, if it is still valid.
+    fn find(&self, last_seen: &mut SeenFiles) -> Result<FoundFiles, Unread> {
+        let look = self.folders.look()?;
+        if self.earlier.look.stands_at(&look) {
+            return Ok(self.earlier.found(self.rt.alloc())?);
+        }
+        let placed = self.folders.list()?;
+        let mut files = Vec::with_capacity(self.rt.alloc(), placed.len())?;
+        for file in placed {
+            if let Some(stamp) = self.folders.stamp(last_seen, &file)? {
+                files.push(MailFile::of(file, stamp))?;
+            }
+        }
+        Ok(FoundFiles { look, files })
+    }
+
+    /// The size of a file: the one that is known, or else the file is read. None if it is gone.
+    fn size_of(
+        &self,
+        last_seen: &mut SeenFiles,
+        file: &MailFile,
+        known: Option<u64>,
+        piece: &mut [u8],
+    ) -> Result<Option<u64>, Unread> {
+        match known {
+            Some(size) => Ok(Some(size)),
+            None => self
+                .folders
+                .size(last_seen, file.folder, file.name.as_str(), piece),
+        }
+    }
+
+    /// A file's message, with its id once more for the ids that were listed before. None if its id is one
+    /// of these, if it is above the limit of sizes, or if the file is gone.
+    fn message(
+        &self,
+        last_seen: &mut SeenFiles,
+        listed: &Ids,
+        file: &MailFile,
+        known: Option<u64>,
+        piece: &mut [u8],
+    ) -> Result<Option<(Vec<u8>, Entry)>, Unread>
+        ensures key { IfOk result (λ found. IfSome found (λ message. message.0.items ≡ message.1.uid)) }
+        ensures id { IfOk result (λ found. IfSome found (λ message. message.1.uid ≡ id_of_name (string_bytes file.now.name))) }
+        ensures fresh { IfOk result (λ found. IfSome found (λ message. contains same_key listed.now message.0 ≡ false)) }
+    {
+        let alloc = self.rt.alloc();
+        let uid = unique_id(alloc, base(file.name.as_str()).as_bytes())?;
+        let key = Vec::from_slice(alloc, uid.as_slice())?;
+        // The size is at least the length.
+        if listed.contains(&key) || file.stamp.length > MAX_SIZE {
+            return Ok(None);
+        }
+        match self.size_of(last_seen, file, known, piece)? {
+            Some(size) if size <= MAX_SIZE => Ok(Some((key, Entry::new(uid, size)))),
+            _ => Ok(None),
+        }
+    }
+
+    /// A set for so many ids. Its keys are random, since the names of files may come from ids that a
+    /// server chose.
+    fn no_ids(&self, count: usize) -> Result<Ids, Unread>
+        ensures { IfOk result (λ ids. IsEmpty ids) }
+    {
+        let hasher = RandomState::new(self.rt)?;
+        Ok(HashSet::with_capacity_and_hasher(self.rt.alloc(), count, hasher)?)
+    }
+
+    /// The messages of these files: only the first of several with one id, none above the limits,
+    /// and none whose file is gone.
+    #[tactic(auto, using(crate::proofs::MaildirLemmas::ids_push))]
+    fn list(&self, last_seen: &mut SeenFiles, found: FoundFiles) -> Result<ListedMessages, Unread>
+        ensures within { IfOk result (λ listed. vec_len listed.entries ≤ MAX_COUNT) }
+        ensures distinct { IfOk result (λ listed. AreDistinct (map uid_of listed.entries.items)) }
+        ensures names { IfOk result (λ listed. HaveIds listed.entries.items (names_of listed.listing.files.items)) }
+    {
+        let alloc = self.rt.alloc();
+        let FoundFiles { look, files: found } = found;
+        let mut ids = self.no_ids(found.len())?;
+        let mut entries = Vec::with_capacity(alloc, found.len())?;
+        let mut files = Vec::with_capacity(alloc, found.len())?;
+        let mut counted = Counted::new(self.earlier.files.as_slice());
+        let mut piece = Vec::from_elem(alloc, 0u8, PIECE)?;
+        for file in found {
+            if entries.len() >= MAX_COUNT {
+                break;
+            }
+            let known = counted.size_of(&file);
+            let found = self.message(last_seen, &ids, &file, known, piece.as_mut_slice())?;
+            let Some((key, entry)) = found else {
+                continue;
+            };
+            ids.insert(key)?;
+            files.push(ListedFile::of(file, entry.size()))?;
+            entries.push(entry)?;
+        }
+        Ok(ListedMessages {
+            entries,
+            listing: Listing { look, files },
+        })
+    }
+
+    /// The messages of the Maildir as it is now.
+    pub(crate) fn look(&self, last_seen: &mut SeenFiles) -> Result<ListedMessages, Unread>
+        ensures within { IfOk result (λ listed. vec_len listed.entries ≤ MAX_COUNT) }
+        ensures distinct { IfOk result (λ listed. AreDistinct (map uid_of listed.entries.items)) }
+        ensures names { IfOk result (λ listed. HaveIds listed.entries.items (names_of listed.listing.files.items)) }
+    {
+        let found = self.find(last_seen)?;
+        self.list(last_seen, found)
+    }
+}

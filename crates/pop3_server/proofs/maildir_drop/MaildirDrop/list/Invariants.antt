@@ -1,9 +1,0 @@
-use Rattle.std.proofs.Common.{◌≤◌, map, vec_len}
-use Rattle.mail_terms.specs.Distinct.{AreDistinct}
-use Rattle.pop3_server.specs.RealMaildir.{names_of, uid_of, HaveIds}
-use Rattle.pop3_server.proofs.MaildirLemmas.{AreSeen}
-use Rattle.pop3_server.proofs.maildir_drop.MaildirDrop.list.Given as goal
-
-abbrev pub invariant-loop-file : goal.invariant-loop-file
-invariant-loop-file g l = (vec_len l.entries ≤ 100000) × HaveIds l.entries.items (names_of l.files.items)
-    × AreDistinct (map uid_of l.entries.items) × AreSeen l.seen (map uid_of l.entries.items)
