@@ -1,42 +1,60 @@
 -- A file in a folder: what the calls of the folder leave of it.
-use Rattle.std.proofs.Common.{◌≡◌, ℕ, ◌+◌, refl, List, [], ◌∷◌, ◌++◌, take, drop, cond, sym, ap, subst, ◌∙◌, Bool, true, false, Option, Some, None, Result, Ok, Err, inl, inr, Vec, append_assoc}
-use Rattle.std.specs.Prelude.{option_map, bytes_eq, if◌then◌else◌, IsErr}
+use Rattle.std.proofs.Common.{◌≡◌, ℕ, ◌+◌, ◌<◌, zero, suc, length, get_or, refl, arith, List, [], ◌∷◌, ◌++◌, take, drop, cond, sym, ap, subst, ◌∙◌, Bool, true, false, Option, Some, None, Result, Ok, Err, inl, inr, Vec, append_assoc}
+use Rattle.std.specs.Prelude.{Contains, option_map, bytes_eq, if◌then◌else◌, IsErr}
 use Rattle.std.proofs.lemmas.Slice.Eq.{bytes_eq-Decides}
 use Rattle.std.proofs.lemmas.List.{append-nil, take-append-drop}
-use Rattle.std.proofs.lemmas.Bool.{true≢false}
+use Rattle.std.proofs.lemmas.Bool.{true≢false, cases_Bool, cond-true, cond-false}
 use Rattle.mail_terms.specs.FailureCount.{is_refused}
 use Rattle.mail_store.specs.Fault.{is_refusal}
 use Rattle.mail_store.specs.declared.fault.StoreFault.{StoreFault}
 use Rattle.mail_store.specs.declared.fault.StoreFault.TheVariants.{Missing, Refused, NotMbox, NoMemory}
 use Rattle.mail_store.specs.declared.file.flat_file.Edges.{Edges}
 use Rattle.mail_store.specs.FlatFile.{Appends, Cuts, Replaces, Loads, Measures, ReadsAt, Denies}
-use Rattle.folder_store.specs.FileFolder.{Directory, Entry, Blob, Older, entry, find, placed, making, changed, appended, cut, doubted, flushed, secured, empty_blob, content_in, content_at, ChangesMade, Makes, Writes, LacksFile, Reads, MeasuresFile, ReadsPiece, AppendsTo, CutsTo, FlushesFile, FlushesNames}
+use Rattle.folder_store.specs.FileFolder.{Directory, Entry, Blob, Older, entry, names_in, find, placed, making, changed, appended, cut, doubted, flushed, secured, empty_blob, content_in, content_at, ChangesMade, Makes, Writes, LacksFile, Reads, MeasuresFile, ReadsPiece, AppendsTo, CutsTo, FlushesFile, FlushesNames}
 use Rattle.folder_store.specs.FolderMaildir.{PutsFlushed}
 use Rattle.folder_store.specs.HostFile.{stored_in, Holds, Keeps, Becomes, MayBeFlushed, IsAppended, IsSoFar, IsPartAppended, AppendsPiece, AppendsFlushed, CutsFlushed, ReplacesFlushed, Flushes}
 
-or_else : {A : Type 0} → A → Option A → A
-or_else d None = d
-or_else d (Some x) = x
-
 pub some_is : {A : Type 0} (x y : A) → Some x ≡ Some y → x ≡ y
-unfolding or_else
-some_is x y h = ap (or_else x) h
+some_is x y h = cc
 
 pub some_is_not_none : {A : Type 0} (x : A) (o : Option A) → o ≡ None → o ≡ Some x → ⊥
-some_is_not_none {A} x o e h = apart (sym e ∙ h)
-  where
-    apart : None ≡ Some x → ⊥
-    apart k = cc
+some_is_not_none x o e h = cc
+
+-- a name leads to the first file that has it
+pub find_here : (name : List ℕ) (e : Entry) (es : List Entry) → bytes_eq name e.name ≡ true → find name (e ∷ es) ≡ Some e.blob
+find_here name e es = cond-true (bytes_eq name e.name) (Some e.blob) (find name es)
+
+pub find_later : (name : List ℕ) (e : Entry) (es : List Entry) → bytes_eq name e.name ≡ false → find name (e ∷ es) ≡ find name es
+find_later name e es = cond-false (bytes_eq name e.name) (Some e.blob) (find name es)
 
 -- the name leads to what was put there
 pub find_placed : (name : List ℕ) (b : Blob) (es : List Entry) → find name (placed name b es) ≡ Some b
 find_placed name b [] = ap (λ (v : Bool). cond v (Some b) None) ((bytes_eq-Decides name name).1 refl)
-find_placed name b (e ∷ es) = by (find_placed name b es) (bytes_eq name e.name) refl
-  where
-    by : find name (placed name b es) ≡ Some b → (v : Bool) → bytes_eq name e.name ≡ v
-        → find name (cond v (entry name b ∷ es) (e ∷ placed name b es)) ≡ Some b
-    by later true is = ap (λ (v : Bool). cond v (Some b) (find name es)) ((bytes_eq-Decides name name).1 refl)
-    by later false is = ap (λ (v : Bool). cond v (Some e.blob) (find name (placed name b es))) is ∙ later
+find_placed name b (e ∷ es) = elim (cases_Bool (bytes_eq name e.name)) [
+  | inl same ↦ rw same (find_here name (entry name b) es ((bytes_eq-Decides name name).1 refl))
+  | inr apart ↦ rw apart (find_later name e (placed name b es) apart ∙ find_placed name b es)
+]
+
+-- a name that isn't there leads to no file
+pub none_of : (name : List ℕ) (es : List Entry) → (Contains (names_in es) name → ⊥) → find name es ≡ None
+none_of name [] free = refl
+none_of name (e ∷ es) free = elim (cases_Bool (bytes_eq name e.name)) [
+  | inl same ↦ absurd (free (0, omega arith, sym ((bytes_eq-Decides name e.name).0 same)))
+  | inr apart ↦ find_later name e es apart ∙ none_of name es (λ c. free (suc c.0, omega (arith, c.1), c.2))
+]
+
+pub not_ahead : (name first : List ℕ) (names : List (List ℕ)) → (Contains names name → ⊥) → bytes_eq name first ≡ false → (k : ℕ) → k < length (first ∷ names)
+    → get_or (first ∷ names) k name ≡ name → ⊥
+not_ahead name first names free apart zero inside is = true≢false (sym ((bytes_eq-Decides name first).1 (sym is)) ∙ apart)
+not_ahead name first names free apart (suc k) inside is = free (k, omega (arith, inside), is)
+
+-- a name that leads to no file stands behind the others
+pub placed_new : (name : List ℕ) (b : Blob) (es : List Entry) → find name es ≡ None → placed name b es ≡ es ++ entry name b ∷ []
+placed_new name b [] none = refl
+placed_new name b (e ∷ es) none = elim (cases_Bool (bytes_eq name e.name)) [
+  | inl same ↦ absurd (some_is_not_none e.blob (find name (e ∷ es)) none (find_here name e es same))
+  | inr apart ↦ rw apart (ap (λ (xs : List Entry). e ∷ xs) (placed_new name b es (sym (find_later name e es apart) ∙ none)))
+]
 
 -- a file with other bytes
 pub holds_changed : (old new : Directory) (name : List ℕ) (b : Blob) → new ≡ changed old name b → Holds new name (Some b) old.older
@@ -216,20 +234,18 @@ replace_done old one two new name bytes r make write put =
     held c made =
         find_placed name (secured c.content) old.entries ∙ ap (λ (x : Blob). Some (secured x.content)) (sym (some_is (appended empty_blob bytes) c made))
 
-    by : (r : Result (Unit {0}) StoreFault) → PutsFlushed (making old (Some (appended empty_blob bytes))) name r new → ReplacesFlushed old name bytes r new
-    by (Ok done) (c, made, e) = record {
-      leads_to = ap (λ (d : Directory). find name d.entries) e ∙ held c made;
-      named = ap (λ (d : Directory). d.older) e;
+    in_place : (d : Directory) (older : List Older) → new ≡ d → find name d.entries ≡ Some (secured bytes) → d.older ≡ older
+        → Holds new name (Some (secured bytes)) older
+    in_place d older e at named = record {
+      leads_to = ap (λ (x : Directory). find name x.entries) e ∙ at;
+      named = ap (λ (x : Directory). x.older) e ∙ named;
     }
+
+    by : (r : Result (Unit {0}) StoreFault) → PutsFlushed (making old (Some (appended empty_blob bytes))) name r new → ReplacesFlushed old name bytes r new
+    by (Ok done) (c, made, e) = in_place _ _ e (held c made) refl
     by (Err fault) (inl (m, e)) = inl (record { leads_to = ap (λ (d : Directory). find name d.entries) e; named = ap (λ (d : Directory). d.older) e })
-    by (Err fault) (inr (c, made, inl e)) = inr (inl (record {
-      leads_to = ap (λ (d : Directory). find name d.entries) e ∙ held c made;
-      named = ap (λ (d : Directory). d.older) e;
-    }))
-    by (Err fault) (inr (c, made, inr e)) = inr (inr (record {
-      leads_to = ap (λ (d : Directory). find name d.entries) e ∙ held c made;
-      named = ap (λ (d : Directory). d.older) e;
-    }))
+    by (Err fault) (inr (c, made, inl e)) = inr (inl (in_place _ _ e (held c made) refl))
+    by (Err fault) (inr (c, made, inr e)) = inr (inr (in_place _ _ e (held c made) refl))
 
 -- the bytes under the name
 pub content_held : (d : Directory) (name : List ℕ) (o : Option Blob) (older : List Older) → Holds d name o older → content_at d name ≡ option_map content_in o

@@ -1,18 +1,18 @@
 -- What stays of a folder, call after call.
-use Rattle.std.proofs.Common.{◌≡◌, ℕ, ◌+◌, ◌-◌, suc, ◌≤◌, length, refl, List, [], ◌∷◌, ◌++◌, take, cond, Bool, true, false, sym, ap, subst, ◌∙◌, arith, Option, Some, None, Result, Ok, Err, inl, inr, length-append, append_assoc, Vec, String}
-use Rattle.std.specs.Prelude.{option_map, bytes_eq, Contains, OnOk, is_err}
+use Rattle.std.proofs.Common.{◌≡◌, ℕ, ◌+◌, ◌-◌, ◌≤◌, length, refl, List, [], ◌++◌, take, Bool, false, sym, ap, subst, ◌∙◌, arith, Option, Some, None, Result, Ok, Err, inl, inr, length-append, append_assoc, Vec, String}
+use Rattle.std.specs.Prelude.{option_map, Contains, OnOk, is_err}
 use Rattle.std.proofs.lemmas.List.{append-nil}
 use Rattle.std.proofs.Math.Seq.{take-append-add}
-use Rattle.std.proofs.lemmas.Slice.Eq.{bytes_eq-Decides}
+use Rattle.std.proofs.lemmas.Bool.{cases_Bool}
 use Rattle.mail_store.specs.declared.fault.StoreFault.{StoreFault}
 use Rattle.mail_store.specs.declared.fault.StoreFault.TheVariants.{Missing, Refused, NotMbox, NoMemory}
 use Rattle.mail_store.specs.Maildir.{names_of}
 use Rattle.mail_store.specs.Power.{ToldStay, KeepsMail, KeepsBytes, KeepsFront, LastsWhole}
-use Rattle.folder_store.specs.FileFolder.{Directory, Entry, Blob, find, appended, cut, flushed, doubted, secured, content_in, content_at, making, names_in, names_flushed, ChangesMade, FlushesFile, FlushesNames}
+use Rattle.folder_store.specs.FileFolder.{Directory, Blob, find, appended, cut, flushed, doubted, secured, content_in, content_at, making, names_flushed, ChangesMade, FlushesFile, FlushesNames}
 use Rattle.folder_store.specs.HostFile.{Holds, Keeps, MayBeFlushed, IsSoFar, AppendsFlushed, CutsFlushed}
 use Rattle.folder_store.specs.FolderMaildir.{PutsFlushed, Tells, content_made, files_at}
 use Rattle.folder_store.specs.PowerLoss.{IsLeft, IsLeftOf, MayBe, IsFlushed, IsSure, IsOnDisk, IsKnown, StaysInEither, FileStands, LeavesNoMore, LeavesBut, IsFront, FrontStands, FrontsOutlivePower}
-use Rattle.folder_store.proofs.Files.{some_is, some_is_not_none, holds_changed}
+use Rattle.folder_store.proofs.Files.{none_of, some_is, some_is_not_none, holds_changed}
 use Rattle.folder_store.proofs.Directories.{names_of-files_at}
 use Rattle.folder_store.proofs.PowerLoss.{asked, disk_is_known, flushed_sure, left_named, making_leaves, put_leaves_but, told_stay}
 
@@ -28,18 +28,16 @@ front_appended bytes more b f = record {
 }
 
 front_flushed : (bytes : List ℕ) (b : Blob) → IsFront bytes b → IsFront bytes (flushed b)
-front_flushed bytes b f = by b.content b.flushed b.uncut b.is_doubted f
-  where
-    by : (content flush : List ℕ) (n : ℕ) (d : Bool) → IsFront bytes (record { content = content; flushed = flush; uncut = n; is_doubted = d })
-        → IsFront bytes (flushed (record { content = content; flushed = flush; uncut = n; is_doubted = d }))
-    by content flush n true f = f
-    by content flush n false f = record {
-      rest = f.rest;
-      more = f.rest;
-      content = f.content;
-      flushed = f.content;
-      uncut = omega (arith, ap length f.content, length-append bytes f.rest);
-    }
+front_flushed bytes b f = elim (cases_Bool b.is_doubted) [
+  | inl doubted ↦ rw doubted (record { rest = f.rest; more = f.more; content = f.content; flushed = f.flushed; uncut = f.uncut })
+  | inr sure ↦ rw sure (record {
+    rest = f.rest;
+    more = f.rest;
+    content = f.content;
+    flushed = f.content;
+    uncut = omega (arith, ap length f.content, length-append bytes f.rest);
+  })
+]
 
 front_doubted : (bytes : List ℕ) (b : Blob) → IsFront bytes b → IsFront bytes (doubted b)
 front_doubted bytes b f = record { rest = f.rest; more = f.more; content = f.content; flushed = f.flushed; uncut = f.uncut }
@@ -231,15 +229,6 @@ tells_leaves old new (Err Refused) (inr e) = flushed_leaves old new e
 tells_leaves old new (Err NotMbox) t = absurd t
 tells_leaves old new (Err NoMemory) t = absurd t
 
-pub none_found : (name : List ℕ) (es : List Entry) → (Contains (names_in es) name → ⊥) → find name es ≡ None
-none_found name [] free = refl
-none_found name (e ∷ es) free =
-    by (bytes_eq name e.name) (bytes_eq-Decides name e.name).0 (none_found name es (λ c. free (suc c.0, omega (arith, c.1), c.2)))
-  where
-    by : (v : Bool) → (v ≡ true → name ≡ e.name) → find name es ≡ None → cond v (Some e.blob) (find name es) ≡ None
-    by true same later = absurd (free (0, omega arith, sym (same refl)))
-    by false same later = later
-
 -- a file came under a name that was free
 but_keeps : (old new cur : Directory) (title bytes : List ℕ) → (Contains (names_of (files_at old.entries)) title → ⊥) → LeavesBut old title bytes new
     → KeepsMail (StaysInEither old cur) (FileStands old) (StaysInEither new cur) (FileStands new)
@@ -258,7 +247,7 @@ but_keeps old new cur title bytes free leaves = (
 )
   where
     nowhere : find title old.entries ≡ None
-    nowhere = none_found title old.entries (λ c. free (subst (λ (names : List (List ℕ)). Contains names title) (sym (names_of-files_at old.entries)) c))
+    nowhere = none_of title old.entries (λ c. free (subst (λ (names : List (List ℕ)). Contains names title) (sym (names_of-files_at old.entries)) c))
 
     was_free : (name : List ℕ) → name ≡ title → MayBe old name None
     was_free name same = inl (subst (λ (o : Option Blob). IsLeftOf o None) (sym (ap (λ (n : List ℕ). find n old.entries) same ∙ nowhere)) tt)

@@ -1,8 +1,8 @@
 -- The files that a folder in memory keeps, as entries.
-use Rattle.std.proofs.Common.{◌≡◌, ℕ, zero, suc, ◌<◌, length, get_or, slice_set, refl, List, [], ◌∷◌, ◌++◌, cond, sym, ap, subst, ◌∙◌, arith, Bool, true, false, Option, Some, None, Result, Ok, Err, inl, inr, String, Global, string_bytes}
+use Rattle.std.proofs.Common.{◌≡◌, ℕ, zero, suc, ◌<◌, length, get_or, slice_set, refl, List, [], ◌∷◌, ◌++◌, cond, sym, ap, subst, ◌∙◌, arith, Bool, false, Option, Some, None, Result, Ok, Err, inl, inr, String, Global, string_bytes}
 use Rattle.std.specs.Prelude.{HoldsAt, bytes_eq, ◌⊎◌, ◌≢◌, Contains, ◌↔◌, IsTrue, is_some, OnOk, OnErr, option_map}
 use Rattle.std.proofs.lemmas.Slice.Eq.{bytes_eq-Decides}
-use Rattle.std.proofs.lemmas.Bool.{both_ways, false_from_ne_true, true≢false}
+use Rattle.std.proofs.lemmas.Bool.{both_ways, cases_Bool, false_from_ne_true}
 use Rattle.std.proofs.lemmas.List.{map-append, get_or_default}
 use Rattle.std.proofs.lemmas.List.Quantifiers.{all_pairs_push}
 use Rattle.mail_terms.specs.Distinct.{AreDistinct}
@@ -10,30 +10,23 @@ use Rattle.folder_store.specs.declared.memory.Kept.{Kept}
 use Rattle.mail_store.specs.declared.fault.StoreFault.{StoreFault}
 use Rattle.folder_store.specs.FileFolder.{Blob, Directory, Entry, entry, names_in, find, placed, appended, cut, flushed, changed, AppendsTo, CutsTo, FlushesFile}
 use Rattle.folder_store.specs.MemoryFolder.{blob_of, entry_of, entries_of}
-use Rattle.folder_store.proofs.Files.{some_is_not_none}
+use Rattle.folder_store.proofs.Files.{find_here, find_later, not_ahead, placed_new, some_is_not_none}
 use Rattle.folder_store.proofs.PowerLoss.{found}
 
 abbrev pub Pair : Type 0
 Pair = String Global × Kept
 
-not_ahead : (name first : List ℕ) (names : List (List ℕ)) → (Contains names name → ⊥) → bytes_eq name first ≡ false → (k : ℕ) → k < length (first ∷ names)
-    → get_or (first ∷ names) k name ≡ name → ⊥
-not_ahead name first names free apart zero inside is = true≢false (sym ((bytes_eq-Decides name first).1 (sym is)) ∙ apart)
-not_ahead name first names free apart (suc k) inside is = free (k, omega (arith, inside), is)
-
 -- the names once a file has one: the same, or one more that wasn't there
 names_placed : (name : List ℕ) (b : Blob) (es : List Entry)
     → (names_in (placed name b es) ≡ names_in es) ⊎ ((names_in (placed name b es) ≡ names_in es ++ name ∷ []) × (Contains (names_in es) name → ⊥))
 names_placed name b [] = inr (refl, λ c. absurd (omega (arith, c.1)))
-names_placed name b (e ∷ es) = by (names_placed name b es) (bytes_eq name e.name) refl
-  where
-    by : (names_in (placed name b es) ≡ names_in es) ⊎ ((names_in (placed name b es) ≡ names_in es ++ name ∷ []) × (Contains (names_in es) name → ⊥))
-        → (v : Bool) → bytes_eq name e.name ≡ v
-        → (names_in (cond v (entry name b ∷ es) (e ∷ placed name b es)) ≡ e.name ∷ names_in es)
-        ⊎ ((names_in (cond v (entry name b ∷ es) (e ∷ placed name b es)) ≡ e.name ∷ (names_in es ++ name ∷ [])) × (Contains (e.name ∷ names_in es) name → ⊥))
-    by later true same = inl (ap (λ (n : List ℕ). n ∷ names_in es) ((bytes_eq-Decides name e.name).0 same))
-    by (inl is) false apart = inl (ap (λ (ns : List (List ℕ)). e.name ∷ ns) is)
-    by (inr (is, free)) false apart = inr (ap (λ (ns : List (List ℕ)). e.name ∷ ns) is, λ c. not_ahead name e.name (names_in es) free apart c.0 c.1 c.2)
+names_placed name b (e ∷ es) = elim (cases_Bool (bytes_eq name e.name)) [
+  | inl same ↦ rw same (inl (ap (λ (n : List ℕ). n ∷ names_in es) ((bytes_eq-Decides name e.name).0 same)))
+  | inr apart ↦ rw apart (elim (names_placed name b es) [
+    | inl is ↦ inl (ap (λ (ns : List (List ℕ)). e.name ∷ ns) is)
+    | inr more ↦ inr (ap (λ (ns : List (List ℕ)). e.name ∷ ns) more.0, λ c. not_ahead name e.name (names_in es) more.1 apart c.0 c.1 c.2)
+  ])
+]
 
 placed_distinct : (name : List ℕ) (b : Blob) (es : List Entry) → AreDistinct (names_in es) → AreDistinct (names_in (placed name b es))
 placed_distinct name b es h = elim (names_placed name b es) [
@@ -50,7 +43,7 @@ pub not_found : (files : List Pair) (name : List ℕ) → ((k : ℕ) (d : Pair) 
     → find name (entries_of files) ≡ None
 not_found [] name none = refl
 not_found (p ∷ files) name none =
-    ap (λ (v : Bool). cond v (Some (blob_of p.1)) (find name (entries_of files))) (apart_of name (string_bytes p.0) (none 0 p (omega arith)))
+    find_later name (entry_of p) (entries_of files) (apart_of name (string_bytes p.0) (none 0 p (omega arith)))
     ∙ not_found files name (λ k d below. none (suc k) d (omega (arith, below)))
 
 pub found_at : (files : List Pair) (name : List ℕ) (i : ℕ) → i < length files → HoldsAt (λ (f : Pair). string_bytes f.0 ≡ name) files i
@@ -58,9 +51,9 @@ pub found_at : (files : List Pair) (name : List ℕ) (i : ℕ) → i < length fi
     → find name (entries_of files) ≡ Some (blob_of (get_or files i x).1)
 found_at [] name i below at first x = absurd (omega (arith, below))
 found_at (p ∷ files) name zero below at first x =
-    ap (λ (v : Bool). cond v (Some (blob_of p.1)) (find name (entries_of files))) ((bytes_eq-Decides name (string_bytes p.0)).1 (sym (at p)))
+    find_here name (entry_of p) (entries_of files) ((bytes_eq-Decides name (string_bytes p.0)).1 (sym (at p)))
 found_at (p ∷ files) name (suc i) below at first x =
-    ap (λ (v : Bool). cond v (Some (blob_of p.1)) (find name (entries_of files))) (apart_of name (string_bytes p.0) (first 0 p (omega arith)))
+    find_later name (entry_of p) (entries_of files) (apart_of name (string_bytes p.0) (first 0 p (omega arith)))
     ∙ found_at files name i (omega (arith, below)) at (λ k d before. first (suc k) d (omega (arith, before))) x
 
 pub set_placed : (files : List Pair) (name : List ℕ) (i : ℕ) → i < length files → HoldsAt (λ (f : Pair). string_bytes f.0 ≡ name) files i
@@ -75,15 +68,6 @@ set_placed (p ∷ files) name (suc i) below at first q named =
     ap (λ (es : List Entry). entry_of p ∷ es) (set_placed files name i (omega (arith, below)) at (λ k d before. first (suc k) d (omega (arith, before))) q named)
     ∙ ap (λ (v : Bool). cond v (entry name (blob_of q.1) ∷ entries_of files) (entry_of p ∷ placed name (blob_of q.1) (entries_of files)))
     (sym (apart_of name (string_bytes p.0) (first 0 p (omega arith))))
-
-placed_new : (name : List ℕ) (b : Blob) (es : List Entry) → find name es ≡ None → placed name b es ≡ es ++ entry name b ∷ []
-placed_new name b [] none = refl
-placed_new name b (e ∷ es) none = by (placed_new name b es) (bytes_eq name e.name) refl
-  where
-    by : (find name es ≡ None → placed name b es ≡ es ++ entry name b ∷ []) → (v : Bool) → bytes_eq name e.name ≡ v
-        → cond v (entry name b ∷ es) (e ∷ placed name b es) ≡ e ∷ (es ++ entry name b ∷ [])
-    by later true same = absurd (some_is_not_none e.blob (find name (e ∷ es)) none (ap (λ (v : Bool). cond v (Some e.blob) (find name es)) same))
-    by later false apart = ap (λ (xs : List Entry). e ∷ xs) (later (sym (ap (λ (v : Bool). cond v (Some e.blob) (find name es)) apart) ∙ none))
 
 pub push_placed : (files : List Pair) (q : Pair) → find (string_bytes q.0) (entries_of files) ≡ None
     → entries_of (files ++ q ∷ []) ≡ placed (string_bytes q.0) (blob_of q.1) (entries_of files)
@@ -100,12 +84,10 @@ place_distinct (Err e) old new name b ok err h = subst (λ (fs : List Pair). Are
 -- whether a name leads to a file
 found_name : (name : List ℕ) (es : List Entry) (b : Blob) → find name es ≡ Some b → Contains (names_in es) name
 found_name name [] b is = absurd (some_is_not_none b None refl is)
-found_name name (e ∷ es) b is = by (found_name name es b) (bytes_eq name e.name) refl
-  where
-    by : (find name es ≡ Some b → Contains (names_in es) name) → (v : Bool) → bytes_eq name e.name ≡ v → Contains (names_in (e ∷ es)) name
-    by later true same = (0, omega arith, sym ((bytes_eq-Decides name e.name).0 same))
-    by later false apart =
-        let rest = later (sym (ap (λ (v : Bool). cond v (Some e.blob) (find name es)) apart) ∙ is) in (suc rest.0, omega (arith, rest.1), rest.2)
+found_name name (e ∷ es) b is = elim (cases_Bool (bytes_eq name e.name)) [
+  | inl same ↦ (0, omega arith, sym ((bytes_eq-Decides name e.name).0 same))
+  | inr apart ↦ let rest = found_name name es b (sym (find_later name e es apart) ∙ is) in (suc rest.0, omega (arith, rest.1), rest.2)
+]
 
 pub has_iff : {A : Type 0} (f : A → Blob) (o : Option A) (b : Bool) (name : List ℕ) (es : List Entry) → b ≡ is_some o → option_map f o ≡ find name es
     → IsTrue b ↔ Contains (names_in es) name

@@ -1,21 +1,26 @@
 -- What is left of a folder in memory after a loss of power.
-use Rattle.std.proofs.Common.{◌≡◌, ℕ, zero, suc, ◌+◌, ◌≤◌, ◌<◌, length, get_or, refl, List, [], ◌∷◌, ◌++◌, take, drop, map, cond, sym, ap, subst, ◌∙◌, arith, Bool, true, false, Option, Some, None, Result, Ok, Err, inl, inr, String, Global, Vec, string_bytes, append_assoc, length-append, ◌-◌, slice_index}
+use Rattle.std.proofs.Common.{◌≡◌, ℕ, zero, suc, ◌+◌, ◌≤◌, ◌<◌, length, get_or, refl, List, [], ◌∷◌, ◌++◌, take, drop, map, sym, ap, subst, ◌∙◌, arith, true, false, Option, Some, None, Result, Ok, Err, inl, inr, String, Global, Vec, string_bytes, append_assoc, length-append, ◌-◌, slice_index}
 use Rattle.std.specs.Prelude.{◌⊎◌, ◌≢◌, Contains, HoldsAt, IfOk, bytes_eq, option_map}
-use Rattle.std.proofs.lemmas.List.{append-nil, get_or-take, length-take-le, take-append-drop, take_all, map-append, length-take, get_or_append_left, get_or-append_right, take-take}
+use Rattle.std.proofs.lemmas.List.{append-nil, get_or-take, length-take-le, take-append-drop, take_all, map-append, length-take, get_or_append_left, get_or-append_right}
 use Rattle.std.proofs.Math.Seq.{take-suc}
 use Rattle.std.proofs.lemmas.List.Elements.{Contains-get_or}
 use Rattle.std.proofs.lemmas.List.Kept.{AllPairs-cons}
 use Rattle.std.proofs.lemmas.Slice.Eq.{bytes_eq-Decides}
-use Rattle.std.proofs.lemmas.Bool.{cases_lt}
+use Rattle.std.proofs.lemmas.Bool.{cases_Bool, cases_lt}
 use Rattle.mail_terms.specs.Distinct.{AreDistinct}
 use Rattle.folder_store.specs.declared.memory.Kept.{Kept}
 use Rattle.folder_store.specs.FileFolder.{Blob, Directory, Entry, Older, entry, names_in, find, secured, content_in}
 use Rattle.folder_store.specs.PowerLoss.{IsTorn, IsLeft, IsLeftOf, WasOnce, MayBe, Loses, IsFlushed}
 use Rattle.folder_store.specs.MemoryFolder.{blob_of, entry_of, entries_of, older_of, kept_of, IsZeroed, MayBeOf, Survive}
 use Rattle.folder_store.proofs.MemoryFiles.{Pair}
-use Rattle.folder_store.proofs.Files.{some_is_not_none}
+use Rattle.folder_store.proofs.Files.{find_here, find_later, none_of, some_is_not_none}
 use Rattle.folder_store.proofs.PowerLoss.{found}
-use Rattle.folder_store.proofs.Lasting.{none_found}
+
+take_less : (m n : ℕ) (xs : List ℕ) → m ≤ n → take m (take n xs) ≡ take m xs
+take_less zero n xs le = refl
+take_less (suc m) zero xs le = absurd (omega (arith, le))
+take_less (suc m) (suc n) [] le = refl
+take_less (suc m) (suc n) (x ∷ xs) le = ap (λ (ys : List ℕ). x ∷ ys) (take_less m n xs (omega (arith, le)))
 
 -- the first bytes of a file, with all that was flushed and not cut off since
 pub front_left : (b : Blob) (n : ℕ) → b.uncut ≤ n → IsLeft b (take n b.content)
@@ -30,7 +35,7 @@ front_left b n enough = elim (cases_lt n (length b.content)) [
           behind = drop b.uncut (take n b.content);
           kept =
               sym (take-append-drop b.uncut (take n b.content))
-              ∙ ap (λ (xs : List ℕ). xs ++ drop b.uncut (take n b.content)) (take-take b.uncut n b.content enough);
+              ∙ ap (λ (xs : List ℕ). xs ++ drop b.uncut (take n b.content)) (take_less b.uncut n b.content enough);
           most = inl (omega (arith, size, below));
           each = λ i from inside. inl (omega (arith, inside, size, below), get_or-take n b.content i 0 (omega (arith, inside, size)));
         }
@@ -57,7 +62,7 @@ zeroed_left b n left enough (zeros, is, all, le) = subst (λ (xs : List ℕ). Is
   behind = drop b.uncut (take n b.content) ++ zeros;
   kept =
       ap (λ (xs : List ℕ). xs ++ zeros) (sym (take-append-drop b.uncut (take n b.content))
-      ∙ ap (λ (xs : List ℕ). xs ++ drop b.uncut (take n b.content)) (take-take b.uncut n b.content enough))
+      ∙ ap (λ (xs : List ℕ). xs ++ drop b.uncut (take n b.content)) (take_less b.uncut n b.content enough))
       ∙ append_assoc (take b.uncut b.content) (drop b.uncut (take n b.content)) zeros;
   most = inl short;
   each = λ i from inside. elim (cases_lt i (length (take n b.content))) [
@@ -145,17 +150,15 @@ entries_pushed files title kept name bytes t k =
 -- a name that led to no file leads to none
 survives_none : (older : List Older) (es left : List Entry) (name : List ℕ) → Survive older es left → find name es ≡ None → find name left ≡ None
 survives_none older [] left name is none = ap (find name) is
-survives_none older (e ∷ es) left name h none = by (λ l s. survives_none older es l name s) h (bytes_eq name e.name) refl
-  where
-    by : ((l : List Entry) → Survive older es l → find name es ≡ None → find name l ≡ None) → (MayBeOf older e None × Survive older es left)
-        ⊎ ((bytes : List ℕ) × (rest : List Entry) × (left ≡ entry e.name (secured bytes) ∷ rest) × MayBeOf older e (Some bytes) × Survive older es rest)
-        → (v : Bool) → bytes_eq name e.name ≡ v → find name left ≡ None
-    by later h true same = absurd (some_is_not_none e.blob (find name (e ∷ es)) none (ap (λ (v : Bool). cond v (Some e.blob) (find name es)) same))
-    by later (inl (gone, rest)) false apart =
-        later left rest (sym (ap (λ (v : Bool). cond v (Some e.blob) (find name es)) apart) ∙ none)
-    by later (inr (bytes, rest, is, kept, more)) false apart =
-        ap (find name) is ∙ ap (λ (v : Bool). cond v (Some (secured bytes)) (find name rest)) apart
-        ∙ later rest more (sym (ap (λ (v : Bool). cond v (Some e.blob) (find name es)) apart) ∙ none)
+survives_none older (e ∷ es) left name h none = elim (cases_Bool (bytes_eq name e.name)) [
+  | inl same ↦ absurd (some_is_not_none e.blob (find name (e ∷ es)) none (find_here name e es same))
+  | inr apart ↦
+      let later : find name es ≡ None = sym (find_later name e es apart) ∙ none in
+      elim h [
+        | inl gone ↦ survives_none older es left name gone.1 later
+        | inr k ↦ ap (find name) k.2 ∙ find_later name (entry e.name (secured k.0)) k.1 apart ∙ survives_none older es k.1 name k.4 later
+      ]
+]
 
 secured_of : List ℕ → Blob
 secured_of bytes = secured bytes
@@ -178,41 +181,34 @@ distinct_cons x xs absent distinct =
 survives_find : (older : List Older) (es left : List Entry) (name : List ℕ) → AreDistinct (names_in es) → Survive older es left → Stays older es left name
 unfolding secured_of
 survives_find older [] left name distinct is = (None, ap (find name) is, inl tt)
-survives_find older (e ∷ es) left name distinct h =
-    by (λ l s. survives_find older es l name (distinct_tail e.name (names_in es) distinct) s) h (bytes_eq name e.name) refl
+survives_find older (e ∷ es) left name distinct h = elim (cases_Bool (bytes_eq name e.name)) [
+  | inl same ↦
+      let titled : e.name ≡ name = sym ((bytes_eq-Decides name e.name).0 same) in
+      let one : Contains (names_in es) name → ⊥ = λ c.
+      distinct_head e.name (names_in es) distinct (subst (λ (n : List ℕ). Contains (names_in es) n) (sym titled) c) in
+      elim h [
+        | inl gone ↦ (None, survives_none older es left name gone.1 (none_of name es one), here None titled same gone.0)
+        | inr k ↦ (Some k.0, ap (find name) k.2 ∙ find_here name (entry e.name (secured k.0)) k.1 same, here (Some k.0) titled same k.3)
+      ]
+  | inr apart ↦ elim h [
+    | inl gone ↦
+        let later = survives_find older es left name (distinct_tail e.name (names_in es) distinct) gone.1 in
+        (later.0, later.1, other later.0 apart later.2)
+    | inr k ↦
+        let later = survives_find older es k.1 name (distinct_tail e.name (names_in es) distinct) k.4 in
+        (later.0, ap (find name) k.2 ∙ find_later name (entry e.name (secured k.0)) k.1 apart ∙ later.1, other later.0 apart later.2)
+  ]
+]
   where
-    named : (text : Option (List ℕ)) → e.name ≡ name → bytes_eq name e.name ≡ true → MayBeOf older e text
+    here : (text : Option (List ℕ)) → e.name ≡ name → bytes_eq name e.name ≡ true → MayBeOf older e text
         → IsLeftOf (find name (e ∷ es)) text ⊎ WasOnce older name text
-    named text titled same (inl now) =
-        inl (subst (λ (o : Option Blob). IsLeftOf o text) (sym (ap (λ (v : Bool). cond v (Some e.blob) (find name es)) same)) now)
-    named text titled same (inr was) = inr (subst (λ (n : List ℕ). WasOnce older n text) titled was)
+    here text titled same (inl now) = inl (subst (λ (o : Option Blob). IsLeftOf o text) (sym (find_here name e es same)) now)
+    here text titled same (inr was) = inr (subst (λ (n : List ℕ). WasOnce older n text) titled was)
 
     other : (text : Option (List ℕ)) → bytes_eq name e.name ≡ false → IsLeftOf (find name es) text ⊎ WasOnce older name text
         → IsLeftOf (find name (e ∷ es)) text ⊎ WasOnce older name text
-    other text apart (inl now) =
-        inl (subst (λ (o : Option Blob). IsLeftOf o text) (sym (ap (λ (v : Bool). cond v (Some e.blob) (find name es)) apart)) now)
+    other text apart (inl now) = inl (subst (λ (o : Option Blob). IsLeftOf o text) (sym (find_later name e es apart)) now)
     other text apart (inr was) = inr was
-
-    by : ((l : List Entry) → Survive older es l → Stays older es l name) → (MayBeOf older e None × Survive older es left)
-        ⊎ ((bytes : List ℕ) × (rest : List Entry) × (left ≡ entry e.name (secured bytes) ∷ rest) × MayBeOf older e (Some bytes) × Survive older es rest)
-        → (v : Bool) → bytes_eq name e.name ≡ v → Stays older (e ∷ es) left name
-    by go (inl (may, rest)) true same =
-        let titled : e.name ≡ name = sym ((bytes_eq-Decides name e.name).0 same) in
-        let gone : find name es ≡ None =
-        none_found name es (λ c. distinct_head e.name (names_in es) distinct (subst (λ (n : List ℕ). Contains (names_in es) n) (sym titled) c)) in
-        (None, survives_none older es left name rest gone, named None titled same may)
-    by go (inr (bytes, rest, is, may, more)) true same =
-        let titled : e.name ≡ name = sym ((bytes_eq-Decides name e.name).0 same) in
-        (Some bytes, ap (find name) is ∙ ap (λ (v : Bool). cond v (Some (secured bytes)) (find name rest)) same, named (Some bytes) titled same may)
-    by go (inl (may, rest)) false apart =
-        let later = go left rest in
-        (later.0, later.1, other later.0 apart later.2)
-    by go (inr (bytes, rest, is, may, more)) false apart =
-        let later = go rest more in (
-          later.0,
-          ap (find name) is ∙ ap (λ (v : Bool). cond v (Some (secured bytes)) (find name rest)) apart ∙ later.1,
-          other later.0 apart later.2,
-        )
 
 -- no name is there that wasn't
 survives_names : (older : List Older) (es left : List Entry) → Survive older es left → AreDistinct (names_in es) → AreDistinct (names_in left)
@@ -220,7 +216,7 @@ survives_names older [] left is distinct = subst (λ (xs : List Entry). AreDisti
 survives_names older (e ∷ es) left (inl (gone, rest)) distinct = survives_names older es left rest (distinct_tail e.name (names_in es) distinct)
 survives_names older (e ∷ es) left (inr (bytes, rest, is, may, more)) distinct =
     let gone : find e.name rest ≡ None =
-    survives_none older es rest e.name more (none_found e.name es (distinct_head e.name (names_in es) distinct)) in
+    survives_none older es rest e.name more (none_of e.name es (distinct_head e.name (names_in es) distinct)) in
     subst (λ (xs : List Entry). AreDistinct (names_in xs)) (sym is)
     (distinct_cons e.name (names_in rest) (found e.name rest gone) (survives_names older es rest more (distinct_tail e.name (names_in es) distinct)))
 

@@ -1,11 +1,11 @@
 -- What a loss of power leaves of a folder after each call.
-use Rattle.std.proofs.Common.{◌≡◌, ℕ, zero, suc, ◌≤◌, ◌<◌, length, get_or, refl, List, [], ◌∷◌, ◌++◌, take, min, cond, Bool, true, false, map, Vec, String, string_bytes, sym, ap, subst, ◌∙◌, arith, Option, Some, None, Result, Ok, Err, inl, inr, length-append, append_assoc, slice_index}
+use Rattle.std.proofs.Common.{◌≡◌, ℕ, ◌≤◌, ◌<◌, length, refl, List, [], ◌∷◌, ◌++◌, take, min, cond, Bool, true, false, map, Vec, String, string_bytes, sym, ap, subst, ◌∙◌, arith, Option, Some, None, Result, Ok, Err, inl, inr, length-append, append_assoc, slice_index}
 use Rattle.std.specs.Prelude.{◌⊎◌, option_map, bytes_eq, Contains, OnOk, is_err}
 use Rattle.std.proofs.lemmas.List.{append-nil, length-take, get_or-take, get_or_append_left}
 use Rattle.std.proofs.lemmas.Grind.{same_number_lists}
 use Rattle.std.proofs.Math.Seq.{take-append_seam, take-length}
 use Rattle.std.proofs.lemmas.Slice.Eq.{bytes_eq-Decides}
-use Rattle.std.proofs.lemmas.Bool.{true≢false, cases_lt}
+use Rattle.std.proofs.lemmas.Bool.{true≢false, cases_Bool, cases_lt}
 use Rattle.std.proofs.lemmas.List.Sorted.{Contains-permutation, IsPermutation-sym}
 use Rattle.mail_store.specs.declared.fault.StoreFault.{StoreFault}
 use Rattle.mail_store.specs.declared.fault.StoreFault.TheVariants.{Missing, Refused, NotMbox, NoMemory}
@@ -13,7 +13,7 @@ use Rattle.folder_store.specs.FileFolder.{Directory, Entry, Blob, Older, entry, 
 use Rattle.folder_store.specs.HostFile.{Holds, MayBeFlushed, IsSoFar, IsPartAppended, AppendsFlushed, CutsFlushed, ReplacesFlushed}
 use Rattle.folder_store.specs.FolderMaildir.{PutsFlushed, Tells}
 use Rattle.folder_store.specs.PowerLoss.{IsZeroFrom, IsTorn, IsLeft, IsLeftOf, WasOnce, MayBe, IsFlushed, IsSure, IsOnDisk, Stands, DiskStands, DiskIsKnown, OutlivesPower, NamesOutlivePower, PowerCanBeLost, MakingLeaves, IsTornBehind, LeavesBehind, LeavesBut, AppendsForGood, CutsForGood, ReplacesForGood, SettlesForGood, TellsWhatStays}
-use Rattle.folder_store.proofs.Files.{some_is_not_none, content_is, find_placed, holds_changed}
+use Rattle.folder_store.proofs.Files.{some_is_not_none, content_is, find_here, find_later, find_placed, holds_changed, not_ahead}
 
 -- ---- what is left of a file
 
@@ -316,12 +316,7 @@ replaces_for_good old new name bytes r t = record {
 
 -- a file of which no flush was refused is on the disk once it is flushed
 pub flushed_sure : (b : Blob) → b.is_doubted ≡ false → flushed b ≡ secured b.content
-flushed_sure b sure = by b.content b.flushed b.uncut b.is_doubted sure
-  where
-    by : (content flush : List ℕ) (n : ℕ) (d : Bool) → d ≡ false
-        → flushed (record { content = content; flushed = flush; uncut = n; is_doubted = d }) ≡ secured content
-    by content flush n true e = absurd (true≢false e)
-    by content flush n false e = refl
+flushed_sure b sure = rw sure refl
 
 -- once the file and then the names are flushed
 pub both_on_disk : (old mid new : Directory) (name : List ℕ) (r : Result (Unit {0}) StoreFault) → IsSure (find name old.entries)
@@ -350,28 +345,21 @@ disk_is_known is_flushed d name is = record { sure = flushed_is_sure (find name 
 
 -- another name leads to what it led to
 find_other : (name title : List ℕ) (b : Blob) (es : List Entry) → bytes_eq name title ≡ false → find name (placed title b es) ≡ find name es
-find_other name title b [] apart = ap (λ (v : Bool). cond v (Some b) None) apart
-find_other name title b (e ∷ es) apart = by (find_other name title b es apart) (bytes_eq title e.name) (bytes_eq-Decides title e.name).0
-  where
-    by : find name (placed title b es) ≡ find name es → (v : Bool) → (v ≡ true → title ≡ e.name)
-        → find name (cond v (entry title b ∷ es) (e ∷ placed title b es)) ≡ find name (e ∷ es)
-    by later true same =
-        ap (λ (v : Bool). cond v (Some b) (find name es)) apart
-        ∙ sym (ap (λ (v : Bool). cond v (Some e.blob) (find name es)) (ap (bytes_eq name) (sym (same refl)) ∙ apart))
-    by later false same = ap (λ (o : Option Blob). cond (bytes_eq name e.name) (Some e.blob) o) later
+find_other name title b [] apart = find_later name (entry title b) [] apart
+find_other name title b (e ∷ es) apart = elim (cases_Bool (bytes_eq title e.name)) [
+  | inl same ↦
+      let other : bytes_eq name e.name ≡ false = ap (bytes_eq name) (sym ((bytes_eq-Decides title e.name).0 same)) ∙ apart in
+      rw same (find_later name (entry title b) es apart ∙ sym (find_later name e es other))
+  | inr other ↦ rw other (ap (λ (o : Option Blob). cond (bytes_eq name e.name) (Some e.blob) o) (find_other name title b es apart))
+]
 
 -- a name that is there leads to a file
 pub found : (name : List ℕ) (es : List Entry) → find name es ≡ None → Contains (names_in es) name → ⊥
 found name [] none c = absurd (omega (arith, c.1))
-found name (e ∷ es) none (k, inside, is) =
-    by (found name es) (bytes_eq name e.name) refl k inside is
-  where
-    by : (find name es ≡ None → Contains (names_in es) name → ⊥) → (v : Bool) → bytes_eq name e.name ≡ v
-        → (k : ℕ) → k < length (names_in (e ∷ es)) → get_or (names_in (e ∷ es)) k name ≡ name → ⊥
-    by later true same k inside is = some_is_not_none e.blob (find name (e ∷ es)) none (ap (λ (v : Bool). cond v (Some e.blob) (find name es)) same)
-    by later false same zero inside is = true≢false (sym ((bytes_eq-Decides name e.name).1 (sym is)) ∙ same)
-    by later false same (suc k) inside is =
-        later (sym (ap (λ (v : Bool). cond v (Some e.blob) (find name es)) same) ∙ none) (k, omega (arith, inside), is)
+found name (e ∷ es) none c = elim (cases_Bool (bytes_eq name e.name)) [
+  | inl same ↦ some_is_not_none e.blob (find name (e ∷ es)) none (find_here name e es same)
+  | inr apart ↦ not_ahead name e.name (names_in es) (found name es (sym (find_later name e es apart) ∙ none)) apart c.0 c.1 c.2
+]
 
 -- a file on the disk came under a name
 put_leaves : (old : Directory) (bytes title : List ℕ) → LeavesBut old title bytes (put_in old (secured bytes) title)
@@ -485,12 +473,10 @@ secured_blob b = secured b.content
 find_secured : (name : List ℕ) (es : List Entry) → find name (map secured_entry es) ≡ option_map secured_blob (find name es)
 unfolding secured_entry secured_blob
 find_secured name [] = refl
-find_secured name (e ∷ es) = by (find_secured name es) (bytes_eq name e.name)
-  where
-    by : find name (map secured_entry es) ≡ option_map secured_blob (find name es) → (v : Bool)
-        → cond v (Some (secured e.blob.content)) (find name (map secured_entry es)) ≡ option_map secured_blob (cond v (Some e.blob) (find name es))
-    by later true = refl
-    by later false = later
+find_secured name (e ∷ es) = elim (cases_Bool (bytes_eq name e.name)) [
+  | inl same ↦ rw same refl
+  | inr apart ↦ rw apart (find_secured name es)
+]
 
 may_arrive : (o : Option Blob) → IsLeftOf o (option_map content_in (option_map secured_blob o))
 unfolding secured_blob

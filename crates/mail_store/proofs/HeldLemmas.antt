@@ -1,42 +1,46 @@
 -- What a set of stems says of the files whose names it came from.
-use Rattle.std.proofs.Common.{◌≡◌, ℕ, ◌+◌, ◌<◌, Bool, true, false, cond, List, [], ◌∷◌, ◌++◌, length, take, get_or, map, refl, sym, ap, ◌∙◌, arith, subst, Ok, Vec, String, string_bytes}
+use Rattle.std.proofs.Common.{◌≡◌, ℕ, ◌+◌, ◌<◌, Bool, true, false, cond, List, [], ◌∷◌, ◌++◌, length, take, get_or, map, refl, sym, ap, ◌∙◌, arith, inl, inr, subst, Ok, Vec, String, string_bytes}
 use Rattle.std.specs.Prelude.{◌||◌, ◌&&◌, bytes_eq, Contains, IsPermutation, HoldsAt}
 use Rattle.std.specs.List.{list_any}
-use Rattle.std.proofs.Math.Bool.{or_assoc, or-true, or-false, or_comm, and_comm, or_self}
+use Rattle.std.proofs.lemmas.Cmp.{nat_list_eq_equiv}
+use Rattle.std.proofs.lemmas.Bool.Decides.{same_from_decides}
+use Rattle.std.proofs.Math.Bool.{and_comm, and-false, or_assoc, or_comm, or-false, or-true}
 use Rattle.std.proofs.lemmas.List.{append_cancel_left, take_more, map-append, length-map, get_or-map}
 use Rattle.std.proofs.lemmas.List.Folds.{list_any-append, list_any_at}
 use Rattle.std.proofs.lemmas.List.Sorted.{Contains-permutation, list_any-IsPermutation}
 use Rattle.std.proofs.lemmas.Slice.Eq.{bytes_eq-Decides}
-use Rattle.std.proofs.lemmas.Bool.Decides.{same_from_decides, Decides-like}
-use Rattle.std.proofs.lemmas.Cmp.{nat_list_eq_equiv}
 use Rattle.mail_terms.specs.Listing.{Item, has_item, is_flagged}
 use Rattle.mail_terms.specs.UniqueId.{IsLegalId}
 use Rattle.mail_store.specs.declared.maildir.disk.Folder.TheVariants.{New, Cur}
 use Rattle.mail_store.specs.Maildir.{Maildir, File, Lists, file, name_in, names_of, IsInNew, with_file}
 use Rattle.mail_store.specs.FileName.{mail_file, name_of, stem, stem_of, names_id, is_held, IsAccountText}
 use Rattle.hex.specs.Hex.{encode_lower}
-use Rattle.mail_store.proofs.NameLemmas.{HaveRanges, stem-name_of, stem_of-injective, tail_of}
-use Rattle.mail_store.specs.Held.{flags_of}
+use Rattle.mail_store.proofs.NameLemmas.{HaveRanges, stem-name_of, stem_of-injective}
+use Rattle.mail_store.specs.Held.{any_name, flags_of}
 use Rattle.mail_store.specs.Power.{AllStay}
 
 -- ---- one more name
 
+-- texts made of two others are equal exactly if those are
+bytes_eq-made : (make : List ℕ → List ℕ) (a b : List ℕ) → (make a ≡ make b → a ≡ b) → bytes_eq (make a) (make b) ≡ bytes_eq a b
+bytes_eq-made make a b back =
+    same_from_decides (bytes_eq (make a) (make b)) (bytes_eq a b) (bytes_eq-Decides (make a) (make b))
+    (λ is. ap make ((bytes_eq-Decides a b).0 is), λ same. (bytes_eq-Decides a b).1 (back same))
+
+same_digits : (account a b : List ℕ) → bytes_eq (account ++ 46 ∷ a) (account ++ 46 ∷ b) ≡ bytes_eq a b
+same_digits account a b = bytes_eq-made (λ (xs : List ℕ). account ++ 46 ∷ xs) a b (λ same.
+    let digits : 46 ∷ a ≡ 46 ∷ b = append_cancel_left account (46 ∷ a) (46 ∷ b) same in cc)
+
 cond_or : (e old : Bool) → cond e true old ≡ (old || e)
 cond_or true old = sym (or-true old)
 cond_or false old = sym (or-false old)
-
-same_digits : (account a b : List ℕ) → bytes_eq (account ++ 46 ∷ a) (account ++ 46 ∷ b) ≡ bytes_eq b a
-same_digits account a b =
-    same_from_decides _ _ (bytes_eq-Decides (account ++ 46 ∷ a) (account ++ 46 ∷ b)) (Decides-like (bytes_eq b a)
-    (λ same. ap (λ (xs : List ℕ). account ++ 46 ∷ xs) (sym same))
-    (λ same. sym (ap tail_of (append_cancel_left account (46 ∷ a) (46 ∷ b) same))) (bytes_eq-Decides b a))
 
 -- the digits in a name's stem were put into the set
 pub name_added : (account text digits q : List ℕ) (new old : Bool) → text ≡ account ++ 46 ∷ digits → new ≡ cond (bytes_eq digits q) true old
     → new ≡ (old || bytes_eq (account ++ 46 ∷ q) text)
 name_added account text digits q new old is added =
     added ∙ cond_or (bytes_eq digits q) old
-    ∙ ap (λ b. old || b) (sym (same_digits account q digits) ∙ ap (bytes_eq (account ++ 46 ∷ q)) (sym is))
+    ∙ ap (λ b. old || b) (nat_list_eq_equiv.symm digits q ∙ sym (same_digits account q digits) ∙ ap (bytes_eq (account ++ 46 ∷ q)) (sym is))
 
 -- the names in front are one more
 pub one_more : (new old first last more test : Bool) → new ≡ (old || test) → old ≡ (first || last) → more ≡ (last || test) → new ≡ (first || more)
@@ -75,24 +79,20 @@ names_tell test files names p =
     sym (any_map test string_bytes names) ∙ sym (list_any-IsPermutation test (names_of files) (map string_bytes names) p)
     ∙ any_map test name_in files
 
--- a set of the digits in the stems of the names of both folders tells which items are held
-pub flags_found : {Z : Type 0} (account : List ℕ) (maildir : Maildir) (items : List Item) (flags : List Bool) (none some all : List ℕ → Bool)
-    (new cur : List (String Z)) → ((q : List ℕ) → none q ≡ false)
-    → ((q : List ℕ) → some q ≡ (none q || list_any (λ name. bytes_eq (account ++ 46 ∷ q) (stem (string_bytes name))) new))
-    → ((q : List ℕ) → all q ≡ (some q || list_any (λ name. bytes_eq (account ++ 46 ∷ q) (stem (string_bytes name))) cur))
+-- the digits in the stems of the names of both folders tell which items are held
+pub flags_found : {Z : Type 0} (account : List ℕ) (maildir : Maildir) (items : List Item) (flags : List Bool) (found : List ℕ → Bool)
+    (new cur : List (String Z)) → ((q : List ℕ) → found q ≡ (any_name account q new || any_name account q cur))
     → IsPermutation (names_of maildir.in_new) (map string_bytes new)
     → IsPermutation (names_of maildir.in_cur) (map string_bytes cur)
-    → flags ≡ map (λ (item : Item). all (encode_lower item.uid)) items → flags ≡ flags_of account maildir items
-flags_found {Z} account maildir items flags none some all new cur n s a in_new in_cur told =
-    told ∙ map_same (λ (item : Item). all (encode_lower item.uid)) (λ (item : Item). is_held account maildir item.uid) items (λ item. held item.uid)
+    → flags ≡ map (λ (item : Item). found (encode_lower item.uid)) items → flags ≡ flags_of account maildir items
+flags_found account maildir items flags found new cur texts in_new in_cur told =
+    told ∙ map_same (λ (item : Item). found (encode_lower item.uid)) (λ (item : Item). is_held account maildir item.uid) items (λ item. held item.uid)
   where
-    held : (uid : List ℕ) → all (encode_lower uid) ≡ is_held account maildir uid
+    held : (uid : List ℕ) → found (encode_lower uid) ≡ is_held account maildir uid
     held uid =
-        let q = encode_lower uid in
         let test : List ℕ → Bool = λ name. bytes_eq (stem_of account uid) (stem name) in
-        a q ∙ ap (λ b. b || list_any (λ (name : String Z). test (string_bytes name)) cur)
-        (s q ∙ ap (λ b. b || list_any (λ (name : String Z). test (string_bytes name)) new) (n q))
-        ∙ ap (λ b. b || list_any (λ (name : String Z). test (string_bytes name)) cur) (names_tell test maildir.in_new new in_new)
+        texts (encode_lower uid)
+        ∙ ap (λ b. b || any_name account (encode_lower uid) cur) (names_tell test maildir.in_new new in_new)
         ∙ ap (λ b. list_any (λ (f : File). test f.name) maildir.in_new || b) (names_tell test maildir.in_cur cur in_cur)
         ∙ sym (list_any-append (λ (f : File). names_id account uid f.name) maildir.in_new maildir.in_cur)
 
@@ -115,13 +115,11 @@ held_where_in_new account uid size maildir a c =
 -- ---- one more file
 
 stem_eq : HaveRanges → (account a b : List ℕ) → IsLegalId a → IsLegalId b → bytes_eq (stem_of account b) (stem_of account a) ≡ bytes_eq b a
-stem_eq ranges account a b la lb =
-    same_from_decides _ _ (bytes_eq-Decides (stem_of account b) (stem_of account a))
-    (Decides-like (bytes_eq b a) (ap (stem_of account)) (stem_of-injective ranges account b a lb la) (bytes_eq-Decides b a))
+stem_eq ranges account a b la lb = bytes_eq-made (stem_of account) b a (stem_of-injective ranges account b a lb la)
 
 or_shuffle : (n e c : Bool) → ((n || (e || false)) || c) ≡ ((n || c) || e)
 or_shuffle true e c = refl
-or_shuffle false e c = ap (λ (b : Bool). b || c) (or-false e) ∙ or_comm e c
+or_shuffle false e c = ap (λ b. b || c) (or-false e) ∙ or_comm e c
 
 -- a file that came into `new` under an id's name makes that id held, and no other
 pub held_with_file : HaveRanges → (account a b content : List ℕ) (maildir : Maildir) → IsAccountText account → IsLegalId a → IsLegalId b
@@ -142,9 +140,9 @@ held_with_file ranges account a b content maildir h la lb =
 
 -- the item of an id, in front of items of which it is known whether they have the id
 and_more : (flag same among held : Bool) → (same ≡ true → flag ≡ held) → ((same && flag) || (among && held)) ≡ ((same || among) && held)
-and_more flag true true held agree = ap (λ (b : Bool). b || held) (agree refl) ∙ or_self held
-and_more flag true false held agree = ap (λ (b : Bool). b || false) (agree refl) ∙ or-false held
 and_more flag false among held agree = refl
+and_more flag true among true agree = rw (agree refl) refl
+and_more flag true among false agree = rw (agree refl) (and-false among)
 
 pub flagged_where_held : (account : List ℕ) (maildir : Maildir) (items : List Item) (uid : List ℕ)
     → is_flagged items (flags_of account maildir items) uid ≡ (has_item items uid && is_held account maildir uid)

@@ -8,16 +8,8 @@ use Rattle.std.proofs.Math.Seq.{take-append_seam}
 use Rattle.mail_terms.specs.Text.{IsWhole}
 use Rattle.mail_store.specs.Mboxrd.{lines_of, IsLine, begins_entry, unquoted, separator, entry_of, Group, IsGroup, group_bytes, group_text, MboxFile, FrontsOfEntries}
 use Rattle.mail_store.specs.MboxScan.{IsApart, OpensEntry}
-use Rattle.mail_store.proofs.MboxLines.{lines_joined, lines_kept}
-use Rattle.mail_store.proofs.MboxGroups.{joined, group_lines, inner_lines, ended_all, group_first, groups_lines, inner_apart, opens_groups, same_span, one_reading, entry_group, entry_is_group, entry_bytes, entry_text, entry_adds_text}
-
-all_append : (P : List ℕ → Type 0) (xs ys : List (List ℕ)) → AllByRecursion P xs → AllByRecursion P ys → AllByRecursion P (xs ++ ys)
-all_append P [] ys left right = right
-all_append P (x ∷ xs) ys left right = (left.0, all_append P xs ys left.1 right)
-
-all_front : (P : List ℕ → Type 0) (xs ys : List (List ℕ)) → AllByRecursion P (xs ++ ys) → AllByRecursion P xs
-all_front P [] ys all = tt
-all_front P (x ∷ xs) ys all = (all.0, all_front P xs ys all.1)
+use Rattle.mail_store.proofs.MboxLines.{all_append, all_front, joined, lines_joined, lines_kept}
+use Rattle.mail_store.proofs.MboxGroups.{group_lines, inner_lines, ended_all, group_first, groups_lines, inner_apart, opens_groups, same_span, one_reading, entry_group, entry_is_group, entry_bytes, entry_text, entry_adds_text}
 
 all_back : (P : List ℕ → Type 0) (xs ys : List (List ℕ)) → AllByRecursion P (xs ++ ys) → AllByRecursion P ys
 all_back P [] ys all = all

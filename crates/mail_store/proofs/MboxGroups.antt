@@ -8,13 +8,10 @@ use Rattle.std.proofs.lemmas.List.{append-nil, append_cancel_right, flat_map_mor
 use Rattle.mail_terms.specs.Text.{IsWhole, HasNoLf}
 use Rattle.mail_store.specs.Mboxrd.{lines_of, IsLine, from_words, begins_entry, quoted, unquoted, separator, entry_of, Group, IsHead, IsInner, IsGroup, group_bytes, group_text, MboxFile, MayGoOn, EntryAddsText, OneReading, TextsMayGoOn}
 use Rattle.mail_store.specs.MboxScan.{IsApart, OpensEntry}
-use Rattle.mail_store.proofs.MboxLines.{empty_line, lines_kept, lines_joined, whole_lines}
+use Rattle.mail_store.proofs.MboxLines.{all_append, empty_line, joined, lines_kept, lines_joined, whole_lines}
 use Rattle.mail_store.proofs.MboxQuoting.{begins_with, begins_entry_by, quoted_line, quoted_apart, lines_read}
 
 -- ---- groups as lists of lines
-
-abbrev pub joined : List (List ℕ) → List ℕ
-joined lines = flat_map (λ (line : List ℕ). line) lines
 
 -- the lines of a group, with the empty one behind them
 abbrev pub group_lines : Group → List (List ℕ)
@@ -25,8 +22,7 @@ inner_lines [] all = tt
 inner_lines (line ∷ lines) all = (all.0.0, inner_lines lines all.1)
 
 pub ended_all : (lines : List (List ℕ)) → AllByRecursion IsLine lines → AllByRecursion IsLine (lines ++ (10 ∷ []) ∷ [])
-ended_all [] all = (empty_line, tt)
-ended_all (line ∷ lines) all = (all.0, ended_all lines all.1)
+ended_all lines all = all_append IsLine lines ((10 ∷ []) ∷ []) all (empty_line, tt)
 
 joined_push : (lines : List (List ℕ)) (last : List ℕ) → joined (lines ++ last ∷ []) ≡ joined lines ++ last
 joined_push [] last = append-nil last
@@ -94,15 +90,11 @@ one_reading file texts others left right =
 
 -- ---- one more group
 
-all_push : (groups : List Group) (group : Group) → AllByRecursion IsGroup groups → IsGroup group → AllByRecursion IsGroup (groups ++ group ∷ [])
-all_push [] group are is = (is, tt)
-all_push (first ∷ groups) group are is = (are.0, all_push groups group are.1 is)
-
 pub adds_group : (file : List ℕ) (texts : List (List ℕ)) (group : Group) → MboxFile file texts → IsGroup group
     → MboxFile (file ++ group_bytes group) (texts ++ group_text group ∷ [])
 adds_group file texts group was is = record {
   groups = was.groups ++ group ∷ [];
-  are = all_push was.groups group was.are is;
+  are = all_append IsGroup was.groups (group ∷ []) was.are (is, tt);
   whole = ap (λ (f : List ℕ). f ++ group_bytes group) was.whole ∙ flat_map_more group_bytes [] was.groups group;
   read = ap (λ (ts : List (List ℕ)). ts ++ group_text group ∷ []) was.read ∙ sym (map-append group_text was.groups (group ∷ []));
 }

@@ -8,6 +8,23 @@ use Rattle.std.proofs.lemmas.List.{take-append-drop}
 use Rattle.mail_terms.specs.Text.{IsWhole, HasNoLf}
 use Rattle.mail_store.specs.Mboxrd.{lines_of, IsLine}
 
+-- ---- lists of lines
+
+abbrev pub joined : List (List ℕ) → List ℕ
+joined lines = flat_map (λ (line : List ℕ). line) lines
+
+pub all_append : {A : Type 0} (P : A → Type 0) (xs ys : List A) → AllByRecursion P xs → AllByRecursion P ys → AllByRecursion P (xs ++ ys)
+all_append P [] ys left right = right
+all_append P (x ∷ xs) ys left right = (left.0, all_append P xs ys left.1 right)
+
+pub all_front : {A : Type 0} (P : A → Type 0) (xs ys : List A) → AllByRecursion P (xs ++ ys) → AllByRecursion P xs
+all_front P [] ys all = tt
+all_front P (x ∷ xs) ys all = (all.0, all_front P xs ys all.1)
+
+pub onto_joined : (byte : ℕ) (parts : List (List ℕ)) → joined (onto_first byte parts) ≡ byte ∷ joined parts
+onto_joined byte [] = refl
+onto_joined byte (part ∷ parts) = refl
+
 -- ---- the first line
 
 pub plain_front : (text : List ℕ) (n : ℕ) → ((k : ℕ) → k < n → slice_index text k ≢ 10) → HasNoLf (take n text)
@@ -67,23 +84,19 @@ first_cut text n some found = elim found [
 
 -- ---- whole texts
 
-first_joined : (byte : ℕ) (lines : List (List ℕ)) → flat_map (λ (l : List ℕ). l) (onto_first byte lines) ≡ byte ∷ flat_map (λ (l : List ℕ). l) lines
-first_joined byte [] = refl
-first_joined byte (line ∷ lines) = refl
-
 -- the lines make up the text
-pub lines_joined : (text : List ℕ) → flat_map (λ (l : List ℕ). l) (lines_of text) ≡ text
+pub lines_joined : (text : List ℕ) → joined (lines_of text) ≡ text
 lines_joined [] = refl
 lines_joined (byte ∷ rest) = elim (eqb_tells byte 10) [
   | inl p ↦ rw (p.0, lines_joined rest) (ap (λ (b : ℕ). b ∷ rest) (sym p.1))
-  | inr p ↦ rw p.0 (first_joined byte (lines_of rest) ∙ ap (λ (l : List ℕ). byte ∷ l) (lines_joined rest))
+  | inr p ↦ rw p.0 (onto_joined byte (lines_of rest) ∙ ap (λ (l : List ℕ). byte ∷ l) (lines_joined rest))
 ]
 
 -- lines are the lines of what they make up
-pub lines_kept : (lines : List (List ℕ)) (rest : List ℕ) → AllByRecursion IsLine lines → lines_of (flat_map (λ (l : List ℕ). l) lines ++ rest) ≡ lines ++ lines_of rest
+pub lines_kept : (lines : List (List ℕ)) (rest : List ℕ) → AllByRecursion IsLine lines → lines_of (joined lines ++ rest) ≡ lines ++ lines_of rest
 lines_kept [] rest all = refl
 lines_kept (line ∷ lines) rest all =
-    ap lines_of (append_assoc line (flat_map (λ (l : List ℕ). l) lines) rest) ∙ line_first line (flat_map (λ (l : List ℕ). l) lines ++ rest) all.0
+    ap lines_of (append_assoc line (joined lines) rest) ∙ line_first line (joined lines ++ rest) all.0
     ∙ ap (λ (ls : List (List ℕ)). line ∷ ls) (lines_kept lines rest all.1)
 
 more_first : (byte : ℕ) (line : List ℕ) → byte ≢ 10 → IsLine line → IsLine (byte ∷ line)

@@ -7,7 +7,7 @@ use Rattle.std.proofs.lemmas.List.{take_at, length-append, take-append-drop}
 use Rattle.std.proofs.lemmas.Slice.Eq.{starts_is}
 use Rattle.mail_terms.specs.Text.{HasNoLf}
 use Rattle.mail_store.specs.Mboxrd.{lines_of, IsLine, from_words, begins_entry, is_greater, is_marked, quoted, unquoted, quoted_text, UnquotesQuoted}
-use Rattle.mail_store.proofs.MboxLines.{line_first, first_cut, whole_lines, lines_joined}
+use Rattle.mail_store.proofs.MboxLines.{joined, line_first, first_cut, whole_lines, lines_joined}
 
 -- ---- marked lines
 
@@ -85,17 +85,13 @@ quoted_line line is = elim (cases_Bool (is_marked line)) [
   | inr m ↦ rw (quoted_plain line m) is
 ]
 
-pub quoted_all : (lines : List (List ℕ)) → AllByRecursion IsLine lines → AllByRecursion IsLine (map quoted lines)
-quoted_all [] all = tt
-quoted_all (line ∷ lines) all = (quoted_line line all.0, quoted_all lines all.1)
-
 -- ---- whole texts
 
 pub quoted_lines : (lines : List (List ℕ)) → AllByRecursion IsLine lines → lines_of (flat_map quoted lines) ≡ map quoted lines
 quoted_lines [] all = refl
 quoted_lines (line ∷ lines) all = line_first (quoted line) (flat_map quoted lines) (quoted_line line all.0) ∙ ap (λ (ls : List (List ℕ)). quoted line ∷ ls) (quoted_lines lines all.1)
 
-pub lines_read : (lines : List (List ℕ)) → flat_map unquoted (map quoted lines) ≡ flat_map (λ (l : List ℕ). l) lines
+pub lines_read : (lines : List (List ℕ)) → flat_map unquoted (map quoted lines) ≡ joined lines
 lines_read [] = refl
 lines_read (line ∷ lines) = ap (λ (l : List ℕ). l ++ flat_map unquoted (map quoted lines)) (line_read line) ∙ ap (λ (l : List ℕ). line ++ l) (lines_read lines)
 

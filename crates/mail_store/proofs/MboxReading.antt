@@ -6,9 +6,9 @@ use Rattle.std.proofs.lemmas.List.{append-nil, append_cancel_left, append_cancel
 use Rattle.mail_terms.specs.Text.{IsWhole, HasNoLf}
 use Rattle.mail_store.specs.Mboxrd.{lines_of, IsLine, begins_entry, unquoted_text, Group, IsHead, IsInner, IsGroup, group_bytes, group_text, MboxFile, HasNoTexts}
 use Rattle.mail_store.specs.MboxScan.{IsApart, OpensEntry, CutsGroup, HoldsText}
-use Rattle.mail_store.proofs.MboxLines.{line_first, lines_joined, whole_lines}
+use Rattle.mail_store.proofs.MboxLines.{all_append, all_front, joined, line_first, lines_joined, whole_lines}
 use Rattle.mail_store.proofs.MboxQuoting.{front_taken}
-use Rattle.mail_store.proofs.MboxGroups.{joined, group_lines, inner_lines, group_first, groups_lines, inner_apart, opens_groups, same_span, adds_group, joined_whole}
+use Rattle.mail_store.proofs.MboxGroups.{group_lines, inner_lines, group_first, groups_lines, inner_apart, opens_groups, same_span, adds_group, joined_whole}
 
 -- ---- one group cut off
 
@@ -24,10 +24,6 @@ pub record Passes (bytes rest : List ℕ) : Type 0 where
 pub passes_first : (bytes line after : List ℕ) → (lines_of bytes ≡ line ∷ lines_of after) × (bytes ≡ line ++ after) → Passes bytes after
 passes_first bytes line after cut = record { head = line; inner = []; front = line; lines = cut.0; whole = cut.1; apart = tt }
 
-apart_push : (lines : List (List ℕ)) (line : List ℕ) → AllByRecursion IsApart lines → IsApart line → AllByRecursion IsApart (lines ++ line ∷ [])
-apart_push [] line all is = (is, tt)
-apart_push (first ∷ lines) line all is = (all.0, apart_push lines line all.1 is)
-
 pub passes_more : (bytes rest line after : List ℕ) → Passes bytes rest → (lines_of rest ≡ line ∷ lines_of after) × (rest ≡ line ++ after)
     → begins_entry line ≡ false → Passes bytes after
 passes_more bytes rest line after was cut apart = record {
@@ -37,7 +33,7 @@ passes_more bytes rest line after was cut apart = record {
   lines = was.lines ∙ ap (λ (ls : List (List ℕ)). was.head ∷ (was.inner ++ ls)) cut.0
       ∙ ap (λ (ls : List (List ℕ)). was.head ∷ ls) (sym (append_assoc was.inner (line ∷ []) (lines_of after)));
   whole = was.whole ∙ ap (λ (l : List ℕ). was.front ++ l) cut.1 ∙ sym (append_assoc was.front line after);
-  apart = apart_push was.inner line was.apart apart;
+  apart = all_append IsApart was.inner (line ∷ []) was.apart (apart, tt);
 }
 
 pub passed : (bytes rest group : List ℕ) → Passes bytes rest → OpensEntry (lines_of rest) → bytes ≡ group ++ rest → CutsGroup bytes group rest
@@ -148,10 +144,6 @@ no_texts bytes rest group after texts was cut some none others file =
       split = same.bytes;
     })
 
-apart_front : (lines others : List (List ℕ)) → AllByRecursion IsApart (lines ++ others) → AllByRecursion IsApart lines
-apart_front [] others all = tt
-apart_front (line ∷ lines) others all = (all.0, apart_front lines others all.1)
-
 both_hold : (lines : List (List ℕ)) → AllByRecursion IsLine lines → AllByRecursion IsApart lines → AllByRecursion IsInner lines
 both_hold [] all apart = tt
 both_hold (line ∷ lines) all apart = ((all.0, apart.0), both_hold lines all.1 apart.1)
@@ -171,7 +163,7 @@ holds_group rest group after text cut held =
     sym cut.lines ∙ ap lines_of (cut.whole ∙ ap (λ (l : List ℕ). l ++ after) same) ∙ group_first (group_of held.head text) after held.begins.0 all in
     let tail : cut.inner ++ lines_of after ≡ (lines_of text ++ (10 ∷ []) ∷ []) ++ lines_of after = cc in
     let inner = append_cancel_right cut.inner (lines_of text ++ (10 ∷ []) ∷ []) (lines_of after) tail in
-    (held.begins, both_hold (lines_of text) all (apart_front (lines_of text) ((10 ∷ []) ∷ []) (subst (AllByRecursion IsApart) inner cut.apart)))
+    (held.begins, both_hold (lines_of text) all (all_front IsApart (lines_of text) ((10 ∷ []) ∷ []) (subst (AllByRecursion IsApart) inner cut.apart)))
 
 -- one more text was read
 pub reads_more : (bytes rest group after text : List ℕ) (texts : List (List ℕ)) → ReadsOn bytes rest texts → CutsGroup rest group after → 0 < length rest

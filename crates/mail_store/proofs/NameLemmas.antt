@@ -184,20 +184,12 @@ IsBytes-legal ranges uid legal k =
       | inr past ↦ let e = get_or_past uid k 0 past in omega (arith, e)
     ]
 
-bytes_or : List ℕ → Result (List ℕ) FromHexError → List ℕ
-bytes_or d (Ok bytes) = bytes
-bytes_or d (Err e) = d
-
-abbrev pub tail_of : List ℕ → List ℕ
-tail_of [] = []
-tail_of (x ∷ xs) = xs
-
 pub stem_of-injective : HaveRanges → (account a b : List ℕ) → IsLegalId a → IsLegalId b → stem_of account a ≡ stem_of account b → a ≡ b
-unfolding bytes_or
 stem_of-injective ranges account a b la lb same =
     let digits : 46 ∷ encode_lower a ≡ 46 ∷ encode_lower b = append_cancel_left account (46 ∷ encode_lower a) (46 ∷ encode_lower b) same in
-    let texts : encode_lower a ≡ encode_lower b = ap tail_of digits in
-    ap (bytes_or []) (sym (decode_of-encode_lower a (IsBytes-legal ranges a la)) ∙ ap decode_of texts ∙ decode_of-encode_lower b (IsBytes-legal ranges b lb))
+    let texts : encode_lower a ≡ encode_lower b = cc in
+    let read : Ok a ≡ Ok b = sym (decode_of-encode_lower a (IsBytes-legal ranges a la)) ∙ ap decode_of texts ∙ decode_of-encode_lower b (IsBytes-legal ranges b lb) in
+    cc
 
 -- ---- account texts
 
@@ -238,15 +230,15 @@ decode_of-legal ranges uid digits legal same = ap decode_of (sym same) ∙ decod
 
 -- a text that reads as some bytes is the text of no other legal id
 pub one_reading : HaveRanges → (bytes uid digits : List ℕ) → decode_of digits ≡ Ok bytes → IsLegalId uid → encode_lower uid ≡ digits → uid ≡ bytes
-unfolding bytes_or
-one_reading ranges bytes uid digits read legal same = ap (bytes_or []) (sym (decode_of-legal ranges uid digits legal same) ∙ read)
+one_reading ranges bytes uid digits read legal same =
+    let both : Ok uid ≡ Ok bytes = sym (decode_of-legal ranges uid digits legal same) ∙ read in
+    cc
 
 -- a text that doesn't read as bytes is the text of no legal id
 pub no_reading : HaveRanges → (e : FromHexError) (uid digits : List ℕ) → decode_of digits ≡ Err e → IsLegalId uid → encode_lower uid ≡ digits → ⊥
-no_reading ranges e uid digits read legal same = ok_is_no_err uid e (sym (decode_of-legal ranges uid digits legal same) ∙ read)
-  where
-    ok_is_no_err : (bytes : List ℕ) (e : FromHexError) → Ok bytes ≡ Err e → ⊥
-    ok_is_no_err bytes e h = cc
+no_reading ranges e uid digits read legal same =
+    let both : Ok uid ≡ Err e = sym (decode_of-legal ranges uid digits legal same) ∙ read in
+    cc
 
 -- a name put together from its parts
 pub put_together : (name stem front text digits account code : List ℕ) → name ≡ front ++ text → front ≡ stem ++ code → code ≡ 46 ∷ []
@@ -277,4 +269,5 @@ pub none_named : {E : Type 0} {B : Type 0} (account name digits : List ℕ) (r :
 none_named account name digits (Err e) same h = tt
 none_named account name digits (Ok (Some uid)) same h = tt
 none_named account name digits (Ok None) same h = λ uid legal e.
-    h uid legal (ap tail_of (append_cancel_left account (46 ∷ encode_lower uid) (46 ∷ digits) (e ∙ same)))
+    let text : 46 ∷ encode_lower uid ≡ 46 ∷ digits = append_cancel_left account (46 ∷ encode_lower uid) (46 ∷ digits) (e ∙ same) in
+    h uid legal (cc)

@@ -1,17 +1,17 @@
 -- Whether a line but the first begins with `From `, looked for window by window.
-use Rattle.std.proofs.Common.{◌≡◌, inl, inr, ℕ, zero, suc, ◌+◌, ◌≤◌, Bool, true, false, ◌||◌, ◌&&◌, List, [], ◌∷◌, ◌++◌, length, take, drop, refl, sym, ap, subst, ◌∙◌, arith, append_assoc, length-append}
+use Rattle.std.proofs.Common.{◌≡◌, ◌⊎◌, inl, inr, ℕ, zero, suc, ◌+◌, ◌≤◌, Bool, true, false, ◌||◌, ◌&&◌, List, [], ◌∷◌, ◌++◌, length, take, drop, refl, sym, ap, subst, ◌∙◌, arith, append_assoc, length-append}
 use Rattle.std.specs.Prelude.{not, ◌==◌}
-use Rattle.std.specs.List.{flat_map, list_all, onto_first}
-use Rattle.std.proofs.lemmas.Bool.{cases_Bool, true≢false, or_right, or_cases, and_parts}
+use Rattle.std.specs.List.{list_all, onto_first}
+use Rattle.std.proofs.lemmas.Bool.{and_parts, cases_Bool, or_cases, or_left, or_right, true≢false}
 use Rattle.std.proofs.lemmas.Bool.Decides.{eqb_tells}
+use Rattle.std.proofs.Math.Bool.{or_assoc}
 use Rattle.std.proofs.Math.Seq.{drop-append_seam, take-append-add}
 use Rattle.std.proofs.lemmas.List.{take-append-drop}
-use Rattle.std.proofs.Math.Bool.{or_assoc}
 use Rattle.memchr.specs.Find.{OccursAt, Nowhere}
 use Rattle.memchr.proofs.lemmas.MatchLemmas.{OccursAt-split, OccursAt-from_part}
 use Rattle.mail_store.specs.Mboxrd.{lines_of, from_words, begins_entry}
 use Rattle.mail_store.specs.Settling.{is_one_entry}
-use Rattle.mail_store.proofs.MboxLines.{lines_joined}
+use Rattle.mail_store.proofs.MboxLines.{joined, lines_joined}
 use Rattle.mail_store.proofs.MboxQuoting.{begins_with, begins_entry_by}
 
 -- an LF, and what a line begins with that begins an entry
@@ -41,9 +41,9 @@ first_begins : (bytes line : List ℕ) (lines : List (List ℕ)) → lines_of by
 first_begins bytes line lines e = both_ways (begins_entry line) (begins_entry bytes) to from
   where
     to : begins_entry line ≡ true → begins_entry bytes ≡ true
-    to is = begins_entry_by bytes (drop 5 line ++ flat_map (λ (l : List ℕ). l) lines) (
-        sym (lines_joined bytes) ∙ ap (flat_map (λ (l : List ℕ). l)) e ∙ ap (λ (l : List ℕ). l ++ flat_map (λ (l : List ℕ). l) lines) (begins_with line is)
-        ∙ append_assoc from_words (drop 5 line) (flat_map (λ (l : List ℕ). l) lines)
+    to is = begins_entry_by bytes (drop 5 line ++ joined lines) (
+        sym (lines_joined bytes) ∙ ap joined e ∙ ap (λ (l : List ℕ). l ++ joined lines) (begins_with line is)
+        ∙ append_assoc from_words (drop 5 line) (joined lines)
         )
 
     from : begins_entry bytes ≡ true → begins_entry line ≡ true
@@ -57,13 +57,13 @@ lines_apart bytes = by (lines_of bytes) refl
   where
     by : (lines : List (List ℕ)) → lines_of bytes ≡ lines → list_all (λ line. not (begins_entry line)) lines ≡ (not (begins_entry bytes) && list_all (λ line. not (begins_entry line)) (drop 1 lines))
     by [] e =
-        let none : bytes ≡ [] = sym (lines_joined bytes) ∙ ap (flat_map (λ (l : List ℕ). l)) e in
+        let none : bytes ≡ [] = sym (lines_joined bytes) ∙ ap joined e in
         rw none refl
     by (line ∷ lines) e = ap (λ (b : Bool). not b && list_all (λ line. not (begins_entry line)) lines) (first_begins bytes line lines e)
 
-pub not_or : (a b : Bool) → not (a || b) ≡ (not a && not b)
-not_or true b = refl
-not_or false b = refl
+pub and_is : (a b : Bool) → (not a && not b) ≡ not (a || b)
+and_is true b = refl
+and_is false b = refl
 
 onto_others : (byte : ℕ) (parts : List (List ℕ)) → drop 1 (onto_first byte parts) ≡ drop 1 parts
 onto_others byte [] = refl
@@ -72,7 +72,7 @@ onto_others byte (part ∷ parts) = refl
 pub one_entry_is : (bytes : List ℕ) → is_one_entry bytes ≡ not (holds_needle bytes)
 one_entry_is [] = refl
 one_entry_is (byte ∷ rest) = elim (eqb_tells byte 10) [
-  | inl p ↦ rw p.0 (lines_apart rest ∙ ap (λ (b : Bool). not (begins_entry rest) && b) (one_entry_is rest) ∙ sym (not_or (begins_entry rest) (holds_needle rest)))
+  | inl p ↦ rw p.0 (lines_apart rest ∙ ap (λ (b : Bool). not (begins_entry rest) && b) (one_entry_is rest) ∙ and_is (begins_entry rest) (holds_needle rest))
   | inr p ↦ rw p.0 (ap (list_all (λ line. not (begins_entry line))) (onto_others byte (lines_of rest)) ∙ one_entry_is rest)
 ]
 

@@ -1,16 +1,14 @@
 -- Bytes cut where the pages of their file begin.
-use Rattle.std.proofs.Common.{◌≡◌, ◌⊎◌, inl, inr, ℕ, ◌+◌, ◌-◌, ◌<◌, ◌≤◌, ◌%◌, Bool, true, ◌||◌, List, [], ◌∷◌, ◌++◌, length, take, drop, refl, sym, ap, subst, ◌∙◌, arith, append_assoc, length-append}
+use Rattle.std.proofs.Common.{◌≡◌, ◌⊎◌, inl, inr, ℕ, ◌+◌, ◌-◌, ◌<◌, ◌≤◌, ◌%◌, Bool, true, false, ◌||◌, List, [], ◌∷◌, ◌++◌, length, take, drop, refl, sym, ap, subst, ◌∙◌, arith, append_assoc, length-append}
 use Rattle.std.specs.Prelude.{nat_eq}
-use Rattle.std.specs.List.{flat_map, onto_first, starts_with}
+use Rattle.std.specs.List.{starts_with}
 use Rattle.std.proofs.lemmas.Bool.Decides.{eqb_tells, Decides-eqb}
 use Rattle.std.proofs.lemmas.List.{take-append-drop, length-take-le, drop_all}
 use Rattle.std.proofs.lemmas.Slice.Eq.{starts_is}
-use Rattle.std.proofs.Math.Seq.{drop-append_seam}
 use Rattle.std.proofs.Math.Bool.{or-true}
+use Rattle.std.proofs.Math.Seq.{drop-append_seam}
+use Rattle.mail_store.proofs.MboxLines.{joined, onto_joined}
 use Rattle.mail_store.specs.Settling.{page_size, pages, pages_from, agree, begin_with}
-
-abbrev joined : List (List ℕ) → List ℕ
-joined parts = flat_map (λ (part : List ℕ). part) parts
 
 -- ---- cutting
 
@@ -57,10 +55,6 @@ next_page place n bytes some within fits = elim fits [
   where
     size : length (take n bytes) ≡ n
     size = length-take-le n bytes within
-
-onto_joined : (byte : ℕ) (parts : List (List ℕ)) → joined (onto_first byte parts) ≡ byte ∷ joined parts
-onto_joined byte [] = refl
-onto_joined byte (part ∷ parts) = refl
 
 pages_joined : (room : ℕ) (bytes : List ℕ) → joined (pages room bytes) ≡ bytes
 pages_joined room [] = refl

@@ -3,10 +3,9 @@ use Rattle.std.proofs.Common.{◌≡◌, ◌⊎◌, inl, inr, ℕ, zero, suc, �
 use Rattle.std.specs.Prelude.{not, ◌==◌, nat_lt, nat_le, bytes_eq, slice_index}
 use Rattle.std.specs.List.{list_all, AllByRecursion}
 use Rattle.std.proofs.lemmas.Bool.{cases_Bool, cases_lt, true≢false, lt-ltb, le-leb, lt-leb, eq-eqb, ne_eqb}
+use Rattle.std.proofs.Math.Bool.{and_assoc, and-false, and-true}
 use Rattle.std.proofs.lemmas.List.{append-nil, drop-drop, drop-take, drop_all, length-drop, length-take-le, nil_from_length, take_all}
 use Rattle.std.proofs.Math.Seq.{drop-append_seam, take-append_seam}
-use Rattle.std.proofs.Math.Bool.{and-true, and-false, and_assoc}
-use Rattle.std.proofs.lemmas.Option.{same_Some}
 use Rattle.mail_terms.specs.Text.{IsWhole}
 use Rattle.mail_store.specs.declared.fault.StoreFault.{StoreFault}
 use Rattle.mail_store.specs.declared.fault.StoreFault.TheVariants.{Refused}
@@ -19,23 +18,21 @@ use Rattle.mail_store.specs.Mboxrd.{separator, begins_entry, quoted_text, entry_
 use Rattle.mail_store.specs.MboxScan.{IsApart}
 use Rattle.mail_store.specs.Settling.{page_size, pages_from, is_hole, agree, begin_with, is_one_entry, ends_empty, are_unbroken, is_ours, is_entry, stands_whole, settled_file, FrontsAreSettled, IsLook, LooksBehind, SettlesFile}
 use Rattle.mail_store.proofs.Pages.{Fronts, next_page, page_words, begin_with_words}
-use Rattle.mail_store.proofs.OneEntry.{holds_needle, one_entry_is, needle_short, needle_in_front, window_first, window_next, not_or}
+use Rattle.mail_store.proofs.OneEntry.{and_is, holds_needle, one_entry_is, needle_short, needle_in_front, window_first, window_next}
 use Rattle.mail_store.proofs.MboxGroups.{inner_apart, entry_group, entry_is_group, entry_adds_text, texts_go_on}
 use Rattle.mail_store.proofs.MboxFronts.{entry_lines}
-
--- ---- truth values
 
 -- ---- windows
 
 one_entry_next : (n : ℕ) (bytes : List ℕ) → is_one_entry bytes ≡ (is_one_entry (take (n + 5) bytes) && is_one_entry (drop n bytes))
 one_entry_next n bytes =
-    one_entry_is bytes ∙ ap not (window_next n bytes) ∙ not_or (holds_needle (take (n + 5) bytes)) (holds_needle (drop n bytes))
+    one_entry_is bytes ∙ ap not (window_next n bytes) ∙ sym (and_is (holds_needle (take (n + 5) bytes)) (holds_needle (drop n bytes)))
     ∙ ap (λ (b : Bool). b && not (holds_needle (drop n bytes))) (sym (one_entry_is (take (n + 5) bytes)))
     ∙ ap (λ (b : Bool). is_one_entry (take (n + 5) bytes) && b) (sym (one_entry_is (drop n bytes)))
 
 one_entry_first : (n : ℕ) (bytes : List ℕ) → is_one_entry bytes ≡ (is_one_entry (take n bytes) && is_one_entry bytes)
 one_entry_first n bytes =
-    one_entry_is bytes ∙ ap not (window_first n bytes) ∙ not_or (holds_needle (take n bytes)) (holds_needle bytes)
+    one_entry_is bytes ∙ ap not (window_first n bytes) ∙ sym (and_is (holds_needle (take n bytes)) (holds_needle bytes))
     ∙ ap (λ (b : Bool). b && not (holds_needle bytes)) (sym (one_entry_is (take n bytes)))
     ∙ ap (λ (b : Bool). is_one_entry (take n bytes) && b) (sym (one_entry_is bytes))
 
@@ -154,7 +151,8 @@ pub window_read : (old new : Stored) (was buf : List ℕ) (start done behind fro
     → length (drop start was) ≡ behind → front ≡ min done 5 → length buf ≡ front + page → done + page ≤ behind
     → (count ≡ length buf) × (buf ≡ take (min done 5 + page) (drop (done - min done 5) (drop start was))) × (drop front buf ≡ take page (drop done (drop start was)))
 window_read old new was buf start done behind front page count reads is size before wide within =
-    let same : reads.0.0 ≡ was = same_Some reads.0.0 was (sym reads.0.1 ∙ is) in
+    let read : Some reads.0.0 ≡ Some was = sym reads.0.1 ∙ is in
+    let same : reads.0.0 ≡ was = cc in
     let rest = drop start was in
     let at : start + done - front ≡ start + (done - front) = omega (arith, before) in
     let left = length-drop (done - front) rest in
@@ -367,25 +365,6 @@ fronts_settled file text (one ∷ front) (byte ∷ rest) whole e =
 
 -- ---- the ways out of `settle_file`
 
--- what is known once the file's size is
-pub record Sized (old new : Stored) (edges : Edges) (start behind : ℕ) : Type 0 where
-  pub was : List ℕ
-  pub content : old.content ≡ Some was
-  pub edges_are : edges ≡ edges_of was
-  pub size : length (drop start was) ≡ behind
-  pub same : new ≡ old
-
-pub sized : (old new : Stored) (edges : Edges) (start behind : ℕ) → Measures old (Ok edges) new → behind ≡ edges.size - start → Sized old new edges start behind
-sized old new edges start behind measures is =
-    let long = ap (λ (e : Edges). e.size) measures.0.2 in
-    record {
-      was = measures.0.0;
-      content = measures.0.1;
-      edges_are = measures.0.2;
-      size = length-drop start measures.0.0 ∙ omega (arith, long, is);
-      same = measures.1;
-    }
-
 -- what is known once the bytes were looked at
 pub record Looked (old new : Stored) (edges : Edges) (start behind : ℕ) (look : Look) : Type 0 where
   pub was : List ℕ
@@ -395,16 +374,20 @@ pub record Looked (old new : Stored) (edges : Edges) (start behind : ℕ) (look 
   pub same : new ≡ old
   pub look_is : IsLook start (drop start was) look
 
-pub looked : (old mid new : Stored) (edges : Edges) (start behind : ℕ) (look : Look) → Sized old mid edges start behind → LooksBehind mid start behind (Ok look) new
-    → Looked old new edges start behind look
-looked old mid new edges start behind look is looks = record {
-  was = is.was;
-  content = is.content;
-  edges_are = is.edges_are;
-  size = is.size;
-  same = looks.0 ∙ is.same;
-  look_is = looks.1 is.was (ap (λ (s : Stored). s.content) is.same ∙ is.content) is.size;
-}
+pub looked : (old mid new : Stored) (edges : Edges) (start behind : ℕ) (look : Look) → Measures old (Ok edges) mid → behind ≡ edges.size - start
+    → LooksBehind mid start behind (Ok look) new → Looked old new edges start behind look
+looked old mid new edges start behind look measures is looks =
+    let was = measures.0.0 in
+    let long = ap (λ (e : Edges). e.size) measures.0.2 in
+    let size : length (drop start was) ≡ behind = length-drop start was ∙ omega (arith, long, is) in
+    record {
+      was = was;
+      content = measures.0.1;
+      edges_are = measures.0.2;
+      size = size;
+      same = looks.0 ∙ measures.1;
+      look_is = looks.1 was (ap (λ (s : Stored). s.content) measures.1 ∙ measures.0.1) size;
+    }
 
 ours_told : (old new : Stored) (edges : Edges) (start behind : ℕ) (look : Look) → (is : Looked old new edges start behind look)
     → (look.begins && look.is_one_entry) ≡ is_ours start (drop start is.was)
@@ -428,9 +411,7 @@ whole_told old new edges start behind len look is =
     rest = drop start is.was
 
     by : (a b c d e : Bool) → (a && b && c && d && e) ≡ (a && (b && (c && (d && e))))
-    by true true c d e = and_assoc c d e
-    by true false c d e = refl
-    by false b c d e = refl
+    by a b c d e = simp and_assoc
 
     ends : (nat_le 2 behind && bytes_eq edges.tail (10 ∷ 10 ∷ [])) ≡ ends_empty rest
     ends = let tell = ends_tell edges is.was start behind is.edges_are is.size in elim (cases_lt behind 2) [

@@ -9,14 +9,21 @@ use Rattle.mail_store.specs.Maildir.{Maildir}
 use Rattle.mail_store.specs.FileName.{NamesAreBases, NamesHaveStems, StemsDiffer, is_held}
 use Rattle.mail_store.specs.Held.{flags_of}
 
+-- of a record after a merge and after a mark
+abbrev pub MergedIsDelivered : Type 0
+MergedIsDelivered = (rows : List Row) (listing : List Item) (held : List Bool) (now : ℕ) (uid : List ℕ)
+    → is_delivered (merged rows listing held now) uid ≡ (is_delivered rows uid || is_flagged listing held uid)
+
+abbrev pub MarkedIsDelivered : Type 0
+MarkedIsDelivered = (rows : List Row) (uid other : List ℕ)
+    → is_delivered (marked rows uid) other ≡ (is_delivered rows other || (has_row rows other && bytes_eq uid other))
+
 -- of records and what is held
 pub record Records : Type 0 where
-  pub held : (rows : List Row) (listing : List Item) (held : List Bool) (now : ℕ) (uid : List ℕ)
-      → is_delivered (merged rows listing held now) uid ≡ (is_delivered rows uid || is_flagged listing held uid)
+  pub held : MergedIsDelivered
   pub flags : (account : List ℕ) (maildir : Maildir) (items : List Item) (uid : List ℕ)
       → is_flagged items (flags_of account maildir items) uid ≡ (has_item items uid && is_held account maildir uid)
-  pub marks : (rows : List Row) (uid other : List ℕ)
-      → is_delivered (marked rows uid) other ≡ (is_delivered rows other || (has_row rows other && bytes_eq uid other))
+  pub marks : MarkedIsDelivered
 
 -- of the flags that a reader puts after names
 pub record Marks : Type 0 where
@@ -34,10 +41,8 @@ pub record Below : Type 0 where
 
 -- of the rows of a record
 pub record RowLaws : Type 0 where
-  pub held : (rows : List Row) (listing : List Item) (held : List Bool) (now : ℕ) (uid : List ℕ)
-      → is_delivered (merged rows listing held now) uid ≡ (is_delivered rows uid || is_flagged listing held uid)
+  pub held : MergedIsDelivered
   pub listed : (rows : List Row) (listing : List Item) (held : List Bool) (now : ℕ) (uid : List ℕ)
       → has_row (merged rows listing held now) uid ≡ (has_row rows uid || has_item listing uid)
-  pub marks : (rows : List Row) (uid other : List ℕ)
-      → is_delivered (marked rows uid) other ≡ (is_delivered rows other || (has_row rows other && bytes_eq uid other))
+  pub marks : MarkedIsDelivered
   pub keeps : (rows : List Row) (uid other : List ℕ) → has_row (marked rows uid) other ≡ has_row rows other

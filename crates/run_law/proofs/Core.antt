@@ -1,11 +1,10 @@
 -- If a prefix of the selected messages is done, a session fetches the next of them. Stores don't come in here.
-use Rattle.std.proofs.Common.{◌≡◌, ◌≤◌, ◌⊎◌, inl, inr, ℕ, zero, suc, List, [], ◌∷◌, ◌++◌, Bool, true, false, not, cond, ◌&&◌, ◌||◌, ◌==◌, length, take, drop, map, refl, sym, ◌∙◌, ap, subst, arith, append_assoc, take-append-drop}
-use Rattle.std.specs.Prelude.{bytes_eq, zip}
+use Rattle.std.proofs.Common.{◌≡◌, ◌≤◌, ◌⊎◌, inl, inr, ℕ, List, [], ◌∷◌, ◌++◌, Bool, true, false, not, cond, ◌&&◌, ◌||◌, ◌==◌, length, take, drop, map, refl, sym, ◌∙◌, ap, subst, append_assoc, take-append-drop, arith}
+use Rattle.std.specs.Prelude.{zip}
 use Rattle.std.specs.List.{filter, AllByRecursion}
-use Rattle.std.proofs.lemmas.Bool.{both_ways, or_cases, cases_Bool, false_from_ne_true}
+use Rattle.std.proofs.lemmas.Bool.{both_ways, or_cases, or_left, or_right, and_from, cases_Bool, cond_both, false_from_ne_true}
 use Rattle.std.proofs.lemmas.List.{take-map, take_all, take_at, length-map}
 use Rattle.std.proofs.lemmas.List.Elements.{filter-append}
-use Rattle.std.proofs.Math.Bool.{or-true}
 use Rattle.mail_terms.specs.UniqueId.{is_legal_id, has_id}
 use Rattle.pop3_wire.specs.World.{Message, IsMessage, IsWorld, maildrop_of}
 use Rattle.rc_file.specs.declared.settings.Settings.{Settings}
@@ -14,58 +13,27 @@ use Rattle.fetch_rules.specs.Wanted.{DistinctAreFiltered, at_most, wanted, candi
 use Rattle.run_law.specs.Mails.{ids_of, listing_of, is_selected, selected}
 use Rattle.run_law.specs.Steps.{AreTexts, ids_wanted}
 use Rattle.run_law.specs.Runs.{past_limit}
-use Rattle.run_law.proofs.Lists.{filter-filter, all_map, all_both, all_filter, all_take}
+use Rattle.run_law.proofs.Lists.{filter-filter, filter_all, all_map, all_both, all_filter, all_passing, all_take, all_front}
 use Rattle.run_law.proofs.Ids.{Distinct, distinct_is, distinct_take, distinct_filter, ids_filtered, ids_both, all_at, all_ids_at, bytes_self, HasTextsOf, through, whole_take, whole_filter}
-use Rattle.run_law.proofs.Wants.{num_item, with_text, asked, offered, wants, offered_by_number, wants_by_number, wanted_are, candidates_are, wants_snd, offered_snd, wants_placed, zipped, ids_are, begins, both_parts, past-map, snd}
+use Rattle.run_law.proofs.Wants.{num_item, all_at_most, with_text, asked, offered, wants, offered_by_number, wants_by_number, wanted_are, candidates_are, wants_snd, offered_snd, wants_placed, zipped, ids_are, begins, both_parts, past-map, snd}
 use Rattle.run_law.proofs.Bridge.{IsLeft, BeginsWith, bridge, left_is}
 
 -- a message that passes a test keeps its id in the filtered list
 pub passing_in : (p : Message → Bool) (ms : List Message) → AllByRecursion (λ (m : Message). p m ≡ true → has_id (ids_of (filter p ms)) m.uid ≡ true) ms
 passing_in p [] = tt
 passing_in p (m ∷ ms) = (
-  (λ e. ap (λ b. has_id (ids_of (cond b (m ∷ filter p ms) (filter p ms))) m.uid) e ∙ ap (λ b. b || has_id (ids_of (filter p ms)) m.uid) (bytes_self m.uid)),
+  (λ e. ap (λ b. has_id (ids_of (cond b (m ∷ filter p ms) (filter p ms))) m.uid) e ∙ or_left _ _ (bytes_self m.uid)),
   all_map (λ (x : Message). p x ≡ true → has_id (ids_of (filter p ms)) x.uid ≡ true) (λ (x : Message). p x ≡ true → has_id (ids_of (filter p (m ∷ ms))) x.uid ≡ true)
-      (λ x h e. by x (p m) (h e)) ms (passing_in p ms),
+      (λ x h e. cond_both (p m) _ _ (λ l. has_id (ids_of l) x.uid ≡ true) (λ t. or_right _ _ (h e)) (λ f. h e)) ms (passing_in p ms),
 )
-  where
-    by : (x : Message) (b : Bool) → has_id (ids_of (filter p ms)) x.uid ≡ true → has_id (ids_of (cond b (m ∷ filter p ms) (filter p ms))) x.uid ≡ true
-    by x true h = ap (λ b. bytes_eq x.uid m.uid || b) h ∙ or-true (bytes_eq x.uid m.uid)
-    by x false h = h
-
--- what a filter keeps passes its test
-pub all_passing : {X : Type 0} (p : X → Bool) (xs : List X) → AllByRecursion (λ x. p x ≡ true) (filter p xs)
-all_passing p [] = tt
-all_passing p (x ∷ xs) = by (p x) refl (all_passing p xs)
-  where
-    by : (b : Bool) → p x ≡ b → AllByRecursion (λ y. p y ≡ true) (filter p xs) → AllByRecursion (λ y. p y ≡ true) (cond b (x ∷ filter p xs) (filter p xs))
-    by true e ih = (e, ih)
-    by false e ih = ih
 
 -- the id of each is among the ids of all
 pub members : (ms : List Message) → AllByRecursion (λ (m : Message). has_id (ids_of ms) m.uid ≡ true) ms
 members [] = tt
 members (m ∷ ms) = (
-  ap (λ b. b || has_id (ids_of ms) m.uid) (bytes_self m.uid),
-  all_map (λ (x : Message). has_id (ids_of ms) x.uid ≡ true) (λ (x : Message). has_id (ids_of (m ∷ ms)) x.uid ≡ true)
-      (λ x h. ap (λ b. bytes_eq x.uid m.uid || b) h ∙ or-true (bytes_eq x.uid m.uid)) ms (members ms),
+  or_left _ _ (bytes_self m.uid),
+  all_map (λ (x : Message). has_id (ids_of ms) x.uid ≡ true) (λ (x : Message). has_id (ids_of (m ∷ ms)) x.uid ≡ true) (λ x h. or_right _ _ h) ms (members ms),
 )
-
-pub filter_all : {X : Type 0} (p : X → Bool) (xs : List X) → AllByRecursion (λ x. p x ≡ true) xs → filter p xs ≡ xs
-filter_all p [] h = refl
-filter_all p (x ∷ xs) h = ap (λ b. cond b (x ∷ filter p xs) (filter p xs)) h.0 ∙ ap (λ l. x ∷ l) (filter_all p xs h.1)
-
-pub taken_more : (m n : ℕ) (ms : List Message) (id : List ℕ) → m ≤ n → has_id (ids_of (take m ms)) id ≡ true → has_id (ids_of (take n ms)) id ≡ true
-taken_more zero n ms id l e = absurd (both_ways false refl e)
-taken_more (suc m) zero ms id l e = absurd (omega (arith, l))
-taken_more (suc m) (suc n) [] id l e = e
-taken_more (suc m) (suc n) (x ∷ ms) id l e = elim (or_cases (bytes_eq id x.uid) (has_id (ids_of (take m ms)) id) e) [
-  | inl same ↦ ap (λ b. b || has_id (ids_of (take n ms)) id) same
-  | inr more ↦ ap (λ b. bytes_eq id x.uid || b) (taken_more m n ms id (omega (arith, l)) more) ∙ or-true (bytes_eq id x.uid)
-]
-
-pub all_front : {X : Type 0} (P : X → Type 0) (xs ys : List X) → AllByRecursion P (xs ++ ys) → AllByRecursion P xs
-all_front P [] ys h = tt
-all_front P (x ∷ xs) ys h = (h.0, all_front P xs ys h.1)
 
 -- all mail, what is gone and how much has come; the settings, and the merged record; which of the selected
 -- messages are done, and which aren't
@@ -106,9 +74,6 @@ abbrev pub IsLegal : Message → Type 0
 IsLegal m = is_legal_id m.uid ≡ true
 
 module _ (s : Scene) (is : IsScene s) where
-  abbrev drop' : List Message
-  drop' = here s
-
   abbrev come : List Message
   come = take s.come s.all
 
@@ -136,19 +101,12 @@ module _ (s : Scene) (is : IsScene s) where
   pub legal_here : AllByRecursion IsLegal (here s)
   legal_here = all_filter IsLegal (λ (m : Message). not (is_gone m.uid)) come legal_come
 
-  -- what holds of each message of the maildrop that is asked for holds of each that is wanted
-  of_wanted : (P : Message → Type 0) → AllByRecursion P os → AllByRecursion P ws
-  of_wanted P h = all_front P ws (past_limit s.settings.max_count os) (subst (AllByRecursion P) (sym (both_parts s.settings.max_count os)) h)
-
   pub legal_fetched : AllByRecursion IsLegal ws
-  legal_fetched = of_wanted IsLegal (all_filter IsLegal (asked s.settings s.rows) (here s) legal_here)
+  legal_fetched = all_at_most IsLegal s.settings.max_count os (all_filter IsLegal (asked s.settings s.rows) (here s) legal_here)
 
   pub fetched_here : AllByRecursion (λ (m : Message). has_id (ids_of (here s)) m.uid ≡ true) ws
-  fetched_here = of_wanted (λ (m : Message). has_id (ids_of (here s)) m.uid ≡ true)
+  fetched_here = all_at_most (λ (m : Message). has_id (ids_of (here s)) m.uid ≡ true) s.settings.max_count os
       (all_filter (λ (m : Message). has_id (ids_of (here s)) m.uid ≡ true) (asked s.settings s.rows) (here s) (members (here s)))
-
-  pub fetched_asked : AllByRecursion (λ (m : Message). asked s.settings s.rows m ≡ true) ws
-  fetched_asked = of_wanted (λ (m : Message). asked s.settings s.rows m ≡ true) (all_passing (asked s.settings s.rows) (here s))
 
   distinct_here : Distinct (ids_of (here s))
   distinct_here = distinct_filter (λ (m : Message). not (is_gone m.uid)) come (distinct_take s.come s.all distinct_all)
@@ -218,17 +176,12 @@ module _ (s : Scene) (is : IsScene s) where
 
   -- if only what is new is read, no wanted message is recorded
   pub none_recorded : s.settings.read_all ≡ false → AllByRecursion (λ (m : Message). is_delivered s.rows m.uid ≡ false) ws
-  none_recorded only_new = all_map (λ (m : Message). asked s.settings s.rows m ≡ true) (λ (m : Message). is_delivered s.rows m.uid ≡ false)
-      (λ m a. new (fit m) s.settings.read_all (is_delivered s.rows m.uid) only_new a) ws fetched_asked
+  none_recorded only_new = all_at_most (λ (m : Message). is_delivered s.rows m.uid ≡ false) s.settings.max_count os
+      (all_map (λ (m : Message). asked s.settings s.rows m ≡ true) (λ (m : Message). is_delivered s.rows m.uid ≡ false)
+      (λ m a. new (fit m) s.settings.read_all (is_delivered s.rows m.uid) only_new a) os (all_passing (asked s.settings s.rows) (here s)))
     where
       new : (f r k : Bool) → r ≡ false → (f && (r || not k)) ≡ true → k ≡ false
-      new f true k e a = absurd (both_ways true e refl)
-      new f false true e a = absurd (by f a)
-        where
-          by : (b : Bool) → (b && false) ≡ true → ⊥
-          by true h = both_ways false refl h
-          by false h = both_ways false refl h
-      new f false false e a = refl
+      new f r k e a = grind arith
 
   -- and if all that is done is recorded, no wanted message is done
   pub all_added : ((id : List ℕ) → is_done s id ≡ true → is_delivered s.rows id ≡ true) → s.settings.read_all ≡ false → (n : ℕ) → added s n ≡ take n ws
@@ -240,15 +193,12 @@ module _ (s : Scene) (is : IsScene s) where
   -- ---- what is done afterwards
 
   pub done_more : (n : ℕ) (id : List ℕ) → is_done s id ≡ true → is_done_after s n id ≡ true
-  done_more n id e = ids_both s.done (added s n) id ∙ ap (λ b. b || has_id (ids_of (added s n)) id) e
-
-  added_more : (n : ℕ) (id : List ℕ) → has_id (ids_of (added s n)) id ≡ true → is_done_after s n id ≡ true
-  added_more n id e = ids_both s.done (added s n) id ∙ ap (λ b. is_done s id || b) e ∙ or-true (is_done s id)
+  done_more n id e = ids_both s.done (added s n) id ∙ or_left _ _ e
 
   pub fetched_done : (n : ℕ) (id : List ℕ) → has_id (ids_of (take n ws)) id ≡ true → is_done_after s n id ≡ true
   fetched_done n id e = elim (cases_Bool (is_done s id)) [
     | inl h ↦ done_more n id h
-    | inr h ↦ added_more n id (ids_filtered (λ x. not (is_done s x)) (take n ws) id ∙ ap (λ b. b && not (is_done s id)) e ∙ ap not h)
+    | inr h ↦ ids_both s.done (added s n) id ∙ or_right _ _ (ids_filtered (λ x. not (is_done s x)) (take n ws) id ∙ and_from _ _ e (ap not h))
   ]
 
   pub legal_after : (n : ℕ) (id : List ℕ) → is_done_after s n id ≡ true → is_legal_id id ≡ true
@@ -261,11 +211,8 @@ module _ (s : Scene) (is : IsScene s) where
   distinct_offered = distinct_filter (asked s.settings s.rows) (here s) distinct_here
 
   most : (limit : ℕ) (ms : List Message) → Distinct (ids_of ms) → Distinct (ids_of (at_most limit ms)) × ((id : List ℕ) → HasTextsOf (at_most limit ms) ms id)
-  most limit ms d = by (limit == 0)
-    where
-      by : (b : Bool) → Distinct (ids_of (cond b ms (take limit ms))) × ((id : List ℕ) → HasTextsOf (cond b ms (take limit ms)) ms id)
-      by true = (d, λ id h. refl)
-      by false = (distinct_take limit ms d, λ id. whole_take limit ms id d)
+  most limit ms d = cond_both (limit == 0) ms (take limit ms) (λ l. Distinct (ids_of l) × ((id : List ℕ) → HasTextsOf l ms id))
+      (λ e. (d, λ id h. refl)) (λ e. (distinct_take limit ms d, λ id. whole_take limit ms id d))
 
   -- the texts of an id that is among the first n of what is wanted are all its texts
   pub texts_fetched : (n : ℕ) (id : List ℕ) → HasTextsOf (take n ws) s.all id
@@ -292,7 +239,7 @@ module _ (s : Scene) (is : IsScene s) where
 
   offered_out : (n : ℕ) → length ws ≤ n → (m : Message) → has_id (ids_of os) m.uid ≡ true → IsOut n m
   offered_out n l m e =
-      elim (or_cases (has_id (ids_of ws) m.uid) (has_id (ids_of (past_limit s.settings.max_count os)) m.uid)
+      elim (or_cases _ _
       (sym (ids_both ws (past_limit s.settings.max_count os) m.uid) ∙ ap (λ l. has_id (ids_of l) m.uid) (both_parts s.settings.max_count os) ∙ e)) [
         | inl in' ↦ inl (fetched_done n m.uid (ap (λ l. has_id (ids_of l) m.uid) (take_all n ws l) ∙ in'))
         | inr past ↦ inr (inr past)
@@ -303,15 +250,13 @@ module _ (s : Scene) (is : IsScene s) where
   out n l m g h = elim (cases_Bool (fit m)) [
     | inr not_fit ↦ inr (inl not_fit)
     | inl fits ↦ elim (cases_Bool (s.settings.read_all || not (is_delivered s.rows m.uid))) [
-      | inl new ↦ offered_out n l m (h (ap (λ b. b && (s.settings.read_all || not (is_delivered s.rows m.uid))) fits ∙ new))
+      | inl new ↦ offered_out n l m (h (and_from _ _ fits new))
       | inr old ↦ inl (done_more n m.uid (is.known m.uid g.0 g.1 (both_no s.settings.read_all (is_delivered s.rows m.uid) old)))
     ]
   ]
     where
       both_no : (a b : Bool) → (a || not b) ≡ false → b ≡ true
-      both_no a true e = refl
-      both_no true false e = absurd (both_ways true e refl)
-      both_no false false e = absurd (both_ways true e refl)
+      both_no a b e = grind arith
 
   pub left_out : (n : ℕ) → length ws ≤ n → AllByRecursion (IsOut n) (here s)
   left_out n l = all_both (λ (m : Message). (is_legal_id m.uid ≡ true) × (has_id (ids_of (here s)) m.uid ≡ true)) (λ (m : Message). asked s.settings s.rows m ≡ true → has_id (ids_of os) m.uid ≡ true) (IsOut n)

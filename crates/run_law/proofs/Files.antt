@@ -1,8 +1,11 @@
 -- Files of a Maildir: which ids they hold, what a delivery adds, and what a reader's move leaves.
-use Rattle.std.proofs.Common.{◌≡◌, ◌≤◌, ◌+◌, inl, inr, ℕ, List, [], ◌∷◌, ◌++◌, Bool, true, false, cond, ◌&&◌, length, map, refl, sym, ◌∙◌, ap, subst, arith, append_assoc, length-append}
+use Rattle.std.proofs.Common.{◌≡◌, ◌≤◌, ◌+◌, inl, inr, ℕ, List, [], ◌∷◌, ◌++◌, Bool, true, false, ◌&&◌, length, map, refl, sym, ◌∙◌, ap, subst, arith, append_assoc, length-append}
 use Rattle.std.specs.Prelude.{bytes_eq}
 use Rattle.std.specs.List.{before_first, filter, list_any, AllByRecursion}
-use Rattle.std.proofs.lemmas.Bool.{both_ways, cases_Bool, false_from_ne_true}
+use Rattle.std.proofs.lemmas.Bool.{both_ways, false_from_ne_true}
+use Rattle.std.proofs.lemmas.Bool.Decides.{same_from_decides, Decides-like}
+use Rattle.std.proofs.lemmas.Slice.Eq.{bytes_eq-Decides}
+use Rattle.std.proofs.lemmas.List.{map-append}
 use Rattle.mail_terms.specs.UniqueId.{is_legal_id, has_id}
 use Rattle.pop3_wire.specs.World.{Message}
 use Rattle.mail_store.specs.Maildir.{Maildir, File, file}
@@ -35,17 +38,7 @@ held_done account state done id e = held_copies account state id ∙ ap is_some 
 -- ---- copies
 
 pub copies-append : (fs gs : List File) (name : List ℕ) → copies (fs ++ gs) name ≡ copies fs name ++ copies gs name
-copies-append [] gs name = refl
-copies-append (f ∷ fs) gs name = by (bytes_eq name (stem f.name)) (copies-append fs gs name)
-  where
-    test : File → Bool
-    test g = bytes_eq name (stem g.name)
-
-    by : (b : Bool) → copies (fs ++ gs) name ≡ copies fs name ++ copies gs name
-        → map (λ (g : File). g.content) (cond b (f ∷ filter (λ (g : File). bytes_eq name (stem g.name)) (fs ++ gs)) (filter (λ (g : File). bytes_eq name (stem g.name)) (fs ++ gs)))
-        ≡ map (λ (g : File). g.content) (cond b (f ∷ filter (λ (g : File). bytes_eq name (stem g.name)) fs) (filter (λ (g : File). bytes_eq name (stem g.name)) fs)) ++ copies gs name
-    by true ih = ap (λ l. f.content ∷ l) ih
-    by false ih = ih
+copies-append fs gs name = ap (map (λ (f : File). f.content)) (filter-append (λ (f : File). bytes_eq name (stem f.name)) fs gs) ∙ map-append (λ (f : File). f.content) _ _
 
 -- the file of a message
 abbrev pub message_file : List ℕ → Message → File
@@ -55,27 +48,15 @@ pub same_stem : StemsDiffer → NamesHaveStems → (account a b : List ℕ) (siz
     → bytes_eq (stem_of account a) (stem (name_of account b size)) ≡ bytes_eq a b
 same_stem differ stems account a b size text la lb =
     ap (bytes_eq (stem_of account a)) (stems account b size text)
-    ∙ elim (cases_Bool (bytes_eq a b)) [
-      | inl same ↦ ap (λ x. bytes_eq (stem_of account a) (stem_of account x)) (sym (bytes_same a b same)) ∙ bytes_self (stem_of account a) ∙ sym same
-      | inr other ↦ false_from_ne_true _ (λ t. both_ways (bytes_eq a b) other
-          (ap (bytes_eq a) (sym (differ account a b la lb (bytes_same _ _ t))) ∙ bytes_self a)) ∙ sym other
-    ]
+    ∙ same_from_decides (bytes_eq (stem_of account a) (stem_of account b)) (bytes_eq a b) (bytes_eq-Decides (stem_of account a) (stem_of account b))
+    (Decides-like (bytes_eq a b) (ap (stem_of account)) (differ account a b la lb) (bytes_eq-Decides a b))
 
 pub copies_messages : StemsDiffer → NamesHaveStems → (account : List ℕ) (ms : List Message) (id : List ℕ) → IsAccountText account → is_legal_id id ≡ true
     → AllByRecursion (λ (m : Message). is_legal_id m.uid ≡ true) ms → copies (map (message_file account) ms) (stem_of account id) ≡ texts_of ms id
 copies_messages differ stems account [] id text l h = refl
 copies_messages differ stems account (m ∷ ms) id text l h =
-    ap (λ b. map (λ (g : File). g.content) (cond b (message_file account m ∷ rest) rest)) (same_stem differ stems account id m.uid (length m.text) text l h.0)
-    ∙ by (bytes_eq id m.uid) (copies_messages differ stems account ms id text l h.1)
-  where
-    rest : List File
-    rest = filter (λ (g : File). bytes_eq (stem_of account id) (stem g.name)) (map (message_file account) ms)
-
-    by : (b : Bool) → map (λ (g : File). g.content) rest ≡ texts_of ms id
-        → map (λ (g : File). g.content) (cond b (message_file account m ∷ rest) rest)
-        ≡ map (λ (k : Message). k.text) (cond b (m ∷ filter (λ (k : Message). bytes_eq id k.uid) ms) (filter (λ (k : Message). bytes_eq id k.uid) ms))
-    by true ih = ap (λ t. m.text ∷ t) ih
-    by false ih = ih
+    let same = same_stem differ stems account id m.uid (length m.text) text l h.0 in
+    grind (arith, same, copies_messages differ stems account ms id text l h.1)
 
 -- ---- moves
 
@@ -83,12 +64,7 @@ copies_around : (front back : List File) (f : File) (name : List ℕ) → copies
 copies_around front back f name = copies-append front (f ∷ back) name ∙ ap (λ k. copies front name ++ k) (copies-append (f ∷ []) back name)
 
 copies_renamed : (f g : File) (name : List ℕ) → stem f.name ≡ stem g.name → f.content ≡ g.content → copies (f ∷ []) name ≡ copies (g ∷ []) name
-copies_renamed f g name b c =
-    ap (λ n. map (λ (k : File). k.content) (cond (bytes_eq name n) (f ∷ []) [])) b ∙ by (bytes_eq name (stem g.name))
-  where
-    by : (t : Bool) → map (λ (k : File). k.content) (cond t (f ∷ []) []) ≡ map (λ (k : File). k.content) (cond t (g ∷ []) [])
-    by true = ap (λ x. x ∷ []) c
-    by false = refl
+copies_renamed f g name b c = grind (arith, b, c)
 
 insert_last : {X : Type 0} (a b x : List X) → length (a ++ (x ++ b)) ≤ 1 → a ++ (x ++ b) ≡ (a ++ b) ++ x
 insert_last a b x l = ap (λ k. a ++ k) (swap x b (omega (arith, l, length-append a (x ++ b)))) ∙ sym (append_assoc a b x)
@@ -177,29 +153,23 @@ count-append : (fs gs : List File) (name content : List ℕ) → count_files (fs
 count-append fs gs name content = ap length (filter-append (is_counted name content) fs gs) ∙ length-append (filter (is_counted name content) fs) (filter (is_counted name content) gs)
 
 count_same : (f g : File) (name content : List ℕ) → base f.name ≡ base g.name → f.content ≡ g.content → count_files (f ∷ []) name content ≡ count_files (g ∷ []) name content
-count_same f g name content b c =
-    ap (λ n. length (cond (bytes_eq name n && bytes_eq content f.content) (f ∷ []) [])) b
-    ∙ ap (λ t. length (cond (bytes_eq name (base g.name) && bytes_eq content t) (f ∷ []) [])) c
-    ∙ by (bytes_eq name (base g.name) && bytes_eq content g.content)
-  where
-    by : (t : Bool) → length (cond t (f ∷ []) []) ≡ length (cond t (g ∷ []) [])
-    by true = refl
-    by false = refl
+count_same f g name content b c = grind (arith, b, c)
 
 pub moves_keep : (account : List ℕ) (before after : Account) → OneMoves before after → KeepsOthers account before after
 moves_keep account before after o name content other =
     ap (λ fs. count_files fs name content) o.is ∙ moved ∙ ap (λ fs. count_files fs name content) (sym o.was)
   where
+    counted : (front back : List File) (f : File) → count_files (front ++ f ∷ back) name content ≡ count_files (front ++ back) name content + count_files (f ∷ []) name content
+    counted front back f = omega (arith, count-append front (f ∷ back) name content, count-append (f ∷ []) back name content, count-append front back name content)
+
     moved : count_files (o.first ++ o.new ∷ o.last) name content ≡ count_files (o.front ++ o.old ∷ o.back) name content
-    moved =
-        let a : count_files (o.first ++ o.new ∷ o.last) name content ≡ count_files o.first name content + count_files (o.new ∷ o.last) name content = count-append o.first (o.new ∷ o.last) name content in
-        let b : count_files (o.new ∷ o.last) name content ≡ count_files (o.new ∷ []) name content + count_files o.last name content = count-append (o.new ∷ []) o.last name content in
-        let c : count_files (o.front ++ o.old ∷ o.back) name content ≡ count_files o.front name content + count_files (o.old ∷ o.back) name content = count-append o.front (o.old ∷ o.back) name content in
-        let d : count_files (o.old ∷ o.back) name content ≡ count_files (o.old ∷ []) name content + count_files o.back name content = count-append (o.old ∷ []) o.back name content in
-        let e : count_files o.front name content + count_files o.back name content ≡ count_files o.first name content + count_files o.last name content =
-        sym (count-append o.front o.back name content) ∙ ap (λ fs. count_files fs name content) o.others ∙ count-append o.first o.last name content in
-        let f : count_files (o.old ∷ []) name content ≡ count_files (o.new ∷ []) name content = count_same o.old o.new name content o.base_same o.content_same in
-        omega arith
+    moved = omega (
+      arith,
+      counted o.first o.last o.new,
+      counted o.front o.back o.old,
+      ap (λ fs. count_files fs name content) o.others,
+      count_same o.old o.new name content o.base_same o.content_same,
+    )
 
 -- the name of a message's file isn't another one
 not_other : NamesHaveStems → NamesAreBases → (account name uid : List ℕ) (size : ℕ) → IsAccountText account → IsOther account name
@@ -213,15 +183,14 @@ none_counted : NamesHaveStems → NamesAreBases → (account : List ℕ) (ms : L
     → AllByRecursion (λ (m : Message). is_legal_id m.uid ≡ true) ms → count_files (map (message_file account) ms) name content ≡ 0
 none_counted stems bases account [] name content text other h = refl
 none_counted stems bases account (m ∷ ms) name content text other h =
-    ap (λ b. length (cond (b && bytes_eq content m.text) (message_file account m ∷ filter (is_counted name content) (map (message_file account) ms)) (filter (is_counted name content) (map (message_file account) ms))))
-    (not_other stems bases account name m.uid (length m.text) text other h.0)
-    ∙ none_counted stems bases account ms name content text other h.1
+    let apart = not_other stems bases account name m.uid (length m.text) text other h.0 in
+    grind (arith, apart, none_counted stems bases account ms name content text other h.1)
 
 pub deliveries_keep : NamesHaveStems → NamesAreBases → (account : List ℕ) (before after : Account) (ms : List Message) → IsAccountText account
     → AllByRecursion (λ (m : Message). is_legal_id m.uid ≡ true) ms → files after ≡ files before ++ map (message_file account) ms → KeepsOthers account before after
-deliveries_keep stems bases account before after ms text h is name content other =
-    let a : count_files (files before ++ map (message_file account) ms) name content ≡ count_files (files before) name content + count_files (map (message_file account) ms) name content =
-    count-append (files before) (map (message_file account) ms) name content in
-    let b : count_files (map (message_file account) ms) name content ≡ 0 = none_counted stems bases account ms name content text other h in
-    let c : count_files (files after) name content ≡ count_files (files before ++ map (message_file account) ms) name content = ap (λ fs. count_files fs name content) is in
-    omega arith
+deliveries_keep stems bases account before after ms text h is name content other = omega (
+  arith,
+  count-append (files before) (map (message_file account) ms) name content,
+  none_counted stems bases account ms name content text other h,
+  ap (λ fs. count_files fs name content) is,
+)

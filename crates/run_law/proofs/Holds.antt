@@ -1,9 +1,9 @@
 -- What a kept state says of each id: what is held is done, and what is done is held or was taken away.
-use Rattle.std.proofs.Common.{◌≡◌, ◌≤◌, ◌⊎◌, inl, inr, ℕ, List, [], Bool, true, false, ◌||◌, length, refl, sym, ◌∙◌, ap, subst, arith}
+use Rattle.std.proofs.Common.{◌≡◌, ◌≤◌, ◌⊎◌, inl, inr, ℕ, List, [], Bool, true, false, length, refl, sym, ◌∙◌, ap, subst, arith}
 use Rattle.std.specs.Prelude.{bytes_eq}
 use Rattle.std.specs.List.{AllByRecursion}
-use Rattle.std.proofs.lemmas.Bool.{both_ways, cases_Bool}
-use Rattle.mail_terms.specs.UniqueId.{is_legal_id, has_id}
+use Rattle.std.proofs.lemmas.Bool.{both_ways, or_left, or_right, cases_Bool}
+use Rattle.mail_terms.specs.UniqueId.{has_id}
 use Rattle.pop3_wire.specs.World.{Message}
 use Rattle.mail_store.specs.FileName.{is_held, stem_of}
 use Rattle.fetch_rules.specs.Record.{is_delivered}
@@ -75,27 +75,17 @@ taken_kept frame before id after kept takes = record {
   done = kept.done;
   rest = kept.rest;
   prefix = kept.prefix;
-  holds = λ other l. by other l (cases_Bool (bytes_eq other id));
+  holds = λ other l. elim (cases_Bool (bytes_eq other id)) [
+    | inl same ↦ inr (or_left _ _ same, ap (λ (x : List ℕ). copies (files after) (stem_of frame.account x)) (bytes_same other id same) ∙ takes.none)
+    | inr apart ↦ elim (kept.holds other l) [
+      | inl e ↦ inl (takes.others other l apart ∙ e)
+      | inr taken ↦ inr (or_right _ _ taken.0, takes.others other l apart ∙ taken.1)
+    ]
+  ];
   recorded = λ other e. kept.recorded other (ap (λ r. is_delivered r other) (sym takes.rows) ∙ e);
   gone = kept.gone;
   taken = (held_is_done frame before kept.done id (kept.holds id takes.legal) takes.held, kept.taken);
 }
-  where
-    state : Situation
-    state = after_event before (TakenAway id after)
-
-    by : (other : List ℕ) → is_legal_id other ≡ true → (bytes_eq other id ≡ true) ⊎ (bytes_eq other id ≡ false) → HoldsOf frame state kept.done other
-    by other l (inl same) = inr (
-      ap (λ b. b || has_id before.taken other) same,
-      ap (λ (x : List ℕ). copies (files after) (stem_of frame.account x)) (bytes_same other id same) ∙ takes.none,
-    )
-    by other l (inr apart) = elim (kept.holds other l) [
-      | inl e ↦ inl (takes.others other l apart ∙ e)
-      | inr taken ↦ inr (
-        ap (λ b. b || has_id before.taken other) apart ∙ taken.0,
-        takes.others other l apart ∙ taken.1,
-      )
-    ]
 
 -- ---- the first state
 

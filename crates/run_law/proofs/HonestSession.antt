@@ -1,5 +1,5 @@
 -- What one session stores if its server is honest.
-use Rattle.std.proofs.Common.{◌≡◌, inl, inr, ◌-◌, ℕ, zero, suc, List, [], ◌∷◌, take, map, refl, sym, ◌∙◌, ap, subst}
+use Rattle.std.proofs.Common.{◌≡◌, inl, inr, ◌-◌, ℕ, zero, suc, List, [], ◌∷◌, take, refl, sym, ◌∙◌, ap, subst}
 use Rattle.std.specs.Prelude.{zip}
 use Rattle.std.specs.List.{filter, AllByRecursion}
 use Rattle.std.proofs.lemmas.Option.{same_Some}
@@ -10,7 +10,7 @@ use Rattle.run_law.specs.Mails.{item_of, listing_of}
 use Rattle.run_law.specs.Steps.{AreTexts, file_for, is_unheld, wanted_at, merged_rows}
 use Rattle.run_law.specs.Sessions.{Served}
 use Rattle.run_law.specs.HonestSession.{IsFileOf, HonestSession}
-use Rattle.run_law.proofs.Lists.{all_filter}
+use Rattle.run_law.proofs.Lists.{all_filter, all_mapped}
 use Rattle.run_law.proofs.Safety.{IsFirstAt, wanted_first}
 use Rattle.run_law.proofs.Linked.{Readings, item_at, session_honest}
 
@@ -33,10 +33,6 @@ pairs account drop (w ∷ wanted) (text ∷ texts) (suc n) first are =
       ),
       pairs account drop wanted texts n first.1 are.1,
     )
-
-all_mapped : {X Y : Type 0} (P : Y → Type 0) (f : X → Y) (xs : List X) → AllByRecursion (λ x. P (f x)) xs → AllByRecursion P (map f xs)
-all_mapped P f [] h = tt
-all_mapped P f (x ∷ xs) h = (h.0, all_mapped P f xs h.1)
 
 pub honest_session : Readings → HonestSession
 honest_session laws settings account before sent got effect after drop marks honest session = elim session.step [

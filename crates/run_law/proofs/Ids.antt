@@ -2,17 +2,17 @@
 use Rattle.std.proofs.Common.{◌≡◌, ◌≤◌, inl, inr, ℕ, zero, suc, List, [], ◌∷◌, ◌++◌, Bool, true, false, cond, ◌&&◌, ◌||◌, length, take, map, refl, sym, ◌∙◌, ap, subst, arith}
 use Rattle.std.specs.Prelude.{bytes_eq, Contains}
 use Rattle.std.specs.List.{filter, AllByRecursion}
-use Rattle.std.proofs.lemmas.Bool.{both_ways, or_parts, or_cases, or_from, false_from_ne_true}
+use Rattle.std.proofs.lemmas.Bool.{both_ways, or_parts, or_cases, or_from, or_left, or_right, false_from_ne_true}
+use Rattle.std.proofs.lemmas.Bool.Decides.{same_from_decides, Decides-like}
 use Rattle.std.proofs.lemmas.Slice.Eq.{bytes_eq-Decides}
-use Rattle.std.proofs.lemmas.List.Folds.{Any-from_list_any}
-use Rattle.std.proofs.lemmas.Cmp.{nat_list_eq_equiv}
-use Rattle.std.proofs.lemmas.Map.Views.{any-filter_same}
-use Rattle.std.proofs.Math.Bool.{and_comm}
+use Rattle.std.proofs.lemmas.List.{map-append}
+use Rattle.std.proofs.lemmas.List.Elements.{filter-append}
+use Rattle.std.proofs.lemmas.List.Folds.{Any-from_list_any, list_any-append}
 use Rattle.mail_terms.specs.Distinct.{AreDistinct}
 use Rattle.pop3_wire.specs.World.{Message}
 use Rattle.mail_terms.specs.UniqueId.{has_id}
 use Rattle.run_law.specs.Mails.{ids_of, texts_of}
-use Rattle.run_law.proofs.Lists.{filter-map, any-map, any_filter, is_some}
+use Rattle.run_law.proofs.Lists.{filter-map, any-map, any_filter, is_some, all_map, all_append, all_mapped}
 
 pub bytes_same : (a b : List ℕ) → bytes_eq a b ≡ true → a ≡ b
 bytes_same a b test = (bytes_eq-Decides a b).0 test
@@ -21,12 +21,15 @@ pub bytes_self : (a : List ℕ) → bytes_eq a a ≡ true
 bytes_self a = (bytes_eq-Decides a a).1 refl
 
 pub bytes_swap : (a b : List ℕ) → bytes_eq a b ≡ bytes_eq b a
-bytes_swap a b = nat_list_eq_equiv.symm a b
+bytes_swap a b = same_from_decides (bytes_eq a b) (bytes_eq b a) (bytes_eq-Decides a b) (Decides-like (bytes_eq b a) sym sym (bytes_eq-Decides b a))
 
 -- ---- whether an id is among these
 
 pub has_filtered : (p : List ℕ → Bool) (ids : List (List ℕ)) (id : List ℕ) → has_id (filter p ids) id ≡ (has_id ids id && p id)
-has_filtered p ids id = any-filter_same (bytes_eq id) p (p id) (λ x e. ap p (sym (bytes_same id x e))) ids ∙ and_comm (p id) (has_id ids id)
+has_filtered p [] id = refl
+has_filtered p (x ∷ xs) id =
+    let same = λ (e : bytes_eq id x ≡ true). ap p (bytes_same id x e) in
+    grind (arith, has_filtered p xs id, same)
 
 pub ids_filtered : (p : List ℕ → Bool) (ms : List Message) (id : List ℕ) → has_id (ids_of (filter (λ (m : Message). p m.uid) ms)) id ≡ (has_id (ids_of ms) id && p id)
 ids_filtered p ms id = ap (λ l. has_id l id) (sym (filter-map p (λ (m : Message). m.uid) ms)) ∙ has_filtered p (ids_of ms) id
@@ -34,38 +37,11 @@ ids_filtered p ms id = ap (λ l. has_id l id) (sym (filter-map p (λ (m : Messag
 pub has_texts : (ms : List Message) (id : List ℕ) → has_id (ids_of ms) id ≡ is_some (texts_of ms id)
 has_texts ms id = any-map (bytes_eq id) (λ (m : Message). m.uid) ms ∙ any_filter (λ (m : Message). bytes_eq id m.uid) (λ (m : Message). m.text) ms
 
-pub ids-append : (ms ns : List Message) → ids_of (ms ++ ns) ≡ ids_of ms ++ ids_of ns
-ids-append [] ns = refl
-ids-append (m ∷ ms) ns = ap (λ l. m.uid ∷ l) (ids-append ms ns)
-
-has_append : (xs ys : List (List ℕ)) (id : List ℕ) → has_id (xs ++ ys) id ≡ (has_id xs id || has_id ys id)
-has_append [] ys id = refl
-has_append (x ∷ xs) ys id = ap (λ b. bytes_eq id x || b) (has_append xs ys id) ∙ by (bytes_eq id x)
-  where
-    by : (b : Bool) → (b || (has_id xs id || has_id ys id)) ≡ ((b || has_id xs id) || has_id ys id)
-    by true = refl
-    by false = refl
-
 pub ids_both : (ms ns : List Message) (id : List ℕ) → has_id (ids_of (ms ++ ns)) id ≡ (has_id (ids_of ms) id || has_id (ids_of ns) id)
-ids_both ms ns id = ap (λ l. has_id l id) (ids-append ms ns) ∙ has_append (ids_of ms) (ids_of ns) id
+ids_both ms ns id = ap (λ l. has_id l id) (map-append (λ (m : Message). m.uid) ms ns) ∙ list_any-append (bytes_eq id) (ids_of ms) (ids_of ns)
 
 pub texts-append : (ms ns : List Message) (id : List ℕ) → texts_of (ms ++ ns) id ≡ texts_of ms id ++ texts_of ns id
-texts-append [] ns id = refl
-texts-append (m ∷ ms) ns id = by (bytes_eq id m.uid) (texts-append ms ns id)
-  where
-    by : (b : Bool) → texts_of (ms ++ ns) id ≡ texts_of ms id ++ texts_of ns id
-        → map (λ (k : Message). k.text) (cond b (m ∷ filter (λ (k : Message). bytes_eq id k.uid) (ms ++ ns)) (filter (λ (k : Message). bytes_eq id k.uid) (ms ++ ns)))
-        ≡ map (λ (k : Message). k.text) (cond b (m ∷ filter (λ (k : Message). bytes_eq id k.uid) ms) (filter (λ (k : Message). bytes_eq id k.uid) ms)) ++ texts_of ns id
-    by true ih = ap (λ l. m.text ∷ l) ih
-    by false ih = ih
-
--- what holds of each message's id holds of any id among them
-pub all_at : (P : List ℕ → Type 0) (ms : List Message) (id : List ℕ) → AllByRecursion (λ (m : Message). P m.uid) ms → has_id (ids_of ms) id ≡ true → P id
-all_at P [] id h e = absurd (both_ways false refl e)
-all_at P (m ∷ ms) id h e = elim (or_cases (bytes_eq id m.uid) (has_id (ids_of ms) id) e) [
-  | inl same ↦ subst P (sym (bytes_same id m.uid same)) h.0
-  | inr more ↦ all_at P ms id h.1 more
-]
+texts-append ms ns id = ap (map (λ (m : Message). m.text)) (filter-append (λ (m : Message). bytes_eq id m.uid) ms ns) ∙ map-append (λ (m : Message). m.text) _ _
 
 pub all_ids_at : (P : List ℕ → Type 0) (ids : List (List ℕ)) (id : List ℕ) → AllByRecursion P ids → has_id ids id ≡ true → P id
 all_ids_at P [] id h e = absurd (both_ways false refl e)
@@ -73,6 +49,27 @@ all_ids_at P (x ∷ xs) id h e = elim (or_cases (bytes_eq id x) (has_id xs id) e
   | inl same ↦ subst P (sym (bytes_same id x same)) h.0
   | inr more ↦ all_ids_at P xs id h.1 more
 ]
+
+-- what holds of each message's id holds of any id among them
+pub all_at : (P : List ℕ → Type 0) (ms : List Message) (id : List ℕ) → AllByRecursion (λ (m : Message). P m.uid) ms → has_id (ids_of ms) id ≡ true → P id
+all_at P ms id h e = all_ids_at P (ids_of ms) id (all_mapped P (λ (m : Message). m.uid) ms h) e
+
+-- the ids of a shorter prefix are among those of a longer one
+pub taken_more : {X : Type 0} (f : X → List ℕ) (m n : ℕ) (xs : List X) (id : List ℕ) → m ≤ n → has_id (map f (take m xs)) id ≡ true → has_id (map f (take n xs)) id ≡ true
+taken_more f zero n xs id l e = absurd (both_ways false refl e)
+taken_more f (suc m) zero xs id l e = absurd (omega (arith, l))
+taken_more f (suc m) (suc n) [] id l e = e
+taken_more f (suc m) (suc n) (x ∷ xs) id l e = elim (or_cases (bytes_eq id (f x)) (has_id (map f (take m xs)) id) e) [
+  | inl same ↦ or_left (bytes_eq id (f x)) (has_id (map f (take n xs)) id) same
+  | inr more ↦ or_right (bytes_eq id (f x)) (has_id (map f (take n xs)) id) (taken_more f m n xs id (omega (arith, l)) more)
+]
+
+-- what is gone after a session is done, if all that was gone is, and each id for which a DELE was begun
+pub gone_is_done : (was is : List ℕ → Bool) (begun gone vanished : List (List ℕ)) → ((id : List ℕ) → was id ≡ true → is id ≡ true) → AllByRecursion (λ id. is id ≡ true) begun
+    → AllByRecursion (λ id. was id ≡ true) gone → AllByRecursion (λ id. has_id begun id ≡ true) vanished → AllByRecursion (λ id. is id ≡ true) (gone ++ vanished)
+gone_is_done was is begun gone vanished stays b g v = all_append (λ id. is id ≡ true) gone vanished
+    (all_map (λ id. was id ≡ true) (λ id. is id ≡ true) stays gone g)
+    (all_map (λ id. has_id begun id ≡ true) (λ id. is id ≡ true) (λ id e. all_ids_at (λ x. is x ≡ true) begun id b e) vanished v)
 
 -- ---- distinct ids
 
@@ -104,71 +101,34 @@ distinct_take (suc n) (m ∷ ms) d = (none_take n ms m.uid d.0, distinct_take n 
 
 none_filter : (p : Message → Bool) (ms : List Message) (id : List ℕ) → has_id (ids_of ms) id ≡ false → has_id (ids_of (filter p ms)) id ≡ false
 none_filter p [] id e = refl
-none_filter p (m ∷ ms) id e = let parts = or_parts _ _ e in by (p m) parts.0 (none_filter p ms id parts.1)
-  where
-    by : (b : Bool) → bytes_eq id m.uid ≡ false → has_id (ids_of (filter p ms)) id ≡ false → has_id (ids_of (cond b (m ∷ filter p ms) (filter p ms))) id ≡ false
-    by true o ih = or_from _ _ o ih
-    by false o ih = ih
+none_filter p (m ∷ ms) id e = let parts = or_parts (bytes_eq id m.uid) (has_id (ids_of ms) id) e in grind (arith, parts.0, none_filter p ms id parts.1)
 
 pub distinct_filter : (p : Message → Bool) (ms : List Message) → Distinct (ids_of ms) → Distinct (ids_of (filter p ms))
 distinct_filter p [] d = tt
-distinct_filter p (m ∷ ms) d = by (p m) (none_filter p ms m.uid d.0) (distinct_filter p ms d.1)
-  where
-    by : (b : Bool) → has_id (ids_of (filter p ms)) m.uid ≡ false → Distinct (ids_of (filter p ms)) → Distinct (ids_of (cond b (m ∷ filter p ms) (filter p ms)))
-    by true o ih = (o, ih)
-    by false o ih = ih
+distinct_filter p (m ∷ ms) d = grind (arith, none_filter p ms m.uid d.0, distinct_filter p ms d.1)
 
 pub no_texts : (ms : List Message) (id : List ℕ) → has_id (ids_of ms) id ≡ false → texts_of ms id ≡ []
 no_texts [] id e = refl
-no_texts (m ∷ ms) id e = let parts = or_parts _ _ e in
-    ap (λ b. map (λ (k : Message). k.text) (cond b (m ∷ filter (λ (k : Message). bytes_eq id k.uid) ms) (filter (λ (k : Message). bytes_eq id k.uid) ms))) parts.0
-    ∙ no_texts ms id parts.1
+no_texts (m ∷ ms) id e = let parts = or_parts (bytes_eq id m.uid) (has_id (ids_of ms) id) e in grind (arith, parts.0, no_texts ms id parts.1)
+
+-- an id that an earlier message has isn't among these
+other_id : (m : Message) (ms : List Message) (id : List ℕ) → has_id (ids_of ms) m.uid ≡ false → bytes_eq id m.uid ≡ true → has_id (ids_of ms) id ≡ false
+other_id m ms id none same = ap (has_id (ids_of ms)) (bytes_same id m.uid same) ∙ none
 
 pub lone : (ms : List Message) (id : List ℕ) → Distinct (ids_of ms) → length (texts_of ms id) ≤ 1
 lone [] id d = omega arith
-lone (m ∷ ms) id d = by (bytes_eq id m.uid) refl (lone ms id d.1)
-  where
-    by : (b : Bool) → bytes_eq id m.uid ≡ b → length (texts_of ms id) ≤ 1
-        → length (map (λ (k : Message). k.text) (cond b (m ∷ filter (λ (k : Message). bytes_eq id k.uid) ms) (filter (λ (k : Message). bytes_eq id k.uid) ms))) ≤ 1
-    by true e ih =
-        let none : texts_of ms id ≡ [] = no_texts ms id (ap (λ i. has_id (ids_of ms) i) (bytes_same id m.uid e) ∙ d.0) in
-        omega (arith, ap length none)
-    by false e ih = ih
+lone (m ∷ ms) id d =
+    let none = λ (e : bytes_eq id m.uid ≡ true). no_texts ms id (other_id m ms id d.0 e) in
+    grind (arith, none, lone ms id d.1)
 
 -- ---- the texts of an id in a part of a list
 
-texts_cond : (q : Bool) (m : Message) (f : List Message) (id : List ℕ)
-    → texts_of (cond q (m ∷ f) f) id ≡ cond q (cond (bytes_eq id m.uid) (m.text ∷ texts_of f id) (texts_of f id)) (texts_of f id)
-texts_cond false m f id = refl
-texts_cond true m f id = by (bytes_eq id m.uid)
-  where
-    by : (b : Bool) → map (λ (k : Message). k.text) (cond b (m ∷ filter (λ (k : Message). bytes_eq id k.uid) f) (filter (λ (k : Message). bytes_eq id k.uid) f))
-        ≡ cond b (m.text ∷ texts_of f id) (texts_of f id)
-    by true = refl
-    by false = refl
-
-texts_table : (q e p : Bool) (x : List ℕ) (f t : List (List ℕ)) → (e ≡ true → q ≡ p) → f ≡ cond p t [] → cond q (cond e (x ∷ f) f) f ≡ cond p (cond e (x ∷ t) t) []
-texts_table true true true x f t s i = ap (λ l. x ∷ l) i
-texts_table true true false x f t s i = absurd (both_ways false refl (sym (s refl)))
-texts_table false true true x f t s i = absurd (both_ways false refl (s refl))
-texts_table false true false x f t s i = i
-texts_table true false true x f t s i = i
-texts_table true false false x f t s i = i
-texts_table false false true x f t s i = i
-texts_table false false false x f t s i = i
-
 -- of messages picked by their ids an id has all its texts, or none
 pub texts_filtered : (p : List ℕ → Bool) (ms : List Message) (id : List ℕ) → texts_of (filter (λ (m : Message). p m.uid) ms) id ≡ cond (p id) (texts_of ms id) []
-texts_filtered p [] id = by (p id)
-  where
-    by : (b : Bool) → texts_of [] id ≡ cond b (texts_of [] id) []
-    by true = refl
-    by false = refl
+texts_filtered p [] id = grind arith
 texts_filtered p (m ∷ ms) id =
-    texts_cond (p m.uid) m (filter (λ (k : Message). p k.uid) ms) id
-    ∙ texts_table (p m.uid) (bytes_eq id m.uid) (p id) m.text (texts_of (filter (λ (k : Message). p k.uid) ms) id) (texts_of ms id)
-    (λ e. ap p (sym (bytes_same id m.uid e))) (texts_filtered p ms id)
-    ∙ ap (λ l. cond (p id) l []) (sym (texts_cond true m ms id))
+    let same = λ (e : bytes_eq id m.uid ≡ true). ap p (bytes_same id m.uid e) in
+    grind (arith, texts_filtered p ms id, same)
 
 -- an id of the part has all its texts there
 abbrev pub HasTextsOf : List Message → List Message → List ℕ → Type 0
@@ -177,27 +137,14 @@ HasTextsOf part ms id = has_id (ids_of part) id ≡ true → texts_of part id �
 pub through : (xs ys zs : List Message) (id : List ℕ) → HasTextsOf xs ys id → HasTextsOf ys zs id → HasTextsOf xs zs id
 through xs ys zs id f g h = let e = f h in e ∙ g (has_texts ys id ∙ ap is_some (sym e) ∙ sym (has_texts xs id) ∙ h)
 
-part_table : (q e h : Bool) (x : List ℕ) (f t : List (List ℕ)) → (e ≡ true → h ≡ false) → (e ≡ true → f ≡ t) → (h ≡ true → f ≡ t)
-    → cond q (e || h) h ≡ true → cond q (cond e (x ∷ f) f) f ≡ cond e (x ∷ t) t
-part_table true true h x f t none same ih is = ap (λ l. x ∷ l) (same refl)
-part_table true false h x f t none same ih is = ih is
-part_table false true h x f t none same ih is = absurd (both_ways h (none refl) is)
-part_table false false h x f t none same ih is = ih is
-
-ids_cond : (q : Bool) (m : Message) (f : List Message) (id : List ℕ) → has_id (ids_of (cond q (m ∷ f) f)) id ≡ cond q (bytes_eq id m.uid || has_id (ids_of f) id) (has_id (ids_of f) id)
-ids_cond true m f id = refl
-ids_cond false m f id = refl
-
 -- a part of the rest of a list, and perhaps its first message
 with_first : (q : Bool) (m : Message) (part ms : List Message) (id : List ℕ) → has_id (ids_of ms) m.uid ≡ false → has_id (ids_of part) m.uid ≡ false
     → HasTextsOf part ms id → HasTextsOf (cond q (m ∷ part) part) (m ∷ ms) id
 with_first q m part ms id none none' ih is =
-    texts_cond q m part id
-    ∙ part_table q (bytes_eq id m.uid) (has_id (ids_of part) id) m.text (texts_of part id) (texts_of ms id)
-    (λ e. ap (has_id (ids_of part)) (bytes_same id m.uid e) ∙ none')
-    (λ e. no_texts part id (ap (has_id (ids_of part)) (bytes_same id m.uid e) ∙ none') ∙ sym (no_texts ms id (ap (has_id (ids_of ms)) (bytes_same id m.uid e) ∙ none)))
-    ih (sym (ids_cond q m part id) ∙ is)
-    ∙ sym (texts_cond true m ms id)
+    let here = λ (e : bytes_eq id m.uid ≡ true). no_texts ms id (other_id m ms id none e) in
+    let there = λ (e : bytes_eq id m.uid ≡ true). no_texts part id (other_id m part id none' e) in
+    let absent = λ (e : bytes_eq id m.uid ≡ true). other_id m part id none' e in
+    grind (arith, here, there, absent, ih, is)
 
 pub whole_filter : (p : Message → Bool) (ms : List Message) (id : List ℕ) → Distinct (ids_of ms) → HasTextsOf (filter p ms) ms id
 whole_filter p [] id d h = refl

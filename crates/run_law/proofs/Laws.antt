@@ -1,7 +1,7 @@
 -- The law over runs, by induction over the events.
 use Rattle.std.proofs.Common.{◌≡◌, ◌≤◌, ◌⊎◌, inl, inr, ℕ, List, [], ◌∷◌, ◌++◌, true, false, length, take, refl, sym, ◌∙◌, ap, subst, arith, length-append}
 use Rattle.std.specs.List.{AllByRecursion}
-use Rattle.std.proofs.lemmas.Bool.{both_ways, or_parts, or_from, cases_Bool}
+use Rattle.std.proofs.lemmas.Bool.{both_ways, cases_Bool}
 use Rattle.std.specs.Prelude.{bytes_eq}
 use Rattle.std.proofs.lemmas.List.{append-nil, take_at}
 use Rattle.mail_terms.specs.UniqueId.{is_legal_id, has_id}
@@ -10,63 +10,43 @@ use Rattle.fetch_rules.specs.Record.{is_delivered}
 use Rattle.mail_store.specs.FileName.{is_held, stem_of}
 use Rattle.run_law.specs.Mails.{ids_of, is_selected, selected, texts_of}
 use Rattle.run_law.specs.Accounts.{Account, files, copies, count_files}
-use Rattle.run_law.specs.Steps.{Leaves}
+use Rattle.run_law.specs.Steps.{Effect, Leaves}
 use Rattle.run_law.specs.Runs.{Frame, IsFrame, Situation, Visit, Event, Visited, Moved, Between, Expired, TakenAway, Happens, Visits, Run, HoldsOf, Kept, LeavesMail, after_event, Promises, ReadOnlyNew, KeptStaysKept, KeptHoldsWhatIsLeft, NothingTakenHoldsExactly, TakenStaysAway, MovesLeaveMail}
 use Rattle.run_law.proofs.Below.{Below, Marks}
 use Rattle.run_law.proofs.Holds.{held_is_done, one_file, between_kept, expired_kept, taken_kept}
-use Rattle.run_law.proofs.Ids.{Distinct, distinct_is, distinct_filter, bytes_same, none_vanish}
+use Rattle.run_law.proofs.Ids.{Distinct, distinct_is, distinct_take, distinct_filter, bytes_same, none_vanish}
 use Rattle.run_law.proofs.Files.{held_done, one_moves, OneMoves, copies_after, moves_keep}
 use Rattle.run_law.proofs.VisitKept.{visit_kept, deletes_held, keeps_others, leaves_out, stores_only_new}
 
 -- ---- an account whose files and rows stay
 
-abbrev HasSameFiles : Account → Account → Type 0
-HasSameFiles before after = (after.maildir.in_new ≡ before.maildir.in_new) × (after.maildir.in_cur ≡ before.maildir.in_cur)
+same_files : (before : Account) (effect : Effect) (after : Account) → Leaves before effect after → files after ≡ files before
+same_files before effect after h = ap (λ c. c ++ after.maildir.in_new) h.in_cur ∙ ap (λ n. before.maildir.in_cur ++ n) h.in_new
 
-same_files : (before after : Account) → HasSameFiles before after → files after ≡ files before
-same_files before after h = ap (λ c. c ++ after.maildir.in_new) h.1 ∙ ap (λ n. before.maildir.in_cur ++ n) h.0
+left_leaves : (account : List ℕ) (before : Account) (effect : Effect) (after : Account) → Leaves before effect after → LeavesMail account before after
+left_leaves account before effect after h = record { rows = h.rows; same = λ id l. ap (λ f. copies f (stem_of account id)) (same_files before effect after h) }
 
 left_kept : (frame : Frame) (before : Situation) (v : Visit) → Kept frame before → Leaves before.account v.effect v.after
     → AllByRecursion (λ id. has_id v.effect.begun id ≡ true) v.vanished → Kept frame (after_event before (Visited v))
-left_kept frame before v kept h vanished = record {
-  done = kept.done;
-  rest = kept.rest;
-  prefix = kept.prefix;
-  holds = λ id l. let same : copies (files v.after) (stem_of frame.account id) ≡ copies (files before.account) (stem_of frame.account id) =
-      ap (λ f. copies f (stem_of frame.account id)) (same_files before.account v.after (h.in_new, h.in_cur)) in
-      elim (kept.holds id l) [
-        | inl e ↦ inl (same ∙ e)
-        | inr taken ↦ inr (taken.0, same ∙ taken.1)
-      ];
-  recorded = λ id e. kept.recorded id (ap (λ r. is_delivered r id) (sym h.rows) ∙ e);
-  gone = subst (AllByRecursion (λ id. has_id (ids_of kept.done) id ≡ true)) (sym (append-nil before.gone) ∙ ap (λ l. before.gone ++ l) (sym (none_vanish v.vanished v.effect.begun h.begun vanished))) kept.gone;
-  taken = kept.taken;
-}
+left_kept frame before v kept h vanished =
+    subst (λ (gone : List (List ℕ)). Kept frame (record { account = v.after; gone = gone; taken = before.taken }))
+    (sym (append-nil before.gone) ∙ ap (λ l. before.gone ++ l) (sym (none_vanish v.vanished v.effect.begun h.begun vanished)))
+    (between_kept frame before v.after kept (left_leaves frame.account before.account v.effect v.after h))
 
 left_promises : (frame : Frame) (before : Situation) (v : Visit) → Leaves before.account v.effect v.after → Promises frame before (Visited v)
 left_promises frame before v h = (
   (λ ended. absurd (both_ways v.effect.ended h.ended ended)),
   subst (AllByRecursion (λ id. (is_held frame.account v.after.maildir id ≡ true) ⊎ (has_id before.taken id ≡ true))) (sym h.begun) tt,
-  (λ name content other. ap (λ fs. count_files fs name content) (same_files before.account v.after (h.in_new, h.in_cur))),
-  λ only_new id l recorded. (
-    ap (λ f. copies f (stem_of frame.account id)) (same_files before.account v.after (h.in_new, h.in_cur)),
-    ap (λ r. is_delivered r id) h.rows ∙ recorded,
-  ),
+  (λ name content other. ap (λ fs. count_files fs name content) (same_files before.account v.effect v.after h)),
+  λ only_new id l recorded. ((left_leaves frame.account before.account v.effect v.after h).same id l, ap (λ r. is_delivered r id) h.rows ∙ recorded),
 )
 
 -- ---- each id has one copy at most
 
 done_distinct : (frame : Frame) → IsFrame frame → (done rest : List Message) → selected frame.max_size frame.all ≡ done ++ rest → Distinct (ids_of done)
 done_distinct frame is done rest e =
-    front done rest (subst (λ (l : List Message). Distinct (ids_of l)) e (distinct_filter (is_selected frame.max_size) frame.all (distinct_is frame.all is.world.distinct)))
-  where
-    none : (xs ys : List Message) (id : List ℕ) → has_id (ids_of (xs ++ ys)) id ≡ false → has_id (ids_of xs) id ≡ false
-    none [] ys id h = refl
-    none (x ∷ xs) ys id h = let parts = or_parts _ _ h in or_from _ _ parts.0 (none xs ys id parts.1)
-
-    front : (xs ys : List Message) → Distinct (ids_of (xs ++ ys)) → Distinct (ids_of xs)
-    front [] ys d = tt
-    front (x ∷ xs) ys d = (none xs ys x.uid d.0, front xs ys d.1)
+    subst (λ (l : List Message). Distinct (ids_of l)) (ap (take (length done)) e ∙ take_at done rest (length done) refl)
+    (distinct_take (length done) (selected frame.max_size frame.all) (distinct_filter (is_selected frame.max_size) frame.all (distinct_is frame.all is.world.distinct)))
 
 one_copy : (frame : Frame) (state : Situation) → IsFrame frame → (kept : Kept frame state) → (id : List ℕ) → is_legal_id id ≡ true → length (copies (files state.account) (stem_of frame.account id)) ≤ 1
 one_copy frame state is kept id l = one_file frame state kept.done id (done_distinct frame is kept.done kept.rest kept.prefix) (kept.holds id l)

@@ -11,12 +11,7 @@ mod Laws
 mod Linked
 mod Listed
 mod Lists
-mod MboxEnds
 mod MboxKept
-mod MboxLinked
-mod MboxRows
-mod MboxSafety
-mod MboxTells
 mod Next
 mod Planned
 mod Records

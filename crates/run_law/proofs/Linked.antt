@@ -2,10 +2,11 @@
 use Rattle.std.proofs.Common.{◌≡◌, ◌⊎◌, inl, inr, ◌-◌, ℕ, zero, suc, List, [], ◌∷◌, ◌++◌, Bool, true, false, length, map, take, refl, sym, ◌∙◌, ap, subst, Some, slice_get, slice_set}
 use Rattle.std.specs.List.{AllByRecursion}
 use Rattle.std.proofs.lemmas.Bool.{both_ways}
-use Rattle.std.proofs.lemmas.Option.{same_Some}
+use Rattle.std.specs.Option.{option_map}
+use Rattle.std.proofs.lemmas.Option.{same_Some, slice_get-map}
 use Rattle.pop3_wire.specs.declared.command.Command.{Command}
-use Rattle.pop3_wire.specs.declared.command.Command.TheVariants.{User, Pass, Stat, UidlAll, UidlOne, ListAll, ListOne, Retr, Dele, Rset, Noop, Top, Quit}
-use Rattle.pop3_wire.specs.World.{Message, maildrop_of}
+use Rattle.pop3_wire.specs.declared.command.Command.TheVariants.{User, Pass, Stat, UidlAll, UidlOne, ListAll, ListOne, Dele, Rset, Top}
+use Rattle.pop3_wire.specs.World.{Message, IsWorld, maildrop_of}
 use Rattle.pop3_wire.specs.Honest.{Asked, Grants, Replies, no_marks, OneListOfCommands}
 use Rattle.mail_terms.specs.Listing.{Item}
 use Rattle.mail_terms.specs.UniqueId.{has_id}
@@ -13,6 +14,14 @@ use Rattle.run_law.specs.Mails.{item_of, listing_of}
 use Rattle.run_law.specs.Steps.{Effect, IsHonest, AreTexts, wanted_at}
 use Rattle.run_law.specs.Readings.{AreGranted, IsNumbered, HonestIsGranted, ListingIsMaildrop, MarksAreAsked, TextsAreMessages}
 use Rattle.run_law.specs.Runs.{Frame, IsFrame, Situation, Visit, Event, Visited, Moved, Run, Kept, after_event, Promises, KeptStaysKept}
+use Rattle.mail_store.specs.Settling.{FrontsAreSettled}
+use Rattle.run_law.specs.Mboxes.{mbox_wanted, entries, MboxStores}
+use Rattle.run_law.specs.MboxRuns.{MboxFrame, MboxSituation, MboxKept, MboxVisited, MboxKeptStaysKept}
+use Rattle.run_law.specs.MboxSessions.{MboxLink, MboxLinks, mbox_visit_of, after_mbox_link, SettlesFirst, MboxLinksAreVisits, MboxLinksKeep}
+use Rattle.run_law.proofs.Below.{RowLaws}
+use Rattle.run_law.proofs.Lists.{all_map}
+use Rattle.run_law.proofs.MboxKept.{settle}
+use Rattle.run_law.proofs.Safety.{tail_of}
 use Rattle.run_law.specs.Sessions.{IsBegun, Reads, IsMarked, Served, Link, Linked, Shifted, after_link, LinksAreVisits, LinksKeep}
 
 -- ---- marks
@@ -36,28 +45,17 @@ none_true (x ∷ xs) (suc place) e = none_true xs place e
 abbrev IsAsked : List Command → ℕ → Type 0
 IsAsked commands place = (front behind : List Command) × (number : ℕ) × (commands ≡ front ++ Dele number ∷ behind) × (number - 1 ≡ place)
 
-kept_mark : (marks next : List Bool) (command : Command) (commands : List Command) (place : ℕ) → next ≡ marks → slice_get next place ≡ Some true
-    → (slice_get marks place ≡ Some true) ⊎ IsAsked (command ∷ commands) place
-kept_mark marks next command commands place same e = inl (ap (λ (m : List Bool). slice_get m place) (sym same) ∙ e)
-
 one_mark : (drop : List Message) (marks : List Bool) (command : Command) (commands : List Command) (bytes : List ℕ) (next : List Bool) (place : ℕ)
     → Grants drop marks command bytes next → slice_get next place ≡ Some true → (slice_get marks place ≡ Some true) ⊎ IsAsked (command ∷ commands) place
-one_mark drop marks (User name) commands bytes next place g e = kept_mark marks next (User name) commands place g.1 e
-one_mark drop marks (Pass word) commands bytes next place g e = kept_mark marks next (Pass word) commands place g.1 e
-one_mark drop marks Stat commands bytes next place g e = kept_mark marks next Stat commands place g.4 e
-one_mark drop marks UidlAll commands bytes next place g e = kept_mark marks next UidlAll commands place g.5 e
-one_mark drop marks (UidlOne n) commands bytes next place g e = absurd g
-one_mark drop marks ListAll commands bytes next place g e = kept_mark marks next ListAll commands place g.5 e
-one_mark drop marks (ListOne n) commands bytes next place g e = absurd g
-one_mark drop marks (Retr n) commands bytes next place g e = kept_mark marks next (Retr n) commands place g.7 e
 one_mark drop marks (Dele n) commands bytes next place g e = elim (set_marks marks (n - 1) place (ap (λ (m : List Bool). slice_get m place) (sym g.3) ∙ e)) [
   | inl old ↦ inl old
   | inr same ↦ inr ([], commands, n, refl, same)
 ]
 one_mark drop marks Rset commands bytes next place g e = absurd (none_true marks place (ap (λ (m : List Bool). slice_get m place) (sym g.1) ∙ e))
-one_mark drop marks Noop commands bytes next place g e = kept_mark marks next Noop commands place g.1 e
+one_mark drop marks (UidlOne n) commands bytes next place g e = absurd g
+one_mark drop marks (ListOne n) commands bytes next place g e = absurd g
 one_mark drop marks (Top n k) commands bytes next place g e = absurd g
-one_mark drop marks Quit commands bytes next place g e = kept_mark marks next Quit commands place g.1 e
+one_mark drop marks other commands bytes next place g e = inl (cc)
 
 marks_from : (drop : List Message) (marks last : List Bool) (commands : List Command) (bytes : List ℕ) (place : ℕ) → Replies drop marks commands bytes last → slice_get last place ≡ Some true
     → (slice_get marks place ≡ Some true) ⊎ IsAsked commands place
@@ -65,7 +63,7 @@ marks_from drop marks last [] bytes place said e = inl (ap (λ (m : List Bool). 
 marks_from drop marks last (command ∷ commands) bytes place said e = elim (marks_from drop said.2 last commands said.1 place said.5 e) [
   | inr later ↦ inr (command ∷ later.0, later.1, later.2, ap (λ (cs : List Command). command ∷ cs) later.3, later.4)
   | inl here ↦ elim said.4 [
-    | inl refused ↦ kept_mark marks said.2 command commands place refused.1 here
+    | inl refused ↦ inl (cc)
     | inr grants ↦ one_mark drop marks command commands said.0 said.2 place grants here
   ]
 ]
@@ -84,9 +82,7 @@ begun_at listing begun [] behind number h = (h.0.0, h.0.1, h.0.2)
 begun_at listing begun (command ∷ front) behind number h = begun_at listing begun front behind number h.1
 
 pub item_at : (drop : List Message) (place : ℕ) (m : Message) → slice_get drop place ≡ Some m → slice_get (listing_of drop) place ≡ Some (item_of m)
-item_at [] place m e = absurd cc
-item_at (x ∷ drop) zero m e = let same : x ≡ m = cc in ap (λ (y : Message). Some (item_of y)) same
-item_at (x ∷ drop) (suc place) m e = item_at drop place m e
+item_at drop place m e = slice_get-map item_of drop place ∙ ap (option_map item_of) e
 
 -- the laws of octets that are used
 pub record Readings : Type 0 where
@@ -112,12 +108,8 @@ module _ (laws : Readings) (sent got : List ℕ) (effect : Effect) (drop : List 
             ap (has_id effect.begun) (sym (ap (λ (i : Item). i.uid) item ∙ m.4)) ∙ begun.2
       ]
 
-  all_went : {P Q : List ℕ → Type 0} → ((id : List ℕ) → P id → Q id) → (ids : List (List ℕ)) → AllByRecursion P ids → AllByRecursion Q ids
-  all_went f [] h = tt
-  all_went f (id ∷ ids) h = (f id h.0, all_went f ids h.1)
-
   pub vanished_begun : (effect.begun ≡ []) ⊎ (effect.listing ≡ listing_of drop) → AllByRecursion (λ id. has_id effect.begun id ≡ true) vanished
-  vanished_begun listing_is = all_went (went_begun listing_is) vanished served.marked
+  vanished_begun listing_is = all_map (IsMarked drop served.marks) (λ id. has_id effect.begun id ≡ true) (went_begun listing_is) vanished served.marked
 
   pub session_honest : (wanted : List (ℕ × Item)) → Reads wanted commands sent got effect → IsHonest wanted drop effect
   session_honest wanted r = record { listing = listing; texts = subst (AreTexts drop wanted) (sym r.texts) (texts r.found wanted r.numbers numbered) }
@@ -143,20 +135,39 @@ abbrev pub visit_of : Link → Effect → Visit
 visit_of link effect = record { settings = link.settings; come = link.come; effect = effect; vanished = link.vanished; after = link.after }
 
 pub visits : Readings → LinksAreVisits
-visits laws frame before link l = elim l.session.step [
-  | inl left ↦ record {
-    same = l.same;
-    step = inl left;
-    vanished = vanished_begun laws link.sent link.got l.effect (maildrop_of frame.all link.come before.gone) link.vanished l.session.commands l.session.asked l.session.begun l.served (inl left.begun);
-  }
-  | inr (stores, reads) ↦
-      let honest = session_honest laws link.sent link.got l.effect (maildrop_of frame.all link.come before.gone) link.vanished l.session.commands l.session.asked l.session.begun l.served (wanted_at link.settings frame.account before.account l.effect) reads in
-      record {
-        same = l.same;
-        step = inr (stores, honest);
-        vanished = vanished_begun laws link.sent link.got l.effect (maildrop_of frame.all link.come before.gone) link.vanished l.session.commands l.session.asked l.session.begun l.served (inr honest.listing);
-      }
-]
+visits laws frame before link l =
+    let drop : List Message = maildrop_of frame.all link.come before.gone in
+    let wanted : List (ℕ × Item) = wanted_at link.settings frame.account before.account l.effect in
+    let honest = session_honest laws link.sent link.got l.effect drop link.vanished l.session.commands l.session.asked l.session.begun l.served wanted in
+    record {
+      same = l.same;
+      step = elim l.session.step [
+        | inl left ↦ inl left
+        | inr (stores, reads) ↦ inr (stores, honest reads)
+      ];
+      vanished = vanished_begun laws link.sent link.got l.effect drop link.vanished l.session.commands l.session.asked l.session.begun l.served (elim l.session.step [
+        | inl left ↦ inl left.begun
+        | inr (stores, reads) ↦ inr (honest reads).listing
+      ]);
+    }
+
+pub mbox_visits : Readings → MboxLinksAreVisits
+mbox_visits laws frame before link l =
+    let drop : List Message = maildrop_of frame.all link.come before.gone in
+    let wanted : List (ℕ × Item) = mbox_wanted link.settings before.account l.effect in
+    let honest = session_honest laws link.sent link.got l.effect drop link.vanished l.session.commands l.session.asked l.session.begun l.served wanted in
+    record {
+      same = l.same;
+      only_new = l.only_new;
+      step = elim l.session.step [
+        | inl (left, none) ↦ inl left
+        | inr (stores, reads) ↦ inr (stores, honest reads)
+      ];
+      vanished = vanished_begun laws link.sent link.got l.effect drop link.vanished l.session.commands l.session.asked l.session.begun l.served (elim l.session.step [
+        | inl (left, none) ↦ inl left.begun
+        | inr (stores, reads) ↦ inr (honest reads).listing
+      ]);
+    }
 
 -- one event, by the law over lists of them
 pub happened : KeptStaysKept → (frame : Frame) (before : Situation) (event : Event) → IsFrame frame → Kept frame before → Run frame before (event ∷ [])
@@ -173,3 +184,35 @@ links_keep stays visited frame start (Linked link ∷ events) is kept run =
 links_keep stays visited frame start (Shifted after ∷ events) is kept run =
     let one = happened stays frame start (Moved after) is kept (run.0, tt) in
     (kept, one.1, links_keep stays visited frame (after_link start (Shifted after)) events is one.0 run.1)
+
+-- ---- with an mboxrd
+
+settles_first : FrontsAreSettled → RowLaws → (frame : MboxFrame) (before : MboxSituation) (link : MboxLink) (l : MboxLinks frame before link) → IsWorld frame.all → MboxKept frame before
+    → MboxStores link.settings before.account l.effect link.after → SettlesFirst frame before.account link.after
+settles_first fronts rows frame before link l world kept s =
+    let origin = settle fronts rows frame before world kept in
+    let tail = tail_of link.settings before.account l.effect link.after s in
+    record {
+      done = origin.done;
+      rest = origin.rest;
+      prefix = origin.prefix;
+      more = entries (take s.stored l.effect.texts) ++ tail.0;
+      file = tail.1 ∙ ap (λ f. f ++ (entries (take s.stored l.effect.texts) ++ tail.0)) origin.file;
+    }
+
+pub mbox_links_keep : MboxKeptStaysKept → MboxLinksAreVisits → FrontsAreSettled → RowLaws → MboxLinksKeep
+mbox_links_keep stays visited fronts rows frame start [] world kept run = kept
+mbox_links_keep stays visited fronts rows frame start (link ∷ links) world kept run =
+    let one = stays frame start (MboxVisited (mbox_visit_of link run.0.effect) ∷ []) world kept (visited frame start link run.0, tt) in (
+      kept,
+      record {
+        effect = run.0.effect;
+        session = run.0.session;
+        promises = one.1.0;
+        settles = elim run.0.session.step [
+          | inl (left, none) ↦ inl none
+          | inr (stores, reads) ↦ inr (settles_first fronts rows frame start link run.0 world kept stores)
+        ];
+      },
+      mbox_links_keep stays visited fronts rows frame (after_mbox_link start link) links world one.0 run.1,
+    )

@@ -1,13 +1,13 @@
 -- What the replies to STAT, UIDL, LIST and RETR say of an honest server's maildrop.
-use Rattle.std.proofs.Common.{◌≡◌, ◌-◌, ◌+◌, ◌<◌, ℕ, zero, suc, List, [], ◌∷◌, ◌++◌, Bool, not, cond, length, map, get_or, refl, sym, ◌∙◌, ap, subst, arith, Some, Ok, Result, Contains, true, false}
+use Rattle.std.proofs.Common.{◌≡◌, ◌-◌, ◌+◌, ◌<◌, ℕ, zero, suc, List, [], ◌∷◌, ◌++◌, Bool, not, length, map, get_or, refl, sym, ◌∙◌, ap, subst, arith, Some, Ok, Result, Contains, true, false}
 use Rattle.std.specs.List.{AllByRecursion, AllZip, enumerate_from, count_by}
 use Rattle.std.specs.List.Sorted.{IsPermutation}
 use Rattle.std.proofs.lemmas.List.{ext_get_or, length-map, get_or-map, get_or_default, append-nil, append_cancel_left}
 use Rattle.std.proofs.lemmas.List.Sorted.{Contains-permutation}
 use Rattle.std.proofs.lemmas.List.FromFn.{length-enumerate_from, get_or-enumerate_from}
-use Rattle.std.proofs.lemmas.List.Recursion.{is_count_by}
+use Rattle.std.proofs.lemmas.List.Sums.{length-filter}
 use Rattle.pop3_wire.specs.declared.command.Command.{Command}
-use Rattle.pop3_wire.specs.declared.command.Command.TheVariants.{User, Pass, Stat, UidlAll, UidlOne, ListAll, ListOne, Retr, Dele, Rset, Noop, Top, Quit}
+use Rattle.pop3_wire.specs.declared.command.Command.TheVariants.{Stat, UidlAll, ListAll, Retr}
 use Rattle.pop3_wire.specs.declared.fault.WireFault.{WireFault}
 use Rattle.pop3_wire.specs.declared.reply.Status.TheVariants.{Positive}
 use Rattle.pop3_wire.specs.Line.{ended, OneLine}
@@ -23,6 +23,7 @@ use Rattle.mail_terms.specs.declared.listing.ScanRow.{ScanRow}
 use Rattle.run_law.specs.Mails.{item_of, listing_of}
 use Rattle.pop3_wire.specs.Reading.{WholeReply, body_bytes, reply_bytes, has_body, IsBodyIf, IsUidLine, IsScanLine, OneListOfLines, TellsCount}
 use Rattle.run_law.specs.Readings.{IsGood, IsNumbered, TextsAreMessages, ListingIsMaildrop}
+use Rattle.run_law.proofs.Lists.{filter_all}
 
 -- ---- texts
 
@@ -41,18 +42,8 @@ texts_are_messages one bodies drop marks [] (reply ∷ replies) found good are f
 texts_are_messages one bodies drop marks (Retr number ∷ commands) (reply ∷ replies) found good are found_is =
     subst (AllByRecursion (IsNumbered drop)) (sym found_is.3)
     (text_is one bodies drop marks are.0 number reply found_is.0 good.0 are.1 found_is.2, texts_are_messages one bodies drop are.0 commands replies found_is.1 good.1 are.2 found_is.4)
-texts_are_messages one bodies drop marks (User name ∷ commands) (reply ∷ replies) found good are found_is = texts_are_messages one bodies drop are.0 commands replies found good.1 are.2 found_is
-texts_are_messages one bodies drop marks (Pass word ∷ commands) (reply ∷ replies) found good are found_is = texts_are_messages one bodies drop are.0 commands replies found good.1 are.2 found_is
-texts_are_messages one bodies drop marks (Stat ∷ commands) (reply ∷ replies) found good are found_is = texts_are_messages one bodies drop are.0 commands replies found good.1 are.2 found_is
-texts_are_messages one bodies drop marks (UidlAll ∷ commands) (reply ∷ replies) found good are found_is = texts_are_messages one bodies drop are.0 commands replies found good.1 are.2 found_is
-texts_are_messages one bodies drop marks (UidlOne n ∷ commands) (reply ∷ replies) found good are found_is = texts_are_messages one bodies drop are.0 commands replies found good.1 are.2 found_is
-texts_are_messages one bodies drop marks (ListAll ∷ commands) (reply ∷ replies) found good are found_is = texts_are_messages one bodies drop are.0 commands replies found good.1 are.2 found_is
-texts_are_messages one bodies drop marks (ListOne n ∷ commands) (reply ∷ replies) found good are found_is = texts_are_messages one bodies drop are.0 commands replies found good.1 are.2 found_is
-texts_are_messages one bodies drop marks (Dele n ∷ commands) (reply ∷ replies) found good are found_is = texts_are_messages one bodies drop are.0 commands replies found good.1 are.2 found_is
-texts_are_messages one bodies drop marks (Rset ∷ commands) (reply ∷ replies) found good are found_is = texts_are_messages one bodies drop are.0 commands replies found good.1 are.2 found_is
-texts_are_messages one bodies drop marks (Noop ∷ commands) (reply ∷ replies) found good are found_is = texts_are_messages one bodies drop are.0 commands replies found good.1 are.2 found_is
-texts_are_messages one bodies drop marks (Top n k ∷ commands) (reply ∷ replies) found good are found_is = texts_are_messages one bodies drop are.0 commands replies found good.1 are.2 found_is
-texts_are_messages one bodies drop marks (Quit ∷ commands) (reply ∷ replies) found good are found_is = texts_are_messages one bodies drop are.0 commands replies found good.1 are.2 found_is
+texts_are_messages one bodies drop marks (other ∷ commands) (reply ∷ replies) found good are found_is =
+    texts_are_messages one bodies drop are.0 commands replies found good.1 are.2 found_is
 
 -- ---- rows
 
@@ -60,62 +51,26 @@ fresh : (n : ℕ) (ms : List Message) → unmarked_from n ms (no_marks ms) ≡ e
 fresh n [] = refl
 fresh n (m ∷ ms) = ap (λ (l : List (ℕ × Message)). (n, m) ∷ l) (fresh (n + 1) ms)
 
-unmarked_count : List Bool → ℕ
-unmarked_count [] = 0
-unmarked_count (b ∷ bs) = cond (not b) (1 + unmarked_count bs) (unmarked_count bs)
+fresh_count : (ms : List Message) → count_by not (no_marks ms) ≡ length ms
+fresh_count ms = sym (length-filter not (no_marks ms)) ∙ ap length (filter_all not (no_marks ms) (unmarked ms)) ∙ length-map ms (λ _. false)
+  where
+    unmarked : (ms : List Message) → AllByRecursion (λ b. not b ≡ true) (no_marks ms)
+    unmarked [] = tt
+    unmarked (m ∷ ms) = (refl, unmarked ms)
 
-all_unmarked : (ms : List Message) → unmarked_count (no_marks ms) ≡ length ms
-unfolding unmarked_count
-all_unmarked [] = refl
-all_unmarked (m ∷ ms) = let ih = all_unmarked ms in omega arith
+abbrev pair_of : {V : Type 0} → ℕ → V → ℕ × V
+pair_of n x = (n, x)
 
-counted : (bs : List Bool) → unmarked_count bs ≡ count_by not bs
-unfolding unmarked_count
-counted bs = is_count_by unmarked_count not refl (λ x xs. refl) bs
+abbrev read : {V : Type 0} → ℕ × V → Result (ℕ × V) WireFault
+read p = Ok p
 
-pub fresh_count : (ms : List Message) → count_by not (no_marks ms) ≡ length ms
-fresh_count ms = sym (counted (no_marks ms)) ∙ all_unmarked ms
-
--- rows of UIDL as the session reads them, and as the server wrote them, over the same lines
-abbrev uid_pair : ℕ → List ℕ → ℕ × List ℕ
-uid_pair n x = (n, x)
-
-abbrev ok_uid : ℕ × List ℕ → Result (ℕ × List ℕ) WireFault
-ok_uid p = Ok p
-
-same_uid : (n m : ℕ) (x y : List ℕ) → ok_uid (n, x) ≡ ok_uid (m, y) → (n ≡ m) × (x ≡ y)
-same_uid n m x y e = let both : uid_pair n x ≡ uid_pair m y = cc in (ap (λ (p : ℕ × List ℕ). p.0) both, ap (λ (p : ℕ × List ℕ). p.1) both)
-
-abbrev scan_pair : ℕ → ℕ → ℕ × ℕ
-scan_pair n x = (n, x)
-
-abbrev ok_scan : ℕ × ℕ → Result (ℕ × ℕ) WireFault
-ok_scan p = Ok p
-
-same_scan : (n m x y : ℕ) → ok_scan (n, x) ≡ ok_scan (m, y) → (n ≡ m) × (x ≡ y)
-same_scan n m x y e = let both : scan_pair n x ≡ scan_pair m y = cc in (ap (λ (p : ℕ × ℕ). p.0) both, ap (λ (p : ℕ × ℕ). p.1) both)
+-- two readings of one row give the same number and value
+same_row : {V : Type 0} (n m : ℕ) (x y : V) → read (n, x) ≡ read (m, y) → (n ≡ m) × (x ≡ y)
+same_row {V} n m x y e = let both : pair_of n x ≡ pair_of m y = cc in (ap (λ (p : ℕ × V). p.0) both, ap (λ (p : ℕ × V). p.1) both)
 
 -- a row has its message's number, and what a listing says of it
 abbrev Tells : {R V : Type 0} → (R → ℕ) → (R → V) → (Message → V) → ℕ × Message → R → Type 0
 Tells number value of q row = (number row ≡ q.0) × (value row ≡ of q.1)
-
-abbrev uid_number : UidRow → ℕ
-uid_number row = row.number
-
-abbrev uid_value : UidRow → List ℕ
-uid_value row = row.uid.items
-
-abbrev scan_number : ScanRow → ℕ
-scan_number row = row.number
-
-abbrev scan_value : ScanRow → ℕ
-scan_value row = row.size
-
-abbrev uid_in : Message → List ℕ
-uid_in m = m.uid
-
-abbrev size_in : Message → ℕ
-size_in m = m.size
 
 -- rows as the session reads them, and as the server wrote them, over the same lines
 both_read : {R V : Type 0} (IsLineOf : List ℕ → R → Type 0) (IsRowOf : ℕ × Message → List ℕ → Type 0) (number : R → ℕ) (value : R → V) (of : Message → V)
@@ -138,9 +93,6 @@ zip_at P (x ∷ xs) (row ∷ rows) h (suc j) d l =
     let r = zip_at P xs rows h.1 j d (omega (arith, l)) in (r.0, (let b = r.1 in omega (arith, b)), r.2, r.3)
 
 -- each message has a row, whatever its place
-abbrev pair_of : ℕ → Message → ℕ × Message
-pair_of n m = (n, m)
-
 row_of_place : {R V : Type 0} (number : R → ℕ) (value : R → V) (of : Message → V) (drop : List Message) (numbered : List (ℕ × Message)) (rows : List R)
     → IsPermutation (enumerate_from 1 drop) numbered → AllZip (Tells number value of) numbered rows → (k : ℕ) (d : Message) → k < length drop
     → (j : ℕ) × (row : R) × (j < length rows) × (get_or rows j row ≡ row) × (number row ≡ 1 + k) × (value row ≡ of (get_or drop k d))
@@ -185,7 +137,7 @@ count_same : OneLine → (drop : List Message) (marks next : List Bool) (stat : 
 count_same one drop marks next stat count good g tells =
     let line : g.2.line ≡ stat.first = (one g.2.line stat.first [] (body_bytes stat.body) g.2.is_line good.line (append-nil (ended g.2.line) ∙ sym g.2.whole)).0 in
     let rest : tells.0 ≡ g.0 = rest_same stat.first tells.0 g.0 tells.2 (subst (λ l. IsFirstLine l Positive g.0) line g.2.first) in
-    (same_scan count (count_by not marks) tells.1 g.1 (sym tells.3 ∙ ap number_and_size rest ∙ g.3)).0
+    (same_row count (count_by not marks) tells.1 g.1 (sym tells.3 ∙ ap number_and_size rest ∙ g.3)).0
 
 nobody : Message
 nobody = record { uid = []; size = 0; text = [] }
@@ -212,24 +164,33 @@ listing_is_maildrop one lists drop name word commands user pass stat uidl list r
     total : length items ≡ length drop
     total = listed.joined.count ∙ count_same one drop are.2.0 are.2.2.0 stat listed.count good.1.1.0 are.2.2.1 listed.counts ∙ ap (count_by not) marks_two ∙ fresh_count drop
 
+    -- what the rows of a listing say of each message
+    row_at : {R V : Type 0} (IsLineOf : List ℕ → R → Type 0) (IsRowOf : ℕ × Message → List ℕ → Type 0) (number : R → ℕ) (value : R → V) (of : Message → V)
+        → ((q : ℕ × Message) (line : List ℕ) (row : R) → IsRowOf q (unstuffed line) → IsLineOf line row → Tells number value of q row)
+        → (marks : List Bool) (numbered : List (ℕ × Message)) (lines : List (List ℕ)) (rows : List R) → marks ≡ no_marks drop
+        → IsPermutation (unmarked_from 1 drop marks) numbered → AllZip IsRowOf numbered (map unstuffed lines) → AllZip IsLineOf lines rows
+        → (k : ℕ) → k < length drop
+        → (j : ℕ) × (row : R) × (j < length rows) × (get_or rows j row ≡ row) × (number row - 1 ≡ k) × (value row ≡ of (get_or drop k nobody))
+    row_at IsLineOf IsRowOf number value of f marks numbered lines rows fresh_marks all zip read_are k inside =
+        let same = subst (λ (l : List (ℕ × Message)). IsPermutation l numbered) (ap (unmarked_from 1 drop) fresh_marks ∙ fresh 1 drop) all in
+        let pairs = both_read IsLineOf IsRowOf number value of f numbered lines rows zip read_are in
+        let r = row_of_place number value of drop numbered rows same pairs k nobody inside in
+        (r.0, r.1, r.2, r.3, (let n = r.4 in omega (arith, n)), r.5)
+
     uid_at : (k : ℕ) → k < length drop → (get_or items k (item_of nobody)).uid ≡ (get_or drop k nobody).uid
     uid_at k inside =
         let g = are.2.2.2.1 in
         let zip = listed_lines one lists IsUidRow UidlAll drop are.2.2.0 uidl g.0 g.1 listed.named.0 good.1.1.1.0 g.2 g.3 g.4 listed.named.1 in
-        let pairs = both_read IsUidLine IsUidRow uid_number uid_value uid_in (λ q line row h r. same_uid _ _ _ _ (sym r ∙ h)) g.4.numbered listed.named.0 listed.uids zip listed.named.2 in
-        let same : IsPermutation (enumerate_from 1 drop) g.4.numbered = subst (λ (l : List (ℕ × Message)). IsPermutation l g.4.numbered) (ap (unmarked_from 1 drop) marks_three ∙ fresh 1 drop) g.4.all in
-        let r = row_of_place uid_number uid_value uid_in drop g.4.numbered listed.uids same pairs k nobody inside in
-        let number : r.1.number - 1 ≡ k = let n = r.4 in omega (arith, n) in
-        ap (λ j. (get_or items j (item_of nobody)).uid) (sym number ∙ ap (λ (row : UidRow). row.number - 1) (sym r.3))
+        let r = row_at IsUidLine IsUidRow (λ row. row.number) (λ row. row.uid.items) (λ m. m.uid) (λ q line row h r. same_row _ _ _ _ (sym r ∙ h))
+        are.2.2.0 g.4.numbered listed.named.0 listed.uids marks_three g.4.all zip listed.named.2 k inside in
+        ap (λ j. (get_or items j (item_of nobody)).uid) (sym r.4 ∙ ap (λ (row : UidRow). row.number - 1) (sym r.3))
         ∙ listed.joined.ids r.0 r.1 r.2 (item_of nobody) ∙ ap (λ (row : UidRow). row.uid.items) r.3 ∙ r.5
 
     size_at : (k : ℕ) → k < length drop → (get_or items k (item_of nobody)).size ≡ (get_or drop k nobody).size
     size_at k inside =
         let g = are.2.2.2.2.1 in
         let zip = listed_lines one lists IsScanRow ListAll drop are.2.2.2.0 list g.0 g.1 listed.sized.0 good.1.1.1.1.0 g.2 g.3 g.4 listed.sized.1 in
-        let pairs = both_read IsScanLine IsScanRow scan_number scan_value size_in (λ q line row h r. same_scan _ _ _ _ (sym r ∙ h)) g.4.numbered listed.sized.0 listed.sizes zip listed.sized.2 in
-        let same : IsPermutation (enumerate_from 1 drop) g.4.numbered = subst (λ (l : List (ℕ × Message)). IsPermutation l g.4.numbered) (ap (unmarked_from 1 drop) marks_four ∙ fresh 1 drop) g.4.all in
-        let r = row_of_place scan_number scan_value size_in drop g.4.numbered listed.sizes same pairs k nobody inside in
-        let number : r.1.number - 1 ≡ k = let n = r.4 in omega (arith, n) in
-        ap (λ j. (get_or items j (item_of nobody)).size) (sym number ∙ ap (λ (row : ScanRow). row.number - 1) (sym r.3))
+        let r = row_at IsScanLine IsScanRow (λ row. row.number) (λ row. row.size) (λ m. m.size) (λ q line row h r. same_row _ _ _ _ (sym r ∙ h))
+        are.2.2.2.0 g.4.numbered listed.sized.0 listed.sizes marks_four g.4.all zip listed.sized.2 k inside in
+        ap (λ j. (get_or items j (item_of nobody)).size) (sym r.4 ∙ ap (λ (row : ScanRow). row.number - 1) (sym r.3))
         ∙ listed.joined.octets r.0 r.1 r.2 (item_of nobody) ∙ ap (λ (row : ScanRow). row.size) r.3 ∙ r.5

@@ -2,41 +2,37 @@
 use Rattle.std.proofs.Common.{◌≡◌, ◌≤◌, ◌⊎◌, inl, inr, ℕ, zero, suc, List, [], ◌∷◌, ◌++◌, Bool, true, false, cond, ◌||◌, length, take, map, refl, sym, ◌∙◌, ap, subst, arith, append_assoc, length-append, None, Some, slice_get}
 use Rattle.std.specs.Prelude.{bytes_eq}
 use Rattle.std.specs.List.{AllByRecursion}
-use Rattle.std.proofs.lemmas.Bool.{both_ways, or_cases}
+use Rattle.std.proofs.lemmas.Bool.{both_ways, or_cases, or_left, or_right}
 use Rattle.std.proofs.lemmas.List.{append-nil, map-append, take_at}
 use Rattle.std.proofs.lemmas.Grind.{flat_map-append}
 use Rattle.std.proofs.lemmas.Option.{same_Some}
-use Rattle.std.proofs.Math.Bool.{or-true}
+use Rattle.std.proofs.Math.Bool.{or-false}
 use Rattle.mail_terms.specs.UniqueId.{has_id}
 use Rattle.mail_terms.specs.Text.{IsWhole}
 use Rattle.pop3_wire.specs.World.{Message, IsMessage, IsWorld}
 use Rattle.fetch_rules.specs.Record.{Row, is_delivered, has_row, marked, marked_all}
-use Rattle.fetch_rules.specs.Record.{Intent}
 use Rattle.fetch_rules.specs.Intents.{closed_rows}
 use Rattle.fetch_rules.specs.Wanted.{DistinctAreFiltered, wanted, candidates}
 use Rattle.mail_terms.specs.Listing.{Item, has_item}
 use Rattle.mail_store.specs.Mboxrd.{entry_of, MboxFile, EntryAddsText}
 use Rattle.mail_store.specs.Settling.{stands_whole, settled_file, FrontsAreSettled}
-use Rattle.run_law.specs.Mails.{ids_of, item_of, is_selected, selected}
+use Rattle.run_law.specs.Mails.{ids_of, is_selected, selected}
 use Rattle.run_law.specs.Steps.{IsHonest, AreTexts, ids_wanted}
 use Rattle.run_law.specs.Runs.{past_limit}
 use Rattle.run_law.specs.Mboxes.{MboxAccount, is_stored, closed_file, settled, mbox_rows, mbox_wanted, none_held, entries, intent_of, IsClosed, IsOpen, IsBroken, MboxLeaves, MboxStores}
 use Rattle.run_law.specs.MboxRuns.{MboxSituation, MboxVisit, MboxFrame, MboxVisits, MboxKept, MboxEnds, MboxPromises, HasEntry, IsNextOpen, after_visit, mbox_shown, entries_of, MboxEvent, MboxVisited, MboxExpired, MboxHappens, MboxPromised, after_mbox_event, MboxKeptStaysKept, MboxKeptHolds, MboxStartsKept}
 use Rattle.run_law.proofs.Core as core
 use Rattle.run_law.proofs.Core.{Scene, IsScene, fetched}
-use Rattle.run_law.proofs.Lists.{any-map, all_map, all_append, all_take, all_filter}
-use Rattle.run_law.proofs.Ids.{ids_both, all_at, all_ids_at, bytes_same, bytes_self, none_vanish}
+use Rattle.run_law.proofs.Lists.{all_map, all_append, all_front, all_back, all_mapped, all_take, all_filter}
+use Rattle.run_law.proofs.Ids.{ids_both, gone_is_done, bytes_same, none_vanish}
 use Rattle.run_law.proofs.Below.{RowLaws}
-use Rattle.run_law.proofs.MboxRows.{delivered_unheld, delivered_one, delivered_all, rows_marked}
-use Rattle.run_law.proofs.Wants.{num_item, snd, Placed, wants_by_number, wants_placed}
+use Rattle.run_law.proofs.Records.{delivered_unheld, delivered_one, delivered_all, rows_marked}
+use Rattle.run_law.proofs.Wants.{num_item, snd, Placed, has_listed, wants_by_number, wants_placed}
 
 -- ---- entries
 
 pub entries-append : (ms ns : List Message) → entries_of (ms ++ ns) ≡ entries_of ms ++ entries_of ns
 entries-append ms ns = ap entries (map-append (λ (m : Message). m.text) ms ns) ∙ flat_map-append entry_of (map (λ (m : Message). m.text) ms) (map (λ (m : Message). m.text) ns)
-
-one_entry : (m : Message) → entries_of (m ∷ []) ≡ entry_of m.text
-one_entry m = append-nil (entry_of m.text)
 
 -- ---- a state that is settled
 
@@ -49,18 +45,10 @@ pub record IsSettled (frame : MboxFrame) (account : MboxAccount) (old : List Mes
   pub more : (id : List ℕ) → has_id (ids_of (frame.had ++ old)) id ≡ true → has_id (ids_of (frame.had ++ done)) id ≡ true
   pub file : (settled account).file ≡ frame.start ++ entries_of done
 
-or_swap : (a b : Bool) → (a || (b || false)) ≡ (a || b)
-or_swap true b = refl
-or_swap false true = refl
-or_swap false false = refl
-
--- the intent to append the next entry, after those of what is done
-abbrev next_intent : MboxFrame → List Message → Message → Intent
-next_intent frame done m = intent_of (frame.start ++ entries_of done) m.uid m.text
-
-all_back : (P : Message → Type 0) (xs ys : List Message) → AllByRecursion P (xs ++ ys) → AllByRecursion P ys
-all_back P [] ys h = h
-all_back P (x ∷ xs) ys h = all_back P xs ys h.1
+with_next : (frame : MboxFrame) (done : List Message) (m : Message) (id : List ℕ)
+    → has_id (ids_of (frame.had ++ (done ++ m ∷ []))) id ≡ (has_id (ids_of (frame.had ++ done)) id || bytes_eq id m.uid)
+with_next frame done m id = ap (λ (ms : List Message). has_id (ids_of ms) id) (sym (append_assoc frame.had done (m ∷ []))) ∙ ids_both (frame.had ++ done) (m ∷ []) id
+    ∙ ap (λ b. has_id (ids_of (frame.had ++ done)) id || b) (or-false (bytes_eq id m.uid))
 
 selected_whole : (frame : MboxFrame) → IsWorld frame.all → AllByRecursion (λ (m : Message). IsWhole m.text) (selected frame.max_size frame.all)
 selected_whole frame world = all_filter (λ (m : Message). IsWhole m.text) (is_selected frame.max_size) frame.all
@@ -72,6 +60,16 @@ next_whole frame state world kept next more is =
     (all_back (λ (m : Message). IsWhole m.text) (frame.had ++ kept.done) (next ∷ more)
     (subst (AllByRecursion (λ (m : Message). IsWhole m.text)) (kept.prefix ∙ ap (λ l. (frame.had ++ kept.done) ++ l) is) (selected_whole frame world))).0
 
+-- what settling makes of an account with this open intent
+settled_is : (bytes uid text : List ℕ) (account : MboxAccount) → (o : IsOpen bytes uid text account)
+    → ((settled account).rows ≡ cond (stands_whole (length bytes) (length (entry_of text)) (bytes ++ o.front)) (marked account.rows uid) account.rows)
+    × ((settled account).file ≡ settled_file (length bytes) (length (entry_of text)) (bytes ++ o.front))
+settled_is bytes uid text account o = (
+  ap (λ i. closed_rows (is_stored i account.file) account.rows i) o.intent
+      ∙ ap (λ f. closed_rows (is_stored (Some (intent_of bytes uid text)) f) account.rows (Some (intent_of bytes uid text))) o.file,
+  ap (λ i. closed_file i account.file) o.intent ∙ ap (closed_file (Some (intent_of bytes uid text))) o.file,
+)
+
 pub settle : FrontsAreSettled → RowLaws → (frame : MboxFrame) (state : MboxSituation) → IsWorld frame.all → (kept : MboxKept frame state) → IsSettled frame state.account kept.done
 settle fronts laws frame state world kept = elim kept.stands [
   | inl closed ↦ record {
@@ -82,47 +80,35 @@ settle fronts laws frame state world kept = elim kept.stands [
     more = λ id e. e;
     file = ap (λ i. closed_file i state.account.file) closed.intent ∙ closed.file;
   }
-  | inr opened ↦ by opened (fronts (frame.start ++ entries_of kept.done) opened.next.text opened.opened.front opened.opened.behind (next_whole frame state world kept opened.next opened.more opened.is_next) opened.opened.entry)
+  | inr o ↦
+      let bytes : List ℕ = frame.start ++ entries_of kept.done in
+      let is = settled_is bytes o.next.uid o.next.text state.account o.opened in
+      let rows = λ (b : Bool). cond b (marked state.account.rows o.next.uid) state.account.rows in
+      elim (fronts bytes o.next.text o.opened.front o.opened.behind (next_whole frame state world kept o.next o.more o.is_next) o.opened.entry) [
+        | inl whole ↦ record {
+          done = kept.done ++ o.next ∷ [];
+          rest = o.more;
+          prefix = kept.prefix ∙ ap (λ l. (frame.had ++ kept.done) ++ l) o.is_next ∙ simp append_assoc;
+          recorded = λ id. ap (λ r. is_delivered r id) (is.0 ∙ ap rows whole.0)
+              ∙ delivered_one laws state.account.rows o.next.uid id o.row
+              ∙ ap (λ b. b || bytes_eq id o.next.uid) (kept.recorded id)
+              ∙ sym (with_next frame kept.done o.next id);
+          more = λ id e. with_next frame kept.done o.next id ∙ or_left _ _ e;
+          file = is.1 ∙ whole.1
+              ∙ ap (λ l. bytes ++ l) (whole.2 ∙ sym (append-nil (entry_of o.next.text)))
+              ∙ append_assoc frame.start (entries_of kept.done) (entries_of (o.next ∷ []))
+              ∙ ap (λ l. frame.start ++ l) (sym (entries-append kept.done (o.next ∷ [])));
+        }
+        | inr part ↦ record {
+          done = kept.done;
+          rest = kept.rest;
+          prefix = kept.prefix;
+          recorded = λ id. ap (λ r. is_delivered r id) (is.0 ∙ ap rows part.0) ∙ kept.recorded id;
+          more = λ id e. e;
+          file = is.1 ∙ part.1;
+        }
+      ]
 ]
-  where
-    by : (o : IsNextOpen (frame.start ++ entries_of kept.done) kept.rest state.account)
-        → ((stands_whole (length (frame.start ++ entries_of kept.done)) (length (entry_of o.next.text)) ((frame.start ++ entries_of kept.done) ++ o.opened.front) ≡ true)
-        × (settled_file (length (frame.start ++ entries_of kept.done)) (length (entry_of o.next.text)) ((frame.start ++ entries_of kept.done) ++ o.opened.front) ≡ (frame.start ++ entries_of kept.done) ++ o.opened.front) × (o.opened.front ≡ entry_of o.next.text))
-        ⊎ ((stands_whole (length (frame.start ++ entries_of kept.done)) (length (entry_of o.next.text)) ((frame.start ++ entries_of kept.done) ++ o.opened.front) ≡ false)
-        × (settled_file (length (frame.start ++ entries_of kept.done)) (length (entry_of o.next.text)) ((frame.start ++ entries_of kept.done) ++ o.opened.front) ≡ frame.start ++ entries_of kept.done))
-        → IsSettled frame state.account kept.done
-    by o (inl whole) = record {
-      done = kept.done ++ o.next ∷ [];
-      rest = o.more;
-      prefix = kept.prefix ∙ ap (λ l. (frame.had ++ kept.done) ++ l) o.is_next ∙ sym (append_assoc (frame.had ++ kept.done) (o.next ∷ []) o.more)
-          ∙ ap (λ l. l ++ o.more) (append_assoc frame.had kept.done (o.next ∷ []));
-      recorded = λ id.
-          ap (λ i. is_delivered (closed_rows (is_stored i state.account.file) state.account.rows i) id) o.opened.intent
-          ∙ ap (λ (f : List ℕ). is_delivered (closed_rows (is_stored (Some (next_intent frame kept.done o.next)) f) state.account.rows (Some (next_intent frame kept.done o.next))) id) o.opened.file
-          ∙ ap (λ b. is_delivered (cond b (marked state.account.rows o.next.uid) state.account.rows) id) whole.0
-          ∙ delivered_one laws state.account.rows o.next.uid id o.row
-          ∙ ap (λ b. b || bytes_eq id o.next.uid) (kept.recorded id)
-          ∙ sym (ids_both (frame.had ++ kept.done) (o.next ∷ []) id ∙ or_swap (has_id (ids_of (frame.had ++ kept.done)) id) (bytes_eq id o.next.uid))
-          ∙ ap (λ (ms : List Message). has_id (ids_of ms) id) (append_assoc frame.had kept.done (o.next ∷ []));
-      more = λ id e. ap (λ (ms : List Message). has_id (ids_of ms) id) (sym (append_assoc frame.had kept.done (o.next ∷ [])))
-          ∙ ids_both (frame.had ++ kept.done) (o.next ∷ []) id ∙ ap (λ b. b || has_id (ids_of (o.next ∷ [])) id) e;
-      file = ap (λ i. closed_file i state.account.file) o.opened.intent ∙ ap (closed_file (Some (next_intent frame kept.done o.next))) o.opened.file ∙ whole.1
-          ∙ ap (λ l. (frame.start ++ entries_of kept.done) ++ l) (whole.2 ∙ sym (one_entry o.next))
-          ∙ append_assoc frame.start (entries_of kept.done) (entries_of (o.next ∷ []))
-          ∙ ap (λ l. frame.start ++ l) (sym (entries-append kept.done (o.next ∷ [])));
-    }
-    by o (inr part) = record {
-      done = kept.done;
-      rest = kept.rest;
-      prefix = kept.prefix;
-      recorded = λ id.
-          ap (λ i. is_delivered (closed_rows (is_stored i state.account.file) state.account.rows i) id) o.opened.intent
-          ∙ ap (λ (f : List ℕ). is_delivered (closed_rows (is_stored (Some (next_intent frame kept.done o.next)) f) state.account.rows (Some (next_intent frame kept.done o.next))) id) o.opened.file
-          ∙ ap (λ b. is_delivered (cond b (marked state.account.rows o.next.uid) state.account.rows) id) part.0
-          ∙ kept.recorded id;
-      more = λ id e. e;
-      file = ap (λ i. closed_file i state.account.file) o.opened.intent ∙ ap (closed_file (Some (next_intent frame kept.done o.next))) o.opened.file ∙ part.1;
-    }
 
 -- ---- an account that is left, its file perhaps cut back
 
@@ -134,7 +120,7 @@ reopened fronts bytes uid text before after whole-text o i f = elim (fronts byte
 ]
   where
     cut : after.file ≡ settled_file (length bytes) (length (entry_of text)) (bytes ++ o.front)
-    cut = f ∙ ap (λ i. closed_file i before.file) o.intent ∙ ap (closed_file (Some (intent_of bytes uid text))) o.file
+    cut = f ∙ (settled_is bytes uid text before o).1
 
 left_kept : FrontsAreSettled → (frame : MboxFrame) (before : MboxSituation) (v : MboxVisit) → IsWorld frame.all → MboxKept frame before → MboxLeaves before.account v.effect v.after
     → AllByRecursion (λ id. has_id v.effect.begun id ≡ true) v.vanished → MboxKept frame (after_visit before v)
@@ -195,13 +181,9 @@ has_entry frame state kept id e = elim (or_cases (has_id (ids_of frame.had) id) 
         id_is = at.4;
         before = at.0;
         after = at.2 ++ kept.rest;
-        selected_is = kept.prefix ∙ ap (λ l. (frame.had ++ l) ++ kept.rest) at.3
-            ∙ ap (λ l. l ++ kept.rest) (sym (append_assoc frame.had at.0 (at.1 ∷ at.2))) ∙ append_assoc (frame.had ++ at.0) (at.1 ∷ at.2) kept.rest;
+        selected_is = kept.prefix ∙ ap (λ l. (frame.had ++ l) ++ kept.rest) at.3 ∙ simp append_assoc;
         behind = entries_of at.2 ++ tail.0;
-        file_is = tail.1 ∙ append_assoc frame.start (entries_of kept.done) tail.0
-            ∙ ap (λ l. frame.start ++ l) (ap (λ l. l ++ tail.0) (ap entries_of at.3 ∙ entries-append at.0 (at.1 ∷ at.2))
-            ∙ append_assoc (entries_of at.0) (entry_of at.1.text ++ entries_of at.2) tail.0
-            ∙ ap (λ l. entries_of at.0 ++ l) (append_assoc (entry_of at.1.text) (entries_of at.2) tail.0));
+        file_is = tail.1 ∙ ap (λ l. (frame.start ++ l) ++ tail.0) (ap entries_of at.3 ∙ entries-append at.0 (at.1 ∷ at.2)) ∙ simp append_assoc;
       })
 ]
 
@@ -217,12 +199,6 @@ texts_taken drop' (q ∷ qs) (text ∷ texts) (suc n) h t l =
     let is : text ≡ q.1.text = t.0.2 ∙ ap (λ (m : Message). m.text) same in
     ap (λ x. x ∷ take n texts) is ∙ ap (λ l. q.1.text ∷ l) (texts_taken drop' qs texts n h.1 t.1 (omega (arith, l)))
 
-same_item : (a b : ℕ × Item) → Some a ≡ Some b → b ≡ a
-same_item a b e = cc
-
-same_text : (a b : List ℕ) → Some a ≡ Some b → b ≡ a
-same_text a b e = cc
-
 -- the message and the text at one place
 pub at_place : (drop' : List Message) (qs : List (ℕ × Message)) (texts : List (List ℕ)) (n : ℕ) (message : ℕ × Item) (text : List ℕ) → AllByRecursion (Placed drop') qs
     → AreTexts drop' (map num_item qs) texts → slice_get (map num_item qs) n ≡ Some message → slice_get texts n ≡ Some text
@@ -231,7 +207,7 @@ at_place drop' qs [] n message text h t w g = absurd cc
 at_place drop' [] (x ∷ texts) n message text h t w g = absurd t
 at_place drop' (q ∷ qs) (x ∷ texts) zero message text h t w g =
     let same : t.0.0 ≡ q.1 = same_Some _ _ (sym t.0.1 ∙ h.0) in
-    (q, same_item _ _ w, same_text _ _ g ∙ t.0.2 ∙ ap (λ (m : Message). m.text) same, refl)
+    (q, sym (same_Some _ _ w), sym (same_Some _ _ g) ∙ t.0.2 ∙ ap (λ (m : Message). m.text) same, refl)
 at_place drop' (q ∷ qs) (x ∷ texts) (suc n) message text h t w g =
     let r = at_place drop' qs texts n message text h.1 t.1 w g in (r.0, r.1, r.2, ap (λ l. q ∷ l) r.3)
 
@@ -290,22 +266,15 @@ module _ (fronts : FrontsAreSettled) (laws : RowLaws) (filtered : DistinctAreFil
   has_rows n = all_take (λ (m : Message). has_row rows m.uid ≡ true) n ws
       (all_map (λ (m : Message). has_id (ids_of here) m.uid ≡ true) (λ (m : Message). has_row rows m.uid ≡ true)
       (λ m e. laws.listed (settled before.account).rows v.effect.listing (none_held v.effect.listing) v.effect.now m.uid
-      ∙ ap (λ b. has_row (settled before.account).rows m.uid || b) (listed m.uid ∙ e) ∙ or-true (has_row (settled before.account).rows m.uid))
+      ∙ or_right _ _ (ap (λ l. has_item l m.uid) honest.listing ∙ has_listed here m.uid ∙ e))
       ws (core.fetched_here scene is_scene))
-    where
-      listed : (id : List ℕ) → has_item v.effect.listing id ≡ has_id (ids_of here) id
-      listed id = ap (λ l. has_item l id) honest.listing ∙ any-map (λ (i : Item). bytes_eq id i.uid) item_of here ∙ sym (any-map (bytes_eq id) (λ (m : Message). m.uid) here)
-
-  ids_have_rows : (ms : List Message) → AllByRecursion (λ (m : Message). has_row rows m.uid ≡ true) ms → AllByRecursion (λ id. has_row rows id ≡ true) (ids_of ms)
-  ids_have_rows [] h = tt
-  ids_have_rows (m ∷ ms) h = (h.0, ids_have_rows ms h.1)
 
   rows_are : v.after.rows ≡ marked_all rows (ids_of (take s.stored ws))
   rows_are = s.rows ∙ ap (marked_all rows) (ap (λ w. ids_wanted (take s.stored w)) wanted_is ∙ core.wanted_ids scene is_scene s.stored)
 
   recorded_after : (id : List ℕ) → is_delivered v.after.rows id ≡ has_id (ids_of (frame.had ++ (origin.done ++ take s.stored ws))) id
   recorded_after id = ap (λ r. is_delivered r id) rows_are
-      ∙ delivered_all laws rows (ids_of (take s.stored ws)) id (ids_have_rows (take s.stored ws) (has_rows s.stored))
+      ∙ delivered_all laws rows (ids_of (take s.stored ws)) id (all_mapped (λ id. has_row rows id ≡ true) (λ (m : Message). m.uid) (take s.stored ws) (has_rows s.stored))
       ∙ ap (λ b. b || has_id (ids_of (take s.stored ws)) id) (known id)
       ∙ sym (ids_after id)
 
@@ -322,37 +291,16 @@ module _ (fronts : FrontsAreSettled) (laws : RowLaws) (filtered : DistinctAreFil
 
   -- ---- the next state
 
-  gone_after : AllByRecursion (λ id. has_id v.effect.begun id ≡ true) v.vanished
-      → AllByRecursion (λ id. has_id (ids_of (frame.had ++ (origin.done ++ take s.stored ws))) id ≡ true) (before.gone ++ v.vanished)
-  gone_after vanished = all_append (λ id. has_id (ids_of (frame.had ++ (origin.done ++ take s.stored ws))) id ≡ true) before.gone v.vanished
-      (all_map (λ id. has_id (ids_of (frame.had ++ kept.done)) id ≡ true) (λ id. has_id (ids_of (frame.had ++ (origin.done ++ take s.stored ws))) id ≡ true)
-      (λ id e. ids_after id ∙ ap (λ b. b || has_id (ids_of (take s.stored ws)) id) (origin.more id e)) before.gone kept.gone)
-      (all_map (λ id. has_id v.effect.begun id ≡ true) (λ id. has_id (ids_of (frame.had ++ (origin.done ++ take s.stored ws))) id ≡ true)
-      (λ id e. sym (recorded_after id) ∙ all_ids_at (λ x. is_delivered v.after.rows x ≡ true) v.effect.begun id s.begun e) v.vanished vanished)
+  -- what isn't done then, and what the file ends with
+  abbrev Next : Type 0
+  Next = (rest : List Message) × (selected frame.max_size frame.all ≡ (frame.had ++ (origin.done ++ take s.stored ws)) ++ rest)
+      × (IsClosed (frame.start ++ entries_of (origin.done ++ take s.stored ws)) v.after ⊎ IsNextOpen (frame.start ++ entries_of (origin.done ++ take s.stored ws)) rest v.after)
 
-  closed_kept : IsClosed ((settled before.account).file ++ entries (take s.stored v.effect.texts)) v.after → AllByRecursion (λ id. has_id v.effect.begun id ≡ true) v.vanished
-      → MboxKept frame (after_visit before v)
-  closed_kept c vanished = record {
-    done = origin.done ++ take s.stored ws;
-    rest = (core.added_begins scene is_scene s.stored).0;
-    prefix = prefix_of s.stored;
-    recorded = recorded_after;
-    gone = gone_after vanished;
-    stands = inl (record { intent = c.intent; file = c.file ∙ bytes_are });
-  }
-
-  broken_kept : IsBroken v.settings before.account v.effect s.stored v.after → AllByRecursion (λ id. has_id v.effect.begun id ≡ true) v.vanished → MboxKept frame (after_visit before v)
-  broken_kept b vanished = record {
-    done = origin.done ++ take s.stored ws;
-    rest = place.0.1 ∷ later;
-    prefix = prefix_of (suc s.stored)
-        ∙ ap (λ l. (frame.had ++ (origin.done ++ l)) ++ later) (sym (core.taken_is scene is_scene (suc s.stored)) ∙ ap (map snd) place.3 ∙ map-append snd (take s.stored qs) (place.0 ∷ []) ∙ ap (λ l. l ++ place.0.1 ∷ []) (core.taken_is scene is_scene s.stored))
-        ∙ ap (λ l. (frame.had ++ l) ++ later) (sym (append_assoc origin.done (take s.stored ws) (place.0.1 ∷ [])))
-        ∙ ap (λ l. l ++ later) (sym (append_assoc frame.had (origin.done ++ take s.stored ws) (place.0.1 ∷ [])))
-        ∙ append_assoc (frame.had ++ (origin.done ++ take s.stored ws)) (place.0.1 ∷ []) later;
-    recorded = recorded_after;
-    gone = gone_after vanished;
-    stands = inr (record {
+  broken_next : IsBroken v.settings before.account v.effect s.stored v.after → Next
+  broken_next b = (
+    place.0.1 ∷ later,
+    prefix_of (suc s.stored) ∙ ap (λ l. (frame.had ++ (origin.done ++ l)) ++ later) taken ∙ simp append_assoc,
+    inr (record {
       next = place.0.1;
       more = later;
       is_next = refl;
@@ -366,8 +314,8 @@ module _ (fronts : FrontsAreSettled) (laws : RowLaws) (filtered : DistinctAreFil
         file = b.opened.file ∙ ap (λ l. l ++ b.opened.front) bytes_are;
       };
       row = ap (λ r. has_row r place.0.1.uid) rows_are ∙ rows_marked laws rows (ids_of (take s.stored ws)) place.0.1.uid ∙ row_of_next;
-    });
-  }
+    }),
+  )
     where
       place : (q : ℕ × Message) × (b.message ≡ num_item q) × (b.text ≡ q.1.text) × (take (suc s.stored) qs ≡ take s.stored qs ++ q ∷ [])
       place = at_place here qs v.effect.texts s.stored b.message b.text (wants_placed v.settings rows here) texts_are
@@ -381,15 +329,27 @@ module _ (fronts : FrontsAreSettled) (laws : RowLaws) (filtered : DistinctAreFil
           ∙ ap (λ l. l ++ place.0.1 ∷ []) (core.taken_is scene is_scene s.stored)
 
       row_of_next : has_row rows place.0.1.uid ≡ true
-      row_of_next = all_at (λ id. has_row rows id ≡ true) (take (suc s.stored) ws) place.0.1.uid (has_rows (suc s.stored))
-          (ap (λ (l : List Message). has_id (ids_of l) place.0.1.uid) taken ∙ ids_both (take s.stored ws) (place.0.1 ∷ []) place.0.1.uid
-          ∙ ap (λ b. has_id (ids_of (take s.stored ws)) place.0.1.uid || (b || false)) (bytes_self place.0.1.uid) ∙ or-true (has_id (ids_of (take s.stored ws)) place.0.1.uid))
+      row_of_next = (all_back (λ (m : Message). has_row rows m.uid ≡ true) (take s.stored ws) (place.0.1 ∷ [])
+          (subst (AllByRecursion (λ (m : Message). has_row rows m.uid ≡ true)) taken (has_rows (suc s.stored)))).0
+
+  next : Next
+  next = elim s.ending [
+    | inl c ↦ ((core.added_begins scene is_scene s.stored).0, prefix_of s.stored, inl (record { intent = c.intent; file = c.file ∙ bytes_are }))
+    | inr b ↦ broken_next b
+  ]
 
   pub stored_kept : AllByRecursion (λ id. has_id v.effect.begun id ≡ true) v.vanished → MboxKept frame (after_visit before v)
-  stored_kept vanished = elim s.ending [
-    | inl c ↦ closed_kept c vanished
-    | inr b ↦ broken_kept b vanished
-  ]
+  stored_kept vanished = record {
+    done = origin.done ++ take s.stored ws;
+    rest = next.0;
+    prefix = next.1;
+    recorded = recorded_after;
+    gone = gone_is_done (λ id. has_id (ids_of (frame.had ++ kept.done)) id) (λ id. has_id (ids_of (frame.had ++ (origin.done ++ take s.stored ws))) id) v.effect.begun before.gone v.vanished
+        (λ id e. ids_after id ∙ or_left _ _ (origin.more id e))
+        (all_map (λ id. is_delivered v.after.rows id ≡ true) (λ id. has_id (ids_of (frame.had ++ (origin.done ++ take s.stored ws))) id ≡ true) (λ id e. sym (recorded_after id) ∙ e) v.effect.begun s.begun)
+        kept.gone vanished;
+    stands = next.2;
+  }
 
   pub ends : v.effect.ended ≡ true → MboxEnds frame before v
   ends ended = record {
@@ -454,7 +414,7 @@ mbox_kept_states fronts laws filtered frame start (event ∷ events) world kept 
 
 texts_stand : EntryAddsText → (file : List ℕ) (first : List (List ℕ)) (ms : List Message) → AllByRecursion (λ (m : Message). IsWhole m.text) ms → MboxFile file first
     → MboxFile (file ++ entries_of ms) (first ++ map (λ (m : Message). m.text) ms)
-texts_stand adds file first [] h stands = subst (MboxFile (file ++ [])) (sym (append-nil first)) (subst (λ f. MboxFile f first) (sym (append-nil file)) stands)
+texts_stand adds file first [] h stands = simp append-nil stands
 texts_stand adds file first (m ∷ ms) h stands =
     let more = texts_stand adds (file ++ entry_of m.text) (first ++ m.text ∷ []) ms h.1 (adds file m.text first stands h.0) in
     subst (MboxFile (file ++ (entry_of m.text ++ entries_of ms))) (append_assoc first (m.text ∷ []) (map (λ (x : Message). x.text) ms))
@@ -465,50 +425,37 @@ at_length [] y ys = refl
 at_length (x ∷ xs) y ys = at_length xs y ys
 
 pub mbox_holds : EntryAddsText → MboxKeptHolds
-mbox_holds adds frame state world kept = record {
-  j = length kept.done;
-  later = kept.done ++ kept.rest;
-  later_is = whole;
-  below = omega (arith, length-append kept.done kept.rest);
-  rest = tail.0;
-  file = tail.1 ∙ ap (λ (ms : List Message). (frame.start ++ entries_of ms) ++ tail.0) (sym front);
-  at_most = at_most;
-  ids = λ id. kept.recorded id ∙ ap (λ (ms : List Message). has_id (ids_of (frame.had ++ ms)) id) (sym front);
-  entered = has_entry frame state kept;
-  texts = λ none first stands.
-      subst (λ (ms : List Message). MboxFile state.account.file (first ++ map (λ (m : Message). m.text) ms)) (sym front)
-      (subst (λ f. MboxFile f (first ++ map (λ (m : Message). m.text) kept.done))
-      (sym (tail.1 ∙ ap (λ l. (frame.start ++ entries_of kept.done) ++ l) none ∙ append-nil (frame.start ++ entries_of kept.done)))
-      (texts_stand adds frame.start first kept.done whole_done stands));
-}
-  where
-    whole : selected frame.max_size frame.all ≡ frame.had ++ (kept.done ++ kept.rest)
-    whole = kept.prefix ∙ append_assoc frame.had kept.done kept.rest
-
-    tail : (rest : List ℕ) × (state.account.file ≡ (frame.start ++ entries_of kept.done) ++ rest)
-        × (((state.account.intent ≡ None) × (rest ≡ [])) ⊎ ((next : Message) × (behind : List ℕ) × (more : List Message) × (kept.rest ≡ next ∷ more) × (entry_of next.text ≡ rest ++ behind)
-        × (state.account.intent ≡ Some (intent_of (frame.start ++ entries_of kept.done) next.uid next.text))))
-    tail = rest_of frame state kept
-
-    front : take (length kept.done) (kept.done ++ kept.rest) ≡ kept.done
-    front = take_at kept.done kept.rest (length kept.done) refl
-
-    whole_done : AllByRecursion (λ (m : Message). IsWhole m.text) kept.done
-    whole_done = core.all_front (λ (m : Message). IsWhole m.text) kept.done kept.rest (all_back (λ (m : Message). IsWhole m.text) frame.had (kept.done ++ kept.rest)
-        (subst (AllByRecursion (λ (m : Message). IsWhole m.text)) whole (selected_whole frame world)))
-
-    at_most : ((state.account.intent ≡ None) × (tail.0 ≡ [])) ⊎ ((next : Message) × (behind : List ℕ) × (slice_get (kept.done ++ kept.rest) (length kept.done) ≡ Some next) × (entry_of next.text ≡ tail.0 ++ behind)
-        × (state.account.intent ≡ Some (intent_of (frame.start ++ entries_of (take (length kept.done) (kept.done ++ kept.rest))) next.uid next.text)))
-    at_most = elim tail.2 [
-      | inl none ↦ inl none
-      | inr (next, behind, more, is, entry, opened) ↦ inr (
-        next,
-        behind,
-        ap (λ (l : List Message). slice_get (kept.done ++ l) (length kept.done)) is ∙ at_length kept.done next more,
-        entry,
-        opened ∙ ap (λ (ms : List Message). Some (intent_of (frame.start ++ entries_of ms) next.uid next.text)) (sym front),
-      )
-    ]
+mbox_holds adds frame state world kept =
+    let tail = rest_of frame state kept in
+    let whole : selected frame.max_size frame.all ≡ frame.had ++ (kept.done ++ kept.rest) = kept.prefix ∙ append_assoc frame.had kept.done kept.rest in
+    let front : take (length kept.done) (kept.done ++ kept.rest) ≡ kept.done = take_at kept.done kept.rest (length kept.done) refl in
+    let whole_done = all_front (λ (m : Message). IsWhole m.text) kept.done kept.rest (all_back (λ (m : Message). IsWhole m.text) frame.had (kept.done ++ kept.rest)
+    (subst (AllByRecursion (λ (m : Message). IsWhole m.text)) whole (selected_whole frame world))) in
+    record {
+      j = length kept.done;
+      later = kept.done ++ kept.rest;
+      later_is = whole;
+      below = omega (arith, length-append kept.done kept.rest);
+      rest = tail.0;
+      file = tail.1 ∙ ap (λ (ms : List Message). (frame.start ++ entries_of ms) ++ tail.0) (sym front);
+      at_most = elim tail.2 [
+        | inl none ↦ inl none
+        | inr (next, behind, more, is, entry, opened) ↦ inr (
+          next,
+          behind,
+          ap (λ (l : List Message). slice_get (kept.done ++ l) (length kept.done)) is ∙ at_length kept.done next more,
+          entry,
+          opened ∙ ap (λ (ms : List Message). Some (intent_of (frame.start ++ entries_of ms) next.uid next.text)) (sym front),
+        )
+      ];
+      ids = λ id. kept.recorded id ∙ ap (λ (ms : List Message). has_id (ids_of (frame.had ++ ms)) id) (sym front);
+      entered = has_entry frame state kept;
+      texts = λ none first stands.
+          subst (λ (ms : List Message). MboxFile state.account.file (first ++ map (λ (m : Message). m.text) ms)) (sym front)
+          (subst (λ f. MboxFile f (first ++ map (λ (m : Message). m.text) kept.done))
+          (sym (tail.1 ∙ ap (λ l. (frame.start ++ entries_of kept.done) ++ l) none ∙ append-nil (frame.start ++ entries_of kept.done)))
+          (texts_stand adds frame.start first kept.done whole_done stands));
+    }
 
 pub mbox_starts : MboxStartsKept
 mbox_starts frame found rest gone prefix recorded recorded_gone = record {

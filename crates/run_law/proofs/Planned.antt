@@ -1,10 +1,10 @@
 -- The numbers of the texts that a session retrieves, against its plan.
-use Rattle.std.proofs.Common.{◌≡◌, inl, inr, ℕ, List, [], ◌∷◌, ◌++◌, Bool, true, false, cond, length, map, take, zip, refl, sym, ◌∙◌, ap, append_assoc}
+use Rattle.std.proofs.Common.{◌≡◌, inl, inr, ℕ, List, [], ◌∷◌, ◌++◌, Bool, true, false, cond, length, map, take, zip, refl, sym, ◌∙◌, ap, append_assoc, arith}
 use Rattle.std.specs.List.{flat_map, filter}
 use Rattle.std.proofs.lemmas.List.{append-nil, take_at, take-map, length-map}
 use Rattle.std.proofs.lemmas.List.Concat.{flat_map-append}
 use Rattle.pop3_wire.specs.declared.command.Command.{Command}
-use Rattle.pop3_wire.specs.declared.command.Command.TheVariants.{User, Pass, Stat, UidlAll, UidlOne, ListAll, ListOne, Retr, Dele, Rset, Noop, Top, Quit}
+use Rattle.pop3_wire.specs.declared.command.Command.TheVariants.{Retr, Dele, Quit}
 use Rattle.mail_terms.specs.Listing.{Item}
 use Rattle.mail_terms.specs.Listing.{numbered}
 use Rattle.fetch_rules.specs.Wanted.{wanted}
@@ -37,18 +37,7 @@ found_first [] (reply ∷ replies) found good is = absurd good
 found_first (Retr n ∷ commands) (reply ∷ replies) found good is =
     let r = found_first commands replies is.1 good.1 is.4 in
     (r.0, ap (λ l. n ∷ l) r.1 ∙ ap (λ f. map fst_found f ++ r.0) (sym is.3))
-found_first (User x ∷ commands) (reply ∷ replies) found good is = found_first commands replies found good.1 is
-found_first (Pass x ∷ commands) (reply ∷ replies) found good is = found_first commands replies found good.1 is
-found_first (Stat ∷ commands) (reply ∷ replies) found good is = found_first commands replies found good.1 is
-found_first (UidlAll ∷ commands) (reply ∷ replies) found good is = found_first commands replies found good.1 is
-found_first (UidlOne n ∷ commands) (reply ∷ replies) found good is = found_first commands replies found good.1 is
-found_first (ListAll ∷ commands) (reply ∷ replies) found good is = found_first commands replies found good.1 is
-found_first (ListOne n ∷ commands) (reply ∷ replies) found good is = found_first commands replies found good.1 is
-found_first (Dele n ∷ commands) (reply ∷ replies) found good is = found_first commands replies found good.1 is
-found_first (Rset ∷ commands) (reply ∷ replies) found good is = found_first commands replies found good.1 is
-found_first (Noop ∷ commands) (reply ∷ replies) found good is = found_first commands replies found good.1 is
-found_first (Top n k ∷ commands) (reply ∷ replies) found good is = found_first commands replies found good.1 is
-found_first (Quit ∷ commands) (reply ∷ replies) found good is = found_first commands replies found good.1 is
+found_first (other ∷ commands) (reply ∷ replies) found good is = found_first commands replies found good.1 is
 
 none_in_tail : (tail : List Command) → IsTail tail → numbers_in tail ≡ []
 none_in_tail tail (inl e) = ap numbers_in e
@@ -64,14 +53,13 @@ steps_numbers [] = refl
 steps_numbers (s ∷ steps) =
     flat_map-append number_in (step_commands s) (flat_map step_commands steps)
     ∙ ap (λ l. numbers_in (step_commands s) ++ l) (steps_numbers steps)
-    ∙ by s.retrieve s.delete
+    ∙ by s.retrieve s.delete (filter (λ (t : Step). t.retrieve) steps)
   where
-    by : (r d : Bool) → numbers_in (asked_if r (Retr s.number) ++ asked_if d (Dele s.number)) ++ map step_number (filter (λ (t : Step). t.retrieve) steps)
-        ≡ map step_number (cond r (s ∷ filter (λ (t : Step). t.retrieve) steps) (filter (λ (t : Step). t.retrieve) steps))
-    by true true = refl
-    by true false = refl
-    by false true = refl
-    by false false = refl
+    by : (r d : Bool) (rest : List Step) → numbers_in (asked_if r (Retr s.number) ++ asked_if d (Dele s.number)) ++ map step_number rest ≡ map step_number (cond r (s ∷ rest) rest)
+    by true true rest = refl
+    by true false rest = refl
+    by false true rest = refl
+    by false false rest = refl
 
 plan_numbers : (name word : List ℕ) (steps : List Step) → numbers_in (plan_commands name word steps) ≡ map step_number (filter (λ (s : Step). s.retrieve) steps)
 plan_numbers name word steps = flat_map-append number_in (flat_map step_commands steps) (Quit ∷ []) ∙ append-nil (numbers_in (flat_map step_commands steps)) ∙ steps_numbers steps
@@ -79,18 +67,9 @@ plan_numbers name word steps = flat_map-append number_in (flat_map step_commands
 zipped_numbers : (f : ℕ × Item → Step) → ((q : ℕ × Item) → (f q).number ≡ q.0) → (qs : List (ℕ × Item))
     → map step_number (filter (λ (s : Step). s.retrieve) (map f qs)) ≡ map fst_item (map (λ (p : Step × (ℕ × Item)). p.1) (filter (λ (p : Step × (ℕ × Item)). p.0.retrieve) (zip (map f qs) qs)))
 zipped_numbers f same [] = refl
-zipped_numbers f same (q ∷ qs) = by (f q).retrieve (zipped_numbers f same qs)
-  where
-    steps : List Step
-    steps = filter (λ (s : Step). s.retrieve) (map f qs)
-
-    pairs : List (Step × (ℕ × Item))
-    pairs = filter (λ (p : Step × (ℕ × Item)). p.0.retrieve) (zip (map f qs) qs)
-
-    by : (b : Bool) → map step_number steps ≡ map fst_item (map (λ (p : Step × (ℕ × Item)). p.1) pairs)
-        → map step_number (cond b (f q ∷ steps) steps) ≡ map fst_item (map (λ (p : Step × (ℕ × Item)). p.1) (cond b ((f q, q) ∷ pairs) pairs))
-    by true ih = ap (λ n. n ∷ map step_number steps) (same q) ∙ ap (λ l. q.0 ∷ l) ih
-    by false ih = ih
+zipped_numbers f same (q ∷ qs) =
+    let number = same q in
+    grind (arith, number, zipped_numbers f same qs)
 
 pub plan_gives_numbers : PlanGivesNumbers
 plan_gives_numbers settings rows listing now name word steps commands replies found is_plan fetched front good retrieves =

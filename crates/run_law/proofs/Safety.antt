@@ -1,36 +1,30 @@
 -- No server makes a session lose a text, or delete a message that isn't known.
-use Rattle.std.proofs.Common.{◌≡◌, inl, inr, ◌≤◌, ◌<◌, ◌+◌, ◌-◌, ◌==◌, ℕ, zero, suc, Bool, true, false, cond, not, ◌&&◌, ◌||◌, List, [], ◌∷◌, ◌++◌, map, take, zip, min, length, refl, sym, ap, subst, ◌∙◌, arith}
+use Rattle.std.proofs.Common.{◌≡◌, inl, inr, ◌≤◌, ◌<◌, ◌-◌, ℕ, zero, suc, Bool, true, false, cond, not, ◌&&◌, List, [], ◌∷◌, ◌++◌, map, take, zip, length, refl, sym, ap, subst, ◌∙◌, arith, append_assoc}
 use Rattle.std.specs.Prelude.{bytes_eq, ◌⊎◌, Some, slice_get}
-use Rattle.std.specs.List.{filter, enumerate_from, AllByRecursion}
-use Rattle.std.proofs.lemmas.Bool.{or_cases, and_parts, cases_lt, true≢false}
-use Rattle.std.proofs.Math.Bool.{or-true}
+use Rattle.std.specs.List.{filter, AllByRecursion}
+use Rattle.std.proofs.lemmas.Bool.{or_cases, or_left, or_right, and_parts, cases_Bool, cases_lt, true≢false}
 use Rattle.std.proofs.lemmas.List.{append-nil, length-take}
 use Rattle.mail_terms.specs.Listing.{Item, has_item, numbered, is_first, is_last}
-use Rattle.fetch_rules.specs.Wanted.{is_asked_for, is_candidate, candidates, wanted}
+use Rattle.fetch_rules.specs.Wanted.{is_candidate, candidates, wanted}
 use Rattle.rc_file.specs.declared.settings.Settings.{Settings}
 use Rattle.fetch_rules.specs.Record.{Row, is_delivered}
 use Rattle.mail_store.specs.Maildir.{Maildir, File}
 use Rattle.mail_store.specs.FileName.{is_held, mail_file}
+use Rattle.mail_store.specs.Mboxrd.{entry_of}
 use Rattle.mail_terms.specs.UniqueId.{has_id}
 use Rattle.run_law.specs.Accounts.{Account}
 use Rattle.run_law.specs.Steps.{Effect, Leaves, Stores, file_for, is_unheld, ids_wanted, wanted_at, merged_rows}
 use Rattle.run_law.specs.Sessions.{IsBegun, BeginsOne}
-use Rattle.pop3_wire.specs.Honest.{Asked}
 use Rattle.pop3_wire.specs.declared.command.Command.{Command}
-use Rattle.pop3_wire.specs.declared.command.Command.TheVariants.{User, Pass, Stat, UidlAll, UidlOne, ListAll, ListOne, Retr, Dele, Rset, Noop, Top, Quit}
-use Rattle.run_law.specs.Safety.{IsAmong, IsKept, DeletesKept, IsSafe, SessionsAreSafe}
-use Rattle.run_law.proofs.Lists.{all_map, all_take, head_same, tail_same}
-use Rattle.run_law.proofs.Ids.{bytes_same, bytes_self, all_ids_at}
-use Rattle.run_law.proofs.Below.{Records}
-use Rattle.run_law.proofs.Records.{delivered_marked, delivered_merged}
-
--- a text of the id was stored, by whichever number
-abbrev StoredBy : Settings → List ℕ → Account → Effect → List File → List ℕ → Type 0
-StoredBy settings account before effect gained id = (message : ℕ × Item) × (text : List ℕ) × IsAmong (message, text) (zip (wanted_at settings account before effect) effect.texts)
-    × (message.1.uid ≡ id) × IsAmong (mail_file account id text) gained
-
-abbrev KeptBy : Settings → List ℕ → Account → Effect → List File → List ℕ → Type 0
-KeptBy settings account before effect gained id = (is_delivered before.rows id ≡ true) ⊎ (is_held account before.maildir id ≡ true) ⊎ StoredBy settings account before effect gained id
+use Rattle.pop3_wire.specs.declared.command.Command.TheVariants.{Dele}
+use Rattle.run_law.specs.Safety.{IsAmong, DeletesKept, SessionsAreSafe}
+use Rattle.run_law.specs.Mboxes.{MboxAccount, settled, mbox_rows, mbox_wanted, entries, MboxStores}
+use Rattle.run_law.specs.MboxSafety.{MboxDeletesKept, MboxSessionsAreSafe}
+use Rattle.run_law.proofs.Lists.{all_map, all_both, all_filter, all_passing, all_back}
+use Rattle.run_law.proofs.Ids.{bytes_same, bytes_self, taken_more, all_ids_at}
+use Rattle.run_law.proofs.Below.{Records, RowLaws}
+use Rattle.run_law.proofs.Records.{delivered_marked, delivered_merged, delivered_unheld}
+use Rattle.run_law.proofs.Wants.{IsNumbered, are_numbered, all_at_most}
 
 -- ---- one message of an id
 
@@ -42,8 +36,8 @@ has_before : (listing : List Item) (k n : ℕ) (item : Item) → slice_get listi
 has_before [] k n item at less = absurd cc
 has_before (x ∷ listing) k zero item at less = absurd (omega (arith, less))
 has_before (x ∷ listing) zero (suc n) item at less =
-    let same : x ≡ item = cc in ap (λ b. b || has_item (take n listing) item.uid) (ap (bytes_eq item.uid) (ap (λ (i : Item). i.uid) same) ∙ bytes_self item.uid)
-has_before (x ∷ listing) (suc k) (suc n) item at less = ap (λ b. bytes_eq item.uid x.uid || b) (has_before listing k n item at (omega (arith, less))) ∙ or-true (bytes_eq item.uid x.uid)
+    let same : x ≡ item = cc in or_left _ _ (ap (λ (i : Item). bytes_eq item.uid i.uid) same ∙ bytes_self item.uid)
+has_before (x ∷ listing) (suc k) (suc n) item at less = or_right _ _ (has_before listing k n item at (omega (arith, less)))
 
 -- no message before the first with an id has that id
 not_before : (listing : List Item) (m n : ℕ × Item) → IsFirstAt listing m → IsFirstAt listing n → m.1.uid ≡ n.1.uid → m.0 < n.0 → ⊥
@@ -61,140 +55,115 @@ one_number listing m n at at' same = elim (cases_lt m.0 n.0) [
 
 -- ---- a wanted message is at its number
 
-numbered_from : (all items : List Item) (k : ℕ) → ((i : ℕ) (x : Item) → slice_get items i ≡ Some x → slice_get all (k + i) ≡ Some x)
-    → AllByRecursion (λ (q : ℕ × Item). (0 < q.0) × (slice_get all (q.0 - 1) ≡ Some q.1)) (enumerate_from (k + 1) items)
-numbered_from all [] k f = tt
-numbered_from all (x ∷ items) k f = (
-  (omega arith, ap (slice_get all) (let e : k + 1 - 1 ≡ k + 0 = omega arith in e) ∙ f 0 x refl),
-  numbered_from all items (k + 1) (λ i y e. ap (slice_get all) (let n : k + 1 + i ≡ k + suc i = omega arith in n) ∙ f (suc i) y e),
-)
-
-passing : {X : Type 0} (P : X → Type 0) (p : X → Bool) (xs : List X) → AllByRecursion P xs → AllByRecursion (λ x. P x × (p x ≡ true)) (filter p xs)
-passing P p [] h = tt
-passing P p (x ∷ xs) h = by (p x) refl (passing P p xs h.1)
-  where
-    by : (b : Bool) → p x ≡ b → AllByRecursion (λ x. P x × (p x ≡ true)) (filter p xs) → AllByRecursion (λ x. P x × (p x ≡ true)) (cond b (x ∷ filter p xs) (filter p xs))
-    by true e ih = ((h.0, e), ih)
-    by false e ih = ih
-
 pub wanted_first : (settings : Settings) (rows : List Row) (listing : List Item) → AllByRecursion (IsFirstAt listing) (wanted settings rows listing)
-wanted_first settings rows listing = by (settings.max_count == 0)
-  where
-    all : AllByRecursion (IsFirstAt listing) (candidates settings rows listing)
-    all = all_map _ (IsFirstAt listing) (λ q h. (h.0.0, h.0.1, (and_parts (is_first listing q) (is_asked_for settings rows q) h.1).0)) (candidates settings rows listing)
-        (passing (λ (q : ℕ × Item). (0 < q.0) × (slice_get listing (q.0 - 1) ≡ Some q.1)) (is_candidate settings rows listing) (numbered listing)
-        (numbered_from listing listing 0 (λ i x e. ap (slice_get listing) (let n : 0 + i ≡ i = omega arith in n) ∙ e)))
+wanted_first settings rows listing = all_at_most (IsFirstAt listing) settings.max_count (candidates settings rows listing)
+    (all_both (IsNumbered listing) (λ q. is_candidate settings rows listing q ≡ true) (IsFirstAt listing) (λ q h e. (h.0, h.1, (and_parts _ _ e).0)) (candidates settings rows listing)
+    (all_filter (IsNumbered listing) (is_candidate settings rows listing) (numbered listing) (are_numbered listing))
+    (all_passing (is_candidate settings rows listing) (numbered listing)))
 
-    by : (b : Bool) → AllByRecursion (IsFirstAt listing) (cond b (candidates settings rows listing) (take settings.max_count (candidates settings rows listing)))
-    by true = all
-    by false = all_take (IsFirstAt listing) settings.max_count (candidates settings rows listing) all
+all_zip : {X Y : Type 0} (P : X → Type 0) (xs : List X) (ys : List Y) → AllByRecursion P xs → AllByRecursion (λ (p : X × Y). P p.0) (zip xs ys)
+all_zip P [] ys h = tt
+all_zip P (x ∷ xs) [] h = tt
+all_zip P (x ∷ xs) (y ∷ ys) h = (h.0, all_zip P xs ys h.1)
 
-pub among_zip : {X Y : Type 0} (P : X → Type 0) (xs : List X) (ys : List Y) (x : X) (y : Y) → AllByRecursion P xs → IsAmong (x, y) (zip xs ys) → P x
-among_zip P [] ys x y h (front, behind, is) = by front is
-  where
-    by : (front : List _) → [] ≡ front ++ (x, y) ∷ behind → P x
-    by [] e = absurd cc
-    by (f ∷ fs) e = absurd cc
-among_zip P (a ∷ xs) [] x y h (front, behind, is) = by front is
-  where
-    by : (front : List _) → [] ≡ front ++ (x, y) ∷ behind → P x
-    by [] e = absurd cc
-    by (f ∷ fs) e = absurd cc
-among_zip {X} {Y} P (a ∷ xs) (b ∷ ys) x y h ([], behind, is) = subst P (ap (λ (p : X × Y). p.0) (head_same (a, b) (x, y) (zip xs ys) behind is)) h.0
-among_zip P (a ∷ xs) (b ∷ ys) x y h (f ∷ front, behind, is) = among_zip P xs ys x y h.1 (front, behind, tail_same (a, b) f (zip xs ys) (front ++ (x, y) ∷ behind) is)
+among_zip : {X Y : Type 0} (P : X → Type 0) (xs : List X) (ys : List Y) (x : X) (y : Y) → AllByRecursion P xs → IsAmong (x, y) (zip xs ys) → P x
+among_zip {X} {Y} P xs ys x y h (front, behind, is) =
+    (all_back (λ (p : X × Y). P p.0) front ((x, y) ∷ behind) (subst (AllByRecursion (λ (p : X × Y). P p.0)) is (all_zip P xs ys h))).0
 
--- the files are still there, and each id for which a DELE was begun is kept
-pub record KeepsAll (settings : Settings) (account : List ℕ) (before : Account) (effect : Effect) (after : Account) : Type 0 where
-  pub gained : List File
-  pub in_new : after.maildir.in_new ≡ before.maildir.in_new ++ gained
-  pub in_cur : after.maildir.in_cur ≡ before.maildir.in_cur
-  pub begun : AllByRecursion (KeptBy settings account before effect gained) effect.begun
+-- a DELE that was begun is for the first message of its id, so a wanted message of that id has its number
+only_number : (settings : Settings) (rows : List Row) (listing : List Item) (texts : List (List ℕ)) (message : ℕ × Item) (text : List ℕ) (number : ℕ) (item : Item)
+    → IsAmong (message, text) (zip (wanted settings rows listing) texts) → message.1.uid ≡ item.uid
+    → 0 < number → slice_get listing (number - 1) ≡ Some item → (is_first listing (number, item) && is_last listing (number, item)) ≡ true → message.0 ≡ number
+only_number settings rows listing texts message text number item among same counted at alone =
+    one_number listing message (number, item) (among_zip (IsFirstAt listing) (wanted settings rows listing) texts message text (wanted_first settings rows listing) among)
+    (counted, at, (and_parts _ _ alone).0) same
 
-pub behind_one : {X : Type 0} (x y : X) (xs : List X) → IsAmong x xs → IsAmong x (y ∷ xs)
+behind_one : {X : Type 0} (x y : X) (xs : List X) → IsAmong x xs → IsAmong x (y ∷ xs)
 behind_one x y xs (front, behind, is) = (y ∷ front, behind, ap (λ l. y ∷ l) is)
 
--- the ids of fewer wanted messages are among those of more
-take_fewer : (m n : ℕ) (qs : List (ℕ × Item)) (id : List ℕ) → m ≤ n → has_id (ids_wanted (take m qs)) id ≡ true → has_id (ids_wanted (take n qs)) id ≡ true
-take_fewer zero n qs id less never = absurd (true≢false (sym never))
-take_fewer (suc m) zero qs id less is = let no : ⊥ = omega (arith, less) in absurd no
-take_fewer (suc m) (suc n) [] id less never = absurd (true≢false (sym never))
-take_fewer (suc m) (suc n) (q ∷ qs) id less is =
-    elim (or_cases (bytes_eq id q.1.uid) (has_id (ids_wanted (take m qs)) id) is) [
-      | inl same ↦ ap (λ b. b || has_id (ids_wanted (take n qs)) id) same
-      | inr more ↦ ap (λ b. bytes_eq id q.1.uid || b) (take_fewer m n qs id (omega (arith, less)) more) ∙ or-true (bytes_eq id q.1.uid)
-    ]
+begins : {P Q : Command → Type 0} → ((c : Command) → P c → Q c) → (part : List ℕ) → BeginsOne P part → BeginsOne Q part
+begins f part (inl none) = inl none
+begins f part (inr (command, unsent, is, begun)) = inr (command, unsent, is, f command begun)
+
+-- ---- with a Maildir
+
+-- a text of the id was stored, by whichever number
+abbrev StoredBy : List ℕ → List (ℕ × Item) → List (List ℕ) → List File → List ℕ → Type 0
+StoredBy account qs texts gained id = (message : ℕ × Item) × (text : List ℕ) × IsAmong (message, text) (zip qs texts)
+    × (message.1.uid ≡ id) × IsAmong (mail_file account id text) gained
+
+abbrev KeptBy : Settings → List ℕ → Account → Effect → List File → List ℕ → Type 0
+KeptBy settings account before effect gained id = (is_delivered before.rows id ≡ true) ⊎ (is_held account before.maildir id ≡ true)
+    ⊎ StoredBy account (wanted_at settings account before effect) effect.texts gained id
+
+-- the files are still there, and each id for which a DELE was begun is kept
+record KeepsAll (settings : Settings) (account : List ℕ) (before : Account) (effect : Effect) (after : Account) : Type 0 where
+  gained : List File
+  in_new : after.maildir.in_new ≡ before.maildir.in_new ++ gained
+  in_cur : after.maildir.in_cur ≡ before.maildir.in_cur
+  begun : AllByRecursion (KeptBy settings account before effect gained) effect.begun
 
 -- the files of texts whose ids aren't held
 abbrev brought : List ℕ → Maildir → List ((ℕ × Item) × List ℕ) → List File
 brought account maildir pairs = map (file_for account) (filter (is_unheld account maildir) pairs)
 
-found : (account : List ℕ) (maildir : Maildir) (n : ℕ) (qs : List (ℕ × Item)) (texts : List (List ℕ)) (id : List ℕ) → length (take n qs) ≤ length texts → has_id (ids_wanted (take n qs)) id ≡ true
-    → is_held account maildir id ≡ false
-    → (message : ℕ × Item) × (text : List ℕ) × IsAmong (message, text) (zip qs texts) × (message.1.uid ≡ id) × IsAmong (mail_file account id text) (brought account maildir (zip (take n qs) texts))
+found : (account : List ℕ) (maildir : Maildir) (n : ℕ) (qs : List (ℕ × Item)) (texts : List (List ℕ)) (id : List ℕ) → length (take n qs) ≤ length texts
+    → has_id (ids_wanted (take n qs)) id ≡ true → is_held account maildir id ≡ false → StoredBy account qs texts (brought account maildir (zip (take n qs) texts)) id
 found account maildir zero qs texts id less never free = absurd (true≢false (sym never))
 found account maildir (suc n) [] texts id less never free = absurd (true≢false (sym never))
-found account maildir (suc n) (q ∷ qs) [] id less is free = let no : ⊥ = omega (arith, less) in absurd no
-found account maildir (suc n) (q ∷ qs) (t ∷ ts) id less is free =
-    elim (or_cases (bytes_eq id q.1.uid) (has_id (ids_wanted (take n qs)) id) is) [
-      | inl same ↦ (
-        q,
-        t,
-        ([], zip qs ts, refl),
-        sym (bytes_same id q.1.uid same),
-        first (bytes_same id q.1.uid same) (is_unheld account maildir (q, t)) (ap not (ap (is_held account maildir) (sym (bytes_same id q.1.uid same)) ∙ free)),
-      )
-      | inr more ↦
-          let there = found account maildir n qs ts id (omega (arith, less)) more free in
-          (there.0, there.1, behind_one (there.0, there.1) (q, t) (zip qs ts) there.2, there.3, next there.1 there.4 (is_unheld account maildir (q, t)))
-    ]
+found account maildir (suc n) (q ∷ qs) [] id less is free = absurd (let no : ⊥ = omega (arith, less) in no)
+found account maildir (suc n) (q ∷ qs) (t ∷ ts) id less is free = elim (or_cases _ _ is) [
+  | inl here ↦
+      let same = bytes_same id q.1.uid here in
+      (q, t, ([], zip qs ts, refl), sym same, ([], map (file_for account) later, first same))
+  | inr more ↦
+      let there = found account maildir n qs ts id (omega (arith, less)) more free in
+      (there.0, there.1, behind_one (there.0, there.1) (q, t) (zip qs ts) there.2, there.3, next (is_unheld account maildir (q, t)) there.1 there.4)
+]
   where
     later : List ((ℕ × Item) × List ℕ)
     later = filter (is_unheld account maildir) (zip (take n qs) ts)
 
-    first : id ≡ q.1.uid → (b : Bool) → b ≡ true → IsAmong (mail_file account id t) (map (file_for account) (cond b ((q, t) ∷ later) later))
-    first same true e = ([], map (file_for account) later, ap (λ (i : List ℕ). mail_file account i t ∷ map (file_for account) later) (sym same))
-    first same false e = absurd (true≢false (sym e))
+    first : id ≡ q.1.uid → brought account maildir (zip (take (suc n) (q ∷ qs)) (t ∷ ts)) ≡ mail_file account id t ∷ map (file_for account) later
+    first same = ap (λ b. map (file_for account) (cond (not b) ((q, t) ∷ later) later)) (ap (is_held account maildir) (sym same) ∙ free)
+        ∙ ap (λ (i : List ℕ). mail_file account i t ∷ map (file_for account) later) (sym same)
 
-    next : (text : List ℕ) → IsAmong (mail_file account id text) (map (file_for account) later) → (b : Bool) → IsAmong (mail_file account id text) (map (file_for account) (cond b ((q, t) ∷ later) later))
-    next text there true = behind_one (mail_file account id text) (file_for account (q, t)) (map (file_for account) later) there
-    next text there false = there
+    next : (b : Bool) (text : List ℕ) → IsAmong (mail_file account id text) (map (file_for account) later) → IsAmong (mail_file account id text) (map (file_for account) (cond b ((q, t) ∷ later) later))
+    next true text there = behind_one (mail_file account id text) (file_for account (q, t)) (map (file_for account) later) there
+    next false text there = there
 
 module _ (laws : Records) (settings : Settings) (account : List ℕ) (before : Account) (effect : Effect) (after : Account) (stores : Stores settings account before effect after) where
-  stored_ids : (id : List ℕ) (b : Bool) → is_held account before.maildir id ≡ b → has_id (ids_wanted (take stores.recorded (wanted_at settings account before effect))) id ≡ true
-      → KeptBy settings account before effect (brought account before.maildir (zip (take stores.stored (wanted_at settings account before effect)) effect.texts)) id
-  stored_ids id true held is = inr (inl held)
-  stored_ids id false free is =
-      let size : length (take stores.stored (wanted_at settings account before effect)) ≡ min stores.stored (length (wanted_at settings account before effect)) = length-take stores.stored (wanted_at settings account before effect) in
-      let fetched = stores.fetched in
-      inr (inr (found account before.maildir stores.stored (wanted_at settings account before effect) effect.texts id (omega (arith, size, fetched))
-      (take_fewer stores.recorded stores.stored (wanted_at settings account before effect) id stores.order is) free))
+  abbrev qs : List (ℕ × Item)
+  qs = wanted_at settings account before effect
 
-  merged_ids : (id : List ℕ) → is_delivered (merged_rows account before effect) id ≡ true
-      → KeptBy settings account before effect (brought account before.maildir (zip (take stores.stored (wanted_at settings account before effect)) effect.texts)) id
-  merged_ids id is =
-      elim (or_cases (is_delivered before.rows id) (has_item effect.listing id && is_held account before.maildir id) (sym (delivered_merged laws account before.maildir before.rows effect.listing effect.now id) ∙ is)) [
-        | inl known ↦ inl known
-        | inr held ↦ inr (inl (and_parts (has_item effect.listing id) (is_held account before.maildir id) held).1)
-      ]
+  abbrev gained : List File
+  gained = brought account before.maildir (zip (take stores.stored qs) effect.texts)
 
-  kept_ids : (id : List ℕ) → is_delivered after.rows id ≡ true → KeptBy settings account before effect (brought account before.maildir (zip (take stores.stored (wanted_at settings account before effect)) effect.texts)) id
-  kept_ids id is =
-      elim stores.rows [
-        | inl same ↦ inl (ap (λ (rows : List Row). is_delivered rows id) (sym same) ∙ is)
-        | inr marks ↦
-            elim (delivered_marked laws (merged_rows account before effect) (ids_wanted (take stores.recorded (wanted_at settings account before effect))) id (ap (λ (rows : List Row). is_delivered rows id) (sym marks) ∙ is)) [
-              | inl known ↦ merged_ids id known
-              | inr stored ↦ stored_ids id (is_held account before.maildir id) refl stored
-            ]
+  stored_ids : (id : List ℕ) → has_id (ids_wanted (take stores.recorded qs)) id ≡ true → KeptBy settings account before effect gained id
+  stored_ids id is = elim (cases_Bool (is_held account before.maildir id)) [
+    | inl held ↦ inr (inl held)
+    | inr free ↦ inr (inr (found account before.maildir stores.stored qs effect.texts id (omega (arith, length-take stores.stored qs, stores.fetched))
+        (taken_more (λ (q : ℕ × Item). q.1.uid) stores.recorded stores.stored qs id stores.order is) free))
+  ]
+
+  kept_ids : (id : List ℕ) → is_delivered after.rows id ≡ true → KeptBy settings account before effect gained id
+  kept_ids id is = elim stores.rows [
+    | inl same ↦ inl (ap (λ (rows : List Row). is_delivered rows id) (sym same) ∙ is)
+    | inr marks ↦ elim (delivered_marked laws.marks (merged_rows account before effect) (ids_wanted (take stores.recorded qs)) id (ap (λ (rows : List Row). is_delivered rows id) (sym marks) ∙ is)) [
+      | inr stored ↦ stored_ids id stored
+      | inl known ↦ elim (or_cases _ _ (sym (delivered_merged laws account before.maildir before.rows effect.listing effect.now id) ∙ known)) [
+        | inl old ↦ inl old
+        | inr held ↦ inr (inl (and_parts _ _ held).1)
       ]
+    ]
+  ]
 
   kept_all : KeepsAll settings account before effect after
   kept_all = record {
-    gained = brought account before.maildir (zip (take stores.stored (wanted_at settings account before effect)) effect.texts);
+    gained = gained;
     in_new = stores.in_new;
     in_cur = stores.in_cur;
-    begun = all_map (λ id. is_delivered after.rows id ≡ true) (KeptBy settings account before effect (brought account before.maildir (zip (take stores.stored (wanted_at settings account before effect)) effect.texts)))
-        kept_ids effect.begun stores.begun;
+    begun = all_map (λ id. is_delivered after.rows id ≡ true) (KeptBy settings account before effect gained) kept_ids effect.begun stores.begun;
   }
 
 kept_none : (settings : Settings) (account : List ℕ) (before : Account) (effect : Effect) (after : Account) → Leaves before effect after → KeepsAll settings account before effect after
@@ -207,38 +176,127 @@ kept_none settings account before effect after leaves = record {
 
 deletes_kept : (settings : Settings) (account : List ℕ) (before : Account) (effect : Effect) (after : Account) (keeps : KeepsAll settings account before effect after) (command : Command)
     → IsBegun effect.listing effect.begun command → DeletesKept settings account before effect keeps.gained command
-deletes_kept settings account before effect after keeps (Dele number) (item, at, is, counted, alone) =
-    (counted, item, at, by (all_ids_at (KeptBy settings account before effect keeps.gained) effect.begun item.uid keeps.begun is))
-  where
-    by : KeptBy settings account before effect keeps.gained item.uid → IsKept settings account before effect keeps.gained number item.uid
-    by (inl known) = inl known
-    by (inr (inl held)) = inr (inl held)
-    by (inr (inr (message, text, among, same, there))) =
-        let first = among_zip (IsFirstAt effect.listing) (wanted_at settings account before effect) effect.texts message text (wanted_first settings (merged_rows account before effect) effect.listing) among in
-        inr (inr (message, text, among, one_number effect.listing message (number, item) first (counted, at, (and_parts (is_first effect.listing (number, item)) (is_last effect.listing (number, item)) alone).0) same, same, there))
+deletes_kept settings account before effect after keeps (Dele number) (item, at, is, counted, alone) = (
+  counted,
+  item,
+  at,
+  elim (all_ids_at (KeptBy settings account before effect keeps.gained) effect.begun item.uid keeps.begun is) [
+    | inl known ↦ inl known
+    | inr (inl held) ↦ inr (inl held)
+    | inr (inr (message, text, among, same, there)) ↦
+        let first = only_number settings (merged_rows account before effect) effect.listing effect.texts message text number item among same counted at alone in
+        inr (inr (message, text, among, first, same, there))
+  ],
+)
 deletes_kept settings account before effect after keeps other is = tt
-
-begins_kept : (settings : Settings) (account : List ℕ) (before : Account) (effect : Effect) (after : Account) (keeps : KeepsAll settings account before effect after) (part : List ℕ)
-    → BeginsOne (IsBegun effect.listing effect.begun) part → BeginsOne (DeletesKept settings account before effect keeps.gained) part
-begins_kept settings account before effect after keeps part (inl none) = inl none
-begins_kept settings account before effect after keeps part (inr (command, unsent, is, begun)) =
-    inr (command, unsent, is, deletes_kept settings account before effect after keeps command begun)
-
-safe : (settings : Settings) (account : List ℕ) (before : Account) (sent : List ℕ) (effect : Effect) (after : Account) → KeepsAll settings account before effect after → (commands : List Command) → (asked : Asked commands sent)
-    → AllByRecursion (IsBegun effect.listing effect.begun) commands → BeginsOne (IsBegun effect.listing effect.begun) asked.part → IsSafe settings account before sent effect after
-safe settings account before sent effect after keeps commands asked begun next = record {
-  gained = keeps.gained;
-  in_new = keeps.in_new;
-  in_cur = keeps.in_cur;
-  commands = commands;
-  asked = asked;
-  deletes = all_map (IsBegun effect.listing effect.begun) (DeletesKept settings account before effect keeps.gained) (deletes_kept settings account before effect after keeps) commands begun;
-  next = begins_kept settings account before effect after keeps asked.part next;
-}
 
 pub sessions_are_safe : Records → SessionsAreSafe
 sessions_are_safe laws settings account before sent got effect after session =
-    elim session.step [
-      | inl leaves ↦ safe settings account before sent effect after (kept_none settings account before effect after leaves) session.commands session.asked session.begun session.next
-      | inr (stores, reads) ↦ safe settings account before sent effect after (kept_all laws settings account before effect after stores) session.commands session.asked session.begun session.next
-    ]
+    let keeps : KeepsAll settings account before effect after = elim session.step [
+      | inl leaves ↦ kept_none settings account before effect after leaves
+      | inr (stores, reads) ↦ kept_all laws settings account before effect after stores
+    ] in
+    let deletes = deletes_kept settings account before effect after keeps in
+    record {
+      gained = keeps.gained;
+      in_new = keeps.in_new;
+      in_cur = keeps.in_cur;
+      commands = session.commands;
+      asked = session.asked;
+      deletes = all_map (IsBegun effect.listing effect.begun) (DeletesKept settings account before effect keeps.gained) deletes session.commands session.begun;
+      next = begins deletes session.asked.part session.next;
+    }
+
+-- ---- with an mboxrd
+
+-- the entry of a wanted message's text is among the entries
+record HasText (qs : List (ℕ × Item)) (texts : List (List ℕ)) (id bytes : List ℕ) : Type 0 where
+  message : ℕ × Item
+  text : List ℕ
+  among : IsAmong (message, text) (zip qs texts)
+  id_is : message.1.uid ≡ id
+  front : List ℕ
+  behind : List ℕ
+  stands : bytes ≡ front ++ (entry_of text ++ behind)
+
+has_text : (n : ℕ) (qs : List (ℕ × Item)) (texts : List (List ℕ)) (id : List ℕ) → n ≤ length texts → has_id (ids_wanted (take n qs)) id ≡ true → HasText qs texts id (entries (take n texts))
+has_text zero qs texts id less never = absurd (true≢false (sym never))
+has_text (suc n) [] texts id less never = absurd (true≢false (sym never))
+has_text (suc n) (q ∷ qs) [] id less is = absurd (let no : ⊥ = omega (arith, less) in no)
+has_text (suc n) (q ∷ qs) (t ∷ ts) id less is = elim (or_cases _ _ is) [
+  | inl same ↦ record { message = q; text = t; among = ([], zip qs ts, refl); id_is = sym (bytes_same id q.1.uid same); front = []; behind = entries (take n ts); stands = refl }
+  | inr more ↦
+      let there = has_text n qs ts id (omega (arith, less)) more in
+      record {
+        message = there.message;
+        text = there.text;
+        among = behind_one (there.message, there.text) (q, t) (zip qs ts) there.among;
+        id_is = there.id_is;
+        front = entry_of t ++ there.front;
+        behind = there.behind;
+        stands = ap (λ l. entry_of t ++ l) there.stands ∙ sym (append_assoc (entry_of t) there.front (entry_of there.text ++ there.behind));
+      }
+]
+
+-- what comes after the entries
+pub tail_of : (settings : Settings) (before : MboxAccount) (effect : Effect) (after : MboxAccount) → (s : MboxStores settings before effect after)
+    → (rest : List ℕ) × (after.file ≡ (settled before).file ++ (entries (take s.stored effect.texts) ++ rest))
+tail_of settings before effect after s = elim s.ending [
+  | inl closed ↦ ([], closed.file ∙ ap (λ l. (settled before).file ++ l) (sym (append-nil (entries (take s.stored effect.texts)))))
+  | inr broken ↦ (broken.opened.front, broken.opened.file ∙ append_assoc (settled before).file (entries (take s.stored effect.texts)) broken.opened.front)
+]
+
+module _ (laws : RowLaws) (settings : Settings) (before : MboxAccount) (effect : Effect) (after : MboxAccount) (s : MboxStores settings before effect after) where
+  kept_id : (id : List ℕ) → is_delivered after.rows id ≡ true → (is_delivered (settled before).rows id ≡ true) ⊎ HasText (mbox_wanted settings before effect) effect.texts id (entries (take s.stored effect.texts))
+  kept_id id e = elim (delivered_marked laws.marks (mbox_rows before effect) (ids_wanted (take s.stored (mbox_wanted settings before effect))) id (ap (λ r. is_delivered r id) (sym s.rows) ∙ e)) [
+    | inl known ↦ inl (sym (delivered_unheld laws (settled before).rows effect.listing effect.now id) ∙ known)
+    | inr stored ↦ inr (has_text s.stored (mbox_wanted settings before effect) effect.texts id s.fetched stored)
+  ]
+
+  deletes : (command : Command) → IsBegun effect.listing effect.begun command → MboxDeletesKept settings before effect after command
+  deletes (Dele number) (item, at, is, counted, alone) = (
+    counted,
+    item,
+    at,
+    elim (kept_id item.uid (all_ids_at (λ id. is_delivered after.rows id ≡ true) effect.begun item.uid s.begun is)) [
+      | inl known ↦ inl known
+      | inr t ↦
+          let tail = tail_of settings before effect after s in
+          inr (record {
+            message = t.message;
+            text = t.text;
+            among = t.among;
+            number_is = only_number settings (mbox_rows before effect) effect.listing effect.texts t.message t.text number item t.among t.id_is counted at alone;
+            id_is = t.id_is;
+            front = t.front;
+            behind = t.behind ++ tail.0;
+            stands = tail.1 ∙ ap (λ l. (settled before).file ++ (l ++ tail.0)) t.stands ∙ simp append_assoc;
+          })
+    ],
+  )
+  deletes other is = tt
+
+-- nothing was begun
+none_begun : (settings : Settings) (before : MboxAccount) (effect : Effect) (after : MboxAccount) → effect.begun ≡ [] → (command : Command) → IsBegun effect.listing effect.begun command → MboxDeletesKept settings before effect after command
+none_begun settings before effect after none (Dele number) (item, at, is, counted, alone) = absurd (true≢false (sym is ∙ ap (λ l. has_id l item.uid) none))
+none_begun settings before effect after none command is = tt
+
+pub mbox_sessions_are_safe : RowLaws → MboxSessionsAreSafe
+mbox_sessions_are_safe laws settings before sent got effect after session =
+    let kept : (command : Command) → IsBegun effect.listing effect.begun command → MboxDeletesKept settings before effect after command = elim session.step [
+      | inl (leaves, none) ↦ none_begun settings before effect after leaves.begun
+      | inr (stores, reads) ↦ deletes laws settings before effect after stores
+    ] in
+    record {
+      file = elim session.step [
+        | inl (leaves, none) ↦ elim leaves.file [
+          | inl same ↦ inl same
+          | inr cut ↦ inr ([], cut ∙ sym (append-nil (settled before).file))
+        ]
+        | inr (stores, reads) ↦ inr (_, (tail_of settings before effect after stores).1)
+      ];
+      commands = session.commands;
+      asked = session.asked;
+      deletes = all_map (IsBegun effect.listing effect.begun) (MboxDeletesKept settings before effect after) kept session.commands session.begun;
+      next = begins kept session.asked.part session.next;
+    }

@@ -1,27 +1,27 @@
 -- One session that stored something, from a kept state, leaves a kept state and keeps its promises.
 use Rattle.std.proofs.Common.{◌≡◌, ◌⊎◌, inl, inr, ℕ, List, [], ◌++◌, Bool, true, false, not, cond, ◌&&◌, ◌||◌, length, take, map, refl, sym, ◌∙◌, ap, subst, arith, append_assoc}
-use Rattle.std.specs.Prelude.{bytes_eq, zip}
+use Rattle.std.specs.Prelude.{zip}
 use Rattle.std.specs.List.{filter, AllByRecursion}
-use Rattle.std.proofs.lemmas.Bool.{both_ways, or_cases, and_parts, cases_Bool, false_from_ne_true}
+use Rattle.std.proofs.lemmas.Bool.{both_ways, or_cases, or_left, and_parts, cases_Bool, false_from_ne_true, cond_both}
 use Rattle.std.proofs.lemmas.List.{append-nil}
 use Rattle.mail_terms.specs.UniqueId.{is_legal_id, has_id}
 use Rattle.pop3_wire.specs.World.{Message, IsMessage}
 use Rattle.fetch_rules.specs.Record.{Row, is_delivered}
 use Rattle.fetch_rules.specs.Wanted.{wanted, candidates}
-use Rattle.mail_terms.specs.Listing.{Item, has_item}
+use Rattle.mail_terms.specs.Listing.{has_item}
 use Rattle.mail_store.specs.FileName.{is_held, stem_of}
-use Rattle.run_law.specs.Mails.{ids_of, item_of, is_selected, selected, texts_of}
+use Rattle.run_law.specs.Mails.{ids_of, is_selected, selected, texts_of}
 use Rattle.run_law.specs.Accounts.{files, copies, KeepsOthers}
 use Rattle.run_law.specs.Steps.{Stores, IsHonest, AreTexts, wanted_at, merged_rows, ids_wanted, file_for, is_unheld}
 use Rattle.run_law.specs.Runs.{Frame, IsFrame, Situation, Visit, Visited, HoldsOf, Kept, after_event, shown, LeavesOut, DeletesHeld, StoresOnlyNew, past_limit}
 use Rattle.run_law.proofs.Core as core
 use Rattle.run_law.proofs.Core.{Scene, IsScene, IsLegal, fetched, added}
-use Rattle.run_law.proofs.Lists.{any-map, all_map, all_append, all_filter, all_take}
-use Rattle.run_law.proofs.Ids.{texts-append, texts_filtered, no_texts, all_at, all_ids_at}
+use Rattle.run_law.proofs.Lists.{all_map, all_filter, all_take}
+use Rattle.run_law.proofs.Ids.{texts-append, texts_filtered, no_texts, taken_more, all_at, all_ids_at, gone_is_done}
 use Rattle.run_law.proofs.Below.{Below}
 use Rattle.run_law.proofs.Records.{delivered_merged, delivered_marked, marks_stay}
 use Rattle.run_law.proofs.Files.{held_done, copies-append, copies_messages, message_file, deliveries_keep}
-use Rattle.run_law.proofs.Wants.{num_item, wants_by_number, stored_files}
+use Rattle.run_law.proofs.Wants.{num_item, has_listed, wants_by_number, stored_files}
 use Rattle.run_law.proofs.Holds.{held_is_done, done_is_held, unheld_if}
 
 module _ (laws : Below) (frame : Frame) (is : IsFrame frame) (before : Situation) (v : Visit) (kept : Kept frame before) (same : v.settings.max_size ≡ frame.max_size)
@@ -44,7 +44,7 @@ module _ (laws : Below) (frame : Frame) (is : IsFrame frame) (before : Situation
   held_done' id l h = held_is_done frame before kept.done id (kept.holds id l) h
 
   listed_is : (id : List ℕ) → has_item v.effect.listing id ≡ has_id (ids_of here) id
-  listed_is id = ap (λ l. has_item l id) honest.listing ∙ any-map (λ (i : Item). bytes_eq id i.uid) item_of here ∙ sym (any-map (bytes_eq id) (λ (m : Message). m.uid) here)
+  listed_is id = ap (λ l. has_item l id) honest.listing ∙ has_listed here id
 
   known_parts : (id : List ℕ) → is_delivered rows id ≡ (is_delivered before.account.rows id || (has_item v.effect.listing id && held id))
   known_parts id = delivered_merged laws.records frame.account before.account.maildir before.account.rows v.effect.listing v.effect.now id
@@ -55,9 +55,9 @@ module _ (laws : Below) (frame : Frame) (is : IsFrame frame) (before : Situation
       (all_take IsLegal v.come frame.all (all_map IsMessage IsLegal (λ m h. h.legal) frame.all is.world.messages))) e
 
   known_done : (id : List ℕ) → is_delivered rows id ≡ true → core.is_done scene id ≡ true
-  known_done id e = elim (or_cases (is_delivered before.account.rows id) (has_item v.effect.listing id && held id) (sym (known_parts id) ∙ e)) [
+  known_done id e = elim (or_cases _ _ (sym (known_parts id) ∙ e)) [
     | inl old ↦ kept.recorded id old
-    | inr now ↦ let parts = and_parts (has_item v.effect.listing id) (held id) now in held_done' id (legal_listed id (sym (listed_is id) ∙ parts.0)) parts.1
+    | inr now ↦ let parts = and_parts _ _ now in held_done' id (legal_listed id (sym (listed_is id) ∙ parts.0)) parts.1
   ]
 
   pub is_scene : IsScene scene
@@ -78,17 +78,19 @@ module _ (laws : Below) (frame : Frame) (is : IsFrame frame) (before : Situation
   zipped_is = ap (λ w. zip (take s.stored w) v.effect.texts) wanted_is
       ∙ core.zipped_is scene is_scene v.effect.texts s.stored (subst (λ w. AreTexts here w v.effect.texts) wanted_is honest.texts) s.fetched
 
+  abbrev got : List Message
+  got = take s.stored (fetched scene)
+
   -- what counts as done from now on, and what is delivered: these messages, and those that were taken away
   -- and aren't recorded
   abbrev stored : List Message
   stored = added scene s.stored
 
   abbrev delivered : List Message
-  delivered = filter (λ (m : Message). not (held m.uid)) (take s.stored (fetched scene))
+  delivered = filter (λ (m : Message). not (held m.uid)) got
 
   legal_delivered : AllByRecursion IsLegal delivered
-  legal_delivered = all_filter IsLegal (λ (m : Message). not (held m.uid)) (take s.stored (fetched scene))
-      (all_take IsLegal s.stored (fetched scene) (core.legal_fetched scene is_scene))
+  legal_delivered = all_filter IsLegal (λ (m : Message). not (held m.uid)) got (all_take IsLegal s.stored (fetched scene) (core.legal_fetched scene is_scene))
 
   new_is : v.after.maildir.in_new ≡ before.account.maildir.in_new ++ map (message_file frame.account) delivered
   new_is = s.in_new
@@ -101,39 +103,28 @@ module _ (laws : Below) (frame : Frame) (is : IsFrame frame) (before : Situation
       ∙ sym (append_assoc before.account.maildir.in_cur before.account.maildir.in_new (map (message_file frame.account) delivered))
 
   copies_are : (id : List ℕ) → is_legal_id id ≡ true → copies (files v.after) (stem_of frame.account id)
-      ≡ copies (files before.account) (stem_of frame.account id) ++ cond (not (held id)) (texts_of (take s.stored (fetched scene)) id) []
+      ≡ copies (files before.account) (stem_of frame.account id) ++ cond (not (held id)) (texts_of got id) []
   copies_are id l = ap (λ f. copies f (stem_of frame.account id)) files_are
       ∙ copies-append (files before.account) (map (message_file frame.account) delivered) (stem_of frame.account id)
       ∙ ap (λ t. copies (files before.account) (stem_of frame.account id) ++ t)
       (copies_messages laws.differ laws.stems frame.account delivered id is.account l legal_delivered
-      ∙ texts_filtered (λ x. not (held x)) (take s.stored (fetched scene)) id)
+      ∙ texts_filtered (λ x. not (held x)) got id)
+
+  texts_after : (id : List ℕ) → texts_of (kept.done ++ stored) id ≡ texts_of kept.done id ++ cond (not (core.is_done scene id)) (texts_of got id) []
+  texts_after id = texts-append kept.done stored id ∙ ap (λ t. texts_of kept.done id ++ t) (texts_filtered (λ x. not (core.is_done scene x)) got id)
 
   holds_after : (id : List ℕ) → is_legal_id id ≡ true → HoldsOf frame (after_event before (Visited v)) (kept.done ++ stored) id
   holds_after id l = elim (kept.holds id l) [
-    | inl e ↦ inl (copies_are id l
-        ∙ ap (λ t. t ++ cond (not (held id)) (texts_of (take s.stored (fetched scene)) id) []) e
-        ∙ ap (λ b. texts_of kept.done id ++ cond (not b) (texts_of (take s.stored (fetched scene)) id) []) (held_done frame.account before.account kept.done id e)
-        ∙ ap (λ t. texts_of kept.done id ++ t) (sym (texts_filtered (λ x. not (core.is_done scene x)) (take s.stored (fetched scene)) id))
-        ∙ sym (texts-append kept.done stored id))
-    | inr taken ↦ again taken.0 taken.1 (cases_Bool (has_id (ids_of (take s.stored (fetched scene))) id))
+    | inl e ↦ inl (cc (copies_are id l, e, held_done frame.account before.account kept.done id e, texts_after id))
+    | inr (taken, none) ↦
+        let is_done : core.is_done scene id ≡ true = all_ids_at (λ x. core.is_done scene x ≡ true) before.taken id kept.taken taken in
+        let now : copies (files v.after) (stem_of frame.account id) ≡ texts_of got id = copies_are id l ∙ rw (none, unheld_if frame before id none) in
+        elim (cases_Bool (has_id (ids_of got) id)) [
+          | inr absent ↦ inr (taken, now ∙ no_texts got id absent)
+          | inl yes' ↦ inl (now ∙ core.texts_fetched scene is_scene s.stored id yes' ∙ sym (core.texts_done scene is_scene id is_done)
+              ∙ sym (texts_after id ∙ rw is_done (append-nil (texts_of kept.done id))))
+        ]
   ]
-    where
-      again : has_id before.taken id ≡ true → copies (files before.account) (stem_of frame.account id) ≡ []
-          → (has_id (ids_of (take s.stored (fetched scene))) id ≡ true) ⊎ (has_id (ids_of (take s.stored (fetched scene))) id ≡ false)
-          → HoldsOf frame (after_event before (Visited v)) (kept.done ++ stored) id
-      again taken none asked =
-          let is_done : core.is_done scene id ≡ true = all_ids_at (λ x. core.is_done scene x ≡ true) before.taken id kept.taken taken in
-          let now : copies (files v.after) (stem_of frame.account id) ≡ texts_of (take s.stored (fetched scene)) id =
-          copies_are id l ∙ ap (λ t. t ++ cond (not (held id)) (texts_of (take s.stored (fetched scene)) id) []) none
-          ∙ ap (λ b. cond (not b) (texts_of (take s.stored (fetched scene)) id) []) (unheld_if frame before id none) in
-          elim asked [
-            | inr absent ↦ inr (taken, now ∙ no_texts (take s.stored (fetched scene)) id absent)
-            | inl yes' ↦ inl (now ∙ core.texts_fetched scene is_scene s.stored id yes' ∙ sym (core.texts_done scene is_scene id is_done)
-                ∙ sym (texts-append kept.done stored id
-                ∙ ap (λ t. texts_of kept.done id ++ t) (texts_filtered (λ x. not (core.is_done scene x)) (take s.stored (fetched scene)) id
-                ∙ ap (λ b. cond (not b) (texts_of (take s.stored (fetched scene)) id) []) is_done)
-                ∙ append-nil (texts_of kept.done id)))
-          ]
 
   -- ---- what the record says is done
 
@@ -146,9 +137,9 @@ module _ (laws : Below) (frame : Frame) (is : IsFrame frame) (before : Situation
   recorded_after : (id : List ℕ) → is_delivered v.after.rows id ≡ true → is_done_after id ≡ true
   recorded_after id e = elim s.rows [
     | inl old ↦ core.done_more scene is_scene s.stored id (kept.recorded id (ap (λ r. is_delivered r id) (sym old) ∙ e))
-    | inr new ↦ elim (delivered_marked laws.records rows (ids_wanted (take s.recorded (wanted_at v.settings frame.account before.account v.effect))) id (sym (ap (λ r. is_delivered r id) new) ∙ e)) [
+    | inr new ↦ elim (delivered_marked laws.records.marks rows (ids_wanted (take s.recorded (wanted_at v.settings frame.account before.account v.effect))) id (sym (ap (λ r. is_delivered r id) new) ∙ e)) [
       | inl was ↦ core.done_more scene is_scene s.stored id (known_done id was)
-      | inr more ↦ core.fetched_done scene is_scene s.stored id (core.taken_more s.recorded s.stored (fetched scene) id s.order (sym (ap (λ l. has_id l id) recorded_ids) ∙ more))
+      | inr more ↦ core.fetched_done scene is_scene s.stored id (taken_more (λ (m : Message). m.uid) s.recorded s.stored (fetched scene) id s.order (sym (ap (λ l. has_id l id) recorded_ids) ∙ more))
     ]
   ]
 
@@ -162,9 +153,7 @@ module _ (laws : Below) (frame : Frame) (is : IsFrame frame) (before : Situation
     prefix = ap (λ k. selected k frame.all) (sym same) ∙ core.prefix_after scene is_scene s.stored;
     holds = holds_after;
     recorded = recorded_after;
-    gone = all_append (λ id. is_done_after id ≡ true) before.gone v.vanished
-        (all_map (λ id. core.is_done scene id ≡ true) (λ id. is_done_after id ≡ true) (core.done_more scene is_scene s.stored) before.gone kept.gone)
-        (all_map (λ id. has_id v.effect.begun id ≡ true) (λ id. is_done_after id ≡ true) (λ id e. all_ids_at (λ x. is_done_after x ≡ true) v.effect.begun id begun_done e) v.vanished vanished);
+    gone = gone_is_done (core.is_done scene) is_done_after v.effect.begun before.gone v.vanished (core.done_more scene is_scene s.stored) begun_done kept.gone vanished;
     taken = all_map (λ id. core.is_done scene id ≡ true) (λ id. is_done_after id ≡ true) (core.done_more scene is_scene s.stored) before.taken kept.taken;
   }
 
@@ -182,27 +171,25 @@ module _ (laws : Below) (frame : Frame) (is : IsFrame frame) (before : Situation
   pub stores_only_new : StoresOnlyNew frame before v
   stores_only_new only_new id l recorded = (
     copies_are id l
-        ∙ ap (λ t. copies (files before.account) (stem_of frame.account id) ++ cond (not (held id)) t []) (no_texts (take s.stored (fetched scene)) id unasked)
-        ∙ ap (λ t. copies (files before.account) (stem_of frame.account id) ++ t) (none (not (held id)))
+        ∙ ap (λ t. copies (files before.account) (stem_of frame.account id) ++ t) nothing
         ∙ append-nil (copies (files before.account) (stem_of frame.account id)),
     elim s.rows [
       | inl old ↦ ap (λ r. is_delivered r id) old ∙ recorded
       | inr new ↦ ap (λ r. is_delivered r id) new
-          ∙ marks_stay laws.records rows (ids_wanted (take s.recorded (wanted_at v.settings frame.account before.account v.effect))) id known
+          ∙ marks_stay laws.records.marks rows (ids_wanted (take s.recorded (wanted_at v.settings frame.account before.account v.effect))) id known
     ],
   )
     where
       known : is_delivered rows id ≡ true
-      known = known_parts id ∙ ap (λ b. b || (has_item v.effect.listing id && held id)) recorded
+      known = known_parts id ∙ or_left _ _ recorded
 
-      none : (b : Bool) → cond b (let l : List (List ℕ) = [] in l) [] ≡ []
-      none true = refl
-      none false = refl
-
-      unasked : has_id (ids_of (take s.stored (fetched scene))) id ≡ false
+      unasked : has_id (ids_of got) id ≡ false
       unasked = false_from_ne_true _ (λ e. both_ways (is_delivered rows id)
-          (all_at (λ x. is_delivered rows x ≡ false) (take s.stored (fetched scene)) id
+          (all_at (λ x. is_delivered rows x ≡ false) got id
           (all_take (λ (m : Message). is_delivered rows m.uid ≡ false) s.stored (fetched scene) (core.none_recorded scene is_scene only_new)) e) known)
+
+      nothing : cond (not (held id)) (texts_of got id) [] ≡ []
+      nothing = cond_both (not (held id)) (texts_of got id) [] (λ (l : List (List ℕ)). l ≡ []) (λ t. no_texts got id unasked) (λ f. refl)
 
   past_ids : ids_wanted (past_limit v.settings.max_count (candidates v.settings rows v.effect.listing))
       ≡ ids_of (past_limit v.settings.max_count (core.os scene is_scene))

@@ -1,4 +1,4 @@
--- Sessions in a row, of which only the first and the last account are seen.
+-- Sessions in a row, of which only the first and the last account are known.
 use Rattle.std.specs.Prelude.{◌≡◌, ℕ, List, [], ◌∷◌, ◌++◌}
 use Rattle.pop3_wire.specs.World.{Message, maildrop_of}
 use Rattle.rc_file.specs.declared.settings.Settings.{Settings}

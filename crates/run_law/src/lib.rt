@@ -45,11 +45,13 @@ pub fn kept_states()
 
 /// A kept state holds exactly the first of the selected messages, each once, except for those
 /// that were taken away.
+#[tactic(auto, using(crate::proofs::Laws::holds_what_is_left))]
 pub fn holds_what_is_left()
     ensures { KeptHoldsWhatIsLeft }
 {}
 
 /// If nothing was taken away, it holds exactly the first of the selected messages, each once.
+#[tactic(auto, using(crate::proofs::Laws::holds_exactly))]
 pub fn holds_exactly()
     ensures { NothingTakenHoldsExactly }
 {}
@@ -77,6 +79,7 @@ pub fn moves_leave_mail()
 }
 
 /// An account with an empty record and no file of its own is kept, if nothing is gone from the server.
+#[tactic(auto, using(crate::proofs::Holds::starts_kept))]
 pub fn starts_kept()
     ensures { StartsKept }
 {}
@@ -91,6 +94,7 @@ pub fn honest_is_granted()
 }
 
 /// If replies are granted, the text of each RETR is its message's.
+#[tactic(auto, using(crate::proofs::Listed::texts_are_messages))]
 pub fn texts_are_messages()
     ensures { TextsAreMessages }
 {
@@ -107,6 +111,7 @@ pub fn listing_is_maildrop()
 }
 
 /// A message that is marked at the end of an honest conversation was asked for by DELE.
+#[tactic(auto, using(crate::proofs::Linked::marks_are_asked))]
 pub fn marks_are_asked()
     ensures { MarksAreAsked }
 {}
@@ -173,6 +178,7 @@ pub fn chains_keep()
 }
 
 /// A session given by its numbers is one that the law over runs takes.
+#[tactic(auto, using(crate::proofs::Tells::told_stores))]
 pub fn told_stores()
     ensures { ToldStores }
 {}
@@ -212,6 +218,7 @@ pub fn mbox_holds_exactly()
 /// With an mboxrd: an account without an open intent that records exactly a prefix of the
 /// selected messages as delivered is kept, whatever its file holds. So is one with an empty
 /// record, and one whose record an earlier version left.
+#[tactic(auto, using(crate::proofs::MboxKept::mbox_starts))]
 pub fn mbox_starts_kept()
     ensures { MboxStartsKept }
 {}
@@ -242,6 +249,7 @@ pub fn mbox_links_are_visits()
 }
 
 /// With an mboxrd: a session given by its numbers is one that the law over runs takes.
+#[tactic(auto, using(crate::proofs::Tells::mbox_told_stores))]
 pub fn mbox_told_stores()
     ensures { MboxToldStores }
 {}

@@ -1,14 +1,13 @@
 //! Which messages of a listing a Maildir holds already.
 
-ghost use Rattle.std.specs.Prelude.{◌≡◌, List, ℕ, ◌∷◌, ◌++◌, ◌||◌, ◌&&◌, map, length, vec_len, string_bytes, bytes_eq, IfOk, OnOk, ◌≢◌};
-ghost use Rattle.std.specs.List.{list_any};
+ghost use Rattle.std.specs.Prelude.{◌≡◌, List, ℕ, ◌∷◌, ◌++◌, ◌||◌, ◌&&◌, map, length, vec_len, bytes_eq, IfOk, OnOk, ◌≢◌};
 ghost use Rattle.hex.specs.Hex.{encode_lower};
 ghost use Rattle.mail_terms.specs.FailureCount.{Tallies, refuses};
 ghost use Rattle.mail_store.specs.Fault.{is_refusal};
 ghost use Rattle.mail_store.specs.FileName.{stem, is_held};
 ghost use Rattle.mail_terms.specs.Listing.{Item, has_item, is_flagged};
 ghost use Rattle.mail_store.specs.Maildir.{Maildir};
-ghost use Rattle.mail_store.specs.Held.{Finds, flags_of, has_text};
+ghost use Rattle.mail_store.specs.Held.{Finds, any_name, flags_of, has_text};
 ghost use Rattle.mail_store.specs.Power.{AllStay, KeepsMail};
 
 use crate::account::AccountId;
@@ -42,12 +41,28 @@ fn add_digits<'a>(
     names: &'a [String],
 ) -> Result<(), AllocError>
     ensures { OnOk result ((q : List ℕ) → has_text found.new q
-        ≡ (has_text found.old q || list_any (λ name. bytes_eq (account.now ++ 46 ∷ q) (stem (string_bytes name))) names.now)) }
+        ≡ (has_text found.old q || any_name account.now q names.now)) }
 {
     for name in names {
         add_name(found, account, name.as_str())?;
     }
     Ok(())
+}
+
+/// The digits of the ids that stand in the stems of the account's names in `new` and in `cur`.
+fn digits_of<'a>(
+    alloc: Global,
+    account: &str,
+    new: &'a [String],
+    cur: &'a [String],
+) -> Result<BTreeSet<&'a str>, AllocError>
+    ensures { IfOk result (λ found. (q : List ℕ)
+        → has_text found q ≡ (any_name account.now q new.now || any_name account.now q cur.now)) }
+{
+    let mut found = BTreeSet::new(alloc);
+    add_digits(&mut found, account, new)?;
+    add_digits(&mut found, account, cur)?;
+    Ok(found)
 }
 
 /// Whether the digits of each item's id are among these, in order.
@@ -96,9 +111,6 @@ pub fn held<D: MaildirDisk>(
     let new = disk.names(Folder::New)?;
     let cur = disk.names(Folder::Cur)?;
     // All of the account's names begin alike, so only what follows is compared.
-    let digits = account.as_str();
-    let mut found = BTreeSet::new(alloc);
-    add_digits(&mut found, digits, &new)?;
-    add_digits(&mut found, digits, &cur)?;
+    let found = digits_of(alloc, account.as_str(), &new, &cur)?;
     Ok(flags_of(alloc, &found, listing)?)
 }

@@ -1,13 +1,6 @@
+use Rattle.std.proofs.Common.{rules}
 use Rattle.run_law.proofs.Linked as laws
 use Rattle.run_law.proofs.links_are_visits.Goals as goal
 
 pub returns : goal.returns
-returns c = laws.visits readings
-  where
-    readings : laws.Readings
-    readings = record {
-      commands = c.only_one_list_of_commands.ensures;
-      granted = c.honest_is_granted.ensures;
-      texts = c.texts_are_messages.ensures;
-      listing = c.listing_is_maildrop.ensures;
-    }
+returns c = search (rules, laws.visits)

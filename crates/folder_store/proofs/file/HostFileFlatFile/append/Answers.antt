@@ -1,4 +1,4 @@
-use Rattle.std.proofs.Common.{Ok, Err}
+use Rattle.std.proofs.Common.{refl, Ok, Err}
 use Rattle.folder_store.proofs.Files.{appends}
 use Rattle.folder_store.proofs.Lasting.{append_lasts, appends_keep}
 use Rattle.folder_store.proofs.PowerLoss.{appends_for_good}
@@ -13,6 +13,25 @@ returns-in-Err-clause-appends g c = λ s.
       appends (d now.folder) (d c.append_in.new.folder) now.name.now c.args.bytes.now now.failures c.refuse.new.failures (Err c.in-Err.field-0) told.1
           c.refuse.ensures.counted,
     )
+
+pub returns-in-Ok-clause-appends : goal.returns-in-Ok-clause-appends
+returns-in-Ok-clause-appends g c = λ s.
+    let told = c.in-Ok.ensures s.0 in
+    let now = c.args.self.now in
+    let d = g.F.FileFolder.directory in (
+      (told.0, c.in_ok-admit.ensures.admitted),
+      appends (d now.folder) (d c.append_in.new.folder) now.name.now c.args.bytes.now now.failures now.failures (Ok tt) told.1 refl,
+    )
+
+pub returns-in-Ok-clause-power : goal.returns-in-Ok-clause-power
+returns-in-Ok-clause-power g c = λ s.
+    let d = g.F.FileFolder.directory in
+    appends_for_good (d c.args.self.now.folder) (d c.append_in.new.folder) c.args.self.now.name.now c.args.bytes.now (Ok tt) (c.in-Ok.ensures s).1
+
+pub returns-in-Ok-clause-keeps : goal.returns-in-Ok-clause-keeps
+returns-in-Ok-clause-keeps g c = λ s.
+    let d = g.F.FileFolder.directory in
+    appends_keep (d c.args.self.now.folder) (d c.append_in.new.folder) c.args.self.now.name.now c.args.bytes.now (Ok tt) (c.in-Ok.ensures s.0).1
 
 pub returns-in-Err-clause-power : goal.returns-in-Err-clause-power
 returns-in-Err-clause-power g c = λ s.

@@ -1,10 +1,11 @@
-use Rattle.std.proofs.Common.{sym, subst, Result, Vec, String, Global, string_bytes}
+use Rattle.std.proofs.Common.{ℕ, ap, refl, sym, subst, Result, Vec, String, Global, string_bytes}
 use Rattle.std.specs.Prelude.{option_map}
 use Rattle.mail_store.specs.declared.fault.StoreFault.{StoreFault}
 use Rattle.mail_store.specs.declared.maildir.disk.Folder.{Folder}
-use Rattle.mail_store.specs.Maildir.{Lists}
+use Rattle.mail_store.specs.Maildir.{Lists, files_in, is_there}
+use Rattle.folder_store.specs.FileFolder.{Directory}
 use Rattle.folder_store.specs.FolderMaildir.{maildir_in}
-use Rattle.folder_store.proofs.Directories.{lists_new, lists_cur}
+use Rattle.folder_store.proofs.Directories.{lists_told}
 use Rattle.folder_store.specs.PowerLoss.{StaysInEither, TellsWhatStays, of_folder}
 use Rattle.folder_store.proofs.PowerLoss.{told_stay}
 use Rattle.folder_store.proofs.Lasting.{leaves_keep, same_leaves, tells_leaves, told_cur, told_new}
@@ -15,30 +16,26 @@ pub returns-in-New-clause-lists : goal.returns-in-New-clause-lists
 returns-in-New-clause-lists g c = λ s.
     let told = c.told_names.ensures.tells s.0 in
     let now = c.args.self.now in
-    let old = g.F.FileFolder.directory now.new_folder in
-    let new = g.F.FileFolder.directory c.told_names.new.folder in
-    let cur = g.F.FileFolder.directory now.cur_folder in
-    let begun = option_map string_bytes now.begun in
-    let m = c.tally.new.failures in (
+    let d = g.F.FileFolder.directory in
+    let at = λ (x : Directory) (n : ℕ). maildir_in x (d now.cur_folder) (option_map string_bytes now.begun) n in
+    let lists = lists_told at c.args.folder (λ x n. ap (is_there (at x n)) c.in-New.is) (λ x n. ap (files_in (at x n)) c.in-New.is) (λ _ _. refl) (λ _ _. refl)
+    (d now.new_folder) (d c.told_names.new.folder) now.failures c.tally.new.failures c.told_names.result told.1 c.tally.ensures.counted in (
       (told.0, s.1, c.in_ok-admit.ensures.admitted),
-      subst (λ (r : Result (Vec (String Global) Global) StoreFault). Lists (maildir_in old cur begun now.failures) c.args.folder r (maildir_in new cur begun m)) (sym c.tally.ensures.same)
-          (subst (λ (f : Folder). Lists (maildir_in old cur begun now.failures) f c.told_names.result (maildir_in new cur begun m)) (sym c.in-New.is)
-          (lists_new old cur new begun now.failures m c.told_names.result told.1 c.tally.ensures.counted)),
+      subst (λ (r : Result (Vec (String Global) Global) StoreFault). Lists (at (d now.new_folder) now.failures) c.args.folder r (at (d c.told_names.new.folder) c.tally.new.failures))
+          (sym c.tally.ensures.same) lists,
     )
 
 pub returns-in-Cur-clause-lists : goal.returns-in-Cur-clause-lists
 returns-in-Cur-clause-lists g c = λ s.
     let told = c.told_names-in-Cur.ensures.tells s.1 in
     let now = c.args.self.now in
-    let other = g.F.FileFolder.directory now.new_folder in
-    let old = g.F.FileFolder.directory now.cur_folder in
-    let new = g.F.FileFolder.directory c.told_names-in-Cur.new.folder in
-    let begun = option_map string_bytes now.begun in
-    let m = c.tally-in-Cur.new.failures in (
+    let d = g.F.FileFolder.directory in
+    let at = λ (x : Directory) (n : ℕ). maildir_in (d now.new_folder) x (option_map string_bytes now.begun) n in
+    let lists = lists_told at c.args.folder (λ x n. ap (is_there (at x n)) c.in-Cur.is) (λ x n. ap (files_in (at x n)) c.in-Cur.is) (λ _ _. refl) (λ _ _. refl)
+    (d now.cur_folder) (d c.told_names-in-Cur.new.folder) now.failures c.tally-in-Cur.new.failures c.told_names-in-Cur.result told.1 c.tally-in-Cur.ensures.counted in (
       (s.0, told.0, c.in_ok-admit.ensures.admitted),
-      subst (λ (r : Result (Vec (String Global) Global) StoreFault). Lists (maildir_in other old begun now.failures) c.args.folder r (maildir_in other new begun m)) (sym c.tally-in-Cur.ensures.same)
-          (subst (λ (f : Folder). Lists (maildir_in other old begun now.failures) f c.told_names-in-Cur.result (maildir_in other new begun m)) (sym c.in-Cur.is)
-          (lists_cur other old new begun now.failures m c.told_names-in-Cur.result told.1 c.tally-in-Cur.ensures.counted)),
+      subst (λ (r : Result (Vec (String Global) Global) StoreFault). Lists (at (d now.cur_folder) now.failures) c.args.folder r (at (d c.told_names-in-Cur.new.folder) c.tally-in-Cur.new.failures))
+          (sym c.tally-in-Cur.ensures.same) lists,
     )
 
 pub returns-in-New-clause-power : goal.returns-in-New-clause-power

@@ -1,32 +1,23 @@
-use Rattle.std.proofs.Common.{◌≡◌, ◌∷◌, ◌++◌, ◌∙◌, false, true, List, ℕ, ap, subst, map, Bor, String, Global, string_bytes}
-use Rattle.std.specs.Prelude.{◌||◌, bytes_eq, IsPermutation}
-use Rattle.std.specs.List.{list_any}
-use Rattle.std.specs.Ordering.{is_eq, nat_cmp}
-use Rattle.std.specs.Cmp.Lexicographic.{slice_cmp}
+use Rattle.std.proofs.Common.{◌≡◌, ◌∙◌, true, List, ℕ, ap, subst, map, String, Global, string_bytes}
+use Rattle.std.specs.Prelude.{◌||◌, IsPermutation}
 use Rattle.mail_store.specs.Maildir.{Maildir, names_of}
-use Rattle.mail_store.specs.FileName.{stem}
 use Rattle.mail_store.proofs.HeldLemmas.{all_stay, flags_found}
-use Rattle.mail_store.specs.Held.{has_text}
+use Rattle.mail_store.specs.Held.{any_name, has_text}
 use Rattle.mail_store.proofs.maildir.held.held.Goals as goal
 
 pub returns-clause-finds : goal.returns-clause-finds
 returns-clause-finds g c = λ k.
     let cur = c.in_ok-cur.ensures.lists k in
     let new = c.in_ok-new.ensures.lists cur.0 in
-    let before = g.D.MaildirDisk.maildir c.args.disk.now in
-    let nothing : (q : List ℕ) → has_text c.new-found.result q ≡ false = λ q.
-    ap (λ (keys : List (Bor (List ℕ))). list_any (λ key. is_eq (slice_cmp nat_cmp q key.now)) keys) c.new-found.ensures.empty in (
+    let before = g.D.MaildirDisk.maildir c.args.disk.now in (
       new.0,
       (
-        flags_found c.args.account.now before c.args.listing.now c.in_ok-flags_of.field-0.items
-            (λ q. has_text c.new-found.result q) (λ q. has_text c.add_digits.new.found q) (λ q. has_text c.add_digits-2.new.found q)
-            c.in_ok-new.new.items c.in_ok-cur.cur.items nothing
-            (λ q. c.in_ok-add_digits.ensures q
-            ∙ ap (λ (names : List (String Global)). has_text c.new-found.result q || list_any (λ name. bytes_eq (c.as_str-digits.result.now ++ 46 ∷ q) (stem (string_bytes name))) names) c.deref.ensures.value
-            ∙ ap (λ (account : List ℕ). has_text c.new-found.result q || list_any (λ name. bytes_eq (account ++ 46 ∷ q) (stem (string_bytes name))) c.in_ok-new.new.items) c.as_str-digits.ensures.text)
-            (λ q. c.in_ok-add_digits-2.ensures q
-            ∙ ap (λ (names : List (String Global)). has_text c.add_digits.new.found q || list_any (λ name. bytes_eq (c.as_str-digits.result.now ++ 46 ∷ q) (stem (string_bytes name))) names) c.deref-2.ensures.value
-            ∙ ap (λ (account : List ℕ). has_text c.add_digits.new.found q || list_any (λ name. bytes_eq (account ++ 46 ∷ q) (stem (string_bytes name))) c.in_ok-cur.cur.items) c.as_str-digits.ensures.text)
+        flags_found c.args.account.now before c.args.listing.now c.in_ok-flags_of.field-0.items (has_text c.in_ok-found.found)
+            c.in_ok-new.new.items c.in_ok-cur.cur.items
+            (λ q. c.in_ok-found.ensures q
+            ∙ ap (λ (account : List ℕ). any_name account q c.deref.result.now || any_name account q c.deref-2.result.now) c.as_str.ensures.text
+            ∙ ap (λ (names : List (String Global)). any_name c.args.account.now q names || any_name c.args.account.now q c.deref-2.result.now) c.deref.ensures.value
+            ∙ ap (λ (names : List (String Global)). any_name c.args.account.now q c.in_ok-new.new.items || any_name c.args.account.now q names) c.deref-2.ensures.value)
             new.1.1 (subst (λ (m : Maildir). IsPermutation (names_of m.in_cur) (map string_bytes c.in_ok-cur.cur.items)) new.1.2 cur.1.1)
             c.in_ok-flags_of.ensures,
         cur.1.2 ∙ new.1.2,
