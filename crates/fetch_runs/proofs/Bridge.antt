@@ -1,25 +1,26 @@
 -- A session is a step: what it sent and read, and what it left, together.
-use Rattle.std.proofs.Common.{map, ◌≡◌, ◌⊎◌, inl, inr, ◌-◌, ℕ, Bool, true, false, List, [], ◌∷◌, ◌++◌, Option, Some, Result, Ok, Err, refl, sym, ap, subst, ◌∙◌}
+use Rattle.std.proofs.Common.{map, take, length, ◌≡◌, ◌⊎◌, inl, inr, ◌-◌, ℕ, Bool, true, false, List, [], ◌∷◌, ◌++◌, Some, Result, Ok, Err, refl, sym, ap, subst, ◌∙◌, arith, ◌≤◌, min, None, append_assoc}
 use Rattle.std.specs.Prelude.{◌↔◌, ◌||◌, bytes_eq, slice_get}
 use Rattle.std.specs.List.{list_any, AllByRecursion}
 use Rattle.std.proofs.lemmas.Bool.{true≢false}
-use Rattle.std.proofs.lemmas.List.{length-map}
+use Rattle.std.proofs.lemmas.List.{length-map, append-nil, length-take, take_all}
 use Rattle.std.proofs.lemmas.List.Concat.{flat_map-append}
 use Rattle.std.proofs.lemmas.List.Folds.{list_any-append}
 use Rattle.std.proofs.lemmas.Slice.Eq.{bytes_eq-Decides}
 use Rattle.std.proofs.Math.Bool.{or-true}
 use Rattle.mail_terms.specs.Listing.{Item}
 use Rattle.pop3_wire.specs.declared.command.Command.{Command}
-use Rattle.pop3_wire.specs.declared.command.Command.TheVariants.{User, Pass, Stat, UidlAll, UidlOne, ListAll, ListOne, Retr, Dele, Rset, Noop, Top, Quit}
+use Rattle.pop3_wire.specs.declared.command.Command.TheVariants.{User, Pass, Stat, UidlAll, ListAll, Dele, Retr}
 use Rattle.pop3_wire.specs.Link.{Link}
+use Rattle.pop3_wire.specs.Place.{at}
 use Rattle.pop3_client.specs.Conversation.{ConversationsArePaced}
-use Rattle.fetch_rules.specs.Record.{Row}
+use Rattle.fetch_rules.specs.Record.{Row, Held, Intent}
 use Rattle.mail_store.specs.Maildir.{Maildir}
 use Rattle.rc_file.specs.declared.settings.Settings.{Settings}
 use Rattle.mail_terms.specs.UniqueId.{has_id}
-use Rattle.pop3_wire.specs.Honest.{FrontsAreAsked}
-use Rattle.run_law.specs.Sessions.{IsBegun}
-use Rattle.run_law.specs.Steps.{Leaves}
+use Rattle.pop3_wire.specs.Honest.{FrontsAreAsked, Asked}
+use Rattle.run_law.specs.Sessions.{IsBegun, Reads, BeginsOne}
+use Rattle.run_law.specs.Steps.{Leaves, wanted_at, Effect}
 use Rattle.run_law.specs.Told.{ToldStores}
 use Rattle.fetch_session.specs.declared.fault.Cut.{Cut}
 use Rattle.fetch_session.specs.declared.report.Outcome.{Outcome}
@@ -31,49 +32,49 @@ use Rattle.fetch_session.specs.declared.report.ReportLine.{ReportLine}
 use Rattle.fetch_session.specs.Laws.{TurnsJoin}
 use Rattle.fetch_session.specs.Report.{retrieved_in}
 use Rattle.fetch_session.specs.Task.{Task, deletes}
-use Rattle.fetch_session.specs.Record.{KeepsRows}
-use Rattle.fetch_session.specs.Session.{Kept, keeps_files, outcome_of}
-use Rattle.fetch_session.specs.Target.{AsFiles}
+use Rattle.fetch_session.specs.Record.{KeepsRows, Keeps}
+use Rattle.fetch_session.specs.Session.{Kept, keeps_files, outcome_of, Keeping, MboxKept, keeps_entries}
+use Rattle.fetch_session.specs.Target.{AsFiles, AsEntries, mail_in, no_maildir}
 use Rattle.fetch_runs.specs.Conversations.{tail_behind}
-use Rattle.fetch_runs.specs.Steps.{holds, SaysOnly, IsStep, SessionIsAStep}
-use Rattle.fetch_runs.proofs.TalkConversation.{tail_is}
-use Rattle.fetch_runs.proofs.TalkSessions.{tail_for}
+use Rattle.fetch_runs.specs.Steps.{holds, SaysOnly, StopsAtList, IsStep, SessionIsAStep}
+use Rattle.fetch_runs.proofs.TalkConversation.{tail_for, Gained, talks}
 use Rattle.pop3_client.specs.Turns.{Turn}
-use Rattle.fetch_runs.proofs.Courses.{Way, Idle, Deals, way_of, begun_of, found_of, IsOfTask}
-use Rattle.fetch_runs.proofs.StatePlan.{IsRight, deleted_in, deleted_by, uids_in}
-use Rattle.fetch_runs.proofs.StateDone.{text_found}
-use Rattle.fetch_runs.proofs.StateBuilt.{Laws, effect_of}
-use Rattle.fetch_runs.proofs.StateCases.{is_ended, RefusedIn, UnsavedIn}
-use Rattle.fetch_runs.proofs.StateLaw.{WayLeads, session_leads}
-use Rattle.fetch_runs.proofs.TalkCommands.{begins_of}
-use Rattle.fetch_runs.proofs.TalkLaw.{Gained, talks}
+use Rattle.fetch_runs.proofs.Courses.{Course, course, Way, Idle, Deals, way_of, begun_of, found_of, IsOfTask}
+use Rattle.fetch_runs.proofs.StatePlan.{IsRight, deleted_in, deleted_by}
+use Rattle.fetch_runs.proofs.StateDone.{number_found, number_of, text_found, Laws, effect_of}
+use Rattle.fetch_runs.proofs.StateCases.{is_ended, UnsavedIn}
+use Rattle.fetch_runs.proofs.StateLaw.{RefusedIn, WayLeads, way_leads}
+use Rattle.fetch_runs.proofs.TalkCommands.{all_back, all_weaker, begins_of}
+use Rattle.fetch_runs.proofs.TalkSpeech.{Speaks}
+use Rattle.run_law.specs.Mboxes.{MboxLeaves, mbox_wanted, MboxAccount, MboxStores, settled, entries}
+use Rattle.run_law.specs.MboxSessions.{AsksForNoMessage, AsksForNone, MboxSession as Stepped}
+use Rattle.run_law.specs.MboxTold.{MboxToldStores}
+use Rattle.fetch_runs.specs.MboxSteps.{mbox_holds, IsMboxStep, MboxSessionIsAStep}
+use Rattle.fetch_runs.proofs.MboxState.{WayLeaves, way_leaves}
+use Rattle.pop3_wire.specs.Body.{kept, text_of, unstuffed}
+use Rattle.pop3_wire.specs.Reading.{WholeReply}
+use Rattle.mail_terms.specs.Text.{IsWhole}
+use Rattle.mail_store.specs.Mboxrd.{MboxFile, EntryAddsText, entry_of}
+use Rattle.run_law.specs.Readings.{Retrieves}
+use Rattle.fetch_runs.specs.MboxTexts.{AddsTexts}
 
 -- ---- deletions
 
-right_at : (account : List ℕ) (maildir : Maildir) (items : List Item) (front behind : List Task) (task : Task) → AllByRecursion (IsRight account maildir items) (front ++ task ∷ behind) → IsRight account maildir items task
-right_at account maildir items [] behind task right = right.0
-right_at account maildir items (t ∷ front) behind task right = right_at account maildir items front behind task right.1
-
 id_there : (items : List Item) (front behind : List Task) (number : ℕ) (item : Item) → slice_get items (number - 1) ≡ Some item → has_id (deleted_by items (front ++ deletes number ∷ behind)) item.uid ≡ true
 id_there items front behind number item at =
-    ap (λ (ids : List (List ℕ)). has_id ids item.uid) (flat_map-append (deleted_in items) front (deletes number ∷ behind))
-    ∙ list_any-append (bytes_eq item.uid) (deleted_by items front) (uids_in (slice_get items (number - 1)) ++ deleted_by items behind)
-    ∙ ap (λ (b : Bool). list_any (bytes_eq item.uid) (deleted_by items front) || b)
-    (ap (λ (o : Option Item). list_any (bytes_eq item.uid) (uids_in o ++ deleted_by items behind)) at
-    ∙ ap (λ (b : Bool). b || list_any (bytes_eq item.uid) (deleted_by items behind)) ((bytes_eq-Decides item.uid item.uid).1 refl))
-    ∙ or-true (list_any (bytes_eq item.uid) (deleted_by items front))
+    rw (
+      flat_map-append (deleted_in items) front (deletes number ∷ behind),
+      list_any-append (bytes_eq item.uid) (deleted_by items front) (deleted_in items (deletes number) ++ deleted_by items behind),
+      at,
+      (bytes_eq-Decides item.uid item.uid).1 refl,
+    ) (or-true (list_any (bytes_eq item.uid) (deleted_by items front)))
 
 pub begun_one : (account : List ℕ) (maildir : Maildir) (items : List Item) (tasks : List Task) → AllByRecursion (IsRight account maildir items) tasks → (command : Command)
     → IsOfTask tasks command → IsBegun items (deleted_by items tasks) command
 begun_one account maildir items tasks right (Dele number) is =
-    let at = right_at account maildir items is.0 is.1 (deletes number) (subst (AllByRecursion (IsRight account maildir items)) is.2 right) in
+    let at = (all_back (IsRight account maildir items) is.0 (deletes number ∷ is.1) (subst (AllByRecursion (IsRight account maildir items)) is.2 right)).0 in
     (at.0, at.1, ap (λ (ts : List Task). has_id (deleted_by items ts) at.0.uid) is.2 ∙ id_there items is.0 is.1 number at.0 at.1, at.2, at.3)
 begun_one account maildir items tasks right other is = tt
-
-pub begun_all : (account : List ℕ) (maildir : Maildir) (items : List Item) (tasks : List Task) → AllByRecursion (IsRight account maildir items) tasks → (commands : List Command)
-    → AllByRecursion (IsOfTask tasks) commands → AllByRecursion (IsBegun items (deleted_by items tasks)) commands
-begun_all account maildir items tasks right [] all = tt
-begun_all account maildir items tasks right (command ∷ commands) all = (begun_one account maildir items tasks right command all.0, begun_all account maildir items tasks right commands all.1)
 
 -- ---- the outcome
 
@@ -84,6 +85,33 @@ is_end (WasCut fault) = false
 pub ended_if : (result : Result (Unit {0}) Cut) (outcome : Outcome) → outcome ≡ outcome_of result → (is_ended result ≡ true) ↔ (outcome ≡ Ended)
 ended_if (Ok done) outcome is = (λ yes'. is, λ ended. refl)
 ended_if (Err cut) outcome is = (λ never. absurd (true≢false (sym never)), λ ended. absurd (true≢false (sym (ap is_end ended) ∙ ap is_end is)))
+
+-- ---- what was said and read
+
+-- the commands of a session that dealt with a listing
+abbrev pub commands_of : {c : Course} {turns : List Turn} {sent got : List ℕ} → Speaks c turns sent got → List Command
+commands_of said = User said.name ∷ Pass said.word ∷ Stat ∷ UidlAll ∷ ListAll ∷ said.more
+
+pub reads : {c : Course} {turns : List Turn} {sent got : List ℕ} (said : Speaks c turns sent got) (now : ℕ) (ended : Bool) (messages : List (ℕ × Item))
+    → map number_found (found_of c) ≡ map number_of (take (length (found_of c)) messages) → Reads messages (commands_of said) sent got (effect_of now ended c)
+reads {c = c} said now ended messages numbers = record {
+  name = said.name;
+  word = said.word;
+  more = said.more;
+  commands_are = refl;
+  user = said.user;
+  pass = said.pass;
+  stat = said.stat;
+  uidl = said.uidl;
+  list = said.list;
+  replies = said.replies;
+  talked = said.talked;
+  listed = said.listed;
+  found = found_of c;
+  retrieves = said.retrieves;
+  texts = refl;
+  numbers = numbers;
+}
 
 -- ---- both together
 
@@ -102,25 +130,25 @@ module _ (stores : ToldStores) (settings : Settings) (account : List ℕ) (now :
   joined Idle left said = record {
     sent = said.sent;
     got = said.got;
-    effect = record { now = now; listing = []; texts = []; begun = []; ended = false };
+    effect = effect_of now (is_ended result) (course [] [] [] []);
     rows' = rows;
     sent_is = said.sent_is;
     got_is = said.got_is;
     now_is = refl;
-    ended_is = subst (λ (e : Bool). (e ≡ true) ↔ (report.outcome ≡ Ended)) left.0 (ended_if result report.outcome outcome_is);
+    ended_is = ended_if result report.outcome outcome_is;
     keeps = subst (λ (k : Kept). KeepsRows k.file.content rows) (sym left.1) keeps;
     left = inl (unchanged, counts ∙ ap retrieved_in left.2);
     stepped = record {
       commands = said.tells.0;
       asked = said.tells.1;
-      begun = begun_all account before.maildir [] [] tt said.tells.0 said.tells.2;
+      begun = all_weaker (IsOfTask []) (IsBegun [] []) said.tells.0 (begun_one account before.maildir [] [] tt) said.tells.2;
       next = begins_of (IsOfTask []) (IsBegun [] []) (begun_one account before.maildir [] [] tt) said.tells.1.part said.tells.3;
       step = inl unchanged;
     };
   }
     where
-      unchanged : Leaves (holds rows before.maildir) (record { now = now; listing = []; texts = []; begun = []; ended = false }) (holds rows after.maildir)
-      unchanged = record { rows = refl; in_new = ap (λ (k : Kept). k.maildir.in_new) left.1; in_cur = ap (λ (k : Kept). k.maildir.in_cur) left.1; begun = refl; ended = refl }
+      unchanged : Leaves (holds rows before.maildir) (effect_of now (is_ended result) (course [] [] [] [])) (holds rows after.maildir)
+      unchanged = record { rows = refl; in_new = ap (λ (k : Kept). k.maildir.in_new) left.1; in_cur = ap (λ (k : Kept). k.maildir.in_cur) left.1; begun = refl; ended = left.0 }
   joined (Deals c) left said = record {
     sent = said.sent;
     got = said.got;
@@ -138,52 +166,193 @@ module _ (stores : ToldStores) (settings : Settings) (account : List ℕ) (now :
       one_less = λ is. unsaved_is result report.outcome outcome_is (left.one_less is);
       recorded = elim left.recorded [
         | inl is ↦ inl is
-        | inr none ↦ inr (
-          none.0,
-          ap (map text_found) none.1,
-          ap (deleted_by c.items) none.2,
-          none.3,
-          record {
-            name = said.tells.name;
-            word = said.tells.word;
-            more = said.tells.more;
-            commands_are = refl;
-            only = subst (λ (turns : List Turn). SaysOnly turns said.tells.more said.tells.talked.asked.part) (tail_is result ∙ ap tail_behind (sym outcome_is)) (said.tells.stops none.2);
-          },
-        )
+        | inr none ↦ inr (none.0, ap (map text_found) none.1, ap (deleted_by c.items) none.2, none.3, stops none.2)
       ];
     });
     stepped = record {
-      commands = User said.tells.name ∷ Pass said.tells.word ∷ Stat ∷ UidlAll ∷ ListAll ∷ said.tells.more;
+      commands = commands_of said.tells;
       asked = said.tells.talked.asked;
-      begun = begun_all account before.maildir c.items (begun_of c) left.right (User said.tells.name ∷ Pass said.tells.word ∷ Stat ∷ UidlAll ∷ ListAll ∷ said.tells.more) said.tells.deletes;
+      begun = all_weaker (IsOfTask (begun_of c)) (IsBegun c.items (deleted_by c.items (begun_of c))) (commands_of said.tells) (begun_one account before.maildir c.items (begun_of c) left.right) said.tells.deletes;
       next = begins_of (IsOfTask (begun_of c)) (IsBegun c.items (deleted_by c.items (begun_of c))) (begun_one account before.maildir c.items (begun_of c) left.right) said.tells.talked.asked.part said.tells.next;
       step = inr (
         stores settings account (holds rows before.maildir) (effect_of now (is_ended result) c) (holds left.rows' after.maildir) left.told,
-        record {
-          name = said.tells.name;
-          word = said.tells.word;
-          more = said.tells.more;
-          commands_are = refl;
-          user = said.tells.user;
-          pass = said.tells.pass;
-          stat = said.tells.stat;
-          uidl = said.tells.uidl;
-          list = said.tells.list;
-          replies = said.tells.replies;
-          talked = said.tells.talked;
-          listed = said.tells.listed;
-          found = found_of c;
-          retrieves = said.tells.retrieves;
-          texts = refl;
-          numbers = left.numbers;
-        },
+        reads said.tells now (is_ended result) (wanted_at settings account (holds rows before.maildir) (effect_of now (is_ended result) c)) left.numbers,
       );
     };
   }
+    where
+      stops : begun_of c ≡ [] → StopsAtList report.outcome (commands_of said.tells) said.tells.talked.asked.part
+      stops none = record {
+        name = said.tells.name;
+        word = said.tells.word;
+        more = said.tells.more;
+        commands_are = refl;
+        only = subst (λ (turns : List Turn). SaysOnly turns said.tells.more said.tells.talked.asked.part) (ap tail_behind (sym outcome_is)) (said.tells.stops none);
+      }
 
 pub session_is_a_step : Laws → ToldStores → TurnsJoin → ConversationsArePaced → FrontsAreAsked → SessionIsAStep
 session_is_a_step laws stores joining paced fronts settings account now link before rows report link' after valid keeps is =
     joined stores settings account now link before rows report link' after is.result is.reports.outcome_is is.notes.lines is.reports.retrieved_is keeps
-    (way_of settings (AsFiles account) now link (keeps_files before) report link' (keeps_files after) is) (session_leads laws settings account now link before report link' after rows keeps is)
+    (way_of settings (AsFiles account) now link (keeps_files before) report link' (keeps_files after) is) (way_leads laws settings account now (at link []) before is.result is.mid after is.notes rows keeps is.proceeds)
     (talks joining paced fronts settings (AsFiles account) now link (keeps_files before) report link' (keeps_files after) valid is)
+
+-- ---- without a task no message is asked for
+
+none_among : (front behind : List Task) (task : Task) → [] ≡ front ++ task ∷ behind → ⊥
+none_among [] behind task e = cc
+none_among (t ∷ front) behind task e = cc
+
+no_message : (command : Command) → IsOfTask [] command → AsksForNoMessage command
+no_message (Retr n) is = absurd (none_among is.0 is.2 is.1 is.3)
+no_message (Dele n) is = absurd (no_delete n is)
+  where
+    no_delete : (n : ℕ) → IsOfTask [] (Dele n) → ⊥
+    no_delete n is = none_among is.0 is.1 (deletes n) is.2
+no_message other is = tt
+
+asks_none : (tasks : List Task) (commands : List Command) (part : List ℕ) → tasks ≡ [] → AllByRecursion (IsOfTask tasks) commands → BeginsOne (IsOfTask tasks) part → AsksForNone commands part
+asks_none tasks commands part none all next = (
+  all_weaker (IsOfTask []) AsksForNoMessage commands no_message (subst (λ (ts : List Task). AllByRecursion (IsOfTask ts) commands) none all),
+  begins_of (IsOfTask []) AsksForNoMessage no_message part (subst (λ (ts : List Task). BeginsOne (IsOfTask ts) part) none next),
+)
+
+-- ---- both together
+
+module _ (stores : MboxToldStores) (settings : Settings) (now : ℕ) (link : Link) (before : MboxKept) (held : Held) (report : Report) (link' : Link) (after : MboxKept) (result : Result (Unit {0}) Cut)
+    (outcome_is : report.outcome ≡ outcome_of result) (lines : List ReportLine) (counts : report.retrieved ≡ retrieved_in lines) (keeps : Keeps before.file.content held) where
+  -- no task was begun
+  quiet : {way : Way} (c : Course) → begun_of c ≡ [] → (said : Gained way (tail_for result) link link') (commands : List Command) (asked : Asked commands said.sent)
+      → AllByRecursion (IsOfTask (begun_of c)) commands → BeginsOne (IsOfTask (begun_of c)) asked.part
+      → MboxLeaves (mbox_holds held before.mbox) (effect_of now (is_ended result) c) (mbox_holds held after.mbox) → retrieved_in lines ≡ 0 → Keeps after.file.content held
+      → IsMboxStep settings now link before held report link' after
+  quiet c none said commands asked all next leaves told keeps' = record {
+    sent = said.sent;
+    got = said.got;
+    effect = effect_of now (is_ended result) c;
+    held' = held;
+    sent_is = said.sent_is;
+    got_is = said.got_is;
+    now_is = refl;
+    ended_is = ended_if result report.outcome outcome_is;
+    keeps = keeps';
+    left = inl (leaves, counts ∙ told);
+    stepped = record {
+      commands = commands;
+      asked = asked;
+      begun = all_weaker (IsOfTask (begun_of c)) (IsBegun c.items (deleted_by c.items (begun_of c))) commands begun all;
+      next = begins_of (IsOfTask (begun_of c)) (IsBegun c.items (deleted_by c.items (begun_of c))) begun asked.part next;
+      step = inl (leaves, asks_none (begun_of c) commands asked.part none all next);
+    };
+  }
+    where
+      begun : (command : Command) → IsOfTask (begun_of c) command → IsBegun c.items (deleted_by c.items (begun_of c)) command
+      begun = begun_one [] no_maildir c.items (begun_of c) (subst (AllByRecursion (IsRight [] no_maildir c.items)) (sym none) tt)
+
+  mbox_joined : (way : Way) → WayLeaves settings now result way held (keeps_entries before) (keeps_entries after) lines → Gained way (tail_for result) link link' → IsMboxStep settings now link before held report link' after
+  mbox_joined Idle left said =
+      quiet (course [] [] [] []) refl said said.tells.0 said.tells.1 said.tells.2 said.tells.3
+      (record { rows = refl; intent = refl; file = inl (ap (λ (k : Keeping). mail_in k.store.mbox.content) left.1); begun = refl; ended = left.0 })
+      (ap retrieved_in left.2) (subst (λ (k : Keeping). Keeps k.file.content held) (sym left.1) keeps)
+  mbox_joined (Deals c) (inl left) said = quiet c left.none said (commands_of said.tells) said.tells.talked.asked said.tells.deletes said.tells.next left.leaves left.told left.keeps
+  mbox_joined (Deals c) (inr left) said = record {
+    sent = said.sent;
+    got = said.got;
+    effect = effect_of now (is_ended result) c;
+    held' = left.held';
+    sent_is = said.sent_is;
+    got_is = said.got_is;
+    now_is = refl;
+    ended_is = ended_if result report.outcome outcome_is;
+    keeps = left.keeps;
+    left = inr (record { told = left.told; retrieved_is = counts ∙ left.counted; one_less = λ is. unsaved_is result report.outcome outcome_is (left.one_less is) });
+    stepped = record {
+      commands = commands_of said.tells;
+      asked = said.tells.talked.asked;
+      begun = all_weaker (IsOfTask (begun_of c)) (IsBegun c.items (deleted_by c.items (begun_of c))) (commands_of said.tells) begun said.tells.deletes;
+      next = begins_of (IsOfTask (begun_of c)) (IsBegun c.items (deleted_by c.items (begun_of c))) begun said.tells.talked.asked.part said.tells.next;
+      step = inr (
+        stores settings (mbox_holds held before.mbox) (effect_of now (is_ended result) c) (mbox_holds left.held' after.mbox) left.told,
+        reads said.tells now (is_ended result) (mbox_wanted settings (mbox_holds held before.mbox) (effect_of now (is_ended result) c)) left.numbers,
+      );
+    };
+  }
+    where
+      begun : (command : Command) → IsOfTask (begun_of c) command → IsBegun c.items (deleted_by c.items (begun_of c)) command
+      begun = begun_one [] no_maildir c.items (begun_of c) left.right
+
+pub mbox_session_is_a_step : Laws → MboxToldStores → TurnsJoin → ConversationsArePaced → FrontsAreAsked → MboxSessionIsAStep
+mbox_session_is_a_step laws stores joining paced fronts settings now link before held report link' after valid keeps is =
+    mbox_joined stores settings now link before held report link' after is.result is.reports.outcome_is is.notes.lines is.reports.retrieved_is keeps
+    (way_of settings AsEntries now link (keeps_entries before) report link' (keeps_entries after) is) (way_leaves laws settings now (at link []) (keeps_entries before) is.result is.mid (keeps_entries after) is.notes held keeps is.proceeds)
+    (talks joining paced fronts settings AsEntries now link (keeps_entries before) report link' (keeps_entries after) valid is)
+
+-- ---- after a session that ended the mboxrd file stands for the texts that came too: these are whole
+
+line_whole : (text line : List ℕ) → IsWhole text → IsWhole (kept line ++ text)
+line_whole text line (inl none) = inr (unstuffed line, ap (λ (t : List ℕ). kept line ++ t) none ∙ append-nil (kept line))
+line_whole text line (inr (front, is)) = inr (kept line ++ front, ap (λ (t : List ℕ). kept line ++ t) is ∙ sym (append_assoc (kept line) front (10 ∷ [])))
+
+lines_whole : (lines : List (List ℕ)) → IsWhole (text_of lines)
+lines_whole [] = inl refl
+lines_whole (line ∷ lines) = line_whole (text_of lines) line (lines_whole lines)
+
+retrieved_whole : (commands : List Command) (replies : List WholeReply) (found : List (ℕ × List ℕ)) → Retrieves commands replies found → AllByRecursion IsWhole (map text_found found)
+retrieved_whole commands [] found none = subst (λ (f : List (ℕ × List ℕ)). AllByRecursion IsWhole (map text_found f)) (sym none) tt
+retrieved_whole [] (reply ∷ replies) found never = absurd never
+retrieved_whole (Retr number ∷ commands) (reply ∷ replies) found (text, more, body, is, later) =
+    subst (λ (f : List (ℕ × List ℕ)). AllByRecursion IsWhole (map text_found f)) (sym is)
+    (subst IsWhole (sym body.read) (lines_whole body.lines), retrieved_whole commands replies more later)
+retrieved_whole (other ∷ commands) (reply ∷ replies) found later = retrieved_whole commands replies found later
+
+-- ---- entries after a file that stands for texts
+
+texts_stand : EntryAddsText → (file : List ℕ) (first texts : List (List ℕ)) → AllByRecursion IsWhole texts → MboxFile file first → MboxFile (file ++ entries texts) (first ++ texts)
+texts_stand adds file first [] whole stands = subst (MboxFile (file ++ [])) (sym (append-nil first)) (subst (λ (f : List ℕ). MboxFile f first) (sym (append-nil file)) stands)
+texts_stand adds file first (text ∷ texts) whole stands =
+    subst (MboxFile (file ++ (entry_of text ++ entries texts))) (append_assoc first (text ∷ []) texts)
+    (subst (λ (f : List ℕ). MboxFile f ((first ++ text ∷ []) ++ texts)) (append_assoc file (entry_of text) (entries texts))
+    (texts_stand adds (file ++ entry_of text) (first ++ text ∷ []) texts whole.1 (adds file text first stands whole.0)))
+
+-- ---- all that was wanted
+
+few_found : (found : List (ℕ × List ℕ)) (wanted : List (ℕ × Item)) → map (λ (p : ℕ × List ℕ). p.0) found ≡ map (λ (p : ℕ × Item). p.0) (take (length found) wanted) → length found ≤ length wanted
+few_found found wanted numbers =
+    let same : length found ≡ length (take (length found) wanted) =
+    sym (length-map found (λ (p : ℕ × List ℕ). p.0)) ∙ ap (λ (l : List ℕ). length l) numbers ∙ length-map (take (length found) wanted) (λ (p : ℕ × Item). p.0) in
+    let short : length (take (length found) wanted) ≡ min (length found) (length wanted) = length-take (length found) wanted in
+    omega (arith, same, short)
+
+some_none : (i : Intent) → Some i ≡ None → ⊥
+some_none i e = cc
+
+module _ (adds : EntryAddsText) (settings : Settings) (before : MboxAccount) (effect : Effect) (after : MboxAccount) (ended : effect.ended ≡ true) where
+  added : (commands : List Command) (sent got : List ℕ) → MboxStores settings before effect after → Reads (mbox_wanted settings before effect) commands sent got effect → AddsTexts settings before effect after
+  added commands sent got stores reads = record {
+    all = omega (arith, same, few, least, stores.fetched);
+    texts = λ first stands. subst (λ (f : List ℕ). MboxFile f (first ++ effect.texts)) (sym file) (texts_stand adds (settled before).file first effect.texts whole stands);
+  }
+    where
+      same : length effect.texts ≡ length reads.found
+      same = ap (λ (l : List (List ℕ)). length l) reads.texts ∙ length-map reads.found text_found
+
+      few : length reads.found ≤ length (mbox_wanted settings before effect)
+      few = few_found reads.found (mbox_wanted settings before effect) reads.numbers
+
+      least : length (mbox_wanted settings before effect) ≤ stores.stored
+      least = (stores.ended ended).0
+
+      whole : AllByRecursion IsWhole effect.texts
+      whole = subst (AllByRecursion IsWhole) (sym reads.texts)
+          (retrieved_whole (User reads.name ∷ Pass reads.word ∷ Stat ∷ UidlAll ∷ ListAll ∷ reads.more) (reads.user ∷ reads.pass ∷ reads.stat ∷ reads.uidl ∷ reads.list ∷ reads.replies) reads.found reads.retrieves)
+
+      file : after.file ≡ (settled before).file ++ entries effect.texts
+      file = elim stores.ending [
+        | inl closed ↦ closed.file ∙ ap (λ (l : List (List ℕ)). (settled before).file ++ entries l) (take_all stores.stored effect.texts (omega (arith, same, few, least)))
+        | inr broken ↦ absurd (some_none _ (sym broken.opened.intent ∙ (stores.ended ended).1))
+      ]
+
+  pub adds_texts : (sent got : List ℕ) → Stepped settings before sent got effect after → AddsTexts settings before effect after
+  adds_texts sent got session = elim session.step [
+    | inl (leaves, none) ↦ absurd (true≢false (sym ended ∙ leaves.ended))
+    | inr (stores, reads) ↦ added session.commands sent got stores reads
+  ]

@@ -21,7 +21,7 @@ use Rattle.fetch_session.specs.declared.report.Report.{Report}
 use Rattle.fetch_session.specs.declared.report.ReportLine.{ReportLine}
 use Rattle.fetch_session.specs.Task.{Task, stores, rereads, deletes, Done, tasks_of}
 use Rattle.fetch_session.specs.Store.{RefusesText}
-use Rattle.fetch_session.specs.Plan.{tasks_ahead, Unprepared, Carried, Carries}
+use Rattle.fetch_session.specs.Plan.{tasks_ahead, Carried, Carries}
 use Rattle.fetch_session.specs.Scene.{Scene, scene, NoFile, Stops, Does}
 use Rattle.fetch_session.specs.Session.{Keeping, Noted, Dealt, Proceeds, SessionIn}
 use Rattle.fetch_session.specs.Target.{Target, AsFiles, AsEntries, Stores}
@@ -74,18 +74,14 @@ abbrev pub course_carried : (settings : Settings) (target : Target) (items : Lis
 course_carried settings target items now place store file lines result new skipped is =
     course_does target items (tasks_ahead settings target items now store is.mid.rows) is.mid new result is.does
 
-abbrev pub course_cut : (settings : Settings) (target : Target) (items : List Item) (now : ℕ) (place : Place) (store : Stores) (file : Stored) (lines : List ReportLine)
-    (cut : Cut) (new : Scene) (skipped : ℕ) → ((skipped ≡ 0) × Unprepared target items now place store file lines cut new) ⊎ Carried settings target items now place store file lines (Err cut) new skipped → Course
-course_cut settings target items now place store file lines cut new skipped (inl unprepared) = course items [] [] []
-course_cut settings target items now place store file lines cut new skipped (inr is) = course_carried settings target items now place store file lines (Err cut) new skipped is
-
 abbrev pub course_carries : (settings : Settings) (target : Target) (items : List Item) (now : ℕ) (place : Place) (store : Stores) (file : Stored) (lines : List ReportLine)
     (result : Result (Unit {0}) Cut) (place' : Place) (store' : Stores) (file' : Stored) (lines' : List ReportLine) (skipped : ℕ)
     → Carries settings target items now place store file lines result place' store' file' lines' skipped → Course
 course_carries settings target items now place store file lines (Ok done) place' store' file' lines' skipped is =
     course_carried settings target items now place store file lines (Ok done) (scene place' store' file' is.0 lines') skipped is.1
-course_carries settings target items now place store file lines (Err cut) place' store' file' lines' skipped is =
-    course_cut settings target items now place store file lines cut (scene place' store' file' is.0 lines') skipped is.1
+course_carries settings target items now place store file lines (Err cut) place' store' file' lines' skipped (rows, inl unprepared) = course items [] [] []
+course_carries settings target items now place store file lines (Err cut) place' store' file' lines' skipped (rows, inr is) =
+    course_carried settings target items now place store file lines (Err cut) (scene place' store' file' rows lines') skipped is
 
 abbrev pub course_dealt : (settings : Settings) (target : Target) (now : ℕ) (old : Place) (before : Keeping) (result : Result (Unit {0}) Cut) (new : Place) (after : Keeping) (notes : Noted)
     → Dealt settings target now old before result new after notes → Course

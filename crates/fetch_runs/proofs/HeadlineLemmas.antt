@@ -1,32 +1,35 @@
 -- From a kept state every list of sessions, and of what happens between them, keeps what is promised.
-use Rattle.std.proofs.Common.{◌≡◌, ◌⊎◌, inl, inr, ◌-◌, ℕ, zero, suc, true, false, List, [], ◌∷◌, Option, Some, refl, sym, ap, subst, ◌∙◌}
+use Rattle.std.proofs.Common.{◌≡◌, ◌⊎◌, inl, inr, ◌-◌, ◌<◌, ℕ, zero, suc, true, false, List, [], ◌∷◌, Option, Some, refl, sym, ap, subst, ◌∙◌, ◌++◌}
 use Rattle.std.specs.Prelude.{bytes_eq, slice_get}
 use Rattle.std.specs.List.{AllByRecursion}
 use Rattle.std.specs.String.{string_bytes}
-use Rattle.std.proofs.lemmas.Bool.{or_cases, true≢false}
+use Rattle.std.proofs.lemmas.Bool.{or_cases, true≢false, cases_Bool}
 use Rattle.std.proofs.lemmas.List.{append-nil}
 use Rattle.std.proofs.lemmas.Slice.Eq.{bytes_eq-Decides}
 use Rattle.std.proofs.lemmas.Option.{same_Some}
 use Rattle.pop3_wire.specs.declared.command.Command.{Command}
-use Rattle.pop3_wire.specs.declared.command.Command.TheVariants.{User, Pass, Stat, UidlAll, UidlOne, ListAll, ListOne, Retr, Dele, Rset, Noop, Top, Quit}
+use Rattle.pop3_wire.specs.declared.command.Command.TheVariants.{Dele}
 use Rattle.pop3_wire.specs.World.{Message}
 use Rattle.mail_terms.specs.Listing.{Item}
-use Rattle.mail_store.specs.FileName.{account_text, is_held, IsAccountText}
-use Rattle.mail_store.specs.Held.{flags_of}
+use Rattle.mail_store.specs.FileName.{account_text, is_held, IsAccountText, stem_of}
 use Rattle.mail_store.specs.Maildir.{Maildir}
-use Rattle.fetch_rules.specs.Record.{Row, is_delivered, merged}
+use Rattle.fetch_rules.specs.Record.{Row, is_delivered}
 use Rattle.rc_file.specs.declared.settings.Settings.{Settings}
 use Rattle.fetch_rules.specs.Wanted.{candidates}
 use Rattle.fetch_session.specs.Account.{digits_of}
 use Rattle.fetch_session.specs.Record.{KeepsRows}
-use Rattle.mail_terms.specs.UniqueId.{has_id}
+use Rattle.mail_terms.specs.UniqueId.{has_id, is_legal_id}
 use Rattle.run_law.specs.Mails.{item_of, listing_of, is_selected}
-use Rattle.run_law.specs.Accounts.{Moves, KeepsOthers}
-use Rattle.run_law.specs.Steps.{Leaves, Stores, IsHonest, ids_wanted, merged_rows, wanted_at}
-use Rattle.run_law.specs.Runs.{IsFrame, Situation, Visit, Event as EventIn, Visited, Moved as ShiftedIn, Between as BetweenIn, Expired as ExpiredIn, TakenAway as TakenIn, Visits, Happens, after_event as after_in, Promises as PromisesIn, Kept, KeptStaysKept, KeptHoldsWhatIsLeft, StartsKept, LeavesOut, DeletesHeld, StoresOnlyNew as StoresNew, past_limit}
-use Rattle.run_law.specs.Sessions.{IsBegun, BeginsOne, Link as LinkIn, LinksAreVisits}
+use Rattle.run_law.specs.Accounts.{Moves, KeepsOthers, copies}
+use Rattle.run_law.specs.Steps.{Effect, Leaves, Stores, IsHonest, ids_wanted, merged_rows, wanted_at}
+use Rattle.run_law.specs.Runs.{IsFrame, Situation, Visit, Event as EventIn, Visited, Moved as ShiftedIn, Between as BetweenIn, Expired as ExpiredIn, TakenAway as TakenIn, Visits, Happens, after_event as after_in, Promises as PromisesIn, Kept, KeptStaysKept, KeptHoldsWhatIsLeft, StartsKept, LeavesOut, DeletesHeld, StoresOnlyNew as StoresNew, past_limit, MovesLeaveMail, NothingTakenHoldsExactly}
+use Rattle.run_law.specs.Sessions.{IsBegun, Link as LinkIn, LinksAreVisits}
 use Rattle.fetch_runs.specs.Steps.{holds, IsStep, SessionIsAStep}
-use Rattle.fetch_runs.specs.Headline.{World, IsSound, account_of, AreSettings, State, Occasion, Event, Fetched, Moved, Between, Expired, TakenAway, maildrop_at, IsSession, after_event, Follows, frame_of, situation, HoldsAPrefix, IsHeldAfter, IsPastCount, LeavesOutOnlyBeyondLimits, IsForHeld, FilesStay, StoresOnlyNew, Promised, IsKept, Headline, EmptyIsKept, HeadlineFromEmpty}
+use Rattle.fetch_runs.specs.Headline.{World, IsSound, account_of, AreSettings, State, Occasion, Event, Fetched, Moved, Between, Expired, TakenAway, maildrop_at, IsSession, after_event, Follows, frame_of, situation, HoldsAPrefix, IsHeldAfter, IsPastCount, LeavesOutOnlyBeyondLimits, IsForHeld, FilesStay, StoresOnlyNew, Promised, IsKept, Headline, EmptyIsKept, HeadlineFromEmpty, state_after, IsRun, contents_of, IsRecorded, HoldsExactlyAPrefix, IsForOneHeld, IsWordForWord, ReadOnlyNew, HeadlineWordForWord, StaysAway, NewProcessesAreBetween, StopsAreRuns}
+use Rattle.fetch_runs.proofs.TalkCommands.{all_weaker, begins_of}
+use Rattle.fetch_session.specs.Session.{Kept as Holding}
+
+-- ---- From a kept state every list of sessions, and of what happens between them, keeps what is promised.
 
 -- the laws that are used
 pub record Laws : Type 0 where
@@ -68,6 +71,14 @@ held_in P (x ∷ ids) id all is = elim (or_cases (bytes_eq id x) (has_id ids id)
   | inr more ↦ held_in P ids id all.1 more
 ]
 
+-- a message for which a DELE was begun, of what holds for each of their ids
+pub for_message : (P : List ℕ → Type 0) (drop : List Message) (effect : Effect) → (effect.listing ≡ listing_of drop) ⊎ ((effect.begun ≡ []) × (effect.ended ≡ false)) → AllByRecursion P effect.begun
+    → (number : ℕ) → IsBegun effect.listing effect.begun (Dele number) → (0 < number) × (message : Message) × (slice_get drop (number - 1) ≡ Some message) × P message.uid
+for_message P drop effect (inl listed) all number begun =
+    let at = message_at drop (number - 1) begun.0 (ap (λ (l : List Item). slice_get l (number - 1)) (sym listed) ∙ begun.1) in
+    (begun.3, at.0, at.1, subst (λ (i : Item). P i.uid) (sym at.2) (held_in P effect.begun begun.0.uid all begun.2))
+for_message P drop effect (inr none) all number begun = absurd (true≢false (sym begun.2 ∙ ap (λ (ids : List (List ℕ)). has_id ids begun.0.uid) none.0))
+
 module _ (laws : Laws) (world : World) (state : State) (occasion : Occasion) (sound : IsSound world) (rows : List Row) (keeps : KeepsRows state.kept.file.content rows)
     (is_kept : Kept (frame_of world) (situation rows state)) (is : IsSession world state occasion) where
   abbrev IsStepFor : List ℕ → Type 0
@@ -106,25 +117,16 @@ module _ (laws : Laws) (world : World) (state : State) (occasion : Occasion) (so
         × IsHonest (wanted_at occasion.settings (account_of world) (holds rows state.kept.maildir) s.effect) (maildrop_at world state occasion) s.effect)
 
     listing_or_nothing : (s.effect.listing ≡ listing_of (maildrop_at world state occasion)) ⊎ ((s.effect.begun ≡ []) × (s.effect.ended ≡ false))
-    listing_or_nothing = by (visits.step)
-      where
-        by : AreStored → (s.effect.listing ≡ listing_of (maildrop_at world state occasion)) ⊎ ((s.effect.begun ≡ []) × (s.effect.ended ≡ false))
-        by (inl left) = inr (left.begun, left.ended)
-        by (inr (stores, honest)) = inl honest.listing
+    listing_or_nothing = elim visits.step [
+      | inl left ↦ inr (left.begun, left.ended)
+      | inr stored ↦ inl stored.1.listing
+    ]
 
     -- an uncut session
     past_count : (message : Message) → s.effect.listing ≡ listing_of (maildrop_at world state occasion)
         → has_id (ids_wanted (past_limit occasion.settings.max_count (candidates occasion.settings (merged_rows (account_of world) (holds rows state.kept.maildir) s.effect) s.effect.listing))) message.uid ≡ true
         → IsPastCount world state occasion message
-    past_count message listed is_past = (
-      rows,
-      keeps,
-      ap (λ (n : ℕ). let listing = listing_of (maildrop_at world state occasion) in
-          has_id (ids_wanted (past_limit occasion.settings.max_count (candidates occasion.settings (merged rows listing (flags_of (account_of world) state.kept.maildir listing) n) listing))) message.uid) (sym s.now_is)
-          ∙ ap (λ (l : List Item).
-          has_id (ids_wanted (past_limit occasion.settings.max_count (candidates occasion.settings (merged rows l (flags_of (account_of world) state.kept.maildir l) s.effect.now) l))) message.uid) (sym listed)
-          ∙ is_past,
-    )
+    past_count message listed is_past = (rows, keeps, rw (← s.now_is, ← listed) is_past)
 
     abbrev LeftOut : Message → Type 0
     LeftOut m = (is_held (account_of world) occasion.after.maildir m.uid ≡ true) ⊎ (has_id state.taken m.uid ≡ true) ⊎ (is_selected world.max_size m ≡ false)
@@ -139,51 +141,17 @@ module _ (laws : Laws) (world : World) (state : State) (occasion : Occasion) (so
     excluded listed m (inr (inr (inl large))) = inr (inl large)
     excluded listed m (inr (inr (inr is_past))) = inr (inr (past_count m listed is_past))
 
-    all_excluded : s.effect.listing ≡ listing_of (maildrop_at world state occasion) → (ms : List Message) → AllByRecursion LeftOut ms → AllByRecursion Excluded ms
-    all_excluded listed [] all = tt
-    all_excluded listed (m ∷ ms) all = (excluded listed m all.0, all_excluded listed ms all.1)
-
     leaves_out : LeavesOut (frame_of world) (situation rows state) (visit_of s) → LeavesOutOnlyBeyondLimits world state occasion
     leaves_out out ended = elim listing_or_nothing [
-      | inl listed ↦ all_excluded listed (maildrop_at world state occasion) (out (s.ended_is.1 ended))
+      | inl listed ↦ all_weaker LeftOut Excluded (maildrop_at world state occasion) (excluded listed) (out (s.ended_is.1 ended))
       | inr nothing ↦ absurd (true≢false (sym (s.ended_is.1 ended) ∙ nothing.1))
     ]
 
     -- a DELE that was sent
     for_held : AllByRecursion (IsHeldAfter world state occasion) s.effect.begun → (command : Command)
         → IsBegun s.effect.listing s.effect.begun command → IsForHeld world state occasion command
-    for_held held (Dele number) begun = elim listing_or_nothing [
-      | inl listed ↦
-          let at = message_at (maildrop_at world state occasion) (number - 1) begun.0 (ap (λ (l : List Item). slice_get l (number - 1)) (sym listed) ∙ begun.1) in (
-            begun.3,
-            at.0,
-            at.1,
-            subst (λ (i : Item). IsHeldAfter world state occasion i.uid) (sym at.2) (held_in (IsHeldAfter world state occasion) s.effect.begun begun.0.uid held begun.2),
-          )
-      | inr nothing ↦ absurd (true≢false (sym begun.2 ∙ ap (λ (ids : List (List ℕ)). has_id ids begun.0.uid) nothing.0))
-    ]
-    for_held held (User name) begun = tt
-    for_held held (Pass word) begun = tt
-    for_held held Stat begun = tt
-    for_held held UidlAll begun = tt
-    for_held held (UidlOne n) begun = tt
-    for_held held ListAll begun = tt
-    for_held held (ListOne n) begun = tt
-    for_held held (Retr n) begun = tt
-    for_held held Rset begun = tt
-    for_held held Noop begun = tt
-    for_held held (Top n k) begun = tt
-    for_held held Quit begun = tt
-
-    all_for_held : AllByRecursion (IsHeldAfter world state occasion) s.effect.begun → (commands : List Command)
-        → AllByRecursion (IsBegun s.effect.listing s.effect.begun) commands → AllByRecursion (IsForHeld world state occasion) commands
-    all_for_held held [] all = tt
-    all_for_held held (command ∷ commands) all = (for_held held command all.0, all_for_held held commands all.1)
-
-    begins_for_held : AllByRecursion (IsHeldAfter world state occasion) s.effect.begun → (part : List ℕ)
-        → BeginsOne (IsBegun s.effect.listing s.effect.begun) part → BeginsOne (IsForHeld world state occasion) part
-    begins_for_held held part (inl none) = inl none
-    begins_for_held held part (inr (command, unsent, is, begun)) = inr (command, unsent, is, for_held held command begun)
+    for_held held (Dele number) begun = for_message (IsHeldAfter world state occasion) (maildrop_at world state occasion) s.effect listing_or_nothing held number begun
+    for_held held other begun = tt
 
     files_stay : AreStored → FilesStay state.kept.maildir occasion.after.maildir
     files_stay (inl left) = record { gained = []; in_new = left.in_new ∙ sym (append-nil state.kept.maildir.in_new); in_cur = left.in_cur }
@@ -204,8 +172,8 @@ module _ (laws : Laws) (world : World) (state : State) (occasion : Occasion) (so
           sent_is = s.sent_is;
           commands = s.stepped.commands;
           asked = s.stepped.asked;
-          each = all_for_held all.2 s.stepped.commands s.stepped.begun;
-          next = begins_for_held all.2 s.stepped.asked.part s.stepped.next;
+          each = all_weaker (IsBegun s.effect.listing s.effect.begun) (IsForHeld world state occasion) s.stepped.commands (for_held all.2) s.stepped.begun;
+          next = begins_of (IsBegun s.effect.listing s.effect.begun) (IsForHeld world state occasion) (for_held all.2) s.stepped.asked.part s.stepped.next;
         },
         all.3,
         files_stay visits.step,
@@ -278,3 +246,120 @@ empty_is_kept starts world start empty = (
 
 pub from_empty : Headline → EmptyIsKept → HeadlineFromEmpty
 from_empty law empty_kept world start events sound empty run = (law world start events sound (empty_kept world start empty) run).0
+
+-- ---- one event
+
+abbrev OneEvent : World → State → Event → Type 0
+OneEvent world state event = HoldsAPrefix world state × Promised world state event × IsKept world (after_event state event)
+
+event_kept : Headline → (world : World) (state : State) (event : Event) → IsSound world → IsKept world state → Follows world state event → OneEvent world state event
+event_kept law world state event sound is follows = let all = law world state (event ∷ []) sound is (follows, tt) in (all.0.0, all.0.1, all.1)
+
+-- ---- nothing taken away
+
+module _ (world : World) (state : State) (occasion : Occasion) (none : state.taken ≡ []) where
+  held_after : (id : List ℕ) → IsHeldAfter world state occasion id → is_held (account_of world) occasion.after.maildir id ≡ true
+  held_after id (inl held) = held
+  held_after id (inr taken) = absurd (true≢false (sym taken ∙ ap (λ (ids : List (List ℕ)). has_id ids id) none))
+
+  abbrev IsLeftOut : Message → Type 0
+  IsLeftOut m = IsHeldAfter world state occasion m.uid ⊎ (is_selected world.max_size m ≡ false) ⊎ IsPastCount world state occasion m
+
+  abbrev IsLeftOutHeld : Message → Type 0
+  IsLeftOutHeld m = (is_held (account_of world) occasion.after.maildir m.uid ≡ true) ⊎ (is_selected world.max_size m ≡ false) ⊎ IsPastCount world state occasion m
+
+  left_out : (m : Message) → IsLeftOut m → IsLeftOutHeld m
+  left_out m (inl held) = inl (held_after m.uid held)
+  left_out m (inr other) = inr other
+
+  for_one : (command : Command) → IsForHeld world state occasion command → IsForOneHeld world state occasion command
+  for_one (Dele number) h = (h.0, h.1, h.2, held_after h.1.uid h.3)
+  for_one other h = tt
+
+  word_for_word : Promised world state (Fetched occasion) → IsWordForWord world state occasion
+  word_for_word promised = record {
+    left_out = λ ended. all_weaker IsLeftOut IsLeftOutHeld (maildrop_at world state occasion) left_out (promised.0 ended);
+    sent = promised.1.sent;
+    sent_is = promised.1.sent_is;
+    commands = promised.1.commands;
+    asked = promised.1.asked;
+    each = all_weaker (IsForHeld world state occasion) (IsForOneHeld world state occasion) promised.1.commands for_one promised.1.each;
+    next = begins_of (IsForHeld world state occasion) (IsForOneHeld world state occasion) for_one promised.1.asked.part promised.1.next;
+  }
+
+holds_exactly : NothingTakenHoldsExactly → (world : World) (state : State) → state.taken ≡ [] → HoldsAPrefix world state → HoldsExactlyAPrefix world state
+holds_exactly nothing world state none holds' = nothing (frame_of world) (situation [] state) holds' none
+
+pub headline_word_for_word : Headline → NothingTakenHoldsExactly → HeadlineWordForWord
+headline_word_for_word law nothing world start [] sound is run none takes_none = holds_exactly nothing world start none (law world start [] sound is tt).0
+headline_word_for_word law nothing world start (Fetched occasion ∷ events) sound is run none takes_none =
+    let one = event_kept law world start (Fetched occasion) sound is run.0 in (
+      holds_exactly nothing world start none one.0,
+      word_for_word world start occasion none one.1,
+      headline_word_for_word law nothing world (after_event start (Fetched occasion)) events sound one.2 run.1 none takes_none,
+    )
+headline_word_for_word law nothing world start (TakenAway id after ∷ events) sound is run none takes_none = absurd takes_none
+headline_word_for_word law nothing world start (event ∷ events) sound is run none takes_none =
+    let one = event_kept law world start event sound is run.0 in
+    (holds_exactly nothing world start none one.0, tt, headline_word_for_word law nothing world (after_event start event) events sound one.2 run.1 none takes_none)
+
+-- ---- what is taken away stay_all away
+
+-- what is recorded and not held
+abbrev IsAway : World → Holding → List ℕ → Type 0
+IsAway world state id = IsRecorded state id × (contents_of world state id ≡ [])
+
+-- the laws that are used
+pub record EventLaws : Type 0 where
+  pub headline : Headline
+  pub moves : MovesLeaveMail
+  pub digits : (server : List ℕ) (port : ℕ) (username : List ℕ) → IsAccountText (account_text server port username)
+
+recorded_in : (before after : Holding) (id : List ℕ) → ((rows : List Row) → KeepsRows before.file.content rows → KeepsRows after.file.content rows) → IsRecorded before id → IsRecorded after id
+recorded_in before after id same recorded = (recorded.0, same recorded.0 recorded.1, recorded.2)
+
+still_away : EventLaws → (world : World) (state : State) (event : Event) (id : List ℕ) → IsSound world → IsKept world state → Follows world state event
+    → ReadOnlyNew (event ∷ []) → is_legal_id id ≡ true → IsAway world state.kept id → IsAway world (after_event state event).kept id
+still_away laws world state (Fetched occasion) id sound is follows new legal away =
+    let now = (event_kept laws.headline world state (Fetched occasion) sound is follows).1.4 new.0 id legal away.0 in (now.1, now.0 ∙ away.1)
+still_away laws world state (Moved maildir) id sound is moves new legal away = (
+  away.0,
+  (laws.moves (frame_of world) (situation is.0 state) (holds is.0 maildir) (sound_frame laws.digits world sound) is.2 (with_rows is.0 state.kept.maildir maildir moves)).same id legal ∙ away.1,
+)
+still_away laws world state (Between after) id sound is between new legal away = (recorded_in state.kept after id between.record_is away.0, between.mail id legal ∙ away.1)
+still_away laws world state (Expired ids) id sound is expired new legal away = away
+still_away laws world state (TakenAway other after) id sound is taken new legal away = (
+  recorded_in state.kept after id taken.record_is away.0,
+  elim (cases_Bool (bytes_eq id other)) [
+    | inl same ↦ ap (λ (x : List ℕ). contents_of world after x) ((bytes_eq-Decides id other).0 same) ∙ taken.none
+    | inr apart ↦ taken.others id legal apart ∙ away.1
+  ],
+)
+
+one_new : (event : Event) (events : List Event) → ReadOnlyNew (event ∷ events) → ReadOnlyNew (event ∷ []) × ReadOnlyNew events
+one_new (Fetched occasion) events h = ((h.0, tt), h.1)
+one_new other events h = (tt, h)
+
+stay_all : EventLaws → (world : World) (start : State) (events : List Event) (id : List ℕ) → IsSound world → IsKept world start → IsRun world start events
+    → ReadOnlyNew events → is_legal_id id ≡ true → IsAway world start.kept id → IsAway world (state_after start events).kept id
+stay_all laws world start [] id sound is run new legal away = away
+stay_all laws world start (event ∷ events) id sound is run new legal away =
+    let split = one_new event events new in
+    stay_all laws world (after_event start event) events id sound (event_kept laws.headline world start event sound is run.0).2 run.1 split.1 legal
+    (still_away laws world start event id sound is run.0 split.0 legal away)
+
+pub stays_away : EventLaws → StaysAway
+stays_away laws world start events id sound is run new legal recorded none = (stay_all laws world start events id sound is run new legal (recorded, none)).1
+
+-- ---- a new process
+
+pub new_processes_are_between : NewProcessesAreBetween
+new_processes_are_between world before after same = record {
+  record_is = λ rows keeps. subst (λ c. KeepsRows c rows) (sym same.content) keeps;
+  mail = λ id legal.
+      ap (λ fs. copies (fs ++ after.maildir.in_new) (stem_of (account_of world) id)) same.in_cur
+      ∙ ap (λ fs. copies (before.maildir.in_cur ++ fs) (stem_of (account_of world) id)) same.in_new;
+}
+
+pub stops_are_runs : StopsAreRuns
+stops_are_runs world state occasion left stopped = (stopped.session, (new_processes_are_between world occasion.after left stopped.files, tt))

@@ -1,29 +1,28 @@
 -- From a kept state every list of sessions with an mboxrd file, and of what happens between them, keeps what is promised.
 use Rattle.std.proofs.Common.{◌≡◌, ◌⊎◌, inl, inr, ◌-◌, ℕ, true, false, List, [], ◌∷◌, Option, None, Some, sym, ap, subst, ◌∙◌}
-use Rattle.std.specs.Prelude.{slice_get}
 use Rattle.std.specs.List.{AllByRecursion}
 use Rattle.std.proofs.lemmas.Bool.{true≢false}
 use Rattle.pop3_wire.specs.declared.command.Command.{Command}
-use Rattle.pop3_wire.specs.declared.command.Command.TheVariants.{User, Pass, Stat, UidlAll, UidlOne, ListAll, ListOne, Retr, Dele, Rset, Noop, Top, Quit}
+use Rattle.pop3_wire.specs.declared.command.Command.TheVariants.{Dele}
 use Rattle.pop3_wire.specs.World.{Message, IsWorld}
-use Rattle.mail_terms.specs.Listing.{Item}
 use Rattle.mail_terms.specs.UniqueId.{has_id}
-use Rattle.fetch_rules.specs.Record.{Row, Intent, Held, is_delivered, merged}
+use Rattle.fetch_rules.specs.Record.{Row, Intent, Held, is_delivered}
 use Rattle.fetch_rules.specs.RecordGrowth.{OneRecord}
 use Rattle.fetch_rules.specs.Wanted.{candidates}
 use Rattle.fetch_session.specs.Record.{Keeps}
 use Rattle.fetch_session.specs.Target.{mail_in}
 use Rattle.fetch_session.specs.declared.report.Outcome.TheVariants.{Ended}
 use Rattle.run_law.specs.Mails.{listing_of, is_selected}
-use Rattle.run_law.specs.Mboxes.{MboxLeaves, MboxStores, settled, mbox_rows, mbox_wanted, none_held}
+use Rattle.run_law.specs.Mboxes.{mbox_rows}
 use Rattle.run_law.specs.MboxRuns.{MboxFrame, MboxSituation, MboxKept as IsKeptIn, MboxVisits, MboxVisited, MboxExpired, MboxPromises as PromisesIn, MboxEnds, MboxHolds, MboxKeptStaysKept, MboxKeptHolds, MboxStartsKept}
 use Rattle.run_law.specs.MboxSessions.{MboxLink, MboxLinksAreVisits, mbox_visit_of}
 use Rattle.run_law.specs.Runs.{past_limit}
-use Rattle.run_law.specs.Sessions.{IsBegun, BeginsOne}
-use Rattle.run_law.specs.Steps.{IsHonest, ids_wanted}
+use Rattle.run_law.specs.Sessions.{IsBegun}
+use Rattle.run_law.specs.Steps.{ids_wanted}
 use Rattle.fetch_runs.specs.MboxSteps.{mbox_holds, IsMboxStep, MboxSessionIsAStep}
 use Rattle.fetch_runs.specs.MboxHeadline.{MboxState, MboxOccasion, MboxEvent, Fetched, Between, Expired, maildrop_at, IsMboxSession, after_event, Follows, situation, HoldsEntries, IsEntered, IsPastCount, EndsWhole, IsForEntered, MboxPromised, IsMboxKept, MboxHeadline, MboxStartIsKept, MboxHeadlineFromStart, MboxStopsAreRuns}
-use Rattle.fetch_runs.proofs.HeadlineLemmas.{message_at, held_in}
+use Rattle.fetch_runs.proofs.HeadlineLemmas.{for_message}
+use Rattle.fetch_runs.proofs.TalkCommands.{all_weaker, begins_of}
 
 -- the laws that are used
 pub record Laws : Type 0 where
@@ -61,31 +60,17 @@ module _ (laws : Laws) (frame : MboxFrame) (state : MboxState) (occasion : MboxO
   holds_after = laws.holds frame (situation s.held' (after_event state (Fetched occasion))) world happened.0
 
   -- the listing was the maildrop's, or nothing was begun
-  abbrev Stepped : Type 0
-  Stepped = MboxLeaves (mbox_holds held state.kept.mbox) s.effect (mbox_holds s.held' occasion.after.mbox)
-      ⊎ (MboxStores occasion.settings (mbox_holds held state.kept.mbox) s.effect (mbox_holds s.held' occasion.after.mbox)
-      × IsHonest (mbox_wanted occasion.settings (mbox_holds held state.kept.mbox) s.effect) (maildrop_at frame state occasion) s.effect)
-
   listing_or_nothing : (s.effect.listing ≡ listing_of (maildrop_at frame state occasion)) ⊎ ((s.effect.begun ≡ []) × (s.effect.ended ≡ false))
-  listing_or_nothing = by visits.step
-    where
-      by : Stepped → (s.effect.listing ≡ listing_of (maildrop_at frame state occasion)) ⊎ ((s.effect.begun ≡ []) × (s.effect.ended ≡ false))
-      by (inl left) = inr (left.begun, left.ended)
-      by (inr (stores, honest)) = inl honest.listing
+  listing_or_nothing = elim visits.step [
+    | inl left ↦ inr (left.begun, left.ended)
+    | inr stored ↦ inl stored.1.listing
+  ]
 
   -- an uncut session
   past_count : (message : Message) → s.effect.listing ≡ listing_of (maildrop_at frame state occasion)
       → has_id (ids_wanted (past_limit occasion.settings.max_count (candidates occasion.settings (mbox_rows (mbox_holds held state.kept.mbox) s.effect) s.effect.listing))) message.uid ≡ true
       → IsPastCount frame state occasion message
-  past_count message listed is_past = (
-    held,
-    keeps,
-    ap (λ (n : ℕ). let listing = listing_of (maildrop_at frame state occasion) in
-        has_id (ids_wanted (past_limit occasion.settings.max_count (candidates occasion.settings (merged (settled (mbox_holds held state.kept.mbox)).rows listing (none_held listing) n) listing))) message.uid) (sym s.now_is)
-        ∙ ap (λ (l : List Item).
-        has_id (ids_wanted (past_limit occasion.settings.max_count (candidates occasion.settings (merged (settled (mbox_holds held state.kept.mbox)).rows l (none_held l) s.effect.now) l))) message.uid) (sym listed)
-        ∙ is_past,
-  )
+  past_count message listed is_past = (held, keeps, rw (← s.now_is, ← listed) is_past)
 
   abbrev LeftOut : Message → Type 0
   LeftOut m = (is_delivered s.held'.rows m.uid ≡ true) ⊎ (is_selected frame.max_size m ≡ false)
@@ -99,10 +84,6 @@ module _ (laws : Laws) (frame : MboxFrame) (state : MboxState) (occasion : MboxO
   excluded listed m (inr (inl large)) = inr (inl large)
   excluded listed m (inr (inr is_past)) = inr (inr (past_count m listed is_past))
 
-  all_excluded : s.effect.listing ≡ listing_of (maildrop_at frame state occasion) → (ms : List Message) → AllByRecursion LeftOut ms → AllByRecursion Excluded ms
-  all_excluded listed [] all = tt
-  all_excluded listed (m ∷ ms) all = (excluded listed m all.0, all_excluded listed ms all.1)
-
   ends_whole : occasion.report.outcome ≡ Ended → EndsWhole frame state occasion
   ends_whole ended = record {
     held = s.held';
@@ -114,7 +95,7 @@ module _ (laws : Laws) (frame : MboxFrame) (state : MboxState) (occasion : MboxO
       | inr (next, behind, is_next, entry, opened) ↦ absurd (some_none _ (sym opened ∙ ends.closed))
     ];
     left_out = elim listing_or_nothing [
-      | inl listed ↦ all_excluded listed (maildrop_at frame state occasion) ends.leaves_out
+      | inl listed ↦ all_weaker LeftOut Excluded (maildrop_at frame state occasion) (excluded listed) ends.leaves_out
       | inr nothing ↦ absurd (true≢false (sym (s.ended_is.1 ended) ∙ nothing.1))
     ];
   }
@@ -124,36 +105,8 @@ module _ (laws : Laws) (frame : MboxFrame) (state : MboxState) (occasion : MboxO
 
   -- a DELE that was sent
   for_entered : (command : Command) → IsBegun s.effect.listing s.effect.begun command → IsForEntered frame state occasion command
-  for_entered (Dele number) begun = elim listing_or_nothing [
-    | inl listed ↦
-        let at = message_at (maildrop_at frame state occasion) (number - 1) begun.0 (ap (λ (l : List Item). slice_get l (number - 1)) (sym listed) ∙ begun.1) in (
-          begun.3,
-          at.0,
-          at.1,
-          subst (λ (i : Item). IsEntered frame occasion.after i.uid) (sym at.2) (held_in (IsEntered frame occasion.after) s.effect.begun begun.0.uid happened.1.begun begun.2),
-        )
-    | inr nothing ↦ absurd (true≢false (sym begun.2 ∙ ap (λ (ids : List (List ℕ)). has_id ids begun.0.uid) nothing.0))
-  ]
-  for_entered (User name) begun = tt
-  for_entered (Pass word) begun = tt
-  for_entered Stat begun = tt
-  for_entered UidlAll begun = tt
-  for_entered (UidlOne n) begun = tt
-  for_entered ListAll begun = tt
-  for_entered (ListOne n) begun = tt
-  for_entered (Retr n) begun = tt
-  for_entered Rset begun = tt
-  for_entered Noop begun = tt
-  for_entered (Top n k) begun = tt
-  for_entered Quit begun = tt
-
-  all_for_entered : (commands : List Command) → AllByRecursion (IsBegun s.effect.listing s.effect.begun) commands → AllByRecursion (IsForEntered frame state occasion) commands
-  all_for_entered [] all = tt
-  all_for_entered (command ∷ commands) all = (for_entered command all.0, all_for_entered commands all.1)
-
-  begins_for_entered : (part : List ℕ) → BeginsOne (IsBegun s.effect.listing s.effect.begun) part → BeginsOne (IsForEntered frame state occasion) part
-  begins_for_entered part (inl none) = inl none
-  begins_for_entered part (inr (command, unsent, line, begun)) = inr (command, unsent, line, for_entered command begun)
+  for_entered (Dele number) begun = for_message (IsEntered frame occasion.after) (maildrop_at frame state occasion) s.effect listing_or_nothing happened.1.begun number begun
+  for_entered other begun = tt
 
   session_promised : MboxPromised frame state (Fetched occasion) × IsMboxKept frame (after_event state (Fetched occasion))
   session_promised = (
@@ -164,8 +117,8 @@ module _ (laws : Laws) (frame : MboxFrame) (state : MboxState) (occasion : MboxO
         sent_is = s.sent_is;
         commands = s.stepped.commands;
         asked = s.stepped.asked;
-        each = all_for_entered s.stepped.commands s.stepped.begun;
-        next = begins_for_entered s.stepped.asked.part s.stepped.next;
+        each = all_weaker (IsBegun s.effect.listing s.effect.begun) (IsForEntered frame state occasion) s.stepped.commands for_entered s.stepped.begun;
+        next = begins_of (IsBegun s.effect.listing s.effect.begun) (IsForEntered frame state occasion) for_entered s.stepped.asked.part s.stepped.next;
       },
     ),
     (s.held', s.keeps, happened.0),

@@ -1,35 +1,368 @@
 -- What a session leaves of an account with an mboxrd file.
-use Rattle.std.proofs.Common.{arith, ◌≡◌, ◌⊎◌, inl, inr, ℕ, false, Bool, List, [], Option, None, Some, Result, Ok, Err, refl, sym, ap, subst, ◌∙◌}
+use Rattle.std.proofs.Common.{◌≡◌, inl, inr, ◌+◌, ℕ, zero, suc, List, [], ◌∷◌, ◌++◌, map, take, length, Option, None, Some, refl, sym, ap, ◌∙◌, ◌⊎◌, Bool, true, false, Result, Ok, Err, subst, append_assoc}
+use Rattle.std.specs.Prelude.{slice_get, option_map}
+use Rattle.std.specs.List.{AllByRecursion, flat_map, AllZip}
 use Rattle.std.proofs.lemmas.Bool.{true≢false}
-use Rattle.std.proofs.lemmas.List.{append-nil}
+use Rattle.std.proofs.lemmas.List.{append-nil, length-map, map-append, take_at}
+use Rattle.std.proofs.lemmas.List.Concat.{flat_map-append}
 use Rattle.mail_terms.specs.Listing.{Item}
 use Rattle.rc_file.specs.declared.settings.Settings.{Settings}
-use Rattle.fetch_rules.specs.Record.{Row, Intent, Held, merged}
-use Rattle.fetch_rules.specs.Intents.{closed_rows}
+use Rattle.mail_store.specs.Mboxrd.{entry_of}
+use Rattle.pop3_wire.specs.Reading.{WholeReply}
+use Rattle.pop3_client.specs.Texts.{body_text}
+use Rattle.fetch_session.specs.Task.{Task, stores, rereads, Done, IsAnswered, tasks_of, texts_in, texts_of}
+use Rattle.fetch_session.specs.Target.{no_maildir, AsEntries, Stores, mail_in, is_stored, closed_file, rows_in}
+use Rattle.run_law.specs.Steps.{Effect}
+use Rattle.run_law.specs.Mboxes.{MboxAccount, settled, mbox_wanted, entries, intent_of as law_intent}
+use Rattle.run_law.specs.MboxTold.{bytes_at, OpensAt, AllRecorded, LastUnrecorded, MboxTold}
+use Rattle.fetch_runs.proofs.Courses.{found_in, found_by, Course, course, stored_done, course_stopped, course_does, found_of, begun_of, Way, Idle, Deals, course_carried, course_carries, way_proceeded}
+use Rattle.fetch_runs.proofs.StatePlan.{key, fetched_in, fetched, IsRight}
+use Rattle.fetch_runs.proofs.StateDone.{text_found, texts_by, same_length, number_found, number_of, Laws, Ground, rows_on, messages_on, tasks_on, rows_after, Part, effect_of, right_part, records_part, wanted_are}
+use Rattle.std.proofs.lemmas.Option.{same_Some}
+use Rattle.fetch_rules.specs.Record.{Row, Intent, Held, none_open, marked, merged}
 use Rattle.mail_store.specs.FlatFile.{Stored}
-use Rattle.mail_store.specs.Held.{flags_of}
-use Rattle.pop3_wire.specs.Link.{Link}
-use Rattle.pop3_wire.specs.Place.{Place, at}
+use Rattle.pop3_client.specs.Turns.{IsGood, retr}
 use Rattle.fetch_session.specs.declared.fault.Cut.{Cut}
 use Rattle.pop3_client.specs.declared.fault.Fault.{Fault}
-use Rattle.pop3_client.specs.declared.fault.Fault.TheVariants.{ConnectionEnded, ReadFailed, WriteFailed, ReplyTooLong, BadReply, Refused, BadListing, ListingsDisagree, TooMany, TextTooLong, StoreRefused, SeenRefused, NoMemory, BadSeen}
+use Rattle.pop3_client.specs.declared.fault.Fault.TheVariants.{StoreRefused, SeenRefused, NoMemory, BadSeen}
 use Rattle.pop3_client.specs.declared.fault.Why.TheVariants as why
-use Rattle.fetch_session.specs.declared.report.Report.{Report}
 use Rattle.fetch_session.specs.declared.report.ReportLine.{ReportLine}
-use Rattle.fetch_session.specs.Plan.{Unprepared, Carried, Carries}
-use Rattle.fetch_session.specs.Readiness.{IsMergedAtMost, IsSettledBy, MboxUnready, Settles}
-use Rattle.fetch_session.specs.Record.{Keeps}
 use Rattle.fetch_session.specs.Report.{retrieved_in}
-use Rattle.fetch_session.specs.Scene.{Scene, scene}
-use Rattle.fetch_session.specs.Session.{Keeping, MboxKept, Noted, Proceeds, MboxSession, keeps_entries}
-use Rattle.fetch_session.specs.Target.{AsEntries, Stores, is_stored, closed_file, mail_in, no_maildir, rows_in}
-use Rattle.run_law.specs.Mboxes as Law
+use Rattle.fetch_session.specs.Laws.{SteadyFilesKeep, UnsavedFilesKeep}
+use Rattle.fetch_session.specs.Record.{Keeps, Steady, with_open}
+use Rattle.fetch_session.specs.Mbox.{MarksEntry, RefusesEntry, intent_of}
+use Rattle.fetch_session.specs.Scene.{Scene, EntryNotSaved, Went, Fell, Stops, Does, scene}
 use Rattle.fetch_runs.specs.MboxSteps.{mbox_holds}
-use Rattle.fetch_runs.proofs.Courses.{Course, course, Way, Idle, Deals, course_carried, course_cut, course_carries, way_proceeded, way_of, begun_of}
-use Rattle.fetch_runs.proofs.MboxCases.{MboxLeads, mbox_tasks, bytes_settled, rows_settled, rows_merged, lead, does_leads, held_with}
-use Rattle.fetch_runs.proofs.MboxTexts.{closed_at}
-use Rattle.fetch_runs.proofs.StateBuilt.{Laws, Part, effect_of}
-use Rattle.fetch_runs.proofs.StateCases.{is_ended, UnsavedIn}
+use Rattle.fetch_runs.proofs.StateCases.{is_ended, UnsavedIn, unsaved_why, Starts, Tally, tally_right, tally_numbers, tally_number, mid_rows, mid_keeps, part_all, tally_all, part_done, tally_bare, full_found, one_found, tally_spare, tally_old, tally_new, full_rows, tally_none}
+use Rattle.fetch_rules.specs.Intents.{closed_rows}
+use Rattle.mail_store.specs.Held.{flags_of}
+use Rattle.pop3_wire.specs.Place.{Place}
+use Rattle.fetch_session.specs.Plan.{tasks_ahead, Unprepared, Carried, Carries}
+use Rattle.fetch_session.specs.Readiness.{IsMergedAtMost, IsSettledBy, MboxUnready, Settles}
+use Rattle.fetch_session.specs.Session.{Keeping, Noted, Proceeds}
+use Rattle.run_law.specs.Mboxes as Law
+
+-- ---- The texts that tasks appended to an mboxrd file, and the intent of the next one.
+
+-- ---- texts
+
+each_text : (number : ℕ) (replies : List WholeReply)
+    → map (λ (reply : WholeReply). body_text reply.body) replies ≡ map text_found (map (λ (reply : WholeReply). (number, body_text reply.body)) replies)
+each_text number [] = refl
+each_text number (reply ∷ replies) = ap (λ (l : List (List ℕ)). body_text reply.body ∷ l) (each_text number replies)
+
+-- no message is held but by the record, so each text that was retrieved was to be stored
+texts_one : (items : List Item) (task : Task) (replies : List WholeReply) → IsRight [] no_maildir items task → texts_in task replies ≡ map text_found (found_in task replies)
+texts_one items (stores number uid) replies right = each_text number replies
+texts_one items (rereads number uid) replies right = absurd (true≢false (sym right.0))
+texts_one items other replies right = refl
+
+pub texts_same : (items : List Item) (dones : List Done) → AllByRecursion (IsRight [] no_maildir items) (tasks_of dones) → texts_of dones ≡ texts_by dones
+texts_same items [] right = refl
+texts_same items (d ∷ dones) right =
+    ap (λ (l : List (List ℕ)). l ++ texts_of dones) (texts_one items d.task d.replies right.0)
+    ∙ ap (λ (l : List (List ℕ)). map text_found (found_in d.task d.replies) ++ l) (texts_same items dones right.1)
+    ∙ sym (map-append text_found (found_in d.task d.replies) (found_by dones))
+
+-- ---- the next message
+
+get_behind : {A : Type 0} (xs : List A) (y : A) (ys : List A) → slice_get (xs ++ y ∷ ys) (length xs) ≡ Some y
+get_behind [] y ys = refl
+get_behind (x ∷ xs) y ys = get_behind xs y ys
+
+abbrev id_in : Option (ℕ × List ℕ) → List ℕ
+id_in None = []
+id_in (Some pair) = pair.1
+
+key_at : (qs : List (ℕ × Item)) (n : ℕ) (pair : ℕ × List ℕ) → slice_get (map key qs) n ≡ Some pair → (q : ℕ × Item) × (slice_get qs n ≡ Some q) × (q.1.uid ≡ pair.1)
+key_at [] n pair e = absurd cc
+key_at (q ∷ qs) zero pair e = (q, refl, ap id_in e)
+key_at (q ∷ qs) (suc n) pair e = key_at qs n pair e
+
+-- the message that the task behind these fetches is the next of the wanted ones
+pub next_wanted : (tasks later : List Task) (dones : List Done) (messages : List (ℕ × Item)) (number : ℕ) (uid : List ℕ) → fetched tasks ≡ map key messages
+    → tasks ≡ tasks_of dones ++ (stores number uid ∷ later) → AllByRecursion IsAnswered dones
+    → (q : ℕ × Item) × (slice_get messages (length (found_by dones)) ≡ Some q) × (q.1.uid ≡ uid)
+next_wanted tasks later dones messages number uid are split answered =
+    key_at messages (length (found_by dones)) (number, uid)
+    (ap (λ (l : List (ℕ × List ℕ)). slice_get l (length (found_by dones))) (sym are ∙ ap fetched split ∙ flat_map-append fetched_in (tasks_of dones) (stores number uid ∷ later))
+    ∙ ap (λ (n : ℕ). slice_get (fetched (tasks_of dones) ++ (number, uid) ∷ fetched later) n) (sym (same_length dones answered))
+    ∙ get_behind (fetched (tasks_of dones)) (number, uid) (fetched later))
+
+-- ---- what the law over runs takes
+
+front_texts : (texts more : List (List ℕ)) (dones : List Done) → texts ≡ texts_by dones ++ more → take (length (found_by dones)) texts ≡ texts_by dones
+front_texts texts more dones are =
+    ap (λ (l : List (List ℕ)). take (length (found_by dones)) l) are ∙ take_at (texts_by dones) more (length (found_by dones)) (length-map (found_by dones) text_found)
+
+-- no intent is open, and nothing follows the entries
+pub closed_at : {settings : Settings} {before : MboxAccount} {effect : Effect} {after : MboxAccount} (dones : List Done) (more : List (List ℕ)) → effect.texts ≡ texts_by dones ++ more
+    → after.intent ≡ None → after.file ≡ (settled before).file ++ entries (texts_by dones) → AllRecorded settings before effect (length (found_by dones)) after
+closed_at {before = before} {effect = effect} dones more are none file = record {
+  text = [];
+  front = [];
+  behind = [];
+  file = file ∙ ap (λ (l : List (List ℕ)). (settled before).file ++ entries l) (sym (front_texts effect.texts more dones are)) ∙ sym (append-nil (bytes_at before effect (length (found_by dones))));
+  ending = inl (none, refl);
+}
+
+-- the intent of the next entry is open
+pub opens_at : {settings : Settings} {before : MboxAccount} {effect : Effect} {after : MboxAccount} (dones : List Done) (text : List ℕ) (message : ℕ × Item)
+    → effect.texts ≡ texts_by dones ++ text ∷ [] → slice_get (mbox_wanted settings before effect) (length (found_by dones)) ≡ Some message
+    → after.intent ≡ Some (law_intent ((settled before).file ++ entries (texts_by dones)) message.1.uid text) → OpensAt settings before effect (length (found_by dones)) text after
+opens_at {before = before} {effect = effect} dones text message are wanted intent = record {
+  message = message;
+  wanted = wanted;
+  got = ap (λ (l : List (List ℕ)). slice_get l (length (found_by dones))) are
+      ∙ ap (λ (n : ℕ). slice_get (texts_by dones ++ text ∷ []) n) (sym (length-map (found_by dones) text_found)) ∙ get_behind (texts_by dones) text [];
+  intent = intent ∙ ap (λ (l : List (List ℕ)). Some (law_intent ((settled before).file ++ entries l) message.1.uid text)) (sym (front_texts effect.texts (text ∷ []) dones are));
+}
+
+-- and a front of it follows
+pub open_at : {settings : Settings} {before : MboxAccount} {effect : Effect} {after : MboxAccount} (dones : List Done) (text front behind : List ℕ) → effect.texts ≡ texts_by dones ++ text ∷ []
+    → OpensAt settings before effect (length (found_by dones)) text after → entry_of text ≡ front ++ behind → after.file ≡ ((settled before).file ++ entries (texts_by dones)) ++ front
+    → AllRecorded settings before effect (length (found_by dones)) after
+open_at {before = before} {effect = effect} dones text front behind are opens entry file = record {
+  text = text;
+  front = front;
+  behind = behind;
+  file = file ∙ ap (λ (l : List (List ℕ)). ((settled before).file ++ entries l) ++ front) (sym (front_texts effect.texts (text ∷ []) dones are));
+  ending = inr (opens, entry);
+}
+
+-- and it stands whole
+pub unrecorded_at : {settings : Settings} {before : MboxAccount} {effect : Effect} {after : MboxAccount} (dones full : List Done) (text : List ℕ) → effect.texts ≡ texts_by full
+    → length (found_by dones) + 1 ≡ length (found_by full) → OpensAt settings before effect (length (found_by dones)) text after → after.file ≡ (settled before).file ++ entries (texts_by full)
+    → LastUnrecorded settings before effect (length (found_by full)) (length (found_by dones)) after
+unrecorded_at {before = before} {effect = effect} dones full text are less opens file = record {
+  one_less = less;
+  text = text;
+  file = file ∙ ap (λ (l : List (List ℕ)). (settled before).file ++ entries l) (sym (front_texts effect.texts [] full (are ∙ sym (append-nil (texts_by full)))));
+  opens = opens;
+}
+
+-- ---- what a text that wasn't appended leaves
+
+-- no intent is open, and the file is as it was; or the text's is, and a front of its entry follows
+abbrev LeavesEntry : Stored → List Row → List ℕ → List ℕ → Stored → Stored → Type 0
+LeavesEntry mbox rows uid text mbox' file' = ((mbox'.content ≡ mbox.content) × Keeps file'.content (none_open rows))
+    ⊎ ((was front behind : List ℕ) × (mbox.content ≡ Some was) × (entry_of text ≡ front ++ behind) × (mbox'.content ≡ Some (was ++ front))
+    × Keeps file'.content (with_open rows (intent_of was uid text)))
+
+module _ (steadies : SteadyFilesKeep) (unsaved : UnsavedFilesKeep) (mbox file : Stored) (rows : List Row) (uid text : List ℕ) (mbox' file' : Stored) (steady : Steady file.content (none_open rows)) where
+  as_it_was : mbox'.content ≡ mbox.content → file' ≡ file → LeavesEntry mbox rows uid text mbox' file'
+  as_it_was same is = inl (same, subst (λ (s : Stored). Keeps s.content (none_open rows)) (sym is) (steadies file.content (none_open rows) steady))
+
+  with_nothing : (was : List ℕ) → mbox.content ≡ Some was → mbox'.content ≡ mbox.content → Keeps file'.content (with_open rows (intent_of was uid text)) → LeavesEntry mbox rows uid text mbox' file'
+  with_nothing was is same keeps = inr (was, [], entry_of text, is, refl, same ∙ is ∙ ap Some (sym (append-nil was)), keeps)
+
+  leaves_entry : (fault : Fault) → RefusesEntry mbox file rows uid text fault mbox' file' → LeavesEntry mbox rows uid text mbox' file'
+  leaves_entry (StoreRefused why.Missing) (none, same, is) = as_it_was (ap (λ (s : Stored). s.content) same) is
+  leaves_entry (StoreRefused why.Refused) (inl (same, is)) = as_it_was (ap (λ (s : Stored). s.content) same) is
+  leaves_entry (StoreRefused why.Refused) (inr ((was, there, saves), inl same)) =
+      with_nothing was there (ap (λ (s : Stored). s.content) same) (steadies file'.content (with_open rows (intent_of was uid text)) (saves.1 steady))
+  leaves_entry (StoreRefused why.Refused) (inr ((was, there, saves), inr (other, front, behind, goes_on, entry, now))) =
+      inr (
+        was,
+        front,
+        behind,
+        there,
+        entry,
+        ap (λ (s : Stored). s.content) now ∙ ap (λ (l : List ℕ). Some (l ++ front)) (same_Some other was (sym goes_on.0 ∙ there)),
+        steadies file'.content (with_open rows (intent_of was uid text)) (saves.1 steady),
+      )
+  leaves_entry (StoreRefused why.NotMbox) (other, same, (was, there, saves)) =
+      with_nothing was there (ap (λ (s : Stored). s.content) same) (steadies file'.content (with_open rows (intent_of was uid text)) (saves.1 steady))
+  leaves_entry SeenRefused (same, (was, there, saves)) =
+      elim (unsaved file (none_open rows) (with_open rows (intent_of was uid text)) SeenRefused file' saves steady) [
+        | inl old ↦ inl (ap (λ (s : Stored). s.content) same, old)
+        | inr new ↦ with_nothing was there (ap (λ (s : Stored). s.content) same) new
+      ]
+  leaves_entry NoMemory (same, inl is) = as_it_was (ap (λ (s : Stored). s.content) same) is
+  leaves_entry NoMemory (same, inr (was, there, saves)) =
+      with_nothing was there (ap (λ (s : Stored). s.content) same) (steadies file'.content (with_open rows (intent_of was uid text)) (saves.1 steady))
+  leaves_entry other never = absurd never
+
+-- ---- the account that a session left, and what it found
+
+abbrev pub rows_settled : Held → Stored → List Row
+rows_settled held mbox = (settled (mbox_holds held mbox)).rows
+
+abbrev pub bytes_settled : Held → Stored → List ℕ
+bytes_settled held mbox = (settled (mbox_holds held mbox)).file
+
+abbrev pub held_with : List Row → Option Intent → Held
+held_with rows intent = record { rows = rows; intent = intent }
+
+pub record MboxLeads (settings : Settings) (now : ℕ) (ended : Bool) (c : Course) (held : Held) (mbox mbox' : Stored) (content' : Option (List ℕ)) (lines : List ReportLine) (unsaved : Type 0) : Type 0 where
+  pub held' : Held
+  pub keeps : Keeps content' held'
+  pub told : MboxTold settings (mbox_holds held mbox) (effect_of now ended c) (mbox_holds held' mbox')
+  pub numbers : map number_found (found_of c) ≡ map number_of (take (length (found_of c)) (mbox_wanted settings (mbox_holds held mbox) (effect_of now ended c)))
+  pub right : AllByRecursion (IsRight [] no_maildir c.items) (begun_of c)
+  pub counted : retrieved_in lines ≡ told.k
+  pub one_less : told.j + 1 ≡ told.k → unsaved
+
+-- the tasks are those of an account with an empty Maildir: no message is held but by the record
+abbrev pub ground : Settings → List Item → ℕ → Held → Stored → Ground
+ground settings items now held mbox = record { settings = settings; account = []; items = items; now = now; maildir = no_maildir; rows = rows_settled held mbox }
+
+module _ (laws : Laws) (settings : Settings) (items : List Item) (now : ℕ) (held : Held) (mbox : Stored) where
+  abbrev p : Ground
+  p = ground settings items now held mbox
+
+  -- after these were done, with this intent open
+  abbrev held_after : List Done → Option Intent → Held
+  held_after dones intent = held_with (rows_after p dones) intent
+
+  abbrev bytes_after : List Done → List ℕ
+  bytes_after dones = bytes_settled held mbox ++ entries (texts_by dones)
+
+  module _ {ended : Bool} {taken whole noted : List Done} {spare : List WholeReply} {under : List Task} {lines : List ReportLine} {unsaved : Type 0} (t : Tally p ended taken spare under whole noted lines (Unit {0}) unsaved)
+      (mbox' : Stored) (content' : Option (List ℕ)) where
+    abbrev Leading : Type 0
+    Leading = MboxLeads settings now ended (course items taken spare under) held mbox mbox' content' lines unsaved
+
+    lead : (intent' : Option Intent) → Keeps content' (held_after noted intent')
+        → ((length (found_by noted) ≡ length (found_by taken)) × AllRecorded settings (mbox_holds held mbox) (effect_of now ended (course items taken spare under)) (length (found_by taken)) (mbox_holds (held_after noted intent') mbox'))
+        ⊎ LastUnrecorded settings (mbox_holds held mbox) (effect_of now ended (course items taken spare under)) (length (found_by taken)) (length (found_by noted)) (mbox_holds (held_after noted intent') mbox')
+        → (ended ≡ true → intent' ≡ None) → Leading
+    lead intent' keeps marks closed = record {
+      held' = held_after noted intent';
+      keeps = keeps;
+      told = record {
+        k = length (found_by taken);
+        j = length (found_by noted);
+        number = rw (tally_number laws p t) t.number;
+        rows = records_part laws p noted t.part;
+        marks = marks;
+        begun = t.begun;
+        ended = λ is. ((t.ends is).1, closed is);
+      };
+      numbers = tally_numbers laws p t;
+      right = tally_right laws p t;
+      counted = t.counts;
+      one_less = t.one_less;
+    }
+
+  -- no intent is open
+  pub lead_closed : {ended : Bool} {taken whole : List Done} {spare : List WholeReply} {under : List Task} {lines : List ReportLine} {unsaved : Type 0} (t : Tally p ended taken spare under whole taken lines (Unit {0}) unsaved)
+      → (mbox' : Stored) (content' : Option (List ℕ)) (more : List (List ℕ)) → texts_by whole ≡ texts_by taken ++ more
+      → Keeps content' (held_after taken None) → mail_in mbox'.content ≡ bytes_after taken → MboxLeads settings now ended (course items taken spare under) held mbox mbox' content' lines unsaved
+  lead_closed {taken = taken} t mbox' content' more texts keeps file =
+      lead t mbox' content' None keeps (inl (refl, closed_at taken more (ap (map text_found) t.found ∙ texts) refl file)) (λ is. refl)
+
+  module _ {tasks : List Task} {old : Scene} (starts : Starts p tasks old) (same_mbox : old.store.mbox.content ≡ Some (bytes_settled held mbox)) where
+    -- what there was after the tasks that were done
+    content_after : (dones : List Done) (mid : Scene) → Went AsEntries dones old mid → Part (tasks_on p) dones → mid.store.mbox.content ≡ Some (bytes_after dones)
+    content_after dones mid went part =
+        went.stored.content ∙ ap (option_map (λ (was : List ℕ). was ++ flat_map entry_of (texts_of dones))) same_mbox
+        ∙ ap (λ (ts : List (List ℕ)). Some (bytes_settled held mbox ++ entries ts)) (texts_same items dones (right_part laws p dones part))
+
+    module _ {cut : Cut} {new : Scene} (fell : Fell AsEntries tasks old cut new) where
+      abbrev Stopped : Course → Type 0
+      Stopped c = MboxLeads settings now false c held mbox new.store.mbox new.file.content new.lines (UnsavedIn (Err cut))
+
+      mid_content : fell.mid.store.mbox.content ≡ Some (bytes_after fell.dones)
+      mid_content = content_after fell.dones fell.mid fell.went (part_done laws p starts fell)
+
+      same_held : (content : Option (List ℕ)) (intent : Option Intent) → Keeps content (held_with fell.mid.rows intent) → Keeps content (held_after fell.dones intent)
+      same_held content intent keeps = subst (λ (r : List Row). Keeps content (held_with r intent)) (mid_rows laws p starts fell.dones fell.mid fell.went) keeps
+
+      -- nothing came of the next task
+      bare : new.store.mbox.content ≡ fell.mid.store.mbox.content → new.file ≡ fell.mid.file → new.lines ≡ fell.mid.lines → Stopped (course items fell.dones [] (fell.next ∷ []))
+      bare same file told =
+          lead_closed (tally_bare laws p starts fell told) new.store.mbox new.file.content [] (sym (append-nil (texts_by fell.dones)))
+          (subst (λ (s : Stored). Keeps s.content (held_after fell.dones None)) (sym file) (mid_keeps laws p starts fell.dones fell.mid fell.went)) (ap mail_in (same ∙ mid_content))
+
+      -- the next task retrieved a text
+      module _ (number : ℕ) (uid : List ℕ) (reply : WholeReply) (is : fell.next ≡ stores number uid) (answered : AllZip IsGood (retr number ∷ []) (reply ∷ [])) where
+        abbrev text : List ℕ
+        text = body_text reply.body
+
+        abbrev full : List Done
+        full = fell.dones ++ stored_done number uid reply ∷ []
+
+        full_texts : texts_by full ≡ texts_by fell.dones ++ text ∷ []
+        full_texts = ap (map text_found) (full_found laws p starts fell number uid reply is answered) ∙ map-append text_found (found_by fell.dones) ((number, text) ∷ [])
+
+        next_message : (q : ℕ × Item) × (slice_get (messages_on p) (length (found_by fell.dones)) ≡ Some q) × (q.1.uid ≡ uid)
+        next_message =
+            next_wanted (tasks_on p) fell.later fell.dones (messages_on p) number uid (wanted_are laws p)
+            ((part_done laws p starts fell).split ∙ ap (λ (t : Task). tasks_of fell.dones ++ (t ∷ fell.later)) is) fell.went.each
+
+        -- its intent is open after the entries of the tasks that were done
+        opens : (c : Course) (mbox' : Stored) (was : List ℕ) → c.items ≡ items → map text_found (found_of c) ≡ texts_by full → fell.mid.store.mbox.content ≡ Some was
+            → OpensAt settings (mbox_holds held mbox) (effect_of now false c) (length (found_by fell.dones)) text (mbox_holds (held_after fell.dones (Some (intent_of was uid text))) mbox')
+        opens c mbox' was items_are texts there =
+            opens_at fell.dones text next_message.0 (texts ∙ full_texts) (rw items_are next_message.1)
+            (ap (λ (l : List ℕ). Some (intent_of l uid text)) (same_Some was (bytes_after fell.dones) (sym there ∙ mid_content))
+            ∙ ap (λ (id : List ℕ). Some (intent_of (bytes_after fell.dones) id text)) (sym next_message.2))
+
+        -- its entry wasn't appended, or only a front of it
+        refused : LeavesEntry fell.mid.store.mbox fell.mid.rows uid text new.store.mbox new.file → new.lines ≡ fell.mid.lines → Stopped (course items fell.dones (reply ∷ []) (fell.next ∷ []))
+        refused left told = by left
+          where
+            t : Tally p false fell.dones (reply ∷ []) (fell.next ∷ []) full fell.dones new.lines (Unit {0}) (UnsavedIn (Err cut))
+            t = tally_spare laws p starts fell number uid reply is answered told tt
+
+            by : LeavesEntry fell.mid.store.mbox fell.mid.rows uid text new.store.mbox new.file → Stopped (course items fell.dones (reply ∷ []) (fell.next ∷ []))
+            by (inl (same, keeps)) = lead_closed t new.store.mbox new.file.content (text ∷ []) full_texts (same_held _ _ keeps) (ap mail_in (same ∙ mid_content))
+            by (inr (was, front, behind, there, entry, now_is, keeps)) =
+                lead t new.store.mbox new.file.content (Some (intent_of was uid text)) (same_held _ _ keeps)
+                (inl (
+                  refl,
+                  open_at fell.dones text front behind (ap (map text_found) t.found ∙ full_texts)
+                      (opens (course items fell.dones (reply ∷ []) (fell.next ∷ [])) new.store.mbox was refl (ap (map text_found) t.found) there) entry
+                      (ap mail_in now_is ∙ ap (λ (l : List ℕ). l ++ front) (same_Some was (bytes_after fell.dones) (sym there ∙ mid_content))),
+                ))
+                (λ never. absurd (true≢false (sym never)))
+
+      -- its entry was appended, and the record is one of two
+      unsaved : (u : EntryNotSaved fell.next fell.mid new cut) → Stopped (course items (fell.dones ++ stored_done u.number u.uid u.reply ∷ []) [] [])
+      unsaved u = by u.saves
+        where
+          all : List Done
+          all = fell.dones ++ stored_done u.number u.uid u.reply ∷ []
+
+          found : map text_found (found_of (course items all [] [])) ≡ texts_by all
+          found = ap (map text_found) (append-nil (found_by all))
+
+          content : new.store.mbox.content ≡ Some (bytes_after all)
+          content =
+              u.stored.content ∙ ap (option_map (λ (bytes : List ℕ). bytes ++ flat_map entry_of (body_text u.reply.body ∷ []))) mid_content
+              ∙ ap Some (append_assoc (bytes_settled held mbox) (entries (texts_by fell.dones)) (entries (body_text u.reply.body ∷ []))
+              ∙ ap (λ (l : List ℕ). bytes_settled held mbox ++ l) (sym (flat_map-append entry_of (texts_by fell.dones) (body_text u.reply.body ∷ [])) ∙ ap entries (sym (full_texts u.number u.uid u.reply u.is u.talked.good))))
+
+          by : MarksEntry fell.mid.store.mbox fell.mid.file fell.mid.rows u.uid (body_text u.reply.body) cut.fault new.file → Stopped (course items all [] [])
+          by (was, there, between, first, second) =
+              elim (laws.unsaved between (with_open fell.mid.rows (intent_of was u.uid (body_text u.reply.body))) (none_open (marked fell.mid.rows u.uid)) cut.fault new.file second (first.1 (fell.went.saved starts.steady))) [
+                | inl old_one ↦
+                    lead (tally_old laws p starts fell u.number u.uid u.reply u.is u.talked.good u.lines
+                    (unsaved_why between (with_open fell.mid.rows (intent_of was u.uid (body_text u.reply.body))) (none_open (marked fell.mid.rows u.uid)) cut.fault new.file second))
+                    new.store.mbox new.file.content (Some (intent_of was u.uid (body_text u.reply.body))) (same_held _ _ old_one)
+                    (inr (unrecorded_at fell.dones all (body_text u.reply.body) found (one_found laws p starts fell u.number u.uid u.reply u.is u.talked.good)
+                    (opens u.number u.uid u.reply u.is u.talked.good (course items all [] []) new.store.mbox was refl found there) (ap mail_in content)))
+                    (λ never. absurd (true≢false (sym never)))
+                | inr new_one ↦
+                    lead_closed (tally_new laws p starts fell u.number u.uid u.reply u.is u.talked.good u.lines) new.store.mbox new.file.content [] (sym (append-nil (texts_by all)))
+                    (subst (λ (r : List Row). Keeps new.file.content (held_with r None)) (full_rows laws p starts fell u.number u.uid u.reply u.is u.talked.good) new_one) (ap mail_in content)
+              ]
+
+      stopped : (stops : Stops AsEntries fell.next fell.mid cut new) → Stopped (course_stopped AsEntries items fell.dones fell.next fell.mid new cut stops)
+      stopped (inl broken) = bare (ap (λ (s : Stores). s.mbox.content) broken.store) broken.file broken.lines
+      stopped (inr (inl (inl wanting))) = bare (ap (λ (s : Stores). s.mbox.content) wanting.store) wanting.file wanting.lines
+      stopped (inr (inl (inr r))) =
+          refused r.number r.uid r.reply r.is r.talked.good
+          (leaves_entry laws.steady laws.unsaved fell.mid.store.mbox fell.mid.file fell.mid.rows r.uid (body_text r.reply.body) new.store.mbox new.file (fell.went.saved starts.steady) cut.fault r.refuses) r.lines
+      stopped (inr (inr u)) = unsaved u
+
+    pub does_leads : (result : Result (Unit {0}) Cut) (new : Scene) (does : Does AsEntries tasks old result new)
+        → MboxLeads settings now (is_ended result) (course_does AsEntries items tasks old new result does) held mbox new.store.mbox new.file.content new.lines (UnsavedIn result)
+    does_leads (Ok done) new went =
+        lead_closed (tally_all laws p starts went.dones new went.all went.went) new.store.mbox new.file.content [] (sym (append-nil (texts_by went.dones)))
+        (mid_keeps laws p starts went.dones new went.went) (ap mail_in (content_after went.dones new went.went (part_all laws p starts went.dones new went.all went.went)))
+    does_leads (Err cut) new fell = stopped fell fell.stops
 
 -- ---- settling, as the session and as the law over runs has it
 
@@ -99,42 +432,33 @@ module _ (laws : Laws) (settings : Settings) (items : List Item) (now : ℕ) (pl
     unprepared_leads : Unprepared AsEntries items now place store file lines cut new → Left settings now false (course items [] [] []) held store.mbox new.store.mbox new.file.content new.lines (UnsavedIn (Err cut))
     unprepared_leads is = by is.unready.content
       where
-        nothing : Part (mbox_tasks settings items now (rows_merged items now held store.mbox)) []
-        nothing = record { rest = mbox_tasks settings items now (rows_merged items now held store.mbox); split = refl; answered = tt }
-
         by : IsMergedAtMost AsEntries items now store file new.store new.file → Left settings now false (course items [] [] []) held store.mbox new.store.mbox new.file.content new.lines (UnsavedIn (Err cut))
         by (inl content) =
             inl (rests is.lines_are (subst (λ (c : Option (List ℕ)). Keeps c held) (sym content) keeps) (mail_left (settled_by cut.fault store.mbox file new.store.mbox new.file is.unready.cause)))
         by (inr (was, stood, settled, inl stays)) =
             inl (rests is.lines_are (subst (λ (h : Held). Keeps new.file.content h) (was_held was stood) stays) (inr (ap mail_in (settled_content was new.store stood settled))))
         by (inr (was, stood, settled, inr merges)) =
-            inr (lead laws settings items now held store.mbox false [] [] [] [] [] None new.store.mbox new.file.content 0 refl nothing nothing (inl refl)
+            inr (lead_closed laws settings items now held store.mbox (tally_none laws (ground settings items now held store.mbox) new.lines (ap retrieved_in (is.lines_are ∙ no_lines))) new.store.mbox new.file.content [] refl
             (subst (λ (r : List Row). Keeps new.file.content (held_with (merged r items (flags_of [] no_maildir items) now) None)) (rows_are was stood) merges)
-            (inl (
-              refl,
-              closed_at settings (mbox_holds held store.mbox) (effect_of now false (course items [] [] [])) (mbox_holds (held_with (rows_merged items now held store.mbox) None) new.store.mbox) [] [] refl refl
-                  (ap mail_in (settled_content was new.store stood settled) ∙ sym (append-nil (bytes_settled held store.mbox))),
-            ))
-            tt (mbox_tasks settings items now (rows_merged items now held store.mbox)) refl (λ never. absurd (true≢false (sym never)))
-            new.lines (UnsavedIn (Err cut)) (ap retrieved_in (is.lines_are ∙ no_lines)) (λ never. absurd (omega (arith, never))))
+            (ap mail_in (settled_content was new.store stood settled) ∙ sym (append-nil (bytes_settled held store.mbox))))
 
   carried_leads : (result : Result (Unit {0}) Cut) (new : Scene) (skipped : ℕ) (is : Carried settings AsEntries items now place store file lines result new skipped)
       → MboxLeads settings now (is_ended result) (course_carried settings AsEntries items now place store file lines result new skipped is) held store.mbox new.store.mbox new.file.content new.lines (UnsavedIn result)
   carried_leads result new skipped is =
-      does_leads laws settings items now held store.mbox is.mid (settled_content is.prepared.was is.mid.store is.prepared.stood is.prepared.settles)
-      (is.prepared.rows ∙ ap (λ (r : List Row). merged r items (flags_of [] no_maildir items) now) (rows_are is.prepared.was is.prepared.stood)) (is.prepared.lines_are ∙ no_lines) is.prepared.saved result new is.does
+      does_leads laws settings items now held store.mbox starts (settled_content is.prepared.was is.mid.store is.prepared.stood is.prepared.settles) result new is.does
+    where
+      rows : is.mid.rows ≡ rows_on (ground settings items now held store.mbox)
+      rows = is.prepared.rows ∙ ap (λ (r : List Row). merged r items (flags_of [] no_maildir items) now) (rows_are is.prepared.was is.prepared.stood)
 
-  cut_leads : (cut : Cut) (new : Scene) (skipped : ℕ)
-      (is : ((skipped ≡ 0) × Unprepared AsEntries items now place store file lines cut new) ⊎ Carried settings AsEntries items now place store file lines (Err cut) new skipped)
-      → Left settings now false (course_cut settings AsEntries items now place store file lines cut new skipped is) held store.mbox new.store.mbox new.file.content new.lines (UnsavedIn (Err cut))
-  cut_leads cut new skipped (inl is) = unprepared_leads cut new is.1
-  cut_leads cut new skipped (inr is) = inr (carried_leads (Err cut) new skipped is)
+      starts : Starts (ground settings items now held store.mbox) (tasks_ahead settings AsEntries items now store is.mid.rows) is.mid
+      starts = record { tasks_are = ap (tasks_ahead settings AsEntries items now store) rows; rows = rows; lines = is.prepared.lines_are ∙ no_lines; steady = is.prepared.saved }
 
   carries_leads : (result : Result (Unit {0}) Cut) (place' : Place) (store' : Stores) (file' : Stored) (lines' : List ReportLine) (skipped : ℕ)
       (is : Carries settings AsEntries items now place store file lines result place' store' file' lines' skipped)
       → Left settings now (is_ended result) (course_carries settings AsEntries items now place store file lines result place' store' file' lines' skipped is) held store.mbox store'.mbox file'.content lines' (UnsavedIn result)
   carries_leads (Ok done) place' store' file' lines' skipped is = inr (carried_leads (Ok done) (scene place' store' file' is.0 lines') skipped is.1)
-  carries_leads (Err cut) place' store' file' lines' skipped is = cut_leads cut (scene place' store' file' is.0 lines') skipped is.1
+  carries_leads (Err cut) place' store' file' lines' skipped (rows, inl (none, is)) = unprepared_leads cut (scene place' store' file' rows lines') is
+  carries_leads (Err cut) place' store' file' lines' skipped (rows, inr is) = inr (carried_leads (Err cut) (scene place' store' file' rows lines') skipped is)
 
 -- the account is as it was, or as the course leaves it
 abbrev pub WayLeaves : Settings → ℕ → Result (Unit {0}) Cut → Way → Held → Keeping → Keeping → List ReportLine → Type 0
@@ -142,7 +466,7 @@ WayLeaves settings now result Idle held before after lines = (is_ended result �
 WayLeaves settings now result (Deals course) held before after lines =
     Left settings now (is_ended result) course held before.store.mbox after.store.mbox after.file.content lines (UnsavedIn result)
 
-way_leaves : (laws : Laws) (settings : Settings) (now : ℕ) (old : Place) (before : Keeping) (result : Result (Unit {0}) Cut) (new : Place) (after : Keeping) (notes : Noted) (held : Held)
+pub way_leaves : (laws : Laws) (settings : Settings) (now : ℕ) (old : Place) (before : Keeping) (result : Result (Unit {0}) Cut) (new : Place) (after : Keeping) (notes : Noted) (held : Held)
     → Keeps before.file.content held → (is : Proceeds settings AsEntries now old before result new after notes)
     → WayLeaves settings now result (way_proceeded settings AsEntries now old before result new after notes is) held before after notes.lines
 way_leaves laws settings now old before (Ok done) new after notes held keeps dealt =
@@ -151,9 +475,3 @@ way_leaves laws settings now old before (Err cut) new after notes held keeps (in
 way_leaves laws settings now old before (Err cut) new after notes held keeps (inr (inl wanting)) = (refl, wanting.same, ap (λ (n : Noted). n.lines) wanting.nothing)
 way_leaves laws settings now old before (Err cut) new after notes held keeps (inr (inr dealt)) =
     carries_leads laws settings dealt.items now dealt.mid before.store before.file [] held keeps refl (Err cut) new after.store after.file notes.lines notes.skipped dealt.carries
-
-pub session_leaves : (laws : Laws) (settings : Settings) (now : ℕ) (link : Link) (before : MboxKept) (report : Report) (link' : Link) (after : MboxKept) (held : Held)
-    → Keeps before.file.content held → (is : MboxSession settings now link before report link' after)
-    → WayLeaves settings now is.result (way_of settings AsEntries now link (keeps_entries before) report link' (keeps_entries after) is) held (keeps_entries before) (keeps_entries after) is.notes.lines
-session_leaves laws settings now link before report link' after held keeps is =
-    way_leaves laws settings now (at link []) (keeps_entries before) is.result is.mid (keeps_entries after) is.notes held keeps is.proceeds

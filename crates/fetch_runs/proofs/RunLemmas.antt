@@ -14,6 +14,7 @@ use Rattle.run_law.specs.MboxRuns.{MboxFrame}
 use Rattle.fetch_runs.specs.Headline.{AreSettings, World, IsSound, State, Fetched, after_event, IsKept, Headline}
 use Rattle.fetch_runs.specs.MboxHeadline.{MboxState, MboxHeadline, IsMboxKept, AreSettings as AreMboxSettings, Fetched as InMbox, after_event as after_mbox}
 use Rattle.fetch_runs.specs.MboxRuns.{MboxRuns, AreMboxPromised, mbox_occasion}
+use Rattle.fetch_runs.proofs.TalkCommands.{all_append, all_front, all_back}
 use Rattle.fetch_runs.specs.Runs.{AreSound, RunsBy, Runs, AreServed, ArePromised, occasion_of}
 
 -- the first of the visits were made
@@ -29,24 +30,15 @@ runs_on Made (o ∷ olds) first [] news mid old new report last runs made = absu
 runs_on Made (o ∷ olds) first (r ∷ reports) [] mid old new report last runs made = absurd runs
 runs_on Made (o ∷ olds) first (r ∷ reports) (v ∷ news) mid old new report last runs made = (runs.0, runs.1, runs_on Made olds runs.0 reports news mid old new report last runs.2 made)
 
-sound_last : {W : Type 0} (sound : W → Type 0) (visits : List (Visit W)) (visit : Visit W) → AreSound sound (visits ++ visit ∷ []) → AreSound sound visits × sound visit.wire
-sound_last sound [] visit all = (tt, all.0)
-sound_last sound (v ∷ visits) visit all = let behind = sound_last sound visits visit all.1 in ((all.0, behind.0), behind.1)
-
-sound_on : {W : Type 0} (sound : W → Type 0) (visits : List (Visit W)) (visit : Visit W) → AreSound sound visits → sound visit.wire → AreSound sound (visits ++ visit ∷ [])
-sound_on sound [] visit all is = (is, tt)
-sound_on sound (v ∷ visits) visit all is = (all.0, sound_on sound visits visit all.1 is)
-
 ran_more : {W K : Type 0} (sound : W → Type 0) (Made : Visit W → K → Report → Visit W → K → Type 0) (olds : List (Visit W)) (start : K) (at_start : Type 0) (reports : List Report) (news : List (Visit W)) (mid : K) (at_mid : Type 0)
     (old new : Visit W) (report : Report) (last : K) (at_last : Type 0) → Ran sound Made olds start at_start reports news mid at_mid
     → (sound new.wire → at_last → sound old.wire × at_mid × Made old mid report new last)
     → Ran sound Made (olds ++ old ∷ []) start at_start (reports ++ report ∷ []) (news ++ new ∷ []) last at_last
-ran_more sound Made olds start at_start reports news mid at_mid old new report last at_last ran session = record {
+ran_more {W = W} sound Made olds start at_start reports news mid at_mid old new report last at_last ran session = record {
   made = λ all held.
-      let parts = sound_last sound news new all in
-      let this = session parts.1 held in
-      let before = ran.made parts.0 this.1 in
-      (sound_on sound olds old before.0 this.0, before.1, runs_on Made olds start reports news mid old new report last before.2 this.2);
+      let this = session (all_back (λ (v : Visit W). sound v.wire) news (new ∷ []) all).0 held in
+      let before = ran.made (all_front (λ (v : Visit W). sound v.wire) news (new ∷ []) all) this.1 in
+      (all_append (λ (v : Visit W). sound v.wire) olds (old ∷ []) before.0 (this.0, tt), before.1, runs_on Made olds start reports news mid old new report last before.2 this.2);
 }
 
 -- the next visit was made
@@ -70,12 +62,12 @@ others_stay xs ys i new same k d behind =
     get_or-set_other xs i k new d apart ∙ same k d (omega (arith, behind))
 
 -- all of them were made
-pub ran_all : {W K : Type 0} (sound : W → Type 0) (Made : Visit W → K → Report → Visit W → K → Type 0) (olds news : List (Visit W)) (i : ℕ) (start : K) (at_start : Type 0) (reports : List Report) (last : K) (at_last : Type 0)
-    → Ran sound Made (take i olds) start at_start reports (take i news) last at_last → length olds ≤ i → length news ≤ i
-    → Ran sound Made olds start at_start reports news last at_last
-ran_all {W} sound Made olds news i start at_start reports last at_last ran past behind =
-    subst (λ (os : List (Visit W)). Ran sound Made os start at_start reports news last at_last) (take_all i olds past)
-    (subst (λ (ns : List (Visit W)). Ran sound Made (take i olds) start at_start reports ns last at_last) (take_all i news behind) ran)
+pub made_all : {W K : Type 0} {sound : W → Type 0} {Made : Visit W → K → Report → Visit W → K → Type 0} (olds news : List (Visit W)) (i : ℕ) {start : K} {at_start : Type 0} {reports : List Report} {last : K} {at_last : Type 0}
+    → Ran sound Made (take i olds) start at_start reports (take i news) last at_last → length olds ≤ i → length news ≡ length olds
+    → AreSound sound news → at_last → AreSound sound olds × at_start × RunsBy Made olds start reports news last
+made_all olds news i ran past same all held =
+    let made = ran.made (rw (take_all i news (omega (arith, past, same))) all) held in
+    rw (take_all i news (omega (arith, past, same)), take_all i olds past) at made
 
 -- ---- what is promised of them
 

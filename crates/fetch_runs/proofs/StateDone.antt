@@ -1,21 +1,32 @@
--- What tasks that were done retrieved and stored, compared with what was wanted.
+-- What tasks that were done retrieved, stored and recorded, compared with what was wanted.
 use Rattle.std.proofs.Common.{◌≡◌, ℕ, Bool, true, false, not, cond, List, [], ◌∷◌, ◌++◌, map, take, zip, length, length-append, ◌+◌, refl, sym, ap, subst, ◌∙◌}
 use Rattle.std.specs.List.{filter, AllByRecursion, AllZip}
 use Rattle.std.proofs.lemmas.List.{take_at, take-map, length-map, map-append}
 use Rattle.std.proofs.lemmas.List.Concat.{flat_map-append}
 use Rattle.std.proofs.lemmas.List.Sums.{sum_by-append}
-use Rattle.mail_terms.specs.Listing.{Item}
+use Rattle.mail_terms.specs.Listing.{Item, has_item, is_flagged}
 use Rattle.mail_store.specs.Maildir.{Maildir, File}
 use Rattle.mail_store.specs.FileName.{is_held, mail_file}
 use Rattle.pop3_wire.specs.Reading.{WholeReply}
-use Rattle.pop3_client.specs.Turns.{IsGood}
+use Rattle.pop3_client.specs.Turns.{IsGood, retr}
 use Rattle.pop3_client.specs.Texts.{body_text}
-use Rattle.fetch_session.specs.Task.{Task, says, skips, stores, rereads, deletes, Done, IsAnswered, turns_in, tasks_of, files_in, files_of, file_from, lines_in, lines_of}
+use Rattle.fetch_session.specs.Task.{Task, says, skips, stores, rereads, deletes, Done, IsAnswered, turns_in, tasks_of, files_in, files_of, file_from, lines_in, lines_of, ids_in, ids_of, ids_ahead}
 use Rattle.fetch_session.specs.Report.{is_taken, retrieved_in}
-use Rattle.run_law.specs.Steps.{file_for, is_unheld}
-use Rattle.fetch_runs.proofs.Courses.{found_in, found_by}
-use Rattle.fetch_runs.proofs.StatePlan.{key, fetched_in, fetched, IsRight}
-use Rattle.fetch_runs.proofs.TalkCommands.{all_front}
+use Rattle.run_law.specs.Steps.{file_for, is_unheld, Effect, ids_wanted}
+use Rattle.fetch_runs.proofs.Courses.{found_in, found_by, Course, found_of, begun_of}
+use Rattle.fetch_runs.proofs.StatePlan.{key, fetched_in, fetched, IsRight, deleted_in, deleted_by, Safe, tasks_ahead, PlansFetchWanted, fetched_ahead, right_ahead, safe_ahead}
+use Rattle.fetch_runs.proofs.TalkCommands.{all_front, one_reply, all_append}
+use Rattle.std.specs.Prelude.{◌&&◌, ◌||◌, bytes_eq}
+use Rattle.std.proofs.lemmas.Slice.Eq.{bytes_eq-Decides}
+use Rattle.std.proofs.Math.Bool.{or-true, or_comm}
+use Rattle.fetch_rules.specs.Record.{Row, is_of, has_row, is_delivered, with_delivered, marked, marked_all, new_ids, with_held, merged}
+use Rattle.mail_store.specs.Held.{flags_of}
+use Rattle.rc_file.specs.declared.settings.Settings.{Settings}
+use Rattle.fetch_rules.specs.RecordGrowth.{OneRecord}
+use Rattle.fetch_rules.specs.Wanted.{wanted}
+use Rattle.fetch_session.specs.Laws.{SteadyFilesKeep, UnsavedFilesKeep}
+
+-- ---- What tasks that were done retrieved and stored, compared with what was wanted.
 
 abbrev pub number_found : ℕ × List ℕ → ℕ
 number_found found = found.0
@@ -32,12 +43,8 @@ texts_by dones = map text_found (found_by dones)
 -- ---- numbers
 
 found_numbers : (task : Task) (replies : List WholeReply) → AllZip IsGood (turns_in task) replies → map number_found (found_in task replies) ≡ map (λ (p : ℕ × List ℕ). p.0) (fetched_in task)
-found_numbers (stores number uid) [] answered = absurd answered
-found_numbers (stores number uid) (reply ∷ []) answered = refl
-found_numbers (stores number uid) (reply ∷ other ∷ more) answered = absurd answered.1
-found_numbers (rereads number uid) [] answered = absurd answered
-found_numbers (rereads number uid) (reply ∷ []) answered = refl
-found_numbers (rereads number uid) (reply ∷ other ∷ more) answered = absurd answered.1
+found_numbers (stores number uid) replies answered = one_reply (λ (rs : List WholeReply). map number_found (found_in (stores number uid) rs) ≡ number ∷ []) (retr number) replies answered (λ r g. refl)
+found_numbers (rereads number uid) replies answered = one_reply (λ (rs : List WholeReply). map number_found (found_in (rereads number uid) rs) ≡ number ∷ []) (retr number) replies answered (λ r g. refl)
 found_numbers other replies answered = refl
 
 pub numbers_by : (dones : List Done) → AllByRecursion IsAnswered dones → map number_found (found_by dones) ≡ map (λ (p : ℕ × List ℕ). p.0) (fetched (tasks_of dones))
@@ -87,17 +94,12 @@ by_messages : (account : List ℕ) (maildir : Maildir) (messages : List (ℕ × 
     → map (file_at account) (filter (is_free account maildir) (zip (map key messages) texts)) ≡ map (file_for account) (filter (is_unheld account maildir) (zip messages texts))
 by_messages account maildir [] texts = refl
 by_messages account maildir (q ∷ qs) [] = refl
-by_messages account maildir (q ∷ qs) (text ∷ texts) = by (is_held account maildir q.1.uid) (by_messages account maildir qs texts)
+by_messages account maildir (q ∷ qs) (text ∷ texts) = by (is_held account maildir q.1.uid) _ _ (by_messages account maildir qs texts)
   where
-    keys : List ((ℕ × List ℕ) × List ℕ)
-    keys = filter (is_free account maildir) (zip (map key qs) texts)
-
-    pairs : List ((ℕ × Item) × List ℕ)
-    pairs = filter (is_unheld account maildir) (zip qs texts)
-
-    by : (held : Bool) → map (file_at account) keys ≡ map (file_for account) pairs → map (file_at account) (cond (not held) ((key q, text) ∷ keys) keys) ≡ map (file_for account) (cond (not held) ((q, text) ∷ pairs) pairs)
-    by true ih = ih
-    by false ih = ap (λ l. mail_file account q.1.uid text ∷ l) ih
+    by : (held : Bool) (keys : List ((ℕ × List ℕ) × List ℕ)) (pairs : List ((ℕ × Item) × List ℕ)) → map (file_at account) keys ≡ map (file_for account) pairs
+        → map (file_at account) (cond (not held) ((key q, text) ∷ keys) keys) ≡ map (file_for account) (cond (not held) ((q, text) ∷ pairs) pairs)
+    by true keys pairs ih = ih
+    by false keys pairs ih = ap (λ l. mail_file account q.1.uid text ∷ l) ih
 
 -- ---- a plan that fetches what is wanted, as far as it was done
 
@@ -142,12 +144,10 @@ files_first account maildir items tasks rest dones messages are right split answ
 -- ---- by their lines in the report
 
 counted_in : (task : Task) (replies : List WholeReply) → AllZip IsGood (turns_in task) replies → retrieved_in (lines_in task replies) ≡ length (found_in task replies)
-counted_in (stores number uid) [] answered = absurd answered
-counted_in (stores number uid) (reply ∷ []) answered = refl
-counted_in (stores number uid) (reply ∷ other ∷ more) answered = absurd answered.1
-counted_in (rereads number uid) [] answered = absurd answered
-counted_in (rereads number uid) (reply ∷ []) answered = refl
-counted_in (rereads number uid) (reply ∷ other ∷ more) answered = absurd answered.1
+counted_in (stores number uid) replies answered =
+    one_reply (λ (rs : List WholeReply). retrieved_in (lines_in (stores number uid) rs) ≡ length (found_in (stores number uid) rs)) (retr number) replies answered (λ r g. refl)
+counted_in (rereads number uid) replies answered =
+    one_reply (λ (rs : List WholeReply). retrieved_in (lines_in (rereads number uid) rs) ≡ length (found_in (rereads number uid) rs)) (retr number) replies answered (λ r g. refl)
 counted_in other replies answered = refl
 
 pub counted_by : (dones : List Done) → AllByRecursion IsAnswered dones → retrieved_in (lines_of dones) ≡ length (found_by dones)
@@ -157,3 +157,255 @@ counted_by (d ∷ dones) answered =
     ∙ ap (λ (n : ℕ). n + retrieved_in (lines_of dones)) (counted_in d.task d.replies answered.0)
     ∙ ap (λ (n : ℕ). length (found_in d.task d.replies) + n) (counted_by dones answered.1)
     ∙ sym (length-append (found_in d.task d.replies) (found_by dones))
+
+-- ---- the laws of the crates below that are used
+
+abbrev pub HeldIsDelivered : Type 0
+HeldIsDelivered = (rows : List Row) (listing : List Item) (held : List Bool) (now : ℕ) (uid : List ℕ)
+    → is_delivered (merged rows listing held now) uid ≡ is_delivered rows uid || is_flagged listing held uid
+
+abbrev pub ListedHasRow : Type 0
+ListedHasRow = (rows : List Row) (listing : List Item) (held : List Bool) (now : ℕ) (uid : List ℕ)
+    → has_row (merged rows listing held now) uid ≡ has_row rows uid || has_item listing uid
+
+abbrev pub MarkedIsDelivered : Type 0
+MarkedIsDelivered = (rows : List Row) (uid other : List ℕ) → is_delivered (marked rows uid) other ≡ is_delivered rows other || (has_row rows other && bytes_eq uid other)
+
+abbrev pub MarkedKeepsRows : Type 0
+MarkedKeepsRows = (rows : List Row) (uid other : List ℕ) → has_row (marked rows uid) other ≡ has_row rows other
+
+abbrev pub FlagsTell : Type 0
+FlagsTell = (account : List ℕ) (maildir : Maildir) (items : List Item) (uid : List ℕ)
+    → is_flagged items (flags_of account maildir items) uid ≡ (has_item items uid && is_held account maildir uid)
+
+-- ---- marks that change nothing
+
+or_swap : (d a b : Bool) → ((d || a) || b) ≡ ((d || b) || a)
+or_swap true a b = refl
+or_swap false a b = or_comm a b
+
+marks_swap : (rows : List Row) (x y : List ℕ) → marked (marked rows x) y ≡ marked (marked rows y) x
+marks_swap [] x y = refl
+marks_swap (row ∷ rows) x y =
+    ap (λ (d : Bool). let first : Row = record row { delivered = d } in first ∷ marked (marked rows x) y) (or_swap row.delivered (is_of x row) (is_of y row))
+    ∙ ap (λ l. let first : Row = record row { delivered = (row.delivered || is_of y row) || is_of x row } in first ∷ l) (marks_swap rows x y)
+
+-- the rows of the id are delivered
+abbrev IsSettled : List ℕ → Row → Type 0
+IsSettled uid row = is_of uid row ≡ true → row.delivered ≡ true
+
+or_same : (d e : Bool) → (e ≡ true → d ≡ true) → (d || e) ≡ d
+or_same true e is = refl
+or_same false true is = sym (is refl)
+or_same false false is = refl
+
+settled_stays : (rows : List Row) (uid : List ℕ) → AllByRecursion (IsSettled uid) rows → marked rows uid ≡ rows
+settled_stays [] uid settled = refl
+settled_stays (row ∷ rows) uid settled =
+    ap (λ (d : Bool). let first : Row = record row { delivered = d } in first ∷ marked rows uid) (or_same row.delivered (is_of uid row) settled.0)
+    ∙ ap (λ l. row ∷ l) (settled_stays rows uid settled.1)
+
+settled_held : (test : List ℕ → Bool) (uid : List ℕ) (rows : List Row) → test uid ≡ true → AllByRecursion (IsSettled uid) (map (λ row. with_delivered (test row.uid) row) rows)
+settled_held test uid [] is = tt
+settled_held test uid (row ∷ rows) is = (
+  λ same. ap (λ b. row.delivered || b) (subst (λ (id : List ℕ). test id ≡ true) ((bytes_eq-Decides uid row.uid).0 same) is) ∙ or-true row.delivered,
+  settled_held test uid rows is,
+)
+
+settled_new : (test : List ℕ → Bool) (uid : List ℕ) (now : ℕ) (ids : List (List ℕ)) → test uid ≡ true
+    → AllByRecursion (IsSettled uid) (map (λ (id : List ℕ). let row : Row = record { uid = id; first_seen = now; delivered = test id } in row) ids)
+settled_new test uid now [] is = tt
+settled_new test uid now (id ∷ ids) is = (λ same. subst (λ (other : List ℕ). test other ≡ true) ((bytes_eq-Decides uid id).0 same) is, settled_new test uid now ids is)
+
+-- after the merge a mark of an id that is listed and held changes nothing
+pub held_settled : FlagsTell → (account : List ℕ) (maildir : Maildir) (items : List Item) (now : ℕ) (rows : List Row) (uid : List ℕ)
+    → has_item items uid ≡ true → is_held account maildir uid ≡ true → marked (merged rows items (flags_of account maildir items) now) uid ≡ merged rows items (flags_of account maildir items) now
+held_settled law account maildir items now rows uid listed held =
+    settled_stays (merged rows items flags now) uid
+    (all_append (IsSettled uid) (with_held items flags rows) (map (λ (id : List ℕ). let row : Row = record { uid = id; first_seen = now; delivered = is_flagged items flags id } in row) (new_ids rows items))
+    (settled_held (is_flagged items flags) uid rows flagged) (settled_new (is_flagged items flags) uid now (new_ids rows items) flagged))
+  where
+    flags : List Bool
+    flags = flags_of account maildir items
+
+    flagged : is_flagged items (flags_of account maildir items) uid ≡ true
+    flagged = law account maildir items uid ∙ ap (λ b. b && is_held account maildir uid) listed ∙ held
+
+-- so marking what was stored is marking all that was fetched
+pub marks_by : (account : List ℕ) (maildir : Maildir) (items : List Item) (dones : List Done) (rows : List Row)
+    → ((uid : List ℕ) → has_item items uid ≡ true → is_held account maildir uid ≡ true → marked rows uid ≡ rows) → AllByRecursion (IsRight account maildir items) (tasks_of dones)
+    → marked_all rows (ids_of dones) ≡ marked_all rows (map (λ (p : ℕ × List ℕ). p.1) (fetched (tasks_of dones)))
+marks_by account maildir items [] rows settled right = refl
+marks_by account maildir items (d ∷ dones) rows settled right = by d.task right.0 (λ other still. marks_by account maildir items dones other still right.1)
+  where
+    IsSettledAll : List Row → Type 0
+    IsSettledAll other = (uid : List ℕ) → has_item items uid ≡ true → is_held account maildir uid ≡ true → marked other uid ≡ other
+
+    later : List (List ℕ)
+    later = map (λ (p : ℕ × List ℕ). p.1) (fetched (tasks_of dones))
+
+    by : (task : Task) → IsRight account maildir items task → ((other : List Row) → IsSettledAll other → marked_all other (ids_of dones) ≡ marked_all other later)
+        → marked_all rows (ids_in task ++ ids_of dones) ≡ marked_all rows (map (λ (p : ℕ × List ℕ). p.1) (fetched_in task ++ fetched (tasks_of dones)))
+    by (stores number uid) is ih = ih (marked rows uid) (λ other listed held. marks_swap rows uid other ∙ ap (λ (r : List Row). marked r uid) (settled other listed held))
+    by (rereads number uid) is ih = ih rows settled ∙ ap (λ (r : List Row). marked_all r later) (sym (settled uid is.1 is.0))
+    by other is ih = ih rows settled
+
+-- ---- what is recorded as delivered
+
+pub still_delivered : MarkedIsDelivered → (rows : List Row) (ids : List (List ℕ)) (uid : List ℕ) → is_delivered rows uid ≡ true → is_delivered (marked_all rows ids) uid ≡ true
+still_delivered law rows [] uid is = is
+still_delivered law rows (id ∷ ids) uid is =
+    still_delivered law (marked rows id) ids uid (law rows id uid ∙ ap (λ b. b || (has_row rows uid && bytes_eq id uid)) is)
+
+pub marked_delivered : MarkedIsDelivered → MarkedKeepsRows → (rows : List Row) (ids : List (List ℕ)) → AllByRecursion (λ (uid : List ℕ). has_row rows uid ≡ true) ids
+    → AllByRecursion (λ (uid : List ℕ). is_delivered (marked_all rows ids) uid ≡ true) ids
+marked_delivered law keeps rows [] all = tt
+marked_delivered law keeps rows (id ∷ ids) all = (
+  still_delivered law (marked rows id) ids id
+      (law rows id id ∙ ap (λ b. is_delivered rows id || (b && bytes_eq id id)) all.0 ∙ ap (λ b. is_delivered rows id || b) ((bytes_eq-Decides id id).1 refl) ∙ or-true (is_delivered rows id)),
+  marked_delivered law keeps (marked rows id) ids (rows_stay ids all.1),
+)
+  where
+    rows_stay : (others : List (List ℕ)) → AllByRecursion (λ (uid : List ℕ). has_row rows uid ≡ true) others → AllByRecursion (λ (uid : List ℕ). has_row (marked rows id) uid ≡ true) others
+    rows_stay [] all = tt
+    rows_stay (other ∷ others) all = (keeps rows id other ∙ all.0, rows_stay others all.1)
+
+pub ids_are : (dones : List Done) → ids_of dones ≡ ids_ahead (tasks_of dones)
+ids_are [] = refl
+ids_are (d ∷ dones) = ap (λ l. ids_in d.task ++ l) (ids_are dones)
+
+-- each stored id has a row after the merge
+pub stored_has_row : ListedHasRow → (account : List ℕ) (maildir : Maildir) (items : List Item) (now : ℕ) (rows : List Row) (held : List Bool) (tasks : List Task)
+    → AllByRecursion (IsRight account maildir items) tasks → AllByRecursion (λ (uid : List ℕ). has_row (merged rows items held now) uid ≡ true) (ids_ahead tasks)
+stored_has_row law account maildir items now rows held [] right = tt
+stored_has_row law account maildir items now rows held (task ∷ tasks) right = by task right.0 (stored_has_row law account maildir items now rows held tasks right.1)
+  where
+    HasRow : List ℕ → Type 0
+    HasRow uid = has_row (merged rows items held now) uid ≡ true
+
+    by : (task : Task) → IsRight account maildir items task → AllByRecursion HasRow (ids_ahead tasks) → AllByRecursion HasRow (ids_in task ++ ids_ahead tasks)
+    by (stores number uid) is ih = (law rows items held now uid ∙ ap (λ b. has_row rows uid || b) is.1 ∙ or-true (has_row rows uid), ih)
+    by other is ih = ih
+
+-- what is listed and held is recorded as delivered after the merge
+pub held_delivered : HeldIsDelivered → FlagsTell → (account : List ℕ) (maildir : Maildir) (items : List Item) (now : ℕ) (rows : List Row) (uid : List ℕ)
+    → has_item items uid ≡ true → is_held account maildir uid ≡ true → is_delivered (merged rows items (flags_of account maildir items) now) uid ≡ true
+held_delivered law tell account maildir items now rows uid listed held =
+    law rows items (flags_of account maildir items) now uid
+    ∙ ap (λ b. is_delivered rows uid || b) (tell account maildir items uid ∙ ap (λ b. b && is_held account maildir uid) listed ∙ held)
+    ∙ or-true (is_delivered rows uid)
+
+-- ---- deletions
+
+-- one more task of any kind
+pub safe_next : (D : List ℕ → Type 0) (items : List Item) (tasks later : List Task) (next : Task) → Safe D items (tasks ++ next ∷ later) → AllByRecursion D (ids_ahead tasks)
+    → AllByRecursion D (deleted_by items (tasks ++ next ∷ []))
+safe_next D items [] later (deletes number) safe all = all_append D (deleted_in items (deletes number)) [] safe.0 tt
+safe_next D items [] later other safe all = tt
+safe_next D items (stores number uid ∷ tasks) later next safe all = safe_next D items tasks later next (safe all.0) all.1
+safe_next D items (deletes number ∷ tasks) later next safe all = all_append D (deleted_in items (deletes number)) (deleted_by items (tasks ++ next ∷ [])) safe.0 (safe_next D items tasks later next safe.1 all)
+safe_next D items (other ∷ tasks) later next safe all = safe_next D items tasks later next safe all
+
+pub safe_done : (D : List ℕ → Type 0) (items : List Item) (tasks later : List Task) → Safe D items (tasks ++ later) → AllByRecursion D (ids_ahead tasks) → AllByRecursion D (deleted_by items tasks)
+safe_done D items [] later safe all = tt
+safe_done D items (stores number uid ∷ tasks) later safe all = safe_done D items tasks later (safe all.0) all.1
+safe_done D items (deletes number ∷ tasks) later safe all = all_append D (deleted_in items (deletes number)) (deleted_by items tasks) safe.0 (safe_done D items tasks later safe.1 all)
+safe_done D items (other ∷ tasks) later safe all = safe_done D items tasks later safe all
+
+-- ---- What a session did, as the law over runs takes it, from the tasks that it completed.
+
+-- the laws of the crates below that are used
+pub record Laws : Type 0 where
+  pub plans : PlansFetchWanted
+  pub held : HeldIsDelivered
+  pub listed : ListedHasRow
+  pub marks : MarkedIsDelivered
+  pub rows : MarkedKeepsRows
+  pub flags : FlagsTell
+  pub one : OneRecord
+  pub steady : SteadyFilesKeep
+  pub unsaved : UnsavedFilesKeep
+
+-- the parts of a session that the law over runs uses
+abbrev pub effect_of : ℕ → Bool → Course → Effect
+effect_of now ended course = record {
+  now = now;
+  listing = course.items;
+  texts = map text_found (found_of course);
+  begun = deleted_by course.items (begun_of course);
+  ended = ended;
+}
+
+-- what a plan is made from; with an mboxrd file the Maildir is an empty one
+pub record Ground : Type 0 where
+  pub settings : Settings
+  pub account : List ℕ
+  pub items : List Item
+  pub now : ℕ
+  pub maildir : Maildir
+  pub rows : List Row
+
+-- the rows after the merge, the planned tasks, and the messages that are wanted
+abbrev pub rows_on : Ground → List Row
+rows_on p = merged p.rows p.items (flags_of p.account p.maildir p.items) p.now
+
+abbrev pub tasks_on : Ground → List Task
+tasks_on p = tasks_ahead p.settings p.account p.items p.now p.maildir (rows_on p)
+
+abbrev pub messages_on : Ground → List (ℕ × Item)
+messages_on p = wanted p.settings (rows_on p) p.items
+
+-- the rows once these were done
+abbrev pub rows_after : Ground → List Done → List Row
+rows_after p dones = marked_all (rows_on p) (ids_of dones)
+
+-- an id is recorded once these were done
+abbrev pub IsRecorded : Ground → List Done → List ℕ → Type 0
+IsRecorded p dones uid = is_delivered (rows_after p dones) uid ≡ true
+
+abbrev pub IsRightOn : Ground → Task → Type 0
+IsRightOn p task = IsRight p.account p.maildir p.items task
+
+-- a list of done tasks, and those after it
+pub record Part (tasks : List Task) (dones : List Done) : Type 0 where
+  pub rest : List Task
+  pub split : tasks ≡ tasks_of dones ++ rest
+  pub answered : AllByRecursion IsAnswered dones
+
+ids_of_keys : (qs : List (ℕ × Item)) → map (λ (p : ℕ × List ℕ). p.1) (map key qs) ≡ ids_wanted qs
+ids_of_keys [] = refl
+ids_of_keys (q ∷ qs) = ap (λ l. q.1.uid ∷ l) (ids_of_keys qs)
+
+module _ (laws : Laws) (p : Ground) where
+  pub safe_tasks : (dones : List Done) → Safe (IsRecorded p dones) p.items (tasks_on p)
+  safe_tasks dones =
+      safe_ahead (IsRecorded p dones) p.settings p.account p.items p.now p.maildir (rows_on p) (λ uid known. still_delivered laws.marks (rows_on p) (ids_of dones) uid known)
+      (λ uid listed held. still_delivered laws.marks (rows_on p) (ids_of dones) uid (held_delivered laws.held laws.flags p.account p.maildir p.items p.now p.rows uid listed held))
+
+  pub right_front : (front rest : List Task) → tasks_on p ≡ front ++ rest → AllByRecursion (IsRightOn p) front
+  right_front front rest split = all_front (IsRightOn p) front rest (subst (AllByRecursion (IsRightOn p)) split (right_ahead p.settings p.account p.items p.now p.maildir (rows_on p)))
+
+  pub right_part : (dones : List Done) → Part (tasks_on p) dones → AllByRecursion (IsRightOn p) (tasks_of dones)
+  right_part dones part = right_front (tasks_of dones) part.rest part.split
+
+  pub recorded_all : (dones : List Done) → Part (tasks_on p) dones → AllByRecursion (IsRecorded p dones) (ids_ahead (tasks_of dones))
+  recorded_all dones part =
+      subst (λ (ids : List (List ℕ)). AllByRecursion (λ (uid : List ℕ). is_delivered (marked_all (rows_on p) ids) uid ≡ true) (ids_ahead (tasks_of dones))) (sym (ids_are dones))
+      (marked_delivered laws.marks laws.rows (rows_on p) (ids_ahead (tasks_of dones))
+      (stored_has_row laws.listed p.account p.maildir p.items p.now p.rows (flags_of p.account p.maildir p.items) (tasks_of dones) (right_part dones part)))
+
+  pub wanted_are : fetched (tasks_on p) ≡ map key (messages_on p)
+  wanted_are = fetched_ahead laws.plans p.settings p.account p.items p.now p.maildir (rows_on p)
+
+  -- the record is the merged one, with the first of the wanted messages marked
+  pub records_part : (dones : List Done) → Part (tasks_on p) dones → rows_after p dones ≡ marked_all (rows_on p) (ids_wanted (take (length (found_by dones)) (messages_on p)))
+  records_part dones part =
+      marks_by p.account p.maildir p.items dones (rows_on p) (held_settled laws.flags p.account p.maildir p.items p.now p.rows) (right_part dones part)
+      ∙ ap (λ (l : List (ℕ × List ℕ)). marked_all (rows_on p) (map (λ (p : ℕ × List ℕ). p.1) l)) (fetched_first (tasks_on p) part.rest dones (messages_on p) wanted_are part.split part.answered)
+      ∙ ap (marked_all (rows_on p)) (ids_of_keys (take (length (found_by dones)) (messages_on p)))
+
+  pub numbers_part : (dones : List Done) → Part (tasks_on p) dones → map number_found (found_by dones) ≡ map number_of (take (length (found_by dones)) (messages_on p))
+  numbers_part dones part = numbers_first (tasks_on p) part.rest dones (messages_on p) wanted_are part.split part.answered
+
+  pub wanted_all : (dones : List Done) → tasks_on p ≡ tasks_of dones → AllByRecursion IsAnswered dones → length (found_by dones) ≡ length (messages_on p)
+  wanted_all dones all answered = fetched_all (tasks_on p) dones (messages_on p) wanted_are all answered

@@ -1,101 +1,268 @@
--- What a session leaves of its account.
-use Rattle.std.proofs.Common.{◌≡◌, ◌⊎◌, inl, inr, ℕ, false, List, [], Option, None, Result, Ok, Err, refl, sym, ap, subst, ◌∙◌, arith}
-use Rattle.std.proofs.lemmas.Bool.{true≢false}
+-- What a session leaves of its account with a Maildir.
+use Rattle.std.proofs.Common.{◌≡◌, ◌+◌, ◌⊎◌, inl, inr, ℕ, Bool, false, List, [], ◌∷◌, ◌++◌, map, take, zip, length, Option, None, Result, Ok, Err, refl, sym, ap, subst, ◌∙◌, append_assoc}
+use Rattle.std.specs.List.{filter, AllByRecursion, AllZip}
 use Rattle.std.proofs.lemmas.List.{append-nil}
-use Rattle.mail_terms.specs.Listing.{Item}
+use Rattle.std.proofs.lemmas.List.Concat.{flat_map-append}
 use Rattle.rc_file.specs.declared.settings.Settings.{Settings}
-use Rattle.fetch_rules.specs.Record.{Row, Held, merged}
+use Rattle.fetch_rules.specs.Record.{Row, Held, none_open, merged, marked}
 use Rattle.fetch_rules.specs.RecordMeaning.{FileStandsFor}
-use Rattle.mail_store.specs.Maildir.{Maildir, counted}
+use Rattle.mail_store.specs.Maildir.{Maildir, File, counted}
 use Rattle.mail_store.specs.FlatFile.{Stored}
+use Rattle.mail_store.specs.FileName.{stem_of, mail_file}
 use Rattle.mail_store.specs.Held.{flags_of}
-use Rattle.pop3_wire.specs.Link.{Link}
-use Rattle.pop3_wire.specs.Place.{Place, at}
+use Rattle.pop3_wire.specs.Place.{Place}
+use Rattle.pop3_wire.specs.Reading.{WholeReply}
+use Rattle.pop3_client.specs.Turns.{IsGood, retr}
 use Rattle.fetch_session.specs.declared.fault.Cut.{Cut}
 use Rattle.pop3_client.specs.declared.fault.Fault.{Fault}
-use Rattle.pop3_client.specs.declared.fault.Fault.TheVariants.{ConnectionEnded, ReadFailed, WriteFailed, ReplyTooLong, BadReply, Refused, BadListing, ListingsDisagree, TooMany, TextTooLong, StoreRefused, SeenRefused, NoMemory, BadSeen}
+use Rattle.pop3_client.specs.declared.fault.Fault.TheVariants.{BadSeen, NoMemory, SeenRefused, StoreRefused}
 use Rattle.pop3_client.specs.declared.fault.Why.TheVariants as why
-use Rattle.fetch_session.specs.declared.report.Report.{Report}
 use Rattle.fetch_session.specs.declared.report.ReportLine.{ReportLine}
 use Rattle.fetch_session.specs.Record.{Keeps, KeepsRows}
-use Rattle.fetch_session.specs.Readiness.{UnreadyCause}
+use Rattle.fetch_session.specs.Readiness.{IsMergedAtMost, UnreadyCause}
 use Rattle.fetch_session.specs.Report.{retrieved_in}
-use Rattle.fetch_session.specs.Scene.{Scene}
-use Rattle.fetch_session.specs.Session.{Keeping, Kept, kept, keeps_files, Noted, Session}
-use Rattle.fetch_runs.proofs.Courses.{Way, Idle, Deals, course, course_carried, course_cut, course_carries, way_proceeded, way_of}
-use Rattle.fetch_runs.proofs.StateBuilt.{Laws, Leads, Part, lead, lead_nothing}
-use Rattle.fetch_runs.proofs.StateCases.{is_ended, RefusedIn, UnsavedIn, does_leads}
+use Rattle.fetch_session.specs.Plan.{Unprepared, Carried, Carries}
+use Rattle.fetch_session.specs.Scene.{Scene, scene, NoFile, FileNotSaved, Went, Fell, Stops, Does}
+use Rattle.fetch_session.specs.Session.{Keeping, Kept, kept, keeps_files, Noted, Proceeds}
+use Rattle.fetch_session.specs.Store.{RefusesText}
 use Rattle.fetch_session.specs.Target.{AsFiles, Stores, in_maildir}
-use Rattle.fetch_runs.proofs.Words.{IsMergedAtMost, scene, tasks_ahead, Unprepared, Carried, Carries, Proceeds}
+use Rattle.fetch_session.specs.Task.{Task, Done, stores, files_in, files_of, file_from}
+use Rattle.run_law.specs.Steps.{file_for, is_unheld, wanted_at}
+use Rattle.run_law.specs.Told.{Told, Records}
+use Rattle.fetch_runs.specs.Steps.{holds}
+use Rattle.fetch_runs.proofs.Courses.{Course, Way, Idle, Deals, course, spare_in, spare_of, course_stopped, course_does, course_carried, course_carries, way_proceeded, stored_done, found_by, found_of, begun_of}
+use Rattle.fetch_runs.proofs.StatePlan.{tasks_ahead, IsRight, right_ahead}
+use Rattle.fetch_runs.proofs.StateDone.{number_found, text_found, number_of, files_first, Laws, Ground, rows_on, tasks_on, messages_on, rows_after, Part, effect_of, records_part, wanted_are}
+use Rattle.fetch_runs.proofs.StateCases.{is_ended, UnsavedIn, unsaved_why, Starts, Tally, tally_right, tally_numbers, tally_number, tally_none, mid_rows, mid_keeps, tally_all, tally_bare, tally_spare, tally_old, tally_new, full_rows}
+
+-- the account that a session left, and what it found
+pub record Leads (settings : Settings) (account : List ℕ) (now : ℕ) (ended : Bool) (course : Course) (rows : List Row) (maildir maildir' : Maildir) (content' : Option (List ℕ)) (lines : List ReportLine) (refused unsaved : Type 0) : Type 0 where
+  pub rows' : List Row
+  pub keeps : KeepsRows content' rows'
+  pub told : Told settings account (holds rows maildir) (effect_of now ended course) (holds rows' maildir')
+  pub numbers : map number_found (found_of course) ≡ map number_of (take (length (found_of course)) (wanted_at settings account (holds rows maildir) (effect_of now ended course)))
+  pub right : AllByRecursion (IsRight account maildir course.items) (begun_of course)
+  pub counted : retrieved_in lines ≡ told.k
+  pub one_more : told.k + 1 ≡ length (found_of course) → refused
+  pub one_less : told.j + 1 ≡ told.k → unsaved
+  pub recorded : Records settings account (holds rows maildir) (effect_of now ended course) told.j (holds rows' maildir')
+      ⊎ ((rows' ≡ rows) × (found_of course ≡ []) × (begun_of course ≡ []) × (ended ≡ false))
+
+-- the store refused a text
+abbrev pub RefusedIn : Result (Unit {0}) Cut → Type 0
+RefusedIn (Ok done) = ⊥
+RefusedIn (Err cut) = cut.fault ≡ StoreRefused why.Refused
+
+-- what a course leads to from a plan
+abbrev Leading : Ground → Bool → Course → Maildir → Option (List ℕ) → List ReportLine → Type 0 → Type 0 → Type 0
+Leading p ended c maildir' content' lines refused unsaved = Leads p.settings p.account p.now ended c p.rows p.maildir maildir' content' lines refused unsaved
+
+-- ---- of tasks that were done
+
+-- it has the files of these tasks more, and no others
+abbrev AddsFiles : List ℕ → Maildir → List Done → Maildir → Type 0
+AddsFiles account maildir dones maildir' = (maildir'.in_new ≡ maildir.in_new ++ files_of account dones) × (maildir'.in_cur ≡ maildir.in_cur)
+
+module _ (laws : Laws) (p : Ground) where
+  -- the files of the texts found
+  adds_part : (whole : List Done) → Part (tasks_on p) whole → (found : List (ℕ × List ℕ)) → found ≡ found_by whole → (n : ℕ) → n ≡ length (found_by whole)
+      → files_of p.account whole ≡ map (file_for p.account) (filter (is_unheld p.account p.maildir) (zip (take n (messages_on p)) (map text_found found)))
+  adds_part whole part found found_is n is = rw (found_is, is)
+      (files_first p.account p.maildir p.items (tasks_on p) part.rest whole (messages_on p) (wanted_are laws p)
+      (right_ahead p.settings p.account p.items p.now p.maildir (rows_on p)) part.split part.answered)
+
+  lead : {ended : Bool} {taken whole noted : List Done} {spare : List WholeReply} {under : List Task} {lines : List ReportLine} {refused unsaved : Type 0}
+      → Tally p ended taken spare under whole noted lines refused unsaved → (maildir' : Maildir) (content' : Option (List ℕ)) → AddsFiles p.account p.maildir whole maildir'
+      → KeepsRows content' (rows_after p noted) → Leading p ended (course p.items taken spare under) maildir' content' lines refused unsaved
+  lead {taken = taken} {whole = whole} {noted = noted} {spare = spare} {under = under} t maildir' content' adds keeps = record {
+    rows' = rows_after p noted;
+    keeps = keeps;
+    told = record {
+      k = length (found_by taken);
+      j = length (found_by noted);
+      number = rw (tally_number laws p t) t.number;
+      maildir = elim t.number [
+        | inl is ↦ inl (in_new (length (found_by taken)) is)
+        | inr is ↦ inr (is ∙ sym (tally_number laws p t), in_new (length (found_by taken) + 1) is)
+      ];
+      in_cur = adds.1;
+      marks = t.mark;
+      rows = inl (records_part laws p noted t.part);
+      begun = t.begun;
+      ended = λ is. (t.ends is).0;
+    };
+    numbers = tally_numbers laws p t;
+    right = tally_right laws p t;
+    counted = t.counts;
+    one_more = λ is. t.one_more (is ∙ ap (λ (l : List (ℕ × List ℕ)). length l) t.found);
+    one_less = t.one_less;
+    recorded = inl (records_part laws p noted t.part);
+  }
+    where
+      found : List (ℕ × List ℕ)
+      found = found_of (course p.items taken spare under)
+
+      in_new : (n : ℕ) → n ≡ length (found_by whole)
+          → maildir'.in_new ≡ p.maildir.in_new ++ map (file_for p.account) (filter (is_unheld p.account p.maildir) (zip (take n (messages_on p)) (map text_found found)))
+      in_new n is = adds.0 ∙ ap (λ (l : List File). p.maildir.in_new ++ l) (adds_part whole t.whole found t.found n is)
+
+  module _ {tasks : List Task} {old : Scene} (starts : Starts p tasks old) (same_maildir : old.store.maildir ≡ p.maildir) where
+    -- what there was after the tasks that were done
+    mid_files : (dones : List Done) (mid : Scene) → Went (AsFiles p.account) dones old mid → AddsFiles p.account p.maildir dones mid.store.maildir
+    mid_files dones mid went = subst (λ (m : Maildir). AddsFiles p.account m dones mid.store.maildir) same_maildir (went.stored.in_new, went.stored.in_cur)
+
+    mid_holds : (dones : List Done) (mid : Scene) → Went (AsFiles p.account) dones old mid → KeepsRows mid.file.content (rows_after p dones)
+    mid_holds dones mid went = (None, mid_keeps laws p starts dones mid went)
+
+    module _ {cut : Cut} {new : Scene} (fell : Fell (AsFiles p.account) tasks old cut new) where
+      abbrev Stopped : Course → Type 0
+      Stopped c = Leading p false c new.store.maildir new.file.content new.lines (RefusedIn (Err cut)) (UnsavedIn (Err cut))
+
+      -- nothing came of the next task
+      bare : new.store.maildir.in_new ≡ fell.mid.store.maildir.in_new → new.store.maildir.in_cur ≡ fell.mid.store.maildir.in_cur → new.file ≡ fell.mid.file → new.lines ≡ fell.mid.lines
+          → Stopped (course p.items fell.dones [] (fell.next ∷ []))
+      bare in_new in_cur file told =
+          let files = mid_files fell.dones fell.mid fell.went in
+          lead (tally_bare laws p starts fell told) new.store.maildir new.file.content (in_new ∙ files.0, in_cur ∙ files.1)
+          (subst (λ (s : Stored). KeepsRows s.content (rows_after p fell.dones)) (sym file) (mid_holds fell.dones fell.mid fell.went))
+
+      -- the file of the next task's text is there
+      module _ (number : ℕ) (uid : List ℕ) (reply : WholeReply) (is : fell.next ≡ stores number uid) (answered : AllZip IsGood (retr number ∷ []) (reply ∷ []))
+          (in_new : new.store.maildir.in_new ≡ fell.mid.store.maildir.in_new ++ file_from p.account uid reply ∷ []) (in_cur : new.store.maildir.in_cur ≡ fell.mid.store.maildir.in_cur) where
+        files : AddsFiles p.account p.maildir (fell.dones ++ stored_done number uid reply ∷ []) new.store.maildir
+        files =
+            let before = mid_files fell.dones fell.mid fell.went in (
+              in_new ∙ ap (λ (l : List File). l ++ file_from p.account uid reply ∷ []) before.0 ∙ append_assoc p.maildir.in_new (files_of p.account fell.dones) (file_from p.account uid reply ∷ [])
+                  ∙ ap (λ (l : List File). p.maildir.in_new ++ l) (sym (flat_map-append (λ (d : Done). files_in p.account d.task d.replies) fell.dones (stored_done number uid reply ∷ []))),
+              in_cur ∙ before.1,
+            )
+
+        -- and the store refused it
+        spare : new.file ≡ fell.mid.file → new.lines ≡ fell.mid.lines → cut.fault ≡ StoreRefused why.Refused → Stopped (course p.items fell.dones (reply ∷ []) (fell.next ∷ []))
+        spare file told refuses =
+            lead (tally_spare laws p starts fell number uid reply is answered told refuses) new.store.maildir new.file.content files
+            (subst (λ (s : Stored). KeepsRows s.content (rows_after p fell.dones)) (sym file) (mid_holds fell.dones fell.mid fell.went))
+
+      -- and the record is one of two
+      unsaved : (u : FileNotSaved p.account fell.next fell.mid new cut) → Stopped (course p.items (fell.dones ++ stored_done u.number u.uid u.reply ∷ []) [] [])
+      unsaved u =
+          elim (laws.unsaved fell.mid.file (none_open fell.mid.rows) (none_open (marked fell.mid.rows u.uid)) cut.fault new.file u.saves (fell.went.saved starts.steady)) [
+            | inl was ↦
+                lead (tally_old laws p starts fell u.number u.uid u.reply u.is u.talked.good u.lines
+                (unsaved_why fell.mid.file (none_open fell.mid.rows) (none_open (marked fell.mid.rows u.uid)) cut.fault new.file u.saves)) new.store.maildir new.file.content there
+                (None, subst (λ (r : List Row). Keeps new.file.content (none_open r)) (mid_rows laws p starts fell.dones fell.mid fell.went) was)
+            | inr more ↦
+                lead (tally_new laws p starts fell u.number u.uid u.reply u.is u.talked.good u.lines) new.store.maildir new.file.content there
+                (None, subst (λ (r : List Row). Keeps new.file.content (none_open r)) (full_rows laws p starts fell u.number u.uid u.reply u.is u.talked.good) more)
+          ]
+        where
+          there : AddsFiles p.account p.maildir (fell.dones ++ stored_done u.number u.uid u.reply ∷ []) new.store.maildir
+          there = files u.number u.uid u.reply u.is u.talked.good u.stored.in_new u.stored.in_cur
+
+      -- the store refused a text
+      not_stored : (refused : NoFile p.account fell.next fell.mid new cut) → Stopped (course p.items fell.dones (spare_of p.account fell.next fell.mid new cut refused) (fell.next ∷ []))
+      not_stored refused = by refused.refuses
+        where
+          by : (refuses : RefusesText fell.mid.store.maildir (stem_of p.account refused.uid) refused.rest refused.text cut.fault new.store.maildir)
+              → Stopped (course p.items fell.dones
+              (spare_in refused.number fell.mid.place new.place refused.rest refused.text fell.mid.store.maildir new.store.maildir (stem_of p.account refused.uid) cut.fault refused.whole refuses) (fell.next ∷ []))
+          by (inl missing) = bare (ap (λ (m : Maildir). m.in_new) missing.2) (ap (λ (m : Maildir). m.in_cur) missing.2) refused.file refused.lines
+          by (inr (is, inl same)) = bare (ap (λ (m : Maildir). m.in_new) same) (ap (λ (m : Maildir). m.in_cur) same) refused.file refused.lines
+          by (inr (is, inr (done, there))) =
+              let came = refused.whole done in
+              spare refused.number refused.uid came.0 refused.is came.1.good
+              (ap (λ (m : Maildir). m.in_new) there ∙ ap (λ (t : List ℕ). fell.mid.store.maildir.in_new ++ mail_file p.account refused.uid t ∷ []) came.2) (ap (λ (m : Maildir). m.in_cur) there) refused.file refused.lines is
+
+      stopped : (stops : Stops (AsFiles p.account) fell.next fell.mid cut new) → Stopped (course_stopped (AsFiles p.account) p.items fell.dones fell.next fell.mid new cut stops)
+      stopped (inl broken) = bare (ap (λ (s : Stores). s.maildir.in_new) broken.store) (ap (λ (s : Stores). s.maildir.in_cur) broken.store) broken.file broken.lines
+      stopped (inr (inl refused)) = not_stored refused
+      stopped (inr (inr refused)) = unsaved refused
+
+    does_leads : (result : Result (Unit {0}) Cut) (new : Scene) (does : Does (AsFiles p.account) tasks old result new)
+        → Leading p (is_ended result) (course_does (AsFiles p.account) p.items tasks old new result does) new.store.maildir new.file.content new.lines (RefusedIn result) (UnsavedIn result)
+    does_leads (Ok done) new went =
+        lead (tally_all laws p starts went.dones new went.all went.went) new.store.maildir new.file.content
+        (mid_files went.dones new went.went) (mid_holds went.dones new went.went)
+    does_leads (Err cut) new fell = stopped fell fell.stops
+
+-- ---- of a session
 
 -- the files are as they were
 abbrev SameFiles : Maildir → Maildir → Type 0
 SameFiles old new = (new.in_new ≡ old.in_new) × (new.in_cur ≡ old.in_cur)
 
-same_files : (old new : Maildir) → new ≡ old → SameFiles old new
-same_files old new is = (ap (λ (m : Maildir). m.in_new) is, ap (λ (m : Maildir). m.in_cur) is)
-
-same_counted : (old new : Maildir) → new ≡ counted old → SameFiles old new
-same_counted old new is = (ap (λ (m : Maildir). m.in_new) is, ap (λ (m : Maildir). m.in_cur) is)
-
 unready_files : (fault : Fault) (old : Maildir) (file : Stored) (new : Maildir) (file' : Stored) → UnreadyCause fault old file new file' → SameFiles old new
-unready_files SeenRefused old file new file' is = same_files old new is.1
-unready_files (BadSeen line) old file new file' is = same_files old new is.1
-unready_files (StoreRefused why.Missing) old file new file' is = same_files old new is.1
-unready_files (StoreRefused why.Refused) old file new file' is = same_counted old new is
-unready_files NoMemory old file new file' is = same_files old new is
+unready_files SeenRefused old file new file' is = subst (SameFiles old) (sym is.1) (refl, refl)
+unready_files (BadSeen line) old file new file' is = subst (SameFiles old) (sym is.1) (refl, refl)
+unready_files (StoreRefused why.Missing) old file new file' is = subst (SameFiles old) (sym is.1) (refl, refl)
+unready_files (StoreRefused why.Refused) old file new file' is = subst (SameFiles old) (sym is) (refl, refl)
+unready_files NoMemory old file new file' is = subst (SameFiles old) (sym is) (refl, refl)
 unready_files other old file new file' never = absurd never
 
-module _ (laws : Laws) (settings : Settings) (account : List ℕ) (items : List Item) (now : ℕ) (place : Place) (maildir : Maildir) (file : Stored) (lines : List ReportLine) (rows : List Row)
-    (keeps : KeepsRows file.content rows) (no_lines : lines ≡ []) where
+module _ (laws : Laws) (p : Ground) (place : Place) (file : Stored) (lines : List ReportLine) (keeps : KeepsRows file.content p.rows) (no_lines : lines ≡ []) where
   -- the record that was read has these rows
-  same_rows : (was : Held) → Keeps file.content was → was.rows ≡ rows
-  same_rows was stood = (laws.one file.content was.rows rows was.intent keeps.0 stood keeps.1).0
+  same_rows : (was : Held) → Keeps file.content was → was.rows ≡ p.rows
+  same_rows was stood = (laws.one file.content was.rows p.rows was.intent keeps.0 stood keeps.1).0
 
   -- nothing was planned
-  unprepared_leads : (cut : Cut) (new : Scene) → Unprepared account items now place maildir file lines cut new
-      → Leads settings account now false (course items [] [] []) rows maildir new.store.maildir new.file.content new.lines (RefusedIn (Err cut)) (UnsavedIn (Err cut))
+  unprepared_leads : (cut : Cut) (new : Scene) → Unprepared (AsFiles p.account) p.items p.now place (in_maildir p.maildir) file lines cut new
+      → Leading p false (course p.items [] [] []) new.store.maildir new.file.content new.lines (RefusedIn (Err cut)) (UnsavedIn (Err cut))
   unprepared_leads cut new is = by is.unready.content
     where
-      same : SameFiles maildir new.store.maildir
-      same = unready_files cut.fault maildir file new.store.maildir new.file is.unready.cause
+      same : SameFiles p.maildir new.store.maildir
+      same = unready_files cut.fault p.maildir file new.store.maildir new.file is.unready.cause
 
-      nothing : Part (tasks_ahead settings account items now maildir (merged rows items (flags_of account maildir items) now)) []
-      nothing = record { rest = tasks_ahead settings account items now maildir (merged rows items (flags_of account maildir items) now); split = refl; answered = tt }
+      none : Tally p false [] [] [] [] [] new.lines (RefusedIn (Err cut)) (UnsavedIn (Err cut))
+      none = tally_none laws p new.lines (ap retrieved_in (is.lines_are ∙ no_lines))
 
-      told : retrieved_in new.lines ≡ 0
-      told = ap retrieved_in (is.lines_are ∙ no_lines)
+      -- the record is as it was
+      stays : KeepsRows new.file.content p.rows → Leading p false (course p.items [] [] []) new.store.maildir new.file.content new.lines (RefusedIn (Err cut)) (UnsavedIn (Err cut))
+      stays keeps' = record {
+        rows' = p.rows;
+        keeps = keeps';
+        told = record {
+          k = 0;
+          j = 0;
+          number = inl refl;
+          maildir = inl (same.0 ∙ sym (append-nil p.maildir.in_new) ∙ ap (λ (l : List File). p.maildir.in_new ++ l) (adds_part laws p [] none.whole [] refl 0 refl));
+          in_cur = same.1;
+          marks = inl refl;
+          rows = inr refl;
+          begun = tt;
+          ended = λ never. (none.ends never).0;
+        };
+        numbers = tally_numbers laws p none;
+        right = tt;
+        counted = none.counts;
+        one_more = none.one_more;
+        one_less = none.one_less;
+        recorded = inr (refl, refl, refl, refl);
+      }
 
-      by : IsMergedAtMost account items now maildir file new → Leads settings account now false (course items [] [] []) rows maildir new.store.maildir new.file.content new.lines (RefusedIn (Err cut)) (UnsavedIn (Err cut))
-      by (inl content) = lead_nothing laws settings account items now maildir rows new.store.maildir new.file.content same.0 same.1 (subst (λ (c : Option (List ℕ)). KeepsRows c rows) (sym content) keeps)
-          new.lines (RefusedIn (Err cut)) (UnsavedIn (Err cut)) told
-      by (inr (was, stood, settled, inl stays)) =
-          lead_nothing laws settings account items now maildir rows new.store.maildir new.file.content same.0 same.1
-          (was.intent, subst (λ (r : List Row). FileStandsFor new.file.content r was.intent) (same_rows was stood) stays)
-          new.lines (RefusedIn (Err cut)) (UnsavedIn (Err cut)) told
+      by : IsMergedAtMost (AsFiles p.account) p.items p.now (in_maildir p.maildir) file new.store new.file → Leading p false (course p.items [] [] []) new.store.maildir new.file.content new.lines (RefusedIn (Err cut)) (UnsavedIn (Err cut))
+      by (inl content) = stays (subst (λ (c : Option (List ℕ)). KeepsRows c p.rows) (sym content) keeps)
+      by (inr (was, stood, settled, inl left)) = stays (was.intent, subst (λ (r : List Row). FileStandsFor new.file.content r was.intent) (same_rows was stood) left)
       by (inr (was, stood, settled, inr merges)) =
-          lead laws settings account items now maildir rows false [] [] [] [] [] new.store.maildir new.file.content 0 refl nothing nothing (inl refl) (inl refl)
-          (same.0 ∙ sym (append-nil maildir.in_new)) same.1
-          (None, subst (λ (r : List Row). FileStandsFor new.file.content (merged r items (flags_of account maildir items) now) None) (same_rows was stood) merges) tt (tasks_ahead settings account items now maildir (merged rows items (flags_of account maildir items) now)) refl
-          (λ never. absurd (true≢false (sym never))) new.lines (RefusedIn (Err cut)) (UnsavedIn (Err cut)) told (λ never. absurd (omega (arith, never))) (λ never. absurd (omega (arith, never)))
+          lead laws p none new.store.maildir new.file.content (same.0 ∙ sym (append-nil p.maildir.in_new), same.1)
+          (None, subst (λ (r : List Row). FileStandsFor new.file.content (merged r p.items (flags_of p.account p.maildir p.items) p.now) None) (same_rows was stood) merges)
 
-  carried_leads : (result : Result (Unit {0}) Cut) (new : Scene) (skipped : ℕ) (is : Carried settings account items now place maildir file lines result new skipped)
-      → Leads settings account now (is_ended result) (course_carried settings (AsFiles account) items now place (in_maildir maildir) file lines result new skipped is) rows maildir new.store.maildir new.file.content new.lines (RefusedIn result) (UnsavedIn result)
-  carried_leads result new skipped is =
-      does_leads laws settings account items now maildir rows is.mid (ap (λ (s : Stores). s.maildir) is.prepared.settles)
-      (is.prepared.rows ∙ ap (λ (r : List Row). merged r items (flags_of account maildir items) now) (same_rows is.prepared.was is.prepared.stood)) (is.prepared.lines_are ∙ no_lines) is.prepared.saved result new is.does
+  carried_leads : (result : Result (Unit {0}) Cut) (new : Scene) (skipped : ℕ) (is : Carried p.settings (AsFiles p.account) p.items p.now place (in_maildir p.maildir) file lines result new skipped)
+      → Leading p (is_ended result) (course_carried p.settings (AsFiles p.account) p.items p.now place (in_maildir p.maildir) file lines result new skipped is) new.store.maildir new.file.content new.lines (RefusedIn result) (UnsavedIn result)
+  carried_leads result new skipped is = does_leads laws p starts (ap (λ (s : Stores). s.maildir) is.prepared.settles) result new is.does
+    where
+      rows : is.mid.rows ≡ rows_on p
+      rows = is.prepared.rows ∙ ap (λ (r : List Row). merged r p.items (flags_of p.account p.maildir p.items) p.now) (same_rows is.prepared.was is.prepared.stood)
 
-  cut_leads : (cut : Cut) (new : Scene) (skipped : ℕ)
-      (is : ((skipped ≡ 0) × Unprepared account items now place maildir file lines cut new) ⊎ Carried settings account items now place maildir file lines (Err cut) new skipped)
-      → Leads settings account now false (course_cut settings (AsFiles account) items now place (in_maildir maildir) file lines cut new skipped is) rows maildir new.store.maildir new.file.content new.lines (RefusedIn (Err cut)) (UnsavedIn (Err cut))
-  cut_leads cut new skipped (inl is) = unprepared_leads cut new is.1
-  cut_leads cut new skipped (inr is) = carried_leads (Err cut) new skipped is
+      starts : Starts p (tasks_ahead p.settings p.account p.items p.now p.maildir is.mid.rows) is.mid
+      starts = record { tasks_are = ap (tasks_ahead p.settings p.account p.items p.now p.maildir) rows; rows = rows; lines = is.prepared.lines_are ∙ no_lines; steady = is.prepared.saved }
 
   carries_leads : (result : Result (Unit {0}) Cut) (place' : Place) (maildir' : Maildir) (file' : Stored) (lines' : List ReportLine) (skipped : ℕ)
-      (is : Carries settings account items now place maildir file lines result place' maildir' file' lines' skipped)
-      → Leads settings account now (is_ended result) (course_carries settings (AsFiles account) items now place (in_maildir maildir) file lines result place' (in_maildir maildir') file' lines' skipped is) rows maildir maildir' file'.content lines' (RefusedIn result) (UnsavedIn result)
-  carries_leads (Ok done) place' maildir' file' lines' skipped is = carried_leads (Ok done) (scene place' maildir' file' is.0 lines') skipped is.1
-  carries_leads (Err cut) place' maildir' file' lines' skipped is = cut_leads cut (scene place' maildir' file' is.0 lines') skipped is.1
+      (is : Carries p.settings (AsFiles p.account) p.items p.now place (in_maildir p.maildir) file lines result place' (in_maildir maildir') file' lines' skipped)
+      → Leading p (is_ended result) (course_carries p.settings (AsFiles p.account) p.items p.now place (in_maildir p.maildir) file lines result place' (in_maildir maildir') file' lines' skipped is)
+      maildir' file'.content lines' (RefusedIn result) (UnsavedIn result)
+  carries_leads (Ok done) place' maildir' file' lines' skipped is = carried_leads (Ok done) (scene place' (in_maildir maildir') file' is.0 lines') skipped is.1
+  carries_leads (Err cut) place' maildir' file' lines' skipped (rows, inl (none, is)) = unprepared_leads cut (scene place' (in_maildir maildir') file' rows lines') is
+  carries_leads (Err cut) place' maildir' file' lines' skipped (rows, inr is) = carried_leads (Err cut) (scene place' (in_maildir maildir') file' rows lines') skipped is
 
 -- the account is as it was, or as the course leaves it
 abbrev pub WayLeads : Settings → List ℕ → ℕ → Result (Unit {0}) Cut → Way → List Row → Kept → Kept → List ReportLine → Type 0
@@ -103,17 +270,12 @@ WayLeads settings account now result Idle rows before after lines = (is_ended re
 WayLeads settings account now result (Deals course) rows before after lines =
     Leads settings account now (is_ended result) course rows before.maildir after.maildir after.file.content lines (RefusedIn result) (UnsavedIn result)
 
-way_leads : (laws : Laws) (settings : Settings) (account : List ℕ) (now : ℕ) (old : Place) (before : Kept) (result : Result (Unit {0}) Cut) (new : Place) (after : Kept) (notes : Noted) (rows : List Row)
-    → KeepsRows before.file.content rows → (is : Proceeds settings account now old before result new after notes)
+pub way_leads : (laws : Laws) (settings : Settings) (account : List ℕ) (now : ℕ) (old : Place) (before : Kept) (result : Result (Unit {0}) Cut) (new : Place) (after : Kept) (notes : Noted) (rows : List Row)
+    → KeepsRows before.file.content rows → (is : Proceeds settings (AsFiles account) now old (keeps_files before) result new (keeps_files after) notes)
     → WayLeads settings account now result (way_proceeded settings (AsFiles account) now old (keeps_files before) result new (keeps_files after) notes is) rows before after notes.lines
 way_leads laws settings account now old before (Ok done) new after notes rows keeps dealt =
-    carries_leads laws settings account dealt.items now dealt.mid before.maildir before.file [] rows keeps refl (Ok done) new after.maildir after.file notes.lines notes.skipped dealt.carries
+    carries_leads laws (record { settings = settings; account = account; items = dealt.items; now = now; maildir = before.maildir; rows = rows }) dealt.mid before.file [] keeps refl (Ok done) new after.maildir after.file notes.lines notes.skipped dealt.carries
 way_leads laws settings account now old before (Err cut) new after notes rows keeps (inl stopped) = (refl, ap (λ (k : Keeping). kept k.store.maildir k.file) stopped.same, ap (λ (n : Noted). n.lines) stopped.nothing)
 way_leads laws settings account now old before (Err cut) new after notes rows keeps (inr (inl wanting)) = (refl, ap (λ (k : Keeping). kept k.store.maildir k.file) wanting.same, ap (λ (n : Noted). n.lines) wanting.nothing)
 way_leads laws settings account now old before (Err cut) new after notes rows keeps (inr (inr dealt)) =
-    carries_leads laws settings account dealt.items now dealt.mid before.maildir before.file [] rows keeps refl (Err cut) new after.maildir after.file notes.lines notes.skipped dealt.carries
-
-pub session_leads : (laws : Laws) (settings : Settings) (account : List ℕ) (now : ℕ) (link : Link) (before : Kept) (report : Report) (link' : Link) (after : Kept) (rows : List Row)
-    → KeepsRows before.file.content rows → (is : Session settings account now link before report link' after)
-    → WayLeads settings account now is.result (way_of settings (AsFiles account) now link (keeps_files before) report link' (keeps_files after) is) rows before after is.notes.lines
-session_leads laws settings account now link before report link' after rows keeps is = way_leads laws settings account now (at link []) before is.result is.mid after is.notes rows keeps is.proceeds
+    carries_leads laws (record { settings = settings; account = account; items = dealt.items; now = now; maildir = before.maildir; rows = rows }) dealt.mid before.file [] keeps refl (Err cut) new after.maildir after.file notes.lines notes.skipped dealt.carries

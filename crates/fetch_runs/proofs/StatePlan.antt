@@ -18,8 +18,13 @@ use Rattle.mail_store.specs.FileName.{is_held}
 use Rattle.mail_store.specs.Held.{flags_of}
 use Rattle.pop3_client.specs.Turns.{quit}
 use Rattle.fetch_session.specs.Task.{Task, says, stores, rereads, deletes, fetching, deleting, tasks_in, tasks_planned}
-use Rattle.fetch_runs.proofs.Words.{tasks_ahead}
+use Rattle.fetch_session.specs.Plan as Session
+use Rattle.fetch_session.specs.Target.{AsFiles, in_maildir}
 use Rattle.fetch_runs.proofs.TalkCommands.{all_append}
+
+-- the tasks of an account with a Maildir
+abbrev pub tasks_ahead : Settings → List ℕ → List Item → ℕ → Maildir → List Row → List Task
+tasks_ahead settings account items now maildir rows = Session.tasks_ahead settings (AsFiles account) items now (in_maildir maildir) rows
 
 abbrev pub second : ℕ × Item → Item
 second message = message.1
@@ -105,18 +110,12 @@ fetched_plan f held same (q ∷ qs) =
     flat_map-append fetched_in (tasks_at f held q) (flat_map (tasks_at f held) qs)
     ∙ ap (λ l. l ++ fetched (flat_map (tasks_at f held) qs)) (fetched_by (f q).retrieve (held q.1.uid) (f q).delete (f q).number q.1.uid q.1.size)
     ∙ ap (λ l. cond (f q).retrieve (((f q).number, q.1.uid) ∷ []) [] ++ l) (fetched_plan f held same qs)
-    ∙ ap (λ (n : ℕ). cond (f q).retrieve ((n, q.1.uid) ∷ []) [] ++ map key later) (same q)
-    ∙ by (f q).retrieve
+    ∙ by (f q).retrieve (f q).number (same q) _
   where
-    pairs : List (Step × (ℕ × Item))
-    pairs = filter (λ (p : Step × (ℕ × Item)). p.0.retrieve) (zip (map f qs) qs)
-
-    later : List (ℕ × Item)
-    later = map (λ (p : Step × (ℕ × Item)). p.1) pairs
-
-    by : (b : Bool) → cond b ((q.0, q.1.uid) ∷ []) [] ++ map key later ≡ map key (map (λ (p : Step × (ℕ × Item)). p.1) (cond b ((f q, q) ∷ pairs) pairs))
-    by true = refl
-    by false = refl
+    by : (b : Bool) (n : ℕ) → n ≡ q.0 → (pairs : List (Step × (ℕ × Item)))
+        → cond b ((n, q.1.uid) ∷ []) [] ++ map key (map (λ (p : Step × (ℕ × Item)). p.1) pairs) ≡ map key (map (λ (p : Step × (ℕ × Item)). p.1) (cond b ((f q, q) ∷ pairs) pairs))
+    by true n is pairs = ap (λ (k : ℕ). (k, q.1.uid) ∷ map key (map (λ (p : Step × (ℕ × Item)). p.1) pairs)) is
+    by false n is pairs = refl
 
 -- a plan fetches what is wanted
 abbrev pub PlansFetchWanted : Type 0
@@ -139,10 +138,6 @@ fetched_ahead law settings account items now maildir rows =
     nothing_more (x ∷ xs) = ap (λ l. x ∷ l) (nothing_more xs)
 
 -- ---- what is held
-
-pub all_weaker : {A : Type 0} (P Q : A → Type 0) (xs : List A) → ((x : A) → P x → Q x) → AllByRecursion P xs → AllByRecursion Q xs
-all_weaker P Q [] weaker all = tt
-all_weaker P Q (x ∷ xs) weaker all = (weaker x all.0, all_weaker P Q xs weaker all.1)
 
 right_by : (account : List ℕ) (maildir : Maildir) (items : List Item) (r h d : Bool) (n : ℕ) (uid : List ℕ) (size : ℕ) → is_held account maildir uid ≡ h → has_item items uid ≡ true
     → (d ≡ true → IsRight account maildir items (deletes n)) → AllByRecursion (IsRight account maildir items) (fetching r h n uid size ++ deleting d n)

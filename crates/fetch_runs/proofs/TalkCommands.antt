@@ -1,6 +1,6 @@
--- The commands in a conversation's octets.
-use Rattle.std.proofs.Common.{◌≡◌, inl, inr, ◌⊎◌, ℕ, List, [], ◌∷◌, ◌++◌, true, None, Some, refl, sym, ap, subst, ◌∙◌, append_assoc}
-use Rattle.std.specs.List.{flat_map, AllByRecursion}
+-- The commands and the replies of a conversation, and the tasks of a plan as commands.
+use Rattle.std.proofs.Common.{◌≡◌, inl, inr, ◌⊎◌, ℕ, List, [], ◌∷◌, ◌++◌, true, None, Some, refl, sym, ap, subst, ◌∙◌, append_assoc, ◌<◌, ◌^◌, Bool, Option, ◌≤◌, ◌+◌, false, length, map, arith}
+use Rattle.std.specs.List.{flat_map, AllByRecursion, AllZip, enumerate_from}
 use Rattle.std.proofs.lemmas.List.{append-nil}
 use Rattle.std.proofs.lemmas.List.Concat.{flat_map-append}
 use Rattle.pop3_wire.specs.declared.command.Command.{Command}
@@ -8,10 +8,26 @@ use Rattle.pop3_wire.specs.Line.{ended}
 use Rattle.pop3_wire.specs.Commands.{line_of, can_be_sent, octets_of}
 use Rattle.pop3_wire.specs.CommandLine.{HasNumbers}
 use Rattle.pop3_wire.specs.Honest.{Asked, BeginsNext, FrontsAreAsked}
-use Rattle.pop3_wire.specs.Reading.{WholeReply}
-use Rattle.pop3_client.specs.Turns.{Turn, asking}
+use Rattle.pop3_wire.specs.Reading.{WholeReply, body_bytes, has_body, IsBodyIf}
+use Rattle.pop3_client.specs.Turns.{Turn, asking, retr, dele, quit, IsBody, IsGood}
 use Rattle.run_law.specs.Sessions.{BeginsOne}
 use Rattle.fetch_runs.specs.Conversations.{SentBehind, Conversation}
+use Rattle.std.proofs.lemmas.Bool.{true≢false}
+use Rattle.pop3_wire.specs.declared.command.Command.TheVariants.{UidlAll, ListAll, Retr, Dele, Quit}
+use Rattle.pop3_wire.specs.Body.{Body}
+use Rattle.pop3_client.specs.Texts.{body_text}
+use Rattle.run_law.specs.Readings.{AreGood, Retrieves, IsGood as IsRead}
+use Rattle.fetch_session.specs.Task.{Task, says, skips, stores, rereads, deletes, Done, turns_in, tasks_of, turns_of, replies_of, IsAnswered, fetching, deleting, tasks_planned}
+use Rattle.fetch_runs.proofs.Courses.{found_in, found_by, IsOfTask}
+use Rattle.mail_terms.specs.Listing.{Item}
+use Rattle.fetch_rules.specs.Record.{Row}
+use Rattle.fetch_rules.specs.Plan.{planned, step_of}
+use Rattle.fetch_rules.specs.declared.steps.Step.{Step}
+use Rattle.rc_file.specs.declared.settings.Settings.{Settings}
+use Rattle.fetch_session.specs.Plan.{tasks_ahead}
+use Rattle.fetch_session.specs.Target.{Target, Stores, flags_in}
+
+-- ---- The commands in a conversation's octets.
 
 -- the command of a turn, if it has one
 abbrev pub said_in : Turn → List Command
@@ -30,6 +46,10 @@ pub all_append : {A : Type 0} (P : A → Type 0) (xs ys : List A) → AllByRecur
 all_append P [] ys first then = then
 all_append P (x ∷ xs) ys first then = (first.0, all_append P xs ys first.1 then)
 
+pub all_weaker : {A : Type 0} (P Q : A → Type 0) (xs : List A) → ((x : A) → P x → Q x) → AllByRecursion P xs → AllByRecursion Q xs
+all_weaker P Q [] weaker all = tt
+all_weaker P Q (x ∷ xs) weaker all = (weaker x all.0, all_weaker P Q xs weaker all.1)
+
 pub all_front : {A : Type 0} (P : A → Type 0) (xs ys : List A) → AllByRecursion P (xs ++ ys) → AllByRecursion P xs
 all_front P [] ys all = tt
 all_front P (x ∷ xs) ys all = (all.0, all_front P xs ys all.1)
@@ -41,10 +61,7 @@ all_back P (x ∷ xs) ys all = all_back P xs ys all.1
 -- two lists that are empty together
 pub both_none : {A : Type 0} (xs ys : List A) → xs ++ ys ≡ [] → (xs ≡ []) × (ys ≡ [])
 both_none [] ys e = (refl, e)
-both_none {A} (x ∷ xs) ys e = absurd (never x (xs ++ ys) e)
-  where
-    never : (a : A) (as' : List A) → a ∷ as' ≡ [] → ⊥
-    never a as' is = cc
+both_none (x ∷ xs) ys e = absurd (let f : x ∷ (xs ++ ys) ≡ [] = e in cc)
 
 -- if there are no octets, any commands may be next
 pub begins_any : (next : List Command) (part : List ℕ) → part ≡ [] → BeginsNext next part
@@ -99,7 +116,6 @@ pub record Commanded (done begun tail : List Turn) (sent : List ℕ) : Type 0 wh
   pub unended : List Command
   pub of_begun : commands_in begun ≡ ahead ++ unsaid
   pub of_tail : commands_in tail ≡ ends ++ unended
-  pub tail_last : (ends ≡ []) ⊎ (unsaid ≡ [])
   pub asked : Asked (commands_in done ++ (ahead ++ ends)) sent
   pub next : List Command
   pub next_is : (next ≡ unsaid) ⊎ (next ≡ unended)
@@ -124,7 +140,6 @@ commanded_by law done begun tail behind d b t (inl (later, front)) =
       unended = commands_in tail;
       of_begun = some.2;
       of_tail = refl;
-      tail_last = inl refl;
       asked = all.0;
       next = some.1;
       next_is = inl refl;
@@ -144,7 +159,6 @@ commanded_by law done begun tail behind d b t (inr (part, later, front, whole)) 
       unended = some.1;
       of_begun = sym (append-nil (commands_in begun));
       of_tail = some.2;
-      tail_last = inr refl;
       asked = all.0;
       next = some.1;
       next_is = inr refl;
@@ -155,3 +169,179 @@ pub commanded : FrontsAreAsked → (done : List Turn) (replies : List WholeReply
     → AllByRecursion CanBeSaid begun → AllByRecursion CanBeSaid tail → Conversation done replies begun tail sent got → Commanded done begun tail sent
 commanded law done replies begun tail sent got d b t said =
     subst (λ (l : List ℕ). Commanded done begun tail l) (sym said.said) (commanded_by law done begun tail said.behind d b t said.way)
+
+-- ---- The replies of a conversation, as the law over runs reads them.
+
+-- a turn that sends a command
+abbrev pub IsCommand : Turn → Type 0
+IsCommand None = ⊥
+IsCommand (Some command) = Unit {0}
+
+body_read : (command : Command) (body : Option (List (List ℕ))) → IsBody (Some command) body → IsBodyIf (has_body command) body
+body_read command None none = subst (λ (has : Bool). IsBodyIf has None) (sym none) tt
+body_read UidlAll (Some lines) is = is.0
+body_read ListAll (Some lines) is = is.0
+body_read (Retr number) (Some lines) is = is.0
+body_read other (Some lines) is = absurd is.1
+
+pub reply_read : (command : Command) (reply : WholeReply) → IsGood (Some command) reply → IsRead command reply
+reply_read command reply good = record { rest = good.rest; line = good.line; positive = good.positive; body = body_read command reply.body good.body }
+
+-- the replies to turns that send commands are whole and positive ones to these commands
+pub replies_read : (turns : List Turn) (replies : List WholeReply) (more : List Command) → AllByRecursion IsCommand turns → AllZip IsGood turns replies → AreGood (commands_in turns ++ more) replies
+replies_read [] [] more all good = tt
+replies_read [] (reply ∷ replies) more all good = absurd good
+replies_read (turn ∷ turns) [] more all good = absurd good
+replies_read (None ∷ turns) (reply ∷ replies) more all good = absurd all.0
+replies_read (Some command ∷ turns) (reply ∷ replies) more all good = (reply_read command reply good.0, replies_read turns replies more all.1 good.1)
+
+-- ---- texts
+
+text_body : (number : ℕ) (body : Option (List (List ℕ))) → IsBody (retr number) body → Body (body_bytes body) (body_text body)
+text_body number None none = absurd (true≢false none)
+text_body number (Some lines) is = record { lines = lines; content = is.0; whole = refl; read = refl }
+
+pub text_read : (number : ℕ) (reply : WholeReply) → IsGood (retr number) reply → Body (body_bytes reply.body) (body_text reply.body)
+text_read number reply good = text_body number reply.body good.body
+
+-- a task as a plan has it: its number is below 2 ^ 32, and a turn for no message is QUIT
+abbrev pub IsPlain : Task → Type 0
+IsPlain (says turn) = turn ≡ quit
+IsPlain (skips number size) = Unit {0}
+IsPlain (stores number uid) = number < 2 ^ 32
+IsPlain (rereads number uid) = number < 2 ^ 32
+IsPlain (deletes number) = number < 2 ^ 32
+
+-- the replies to one turn are one reply
+pub one_reply : (P : List WholeReply → Type 0) (turn : Turn) (replies : List WholeReply) → AllZip IsGood (turn ∷ []) replies → ((reply : WholeReply) → IsGood turn reply → P (reply ∷ [])) → P replies
+one_reply P turn [] good of_one = absurd good
+one_reply P turn (reply ∷ []) good of_one = of_one reply good.0
+one_reply P turn (reply ∷ other ∷ more) good of_one = absurd good.1
+
+-- what one task's replies retrieve, before others
+read_first : (task : Task) (replies others : List WholeReply) (commands : List Command) (found : List (ℕ × List ℕ)) → IsPlain task → AllZip IsGood (turns_in task) replies
+    → Retrieves commands others found → Retrieves (commands_in (turns_in task) ++ commands) (replies ++ others) (found_in task replies ++ found)
+read_first (says turn) replies others commands found is good later =
+    subst (λ (t : Turn). AllZip IsGood (t ∷ []) replies → Retrieves (commands_in (t ∷ []) ++ commands) (replies ++ others) found) (sym is)
+    (λ good'. one_reply (λ (rs : List WholeReply). Retrieves (Quit ∷ commands) (rs ++ others) found) quit replies good' (λ r g. later)) good
+read_first (skips number size) [] others commands found is good later = later
+read_first (skips number size) (r ∷ rs) others commands found is good later = absurd good
+read_first (stores number uid) replies others commands found is good later =
+    one_reply (λ (rs : List WholeReply). Retrieves (Retr number ∷ commands) (rs ++ others) (found_in (stores number uid) rs ++ found)) (retr number) replies good
+    (λ r g. (body_text r.body, found, text_read number r g, refl, later))
+read_first (rereads number uid) replies others commands found is good later =
+    one_reply (λ (rs : List WholeReply). Retrieves (Retr number ∷ commands) (rs ++ others) (found_in (rereads number uid) rs ++ found)) (retr number) replies good
+    (λ r g. (body_text r.body, found, text_read number r g, refl, later))
+read_first (deletes number) replies others commands found is good later =
+    one_reply (λ (rs : List WholeReply). Retrieves (Dele number ∷ commands) (rs ++ others) found) (dele number) replies good (λ r g. later)
+
+pub commands_on : (xs ys : List Turn) (more : List Command) → commands_in (xs ++ ys) ++ more ≡ commands_in xs ++ (commands_in ys ++ more)
+commands_on [] ys more = refl
+commands_on (x ∷ xs) ys more =
+    append_assoc (said_in x) (commands_in (xs ++ ys)) more ∙ ap (λ (l : List Command). said_in x ++ l) (commands_on xs ys more)
+    ∙ sym (append_assoc (said_in x) (commands_in xs) (commands_in ys ++ more))
+
+-- what the replies to done tasks retrieve, before others
+pub dones_read : (dones : List Done) (others : List WholeReply) (commands : List Command) (found : List (ℕ × List ℕ)) → AllByRecursion IsPlain (tasks_of dones) → AllByRecursion IsAnswered dones
+    → Retrieves commands others found → Retrieves (commands_in (turns_of dones) ++ commands) (replies_of dones ++ others) (found_by dones ++ found)
+dones_read [] others commands found plain answered later = later
+dones_read (d ∷ dones) others commands found plain answered later =
+    subst (λ (cs : List Command). Retrieves cs ((d.replies ++ replies_of dones) ++ others) ((found_in d.task d.replies ++ found_by dones) ++ found)) (sym (commands_on (turns_in d.task) (turns_of dones) commands))
+    (subst (λ (rs : List WholeReply). Retrieves (commands_in (turns_in d.task) ++ (commands_in (turns_of dones) ++ commands)) rs ((found_in d.task d.replies ++ found_by dones) ++ found))
+    (sym (append_assoc d.replies (replies_of dones) others))
+    (subst (λ (fs : List (ℕ × List ℕ)). Retrieves (commands_in (turns_in d.task) ++ (commands_in (turns_of dones) ++ commands)) (d.replies ++ (replies_of dones ++ others)) fs)
+    (sym (append_assoc (found_in d.task d.replies) (found_by dones) found))
+    (read_first d.task d.replies (replies_of dones ++ others) (commands_in (turns_of dones) ++ commands) (found_by dones ++ found) plain.0 answered.0
+    (dones_read dones others commands found plain.1 answered.1 later))))
+
+pub nothing_found : (task : Task) → found_in task [] ≡ []
+nothing_found (stores number uid) = refl
+nothing_found (rereads number uid) = refl
+nothing_found other = refl
+
+-- ---- the tasks of a plan
+
+abbrev IsSmall : Step → Type 0
+IsSmall step = step.number < 2 ^ 32
+
+plain_fetching : (retrieve held : Bool) (number size : ℕ) (uid : List ℕ) → number < 2 ^ 32 → AllByRecursion IsPlain (fetching retrieve held number uid size)
+plain_fetching true true number size uid small = (small, tt)
+plain_fetching true false number size uid small = (small, tt)
+plain_fetching false held number size uid small = (tt, tt)
+
+plain_deleting : (delete : Bool) (number : ℕ) → number < 2 ^ 32 → AllByRecursion IsPlain (deleting delete number)
+plain_deleting true number small = (small, tt)
+plain_deleting false number small = tt
+
+plain_planned : (steps : List Step) (items : List Item) (held : List Bool) → AllByRecursion IsSmall steps → AllByRecursion IsPlain (tasks_planned steps items held)
+plain_planned [] items held small = tt
+plain_planned (s ∷ steps) [] held small = tt
+plain_planned (s ∷ steps) (i ∷ items) [] small = tt
+plain_planned (s ∷ steps) (i ∷ items) (h ∷ held) small =
+    all_append IsPlain (fetching s.retrieve h s.number i.uid i.size ++ deleting s.delete s.number) (tasks_planned steps items held)
+    (all_append IsPlain (fetching s.retrieve h s.number i.uid i.size) (deleting s.delete s.number) (plain_fetching s.retrieve h s.number i.size i.uid small.0) (plain_deleting s.delete s.number small.0))
+    (plain_planned steps items held small.1)
+
+small_steps : (f : ℕ × Item → Step) → ((q : ℕ × Item) → (f q).number ≡ q.0) → (n : ℕ) (items : List Item) → n + length items ≤ 2 ^ 32 → AllByRecursion IsSmall (map f (enumerate_from n items))
+small_steps f same n [] within = tt
+small_steps f same n (item ∷ items) within =
+    let is : (f (n, item)).number ≡ n = same (n, item) in
+    let small : (f (n, item)).number < 2 ^ 32 = omega (arith, is, within) in
+    let later : n + 1 + length items ≤ 2 ^ 32 = omega (arith, within) in
+    (small, small_steps f same (n + 1) items later)
+
+-- of a listing of at most 100,000 messages
+pub plain_ahead : (settings : Settings) (target : Target) (items : List Item) (now : ℕ) (store : Stores) (rows : List Row) → length items ≤ 100000
+    → AllByRecursion IsPlain (tasks_ahead settings target items now store rows)
+plain_ahead settings target items now store rows few =
+    let within : 1 + length items ≤ 2 ^ 32 = omega (arith, few) in
+    all_append IsPlain (tasks_planned (planned settings rows items now) items (flags_in target store items)) (says quit ∷ [])
+    (plain_planned (planned settings rows items now) items (flags_in target store items) (small_steps (step_of settings rows items now) (λ q. refl) 1 items within))
+    (refl, tt)
+
+-- ---- their turns
+
+said_first : (task : Task) (turns : List Turn) → IsPlain task → AllByRecursion CanBeSaid turns → AllByRecursion CanBeSaid (turns_in task ++ turns)
+said_first (says turn) turns is later = (subst CanBeSaid (sym is) (refl, tt), later)
+said_first (skips number size) turns is later = later
+said_first other turns is later = ((refl, is), later)
+
+pub said_tasks : (tasks : List Task) → AllByRecursion IsPlain tasks → AllByRecursion CanBeSaid (flat_map turns_in tasks)
+said_tasks [] plain = tt
+said_tasks (task ∷ tasks) plain = said_first task (flat_map turns_in tasks) plain.0 (said_tasks tasks plain.1)
+
+commands_first : (task : Task) (turns : List Turn) → IsPlain task → AllByRecursion IsCommand turns → AllByRecursion IsCommand (turns_in task ++ turns)
+commands_first (says turn) turns is later = (subst IsCommand (sym is) tt, later)
+commands_first (skips number size) turns is later = later
+commands_first other turns is later = (tt, later)
+
+pub commands_tasks : (tasks : List Task) → AllByRecursion IsPlain tasks → AllByRecursion IsCommand (flat_map turns_in tasks)
+commands_tasks [] plain = tt
+commands_tasks (task ∷ tasks) plain = commands_first task (flat_map turns_in tasks) plain.0 (commands_tasks tasks plain.1)
+
+-- the turns of done tasks, and of others after them
+pub turns_on : (dones : List Done) (tasks : List Task) → flat_map turns_in (tasks_of dones ++ tasks) ≡ turns_of dones ++ flat_map turns_in tasks
+turns_on [] tasks = refl
+turns_on (d ∷ dones) tasks = ap (λ (ts : List Turn). turns_in d.task ++ ts) (turns_on dones tasks) ∙ sym (append_assoc (turns_in d.task) (turns_of dones) (flat_map turns_in tasks))
+
+-- ---- their retrievals and deletions
+
+of_first : (front behind : List Task) (task : Task) (commands : List Command) → IsPlain task
+    → AllByRecursion (IsOfTask (front ++ task ∷ behind)) commands → AllByRecursion (IsOfTask (front ++ task ∷ behind)) (commands_in (turns_in task) ++ commands)
+of_first front behind (says turn) commands is later =
+    subst (λ (t : Turn). AllByRecursion (IsOfTask (front ++ says turn ∷ behind)) (commands_in (t ∷ []) ++ commands)) (sym is) (tt, later)
+of_first front behind (skips number size) commands is later = later
+of_first front behind (stores number uid) commands is later = ((front, stores number uid, behind, refl), later)
+of_first front behind (rereads number uid) commands is later = ((front, rereads number uid, behind, refl), later)
+of_first front behind (deletes number) commands is later = ((front, behind, refl), later)
+
+pub commands_split : (xs ys : List Turn) → commands_in (xs ++ ys) ≡ commands_in xs ++ commands_in ys
+commands_split [] ys = refl
+commands_split (x ∷ xs) ys = ap (λ (l : List Command). said_in x ++ l) (commands_split xs ys) ∙ sym (append_assoc (said_in x) (commands_in xs) (commands_in ys))
+
+pub of_tasks : (front tasks : List Task) → AllByRecursion IsPlain tasks → AllByRecursion (IsOfTask (front ++ tasks)) (commands_in (flat_map turns_in tasks))
+of_tasks front [] plain = tt
+of_tasks front (task ∷ tasks) plain =
+    subst (AllByRecursion (IsOfTask (front ++ task ∷ tasks))) (sym (commands_split (turns_in task) (flat_map turns_in tasks)))
+    (of_first front tasks task (commands_in (flat_map turns_in tasks)) plain.0
+    (subst (λ (ts : List Task). AllByRecursion (IsOfTask ts) (commands_in (flat_map turns_in tasks))) (append_assoc front (task ∷ []) tasks) (of_tasks (front ++ task ∷ []) tasks plain.1)))

@@ -1,123 +1,454 @@
--- Each session is one conversation by its plan.
-use Rattle.std.proofs.Common.{◌≡◌, ◌+◌, inl, inr, ◌⊎◌, ℕ, List, [], ◌∷◌, ◌++◌, Result, Ok, Err, refl, sym, ap, subst, ◌∙◌, arith, append_assoc}
-use Rattle.std.specs.List.{flat_map, count_by}
-use Rattle.std.proofs.lemmas.List.{append-nil}
+-- Each session is one conversation: by its plan if its listing was joined, and else of the opening alone.
+use Rattle.std.proofs.Common.{◌≡◌, ◌≤◌, ◌⊎◌, inl, inr, ℕ, List, [], ◌∷◌, ◌++◌, length, Result, Ok, Err, refl, sym, ap, subst, ◌∙◌, append_assoc, ◌+◌, Bool, true, false, cond, map, Some, arith}
+use Rattle.std.specs.List.{AllByRecursion, flat_map, count_by, AllZip, enumerate_from}
+use Rattle.std.proofs.lemmas.List.{append-nil, map-append}
 use Rattle.std.proofs.lemmas.List.Concat.{flat_map-append}
 use Rattle.pop3_wire.specs.Bodies.{Rest}
 use Rattle.pop3_wire.specs.declared.unstuffer.Spot.TheVariants.{Done as AtEnd}
 use Rattle.pop3_wire.specs.Link.{Link}
 use Rattle.pop3_wire.specs.Place.{Place, at}
 use Rattle.pop3_wire.specs.Reading.{WholeReply}
+use Rattle.pop3_client.specs.Turns.{Turn, retr, quit, IsGood}
 use Rattle.pop3_client.specs.Texts.{Fetched}
-use Rattle.pop3_client.specs.Turns.{Turn, retr}
-use Rattle.pop3_client.specs.Conversation.{ConversationsArePaced}
-use Rattle.mail_terms.specs.Listing.{Item}
-use Rattle.rc_file.specs.Settings.{IsValid}
+use Rattle.pop3_client.specs.Conversation.{ConversationsArePaced, Talks}
+use Rattle.mail_terms.specs.Listing.{Item, Joins}
+use Rattle.fetch_rules.specs.Record.{Row}
 use Rattle.rc_file.specs.declared.settings.Settings.{Settings}
-use Rattle.mail_store.specs.FileName.{stem_of}
-use Rattle.mail_store.specs.Maildir.{Maildir}
+use Rattle.mail_store.specs.FileName.{stem_of, is_held}
 use Rattle.mail_store.specs.FlatFile.{Stored}
-use Rattle.pop3_wire.specs.Honest.{FrontsAreAsked}
+use Rattle.mail_store.specs.Maildir.{Maildir}
 use Rattle.fetch_session.specs.declared.fault.Cut.{Cut}
 use Rattle.pop3_client.specs.declared.fault.Fault.{Fault}
-use Rattle.pop3_client.specs.declared.fault.Fault.TheVariants.{StoreRefused}
+use Rattle.pop3_client.specs.declared.fault.Fault.TheVariants.{StoreRefused, NoMemory}
 use Rattle.pop3_client.specs.declared.fault.Why.TheVariants.{Refused}
-use Rattle.fetch_session.specs.declared.report.Outcome.{Outcome}
-use Rattle.fetch_session.specs.declared.report.Outcome.TheVariants.{Ended, Cut as WasCut}
-use Rattle.fetch_session.specs.declared.report.Report.{Report}
+use Rattle.fetch_session.specs.declared.report.Outcome.TheVariants.{Cut as WasCut, Ended}
 use Rattle.fetch_session.specs.declared.report.ReportLine.{ReportLine}
-use Rattle.fetch_session.specs.Laws.{TurnsJoin}
-use Rattle.fetch_session.specs.Opening.{opening}
-use Rattle.fetch_session.specs.Report.{Reports, is_taken}
-use Rattle.fetch_session.specs.Task.{Task, Done, turns_in, tasks_of, turns_of, lines_in, lines_of, delivered}
-use Rattle.fetch_session.specs.Tail.{tail, turns_in as tail_turns}
+use Rattle.fetch_session.specs.Task.{Task, stores, Done, task_in, tasks_of, lines_in, lines_of, delivered, says, skips, rereads, deletes, fetching, deleting, tasks_planned, turns_in, turns_of, IsAnswered}
+use Rattle.fetch_session.specs.Tail.{tail, Left, turns_in as tail_turns}
+use Rattle.fetch_session.specs.Plan.{tasks_ahead, Prepared, Unprepared, Carried, Carries}
+use Rattle.fetch_session.specs.Scene.{Scene, scene, Fell, Stops, Does}
+use Rattle.fetch_session.specs.Target.{Target, AsFiles, AsEntries, Stores}
+use Rattle.fetch_session.specs.Session.{LeavesLink, outcome_of, Keeping, Noted, NotEntered, NoRoom, Dealt, Proceeds, SessionIn, keeps_entries, Kept, keeps_files}
 use Rattle.fetch_session.specs.Store.{RefusesText}
-use Rattle.fetch_session.specs.Scene.{Scene}
-use Rattle.fetch_session.specs.Session.{Kept, Noted, LeavesLink, keeps_files, outcome_of}
-use Rattle.fetch_session.specs.Target.{AsFiles, in_maildir}
-use Rattle.fetch_runs.specs.Conversations.{Conversation, Converses, tail_behind, retrieved_by, CountsTexts, Opens, SpeaksByPlan, SessionsAreConversations}
-use Rattle.fetch_runs.proofs.Courses.{Course, stored_done, spare_in, course_stopped, course_does, course_carried, course_carries, course_dealt}
-use Rattle.fetch_runs.proofs.TalkCommands.{both_none, all_front}
-use Rattle.fetch_runs.proofs.TalkReplies.{IsPlain}
-use Rattle.fetch_runs.proofs.TalkPlan.{count_on, taken_same}
-use Rattle.fetch_runs.proofs.TalkPlanned.{name_of, word_of, Planned, planned_talk, opens, follows_none}
-use Rattle.fetch_runs.proofs.TalkOpenings.{Replied, replied, listed}
-use Rattle.fetch_runs.proofs.TalkSpeech.{is_tail}
-use Rattle.fetch_runs.proofs.TalkSessions.{IsWhole, tail_for}
-use Rattle.fetch_runs.proofs.Words.{scene, Went, Stops, Does, tasks_ahead, Carried, Carries, Dealt, Proceeds, NotEntered, NoRoom}
+use Rattle.fetch_runs.specs.Conversations.{AreFound, tail_behind, is_retrieval, retrieved_by, Conversation, plan_turns, FollowsPlan, MboxSessionsFollowPlans, Converses, CountsTexts, Opens, SpeaksByPlan, SessionsAreConversations}
+use Rattle.fetch_runs.proofs.Courses.{Course, course, stored_done, spare_in, spare_of, course_stopped, course_does, course_carried, course_carries, begun_of, Way, Idle, Deals, course_dealt, way_proceeded, way_of, IsOfTask}
+use Rattle.fetch_runs.proofs.TalkCommands.{all_front, IsPlain, plain_ahead, one_reply, commands_in, CanBeSaid, Commanded, said_tasks, both_none}
+use Rattle.fetch_session.specs.Laws.{TurnsJoin}
+use Rattle.fetch_runs.proofs.TalkCourses.{Took, took_stopped, took_nothing, all_done, goes_nothing}
+use Rattle.fetch_runs.proofs.TalkSpeech.{IsTail, is_tail, silent, front_of_plan, OpensAlone, opens_all, opens_cut, commanded_opening, replied, few_items, Speaks, spoken, commanded_after, idle_said, Replied, listed}
+use Rattle.std.proofs.lemmas.List.Sums.{sum_by-append}
+use Rattle.pop3_wire.specs.declared.command.Command.{Command}
+use Rattle.pop3_wire.specs.declared.command.Command.TheVariants.{Retr, Dele, Quit}
+use Rattle.fetch_rules.specs.Plan.{planned, step_of}
+use Rattle.fetch_rules.specs.declared.steps.Step.{Step}
+use Rattle.run_law.specs.Plans.{asked_if, step_commands, IsFrontOfPlan}
+use Rattle.fetch_session.specs.Report.{is_taken, Reports}
+use Rattle.std.specs.String.{string_bytes}
+use Rattle.pop3_wire.specs.Honest.{Asked, FrontsAreAsked}
+use Rattle.mail_terms.specs.declared.listing.UidRow.{UidRow}
+use Rattle.mail_terms.specs.declared.listing.ScanRow.{ScanRow}
+use Rattle.rc_file.specs.Settings.{IsValid}
+use Rattle.fetch_session.specs.Opening.{opening, Opened}
+use Rattle.fetch_session.specs.declared.report.Report.{Report}
+use Rattle.run_law.specs.Sessions.{BeginsOne}
+use Rattle.fetch_session.specs.declared.report.Outcome.{Outcome}
 
--- ---- the lines that were noted are those of the tasks that were taken
+-- ---- What each session sent and read, as the law over runs takes it.
 
-lines_stopped : (account : List ℕ) (items : List Item) (dones : List Done) (next : Task) (first mid new : Scene) (cut : Cut) → Went account dones first mid → (stops : Stops account next mid cut new)
-    → new.lines ≡ first.lines ++ lines_of (course_stopped (AsFiles account) items dones next mid new cut stops).taken
-lines_stopped account items dones next first mid new cut went (inl broken) = broken.lines ∙ went.lines
-lines_stopped account items dones next first mid new cut went (inr (inl refused)) = refused.lines ∙ went.lines
-lines_stopped account items dones next first mid new cut went (inr (inr unsaved)) =
-    unsaved.lines ∙ ap (λ (l : List ReportLine). l ++ delivered unsaved.number unsaved.reply ∷ []) went.lines
-    ∙ append_assoc first.lines (lines_of dones) (delivered unsaved.number unsaved.reply ∷ [])
-    ∙ ap (λ (l : List ReportLine). first.lines ++ l) (sym (flat_map-append (λ (d : Done). lines_in d.task d.replies) dones (stored_done unsaved.number unsaved.uid unsaved.reply ∷ [])))
+-- the turns after a session that ended or was cut
+abbrev pub tail_for : Result (Unit {0}) Cut → List Turn
+tail_for result = tail_behind (outcome_of result)
 
-lines_does : (account : List ℕ) (items : List Item) (tasks : List Task) (old new : Scene) (result : Result (Unit {0}) Cut) → (does : Does account tasks old result new)
-    → new.lines ≡ old.lines ++ lines_of (course_does (AsFiles account) items tasks old new result does).taken
-lines_does account items tasks old new (Ok done) went = went.went.lines
-lines_does account items tasks old new (Err cut) fell = lines_stopped account items fell.dones fell.next old fell.mid new cut fell.went fell.stops
+pub is_tail_for : (result : Result (Unit {0}) Cut) → IsTail (tail_for result)
+is_tail_for (Ok done) = silent
+is_tail_for (Err cut) = is_tail cut.fault
 
-module _ (settings : Settings) (account : List ℕ) (items : List Item) (now : ℕ) (place : Place) (maildir : Maildir) (file : Stored) where
-  lines_carried : (result : Result (Unit {0}) Cut) (new : Scene) (skipped : ℕ) → (is : Carried settings account items now place maildir file [] result new skipped)
-      → new.lines ≡ lines_of (course_carried settings (AsFiles account) items now place (in_maildir maildir) file [] result new skipped is).taken
-  lines_carried result new skipped is =
-      lines_does account items (tasks_ahead settings account items now maildir is.mid.rows) is.mid new result is.does
-      ∙ ap (λ (l : List ReportLine). l ++ lines_of (course_carried settings (AsFiles account) items now place (in_maildir maildir) file [] result new skipped is).taken) is.prepared.lines_are
+-- if all was done, nothing is left of the plan
+abbrev pub IsWhole : Result (Unit {0}) Cut → List Task → List Task → Type 0
+IsWhole (Ok done) under later = (under ≡ []) × (later ≡ [])
+IsWhole (Err cut) under later = Unit {0}
 
-  lines_carries : (result : Result (Unit {0}) Cut) (place' : Place) (maildir' : Maildir) (file' : Stored) (lines' : List ReportLine) (skipped : ℕ)
-      → (is : Carries settings account items now place maildir file [] result place' maildir' file' lines' skipped)
-      → lines' ≡ lines_of (course_carries settings (AsFiles account) items now place (in_maildir maildir) file [] result place' (in_maildir maildir') file' lines' skipped is).taken
-  lines_carries (Ok done) place' maildir' file' lines' skipped is = lines_carried (Ok done) (scene place' maildir' file' is.0 lines') skipped is.1
-  lines_carries (Err cut) place' maildir' file' lines' skipped (rows, inl (none, unprepared)) = unprepared.lines_are
-  lines_carries (Err cut) place' maildir' file' lines' skipped (rows, inr is) = lines_carried (Err cut) (scene place' maildir' file' rows lines') skipped is
+-- with a Maildir a text is spare only if the store refused it
+abbrev pub IsRefusedIn : Target → Result (Unit {0}) Cut → Type 0
+IsRefusedIn (AsFiles account) result = outcome_of result ≡ WasCut (StoreRefused Refused)
+IsRefusedIn AsEntries result = Unit {0}
 
--- ---- there is a spare text only if the store refused it
+-- a course of these messages is a prefix of these tasks, and the report's lines are those of the tasks that were taken
+pub record Ahead (target : Target) (items : List Item) (tasks : List Task) (lines lines' : List ReportLine) (result : Result (Unit {0}) Cut) (c : Course) : Type 0 where
+  pub later : List Task
+  pub same_items : c.items ≡ items
+  pub split : tasks ≡ begun_of c ++ later
+  pub told : lines' ≡ lines ++ lines_of c.taken
+  pub spare : (reply : WholeReply) → c.spare ≡ reply ∷ [] → IsRefusedIn target result
+  pub whole : IsWhole result c.under later
 
-abbrev no_replies : List WholeReply
-no_replies = []
-
-no_spare : (reply : WholeReply) → no_replies ≡ reply ∷ [] → ⊥
-no_spare reply e = cc
+no_spare : {P : Type 0} (reply : WholeReply) → [] ≡ reply ∷ [] → P
+no_spare reply e = absurd cc
 
 spare_refused : (number : ℕ) (start there : Place) (rest : Rest) (text : List ℕ) (old now : Maildir) (file : List ℕ) (fault : Fault)
     → (whole : rest.spot ≡ AtEnd → Fetched (retr number) start text there) → (refuses : RefusesText old file rest text fault now) → (reply : WholeReply)
     → spare_in number start there rest text old now file fault whole refuses ≡ reply ∷ [] → fault ≡ StoreRefused Refused
-spare_refused number start there rest text old now file fault whole (inl missing) reply e = absurd (no_spare reply e)
-spare_refused number start there rest text old now file fault whole (inr (is, inl same)) reply e = is
-spare_refused number start there rest text old now file fault whole (inr (is, inr stored)) reply e = is
+spare_refused number start there rest text old now file fault whole (inl missing) reply e = no_spare reply e
+spare_refused number start there rest text old now file fault whole (inr (is, which)) reply e = is
 
-spare_stopped : (account : List ℕ) (items : List Item) (dones : List Done) (next : Task) (mid new : Scene) (cut : Cut) → (stops : Stops account next mid cut new) → (reply : WholeReply)
-    → (course_stopped (AsFiles account) items dones next mid new cut stops).spare ≡ reply ∷ [] → cut.fault ≡ StoreRefused Refused
-spare_stopped account items dones next mid new cut (inl broken) reply e = absurd (no_spare reply e)
-spare_stopped account items dones next mid new cut (inr (inl refused)) reply e =
-    spare_refused refused.number mid.place new.place refused.rest refused.text mid.store.maildir new.store.maildir (stem_of account refused.uid) cut.fault refused.whole refused.refuses reply e
-spare_stopped account items dones next mid new cut (inr (inr unsaved)) reply e = absurd (no_spare reply e)
+ahead_stopped : (target : Target) (items : List Item) (tasks : List Task) (old new : Scene) (cut : Cut) (fell : Fell target tasks old cut new)
+    → Ahead target items tasks old.lines new.lines (Err cut) (course_stopped target items fell.dones fell.next fell.mid new cut fell.stops)
+ahead_stopped target items tasks old new cut fell = by target fell.went.lines fell.stops
+  where
+    begun : tasks ≡ (tasks_of fell.dones ++ fell.next ∷ []) ++ fell.later
+    begun = fell.split ∙ sym (append_assoc (tasks_of fell.dones) (fell.next ∷ []) fell.later)
 
--- the store refused a text
-abbrev RefusedIn : Result (Unit {0}) Cut → Type 0
-RefusedIn result = outcome_of result ≡ WasCut (StoreRefused Refused)
+    passed : (to : Target) (spare : List WholeReply) → fell.mid.lines ≡ old.lines ++ lines_of fell.dones → new.lines ≡ fell.mid.lines → ((reply : WholeReply) → spare ≡ reply ∷ [] → IsRefusedIn to (Err cut))
+        → Ahead to items tasks old.lines new.lines (Err cut) (course items fell.dones spare (fell.next ∷ []))
+    passed to spare first told refused = record { later = fell.later; same_items = refl; split = begun; told = told ∙ first; spare = refused; whole = tt }
 
-spare_does : (account : List ℕ) (items : List Item) (tasks : List Task) (old new : Scene) (result : Result (Unit {0}) Cut) → (does : Does account tasks old result new) → (reply : WholeReply)
-    → (course_does (AsFiles account) items tasks old new result does).spare ≡ reply ∷ [] → RefusedIn result
-spare_does account items tasks old new (Ok done) went reply e = absurd (no_spare reply e)
-spare_does account items tasks old new (Err cut) fell reply e = ap WasCut (spare_stopped account items fell.dones fell.next fell.mid new cut fell.stops reply e)
+    stored : (to : Target) (number : ℕ) (uid : List ℕ) (reply : WholeReply) → fell.mid.lines ≡ old.lines ++ lines_of fell.dones → fell.next ≡ stores number uid → new.lines ≡ fell.mid.lines ++ delivered number reply ∷ []
+        → Ahead to items tasks old.lines new.lines (Err cut) (course items (fell.dones ++ stored_done number uid reply ∷ []) [] [])
+    stored to number uid reply first is told = record {
+      later = fell.later;
+      same_items = refl;
+      split = begun ∙ ap (λ (t : Task). (tasks_of fell.dones ++ t ∷ []) ++ fell.later) is
+          ∙ ap (λ (ts : List Task). ts ++ fell.later) (sym (map-append task_in fell.dones (stored_done number uid reply ∷ [])) ∙ sym (append-nil (tasks_of (fell.dones ++ stored_done number uid reply ∷ []))));
+      told = told ∙ ap (λ (l : List ReportLine). l ++ delivered number reply ∷ []) first ∙ append_assoc old.lines (lines_of fell.dones) (delivered number reply ∷ [])
+          ∙ ap (λ (l : List ReportLine). old.lines ++ l) (sym (flat_map-append (λ (d : Done). lines_in d.task d.replies) fell.dones (stored_done number uid reply ∷ [])));
+      spare = λ other e. no_spare other e;
+      whole = tt;
+    }
 
-module _ (settings : Settings) (account : List ℕ) (items : List Item) (now : ℕ) (place : Place) (maildir : Maildir) (file : Stored) where
-  spare_carried : (result : Result (Unit {0}) Cut) (new : Scene) (skipped : ℕ) → (is : Carried settings account items now place maildir file [] result new skipped) → (reply : WholeReply)
-      → (course_carried settings (AsFiles account) items now place (in_maildir maildir) file [] result new skipped is).spare ≡ reply ∷ [] → RefusedIn result
-  spare_carried result new skipped is = spare_does account items (tasks_ahead settings account items now maildir is.mid.rows) is.mid new result is.does
+    by : (to : Target) → fell.mid.lines ≡ old.lines ++ lines_of fell.dones → (how : Stops to fell.next fell.mid cut new) → Ahead to items tasks old.lines new.lines (Err cut) (course_stopped to items fell.dones fell.next fell.mid new cut how)
+    by to first (inl broken) = passed to [] first broken.lines (λ reply e. no_spare reply e)
+    by (AsFiles account) first (inr (inl r)) =
+        passed (AsFiles account) (spare_of account fell.next fell.mid new cut r) first r.lines
+        (λ reply e. ap WasCut (spare_refused r.number fell.mid.place new.place r.rest r.text fell.mid.store.maildir new.store.maildir (stem_of account r.uid) cut.fault r.whole r.refuses reply e))
+    by (AsFiles account) first (inr (inr unsaved)) = stored (AsFiles account) unsaved.number unsaved.uid unsaved.reply first unsaved.is unsaved.lines
+    by AsEntries first (inr (inl (inl wanting))) = passed AsEntries [] first wanting.lines (λ reply e. tt)
+    by AsEntries first (inr (inl (inr refused))) = passed AsEntries (refused.reply ∷ []) first refused.lines (λ reply e. tt)
+    by AsEntries first (inr (inr unsaved)) = stored AsEntries unsaved.number unsaved.uid unsaved.reply first unsaved.is unsaved.lines
 
-  spare_carries : (result : Result (Unit {0}) Cut) (place' : Place) (maildir' : Maildir) (file' : Stored) (lines' : List ReportLine) (skipped : ℕ)
-      → (is : Carries settings account items now place maildir file [] result place' maildir' file' lines' skipped) → (reply : WholeReply)
-      → (course_carries settings (AsFiles account) items now place (in_maildir maildir) file [] result place' (in_maildir maildir') file' lines' skipped is).spare ≡ reply ∷ [] → RefusedIn result
-  spare_carries (Ok done) place' maildir' file' lines' skipped is = spare_carried (Ok done) (scene place' maildir' file' is.0 lines') skipped is.1
-  spare_carries (Err cut) place' maildir' file' lines' skipped (rows, inl unprepared) = λ reply e. absurd (no_spare reply e)
-  spare_carries (Err cut) place' maildir' file' lines' skipped (rows, inr is) = spare_carried (Err cut) (scene place' maildir' file' rows lines') skipped is
+ahead_does : (target : Target) (items : List Item) (tasks : List Task) (old new : Scene) (result : Result (Unit {0}) Cut) → (does : Does target tasks old result new)
+    → Ahead target items tasks old.lines new.lines result (course_does target items tasks old new result does)
+ahead_does target items tasks old new (Ok done) went = record {
+  later = [];
+  same_items = refl;
+  split = went.all ∙ sym (append-nil (tasks_of went.dones)) ∙ sym (append-nil (tasks_of went.dones ++ []));
+  told = went.went.lines;
+  spare = λ reply e. no_spare reply e;
+  whole = (refl, refl);
+}
+ahead_does target items tasks old new (Err cut) fell = ahead_stopped target items tasks old new cut fell
+
+-- with a Maildir the rows are those that were found
+abbrev pub IsFound : Target → ℕ → Stores → Stored → List Item → List Row → Type 0
+IsFound (AsFiles account) now store file items rows = AreFound account now store.maildir file items rows
+IsFound AsEntries now store file items rows = Unit {0}
+
+found_prepared : (target : Target) (items : List Item) (now : ℕ) (place : Place) (store : Stores) (file : Stored) (lines : List ReportLine) (mid : Scene) → Prepared target items now place store file lines mid
+    → IsFound target now store file items mid.rows
+found_prepared (AsFiles account) items now place store file lines mid is = record { was = is.was.rows; stood = (is.was.intent, is.stood); merged_is = is.rows }
+found_prepared AsEntries items now place store file lines mid is = tt
+
+-- what the link gained by a course that is a prefix of the planned tasks
+pub record Dealing (settings : Settings) (target : Target) (items : List Item) (now : ℕ) (store : Stores) (file : Stored) (lines lines' : List ReportLine) (c : Course) (start : Place) (result : Result (Unit {0}) Cut) (link : Link) : Type 0 where
+  pub rows : List Row
+  pub ahead : Ahead target items (tasks_ahead settings target items now store rows) lines lines' result c
+  pub took : Took c start (tail_for result) link
+  pub found : IsFound target now store file items rows ⊎ (begun_of c ≡ [])
+
+module _ (joining : TurnsJoin) (paced : ConversationsArePaced) where
+  took_does : (target : Target) (items : List Item) (tasks : List Task) (old new : Scene) (result : Result (Unit {0}) Cut) (link : Link) → (does : Does target tasks old result new)
+      → AllByRecursion IsPlain tasks → LeavesLink result new.place link → Took (course_does target items tasks old new result does) old.place (tail_for result) link
+  took_does target items tasks old new (Ok done) link went plain leaves =
+      subst (λ (l : Link). Took (course items went.dones [] []) old.place [] l) (sym leaves)
+      (all_done joining paced items went.dones [] old.place new.place new.place.link went.went.talked (subst (AllByRecursion IsPlain) went.all plain) went.went.each (goes_nothing [] new.place.link))
+  took_does target items tasks old new (Err cut) link fell plain leaves =
+      subst (λ (l : Link). Took (course_stopped target items fell.dones fell.next fell.mid new cut fell.stops) old.place (tail_turns (tail cut.fault)) l) (sym leaves.2)
+      (took_stopped joining paced items target fell.dones fell.next old fell.mid new cut leaves.0 fell.went
+      (all_front IsPlain (tasks_of fell.dones ++ fell.next ∷ []) fell.later
+      (subst (AllByRecursion IsPlain) (fell.split ∙ sym (append_assoc (tasks_of fell.dones) (fell.next ∷ []) fell.later)) plain)) fell.stops leaves.1)
+
+  module _ (settings : Settings) (target : Target) (items : List Item) (now : ℕ) (place : Place) (store : Stores) (file : Stored) (lines : List ReportLine) (few : length items ≤ 100000) where
+    dealing_carried : (result : Result (Unit {0}) Cut) (new : Scene) (skipped : ℕ) (link : Link) → (is : Carried settings target items now place store file lines result new skipped)
+        → LeavesLink result new.place link → Dealing settings target items now store file lines new.lines (course_carried settings target items now place store file lines result new skipped is) place result link
+    dealing_carried result new skipped link is leaves = record {
+      rows = is.mid.rows;
+      ahead = subst (λ (first : List ReportLine). Ahead target items (tasks_ahead settings target items now store is.mid.rows) first new.lines result (course_carried settings target items now place store file lines result new skipped is))
+          is.prepared.lines_are (ahead_does target items (tasks_ahead settings target items now store is.mid.rows) is.mid new result is.does);
+      took = subst (λ (p : Place). Took (course_carried settings target items now place store file lines result new skipped is) p (tail_for result) link) is.prepared.place_is
+          (took_does target items (tasks_ahead settings target items now store is.mid.rows) is.mid new result link is.does (plain_ahead settings target items now store is.mid.rows few) leaves);
+      found = inl (found_prepared target items now place store file lines is.mid is.prepared);
+    }
+
+    dealing_unprepared : (cut : Cut) (new : Scene) (link : Link) → Unprepared target items now place store file lines cut new → LeavesLink (Err cut) new.place link
+        → Dealing settings target items now store file lines new.lines (course items [] [] []) place (Err cut) link
+    dealing_unprepared cut new link is leaves = record {
+      rows = [];
+      ahead = record {
+        later = tasks_ahead settings target items now store [];
+        same_items = refl;
+        split = refl;
+        told = is.lines_are ∙ sym (append-nil lines);
+        spare = λ reply e. no_spare reply e;
+        whole = tt;
+      };
+      took = subst (λ (l : Link). Took (course items [] [] []) place (tail_turns (tail cut.fault)) l) (sym leaves.2)
+          (took_nothing joining paced items cut place leaves.0 is.none (subst (λ (p : Place). Left cut p leaves.0) is.place_is leaves.1));
+      found = inr refl;
+    }
+
+    pub dealing : (result : Result (Unit {0}) Cut) (place' : Place) (store' : Stores) (file' : Stored) (lines' : List ReportLine) (skipped : ℕ) (link : Link)
+        → (is : Carries settings target items now place store file lines result place' store' file' lines' skipped) → LeavesLink result place' link
+        → Dealing settings target items now store file lines lines' (course_carries settings target items now place store file lines result place' store' file' lines' skipped is) place result link
+    dealing (Ok done) place' store' file' lines' skipped link is leaves = dealing_carried (Ok done) (scene place' store' file' is.0 lines') skipped link is.1 leaves
+    dealing (Err cut) place' store' file' lines' skipped link (rows, inl (none, unprepared)) leaves = dealing_unprepared cut (scene place' store' file' rows lines') link unprepared leaves
+    dealing (Err cut) place' store' file' lines' skipped link (rows, inr is) leaves = dealing_carried (Err cut) (scene place' store' file' rows lines') skipped link is leaves
+
+-- ---- The turns of a plan's tasks are the plan's commands, and each text that was taken is a line of the report.
+
+-- one step's tasks, and those after them
+step_turns : (retrieve held delete : Bool) (number size : ℕ) (uid : List ℕ) (tasks last : List Task) (commands ends : List Command)
+    → flat_map turns_in (tasks ++ last) ≡ map Some (commands ++ ends)
+    → flat_map turns_in (((fetching retrieve held number uid size ++ deleting delete number) ++ tasks) ++ last) ≡ map Some (((asked_if retrieve (Retr number) ++ asked_if delete (Dele number)) ++ commands) ++ ends)
+step_turns true true true number size uid tasks last commands ends later = ap (λ (ts : List Turn). Some (Retr number) ∷ Some (Dele number) ∷ ts) later
+step_turns true true false number size uid tasks last commands ends later = ap (λ (ts : List Turn). Some (Retr number) ∷ ts) later
+step_turns true false true number size uid tasks last commands ends later = ap (λ (ts : List Turn). Some (Retr number) ∷ Some (Dele number) ∷ ts) later
+step_turns true false false number size uid tasks last commands ends later = ap (λ (ts : List Turn). Some (Retr number) ∷ ts) later
+step_turns false held true number size uid tasks last commands ends later = ap (λ (ts : List Turn). Some (Dele number) ∷ ts) later
+step_turns false held false number size uid tasks last commands ends later = later
+
+plan_same : (held : Item → Bool) (f : ℕ × Item → Step) (n : ℕ) (items : List Item)
+    → flat_map turns_in (tasks_planned (map f (enumerate_from n items)) items (map held items) ++ says quit ∷ [])
+    ≡ map Some (flat_map step_commands (map f (enumerate_from n items)) ++ Quit ∷ [])
+plan_same held f n [] = refl
+plan_same held f n (i ∷ items) =
+    let s = f (n, i) in
+    step_turns s.retrieve (held i) s.delete s.number i.size i.uid
+    (tasks_planned (map f (enumerate_from (n + 1) items)) items (map held items)) (says quit ∷ [])
+    (flat_map step_commands (map f (enumerate_from (n + 1) items))) (Quit ∷ []) (plan_same held f (n + 1) items)
+
+pub turns_ahead : (settings : Settings) (target : Target) (items : List Item) (now : ℕ) (store : Stores) (rows : List Row)
+    → flat_map turns_in (tasks_ahead settings target items now store rows) ≡ map Some (flat_map step_commands (planned settings rows items now) ++ Quit ∷ [])
+turns_ahead settings (AsFiles account) items now store rows = plan_same (λ (item : Item). is_held account store.maildir item.uid) (step_of settings rows items now) 1 items
+turns_ahead settings AsEntries items now store rows = plan_same (λ (item : Item). false) (step_of settings rows items now) 1 items
+
+-- ---- how many texts were taken
+
+pub count_on : {A : Type 0} (p : A → Bool) (xs ys : List A) → count_by p (xs ++ ys) ≡ count_by p xs + count_by p ys
+count_on {A = A} p xs ys = sum_by-append (λ (x : A). cond (p x) 1 0) xs ys
+
+taken_first : (task : Task) (replies : List WholeReply) → IsPlain task → AllZip IsGood (turns_in task) replies → count_by is_taken (lines_in task replies) ≡ retrieved_by (turns_in task)
+taken_first (says turn) replies is good = subst (λ (t : Turn). 0 ≡ retrieved_by (t ∷ [])) (sym is) refl
+taken_first (skips number size) replies is good = refl
+taken_first (stores number uid) replies is good = one_reply (λ (rs : List WholeReply). count_by is_taken (lines_in (stores number uid) rs) ≡ 1) (retr number) replies good (λ r g. refl)
+taken_first (rereads number uid) replies is good = one_reply (λ (rs : List WholeReply). count_by is_taken (lines_in (rereads number uid) rs) ≡ 1) (retr number) replies good (λ r g. refl)
+taken_first (deletes number) replies is good = refl
+
+pub taken_same : (dones : List Done) → AllByRecursion IsPlain (tasks_of dones) → AllByRecursion IsAnswered dones → count_by is_taken (lines_of dones) ≡ retrieved_by (turns_of dones)
+taken_same [] plain each = refl
+taken_same (d ∷ dones) plain each =
+    count_on is_taken (lines_in d.task d.replies) (lines_of dones)
+    ∙ ap (λ (n : ℕ). n + count_by is_taken (lines_of dones)) (taken_first d.task d.replies plain.0 each.0)
+    ∙ ap (λ (n : ℕ). retrieved_by (turns_in d.task) + n) (taken_same dones plain.1 each.1)
+    ∙ sym (count_on is_retrieval (turns_in d.task) (turns_of dones))
+
+-- ---- What a session said: as a plan has it if its listing was joined, and else the opening alone.
+
+abbrev pub name_of : Settings → List ℕ
+name_of settings = string_bytes settings.username
+
+abbrev pub word_of : Settings → List ℕ
+word_of settings = string_bytes settings.password
+
+-- these octets are those of the first commands of the plan of these steps
+pub record Follows (settings : Settings) (steps : List Step) (sent : List ℕ) : Type 0 where
+  pub commands : List Command
+  pub asked : Asked commands sent
+  pub front : IsFrontOfPlan (name_of settings) (word_of settings) steps commands
+
+-- ---- the listing was joined
+
+pub record Planned (settings : Settings) (target : Target) (now : ℕ) (before : Keeping) (link link' : Link) (result : Result (Unit {0}) Cut) (lines : List ReportLine) (c : Course) : Type 0 where
+  pub items : List Item
+  pub mid : Place
+  pub count : ℕ
+  pub uids : List UidRow
+  pub sizes : List ScanRow
+  pub opened : Opened (name_of settings) (word_of settings) (at link []) mid count uids sizes
+  pub joins : Joins count uids sizes items
+  pub by : Dealing settings target items now before.store before.file [] lines c mid result link'
+  pub plain : AllByRecursion IsPlain (begun_of c)
+  pub sent : List ℕ
+  pub got : List ℕ
+  pub sent_is : link'.sent ≡ link.sent ++ sent
+  pub got_is : link'.got ≡ link.got ++ got
+  pub speaks : Speaks c (tail_for result) sent got
+  pub is : Conversation (opening (name_of settings) (word_of settings) ++ by.took.done) ((opened.welcome ++ opened.counted ∷ opened.named ∷ opened.sized ∷ []) ++ by.took.replies) by.took.begun (tail_for result) sent got
+  pub split : plan_turns (name_of settings) (word_of settings) (planned settings by.rows items now) ≡ (opening (name_of settings) (word_of settings) ++ by.took.done) ++ (by.took.begun ++ flat_map turns_in by.ahead.later)
+  pub follows : Follows settings (planned settings by.rows items now) sent
+
+-- what a session said: with no listing, the opening alone
+abbrev pub Spoke : Settings → Target → ℕ → Keeping → Link → Link → Result (Unit {0}) Cut → List ReportLine → Way → Type 0
+Spoke settings target now before link link' result lines Idle = OpensAlone (name_of settings) (word_of settings) (tail_for result) link link'
+Spoke settings target now before link link' result lines (Deals c) = Planned settings target now before link link' result lines c
+
+module _ (joining : TurnsJoin) (paced : ConversationsArePaced) (law : FrontsAreAsked) (settings : Settings) (valid : IsValid settings) (target : Target) (now : ℕ) (link link' : Link) (before after : Keeping)
+    (new : Place) (notes : Noted) where
+  abbrev name : List ℕ
+  name = name_of settings
+
+  abbrev word : List ℕ
+  word = word_of settings
+
+  planned_talk : (result : Result (Unit {0}) Cut) → (is : Dealt settings target now (at link []) before result new after notes) → LeavesLink result new link'
+      → Planned settings target now before link link' result notes.lines (course_dealt settings target now (at link []) before result new after notes is)
+  planned_talk result is leaves = record {
+    items = is.items;
+    mid = is.mid;
+    count = is.enters.0;
+    uids = is.enters.1;
+    sizes = is.enters.2;
+    opened = opened;
+    joins = is.enters.4;
+    by = by;
+    plain = plain;
+    sent = all.0;
+    got = all.1;
+    sent_is = all.2;
+    got_is = all.3;
+    speaks = all.4;
+    is = all.5;
+    split = split;
+    follows = record {
+      commands = commands_in (opening name word ++ by.took.done) ++ (whole.ahead ++ whole.ends);
+      asked = whole.asked;
+      front = front_of_plan name word (planned settings by.rows is.items now) (opening name word ++ by.took.done) by.took.begun (flat_map turns_in by.ahead.later) (tail_for result) all.0 split (is_tail_for result) whole;
+    };
+  }
+    where
+      c : Course
+      c = course_dealt settings target now (at link []) before result new after notes is
+
+      opened : Opened name word (at link []) is.mid is.enters.0 is.enters.1 is.enters.2
+      opened = is.enters.3
+
+      replies : List WholeReply
+      replies = opened.welcome ++ opened.counted ∷ opened.named ∷ opened.sized ∷ []
+
+      few : length is.items ≤ 100000
+      few = few_items opened.counted is.enters.0 is.enters.1 is.enters.2 is.items (replied name word opened.welcome opened.counted opened.named opened.sized opened.talked.good).good.1.1.1.0 opened.tells is.enters.4
+
+      by : Dealing settings target is.items now before.store before.file [] notes.lines c is.mid result link'
+      by = dealing joining paced settings target is.items now is.mid before.store before.file [] few result new after.store after.file notes.lines notes.skipped link' is.carries leaves
+
+      plain : AllByRecursion IsPlain (begun_of c)
+      plain = all_front IsPlain (begun_of c) by.ahead.later (subst (AllByRecursion IsPlain) by.ahead.split (plain_ahead settings target is.items now before.store by.rows few))
+
+      all : (sent got : List ℕ) × (link'.sent ≡ link.sent ++ sent) × (link'.got ≡ link.got ++ got) × Speaks c (tail_for result) sent got
+          × Conversation (opening name word ++ by.took.done) (replies ++ by.took.replies) by.took.begun (tail_for result) sent got
+      all = spoken joining law name word valid.valid_username valid.valid_password c is.enters.0 is.enters.1 is.enters.2 (at link []) is.mid (tail_for result) (is_tail_for result) link' refl
+          opened (subst (Joins is.enters.0 is.enters.1 is.enters.2) (sym by.ahead.same_items) is.enters.4) plain by.took
+
+      tasks : map Some (flat_map step_commands (planned settings by.rows is.items now) ++ Quit ∷ []) ≡ by.took.done ++ (by.took.begun ++ flat_map turns_in by.ahead.later)
+      tasks = sym (turns_ahead settings target is.items now before.store by.rows) ∙ ap (λ (ts : List Task). flat_map turns_in ts) by.ahead.split
+          ∙ flat_map-append turns_in (begun_of c) by.ahead.later ∙ ap (λ (ts : List Turn). ts ++ flat_map turns_in by.ahead.later) by.took.all
+          ∙ append_assoc by.took.done by.took.begun (flat_map turns_in by.ahead.later)
+
+      split : plan_turns name word (planned settings by.rows is.items now) ≡ (opening name word ++ by.took.done) ++ (by.took.begun ++ flat_map turns_in by.ahead.later)
+      split = ap (λ (ts : List Turn). opening name word ++ ts) tasks ∙ sym (append_assoc (opening name word) by.took.done (by.took.begun ++ flat_map turns_in by.ahead.later))
+
+      whole : Commanded (opening name word ++ by.took.done) by.took.begun (tail_for result) all.0
+      whole = commanded_after law name word valid.valid_username valid.valid_password by.took.done by.took.begun (tail_for result) (replies ++ by.took.replies) all.0 all.1 (is_tail_for result)
+          (subst (AllByRecursion CanBeSaid) by.took.all (said_tasks (begun_of c) plain)) all.5
+
+  -- ---- it wasn't, or nothing was done with it
+
+  opens : (cut : Cut) → NotEntered settings (at link []) before cut new after notes ⊎ NoRoom settings (at link []) before cut new after notes → LeavesLink (Err cut) new link'
+      → OpensAlone name word (tail_turns (tail cut.fault)) link link'
+  opens cut is leaves = subst (λ (l : Link). OpensAlone name word (tail_turns (tail cut.fault)) link l) (sym leaves.2) (by is)
+    where
+      said : (fault : Fault) → cut.fault ≡ fault → ((result : Result (Unit {0}) Fault) → Talks (tail_turns (tail fault)) new result leaves.0 → OpensAlone name word (tail_turns (tail fault)) link leaves.0.link)
+          → (result : Result (Unit {0}) Fault) × Talks (tail_turns (tail fault)) new result leaves.0 → OpensAlone name word (tail_turns (tail cut.fault)) link leaves.0.link
+      said fault same f talks = subst (λ (f : Fault). OpensAlone name word (tail_turns (tail f)) link leaves.0.link) (sym same) (f talks.0 talks.1)
+
+      by : NotEntered settings (at link []) before cut new after notes ⊎ NoRoom settings (at link []) before cut new after notes → OpensAlone name word (tail_turns (tail cut.fault)) link leaves.0.link
+      by (inl is) = said is.why (ap (λ (c : Cut). c.fault) is.is) (opens_cut paced name word (at link []) new leaves.0 refl is.why is.enters) (subst (λ (c : Cut). Left c new leaves.0) is.is leaves.1)
+      by (inr is) =
+          said NoMemory (ap (λ (c : Cut). c.fault) is.is) (opens_all paced name word (at link []) new leaves.0 refl is.enters.0 is.enters.1 is.enters.2 (tail_turns (tail NoMemory)) is.enters.3)
+          (subst (λ (c : Cut). Left c new leaves.0) is.is leaves.1)
+
+  -- ---- by how far it came
+
+  spoke : (result : Result (Unit {0}) Cut) → (is : Proceeds settings target now (at link []) before result new after notes) → LeavesLink result new link'
+      → Spoke settings target now before link link' result notes.lines (way_proceeded settings target now (at link []) before result new after notes is)
+  spoke (Ok done) is leaves = planned_talk (Ok done) is leaves
+  spoke (Err cut) (inl is) leaves = opens cut (inl is) leaves
+  spoke (Err cut) (inr (inl is)) leaves = opens cut (inr is) leaves
+  spoke (Err cut) (inr (inr is)) leaves = planned_talk (Err cut) is leaves
+
+pub session_spoke : TurnsJoin → ConversationsArePaced → FrontsAreAsked → (settings : Settings) → IsValid settings → (target : Target) (now : ℕ) (link : Link) (before : Keeping) (report : Report) (link' : Link) (after : Keeping)
+    → (session : SessionIn settings target now link before report link' after)
+    → Spoke settings target now before link link' session.result session.notes.lines (way_of settings target now link before report link' after session)
+session_spoke joining paced law settings valid target now link before report link' after session =
+    spoke joining paced law settings valid target now link link' before after session.mid session.notes session.result session.proceeds session.leaves
+
+four : (a b c d : List Turn) → (a ++ (b ++ c)) ++ d ≡ a ++ (b ++ (c ++ d))
+four a b c d = simp append_assoc
+
+-- its commands are the first of a plan without steps
+pub follows_none : FrontsAreAsked → (settings : Settings) → IsValid settings → (turns : List Turn) → IsTail turns → (link link' : Link) → (it : OpensAlone (name_of settings) (word_of settings) turns link link')
+    → Follows settings [] it.sent
+follows_none law settings valid turns kind link link' it = record {
+  commands = commands_in it.said.done ++ (whole.ahead ++ whole.ends);
+  asked = whole.asked;
+  front = front_of_plan (name_of settings) (word_of settings) [] it.said.done it.said.begun (it.said.later ++ quit ∷ []) turns it.sent
+      (ap (λ (ts : List Turn). ts ++ quit ∷ []) it.said.split ∙ four it.said.done it.said.begun it.said.later (quit ∷ [])) kind whole;
+}
+  where
+    whole : Commanded it.said.done it.said.begun turns it.sent
+    whole = commanded_opening law (name_of settings) (word_of settings) valid.valid_username valid.valid_password turns kind it.sent it.got it.said
+
+-- ---- Each session is one conversation, which the law over runs takes.
+
+-- what the law over runs takes of what was sent and read
+abbrev pub Tells : Way → List Turn → List ℕ → List ℕ → Type 0
+Tells Idle turns sent got = (commands : List Command) × (asked : Asked commands sent) × AllByRecursion (IsOfTask []) commands × BeginsOne (IsOfTask []) asked.part
+Tells (Deals c) turns sent got = Speaks c turns sent got
+
+pub record Gained (way : Way) (turns : List Turn) (old new : Link) : Type 0 where
+  pub sent : List ℕ
+  pub got : List ℕ
+  pub sent_is : new.sent ≡ old.sent ++ sent
+  pub got_is : new.got ≡ old.got ++ got
+  pub tells : Tells way turns sent got
+
+-- what each session sent and read
+pub talks : TurnsJoin → ConversationsArePaced → FrontsAreAsked → (settings : Settings) (target : Target) (now : ℕ) (link : Link) (before : Keeping) (report : Report) (link' : Link) (after : Keeping)
+    → IsValid settings → (session : SessionIn settings target now link before report link' after) → Gained (way_of settings target now link before report link' after session) (tail_for session.result) link link'
+talks joining paced law settings target now link before report link' after valid session =
+    by (way_of settings target now link before report link' after session) (session_spoke joining paced law settings valid target now link before report link' after session)
+  where
+    by : (way : Way) → Spoke settings target now before link link' session.result session.notes.lines way → Gained way (tail_for session.result) link link'
+    by Idle it = record {
+      sent = it.sent;
+      got = it.got;
+      sent_is = it.sent_is;
+      got_is = it.got_is;
+      tells = idle_said law (name_of settings) (word_of settings) valid.valid_username valid.valid_password (tail_for session.result) (is_tail_for session.result) it.sent it.got it.said;
+    }
+    by (Deals c) p = record { sent = p.sent; got = p.got; sent_is = p.sent_is; got_is = p.got_is; tells = p.speaks }
+
+-- ---- What a session with an mboxrd file sends follows a plan.
+
+plan_of : (settings : Settings) (steps : List Step) (sent : List ℕ) → Follows settings steps sent → FollowsPlan settings sent
+plan_of settings steps sent follows = record { steps = steps; commands = follows.commands; asked = follows.asked; front = follows.front }
+
+pub mbox_sessions_follow_plans : TurnsJoin → ConversationsArePaced → FrontsAreAsked → MboxSessionsFollowPlans
+mbox_sessions_follow_plans joining paced law settings now link before report link' after valid session =
+    by (way_of settings AsEntries now link (keeps_entries before) report link' (keeps_entries after) session)
+    (session_spoke joining paced law settings valid AsEntries now link (keeps_entries before) report link' (keeps_entries after) session)
+  where
+    by : (way : Way) → Spoke settings AsEntries now (keeps_entries before) link link' session.result session.notes.lines way → (sent : List ℕ) × (link'.sent ≡ link.sent ++ sent) × FollowsPlan settings sent
+    by Idle it = (it.sent, it.sent_is, plan_of settings [] it.sent (follows_none law settings valid (tail_for session.result) (is_tail_for session.result) link link' it))
+    by (Deals c) p = (p.sent, p.sent_is, plan_of settings (planned settings p.by.rows p.items now) p.sent p.follows)
 
 -- ---- the turns
 
@@ -144,38 +475,32 @@ counts name word taken spare done begun count outcome is refused (inr (number, s
       ),
     )
 
-pub tail_is : (result : Result (Unit {0}) Cut) → tail_for result ≡ tail_behind (outcome_of result)
-tail_is (Ok done) = refl
-tail_is (Err cut) = refl
-
 abbrev outcome : Outcome → Outcome
 outcome o = o
 
 not_ended : (fault : Fault) → outcome (WasCut fault) ≡ outcome Ended → ⊥
 not_ended fault e = cc
 
-module _ (joining : TurnsJoin) (paced : ConversationsArePaced) (law : FrontsAreAsked) (settings : Settings) (valid : IsValid settings) (account : List ℕ) (now : ℕ) (link link' : Link) (before after : Kept)
-    (new : Place) (notes : Noted) (report : Report) where
-  abbrev Said : Type 0
-  Said = (sent got : List ℕ) × (link'.sent ≡ link.sent ++ sent) × (link'.got ≡ link.got ++ got)
-      × (Opens settings report sent got ⊎ SpeaksByPlan settings account now before report sent got)
+whole_ended : (result : Result (Unit {0}) Cut) (under later : List Task) → IsWhole result under later → outcome_of result ≡ Ended → (under ≡ []) × (later ≡ [])
+whole_ended (Ok done) under later whole ended = whole
+whole_ended (Err cut) under later whole ended = absurd (not_ended cut.fault ended)
 
+module _ (settings : Settings) (account : List ℕ) (now : ℕ) (link link' : Link) (before : Kept) (notes : Noted) (report : Report) (result : Result (Unit {0}) Cut)
+    (tells : Reports (outcome_of result) notes.total notes.skipped notes.lines report) where
   -- if the listing was joined
-  by_plan : (result : Result (Unit {0}) Cut) (c : Course) (items : List Item) (mid : Place) → (p : Planned settings (AsFiles account) now (keeps_files before) link link' result c items mid)
-      → report.outcome ≡ outcome_of result → report.retrieved ≡ count_by is_taken notes.lines → notes.lines ≡ lines_of c.taken → (report.outcome ≡ Ended → (c.under ≡ []) × (p.by.ahead.0 ≡ []))
-      → ((reply : WholeReply) → c.spare ≡ reply ∷ [] → report.outcome ≡ WasCut (StoreRefused Refused)) → SpeaksByPlan settings account now before report p.sent p.got
-  by_plan result c items mid p outcome_is retrieved noted ended refused = record {
-    items = items;
+  by_plan : (c : Course) → (p : Planned settings (AsFiles account) now (keeps_files before) link link' result notes.lines c) → SpeaksByPlan settings account now before report p.sent p.got
+  by_plan c p = record {
+    items = p.items;
     rows = p.by.rows;
     said = record {
       done = opening (name_of settings) (word_of settings) ++ p.by.took.done;
       begun = p.by.took.begun;
-      later = flat_map turns_in p.by.ahead.0;
+      later = flat_map turns_in p.by.ahead.later;
       replies = (p.opened.welcome ++ p.opened.counted ∷ p.opened.named ∷ p.opened.sized ∷ []) ++ p.by.took.replies;
       split = p.split;
       one = p.by.took.one;
       is = subst (λ (ts : List Turn). Conversation (opening (name_of settings) (word_of settings) ++ p.by.took.done) ((p.opened.welcome ++ p.opened.counted ∷ p.opened.named ∷ p.opened.sized ∷ []) ++ p.by.took.replies) p.by.took.begun ts p.sent p.got)
-          (tail_is result ∙ sym (ap tail_behind outcome_is)) p.is;
+          (sym (ap tail_behind tells.outcome_is)) p.is;
     };
     found = elim p.by.found [
       | inl found ↦ inl found
@@ -194,61 +519,37 @@ module _ (joining : TurnsJoin) (paced : ConversationsArePaced) (law : FrontsAreA
     list = p.opened.sized;
     more = p.by.took.replies;
     replies = ap (λ (ws : List WholeReply). (ws ++ p.opened.counted ∷ p.opened.named ∷ p.opened.sized ∷ []) ++ p.by.took.replies) r.is;
-    listed = listed (name_of settings) (word_of settings) (at link []) mid p.count p.uids p.sizes items p.opened p.joins;
-    counts = counts (name_of settings) (word_of settings) c.taken c.spare p.by.took.done p.by.took.begun report.retrieved report.outcome number refused p.by.took.asks;
-    ended = λ is. (p.by.took.whole (ended is).0, ap (λ (ts : List Task). flat_map turns_in ts) (ended is).1);
+    listed = listed (name_of settings) (word_of settings) (at link []) p.mid p.count p.uids p.sizes p.items p.opened p.joins;
+    counts = counts (name_of settings) (word_of settings) c.taken c.spare p.by.took.done p.by.took.begun report.retrieved report.outcome number (λ reply e. tells.outcome_is ∙ p.by.ahead.spare reply e) p.by.took.asks;
+    ended = λ is.
+        let whole = whole_ended result c.under p.by.ahead.later p.by.ahead.whole (sym tells.outcome_is ∙ is) in
+        (p.by.took.whole whole.0, ap (λ (ts : List Task). flat_map turns_in ts) whole.1);
   }
     where
       r : Replied (name_of settings) (word_of settings) p.opened.welcome p.opened.counted p.opened.named p.opened.sized
       r = replied (name_of settings) (word_of settings) p.opened.welcome p.opened.counted p.opened.named p.opened.sized p.opened.talked.good
 
       number : retrieved_by (turns_of c.taken) ≡ report.retrieved
-      number = sym (taken_same c.taken (all_front IsPlain (tasks_of c.taken) c.under p.plain) p.by.took.each) ∙ ap (λ (l : List ReportLine). count_by is_taken l) (sym noted) ∙ sym retrieved
-
-  dealt : (result : Result (Unit {0}) Cut) → Reports (outcome_of result) notes.total notes.skipped notes.lines report → Dealt settings account now (at link []) before result new after notes → LeavesLink result new link' → Said
-  dealt result tells is leaves =
-      let p = planned_talk joining paced law settings valid (AsFiles account) now link link' (keeps_files before) (keeps_files after) new notes result is leaves in (
-        p.sent,
-        p.got,
-        p.sent_is,
-        p.got_is,
-        inr (by_plan result c is.items is.mid p tells.outcome_is tells.retrieved_is
-            (lines_carries settings account is.items now is.mid before.maildir before.file result new after.maildir after.file notes.lines notes.skipped is.carries) (ended result is p.by.ahead.0 p.by.whole tells.outcome_is)
-            (λ reply e. tells.outcome_is ∙ spare_carries settings account is.items now is.mid before.maildir before.file result new after.maildir after.file notes.lines notes.skipped is.carries reply e)),
-      )
-    where
-      c : Course
-      c = course_dealt settings (AsFiles account) now (at link []) (keeps_files before) result new (keeps_files after) notes is
-
-      ended : (result : Result (Unit {0}) Cut) → (is : Dealt settings account now (at link []) before result new after notes) → (later : List Task) → IsWhole result later → report.outcome ≡ outcome_of result → report.outcome ≡ Ended
-          → ((course_dealt settings (AsFiles account) now (at link []) (keeps_files before) result new (keeps_files after) notes is).under ≡ []) × (later ≡ [])
-      ended (Ok done) is later whole came e = (refl, whole)
-      ended (Err cut) is later whole came e = absurd (not_ended cut.fault (sym came ∙ e))
-
-  -- if it wasn't, or nothing was done with it
-  opened : (cut : Cut) → report.outcome ≡ WasCut cut.fault → NotEntered settings (at link []) before cut new after notes ⊎ NoRoom settings (at link []) before cut new after notes → LeavesLink (Err cut) new link' → Said
-  opened cut came is leaves =
-      let it = opens joining paced law settings valid (AsFiles account) now link link' (keeps_files before) (keeps_files after) new notes cut is leaves in
-      let follows = follows_none law settings valid (tail_turns (tail cut.fault)) (is_tail cut.fault) link link' it in (
-        it.sent,
-        it.got,
-        it.sent_is,
-        it.got_is,
-        inl (record {
-          said = subst (λ (ts : List Turn). Converses (opening (name_of settings) (word_of settings)) ts it.sent it.got) (sym (ap tail_behind came)) it.said;
-          commands = follows.commands;
-          asked = follows.asked;
-          front = follows.front;
-        }),
-      )
-
-  proceeded : (result : Result (Unit {0}) Cut) → Reports (outcome_of result) notes.total notes.skipped notes.lines report → Proceeds settings account now (at link []) before result new after notes
-      → LeavesLink result new link' → Said
-  proceeded (Ok done) tells is leaves = dealt (Ok done) tells is leaves
-  proceeded (Err cut) tells (inl is) leaves = opened cut tells.outcome_is (inl is) leaves
-  proceeded (Err cut) tells (inr (inl is)) leaves = opened cut tells.outcome_is (inr is) leaves
-  proceeded (Err cut) tells (inr (inr is)) leaves = dealt (Err cut) tells is leaves
+      number = sym (taken_same c.taken (all_front IsPlain (tasks_of c.taken) c.under p.plain) p.by.took.each) ∙ ap (λ (l : List ReportLine). count_by is_taken l) (sym p.by.ahead.told) ∙ sym tells.retrieved_is
 
 pub sessions_are_conversations : TurnsJoin → ConversationsArePaced → FrontsAreAsked → SessionsAreConversations
 sessions_are_conversations joining paced law settings account now link before report link' after valid session =
-    proceeded joining paced law settings valid account now link link' before after session.mid session.notes report session.result session.reports session.proceeds session.leaves
+    by (way_of settings (AsFiles account) now link (keeps_files before) report link' (keeps_files after) session)
+    (session_spoke joining paced law settings valid (AsFiles account) now link (keeps_files before) report link' (keeps_files after) session)
+  where
+    by : (way : Way) → Spoke settings (AsFiles account) now (keeps_files before) link link' session.result session.notes.lines way
+        → (sent got : List ℕ) × (link'.sent ≡ link.sent ++ sent) × (link'.got ≡ link.got ++ got) × (Opens settings report sent got ⊎ SpeaksByPlan settings account now before report sent got)
+    by Idle it =
+        let follows = follows_none law settings valid (tail_for session.result) (is_tail_for session.result) link link' it in (
+          it.sent,
+          it.got,
+          it.sent_is,
+          it.got_is,
+          inl (record {
+            said = subst (λ (ts : List Turn). Converses (opening (name_of settings) (word_of settings)) ts it.sent it.got) (sym (ap tail_behind session.reports.outcome_is)) it.said;
+            commands = follows.commands;
+            asked = follows.asked;
+            front = follows.front;
+          }),
+        )
+    by (Deals c) p = (p.sent, p.got, p.sent_is, p.got_is, inr (by_plan settings account now link link' before session.notes report session.result session.reports c p))

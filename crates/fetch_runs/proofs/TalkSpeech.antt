@@ -1,37 +1,104 @@
--- What a session with a joined listing sent and read, as the law over runs takes it.
-use Rattle.std.proofs.Common.{◌≡◌, inl, inr, ℕ, List, [], ◌∷◌, ◌++◌, map, true, Option, Some, refl, sym, ap, subst, ◌∙◌, append_assoc}
-use Rattle.std.specs.List.{flat_map, AllByRecursion}
-use Rattle.std.proofs.lemmas.List.{append-nil}
-use Rattle.pop3_wire.specs.declared.command.Command.{Command}
-use Rattle.pop3_wire.specs.declared.command.Command.TheVariants.{User, Pass, Stat, UidlAll, ListAll}
-use Rattle.pop3_wire.specs.Line.{ended}
-use Rattle.pop3_wire.specs.Link.{Link}
+-- What each session sent and read: the opening, what followed it, and the tail.
+use Rattle.std.proofs.Common.{◌≡◌, ◌≤◌, ℕ, List, [], ◌∷◌, ◌++◌, true, length, Option, None, Some, Result, Ok, refl, sym, ap, ◌∙◌, arith, inl, inr, map, subst, append_assoc, Err}
+use Rattle.std.specs.List.{AllByRecursion, AllZip, flat_map}
+use Rattle.std.proofs.lemmas.List.{append_cancel_left, append-nil}
+use Rattle.pop3_wire.specs.declared.fault.WireFault.{WireFault}
+use Rattle.pop3_wire.specs.declared.reply.Status.TheVariants.{Positive}
+use Rattle.pop3_wire.specs.Fields.{number_and_size}
+use Rattle.pop3_wire.specs.Reply.{IsFirstLine, indicator, without_space}
 use Rattle.pop3_wire.specs.Place.{Place}
-use Rattle.pop3_wire.specs.Reading.{WholeReply, body_bytes, reply_bytes}
+use Rattle.pop3_wire.specs.Reading.{WholeReply, TellsCount, body_bytes, reply_bytes}
 use Rattle.mail_terms.specs.Credential.{is_credential}
-use Rattle.mail_terms.specs.Listing.{Joins}
+use Rattle.mail_terms.specs.Listing.{Item, Joins}
 use Rattle.mail_terms.specs.declared.listing.UidRow.{UidRow}
 use Rattle.mail_terms.specs.declared.listing.ScanRow.{ScanRow}
-use Rattle.pop3_client.specs.Turns.{Turn, quit, rset}
-use Rattle.pop3_wire.specs.Honest.{BeginsNext, FrontsAreAsked}
-use Rattle.run_law.specs.Readings.{AreGood, Talked as IsTalked, IsListed, Retrieves}
+use Rattle.pop3_client.specs.Turns.{greeting, stat, IsBody, IsGood, Turn, quit, rset}
+use Rattle.run_law.specs.Readings.{IsListed, AreGood, Talked as IsTalked, Retrieves}
+use Rattle.fetch_session.specs.Opening.{opening, Opened, Enters}
+use Rattle.fetch_runs.proofs.TalkCommands.{CanBeSaid, commands_in, Commanded, commanded, both_none, begins_any, begins_one, all_append, all_front, all_back, IsCommand, IsPlain, reply_read, replies_read, said_tasks, commands_tasks, commands_split, of_tasks}
+use Rattle.pop3_wire.specs.declared.command.Command.{Command}
+use Rattle.pop3_wire.specs.declared.command.Command.TheVariants.{User, Pass, Stat, UidlAll, ListAll, Rset, Quit}
+use Rattle.pop3_wire.specs.Line.{ended}
+use Rattle.pop3_wire.specs.Link.{Link}
+use Rattle.pop3_wire.specs.Honest.{BeginsNext, FrontsAreAsked, Asked}
 use Rattle.run_law.specs.Sessions.{BeginsOne}
-use Rattle.fetch_session.specs.Opening.{opening, Opened}
 use Rattle.fetch_session.specs.Task.{Task, turns_in}
-use Rattle.pop3_client.specs.declared.fault.Asked.TheVariants.{Greeting as ByGreeting, User as ByUser, Pass as ByPass, Stat as ByStat, Uidl as ByUidl, List as ByList, Retr as ByRetr, Dele as ByDele, Quit as ByQuit}
+use Rattle.pop3_client.specs.declared.fault.Asked.TheVariants.{Greeting as ByGreeting, User as ByUser, Pass as ByPass, Stat as ByStat, Uidl as ByUidl, List as ByList, Retr as ByRetr, Dele as ByDele}
 use Rattle.pop3_client.specs.declared.fault.Fault.{Fault}
-use Rattle.pop3_client.specs.declared.fault.Fault.TheVariants.{ConnectionEnded, ReadFailed, WriteFailed, ReplyTooLong, BadReply, Refused, BadListing, ListingsDisagree, TooMany, TextTooLong, StoreRefused, SeenRefused, NoMemory, BadSeen}
+use Rattle.pop3_client.specs.declared.fault.Fault.TheVariants.{Refused, StoreRefused, SeenRefused, BadSeen}
 use Rattle.fetch_session.specs.Tail.{tail, turns_in as tail_turns}
 use Rattle.fetch_session.specs.Laws.{TurnsJoin}
-use Rattle.fetch_runs.specs.Conversations.{Conversation}
+use Rattle.fetch_runs.specs.Conversations.{Conversation, plan_turns, Converses}
 use Rattle.fetch_runs.specs.Steps.{SaysOnly}
 use Rattle.fetch_runs.proofs.Courses.{Course, found_of, begun_of, IsOfTask}
-use Rattle.fetch_runs.proofs.TalkParts.{conversation}
-use Rattle.fetch_runs.proofs.TalkCommands.{commands_in, CanBeSaid, Commanded, commanded, both_none, begins_any, begins_one, all_append, all_front, all_back}
-use Rattle.fetch_runs.proofs.TalkReplies.{IsCommand, IsPlain, reply_read, replies_read}
-use Rattle.fetch_runs.proofs.TalkTasks.{said_tasks, commands_tasks, commands_split, of_tasks}
-use Rattle.fetch_runs.proofs.TalkCourses.{Took}
-use Rattle.fetch_runs.proofs.TalkOpenings.{Replied, replied, no_body, said_opening, listed}
+use Rattle.fetch_runs.proofs.TalkCourses.{conversation, Took, fronted, goes_tail, goes_broke}
+use Rattle.fetch_rules.specs.declared.steps.Step.{Step}
+use Rattle.run_law.specs.Plans.{plan_commands, IsTail as IsTailOf, IsFrontOfPlan}
+use Rattle.pop3_client.specs.Conversation.{ConversationsArePaced, Stopped, Talks}
+
+-- ---- The opening of a session, as the law over runs reads it.
+
+-- the six replies to an opening
+pub record Replied (name word : List ℕ) (welcome : List WholeReply) (counted named sized : WholeReply) : Type 0 where
+  pub hello : WholeReply
+  pub to_user : WholeReply
+  pub to_pass : WholeReply
+  pub is : welcome ≡ hello ∷ to_user ∷ to_pass ∷ []
+  pub good : AllZip IsGood (opening name word) (hello ∷ to_user ∷ to_pass ∷ counted ∷ named ∷ sized ∷ [])
+
+pub replied : (name word : List ℕ) (welcome : List WholeReply) (counted named sized : WholeReply) → AllZip IsGood (opening name word) (welcome ++ counted ∷ named ∷ sized ∷ [])
+    → Replied name word welcome counted named sized
+replied name word [] counted named sized good = absurd good.1.1.1
+replied name word (a ∷ []) counted named sized good = absurd good.1.1.1.1
+replied name word (a ∷ b ∷ []) counted named sized good = absurd good.1.1.1.1.1
+replied name word (a ∷ b ∷ c ∷ []) counted named sized good = record { hello = a; to_user = b; to_pass = c; is = refl; good = good }
+replied name word (a ∷ b ∷ c ∷ d ∷ []) counted named sized good = absurd good.1.1.1.1.1.1
+replied name word (a ∷ b ∷ c ∷ d ∷ e ∷ []) counted named sized good = absurd good.1.1.1.1.1.1
+replied name word (a ∷ b ∷ c ∷ d ∷ e ∷ f ∷ []) counted named sized good = absurd good.1.1.1.1.1.1
+replied name word (a ∷ b ∷ c ∷ d ∷ e ∷ f ∷ g ∷ more) counted named sized good = absurd good.1.1.1.1.1.1
+
+-- the greeting has no body
+no_body_in : (body : Option (List (List ℕ))) → IsBody greeting body → body ≡ None
+no_body_in None is = refl
+no_body_in (Some lines) is = absurd is.1
+
+pub no_body : (hello : WholeReply) → IsGood greeting hello → hello.body ≡ None
+no_body hello good = no_body_in hello.body good.body
+
+-- the opening can be sent
+pub said_opening : (name word : List ℕ) → is_credential name ≡ true → is_credential word ≡ true → AllByRecursion CanBeSaid (opening name word)
+said_opening name word n w = (tt, ((n, tt), ((w, tt), ((refl, tt), ((refl, tt), ((refl, tt), tt))))))
+
+-- ---- how many messages are listed
+
+rest_same : (line rest other : List ℕ) → IsFirstLine line Positive rest → IsFirstLine line Positive other → rest ≡ other
+rest_same line rest other p q = p.2 ∙ ap without_space (append_cancel_left (indicator Positive) p.0 q.0 (sym p.1 ∙ q.1)) ∙ sym q.2
+
+abbrev counted_as : ℕ × ℕ → Result (ℕ × ℕ) WireFault
+counted_as pair = Ok pair
+
+pair_same : (p q : ℕ × ℕ) → counted_as p ≡ counted_as q → p ≡ q
+pair_same p q e = cc
+
+count_same : (a b c d : ℕ) → counted_as (a, b) ≡ counted_as (c, d) → a ≡ c
+count_same a b c d e = ap (λ (p : ℕ × ℕ). p.0) (pair_same (a, b) (c, d) e)
+
+pub few_items : (counted : WholeReply) (count : ℕ) (uids : List UidRow) (sizes : List ScanRow) (items : List Item) → IsGood stat counted → TellsCount counted count → Joins count uids sizes items
+    → length items ≤ 100000
+few_items counted count uids sizes items good tells joins =
+    let fits = good.fits refl in
+    let same : fits.0 ≡ count = count_same fits.0 fits.1 count tells.1 (sym fits.2 ∙ ap number_and_size (rest_same counted.first good.rest tells.0 good.positive tells.2) ∙ tells.3) in
+    let all : length items ≡ count = joins.count in
+    let within : fits.0 ≤ 100000 = fits.3 in
+    omega arith
+
+-- the listing that the replies give
+pub listed : (name word : List ℕ) (old new : Place) (count : ℕ) (uids : List UidRow) (sizes : List ScanRow) (items : List Item) → (opened : Opened name word old new count uids sizes)
+    → Joins count uids sizes items → IsListed opened.counted opened.named opened.sized items
+listed name word old new count uids sizes items opened joins =
+    record { count = count; uids = uids; sizes = sizes; counts = opened.tells; named = opened.names; sized = opened.octets; joined = joins }
+
+-- ---- What a session with a joined listing sent and read, as the law over runs takes it.
 
 pub record Speaks (c : Course) (turns : List Turn) (sent got : List ℕ) : Type 0 where
   pub name : List ℕ
@@ -86,29 +153,25 @@ of_tail_tasks tasks turns silent = tt
 of_tail_tasks tasks turns leaves = (tt, tt)
 of_tail_tasks tasks turns undoes = (tt, (tt, tt))
 
--- a RETR or DELE that was sent is a task's: a tail has none
-pub said_of_tasks : (tasks : List Task) (done begun turns : List Turn) (sent : List ℕ) → IsTail turns → (c : Commanded done begun turns sent)
-    → AllByRecursion (IsOfTask tasks) (commands_in done ++ commands_in begun) → AllByRecursion (IsOfTask tasks) (commands_in done ++ (c.ahead ++ c.ends))
-said_of_tasks tasks done begun turns sent kind c all =
-    all_append (IsOfTask tasks) (commands_in done) (c.ahead ++ c.ends) (all_front (IsOfTask tasks) (commands_in done) (commands_in begun) all)
-    (all_append (IsOfTask tasks) c.ahead c.ends
-    (all_front (IsOfTask tasks) c.ahead c.unsaid (subst (AllByRecursion (IsOfTask tasks)) c.of_begun (all_back (IsOfTask tasks) (commands_in done) (commands_in begun) all)))
-    (all_front (IsOfTask tasks) c.ends c.unended (subst (AllByRecursion (IsOfTask tasks)) c.of_tail (of_tail_tasks tasks turns kind))))
+module _ (tasks : List Task) {done begun turns : List Turn} {sent : List ℕ} (kind : IsTail turns) (c : Commanded done begun turns sent) (all : AllByRecursion (IsOfTask tasks) (commands_in done ++ commands_in begun)) where
+  begun_of_tasks : AllByRecursion (IsOfTask tasks) (c.ahead ++ c.unsaid)
+  begun_of_tasks = subst (AllByRecursion (IsOfTask tasks)) c.of_begun (all_back (IsOfTask tasks) (commands_in done) (commands_in begun) all)
 
--- so is one that was begun after them
-pub next_of_tasks : (tasks : List Task) (done begun turns : List Turn) (sent : List ℕ) → IsTail turns → (c : Commanded done begun turns sent)
-    → AllByRecursion (IsOfTask tasks) (commands_in done ++ commands_in begun) → BeginsOne (IsOfTask tasks) c.asked.part
-next_of_tasks tasks done begun turns sent kind c all = begins_one (IsOfTask tasks) c.next c.asked.part c.begins by_kind
-  where
-    by_kind : AllByRecursion (IsOfTask tasks) c.next
-    by_kind = elim c.next_is [
-      | inl is ↦
-          subst (AllByRecursion (IsOfTask tasks)) (sym is)
-          (all_back (IsOfTask tasks) c.ahead c.unsaid (subst (AllByRecursion (IsOfTask tasks)) c.of_begun (all_back (IsOfTask tasks) (commands_in done) (commands_in begun) all)))
-      | inr is ↦
-          subst (AllByRecursion (IsOfTask tasks)) (sym is)
-          (all_back (IsOfTask tasks) c.ends c.unended (subst (AllByRecursion (IsOfTask tasks)) c.of_tail (of_tail_tasks tasks turns kind)))
-    ]
+  ends_of_tasks : AllByRecursion (IsOfTask tasks) (c.ends ++ c.unended)
+  ends_of_tasks = subst (AllByRecursion (IsOfTask tasks)) c.of_tail (of_tail_tasks tasks turns kind)
+
+  -- a RETR or DELE that was sent is a task's: a tail has none
+  pub said_of_tasks : AllByRecursion (IsOfTask tasks) (commands_in done ++ (c.ahead ++ c.ends))
+  said_of_tasks =
+      all_append (IsOfTask tasks) (commands_in done) (c.ahead ++ c.ends) (all_front (IsOfTask tasks) (commands_in done) (commands_in begun) all)
+      (all_append (IsOfTask tasks) c.ahead c.ends (all_front (IsOfTask tasks) c.ahead c.unsaid begun_of_tasks) (all_front (IsOfTask tasks) c.ends c.unended ends_of_tasks))
+
+  -- so is one that was begun after them
+  pub next_of_tasks : BeginsOne (IsOfTask tasks) c.asked.part
+  next_of_tasks = begins_one (IsOfTask tasks) c.next c.asked.part c.begins (elim c.next_is [
+    | inl is ↦ subst (AllByRecursion (IsOfTask tasks)) (sym is) (all_back (IsOfTask tasks) c.ahead c.unsaid begun_of_tasks)
+    | inr is ↦ subst (AllByRecursion (IsOfTask tasks)) (sym is) (all_back (IsOfTask tasks) c.ends c.unended ends_of_tasks)
+  ])
 
 -- the commands of the opening's turns and of turns after them
 pub commanded_after : FrontsAreAsked → (name word : List ℕ) → is_credential name ≡ true → is_credential word ≡ true → (done begun turns : List Turn) (replies : List WholeReply) (sent got : List ℕ)
@@ -154,7 +217,7 @@ module _ (joining : TurnsJoin) (law : FrontsAreAsked) (name word : List ℕ) (na
     listed = listed name word start mid count uids sizes c.items opened joins;
     retrieves = took.read (whole.ahead ++ whole.ends);
     deletes = (tt, (tt, (tt, (tt, (tt, all_of_tasks)))));
-    next = next_of_tasks (begun_of c) (opening name word ++ took.done) took.begun turns sent kind whole (tt, (tt, (tt, (tt, (tt, tasked)))));
+    next = next_of_tasks (begun_of c) kind whole (tt, (tt, (tt, (tt, (tt, tasked)))));
     stops = says_only;
   }
     where
@@ -191,7 +254,7 @@ module _ (joining : TurnsJoin) (law : FrontsAreAsked) (name word : List ℕ) (na
           }
 
       all_of_tasks : AllByRecursion (IsOfTask (begun_of c)) (commands_in took.done ++ (whole.ahead ++ whole.ends))
-      all_of_tasks = (said_of_tasks (begun_of c) (opening name word ++ took.done) took.begun turns sent kind whole (tt, (tt, (tt, (tt, (tt, tasked)))))).1.1.1.1.1
+      all_of_tasks = (said_of_tasks (begun_of c) kind whole (tt, (tt, (tt, (tt, (tt, tasked)))))).1.1.1.1.1
 
   -- a session that joined its listing
   pub spoken : (c : Course) (count : ℕ) (uids : List UidRow) (sizes : List ScanRow) (start mid : Place) (turns : List Turn) (kind : IsTail turns) (link : Link) → start.waiting ≡ []
@@ -204,3 +267,109 @@ module _ (joining : TurnsJoin) (law : FrontsAreAsked) (name word : List ℕ) (na
       let is = conversation (opening name word ++ took.done) (first ++ took.replies) took.begun turns start took.there link none
       (joining.on (opening name word) took.done first took.replies start mid took.there opened.talked took.talked) took.goes in
       (is.0, is.1, is.2, is.3, speaks c count uids sizes start mid turns kind link opened joins plain took r is.0 is.1 is.4, is.4)
+
+-- ---- The commands of a conversation are a prefix of the plan's, and a tail.
+
+ends_tail : (turns : List Turn) → IsTail turns → (ends more : List Command) → commands_in turns ≡ ends ++ more → IsTailOf ends
+ends_tail turns silent [] more e = inl refl
+ends_tail turns silent (c ∷ ends) more e = absurd cc
+ends_tail turns leaves [] more e = inl refl
+ends_tail turns leaves (c ∷ []) more e = let f : Quit ∷ [] ≡ c ∷ more = e in inr (inl cc)
+ends_tail turns leaves (c ∷ d ∷ ends) more e = absurd (let f : Quit ∷ [] ≡ c ∷ d ∷ (ends ++ more) = e in cc)
+ends_tail turns undoes [] more e = inl refl
+ends_tail turns undoes (c ∷ []) more e = let f : Rset ∷ Quit ∷ [] ≡ c ∷ more = e in inr (inr (inl cc))
+ends_tail turns undoes (c ∷ d ∷ []) more e = let f : Rset ∷ Quit ∷ [] ≡ c ∷ d ∷ more = e in inr (inr (inr cc))
+ends_tail turns undoes (c ∷ d ∷ f ∷ ends) more e = absurd (let g : Rset ∷ Quit ∷ [] ≡ c ∷ d ∷ f ∷ (ends ++ more) = e in cc)
+
+commands_back : (commands : List Command) → commands_in (map Some commands) ≡ commands
+commands_back [] = refl
+commands_back (c ∷ commands) = ap (λ (l : List Command). c ∷ l) (commands_back commands)
+
+five : (a b c d : List Command) → a ++ ((b ++ c) ++ d) ≡ (a ++ b) ++ (c ++ d)
+five a b c d = simp append_assoc
+
+pub front_of_plan : (name word : List ℕ) (steps : List Step) (done begun later turns : List Turn) (sent : List ℕ) → plan_turns name word steps ≡ done ++ (begun ++ later) → IsTail turns
+    → (c : Commanded done begun turns sent) → IsFrontOfPlan name word steps (commands_in done ++ (c.ahead ++ c.ends))
+front_of_plan name word steps done begun later turns sent split kind c = record {
+  front = commands_in done ++ c.ahead;
+  behind = c.unsaid ++ commands_in later;
+  tail = c.ends;
+  plan = sym (commands_back (plan_commands name word steps)) ∙ ap commands_in split ∙ commands_split done (begun ++ later)
+      ∙ ap (λ (l : List Command). commands_in done ++ l) (commands_split begun later ∙ ap (λ (l : List Command). l ++ commands_in later) c.of_begun)
+      ∙ five (commands_in done) c.ahead c.unsaid (commands_in later);
+  is_tail = ends_tail turns kind c.ends c.unended c.of_tail;
+  sent = sym (append_assoc (commands_in done) c.ahead c.ends);
+}
+
+-- ---- What a session sent if it didn't come to deal with a listing.
+
+-- what the link gained is a conversation of the opening
+pub record OpensAlone (name word : List ℕ) (turns : List Turn) (old new : Link) : Type 0 where
+  pub sent : List ℕ
+  pub got : List ℕ
+  pub sent_is : new.sent ≡ old.sent ++ sent
+  pub got_is : new.got ≡ old.got ++ got
+  pub said : Converses (opening name word) turns sent got
+
+module _ (paced : ConversationsArePaced) (name word : List ℕ) (start new last : Place) (none : start.waiting ≡ []) where
+  opens_stopped : (why : Fault) → Stopped (opening name word) start new why → (result : Result (Unit {0}) Fault) → Talks (tail_turns (tail why)) new result last
+      → OpensAlone name word (tail_turns (tail why)) start.link last.link
+  opens_stopped why s result talks =
+      let turns = tail_turns (tail why) in
+      let is = conversation s.done s.replies (s.next ∷ []) turns start s.mid last.link none s.talked (goes_broke s.next s.mid new last why s.broke (fronted paced turns new last result talks)) in
+      record {
+        sent = is.0;
+        got = is.1;
+        sent_is = is.2;
+        got_is = is.3;
+        said = record { done = s.done; begun = s.next ∷ []; later = s.later; replies = s.replies; split = s.split; one = inr (s.next, refl); is = is.4 };
+      }
+
+  pub opens_all : (count : ℕ) (uids : List UidRow) (sizes : List ScanRow) (turns : List Turn) → Opened name word start new count uids sizes → (result : Result (Unit {0}) Fault)
+      → Talks turns new result last → OpensAlone name word turns start.link last.link
+  opens_all count uids sizes turns opened result talks =
+      let replies = opened.welcome ++ opened.counted ∷ opened.named ∷ opened.sized ∷ [] in
+      let is = conversation (opening name word) replies [] turns start new last.link none opened.talked (goes_tail turns new.link last.link (fronted paced turns new last result talks)) in
+      record {
+        sent = is.0;
+        got = is.1;
+        sent_is = is.2;
+        got_is = is.3;
+        said = record { done = opening name word; begun = []; later = []; replies = replies; split = sym (append-nil (opening name word)); one = inl refl; is = is.4 };
+      }
+
+  -- no listing was joined
+  pub opens_cut : (why : Fault) → Enters name word start (Err why) new → (result : Result (Unit {0}) Fault) → Talks (tail_turns (tail why)) new result last
+      → OpensAlone name word (tail_turns (tail why)) start.link last.link
+  opens_cut why (inl stopped) result talks = opens_stopped why stopped result talks
+  opens_cut why (inr (inl (is, (count, uids, sizes, opened, never)))) result talks = opens_all count uids sizes (tail_turns (tail why)) opened result talks
+  opens_cut why (inr (inr (is, (count, uids, sizes, opened)))) result talks = opens_all count uids sizes (tail_turns (tail why)) opened result talks
+
+-- the commands of a conversation of the opening
+pub commanded_opening : FrontsAreAsked → (name word : List ℕ) → is_credential name ≡ true → is_credential word ≡ true → (turns : List Turn) → IsTail turns → (sent got : List ℕ)
+    → (said : Converses (opening name word) turns sent got) → Commanded said.done said.begun turns sent
+commanded_opening law name word named worded turns kind sent got said =
+    commanded law said.done said.replies said.begun turns sent got (all_front CanBeSaid said.done (said.begun ++ said.later) can)
+    (all_front CanBeSaid said.begun said.later (all_back CanBeSaid said.done (said.begun ++ said.later) can)) (said_tail turns kind) said.is
+  where
+    can : AllByRecursion CanBeSaid (said.done ++ (said.begun ++ said.later))
+    can = subst (AllByRecursion CanBeSaid) said.split (said_opening name word named worded)
+
+-- none of them is a RETR or a DELE
+pub idle_said : FrontsAreAsked → (name word : List ℕ) → is_credential name ≡ true → is_credential word ≡ true → (turns : List Turn) → IsTail turns → (sent got : List ℕ)
+    → Converses (opening name word) turns sent got → (commands : List Command) × (asked : Asked commands sent) × AllByRecursion (IsOfTask []) commands × BeginsOne (IsOfTask []) asked.part
+idle_said law name word named worded turns kind sent got said =
+    (commands_in said.done ++ (whole.ahead ++ whole.ends), whole.asked, said_of_tasks [] kind whole none, next_of_tasks [] kind whole none)
+  where
+    whole : Commanded said.done said.begun turns sent
+    whole = commanded_opening law name word named worded turns kind sent got said
+
+    all : AllByRecursion (IsOfTask []) (commands_in (opening name word))
+    all = (tt, (tt, (tt, (tt, (tt, tt)))))
+
+    parts : commands_in (opening name word) ≡ (commands_in said.done ++ commands_in said.begun) ++ commands_in said.later
+    parts = ap commands_in said.split ∙ commands_split said.done (said.begun ++ said.later) ∙ ap (λ (l : List Command). commands_in said.done ++ l) (commands_split said.begun said.later)
+        ∙ sym (append_assoc (commands_in said.done) (commands_in said.begun) (commands_in said.later))
+
+    none : AllByRecursion (IsOfTask []) (commands_in said.done ++ commands_in said.begun)
+    none = all_front (IsOfTask []) (commands_in said.done ++ commands_in said.begun) (commands_in said.later) (subst (AllByRecursion (IsOfTask [])) parts all)

@@ -1,5 +1,5 @@
-use Rattle.fetch_runs.proofs.StateBuilt.{Laws}
-use Rattle.fetch_runs.proofs.MboxBridge as bridge
+use Rattle.fetch_runs.proofs.StateDone.{Laws}
+use Rattle.fetch_runs.proofs.Bridge as bridge
 use Rattle.fetch_runs.proofs.laws.mbox_session_is_a_step.Goals as goal
 
 pub returns : goal.returns

@@ -1,5 +1,5 @@
 use Rattle.fetch_runs.specs.MboxSteps.{mbox_holds}
-use Rattle.fetch_runs.proofs.MboxAdds.{adds_texts}
+use Rattle.fetch_runs.proofs.Bridge.{adds_texts}
 use Rattle.fetch_runs.proofs.laws.mbox_sessions_add_texts.Goals as goal
 
 pub returns : goal.returns

@@ -1,4 +1,4 @@
-use Rattle.fetch_runs.proofs.EventLemmas as lemmas
+use Rattle.fetch_runs.proofs.HeadlineLemmas as lemmas
 use Rattle.fetch_runs.proofs.laws.new_processes_are_between.Goals as goal
 
 pub returns : goal.returns

@@ -1,4 +1,4 @@
-use Rattle.fetch_runs.proofs.StateBuilt.{Laws}
+use Rattle.fetch_runs.proofs.StateDone.{Laws}
 use Rattle.fetch_runs.proofs.Bridge as bridge
 use Rattle.fetch_runs.proofs.laws.session_is_a_step.Goals as goal
 

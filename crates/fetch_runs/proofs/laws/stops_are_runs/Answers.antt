@@ -1,4 +1,4 @@
-use Rattle.fetch_runs.proofs.EventLemmas as lemmas
+use Rattle.fetch_runs.proofs.HeadlineLemmas as lemmas
 use Rattle.fetch_runs.proofs.laws.stops_are_runs.Goals as goal
 
 pub returns : goal.returns

@@ -1,4 +1,4 @@
-use Rattle.std.proofs.Common.{◌≤◌, ◌≡◌, ◌<◌, ◌+◌, ◌++◌, ◌∷◌, [], ℕ, List, if◌then◌else◌, get_or, take, set, length, refl, sym, ap, subst, ◌∙◌, arith, length-append}
+use Rattle.std.proofs.Common.{◌≡◌, ◌<◌, ◌+◌, ◌++◌, ◌∷◌, [], ℕ, List, if◌then◌else◌, get_or, take, set, length, refl, sym, ap, subst, ◌∙◌, arith, length-append}
 use Rattle.std.specs.Result.{is_ok}
 use Rattle.std.proofs.lemmas.List.{length-set}
 use Rattle.rc_file.specs.Settings.{IsValid}
@@ -10,7 +10,7 @@ use Rattle.fetch_session.specs.Target.{IsSoundMaildir, IsSoundMbox, maildir_of, 
 use Rattle.fetch_runs.specs.MboxRuns.{WasMadeInMbox, mbox_state}
 use Rattle.fetch_runs.specs.Runs.{WasMade, world_of, state_of}
 use Rattle.fetch_runs.specs.declared.run.Visit.{Visit}
-use Rattle.fetch_runs.proofs.RunLemmas.{Ran, ran_next, others_stay, ran_all, runs_promised, mbox_runs_promised}
+use Rattle.fetch_runs.proofs.RunLemmas.{Ran, ran_next, others_stay, made_all, runs_promised, mbox_runs_promised}
 use Rattle.fetch_runs.proofs.run.run_sessions.Goals as goal
 
 pub loop-i-preserved : goal.loop-i-preserved
@@ -67,41 +67,22 @@ loop-i-preserved g c =
 pub returns-clause-promised : goal.returns-clause-promised
 returns-clause-promised g c = λ sound disk file all gone taken facts mail is_kept served.
     let inv = c.loop-i.invariant in
-    let done : length c.args.visits.now ≤ c.loop-i.i = omega (arith, c.loop-i-test.false) in
-    let same_length : length c.loop-i.visits ≡ length c.args.visits.now = inv.3 in
-    let behind : length c.loop-i.visits ≤ c.loop-i.i = omega (arith, done, same_length) in
-    let start = kept (maildir_of g.D.MaildirDisk c.args.account.now.store) (g.F.FlatFile.stored c.args.account.now.file) in
-    let last = kept (maildir_of g.D.MaildirDisk c.loop-i.account.store) (g.F.FlatFile.stored c.loop-i.account.file) in
-    let ran = ran_all g.W.Wire.sound (WasMade g.W.Wire.seen c.args.account.now.settings (digits_of c.args.account.now.settings)) c.args.visits.now c.loop-i.visits c.loop-i.i start
-    (IsSoundMaildir g.D.MaildirDisk c.args.account.now.store × g.F.FlatFile.sound c.args.account.now.file) c.loop-i.reports.items last
-    (IsSoundMaildir g.D.MaildirDisk c.loop-i.account.store × g.F.FlatFile.sound c.loop-i.account.file) inv.5 done behind in
-    runs_promised c.headline.ensures g.W.Wire.seen c.args.account.now.settings (world_of c.args.account.now.settings all) c.args.visits.now (state_of start gone taken) c.loop-i.reports.items c.loop-i.visits facts last
-    mail (record { valid = subst IsValid c.settings.ensures.value c.settings.ensures.valid; server = refl; port = refl; username = refl; max_size = refl }) is_kept served (ran.made sound (disk, file)).2
+    let made = made_all c.args.visits.now c.loop-i.visits c.loop-i.i inv.5 (omega (arith, c.loop-i-test.false)) inv.3 sound (disk, file) in
+    runs_promised c.headline.ensures g.W.Wire.seen c.args.account.now.settings (world_of c.args.account.now.settings all) c.args.visits.now
+    (state_of (kept (maildir_of g.D.MaildirDisk c.args.account.now.store) (g.F.FlatFile.stored c.args.account.now.file)) gone taken) c.loop-i.reports.items c.loop-i.visits facts
+    (kept (maildir_of g.D.MaildirDisk c.loop-i.account.store) (g.F.FlatFile.stored c.loop-i.account.file))
+    mail (record { valid = subst IsValid c.settings.ensures.value c.settings.ensures.valid; server = refl; port = refl; username = refl; max_size = refl }) is_kept served made.2
 
 pub returns-clause-mbox_runs : goal.returns-clause-mbox_runs
 returns-clause-mbox_runs g c = λ sound disk file.
     let inv = c.loop-i.invariant in
-    let done : length c.args.visits.now ≤ c.loop-i.i = omega (arith, c.loop-i-test.false) in
-    let same_length : length c.loop-i.visits ≡ length c.args.visits.now = inv.3 in
-    let behind : length c.loop-i.visits ≤ c.loop-i.i = omega (arith, done, same_length) in
-    let start = mbox_kept (mbox_of g.F.FlatFile c.args.account.now.store) (g.F.FlatFile.stored c.args.account.now.file) in
-    let last = mbox_kept (mbox_of g.F.FlatFile c.loop-i.account.store) (g.F.FlatFile.stored c.loop-i.account.file) in
-    let ran = ran_all g.W.Wire.sound (WasMadeInMbox g.W.Wire.seen c.args.account.now.settings) c.args.visits.now c.loop-i.visits c.loop-i.i start
-    (IsSoundMbox g.F.FlatFile c.args.account.now.store × g.F.FlatFile.sound c.args.account.now.file) c.loop-i.reports.items last
-    (IsSoundMbox g.F.FlatFile c.loop-i.account.store × g.F.FlatFile.sound c.loop-i.account.file) inv.6 done behind in
-    let made = ran.made sound (disk, file) in
+    let made = made_all c.args.visits.now c.loop-i.visits c.loop-i.i inv.6 (omega (arith, c.loop-i-test.false)) inv.3 sound (disk, file) in
     (made.0, made.1.0, made.1.1, made.2)
 
 pub returns-clause-mbox_promised : goal.returns-clause-mbox_promised
 returns-clause-mbox_promised g c = λ sound disk file frame gone facts mail are is_kept served.
     let inv = c.loop-i.invariant in
-    let done : length c.args.visits.now ≤ c.loop-i.i = omega (arith, c.loop-i-test.false) in
-    let same_length : length c.loop-i.visits ≡ length c.args.visits.now = inv.3 in
-    let behind : length c.loop-i.visits ≤ c.loop-i.i = omega (arith, done, same_length) in
-    let start = mbox_kept (mbox_of g.F.FlatFile c.args.account.now.store) (g.F.FlatFile.stored c.args.account.now.file) in
-    let last = mbox_kept (mbox_of g.F.FlatFile c.loop-i.account.store) (g.F.FlatFile.stored c.loop-i.account.file) in
-    let ran = ran_all g.W.Wire.sound (WasMadeInMbox g.W.Wire.seen c.args.account.now.settings) c.args.visits.now c.loop-i.visits c.loop-i.i start
-    (IsSoundMbox g.F.FlatFile c.args.account.now.store × g.F.FlatFile.sound c.args.account.now.file) c.loop-i.reports.items last
-    (IsSoundMbox g.F.FlatFile c.loop-i.account.store × g.F.FlatFile.sound c.loop-i.account.file) inv.6 done behind in
-    mbox_runs_promised c.mbox_headline.ensures g.W.Wire.seen c.args.account.now.settings frame c.args.visits.now (mbox_state start gone) c.loop-i.reports.items c.loop-i.visits facts last
-    mail are is_kept served (ran.made sound (disk, file)).2
+    let made = made_all c.args.visits.now c.loop-i.visits c.loop-i.i inv.6 (omega (arith, c.loop-i-test.false)) inv.3 sound (disk, file) in
+    mbox_runs_promised c.mbox_headline.ensures g.W.Wire.seen c.args.account.now.settings frame c.args.visits.now
+    (mbox_state (mbox_kept (mbox_of g.F.FlatFile c.args.account.now.store) (g.F.FlatFile.stored c.args.account.now.file)) gone) c.loop-i.reports.items c.loop-i.visits facts
+    (mbox_kept (mbox_of g.F.FlatFile c.loop-i.account.store) (g.F.FlatFile.stored c.loop-i.account.file)) mail are is_kept served made.2
