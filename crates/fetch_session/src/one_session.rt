@@ -172,26 +172,26 @@ pub fn session<W: Wire, D: MaildirDisk, F: FlatFile, H: BuildHasher>(
     wire: &mut W,
     now: u64,
 ) -> Report
-    ensures counted { RefusesByOutcome (W.seen wire.old) result.outcome (W.seen wire.new) }
+    ensures counted { RefusesByOutcome (W.history wire.old) result.outcome (W.history wire.new) }
     ensures settings { account.new.settings ≡ account.old.settings }
     ensures kind { kind_of account.new.store ≡ kind_of account.old.store }
     ensures session { WhereAllSound W.sound W.leads_to (IsSoundMaildir D.MaildirDisk) F.sound wire.old wire.new
         account.old.store account.new.store account.old.file account.new.file
-        (Session account.old.settings (digits_of account.old.settings) now (W.seen wire.old)
-        (kept (maildir_of D.MaildirDisk account.old.store) (F.stored account.old.file)) result (W.seen wire.new)
+        (Session account.old.settings (digits_of account.old.settings) now (W.history wire.old)
+        (kept (maildir_of D.MaildirDisk account.old.store) (F.stored account.old.file)) result (W.history wire.new)
         (kept (maildir_of D.MaildirDisk account.new.store) (F.stored account.new.file))) }
     ensures mbox_session { WhereAllSound W.sound W.leads_to (IsSoundMbox F.FlatFile) F.sound wire.old wire.new
         account.old.store account.new.store account.old.file account.new.file
-        (MboxSession account.old.settings now (W.seen wire.old)
-        (mbox_kept (mbox_of F.FlatFile account.old.store) (F.stored account.old.file)) result (W.seen wire.new)
+        (MboxSession account.old.settings now (W.history wire.old)
+        (mbox_kept (mbox_of F.FlatFile account.old.store) (F.stored account.old.file)) result (W.history wire.new)
         (mbox_kept (mbox_of F.FlatFile account.new.store) (F.stored account.new.file))) }
     ensures bounded { W.sound wire.new
-        → GotAtMost (session_limit result.total) (W.seen wire.old) (W.seen wire.new) }
+        → GotAtMost (session_limit result.total) (W.history wire.old) (W.history wire.new) }
     ensures power { W.sound wire.new → is_sound D.MaildirDisk F.FlatFile account.new.store → F.sound account.new.file
         → is_sure F.FlatFile account.old.store → F.is_sure account.old.file
         → SessionForGood D.MaildirDisk F.FlatFile account.old.settings
-        (target_of account.old.store (digits_of account.old.settings)) now (W.seen wire.old)
-        (keeping (stores_of D.MaildirDisk F.FlatFile account.old.store) (F.stored account.old.file)) result (W.seen wire.new)
+        (target_of account.old.store (digits_of account.old.settings)) now (W.history wire.old)
+        (keeping (stores_of D.MaildirDisk F.FlatFile account.old.store) (F.stored account.old.file)) result (W.history wire.new)
         (keeping (stores_of D.MaildirDisk F.FlatFile account.new.store) (F.stored account.new.file)) account.new.store account.new.file }
 {
     let mut client = Client::new(wire);

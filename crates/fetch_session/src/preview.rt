@@ -274,8 +274,8 @@ pub fn pretend<W: Wire, D: MaildirDisk, F: FlatFile, H: BuildHasher>(
     ensures kind { kind_of account.new.store ≡ kind_of account.old.store }
     ensures pretends { WhereAllSound W.sound W.leads_to (is_sound D.MaildirDisk F.FlatFile) F.sound wire.old wire.new
         account.old.store account.new.store account.old.file account.new.file
-        (Pretends account.old.settings (target_of account.old.store (digits_of account.old.settings)) now (W.seen wire.old)
-        (keeping (stores_of D.MaildirDisk F.FlatFile account.old.store) (F.stored account.old.file)) result (W.seen wire.new)
+        (Pretends account.old.settings (target_of account.old.store (digits_of account.old.settings)) now (W.history wire.old)
+        (keeping (stores_of D.MaildirDisk F.FlatFile account.old.store) (F.stored account.old.file)) result (W.history wire.new)
         (keeping (stores_of D.MaildirDisk F.FlatFile account.new.store) (F.stored account.new.file))) }
 {
     let mut client = Client::new(wire);

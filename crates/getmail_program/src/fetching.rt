@@ -124,13 +124,13 @@ pub fn fetch_into<
     ensures tells { (report : Report)
         × Tells account.old.settings report result (O.contents out.old) (O.contents out.new) (E.contents err.old) (E.contents err.new)
         × (W.sound wire.new.wire → IsSoundMaildir D.MaildirDisk account.new.store → F.sound account.new.file
-        → Session account.old.settings (digits_of account.old.settings) now (W.seen wire.old.wire)
+        → Session account.old.settings (digits_of account.old.settings) now (W.history wire.old.wire)
         (kept (maildir_of D.MaildirDisk account.old.store) (F.stored account.old.file))
-        report (W.seen wire.new.wire) (kept (maildir_of D.MaildirDisk account.new.store) (F.stored account.new.file)))
+        report (W.history wire.new.wire) (kept (maildir_of D.MaildirDisk account.new.store) (F.stored account.new.file)))
         × (W.sound wire.new.wire → IsSoundMbox F.FlatFile account.new.store → F.sound account.new.file
-        → MboxSession account.old.settings now (W.seen wire.old.wire)
+        → MboxSession account.old.settings now (W.history wire.old.wire)
         (mbox_kept (mbox_of F.FlatFile account.old.store) (F.stored account.old.file))
-        report (W.seen wire.new.wire) (mbox_kept (mbox_of F.FlatFile account.new.store) (F.stored account.new.file))) }
+        report (W.history wire.new.wire) (mbox_kept (mbox_of F.FlatFile account.new.store) (F.stored account.new.file))) }
 {
     let report = session(account, wire, now);
     wire.wipe();
@@ -164,9 +164,9 @@ pub fn pretend_into<
     ensures tells { (preview : Preview)
         × TellsAhead account.old.settings preview result (O.contents out.old) (O.contents out.new) (E.contents err.old) (E.contents err.new)
         × (W.sound wire.new.wire → is_sound D.MaildirDisk F.FlatFile account.new.store → F.sound account.new.file
-        → Pretends account.old.settings (target_of account.old.store (digits_of account.old.settings)) now (W.seen wire.old.wire)
+        → Pretends account.old.settings (target_of account.old.store (digits_of account.old.settings)) now (W.history wire.old.wire)
         (keeping (stores_of D.MaildirDisk F.FlatFile account.old.store) (F.stored account.old.file))
-        preview (W.seen wire.new.wire) (keeping (stores_of D.MaildirDisk F.FlatFile account.new.store) (F.stored account.new.file))) }
+        preview (W.history wire.new.wire) (keeping (stores_of D.MaildirDisk F.FlatFile account.new.store) (F.stored account.new.file))) }
 {
     let preview = pretend(account, wire, now);
     wire.wipe();

@@ -68,7 +68,7 @@ impl<W: Wire, S: Write> ShownWire<W, S> {
 }
 
 impl<W: Wire, S: Write> Wire for ShownWire<W, S> {
-    ghost seen = { λ w. W.seen w.wire };
+    ghost history = { λ w. W.history w.wire };
 
     ghost sound = { λ w. W.sound w.wire };
 

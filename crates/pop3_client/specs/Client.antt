@@ -9,11 +9,11 @@ use Rattle.pop3_client.specs.Conversation.{is_refusal}
 
 -- the link, and the octets of it that wait to be used
 abbrev pub place_of : {W : Type 0} → Ghosts W → Client W → Place
-place_of link client = at (link.seen client.wire.now) client.reader
+place_of link client = at (link.history client.wire.now) client.reader
 
 -- what is known of its link
 abbrev pub link_of : {W : Type 0} → Ghosts W → Client W → Link
-link_of link client = link.seen client.wire.now
+link_of link client = link.history client.wire.now
 
 -- it is still the client of the same link
 abbrev pub HasSameLink : {W : Type 0} → Client W → Client W → Type 0
@@ -21,7 +21,7 @@ HasSameLink old new = new.wire.ghost_name ≡ old.wire.ghost_name
 
 -- the failure count of its link rises by one, up to its greatest value, if a call was refused, and stays otherwise
 abbrev pub CountsRefusals : {W T : Type 0} → Ghosts W → Client W → Result T Fault → Client W → Type 0
-CountsRefusals link old result new = CountsRefusal is_refusal (link.seen old.wire.now) result (link.seen new.wire.now)
+CountsRefusals link old result new = CountsRefusal is_refusal (link.history old.wire.now) result (link.history new.wire.now)
 
 -- what is known of a call if the link is sound after it: it was sound before, the old link leads to the new
 -- one, and the call did this between the two places

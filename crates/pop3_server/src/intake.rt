@@ -84,13 +84,13 @@ impl Intake {
     /// Reads what comes next, and returns whether anything came.
     fn more<W: Wire>(&mut self, wire: &mut W) -> Result<bool, ServerFault>
         requires { length self.old.octets < MAX_LINE }
-        ensures counted { CountsFailure (W.seen wire.old) result (W.seen wire.new) }
+        ensures counted { CountsFailure (W.history wire.old) result (W.history wire.new) }
         ensures err { IfErr result (λ e. e ≡ ServerFault.ReadFailed) }
         ensures takes { (piece : List ℕ) × (length piece + self.new.left ≡ self.old.left) × (self.new.octets ≡ self.old.octets ++ piece)
             × (result ≡ Ok true → 0 < length piece)
             × (result ≡ Ok false → length piece ≡ 0)
-            × (W.sound wire.new → W.sound wire.old × W.leads_to wire.old wire.new × Drew (W.seen wire.old) (W.seen wire.new) piece
-            × TakesMore result self.new.left (W.seen wire.new)) }
+            × (W.sound wire.new → W.sound wire.old × W.leads_to wire.old wire.new × Drew (W.history wire.old) (W.history wire.new) piece
+            × TakesMore result self.new.left (W.history wire.new)) }
     {
         if self.left == 0 {
             return Ok(false);
@@ -108,12 +108,12 @@ impl Intake {
     fn long_line<W: Wire>(&mut self, wire: &mut W) -> Result<Heard, ServerFault>
         requires none { HasNoLine MAX_LINE self.old.octets }
         requires long { MAX_LINE ≤ length self.old.octets }
-        ensures counted { CountsFailure (W.seen wire.old) result (W.seen wire.new) }
+        ensures counted { CountsFailure (W.history wire.old) result (W.history wire.new) }
         ensures err { IfErr result (λ e. e ≡ ServerFault.ReadFailed) }
         ensures found { IfOk result (λ heard. Found heard self.new) }
         ensures fewer { length self.new.octets + 2 * self.new.left < length self.old.octets + 2 * self.old.left }
         ensures hears { WhereSound W.sound W.leads_to wire.old wire.new
-            (Hears (W.seen wire.old) self.old result (W.seen wire.new) self.new) }
+            (Hears (W.history wire.old) self.old result (W.history wire.new) self.new) }
     {
         self.skip(MAX_LINE - 1);
         loop {
@@ -138,13 +138,13 @@ impl Intake {
     /// Waits for the next line. A line longer than [`MAX_LINE`] is read to its CR LF and dropped.
     /// No `recv` is made while a whole line waits. The only fault is ReadFailed.
     pub fn next<W: Wire>(&mut self, wire: &mut W) -> Result<Heard, ServerFault>
-        ensures counted { CountsFailure (W.seen wire.old) result (W.seen wire.new) }
+        ensures counted { CountsFailure (W.history wire.old) result (W.history wire.new) }
         ensures err { IfErr result (λ e. e ≡ ServerFault.ReadFailed) }
         ensures found { IfOk result (λ heard. Found heard self.new) }
         ensures fewer { length self.new.octets + 2 * self.new.left ≤ length self.old.octets + 2 * self.old.left }
         ensures dropped { result ≡ Ok LongLine → length self.new.octets + 2 * self.new.left < length self.old.octets + 2 * self.old.left }
         ensures hears { WhereSound W.sound W.leads_to wire.old wire.new
-            (Hears (W.seen wire.old) self.old result (W.seen wire.new) self.new) }
+            (Hears (W.history wire.old) self.old result (W.history wire.new) self.new) }
     {
         loop {
             if let Some(length) = self.line_end() {

@@ -176,7 +176,7 @@ impl<D: Maildrop> LoopWire<D> {
 }
 
 impl<D: Maildrop> Wire for LoopWire<D> {
-    ghost seen = { λ w. w.link };
+    ghost history = { λ w. w.link };
 
     ghost sound = { λ w. w.link.failures < greatest_count };
 

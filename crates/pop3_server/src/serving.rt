@@ -18,10 +18,10 @@ const CHUNK: usize = 65_536;
 
 /// Sends bytes, all of them at once.
 fn send<W: Wire>(wire: &mut W, bytes: &[u8]) -> Result<(), ServerFault>
-    ensures counted { CountsFailure (W.seen wire.old) result (W.seen wire.new) }
+    ensures counted { CountsFailure (W.history wire.old) result (W.history wire.new) }
     ensures err { IfErr result (λ e. e ≡ ServerFault.WriteFailed) }
     ensures sends { WhereSound W.sound W.leads_to wire.old wire.new
-        (Sends (W.seen wire.old) bytes.now result (W.seen wire.new)) }
+        (Sends (W.history wire.old) bytes.now result (W.history wire.new)) }
 {
     match wire.send(bytes) {
         Ok(()) => Ok(()),
@@ -48,10 +48,10 @@ fn send_rest<D: Maildrop, W: Wire>(
     requires begun { 0 < text.start }
     requires room { CHUNK + ROOM ≤ vec_capacity buffer }
     ensures others { server.new ≡ record server.old { drop = server.new.drop } }
-    ensures counted { CountsRefusal is_refusal (W.seen wire.old) result (W.seen wire.new) }
+    ensures counted { CountsRefusal is_refusal (W.history wire.old) result (W.history wire.new) }
     ensures removals { (D.mail server.new.drop).removals ≡ (D.mail server.old.drop).removals }
     ensures sends { WhereSound W.sound W.leads_to wire.old wire.new
-        (SendsRest D.sound D.mail server.old.drop text (W.seen wire.old) result server.new.drop (W.seen wire.new)) }
+        (SendsRest D.sound D.mail server.old.drop text (W.history wire.old) result server.new.drop (W.history wire.new)) }
 {
     let mut text = text;
     let mut buffer = buffer;
@@ -78,12 +78,12 @@ fn answer_line<D: Maildrop, W: Wire, J: Journal>(
     line: &[u8],
 ) -> Result<bool, ServerFault>
     requires { is_open server.old.state ≡ true }
-    ensures counted { CountsRefusal is_refusal (W.seen wire.old) result (W.seen wire.new) }
+    ensures counted { CountsRefusal is_refusal (W.history wire.old) result (W.history wire.new) }
     ensures closing { IfOk result (λ closing. closing ≡ not (is_open server.new.state)) }
     ensures removals { is_open server.new.state ≡ true
         → (D.mail server.new.drop).removals ≡ (D.mail server.old.drop).removals }
     ensures answers { WhereSound W.sound W.leads_to wire.old wire.new
-        (SendsAnswer D.sound D.mail server.old line.now (W.seen wire.old) result server.new (W.seen wire.new)) }
+        (SendsAnswer D.sound D.mail server.old line.now (W.history wire.old) result server.new (W.history wire.new)) }
 {
     let Begun { answer, rest } = match server.begin(line, CHUNK) {
         Ok(begun) => begun,
@@ -126,11 +126,11 @@ fn answer_line<D: Maildrop, W: Wire, J: Journal>(
 /// QUIT hadn't removed.
 pub fn serve<D: Maildrop, W: Wire>(server: &mut Server<D>, wire: &mut W) -> Result<(), ServerFault>
     requires { is_open server.old.state ≡ true }
-    ensures counted { CountsRefusal is_refusal (W.seen wire.old) result (W.seen wire.new) }
+    ensures counted { CountsRefusal is_refusal (W.history wire.old) result (W.history wire.new) }
     ensures removals { is_open server.new.state ≡ true
         → (D.mail server.new.drop).removals ≡ (D.mail server.old.drop).removals }
     ensures served { WhereSound W.sound W.leads_to wire.old wire.new
-        (Served D.sound D.mail server.old (W.seen wire.old) result server.new (W.seen wire.new)) }
+        (Served D.sound D.mail server.old (W.history wire.old) result server.new (W.history wire.new)) }
 {
     serve_and_note(server, wire, &mut NoJournal)
 }
@@ -142,11 +142,11 @@ pub fn serve_and_note<D: Maildrop, W: Wire, J: Journal>(
     journal: &mut J,
 ) -> Result<(), ServerFault>
     requires { is_open server.old.state ≡ true }
-    ensures counted { CountsRefusal is_refusal (W.seen wire.old) result (W.seen wire.new) }
+    ensures counted { CountsRefusal is_refusal (W.history wire.old) result (W.history wire.new) }
     ensures removals { is_open server.new.state ≡ true
         → (D.mail server.new.drop).removals ≡ (D.mail server.old.drop).removals }
     ensures served { WhereSound W.sound W.leads_to wire.old wire.new
-        (Served D.sound D.mail server.old (W.seen wire.old) result server.new (W.seen wire.new)) }
+        (Served D.sound D.mail server.old (W.history wire.old) result server.new (W.history wire.new)) }
 {
     let hello = match server.greeting() {
         Ok(hello) => hello,

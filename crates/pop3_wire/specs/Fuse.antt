@@ -11,7 +11,7 @@ pub record Fuse (W : Type 0) : Type 0 where
 
 -- what is known of the link, with the fuse's count of refusals
 abbrev pub fused_link : {W : Type 0} → (W → Link) → Fuse W → Link
-fused_link seen fuse = with_failures fuse.failures (seen fuse.wire)
+fused_link history fuse = with_failures fuse.failures (history fuse.wire)
 
 abbrev pub fused_is_sound : {W : Type 0} → (W → Type 0) → Fuse W → Type 0
 fused_is_sound sound fuse = sound fuse.wire × (fuse.failures < greatest_count)
@@ -21,7 +21,7 @@ fused_leads_to leads_to old new = leads_to old.wire new.wire
 
 -- one call below the greatest count: it uses up a pass; if none is left, it is refused, and the link isn't
 -- asked; if one is left, it is refused only if the link refused it
-pub record Burns {W T E : Type 0} (seen : W → Link) (old : Fuse W) (result : Result T E) (new : Fuse W) : Type 0 where
+pub record Burns {W T E : Type 0} (history : W → Link) (old : Fuse W) (result : Result T E) (new : Fuse W) : Type 0 where
   pub used : new.left ≡ old.left - 1
   pub blown : old.left ≡ 0 → (is_refused result ≡ true) × (new.wire ≡ old.wire)
-  pub passed : 0 < old.left → CountsFailure (seen old.wire) result (seen new.wire)
+  pub passed : 0 < old.left → CountsFailure (history old.wire) result (history new.wire)

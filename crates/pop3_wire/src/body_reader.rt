@@ -48,13 +48,13 @@ impl From<AllocError> for BodyFault {
 
 /// Takes octets from the link if none wait, so that some do.
 fn draw<W: Wire>(wire: &mut W, reader: &mut LineReader) -> Result<(), BodyFault>
-    ensures counted { CountsRefusal is_refusal (W.seen wire.old) result (W.seen wire.new) }
+    ensures counted { CountsRefusal is_refusal (W.history wire.old) result (W.history wire.new) }
     ensures frugal { IfErr result (λ fault. fault ≢ BodyFault.NoMemory) }
     ensures ok { OnOk result ((gained : List ℕ) × (reader.new ≡ reader.old ++ gained) × (0 < length reader.new)
         × WhereSound W.sound W.leads_to wire.old wire.new
-        (Drew (W.seen wire.old) (W.seen wire.new) gained × GoesOn (W.seen wire.old) (W.seen wire.new))) }
+        (Drew (W.history wire.old) (W.history wire.new) gained × GoesOn (W.history wire.old) (W.history wire.new))) }
     ensures err { IfErr result (λ fault. (reader.old ≡ []) × (reader.new ≡ [])
-        × WhereSound W.sound W.leads_to wire.old wire.new (DrawsNothing fault (W.seen wire.old) (W.seen wire.new))) }
+        × WhereSound W.sound W.leads_to wire.old wire.new (DrawsNothing fault (W.history wire.old) (W.history wire.new))) }
 {
     if !reader.waiting().is_empty() {
         return Ok(());
@@ -139,15 +139,15 @@ impl BodyReader {
         out: &mut [u8; PIECE_ROOM],
     ) -> Result<Piece, BodyFault>
         requires { self.old.spot ≢ Done }
-        ensures counted { CountsRefusal is_refusal (W.seen wire.old) result (W.seen wire.new) }
+        ensures counted { CountsRefusal is_refusal (W.history wire.old) result (W.history wire.new) }
         ensures fits { IfOk result (λ piece. piece.put ≤ length out.new) }
         ensures ended { IfOk result (λ piece. IsTrue piece.ended ↔ (self.new.spot ≡ Done)) }
         ensures less { OnOk result (self.new.spot ≢ Done → self.new.left < self.old.left) }
         ensures frugal { IfErr result (λ fault. fault ≢ BodyFault.NoMemory) }
         ensures same { OnErr result (self.new ≡ self.old) }
         ensures takes { WhereSound W.sound W.leads_to wire.old wire.new
-            ((limit : ℕ) (start : Place) (text : List ℕ) → UnderWay limit start (at (W.seen wire.old) reader.old) self.old text
-            → TakesPiece limit start text result out.new (at (W.seen wire.new) reader.new) self.new) }
+            ((limit : ℕ) (start : Place) (text : List ℕ) → UnderWay limit start (at (W.history wire.old) reader.old) self.old text
+            → TakesPiece limit start text result out.new (at (W.history wire.new) reader.new) self.new) }
     {
         if self.left == 0 {
             return Err(BodyFault::TooLong);
@@ -174,10 +174,10 @@ pub fn read_body<W: Wire>(
     limit: usize,
 ) -> Result<Vec<u8>, BodyFault>
     requires { 0 < limit }
-    ensures counted { CountsRefusal is_refusal (W.seen wire.old) result (W.seen wire.new) }
+    ensures counted { CountsRefusal is_refusal (W.history wire.old) result (W.history wire.new) }
     ensures read { WhereSound W.sound W.leads_to wire.old wire.new
-        (ReadsBody limit (at (W.seen wire.old) reader.old) (items_of result) (at (W.seen wire.new) reader.new)) }
-    ensures rest { W.sound wire.new → LeavesRest limit (at (W.seen wire.old) reader.old) (at (W.seen wire.new) reader.new) }
+        (ReadsBody limit (at (W.history wire.old) reader.old) (items_of result) (at (W.history wire.new) reader.new)) }
+    ensures rest { W.sound wire.new → LeavesRest limit (at (W.history wire.old) reader.old) (at (W.history wire.new) reader.new) }
 {
     let mut body = BodyReader::new(limit);
     let mut out = [0u8; PIECE_ROOM];

@@ -83,7 +83,7 @@ fn next_piece<'a>(front: &'a [u8], pattern: &'a [u8], given: u64) -> &'a [u8]
 }
 
 impl Wire for EndlessWire {
-    ghost seen = { λ w. w.link };
+    ghost history = { λ w. w.link };
 
     ghost sound = { is_sound_endless };
 

@@ -47,17 +47,17 @@ impl<W> FusedWire<W> {
 }
 
 impl<W: Wire> Wire for FusedWire<W> {
-    ghost seen = { fused_link W.seen };
+    ghost history = { fused_link W.history };
 
     ghost sound = { fused_is_sound W.sound };
 
     ghost leads_to = { fused_leads_to W.leads_to };
 
     fn send(&mut self, bytes: &[u8]) -> Result<(), WireDown>
-        ensures counted { CountsFailure (fused_link W.seen self.old) result (fused_link W.seen self.new) }
+        ensures counted { CountsFailure (fused_link W.history self.old) result (fused_link W.history self.new) }
         ensures sent { WhereSound (fused_is_sound W.sound) (fused_leads_to W.leads_to) self.old self.new
-            (Sends (fused_link W.seen self.old) bytes.now result (fused_link W.seen self.new)) }
-        ensures burns { self.old.failures < greatest_count → Burns W.seen self.old result self.new }
+            (Sends (fused_link W.history self.old) bytes.now result (fused_link W.history self.new)) }
+        ensures burns { self.old.failures < greatest_count → Burns W.history self.old result self.new }
     {
         if self.failures.is_full() {
             return Err(WireDown);
@@ -79,10 +79,10 @@ impl<W: Wire> Wire for FusedWire<W> {
     fn recv(&mut self, buf: &mut [u8]) -> Result<usize, WireDown>
         requires { 0 < length buf.old }
         ensures within { IfOk result (λ n. n ≤ length buf.new) }
-        ensures counted { CountsFailure (fused_link W.seen self.old) result (fused_link W.seen self.new) }
+        ensures counted { CountsFailure (fused_link W.history self.old) result (fused_link W.history self.new) }
         ensures got { WhereSound (fused_is_sound W.sound) (fused_leads_to W.leads_to) self.old self.new
-            (Receives (fused_link W.seen self.old) result buf.new (fused_link W.seen self.new)) }
-        ensures burns { self.old.failures < greatest_count → Burns W.seen self.old result self.new }
+            (Receives (fused_link W.history self.old) result buf.new (fused_link W.history self.new)) }
+        ensures burns { self.old.failures < greatest_count → Burns W.history self.old result self.new }
     {
         if self.failures.is_full() {
             return Err(WireDown);

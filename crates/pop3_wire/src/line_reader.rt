@@ -92,12 +92,12 @@ impl LineReader {
     /// how many came.
     pub fn fill<W: Wire>(&mut self, wire: &mut W) -> Result<usize, WireDown>
         requires { length self.old < most_waiting }
-        ensures counted { CountsFailure (W.seen wire.old) result (W.seen wire.new) }
+        ensures counted { CountsFailure (W.history wire.old) result (W.history wire.new) }
         ensures short { length self.new ≤ most_waiting }
         ensures ok { IfOk result (λ n. (piece : List ℕ) × (length piece ≡ n) × (self.new ≡ self.old ++ piece)
-            × WhereSound W.sound W.leads_to wire.old wire.new (GotPiece (W.seen wire.old) piece (W.seen wire.new))) }
+            × WhereSound W.sound W.leads_to wire.old wire.new (GotPiece (W.history wire.old) piece (W.history wire.new))) }
         ensures err { OnErr result ((self.new ≡ self.old)
-            × WhereSound W.sound W.leads_to wire.old wire.new (WasRefused (W.seen wire.old) (W.seen wire.new))) }
+            × WhereSound W.sound W.leads_to wire.old wire.new (WasRefused (W.history wire.old) (W.history wire.new))) }
     {
         self.fill_at_most(wire, MOST_WAITING)
     }
@@ -107,13 +107,13 @@ impl LineReader {
     pub fn fill_at_most<W: Wire>(&mut self, wire: &mut W, most: usize) -> Result<usize, WireDown>
         requires room { length self.old < most_waiting }
         requires some { 0 < most }
-        ensures counted { CountsFailure (W.seen wire.old) result (W.seen wire.new) }
+        ensures counted { CountsFailure (W.history wire.old) result (W.history wire.new) }
         ensures short { length self.new ≤ most_waiting }
         ensures within { IfOk result (λ n. n ≤ most) }
         ensures ok { IfOk result (λ n. (piece : List ℕ) × (length piece ≡ n) × (self.new ≡ self.old ++ piece)
-            × WhereSound W.sound W.leads_to wire.old wire.new (GotPiece (W.seen wire.old) piece (W.seen wire.new))) }
+            × WhereSound W.sound W.leads_to wire.old wire.new (GotPiece (W.history wire.old) piece (W.history wire.new))) }
         ensures err { OnErr result ((self.new ≡ self.old)
-            × WhereSound W.sound W.leads_to wire.old wire.new (WasRefused (W.seen wire.old) (W.seen wire.new))) }
+            × WhereSound W.sound W.leads_to wire.old wire.new (WasRefused (W.history wire.old) (W.history wire.new))) }
     {
         move_to_front(&mut self.bytes, self.start, self.end);
         self.end -= self.start;
@@ -145,13 +145,13 @@ impl LineReader {
     /// and returns its length without CR LF. The line isn't used yet.
     pub fn line<W: Wire>(&mut self, wire: &mut W, limit: usize) -> Result<usize, LineFault>
         requires { limit ≤ most_waiting }
-        ensures counted { CountsRefusal is_refusal (W.seen wire.old) result (W.seen wire.new) }
+        ensures counted { CountsRefusal is_refusal (W.history wire.old) result (W.history wire.new) }
         ensures short { length self.new ≤ most_waiting }
         ensures found { IfOk result (HasLine limit self.new) }
         ensures gained { (gained : List ℕ) × (self.new ≡ self.old ++ gained) }
         ensures read { WhereSound W.sound W.leads_to wire.old wire.new
-            (((gained : List ℕ) × Gains (at (W.seen wire.old) self.old) (at (W.seen wire.new) self.new) gained)
-            × ReadsLine limit (at (W.seen wire.old) self.old) result (at (W.seen wire.new) self.new)) }
+            (((gained : List ℕ) × Gains (at (W.history wire.old) self.old) (at (W.history wire.new) self.new) gained)
+            × ReadsLine limit (at (W.history wire.old) self.old) result (at (W.history wire.new) self.new)) }
     {
         loop {
             if let Some(length) = self.line_end(limit) {

@@ -69,7 +69,7 @@ impl ScriptWire {
 }
 
 impl Wire for ScriptWire {
-    ghost seen = { λ w. w.link };
+    ghost history = { λ w. w.link };
 
     ghost sound = { is_sound };
 

@@ -69,7 +69,7 @@ fn read_once<R: Read>(reader: &mut R, buf: &mut [u8]) -> io::Result<usize>
 }
 
 impl<R: Read, W: Write> Wire for StreamWire<R, W> {
-    ghost seen = { λ w. uncharted w.failures };
+    ghost history = { λ w. uncharted w.failures };
 
     ghost sound = { λ _. ⊥ };
 

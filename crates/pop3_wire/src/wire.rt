@@ -16,7 +16,7 @@ pub struct WireDown;
 /// known of a real socket.
 pub trait Wire {
     // What contracts know of the link.
-    ghost seen: { Self → Link };
+    ghost history: { Self → Link };
 
     // The premise: so far the link did what this trait says, and its failure count hasn't reached
     // its greatest value. It runs backwards: a link that is sound after a call was sound before it.
@@ -27,22 +27,22 @@ pub trait Wire {
 
     /// Sends all of the bytes before it returns. A refused call has sent a prefix of them.
     fn send(&mut self, bytes: &[u8]) -> Result<(), WireDown>
-        ensures counted { CountsFailure (seen self.old) result (seen self.new) }
+        ensures counted { CountsFailure (history self.old) result (history self.new) }
         ensures sent { WhereSound sound leads_to self.old self.new
-            (Sends (seen self.old) bytes.now result (seen self.new)) };
+            (Sends (history self.old) bytes.now result (history self.new)) };
 
     /// Puts the octets that come next into the buffer, at least one, and returns how many; 0 says that
     /// the link has ended. It may wait.
     fn recv(&mut self, buf: &mut [u8]) -> Result<usize, WireDown>
         requires { 0 < length buf.old }
         ensures within { IfOk result (λ n. n ≤ length buf.new) }
-        ensures counted { CountsFailure (seen self.old) result (seen self.new) }
+        ensures counted { CountsFailure (history self.old) result (history self.new) }
         ensures got { WhereSound sound leads_to self.old self.new
-            (Receives (seen self.old) result buf.new (seen self.new)) };
+            (Receives (history self.old) result buf.new (history self.new)) };
 
     /// How many calls were refused.
     fn failures(&self) -> u64
-        ensures { result ≡ (seen self.now).failures };
+        ensures { result ≡ (history self.now).failures };
 
     // `leads_to` is reflexive and transitive.
     ghost leads_same: { (w : Self) → leads_to w w };

@@ -78,7 +78,7 @@ impl<W: Wire, E: Write + Drop> TracedWire<W, E> {
 }
 
 impl<W: Wire, E: Write + Drop> Wire for TracedWire<W, E> {
-    ghost seen = { λ w. W.seen w.wire };
+    ghost history = { λ w. W.history w.wire };
 
     ghost sound = { λ w. W.sound w.wire };
 

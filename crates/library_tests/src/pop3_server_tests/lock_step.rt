@@ -33,7 +33,7 @@ impl Drop for LockStep<'_> {
 }
 
 impl Wire for LockStep<'_> {
-    ghost seen = { λ w. uncharted w.failures };
+    ghost history = { λ w. uncharted w.failures };
 
     ghost sound = { λ _. ⊥ };
 

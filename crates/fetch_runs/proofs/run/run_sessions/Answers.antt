@@ -28,7 +28,7 @@ loop-i-preserved g c =
     let within : i < length c.loop-i.visits = omega (arith, inside, same_length) in
     let here : get_or c.args.visits.now i old ≡ old = sym (inv.4 i old (omega arith)) ∙ ap (λ (d : Visit (g.row.W).Denot). get_or c.loop-i.visits i d) (sym c.index-visits-i.is) in
     let start = kept (maildir_of g.D.MaildirDisk c.args.account.now.store) (g.F.FlatFile.stored c.args.account.now.file) in
-    let ran = ran_next g.W.Wire.sound (WasMade g.W.Wire.seen c.args.account.now.settings (digits_of c.args.account.now.settings)) c.args.visits.now c.loop-i.visits i start
+    let ran = ran_next g.W.Wire.sound (WasMade g.W.Wire.history c.args.account.now.settings (digits_of c.args.account.now.settings)) c.args.visits.now c.loop-i.visits i start
     (IsSoundMaildir g.D.MaildirDisk c.args.account.now.store × g.F.FlatFile.sound c.args.account.now.file) c.loop-i.reports.items before
     (IsSoundMaildir g.D.MaildirDisk c.loop-i.account.store × g.F.FlatFile.sound c.loop-i.account.file) old new c.session-report.result after
     (IsSoundMaildir g.D.MaildirDisk c.session-report.new.account.store × g.F.FlatFile.sound c.session-report.new.account.file) inv.5 inside within here
@@ -36,12 +36,12 @@ loop-i-preserved g c =
     let met = c.session-report.ensures.session sound held.0 held.1 in (
       met.0,
       (met.1, met.2),
-      (subst (λ (s : Settings). Session s (digits_of s) old.now (g.W.Wire.seen old.wire) before c.session-report.result (g.W.Wire.seen c.session-report.new.wire) after) inv.0 met.4, refl),
+      (subst (λ (s : Settings). Session s (digits_of s) old.now (g.W.Wire.history old.wire) before c.session-report.result (g.W.Wire.history c.session-report.new.wire) after) inv.0 met.4, refl),
     )) in
     let mbox_start = mbox_kept (mbox_of g.F.FlatFile c.args.account.now.store) (g.F.FlatFile.stored c.args.account.now.file) in
     let mbox_before = mbox_kept (mbox_of g.F.FlatFile c.loop-i.account.store) (g.F.FlatFile.stored c.loop-i.account.file) in
     let mbox_after = mbox_kept (mbox_of g.F.FlatFile c.session-report.new.account.store) (g.F.FlatFile.stored c.session-report.new.account.file) in
-    let ran_mbox = ran_next g.W.Wire.sound (WasMadeInMbox g.W.Wire.seen c.args.account.now.settings) c.args.visits.now c.loop-i.visits i mbox_start
+    let ran_mbox = ran_next g.W.Wire.sound (WasMadeInMbox g.W.Wire.history c.args.account.now.settings) c.args.visits.now c.loop-i.visits i mbox_start
     (IsSoundMbox g.F.FlatFile c.args.account.now.store × g.F.FlatFile.sound c.args.account.now.file) c.loop-i.reports.items mbox_before
     (IsSoundMbox g.F.FlatFile c.loop-i.account.store × g.F.FlatFile.sound c.loop-i.account.file) old new c.session-report.result mbox_after
     (IsSoundMbox g.F.FlatFile c.session-report.new.account.store × g.F.FlatFile.sound c.session-report.new.account.file) inv.6 inside within here
@@ -49,17 +49,17 @@ loop-i-preserved g c =
     let met = c.session-report.ensures.mbox_session sound held.0 held.1 in (
       met.0,
       (met.1, met.2),
-      (subst (λ (s : Settings). MboxSession s old.now (g.W.Wire.seen old.wire) mbox_before c.session-report.result (g.W.Wire.seen c.session-report.new.wire) mbox_after) inv.0 met.4, refl),
+      (subst (λ (s : Settings). MboxSession s old.now (g.W.Wire.history old.wire) mbox_before c.session-report.result (g.W.Wire.history c.session-report.new.wire) mbox_after) inv.0 met.4, refl),
     )) in (
       c.session-report.ensures.settings ∙ inv.0,
       ap (λ (l : List Report). length l) pushed ∙ length-append c.loop-i.reports.items (c.session-report.result ∷ []) ∙ ap (λ (k : ℕ). k + 1) inv.1,
       omega (arith, inv.2, c.push.ensures.capacity),
       length-set c.loop-i.visits i new ∙ inv.3,
       others_stay c.loop-i.visits c.args.visits.now i new inv.4,
-      subst (λ (rs : List Report). Ran g.W.Wire.sound (WasMade g.W.Wire.seen c.args.account.now.settings (digits_of c.args.account.now.settings)) (take (i + 1) c.args.visits.now) start
+      subst (λ (rs : List Report). Ran g.W.Wire.sound (WasMade g.W.Wire.history c.args.account.now.settings (digits_of c.args.account.now.settings)) (take (i + 1) c.args.visits.now) start
           (IsSoundMaildir g.D.MaildirDisk c.args.account.now.store × g.F.FlatFile.sound c.args.account.now.file) rs (take (i + 1) (set c.loop-i.visits i new)) after
           (IsSoundMaildir g.D.MaildirDisk c.session-report.new.account.store × g.F.FlatFile.sound c.session-report.new.account.file)) (sym pushed) ran,
-      subst (λ (rs : List Report). Ran g.W.Wire.sound (WasMadeInMbox g.W.Wire.seen c.args.account.now.settings) (take (i + 1) c.args.visits.now) mbox_start
+      subst (λ (rs : List Report). Ran g.W.Wire.sound (WasMadeInMbox g.W.Wire.history c.args.account.now.settings) (take (i + 1) c.args.visits.now) mbox_start
           (IsSoundMbox g.F.FlatFile c.args.account.now.store × g.F.FlatFile.sound c.args.account.now.file) rs (take (i + 1) (set c.loop-i.visits i new)) mbox_after
           (IsSoundMbox g.F.FlatFile c.session-report.new.account.store × g.F.FlatFile.sound c.session-report.new.account.file)) (sym pushed) ran_mbox,
     )
@@ -68,7 +68,7 @@ pub returns-clause-promised : goal.returns-clause-promised
 returns-clause-promised g c = λ sound disk file all gone taken facts mail is_kept served.
     let inv = c.loop-i.invariant in
     let made = made_all c.args.visits.now c.loop-i.visits c.loop-i.i inv.5 (omega (arith, c.loop-i-test.false)) inv.3 sound (disk, file) in
-    runs_promised c.headline.ensures g.W.Wire.seen c.args.account.now.settings (world_of c.args.account.now.settings all) c.args.visits.now
+    runs_promised c.headline.ensures g.W.Wire.history c.args.account.now.settings (world_of c.args.account.now.settings all) c.args.visits.now
     (state_of (kept (maildir_of g.D.MaildirDisk c.args.account.now.store) (g.F.FlatFile.stored c.args.account.now.file)) gone taken) c.loop-i.reports.items c.loop-i.visits facts
     (kept (maildir_of g.D.MaildirDisk c.loop-i.account.store) (g.F.FlatFile.stored c.loop-i.account.file))
     mail (record { valid = subst IsValid c.settings.ensures.value c.settings.ensures.valid; server = refl; port = refl; username = refl; max_size = refl }) is_kept served made.2
@@ -83,6 +83,6 @@ pub returns-clause-mbox_promised : goal.returns-clause-mbox_promised
 returns-clause-mbox_promised g c = λ sound disk file frame gone facts mail are is_kept served.
     let inv = c.loop-i.invariant in
     let made = made_all c.args.visits.now c.loop-i.visits c.loop-i.i inv.6 (omega (arith, c.loop-i-test.false)) inv.3 sound (disk, file) in
-    mbox_runs_promised c.mbox_headline.ensures g.W.Wire.seen c.args.account.now.settings frame c.args.visits.now
+    mbox_runs_promised c.mbox_headline.ensures g.W.Wire.history c.args.account.now.settings frame c.args.visits.now
     (mbox_state (mbox_kept (mbox_of g.F.FlatFile c.args.account.now.store) (g.F.FlatFile.stored c.args.account.now.file)) gone) c.loop-i.reports.items c.loop-i.visits facts
     (mbox_kept (mbox_of g.F.FlatFile c.loop-i.account.store) (g.F.FlatFile.stored c.loop-i.account.file)) mail are is_kept served made.2

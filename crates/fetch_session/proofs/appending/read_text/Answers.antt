@@ -32,8 +32,8 @@ pieces-preserved g c = (
 
 pub returns-in-Err-clause-counted : goal.returns-in-Err-clause-counted
 returns-in-Err-clause-counted g c =
-    before_cut (g.W.Wire.seen c.args.client.now.wire.now) (g.W.Wire.seen c.pieces.client.wire.now) (g.W.Wire.seen c.next_piece.new.self.wire.now) c.plain.result c.pieces.invariant.2
-    (cut_by c.in-Err.fault c.plain.result (g.W.Wire.seen c.pieces.client.wire.now) (g.W.Wire.seen c.next_piece.new.self.wire.now) c.plain.ensures c.in-Err.ensures.counted)
+    before_cut (g.W.Wire.history c.args.client.now.wire.now) (g.W.Wire.history c.pieces.client.wire.now) (g.W.Wire.history c.next_piece.new.self.wire.now) c.plain.result c.pieces.invariant.2
+    (cut_by c.in-Err.fault c.plain.result (g.W.Wire.history c.pieces.client.wire.now) (g.W.Wire.history c.next_piece.new.self.wire.now) c.plain.ensures c.in-Err.ensures.counted)
 
 pub returns-in-Err-extend_from_slice-clause-counted : goal.returns-in-Err-extend_from_slice-clause-counted
 returns-in-Err-extend_from_slice-clause-counted g c = inl (c.in-Ok.ensures.counted ∙ c.pieces.invariant.2)

@@ -12,7 +12,7 @@ invariant-pieces g l =
     × (g.W.Wire.sound l.client.wire.now → g.W.Wire.sound l.fn.client.wire.now × g.W.Wire.leads_to l.fn.client.wire.now l.client.wire.now
     × ((number : ℕ) (start : Place) → Fetching (retr number) start (place_of g.W.Wire l.fn.client) l.fn.body []
     → Fetching (retr number) start (place_of g.W.Wire l.client) l.rest l.text.items))
-    × ((g.W.Wire.seen l.client.wire.now).failures ≡ (g.W.Wire.seen l.fn.client.wire.now).failures)
+    × ((g.W.Wire.history l.client.wire.now).failures ≡ (g.W.Wire.history l.fn.client.wire.now).failures)
     × HasSameLink l.fn.client l.client
 
 abbrev pub decreases-pieces : goal.decreases-pieces

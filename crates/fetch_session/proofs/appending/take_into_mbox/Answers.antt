@@ -171,10 +171,10 @@ returns-clause-took g c = λ w.
 
 pub returns-in-Err-clause-counted : goal.returns-in-Err-clause-counted
 returns-in-Err-clause-counted g c =
-    cut_by c.in-Err.fault c.plain.result (g.W.Wire.seen c.args.client.now.wire.now) (g.W.Wire.seen c.open.new.self.wire.now) c.plain.ensures c.in-Err.ensures.counted
+    cut_by c.in-Err.fault c.plain.result (g.W.Wire.history c.args.client.now.wire.now) (g.W.Wire.history c.open.new.self.wire.now) c.plain.ensures c.in-Err.ensures.counted
 
 pub returns-in-Err-read_text-clause-counted : goal.returns-in-Err-read_text-clause-counted
-returns-in-Err-read_text-clause-counted g c = before_cut (g.W.Wire.seen c.args.client.now.wire.now) (g.W.Wire.seen c.open.new.self.wire.now) (g.W.Wire.seen c.read_text.new.client.wire.now) c.in-Err-read_text.cut c.in-Ok.ensures.counted c.in-Err-read_text.ensures.counted
+returns-in-Err-read_text-clause-counted g c = before_cut (g.W.Wire.history c.args.client.now.wire.now) (g.W.Wire.history c.open.new.self.wire.now) (g.W.Wire.history c.read_text.new.client.wire.now) c.in-Err-read_text.cut c.in-Ok.ensures.counted c.in-Err-read_text.ensures.counted
 
 pub returns-then-not-is_whole-clause-counted : goal.returns-then-not-is_whole-clause-counted
 returns-then-not-is_whole-clause-counted g c = inl (c.in-Ok-read_text.ensures.counted ∙ c.in-Ok.ensures.counted)

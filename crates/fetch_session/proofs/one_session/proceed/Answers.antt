@@ -60,13 +60,13 @@ returns-clause-took g c = λ w.
     )
 
 pub returns-in-Err-clause-counted : goal.returns-in-Err-clause-counted
-returns-in-Err-clause-counted g c = cut_by c.in-Err.fault c.plain.result (g.W.Wire.seen c.args.client.now.wire.now) (g.W.Wire.seen c.enter.new.client.wire.now) c.plain.ensures c.in-Err.ensures.counted
+returns-in-Err-clause-counted g c = cut_by c.in-Err.fault c.plain.result (g.W.Wire.history c.args.client.now.wire.now) (g.W.Wire.history c.enter.new.client.wire.now) c.plain.ensures c.in-Err.ensures.counted
 
 pub returns-in-Err-reserve-clause-counted : goal.returns-in-Err-reserve-clause-counted
 returns-in-Err-reserve-clause-counted g c = inl c.in-Ok.ensures.counted
 
 pub returns-clause-counted : goal.returns-clause-counted
-returns-clause-counted g c = till_cut (g.W.Wire.seen c.args.client.now.wire.now) (g.W.Wire.seen c.enter.new.client.wire.now) (g.W.Wire.seen c.carry_out.new.client.wire.now) c.carry_out.result c.in-Ok.ensures.counted c.carry_out.ensures.counted
+returns-clause-counted g c = till_cut (g.W.Wire.history c.args.client.now.wire.now) (g.W.Wire.history c.enter.new.client.wire.now) (g.W.Wire.history c.carry_out.new.client.wire.now) c.carry_out.result c.in-Ok.ensures.counted c.carry_out.ensures.counted
 
 -- ---- what outlives a loss of power
 

@@ -23,12 +23,12 @@ returns-in-Err-clause-session g c = λ w d f.
     let after = keeping (stores_of g.D.MaildirDisk g.F.FlatFile done.work.store) (g.F.FlatFile.stored done.work.ledger.file) in
     let new = place_of g.W.Wire c.leave.new.client in
     subst (λ h. g.W.Wire.sound c.args.client.now.wire.now × is_sound g.D.MaildirDisk g.F.FlatFile h.store × g.F.FlatFile.sound h.file × g.W.Wire.leads_to c.args.client.now.wire.now c.leave.new.client.wire.now
-    × SessionIn h.settings (target_of h.store (digits_of h.settings)) c.args.now (g.W.Wire.seen c.args.client.now.wire.now) (keeping (stores_of g.D.MaildirDisk g.F.FlatFile h.store) (g.F.FlatFile.stored h.file)) c.tell.result new.link after) c.account.view_is (
+    × SessionIn h.settings (target_of h.store (digits_of h.settings)) c.args.now (g.W.Wire.history c.args.client.now.wire.now) (keeping (stores_of g.D.MaildirDisk g.F.FlatFile h.store) (g.F.FlatFile.stored h.file)) c.tell.result new.link after) c.account.view_is (
       went.0,
       went.1,
       went.2,
       g.met.W.Wire.leads_on _ _ _ went.3 says.1,
-      cut_session inside.settings (target_of inside.work.store (digits_of inside.settings)) (target_of inside.work.store inside.id) c.args.now (g.W.Wire.seen c.args.client.now.wire.now) c.args.client.now.reader
+      cut_session inside.settings (target_of inside.work.store (digits_of inside.settings)) (target_of inside.work.store inside.id) c.args.now (g.W.Wire.history c.args.client.now.wire.now) c.args.client.now.reader
           (keeping (stores_of g.D.MaildirDisk g.F.FlatFile inside.work.store) (g.F.FlatFile.stored inside.work.ledger.file)) c.in-Err.cut
           (place_of g.W.Wire done.client) new after (noted done.counts.total done.counts.skipped done.work.ledger.lines.items) c.tell.result
           (ap (λ (digits : List ℕ). target_of inside.work.store digits) c.account.invariant.1) c.requires went.4 says.2 (rw c.replace-lines.ensures.value at c.tell.ensures),
@@ -42,12 +42,12 @@ returns-clause-session g c = λ w d f.
     let after = keeping (stores_of g.D.MaildirDisk g.F.FlatFile done.work.store) (g.F.FlatFile.stored done.work.ledger.file) in
     let mid = place_of g.W.Wire done.client in
     subst (λ h. g.W.Wire.sound c.args.client.now.wire.now × is_sound g.D.MaildirDisk g.F.FlatFile h.store × g.F.FlatFile.sound h.file × g.W.Wire.leads_to c.args.client.now.wire.now done.client.wire.now
-    × SessionIn h.settings (target_of h.store (digits_of h.settings)) c.args.now (g.W.Wire.seen c.args.client.now.wire.now) (keeping (stores_of g.D.MaildirDisk g.F.FlatFile h.store) (g.F.FlatFile.stored h.file)) c.tell-2.result mid.link after) c.account.view_is (
+    × SessionIn h.settings (target_of h.store (digits_of h.settings)) c.args.now (g.W.Wire.history c.args.client.now.wire.now) (keeping (stores_of g.D.MaildirDisk g.F.FlatFile h.store) (g.F.FlatFile.stored h.file)) c.tell-2.result mid.link after) c.account.view_is (
       went.0,
       went.1,
       went.2,
       went.3,
-      ended_session inside.settings (target_of inside.work.store (digits_of inside.settings)) (target_of inside.work.store inside.id) c.args.now (g.W.Wire.seen c.args.client.now.wire.now) c.args.client.now.reader
+      ended_session inside.settings (target_of inside.work.store (digits_of inside.settings)) (target_of inside.work.store inside.id) c.args.now (g.W.Wire.history c.args.client.now.wire.now) c.args.client.now.reader
           (keeping (stores_of g.D.MaildirDisk g.F.FlatFile inside.work.store) (g.F.FlatFile.stored inside.work.ledger.file)) mid after (noted done.counts.total done.counts.skipped done.work.ledger.lines.items) c.tell-2.result
           (ap (λ (digits : List ℕ). target_of inside.work.store digits) c.account.invariant.1) c.requires went.4 (rw c.replace-lines-2.ensures.value at c.tell-2.ensures),
     )
@@ -57,7 +57,7 @@ returns-in-Err-clause-bounded g c = λ w.
     let says = c.leave.ensures.leaves w in
     let took = c.in-Err.ensures.took says.0 in
     let done = c.proceed.new in
-    let link = g.W.Wire.seen c.args.client.now.wire.now in
+    let link = g.W.Wire.history c.args.client.now.wire.now in
     let mid = place_of g.W.Wire done.client in
     let last = place_of g.W.Wire c.leave.new.client in
     let n = done.counts.total in
@@ -70,7 +70,7 @@ pub returns-clause-bounded : goal.returns-clause-bounded
 returns-clause-bounded g c = λ w.
     let took = c.in_default.ensures.took w in
     let done = c.proceed.new in
-    let link = g.W.Wire.seen c.args.client.now.wire.now in
+    let link = g.W.Wire.history c.args.client.now.wire.now in
     let mid = place_of g.W.Wire done.client in
     let n = done.counts.total in
     subst (λ (n : ℕ). GotAtMost (session_limit n) link mid.link) (sym c.tell-2.ensures.total_is)
@@ -79,10 +79,10 @@ returns-clause-bounded g c = λ w.
 
 pub returns-in-Err-clause-counted : goal.returns-in-Err-clause-counted
 returns-in-Err-clause-counted g c =
-    left_alone c.in-Err.cut (g.W.Wire.seen c.args.client.now.wire.now) (g.W.Wire.seen c.proceed.new.client.wire.now) (g.W.Wire.seen c.leave.new.client.wire.now) c.tell.result.outcome c.tell.ensures.outcome_is c.in-Err.ensures.counted c.leave.ensures.counted c.leave.ensures.silent
+    left_alone c.in-Err.cut (g.W.Wire.history c.args.client.now.wire.now) (g.W.Wire.history c.proceed.new.client.wire.now) (g.W.Wire.history c.leave.new.client.wire.now) c.tell.result.outcome c.tell.ensures.outcome_is c.in-Err.ensures.counted c.leave.ensures.counted c.leave.ensures.silent
 
 pub returns-clause-counted : goal.returns-clause-counted
-returns-clause-counted g c = subst (λ (o : Outcome). RefusesByOutcome (g.W.Wire.seen c.args.client.now.wire.now) o (g.W.Wire.seen c.proceed.new.client.wire.now)) (sym c.tell-2.ensures.outcome_is) c.in_default.ensures.counted
+returns-clause-counted g c = subst (λ (o : Outcome). RefusesByOutcome (g.W.Wire.history c.args.client.now.wire.now) o (g.W.Wire.history c.proceed.new.client.wire.now)) (sym c.tell-2.ensures.outcome_is) c.in_default.ensures.counted
 
 pub returns-in-Err-clause-kind : goal.returns-in-Err-clause-kind
 returns-in-Err-clause-kind g c = c.proceed.ensures.kind ∙ ap (λ h. kind_of h.store) c.account.view_is
@@ -95,7 +95,7 @@ returns-in-Err-clause-files g c = λ w d f.
     let old = c.args.account.now in
     let new = c.proceed.new.work in
     files_session g.D.MaildirDisk g.F.FlatFile old.store new.store (digits_of old.settings)
-    (λ t s s'. SessionIn old.settings t c.args.now (g.W.Wire.seen c.args.client.now.wire.now) (keeping s (g.F.FlatFile.stored old.file)) c.tell.result (g.W.Wire.seen c.leave.new.client.wire.now) (keeping s' (g.F.FlatFile.stored new.ledger.file)))
+    (λ t s s'. SessionIn old.settings t c.args.now (g.W.Wire.history c.args.client.now.wire.now) (keeping s (g.F.FlatFile.stored old.file)) c.tell.result (g.W.Wire.history c.leave.new.client.wire.now) (keeping s' (g.F.FlatFile.stored new.ledger.file)))
     _ _ _ (returns-in-Err-clause-kind g c) (λ sound. returns-in-Err-clause-session g c w sound f) d
 
 pub returns-in-Err-clause-entries : goal.returns-in-Err-clause-entries
@@ -103,7 +103,7 @@ returns-in-Err-clause-entries g c = λ w d f.
     let old = c.args.account.now in
     let new = c.proceed.new.work in
     entries_session g.D.MaildirDisk g.F.FlatFile old.store new.store (digits_of old.settings)
-    (λ t s s'. SessionIn old.settings t c.args.now (g.W.Wire.seen c.args.client.now.wire.now) (keeping s (g.F.FlatFile.stored old.file)) c.tell.result (g.W.Wire.seen c.leave.new.client.wire.now) (keeping s' (g.F.FlatFile.stored new.ledger.file)))
+    (λ t s s'. SessionIn old.settings t c.args.now (g.W.Wire.history c.args.client.now.wire.now) (keeping s (g.F.FlatFile.stored old.file)) c.tell.result (g.W.Wire.history c.leave.new.client.wire.now) (keeping s' (g.F.FlatFile.stored new.ledger.file)))
     _ _ _ (returns-in-Err-clause-kind g c) (λ sound. returns-in-Err-clause-session g c w sound f) d
 
 pub returns-clause-files : goal.returns-clause-files
@@ -111,7 +111,7 @@ returns-clause-files g c = λ w d f.
     let old = c.args.account.now in
     let new = c.proceed.new.work in
     files_session g.D.MaildirDisk g.F.FlatFile old.store new.store (digits_of old.settings)
-    (λ t s s'. SessionIn old.settings t c.args.now (g.W.Wire.seen c.args.client.now.wire.now) (keeping s (g.F.FlatFile.stored old.file)) c.tell-2.result (g.W.Wire.seen c.proceed.new.client.wire.now) (keeping s' (g.F.FlatFile.stored new.ledger.file)))
+    (λ t s s'. SessionIn old.settings t c.args.now (g.W.Wire.history c.args.client.now.wire.now) (keeping s (g.F.FlatFile.stored old.file)) c.tell-2.result (g.W.Wire.history c.proceed.new.client.wire.now) (keeping s' (g.F.FlatFile.stored new.ledger.file)))
     _ _ _ (returns-clause-kind g c) (λ sound. returns-clause-session g c w sound f) d
 
 pub returns-clause-entries : goal.returns-clause-entries
@@ -119,7 +119,7 @@ returns-clause-entries g c = λ w d f.
     let old = c.args.account.now in
     let new = c.proceed.new.work in
     entries_session g.D.MaildirDisk g.F.FlatFile old.store new.store (digits_of old.settings)
-    (λ t s s'. SessionIn old.settings t c.args.now (g.W.Wire.seen c.args.client.now.wire.now) (keeping s (g.F.FlatFile.stored old.file)) c.tell-2.result (g.W.Wire.seen c.proceed.new.client.wire.now) (keeping s' (g.F.FlatFile.stored new.ledger.file)))
+    (λ t s s'. SessionIn old.settings t c.args.now (g.W.Wire.history c.args.client.now.wire.now) (keeping s (g.F.FlatFile.stored old.file)) c.tell-2.result (g.W.Wire.history c.proceed.new.client.wire.now) (keeping s' (g.F.FlatFile.stored new.ledger.file)))
     _ _ _ (returns-clause-kind g c) (λ sound. returns-clause-session g c w sound f) d
 
 -- ---- what outlives a loss of power
@@ -132,10 +132,10 @@ returns-in-Err-clause-power g c = λ w d f.
     let after = keeping (stores_of g.D.MaildirDisk g.F.FlatFile done.work.store) (g.F.FlatFile.stored done.work.ledger.file) in
     let new = place_of g.W.Wire c.leave.new.client in
     subst (λ h. is_sure g.F.FlatFile h.store → g.F.FlatFile.is_sure h.file
-    → SessionForGood g.D.MaildirDisk g.F.FlatFile h.settings (target_of h.store (digits_of h.settings)) c.args.now (g.W.Wire.seen c.args.client.now.wire.now) (keeping (stores_of g.D.MaildirDisk g.F.FlatFile h.store) (g.F.FlatFile.stored h.file)) c.tell.result new.link after
+    → SessionForGood g.D.MaildirDisk g.F.FlatFile h.settings (target_of h.store (digits_of h.settings)) c.args.now (g.W.Wire.history c.args.client.now.wire.now) (keeping (stores_of g.D.MaildirDisk g.F.FlatFile h.store) (g.F.FlatFile.stored h.file)) c.tell.result new.link after
     done.work.store done.work.ledger.file) c.account.view_is
     (λ sure sure'.
-    good_cut_session g.D.MaildirDisk g.F.FlatFile inside.settings (target_of inside.work.store (digits_of inside.settings)) (target_of inside.work.store inside.id) c.args.now (g.W.Wire.seen c.args.client.now.wire.now) c.args.client.now.reader
+    good_cut_session g.D.MaildirDisk g.F.FlatFile inside.settings (target_of inside.work.store (digits_of inside.settings)) (target_of inside.work.store inside.id) c.args.now (g.W.Wire.history c.args.client.now.wire.now) c.args.client.now.reader
     (keeping (stores_of g.D.MaildirDisk g.F.FlatFile inside.work.store) (g.F.FlatFile.stored inside.work.ledger.file)) c.in-Err.cut
     (place_of g.W.Wire done.client) new after (noted done.counts.total done.counts.skipped done.work.ledger.lines.items) c.tell.result done.work.store done.work.ledger.file
     (ap (λ (digits : List ℕ). target_of inside.work.store digits) c.account.invariant.1) c.requires (c.in-Err.ensures.good says.0 d f sure sure') says.2 (rw c.replace-lines.ensures.value at c.tell.ensures))
@@ -147,9 +147,9 @@ returns-clause-power g c = λ w d f.
     let after = keeping (stores_of g.D.MaildirDisk g.F.FlatFile done.work.store) (g.F.FlatFile.stored done.work.ledger.file) in
     let mid = place_of g.W.Wire done.client in
     subst (λ h. is_sure g.F.FlatFile h.store → g.F.FlatFile.is_sure h.file
-    → SessionForGood g.D.MaildirDisk g.F.FlatFile h.settings (target_of h.store (digits_of h.settings)) c.args.now (g.W.Wire.seen c.args.client.now.wire.now) (keeping (stores_of g.D.MaildirDisk g.F.FlatFile h.store) (g.F.FlatFile.stored h.file)) c.tell-2.result mid.link after
+    → SessionForGood g.D.MaildirDisk g.F.FlatFile h.settings (target_of h.store (digits_of h.settings)) c.args.now (g.W.Wire.history c.args.client.now.wire.now) (keeping (stores_of g.D.MaildirDisk g.F.FlatFile h.store) (g.F.FlatFile.stored h.file)) c.tell-2.result mid.link after
     done.work.store done.work.ledger.file) c.account.view_is
     (λ sure sure'.
-    good_ended_session g.D.MaildirDisk g.F.FlatFile inside.settings (target_of inside.work.store (digits_of inside.settings)) (target_of inside.work.store inside.id) c.args.now (g.W.Wire.seen c.args.client.now.wire.now) c.args.client.now.reader
+    good_ended_session g.D.MaildirDisk g.F.FlatFile inside.settings (target_of inside.work.store (digits_of inside.settings)) (target_of inside.work.store inside.id) c.args.now (g.W.Wire.history c.args.client.now.wire.now) c.args.client.now.reader
     (keeping (stores_of g.D.MaildirDisk g.F.FlatFile inside.work.store) (g.F.FlatFile.stored inside.work.ledger.file)) mid after (noted done.counts.total done.counts.skipped done.work.ledger.lines.items) c.tell-2.result done.work.store done.work.ledger.file
     (ap (λ (digits : List ℕ). target_of inside.work.store digits) c.account.invariant.1) c.requires (c.in_default.ensures.good w d f sure sure') (rw c.replace-lines-2.ensures.value at c.tell-2.ensures))

@@ -153,8 +153,8 @@ returns-in-Ok-quit-clause-counted g c = c.in-Ok-quit.ensures.counted ∙ c.in_de
 
 pub returns-clause-counted : goal.returns-clause-counted
 returns-clause-counted g c =
-    before_cut (g.W.Wire.seen c.args.client.now.wire.now) (g.W.Wire.seen c.do_steps.new.client.wire.now) (g.W.Wire.seen c.quit.new.self.wire.now) c.plain-in-Err-quit.result c.in_default.ensures.counted
-    (cut_by c.in-Err-quit.fault c.plain-in-Err-quit.result (g.W.Wire.seen c.do_steps.new.client.wire.now) (g.W.Wire.seen c.quit.new.self.wire.now) c.plain-in-Err-quit.ensures c.in-Err-quit.ensures.counted)
+    before_cut (g.W.Wire.history c.args.client.now.wire.now) (g.W.Wire.history c.do_steps.new.client.wire.now) (g.W.Wire.history c.quit.new.self.wire.now) c.plain-in-Err-quit.result c.in_default.ensures.counted
+    (cut_by c.in-Err-quit.fault c.plain-in-Err-quit.result (g.W.Wire.history c.do_steps.new.client.wire.now) (g.W.Wire.history c.quit.new.self.wire.now) c.plain-in-Err-quit.ensures c.in-Err-quit.ensures.counted)
 
 pub returns-clause-kind : goal.returns-clause-kind
 returns-clause-kind g c = c.do_steps.ensures.kind ∙ c.prepare.ensures.kind

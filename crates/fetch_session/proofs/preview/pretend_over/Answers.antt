@@ -19,12 +19,12 @@ returns-in-Err-clause-pretends g c = λ w d f.
     let new = place_of g.W.Wire c.leave.new.client in
     let preview : Preview = record { outcome = WasCut c.in-Err.cut.fault; total = done.preview.total; unsettled = done.preview.unsettled; prospects = done.preview.prospects } in
     subst (λ h. g.W.Wire.sound c.args.client.now.wire.now × is_sound g.D.MaildirDisk g.F.FlatFile h.store × g.F.FlatFile.sound h.file × g.W.Wire.leads_to c.args.client.now.wire.now c.leave.new.client.wire.now
-    × Pretends h.settings (target_of h.store (digits_of h.settings)) c.args.now (g.W.Wire.seen c.args.client.now.wire.now) (keeping (stores_of g.D.MaildirDisk g.F.FlatFile h.store) (g.F.FlatFile.stored h.file)) preview new.link after) c.account.view_is (
+    × Pretends h.settings (target_of h.store (digits_of h.settings)) c.args.now (g.W.Wire.history c.args.client.now.wire.now) (keeping (stores_of g.D.MaildirDisk g.F.FlatFile h.store) (g.F.FlatFile.stored h.file)) preview new.link after) c.account.view_is (
       went.0,
       went.1,
       went.2,
       g.met.W.Wire.leads_on _ _ _ went.3 says.1,
-      cut_preview inside.settings (target_of inside.work.store (digits_of inside.settings)) (target_of inside.work.store inside.id) c.args.now (g.W.Wire.seen c.args.client.now.wire.now) c.args.client.now.reader
+      cut_preview inside.settings (target_of inside.work.store (digits_of inside.settings)) (target_of inside.work.store inside.id) c.args.now (g.W.Wire.history c.args.client.now.wire.now) c.args.client.now.reader
           (keeping (stores_of g.D.MaildirDisk g.F.FlatFile inside.work.store) (g.F.FlatFile.stored inside.work.ledger.file)) c.in-Err.cut (place_of g.W.Wire done.client) new after preview
           (ap (λ (digits : List ℕ). target_of inside.work.store digits) c.account.invariant.1) c.requires went.4 says.2 refl,
     )
@@ -37,12 +37,12 @@ returns-clause-pretends g c = λ w d f.
     let after = keeping (stores_of g.D.MaildirDisk g.F.FlatFile done.work.store) (g.F.FlatFile.stored done.work.ledger.file) in
     let mid = place_of g.W.Wire done.client in
     subst (λ h. g.W.Wire.sound c.args.client.now.wire.now × is_sound g.D.MaildirDisk g.F.FlatFile h.store × g.F.FlatFile.sound h.file × g.W.Wire.leads_to c.args.client.now.wire.now done.client.wire.now
-    × Pretends h.settings (target_of h.store (digits_of h.settings)) c.args.now (g.W.Wire.seen c.args.client.now.wire.now) (keeping (stores_of g.D.MaildirDisk g.F.FlatFile h.store) (g.F.FlatFile.stored h.file)) done.preview mid.link after) c.account.view_is (
+    × Pretends h.settings (target_of h.store (digits_of h.settings)) c.args.now (g.W.Wire.history c.args.client.now.wire.now) (keeping (stores_of g.D.MaildirDisk g.F.FlatFile h.store) (g.F.FlatFile.stored h.file)) done.preview mid.link after) c.account.view_is (
       went.0,
       went.1,
       went.2,
       went.3,
-      ended_preview inside.settings (target_of inside.work.store (digits_of inside.settings)) (target_of inside.work.store inside.id) c.args.now (g.W.Wire.seen c.args.client.now.wire.now) c.args.client.now.reader
+      ended_preview inside.settings (target_of inside.work.store (digits_of inside.settings)) (target_of inside.work.store inside.id) c.args.now (g.W.Wire.history c.args.client.now.wire.now) c.args.client.now.reader
           (keeping (stores_of g.D.MaildirDisk g.F.FlatFile inside.work.store) (g.F.FlatFile.stored inside.work.ledger.file)) mid after done.preview
           (ap (λ (digits : List ℕ). target_of inside.work.store digits) c.account.invariant.1) c.requires went.4 c.in_default.ensures.outcome,
     )

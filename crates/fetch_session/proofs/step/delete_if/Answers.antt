@@ -47,4 +47,4 @@ returns-in-Err-clause-took g c =
     takes_plain 2048 old new c.in-Err.fault c.plain.result c.plain.ensures (took_deleting c.conversations_are_paced.ensures c.args.number old new (Err c.in-Err.fault) tells))
 
 pub returns-in-Err-clause-counted : goal.returns-in-Err-clause-counted
-returns-in-Err-clause-counted g c = cut_by c.in-Err.fault c.plain.result (g.W.Wire.seen c.args.client.now.wire.now) (g.W.Wire.seen c.delete.new.self.wire.now) c.plain.ensures c.in-Err.ensures.counted
+returns-in-Err-clause-counted g c = cut_by c.in-Err.fault c.plain.result (g.W.Wire.history c.args.client.now.wire.now) (g.W.Wire.history c.delete.new.self.wire.now) c.plain.ensures c.in-Err.ensures.counted

@@ -43,7 +43,7 @@ returns-clause-took g c = λ w.
     (fetches.0, takes_on 268437504 2048 (place_of g.W.Wire c.args.client.now) (place_of g.W.Wire c.fetch_if.new.client) (place_of g.W.Wire c.delete_if.new.client) c.delete_if.result fetches.1 deletes.1)
 
 pub returns-clause-counted : goal.returns-clause-counted
-returns-clause-counted g c = till_cut (g.W.Wire.seen c.args.client.now.wire.now) (g.W.Wire.seen c.fetch_if.new.client.wire.now) (g.W.Wire.seen c.delete_if.new.client.wire.now) c.delete_if.result c.in_default.ensures.counted c.delete_if.ensures.counted
+returns-clause-counted g c = till_cut (g.W.Wire.history c.args.client.now.wire.now) (g.W.Wire.history c.fetch_if.new.client.wire.now) (g.W.Wire.history c.delete_if.new.client.wire.now) c.delete_if.result c.in_default.ensures.counted c.delete_if.ensures.counted
 
 pub returns-clause-rows : goal.returns-clause-rows
 returns-clause-rows g c = on_any c.delete_if.result c.in_default.ensures.rows

@@ -152,7 +152,7 @@ returns-clause-took g c = λ w.
     (inv.0, took_less (i * 268439552) (length c.args.listing.now * 268439552) (place_of g.W.Wire c.args.client.now) (place_of g.W.Wire c.loop-i.client) (omega arith) inv.1)
 
 pub returns-in-Err-clause-counted : goal.returns-in-Err-clause-counted
-returns-in-Err-clause-counted g c = before_cut (g.W.Wire.seen c.args.client.now.wire.now) (g.W.Wire.seen c.loop-i.client.wire.now) (g.W.Wire.seen c.do_step.new.client.wire.now) c.in-Err.cut c.loop-i.invariant.5 c.in-Err.ensures.counted
+returns-in-Err-clause-counted g c = before_cut (g.W.Wire.history c.args.client.now.wire.now) (g.W.Wire.history c.loop-i.client.wire.now) (g.W.Wire.history c.do_step.new.client.wire.now) c.in-Err.cut c.loop-i.invariant.5 c.in-Err.ensures.counted
 
 pub returns-clause-calm : goal.returns-clause-calm
 returns-clause-calm g c = λ d. ((c.loop-i.invariant.2 d).0, c.loop-i.invariant.1.calm d)

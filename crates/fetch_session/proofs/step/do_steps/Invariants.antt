@@ -19,7 +19,7 @@ invariant-loop-i g l =
     × WhereWorkSound g.W.Wire g.D.MaildirDisk g.F.FlatFile l.fn.client l.fn.work l.client l.work
     (λ old new. Leads (target_of l.fn.work.store l.fn.account) (tasks_planned l.fn.steps l.fn.listing l.fn.held) old (tasks_planned (drop l.i l.fn.steps) (drop l.i l.fn.listing) (drop l.i l.fn.held)) new)
     × (g.W.Wire.sound l.client.wire.now → g.W.Wire.sound l.fn.client.wire.now × Took (l.i * step_limit) (place_of g.W.Wire l.fn.client) (place_of g.W.Wire l.client))
-    × ((g.W.Wire.seen l.client.wire.now).failures ≡ (g.W.Wire.seen l.fn.client.wire.now).failures)
+    × ((g.W.Wire.history l.client.wire.now).failures ≡ (g.W.Wire.history l.fn.client.wire.now).failures)
     × HasSameLink l.fn.client l.client
     × (kind_of l.work.store ≡ kind_of l.fn.work.store)
     × KeepsIds l.fn.work.ledger.seen.rows l.work.ledger.seen.rows

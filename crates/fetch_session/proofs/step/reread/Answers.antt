@@ -41,12 +41,12 @@ returns-in-Err-pass_text-clause-took g c =
     (took_passing c.conversations_are_paced.ensures c.args.number old (Err c.in-Err-pass_text.fault) new (passed c.args.number old opened)))
 
 pub returns-in-Err-clause-counted : goal.returns-in-Err-clause-counted
-returns-in-Err-clause-counted g c = cut_by c.in-Err.fault c.plain.result (g.W.Wire.seen c.args.client.now.wire.now) (g.W.Wire.seen c.open.new.self.wire.now) c.plain.ensures c.in-Err.ensures.counted
+returns-in-Err-clause-counted g c = cut_by c.in-Err.fault c.plain.result (g.W.Wire.history c.args.client.now.wire.now) (g.W.Wire.history c.open.new.self.wire.now) c.plain.ensures c.in-Err.ensures.counted
 
 pub returns-in-Ok-pass_text-clause-counted : goal.returns-in-Ok-pass_text-clause-counted
 returns-in-Ok-pass_text-clause-counted g c = c.in-Ok-pass_text.ensures.counted ∙ c.in-Ok.ensures.counted
 
 pub returns-in-Err-pass_text-clause-counted : goal.returns-in-Err-pass_text-clause-counted
 returns-in-Err-pass_text-clause-counted g c =
-    before_cut (g.W.Wire.seen c.args.client.now.wire.now) (g.W.Wire.seen c.open.new.self.wire.now) (g.W.Wire.seen c.pass_text.new.client.wire.now) c.plain-in-Err-pass_text.result c.in-Ok.ensures.counted
-    (cut_by c.in-Err-pass_text.fault c.plain-in-Err-pass_text.result (g.W.Wire.seen c.open.new.self.wire.now) (g.W.Wire.seen c.pass_text.new.client.wire.now) c.plain-in-Err-pass_text.ensures c.in-Err-pass_text.ensures.counted)
+    before_cut (g.W.Wire.history c.args.client.now.wire.now) (g.W.Wire.history c.open.new.self.wire.now) (g.W.Wire.history c.pass_text.new.client.wire.now) c.plain-in-Err-pass_text.result c.in-Ok.ensures.counted
+    (cut_by c.in-Err-pass_text.fault c.plain-in-Err-pass_text.result (g.W.Wire.history c.open.new.self.wire.now) (g.W.Wire.history c.pass_text.new.client.wire.now) c.plain-in-Err-pass_text.ensures c.in-Err-pass_text.ensures.counted)

@@ -182,10 +182,10 @@ returns-in-Err-clause-counted g c = inl refl
 
 pub returns-in-Err-open-clause-counted : goal.returns-in-Err-open-clause-counted
 returns-in-Err-open-clause-counted g c =
-    cut_by c.in-Err-open.fault c.plain-in-Err-open.result (g.W.Wire.seen c.args.client.now.wire.now) (g.W.Wire.seen c.open.new.self.wire.now) c.plain-in-Err-open.ensures c.in-Err-open.ensures.counted
+    cut_by c.in-Err-open.fault c.plain-in-Err-open.result (g.W.Wire.history c.args.client.now.wire.now) (g.W.Wire.history c.open.new.self.wire.now) c.plain-in-Err-open.ensures c.in-Err-open.ensures.counted
 
 pub returns-in-Err-store_text-clause-counted : goal.returns-in-Err-store_text-clause-counted
-returns-in-Err-store_text-clause-counted g c = before_cut (g.W.Wire.seen c.args.client.now.wire.now) (g.W.Wire.seen c.open.new.self.wire.now) (g.W.Wire.seen c.store_text.new.client.wire.now) c.in-Err-store_text.cut c.in-Ok-open.ensures.counted c.in-Err-store_text.ensures.counted
+returns-in-Err-store_text-clause-counted g c = before_cut (g.W.Wire.history c.args.client.now.wire.now) (g.W.Wire.history c.open.new.self.wire.now) (g.W.Wire.history c.store_text.new.client.wire.now) c.in-Err-store_text.cut c.in-Ok-open.ensures.counted c.in-Err-store_text.ensures.counted
 
 pub returns-in-Ok-remember-clause-counted : goal.returns-in-Ok-remember-clause-counted
 returns-in-Ok-remember-clause-counted g c = c.in-Ok-store_text.ensures.counted ∙ c.in-Ok-open.ensures.counted

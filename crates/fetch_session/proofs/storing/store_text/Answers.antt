@@ -146,8 +146,8 @@ returns-in-Err-clause-counted g c = inl refl
 
 pub returns-in-Err-next_piece-clause-counted : goal.returns-in-Err-next_piece-clause-counted
 returns-in-Err-next_piece-clause-counted g c =
-    before_cut (g.W.Wire.seen c.args.client.now.wire.now) (g.W.Wire.seen c.pieces.client.wire.now) (g.W.Wire.seen c.next_piece.new.self.wire.now) c.plain.result c.pieces.invariant.4
-    (cut_by c.in-Err-next_piece.fault c.plain.result (g.W.Wire.seen c.pieces.client.wire.now) (g.W.Wire.seen c.next_piece.new.self.wire.now) c.plain.ensures c.in-Err-next_piece.ensures.counted)
+    before_cut (g.W.Wire.history c.args.client.now.wire.now) (g.W.Wire.history c.pieces.client.wire.now) (g.W.Wire.history c.next_piece.new.self.wire.now) c.plain.result c.pieces.invariant.4
+    (cut_by c.in-Err-next_piece.fault c.plain.result (g.W.Wire.history c.pieces.client.wire.now) (g.W.Wire.history c.next_piece.new.self.wire.now) c.plain.ensures c.in-Err-next_piece.ensures.counted)
 
 pub returns-in-Err-put_piece-clause-counted : goal.returns-in-Err-put_piece-clause-counted
 returns-in-Err-put_piece-clause-counted g c = inl (c.in-Ok.ensures.counted ∙ c.pieces.invariant.4)

@@ -21,7 +21,7 @@ invariant-pieces g l =
     × (g.W.Wire.sound l.client.wire.now → g.W.Wire.sound l.fn.client.wire.now
     × ((number : ℕ) (start : Place) → Fetching (retr number) start (place_of g.W.Wire l.fn.client) l.fn.body []
     → (text : List ℕ) × Fetching (retr number) start (place_of g.W.Wire l.client) l.rest text))
-    × ((g.W.Wire.seen l.client.wire.now).failures ≡ (g.W.Wire.seen l.fn.client.wire.now).failures)
+    × ((g.W.Wire.history l.client.wire.now).failures ≡ (g.W.Wire.history l.fn.client.wire.now).failures)
     × HasSameLink l.fn.client l.client
     × (g.D.MaildirDisk.sound l.disk → KeepsMail (g.D.MaildirDisk.stays l.fn.disk) (g.D.MaildirDisk.outlives l.fn.disk) (g.D.MaildirDisk.stays l.disk) (g.D.MaildirDisk.outlives l.disk))
 

@@ -28,14 +28,14 @@ returns-clause-leaves g c = λ w.
     )
 
 pub returns-in-Err-clause-counted : goal.returns-in-Err-clause-counted
-returns-in-Err-clause-counted g c = at_most_one _ (g.W.Wire.seen c.args.client.now.wire.now) (g.W.Wire.seen c.drop_under_way.new.client.wire.now) c.in-Err.ensures.counted
+returns-in-Err-clause-counted g c = at_most_one _ (g.W.Wire.history c.args.client.now.wire.now) (g.W.Wire.history c.drop_under_way.new.client.wire.now) c.in-Err.ensures.counted
 
 pub returns-in-Err-clause-silent : goal.returns-in-Err-clause-silent
 returns-in-Err-clause-silent g c = λ none nothing. absurd (failed c.in-Err.field-0 (c.in-Err.ensures.nothing none))
 
 pub returns-clause-counted : goal.returns-clause-counted
-returns-clause-counted g c = then_at_most_one (g.W.Wire.seen c.args.client.now.wire.now) (g.W.Wire.seen c.drop_under_way.new.client.wire.now) (g.W.Wire.seen c.say_tail.new.client.wire.now) c.in_default.ensures.counted (at_most_one _ (g.W.Wire.seen c.drop_under_way.new.client.wire.now) (g.W.Wire.seen c.say_tail.new.client.wire.now) c.say_tail.ensures.counted)
+returns-clause-counted g c = then_at_most_one (g.W.Wire.history c.args.client.now.wire.now) (g.W.Wire.history c.drop_under_way.new.client.wire.now) (g.W.Wire.history c.say_tail.new.client.wire.now) c.in_default.ensures.counted (at_most_one _ (g.W.Wire.history c.drop_under_way.new.client.wire.now) (g.W.Wire.history c.say_tail.new.client.wire.now) c.say_tail.ensures.counted)
 
 pub returns-clause-silent : goal.returns-clause-silent
 returns-clause-silent g c =
-    λ none nothing. subst (λ (r : Result (Unit {0}) Fault). CountsRefusal is_refusal (g.W.Wire.seen c.drop_under_way.new.client.wire.now) r (g.W.Wire.seen c.say_tail.new.client.wire.now)) (c.say_tail.ensures.nothing (c.tail_of.ensures ∙ nothing)) c.say_tail.ensures.counted ∙ c.in_default.ensures.counted
+    λ none nothing. subst (λ (r : Result (Unit {0}) Fault). CountsRefusal is_refusal (g.W.Wire.history c.drop_under_way.new.client.wire.now) r (g.W.Wire.history c.say_tail.new.client.wire.now)) (c.say_tail.ensures.nothing (c.tail_of.ensures ∙ nothing)) c.say_tail.ensures.counted ∙ c.in_default.ensures.counted

@@ -35,11 +35,11 @@ returns-in-Ok-send_rest-clause-answers g c = λ s.
     c.requires c.in-Ok.ensures.who c.in-Ok.ensures.ok c.in-Ok.ensures.rest in
     let rest = c.in-Ok-send_rest.ensures.sends s in
     let sent = c.in_default-send.ensures.sends rest.0 in
-    let before = g.W.Wire.seen c.args.wire.now in (
+    let before = g.W.Wire.history c.args.wire.now in (
       sent.0,
       g.met.W.Wire.leads_on _ _ _ sent.1 rest.1,
-      started_sent g.D.Maildrop.sound g.D.Maildrop.mail c.args.server.now c.begin.new.self c.send_rest.new.server c.args.line.now bytes c.in-Some.text before (g.W.Wire.seen c.send-2.new.wire)
-          (g.W.Wire.seen c.send_rest.new.wire) (Ok tt) true started c.in-Ok-send_rest.ensures.others
+      started_sent g.D.Maildrop.sound g.D.Maildrop.mail c.args.server.now c.begin.new.self c.send_rest.new.server c.args.line.now bytes c.in-Some.text before (g.W.Wire.history c.send-2.new.wire)
+          (g.W.Wire.history c.send_rest.new.wire) (Ok tt) true started c.in-Ok-send_rest.ensures.others
           (sent.2 ∙ ap (λ (l : List ℕ). record before { sent = before.sent ++ l }) (c.as_slice-2.ensures.value ∙ c.reserve.ensures.items)) rest.2,
     )
 
@@ -50,10 +50,10 @@ returns-in-Err-send_rest-clause-answers g c = λ s.
     c.requires c.in-Ok.ensures.who c.in-Ok.ensures.ok c.in-Ok.ensures.rest in
     let rest = c.in-Err-send_rest.ensures.sends s in
     let sent = c.in_default-send.ensures.sends rest.0 in
-    let before = g.W.Wire.seen c.args.wire.now in (
+    let before = g.W.Wire.history c.args.wire.now in (
       sent.0,
       g.met.W.Wire.leads_on _ _ _ sent.1 rest.1,
-      started_sent g.D.Maildrop.sound g.D.Maildrop.mail c.args.server.now c.begin.new.self c.send_rest.new.server c.args.line.now bytes c.in-Some.text before (g.W.Wire.seen c.send-2.new.wire)
-          (g.W.Wire.seen c.send_rest.new.wire) (Err c.in-Err-send_rest.fault) true started c.in-Err-send_rest.ensures.others
+      started_sent g.D.Maildrop.sound g.D.Maildrop.mail c.args.server.now c.begin.new.self c.send_rest.new.server c.args.line.now bytes c.in-Some.text before (g.W.Wire.history c.send-2.new.wire)
+          (g.W.Wire.history c.send_rest.new.wire) (Err c.in-Err-send_rest.fault) true started c.in-Err-send_rest.ensures.others
           (sent.2 ∙ ap (λ (l : List ℕ). record before { sent = before.sent ++ l }) (c.as_slice-2.ensures.value ∙ c.reserve.ensures.items)) rest.2,
     )

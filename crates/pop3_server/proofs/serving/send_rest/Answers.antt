@@ -27,7 +27,7 @@ returns-in-Err-send-clause-sends g c = λ s.
       link.0,
       g.met.W.Wire.leads_on _ _ _ link.1 sent.1,
       rw c.in-Err-send.ensures.err (rest_unsent g.D.Maildrop.sound g.D.Maildrop.mail c.args.server.now.drop c.loop-more.server.drop c.go_on.new.self.drop c.args.text c.loop-more.text c.go_on.new.text
-          before.0 c.go_on.new.reply.items sent.2.0 sent.2.1 c.in-Ok.more (g.W.Wire.seen c.args.wire.now) (g.W.Wire.seen c.loop-more.wire) (g.W.Wire.seen c.send.new.wire) before.1
+          before.0 c.go_on.new.reply.items sent.2.0 sent.2.1 c.in-Ok.more (g.W.Wire.history c.args.wire.now) (g.W.Wire.history c.loop-more.wire) (g.W.Wire.history c.send.new.wire) before.1
           (λ is. c.in-Ok.ensures.more (ap Ok is)) (λ is. c.in-Ok.ensures.end (ap Ok is)) link.2 (sym c.as_slice.ensures.value ∙ sent.2.2) sent.2.3),
     )
 
@@ -43,7 +43,7 @@ returns-then-not-more-clause-sends g c = λ s.
         before.0 ++ reply,
         rest_on g.D.Maildrop.sound g.D.Maildrop.mail c.args.server.now.drop c.loop-more.server.drop c.go_on.new.self.drop c.args.text c.loop-more.text before.0 reply before.1
             (c.in-Ok.ensures.end (ap Ok c.if-not-more.true)),
-        sent_on (g.W.Wire.seen c.args.wire.now) (g.W.Wire.seen c.loop-more.wire) (g.W.Wire.seen c.send.new.wire) before.0 c.as_slice.result.now reply link.2 c.as_slice.ensures.value sent.2,
+        sent_on (g.W.Wire.history c.args.wire.now) (g.W.Wire.history c.loop-more.wire) (g.W.Wire.history c.send.new.wire) before.0 c.as_slice.result.now reply link.2 c.as_slice.ensures.value sent.2,
       ),
     )
 
@@ -68,7 +68,7 @@ loop-more-preserved g c =
             let link = before.2 sent.0 in (
               link.0,
               g.met.W.Wire.leads_on _ _ _ link.1 sent.1,
-              sent_on (g.W.Wire.seen c.args.wire.now) (g.W.Wire.seen c.loop-more.wire) (g.W.Wire.seen c.send.new.wire) before.0 c.as_slice.result.now reply link.2 c.as_slice.ensures.value sent.2,
+              sent_on (g.W.Wire.history c.args.wire.now) (g.W.Wire.history c.loop-more.wire) (g.W.Wire.history c.send.new.wire) before.0 c.as_slice.result.now reply link.2 c.as_slice.ensures.value sent.2,
             ),
       ),
     )

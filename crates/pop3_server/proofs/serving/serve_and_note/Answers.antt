@@ -9,7 +9,7 @@ pub returns-in-Err-clause-served : goal.returns-in-Err-clause-served
 returns-in-Err-clause-served g c = λ s. (
   s,
   g.met.W.Wire.leads_same c.args.wire.now,
-  rw c.in-Err.ensures.err (served_unmade g.D.Maildrop.sound g.D.Maildrop.mail c.args.server.now c.greeting.new.self (g.W.Wire.seen c.args.wire.now) c.greeting.ensures.same),
+  rw c.in-Err.ensures.err (served_unmade g.D.Maildrop.sound g.D.Maildrop.mail c.args.server.now c.greeting.new.self (g.W.Wire.history c.args.wire.now) c.greeting.ensures.same),
 )
 
 pub returns-in-Err-send-clause-served : goal.returns-in-Err-send-clause-served
@@ -17,8 +17,8 @@ returns-in-Err-send-clause-served g c = λ s.
     let sent = c.in-Err-send.ensures.sends s in (
       sent.0,
       sent.1,
-      rw c.in-Err-send.ensures.err (served_ungreeted g.D.Maildrop.sound g.D.Maildrop.mail c.args.server.now c.greeting.new.self (g.W.Wire.seen c.args.wire.now) (g.W.Wire.seen c.send.new.wire)
-          c.as_slice.result.now sent.2.0 sent.2.1 ((g.W.Wire.seen c.args.wire.now).failures + 1) c.greeting.ensures.same (c.as_slice.ensures.value ∙ c.in-Ok.ensures.ok.0) sent.2.2 sent.2.3),
+      rw c.in-Err-send.ensures.err (served_ungreeted g.D.Maildrop.sound g.D.Maildrop.mail c.args.server.now c.greeting.new.self (g.W.Wire.history c.args.wire.now) (g.W.Wire.history c.send.new.wire)
+          c.as_slice.result.now sent.2.0 sent.2.1 ((g.W.Wire.history c.args.wire.now).failures + 1) c.greeting.ensures.same (c.as_slice.ensures.value ∙ c.in-Ok.ensures.ok.0) sent.2.2 sent.2.3),
     )
 
 pub loop-heard-init : goal.loop-heard-init
@@ -30,7 +30,7 @@ loop-heard-init g c = (
       let sent = c.in_default.ensures.sends s in (
         sent.0,
         sent.1,
-        greeted g.D.Maildrop.sound g.D.Maildrop.mail c.args.server.now c.greeting.new.self (g.W.Wire.seen c.args.wire.now) (g.W.Wire.seen c.send.new.wire) c.new-intake.result
+        greeted g.D.Maildrop.sound g.D.Maildrop.mail c.args.server.now c.greeting.new.self (g.W.Wire.history c.args.wire.now) (g.W.Wire.history c.send.new.wire) c.new-intake.result
             c.as_slice.result.now c.greeting.ensures.same (c.as_slice.ensures.value ∙ c.in-Ok.ensures.ok.0) sent.2 c.new-intake.ensures,
       ),
 )
@@ -44,8 +44,8 @@ returns-in-Err-send-2-clause-served g c = λ s.
     let turn = long_turn g.D.Maildrop.sound g.D.Maildrop.mail c.loop-heard.server heard.1 c.loop-heard.invariant.1 heard.5 in (
       inv.0,
       g.met.W.Wire.leads_on _ _ _ (g.met.W.Wire.leads_on _ _ _ inv.1 came.1) sent.1,
-      rw c.in-Err-send-2.ensures.err (served_unsent g.D.Maildrop.sound g.D.Maildrop.mail c.args.server.now c.loop-heard.server c.loop-heard.server (g.W.Wire.seen c.args.wire.now) (g.W.Wire.seen c.loop-heard.wire)
-          (g.W.Wire.seen c.next.new.wire) (g.W.Wire.seen c.send-in-LongLine.new.wire) c.loop-heard.intake c.next.new.self heard.0 heard.1 _ sent.2.0 sent.2.1 ((g.W.Wire.seen c.next.new.wire).failures + 1)
+      rw c.in-Err-send-2.ensures.err (served_unsent g.D.Maildrop.sound g.D.Maildrop.mail c.args.server.now c.loop-heard.server c.loop-heard.server (g.W.Wire.history c.args.wire.now) (g.W.Wire.history c.loop-heard.wire)
+          (g.W.Wire.history c.next.new.wire) (g.W.Wire.history c.send-in-LongLine.new.wire) c.loop-heard.intake c.next.new.self heard.0 heard.1 _ sent.2.0 sent.2.1 ((g.W.Wire.history c.next.new.wire).failures + 1)
           inv.2 heard.2 heard.3.octets heard.3.left heard.4 turn sent.2.2 sent.2.3),
     )
 
@@ -62,8 +62,8 @@ loop-heard-preserved-in_default-send g c = (
       let turn = long_turn g.D.Maildrop.sound g.D.Maildrop.mail c.loop-heard.server heard.1 c.loop-heard.invariant.1 heard.5 in (
         inv.0,
         g.met.W.Wire.leads_on _ _ _ (g.met.W.Wire.leads_on _ _ _ inv.1 came.1) sent.1,
-        progress_line g.D.Maildrop.sound g.D.Maildrop.mail c.args.server.now c.loop-heard.server c.loop-heard.server (g.W.Wire.seen c.args.wire.now) (g.W.Wire.seen c.loop-heard.wire)
-            (g.W.Wire.seen c.next.new.wire) (g.W.Wire.seen c.send-in-LongLine.new.wire) c.loop-heard.intake c.next.new.self heard.0 heard.1 _
+        progress_line g.D.Maildrop.sound g.D.Maildrop.mail c.args.server.now c.loop-heard.server c.loop-heard.server (g.W.Wire.history c.args.wire.now) (g.W.Wire.history c.loop-heard.wire)
+            (g.W.Wire.history c.next.new.wire) (g.W.Wire.history c.send-in-LongLine.new.wire) c.loop-heard.intake c.next.new.self heard.0 heard.1 _
             inv.2 heard.2 heard.3.octets heard.3.left heard.4 turn sent.2,
       ),
 )
@@ -78,8 +78,8 @@ returns-in-Err-answer_line-clause-served g c = λ s.
     let line = line_octets c.loop-heard.intake c.next.new.self after heard.0 c.waiting.result.now c.in-Line.length heard.2 heard.3 c.waiting.ensures refl in (
       inv.0,
       g.met.W.Wire.leads_on _ _ _ (g.met.W.Wire.leads_on _ _ _ inv.1 came.1) went.1,
-      served_stopped g.D.Maildrop.sound g.D.Maildrop.mail c.args.server.now c.loop-heard.server c.answer_line.new.server (g.W.Wire.seen c.args.wire.now) (g.W.Wire.seen c.loop-heard.wire)
-          (g.W.Wire.seen c.next.new.wire) (g.W.Wire.seen c.answer_line.new.wire) c.loop-heard.intake after heard.0 (take c.in-Line.length c.waiting.result.now) c.in-Err-answer_line.fault
+      served_stopped g.D.Maildrop.sound g.D.Maildrop.mail c.args.server.now c.loop-heard.server c.answer_line.new.server (g.W.Wire.history c.args.wire.now) (g.W.Wire.history c.loop-heard.wire)
+          (g.W.Wire.history c.next.new.wire) (g.W.Wire.history c.answer_line.new.wire) c.loop-heard.intake after heard.0 (take c.in-Line.length c.waiting.result.now) c.in-Err-answer_line.fault
           inv.2 heard.1 line.0 line.1 line.2 went.2,
     )
 
@@ -90,12 +90,12 @@ returns-then-closing-clause-served g c = λ s.
     let heard = rw c.in-Line.is at came.2 in
     let inv = c.loop-heard.invariant.3 came.0 in
     let line = line_octets c.loop-heard.intake c.next.new.self c.skip.new.self heard.0 c.waiting.result.now c.in-Line.length heard.2 heard.3 c.waiting.ensures c.skip.ensures in
-    let progress = progress_line g.D.Maildrop.sound g.D.Maildrop.mail c.args.server.now c.loop-heard.server c.answer_line.new.server (g.W.Wire.seen c.args.wire.now) (g.W.Wire.seen c.loop-heard.wire)
-    (g.W.Wire.seen c.next.new.wire) (g.W.Wire.seen c.answer_line.new.wire) c.loop-heard.intake c.skip.new.self heard.0 (take c.in-Line.length c.waiting.result.now) went.2.0
+    let progress = progress_line g.D.Maildrop.sound g.D.Maildrop.mail c.args.server.now c.loop-heard.server c.answer_line.new.server (g.W.Wire.history c.args.wire.now) (g.W.Wire.history c.loop-heard.wire)
+    (g.W.Wire.history c.next.new.wire) (g.W.Wire.history c.answer_line.new.wire) c.loop-heard.intake c.skip.new.self heard.0 (take c.in-Line.length c.waiting.result.now) went.2.0
     inv.2 heard.1 line.0 line.1 line.2 went.2.1 went.2.2 in (
       inv.0,
       g.met.W.Wire.leads_on _ _ _ (g.met.W.Wire.leads_on _ _ _ inv.1 came.1) went.1,
-      served_closed g.D.Maildrop.sound g.D.Maildrop.mail c.args.server.now c.answer_line.new.server (g.W.Wire.seen c.args.wire.now) (g.W.Wire.seen c.answer_line.new.wire) c.skip.new.self progress
+      served_closed g.D.Maildrop.sound g.D.Maildrop.mail c.args.server.now c.answer_line.new.server (g.W.Wire.history c.args.wire.now) (g.W.Wire.history c.answer_line.new.wire) c.skip.new.self progress
           (not-true (is_open c.answer_line.new.server.state) (sym c.in-Ok-answer_line.ensures.closing ∙ c.if-closing.true)),
     )
 
@@ -113,8 +113,8 @@ loop-heard-preserved g c =
           let line = line_octets c.loop-heard.intake c.next.new.self c.skip.new.self heard.0 c.waiting.result.now c.in-Line.length heard.2 heard.3 c.waiting.ensures c.skip.ensures in (
             inv.0,
             g.met.W.Wire.leads_on _ _ _ (g.met.W.Wire.leads_on _ _ _ inv.1 came.1) went.1,
-            progress_line g.D.Maildrop.sound g.D.Maildrop.mail c.args.server.now c.loop-heard.server c.answer_line.new.server (g.W.Wire.seen c.args.wire.now) (g.W.Wire.seen c.loop-heard.wire)
-                (g.W.Wire.seen c.next.new.wire) (g.W.Wire.seen c.answer_line.new.wire) c.loop-heard.intake c.skip.new.self heard.0 (take c.in-Line.length c.waiting.result.now) went.2.0
+            progress_line g.D.Maildrop.sound g.D.Maildrop.mail c.args.server.now c.loop-heard.server c.answer_line.new.server (g.W.Wire.history c.args.wire.now) (g.W.Wire.history c.loop-heard.wire)
+                (g.W.Wire.history c.next.new.wire) (g.W.Wire.history c.answer_line.new.wire) c.loop-heard.intake c.skip.new.self heard.0 (take c.in-Line.length c.waiting.result.now) went.2.0
                 inv.2 heard.1 line.0 line.1 line.2 went.2.1 went.2.2,
           ),
     )

@@ -17,7 +17,7 @@ pub returns-in-Err-hear-clause-asks : goal.returns-in-Err-hear-clause-asks
 returns-in-Err-hear-clause-asks g c =
     let old = place_of g.W.Wire c.args.self.now in
     and_then g.W.Wire g.met.W.Wire.leads_on c.in_default.ensures.sent c.in-Err-hear.ensures.heard (λ said heard turn names other is.
-    broke_there turn old (g.W.Wire.seen c.say.new.self.wire.now) _ c.in-Err-hear.fault
+    broke_there turn old (g.W.Wire.history c.say.new.self.wire.now) _ c.in-Err-hear.fault
     (sent_for turn old.link _ c.args.bytes.now said is) (rw c.in_default.ensures.silent at (heard turn names)))
 
 pub returns-clause-asks : goal.returns-clause-asks
@@ -27,6 +27,6 @@ returns-clause-asks g c =
     let here = place_of g.W.Wire c.hear.new.self in
     and_then g.W.Wire g.met.W.Wire.leads_on c.in_default.ensures.sent c.in-Ok.ensures.heard (λ said heard turn names other is.
     let waits = rw c.in_default.ensures.silent at (heard turn names) in
-    let begun = opened turn old (g.W.Wire.seen c.say.new.self.wire.now) here waits.0 n waits.4.0
+    let begun = opened turn old (g.W.Wire.history c.say.new.self.wire.now) here waits.0 n waits.4.0
     (sent_for turn old.link _ c.args.bytes.now said is) waits.1 waits.2 waits.3 waits.4.1 (fits_other turn waits.4.0 other) in
     (take n here.waiting, subst (λ (rest : List ℕ). Opened turn (take n here.waiting) old (at here.link rest)) (sym c.skip.ensures) begun))

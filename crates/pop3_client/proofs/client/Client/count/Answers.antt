@@ -24,7 +24,7 @@ pub returns-in-Err-hear-clause-counts : goal.returns-in-Err-hear-clause-counts
 returns-in-Err-hear-clause-counts g c =
     let old = place_of g.W.Wire c.args.self.now in
     and_then g.W.Wire g.met.W.Wire.leads_on c.in_default.ensures.sent c.in-Err-hear.ensures.heard (λ said heard.
-    broke_there stat old (g.W.Wire.seen c.say.new.self.wire.now) _ c.in-Err-hear.fault (sent_for stat old.link _ _ said stat_bytes) (rw c.in_default.ensures.silent at (heard stat refl)))
+    broke_there stat old (g.W.Wire.history c.say.new.self.wire.now) _ c.in-Err-hear.fault (sent_for stat old.link _ _ said stat_bytes) (rw c.in_default.ensures.silent at (heard stat refl)))
 
 pub returns-in-Ok-count_of-clause-counts : goal.returns-in-Ok-count_of-clause-counts
 returns-in-Ok-count_of-clause-counts g c =
@@ -34,7 +34,7 @@ returns-in-Ok-count_of-clause-counts g c =
     let tells = subst (λ (w : List ℕ). TellsFew (take n w) (Ok c.in-Ok-count_of.count)) c.waiting.ensures.value c.in-Ok-count_of.ensures in
     and_then g.W.Wire g.met.W.Wire.leads_on c.in_default.ensures.sent c.in-Ok.ensures.heard (λ said hears.
     let heard = rw c.in_default.ensures.silent at (hears stat refl) in
-    let begun = opened stat old (g.W.Wire.seen c.say.new.self.wire.now) here heard.0 n tells.0
+    let begun = opened stat old (g.W.Wire.history c.say.new.self.wire.now) here heard.0 n tells.0
     (sent_for stat old.link _ _ said stat_bytes) heard.1 heard.2 heard.3 tells.2 (λ is. (c.in-Ok-count_of.count, tells.1, tells.3, tells.4)) in
     let there = subst (λ (rest : List ℕ). Opened stat (take n here.waiting) old (at here.link rest)) (sym c.skip.ensures) begun in (
       record { first = take n here.waiting; body = None },
@@ -46,7 +46,7 @@ pub returns-in-Err-count_of-clause-counts : goal.returns-in-Err-count_of-clause-
 returns-in-Err-count_of-clause-counts g c =
     let n = c.in-Ok.length in
     let old = place_of g.W.Wire c.args.self.now in
-    let said_link = g.W.Wire.seen c.say.new.self.wire.now in
+    let said_link = g.W.Wire.history c.say.new.self.wire.now in
     let here = place_of g.W.Wire c.hear.new.self in
     let why = subst (λ (l : List ℕ). TellsFew (take n l) (Err c.in-Err-count_of.fault)) c.waiting.ensures.value c.in-Err-count_of.ensures in
     and_then g.W.Wire g.met.W.Wire.leads_on c.in_default.ensures.sent c.in-Ok.ensures.heard (λ said hears.

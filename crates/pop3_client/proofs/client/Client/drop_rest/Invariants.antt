@@ -9,7 +9,7 @@ use Rattle.pop3_client.proofs.client.Client.drop_rest.Given as goal
 abbrev pub invariant-pieces : goal.invariant-pieces
 invariant-pieces g l =
     HasSameLink l.fn.self l.self
-    × ((g.W.Wire.seen l.self.wire.now).failures ≡ (g.W.Wire.seen l.fn.self.wire.now).failures)
+    × ((g.W.Wire.history l.self.wire.now).failures ≡ (g.W.Wire.history l.fn.self.wire.now).failures)
     × (l.body.spot ≢ Done)
     × WhereLinkSound g.W.Wire l.fn.self l.self (λ old new. (number : ℕ) (start : Place) (text : List ℕ) → Fetching (retr number) start old l.fn.body text
     → (more : List ℕ) × Fetching (retr number) start new l.body more)

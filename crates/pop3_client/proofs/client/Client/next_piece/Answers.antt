@@ -7,7 +7,7 @@ use Rattle.pop3_client.proofs.client.Client.next_piece.Goals as goal
 
 pub returns-in-Ok-clause-takes : goal.returns-in-Ok-clause-takes
 returns-in-Ok-clause-takes g c =
-    let new = at (g.W.Wire.seen c.next.new.wire) c.next.new.reader in
+    let new = at (g.W.Wire.history c.next.new.wire) c.next.new.reader in
     in_words g.W.Wire c.in-Ok.ensures.takes (λ took number start text now.
     let more : Fetching (retr number) start new c.next.new.self _ = record { line = now.line; mid = now.mid; opened = now.opened; under = took text_limit now.mid text now.under } in
     (more, λ ended. fetched number start new c.next.new.self _ more (c.in-Ok.ensures.ended.0 ended)))

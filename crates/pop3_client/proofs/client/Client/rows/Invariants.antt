@@ -8,7 +8,7 @@ use Rattle.pop3_client.proofs.client.Client.rows.Given as goal
 abbrev pub invariant-rows : goal.invariant-rows
 invariant-rows g l =
     HasSameLink l.fn.self l.self
-    × ((g.W.Wire.seen l.self.wire.now).failures ≡ (g.W.Wire.seen l.fn.self.wire.now).failures)
+    × ((g.W.Wire.history l.self.wire.now).failures ≡ (g.W.Wire.history l.fn.self.wire.now).failures)
     × All g.R.ListedRow.is_fit l.rows.items
     × WhereLinkSound g.W.Wire l.fn.self l.self (λ old new. TookRows g.R.ListedRow.turn g.R.ListedRow.stands_for old new l.rows.items)
 

@@ -9,7 +9,7 @@ returns-then-self-eq0-clause-takes g c = λ s.
     let left = ap (λ (b : Rest). b.left) c.self.view_is in (
       s,
       g.met.W.Wire.leads_same c.args.wire.now,
-      λ limit start text under. under_way_too_long limit start (at (g.W.Wire.seen c.args.wire.now) c.args.reader.now) c.args.self.now text under c.requires (omega (arith, left)),
+      λ limit start text under. under_way_too_long limit start (at (g.W.Wire.history c.args.wire.now) c.args.reader.now) c.args.self.now text under c.requires (omega (arith, left)),
     )
 
 pub returns-in-Err-clause-takes : goal.returns-in-Err-clause-takes
@@ -19,8 +19,8 @@ returns-in-Err-clause-takes g c = λ s.
     let after = nothing.2 s in (
       after.0,
       after.1,
-      λ limit start text under. under_way_ends limit start (g.W.Wire.seen c.args.wire.now) c.args.reader.now c.args.self.now text under c.requires (omega (arith, left))
-          c.in-Err.fault (g.W.Wire.seen c.draw.new.wire) c.draw.new.reader nothing.0 nothing.1 after.2,
+      λ limit start text under. under_way_ends limit start (g.W.Wire.history c.args.wire.now) c.args.reader.now c.args.self.now text under c.requires (omega (arith, left))
+          c.in-Err.fault (g.W.Wire.history c.draw.new.wire) c.draw.new.reader nothing.0 nothing.1 after.2,
     )
 
 pub returns-clause-takes : goal.returns-clause-takes
@@ -31,8 +31,8 @@ returns-clause-takes g c = λ s.
     let mine = rest_of c.self.inside.unstuffer c.self.inside.left in (
       after.0,
       after.1,
-      λ limit start text under. under_way_on limit start (g.W.Wire.seen c.args.wire.now) c.args.reader.now mine text
-          (subst (λ (b : Rest). UnderWay limit start (at (g.W.Wire.seen c.args.wire.now) c.args.reader.now) b text) (sym c.self.view_is) under)
-          (g.W.Wire.seen c.draw.new.wire) drawn.0 c.draw.new.reader c.use_waiting-fed.new.reader c.use_waiting-fed.result.used c.use_waiting-fed.new.unstuffer _
+      λ limit start text under. under_way_on limit start (g.W.Wire.history c.args.wire.now) c.args.reader.now mine text
+          (subst (λ (b : Rest). UnderWay limit start (at (g.W.Wire.history c.args.wire.now) c.args.reader.now) b text) (sym c.self.view_is) under)
+          (g.W.Wire.history c.draw.new.wire) drawn.0 c.draw.new.reader c.use_waiting-fed.new.reader c.use_waiting-fed.result.used c.use_waiting-fed.new.unstuffer _
           drawn.1 after.2.0 after.2.1 used.0 used.1 used.2 c.use_waiting-fed.ensures.reached,
     )
