@@ -1,5 +1,5 @@
 //! Why the program serves nothing, or ends early: its line on standard error and its exit status.
-ghost use Rattle.std.specs.Prelude.{◌≡◌, ◌≢◌};
+ghost use Rattle.std.specs.Prelude.{◌≡◌, ◌≢◌, ◌≤◌};
 ghost use Rattle.std.specs.IoError.{error_kind};
 ghost use Rattle.popd_program.specs.Failures.{status_of};
 
@@ -71,7 +71,8 @@ pub fn tell<R: Eprint>(rt: &R, failure: Failure<'_>) {
 /// Writes the failure's line, if there was a failure, and returns the exit status: 0 if there was
 /// none, 2 for a wrong number of words, 1 for any other failure.
 pub fn end<R: Eprint>(rt: &R, outcome: Result<(), Failure<'_>>) -> u8
-    ensures { result ≡ status_of outcome.entry }
+    ensures status { result ≡ status_of outcome.entry }
+    ensures within { result ≤ 2 }
 {
     match outcome {
         Ok(()) => 0,

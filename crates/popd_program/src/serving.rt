@@ -53,7 +53,7 @@ fn traced_name<R: AllocGlobal, E: Write + Copy>(
     }
 }
 
-/// Serves two streams: standard input and output.
+/// Serves two streams: standard input and output. Nothing is removed unless the session came to QUIT.
 pub fn serve_streams<R, E, I, O, D>(
     host: &Host<R, E>,
     server: &mut Server<D>,
@@ -67,6 +67,7 @@ where
     O: Write + Drop,
     D: Maildrop + Drop,
     requires { is_open server.old.state ≡ true }
+    ensures { is_open server.new.state ≡ true → (D.mail server.new.drop).removals ≡ (D.mail server.old.drop).removals }
 {
     let (input, output) = streams;
     let mut wire = link_over(host, (input, "standard input"), (output, "standard output"));
@@ -160,7 +161,7 @@ fn begin<'a, R: Clock + AllocGlobal, E: Write + Copy>(
     })
 }
 
-/// Serves a connection with limited waits.
+/// Serves a connection with limited waits. Nothing is removed unless the session came to QUIT.
 fn serve_bounded<R, E, D, J>(
     host: &Host<R, E>,
     server: &mut Server<D>,
@@ -174,6 +175,7 @@ where
     D: Maildrop,
     J: Journal + Drop,
     requires { is_open server.old.state ≡ true }
+    ensures { is_open server.new.state ≡ true → (D.mail server.new.drop).removals ≡ (D.mail server.old.drop).removals }
 {
     let mut wire = link_over(host, (stream, name), (stream, name));
     let mut journal = LoginJournal { stream, journal };

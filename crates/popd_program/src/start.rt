@@ -12,6 +12,7 @@ use crate::warning::warn_of;
 use crate::words::{Words, command, read_words};
 use clap::error::ErrorKind;
 use clap::{Command, Error};
+use command_line::show;
 use pop3_server::ServerFault;
 use std::env;
 use std::io::{Read, Write};
@@ -62,23 +63,19 @@ where
     }
 }
 
-/// Writes clap's text, help to standard output and a mistake to standard error, and returns the exit
-/// status: 0 for help that was written, 2 for a mistake.
-fn show<R: Print + Eprint>(rt: &R, error: &Error) -> u8
+/// Says why there are no words, and returns the exit status: 0 for help that was written, 1 for help
+/// that wasn't or if memory ran out, 2 for a mistake.
+fn explain<R: Print + Eprint>(rt: &R, error: &Error) -> u8
     ensures memory { kind_of error.now ≡ ErrorKind.OutOfMemory → result ≡ 1 }
     ensures help { kind_of error.now ≡ ErrorKind.DisplayHelp → result ≤ 1 }
     ensures mistake { kind_of error.now ≢ ErrorKind.OutOfMemory
         → kind_of error.now ≢ ErrorKind.DisplayHelp → result ≡ 2 }
+    ensures within { result ≤ 2 }
 {
-    let kind = error.kind();
-    if kind == ErrorKind::OutOfMemory {
-        return end(rt, Err(Failure::Fault(ServerFault::NoMemory)));
+    match show(rt, error) {
+        Some(status) => status,
+        None => end(rt, Err(Failure::Fault(ServerFault::NoMemory))),
     }
-    let shown = error.print(rt);
-    if kind != ErrorKind::DisplayHelp {
-        return 2;
-    }
-    if shown.is_ok() { 0 } else { 1 }
 }
 
 /// Writes the usage of a command to standard error.
@@ -104,6 +101,7 @@ where
     E: Write + Copy + Drop,
     I: Read + Drop,
     O: Write + Drop,
+    ensures { result ≤ 2 }
 {
     match read_words(rt.alloc(), arguments) {
         Ok(words) => {
@@ -114,7 +112,7 @@ where
             }
             status
         }
-        Err(error) => show(rt, &error),
+        Err(error) => explain(rt, &error),
     }
 }
 
@@ -127,6 +125,7 @@ where
     E: Write + Copy + Drop,
     I: Read + Drop,
     O: Write + Drop,
+    ensures { result ≤ 2 }
 {
     match arguments(rt) {
         Ok(arguments) => obey(rt, arguments.as_slice(), streams, err),

@@ -1,13 +1,12 @@
 //! The command line, read with clap.
-ghost use Rattle.std.specs.Prelude.{◌≡◌, IfOk, false, map, option_map};
+ghost use Rattle.std.specs.Prelude.{◌≡◌, IfOk, false, map};
 ghost use Rattle.std.specs.String.{string_bytes};
 ghost use Rattle.clap.specs.Words.{FailsBy, app_of, fault_of, found_of, matches_of, rows_of, rule_of};
-ghost use Rattle.popd_program.specs.CommandLine.{AsksFor, connections_rule, is_bare, listen_rule, more_rule, popd};
-ghost use Rattle.popd_program.specs.CommandLine.{rehearse_rule, trace_rule, verbose_rule, with_options, with_words};
-ghost use Rattle.popd_program.specs.CommandLine.{word_rule, words_after};
+ghost use Rattle.popd_program.specs.CommandLine.{AsksFor, connections_rule, is_bare, more_rule, popd};
+ghost use Rattle.popd_program.specs.CommandLine.{with_connections, with_flags, with_words, words_after};
 
-use clap::error::ErrorKind;
 use clap::{Arg, ArgAction, ArgMatches, Command, Error, value_parser};
+use command_line::{add, is_given, long_flag, long_value_option, text, word};
 use std::alloc::{AllocError, Global};
 
 /// What the command line asks for.
@@ -45,75 +44,35 @@ impl Words {
     }
 }
 
-/// `--listen ADDRESS`.
-fn listen_option<'a>(alloc: Global) -> Arg<'a>
-    ensures rule { rule_of result ≡ listen_rule }
-    ensures local { result.global ≡ false }
-{
-    Arg::new(alloc, "listen")
-        .long("listen")
-        .value_name("ADDRESS")
-        .help(
-            "Serve TCP connections to ADDRESS, HOST:PORT, one after the other [standard input and output]",
-        )
-        .action(ArgAction::Set)
-}
+// The lines of help.
+const ABOUT: &str = "Serves one user's Maildir over POP3; popd(8) says more";
+
+const USAGE: &str = "popd [OPTIONS] USER PASSFILE MAILDIR\n       popd --rehearse";
+
+const LISTEN: &str =
+    "Serve TCP connections to ADDRESS, HOST:PORT, one after the other [standard input and output]";
+
+const CONNECTIONS: &str = "End after N connections [4294967295]";
+
+const REHEARSE: &str =
+    "Serve two small messages to user u with password p on standard input and output";
+
+const VERBOSE: &str = "Report logins, refused logins and removals on standard error";
+
+const TRACE: &str = "Show conversations and refused calls of the system on standard error";
+
+const USER: &str = "The name of the user who may log in";
+
+const PASSFILE: &str = "The file whose first line is the password";
+
+const MAILDIR: &str = "The Maildir to serve";
 
 /// `--connections N`, a number of 32 bits.
 fn connections_option<'a>(alloc: Global) -> Arg<'a>
     ensures rule { rule_of result ≡ connections_rule }
     ensures local { result.global ≡ false }
 {
-    Arg::new(alloc, "connections")
-        .long("connections")
-        .value_name("N")
-        .help("End after N connections [4294967295]")
-        .value_parser(value_parser!(u32))
-        .action(ArgAction::Set)
-}
-
-/// `--rehearse`.
-fn rehearse_option<'a>(alloc: Global) -> Arg<'a>
-    ensures rule { rule_of result ≡ rehearse_rule }
-    ensures local { result.global ≡ false }
-{
-    Arg::new(alloc, "rehearse")
-        .long("rehearse")
-        .help("Serve two small messages to user u with password p on standard input and output")
-        .action(ArgAction::Count)
-}
-
-/// `--verbose`.
-fn verbose_option<'a>(alloc: Global) -> Arg<'a>
-    ensures rule { rule_of result ≡ verbose_rule }
-    ensures local { result.global ≡ false }
-{
-    Arg::new(alloc, "verbose")
-        .long("verbose")
-        .help("Report logins, refused logins and removals on standard error")
-        .action(ArgAction::Count)
-}
-
-/// `--trace`.
-fn trace_option<'a>(alloc: Global) -> Arg<'a>
-    ensures rule { rule_of result ≡ trace_rule }
-    ensures local { result.global ≡ false }
-{
-    Arg::new(alloc, "trace")
-        .long("trace")
-        .help("Show conversations and refused calls of the system on standard error")
-        .action(ArgAction::Count)
-}
-
-/// A word that is no option.
-fn word<'a>(alloc: Global, name: &'a str, shown: &'a str, help: &'a str) -> Arg<'a>
-    ensures rule { rule_of result ≡ word_rule name.entry.now }
-    ensures local { result.global ≡ false }
-{
-    Arg::new(alloc, name)
-        .value_name(shown)
-        .help(help)
-        .action(ArgAction::Set)
+    long_value_option(alloc, "connections", "N", CONNECTIONS).value_parser(value_parser!(u32))
 }
 
 /// Any words after these, so that the program can say that there are too many.
@@ -127,37 +86,33 @@ fn more_words<'a>(alloc: Global) -> Arg<'a>
         .hide(true)
 }
 
-// What help says of the program and of its words.
-const ABOUT: &str = "Serves one user's Maildir over POP3; popd(8) says more";
-
-const USAGE: &str = "popd [OPTIONS] USER PASSFILE MAILDIR\n       popd --rehearse";
-
-const USER: &str = "The name of the user who may log in";
-
-const PASSFILE: &str = "The file whose first line is the password";
-
-const MAILDIR: &str = "The Maildir to serve";
-
-/// A command with the options.
-fn with_options<'a>(alloc: Global, command: Command<'a>) -> Result<Command<'a>, AllocError>
-    ensures { IfOk result (λ added. app_of added ≡ with_options (app_of command.entry)) }
+/// A command with the options that say which connections are served.
+fn with_connections<'a>(alloc: Global, command: Command<'a>) -> Result<Command<'a>, AllocError>
+    ensures { IfOk result (λ added. app_of added ≡ with_connections (app_of command.entry)) }
 {
-    command
-        .arg(listen_option(alloc))?
-        .arg(connections_option(alloc))?
-        .arg(rehearse_option(alloc))?
-        .arg(verbose_option(alloc))?
-        .arg(trace_option(alloc))
+    let command = add(
+        command,
+        long_value_option(alloc, "listen", "ADDRESS", LISTEN),
+    )?;
+    add(command, connections_option(alloc))
+}
+
+/// A command with the flags.
+fn with_flags<'a>(alloc: Global, command: Command<'a>) -> Result<Command<'a>, AllocError>
+    ensures { IfOk result (λ added. app_of added ≡ with_flags (app_of command.entry)) }
+{
+    let command = add(command, long_flag(alloc, "rehearse", REHEARSE))?;
+    let command = add(command, long_flag(alloc, "verbose", VERBOSE))?;
+    add(command, long_flag(alloc, "trace", TRACE))
 }
 
 /// A command with USER PASSFILE MAILDIR.
 fn with_words<'a>(alloc: Global, command: Command<'a>) -> Result<Command<'a>, AllocError>
     ensures { IfOk result (λ added. app_of added ≡ with_words (app_of command.entry)) }
 {
-    command
-        .arg(word(alloc, "user", "USER", USER))?
-        .arg(word(alloc, "passfile", "PASSFILE", PASSFILE))?
-        .arg(word(alloc, "maildir", "MAILDIR", MAILDIR))
+    let command = add(command, word(alloc, "user", "USER", USER))?;
+    let command = add(command, word(alloc, "passfile", "PASSFILE", PASSFILE))?;
+    add(command, word(alloc, "maildir", "MAILDIR", MAILDIR))
 }
 
 /// The command line's options and words.
@@ -167,17 +122,10 @@ pub fn command<'a>(alloc: Global) -> Result<Command<'a>, AllocError>
     let command = Command::new(alloc, "popd")
         .about(ABOUT)
         .override_usage(USAGE);
-    with_words(alloc, with_options(alloc, command)?)?.arg(more_words(alloc))
-}
-
-/// A copy of a text.
-fn copy(alloc: Global, text: Option<&str>) -> Result<Option<String>, AllocError>
-    ensures { IfOk result (λ owned. option_map string_bytes owned ≡ option_map (λ t. t.now) text.entry) }
-{
-    match text {
-        None => Ok(None),
-        Some(text) => Ok(Some(String::from_str(alloc, text)?)),
-    }
+    let command = with_connections(alloc, command)?;
+    let command = with_flags(alloc, command)?;
+    let command = with_words(alloc, command)?;
+    add(command, more_words(alloc))
 }
 
 /// Copies of texts.
@@ -206,14 +154,14 @@ fn words_of(alloc: Global, matches: &ArgMatches<'_>) -> Result<Words, AllocError
     ensures { IfOk result (AsksFor (rows_of (found_of matches.now))) }
 {
     Ok(Words {
-        listen: copy(alloc, matches.get_str("listen"))?,
+        listen: text(alloc, matches, "listen")?,
         connections: matches.get_one("connections").unwrap_or(u32::MAX),
-        rehearse: matches.get_count("rehearse") > 0,
-        verbose: matches.get_count("verbose") > 0,
-        trace: matches.get_count("trace") > 0,
-        user: copy(alloc, matches.get_str("user"))?,
-        passfile: copy(alloc, matches.get_str("passfile"))?,
-        maildir: copy(alloc, matches.get_str("maildir"))?,
+        rehearse: is_given(matches, "rehearse"),
+        verbose: is_given(matches, "verbose"),
+        trace: is_given(matches, "trace"),
+        user: text(alloc, matches, "user")?,
+        passfile: text(alloc, matches, "passfile")?,
+        maildir: text(alloc, matches, "maildir")?,
         more: words_after(alloc, matches)?,
     })
 }
