@@ -1,11 +1,10 @@
--- What follows once a record is ready.
-use Rattle.std.proofs.Common.{◌≡◌, ℕ, Bool, List, [], ◌∷◌, ◌++◌, length, None, Ok, Err, refl, sym, ap, subst, ◌∙◌, arith}
+-- What follows once a record is ready, and what of it outlives a loss of power.
+use Rattle.std.proofs.Common.{◌≡◌, ℕ, Bool, List, [], ◌∷◌, ◌++◌, length, None, Ok, Err, refl, sym, ap, subst, ◌∙◌, arith, Result}
 use Rattle.std.proofs.lemmas.List.{length-map, append-nil}
 use Rattle.std.proofs.lemmas.List.FromFn.{length-enumerate_from}
 use Rattle.pop3_wire.specs.Place.{Place}
-use Rattle.mail_terms.specs.Listing.{Item}
-use Rattle.fetch_rules.specs.Record.{Row}
-use Rattle.mail_terms.specs.Listing.{numbered}
+use Rattle.mail_terms.specs.Listing.{Item, numbered}
+use Rattle.fetch_rules.specs.Record.{Row, Held, marked_all}
 use Rattle.fetch_rules.specs.Plan.{planned, step_of}
 use Rattle.rc_file.specs.declared.settings.Settings.{Settings}
 use Rattle.fetch_rules.specs.declared.steps.Step.{Step}
@@ -18,82 +17,115 @@ use Rattle.fetch_session.specs.declared.readiness.Ready.{Ready}
 use Rattle.fetch_session.specs.declared.fault.Cut.{Cut}
 use Rattle.fetch_session.specs.declared.report.ReportLine.{ReportLine}
 use Rattle.fetch_session.specs.Fault.{cut_of}
-use Rattle.fetch_session.specs.Task.{Task, says, tasks_planned}
-use Rattle.fetch_session.specs.Readiness.{IsReady, Unready}
-use Rattle.fetch_session.specs.Target.{Target, Stores}
+use Rattle.fetch_session.specs.Task.{Task, says, tasks_planned, Done, files_in as files_brought, texts_in, ids_in, files_of, texts_of, ids_of}
+use Rattle.fetch_session.specs.Readiness.{IsReady, Unready, Settles}
+use Rattle.fetch_session.specs.Target.{Target, Stores, AsFiles, AsEntries, in_mbox, stores_of}
 use Rattle.fetch_session.specs.Report.{skipped_in}
-use Rattle.fetch_session.specs.Scene.{Scene, scene, AllWent, Fell}
-use Rattle.fetch_session.specs.Plan.{tasks_ahead, Prepared, Unprepared, Carried}
-use Rattle.fetch_session.proofs.SceneLemmas.{brings_same, all_on, fell_on, fell_first, fell_before}
+use Rattle.fetch_session.specs.Scene.{Scene, scene, AllWent}
+use Rattle.fetch_session.specs.Plan.{tasks_ahead, Unprepared}
+use Rattle.fetch_session.proofs.SceneLemmas.{brings_same, all_on, fell_on, fell_first}
 use Rattle.fetch_session.proofs.TakeLemmas.{text_broken}
+use Rattle.std.specs.Prelude.{Contains}
+use Rattle.std.proofs.lemmas.Grind.{flat_map-append}
+use Rattle.std.specs.List.{flat_map, AllByRecursion}
+use Rattle.mail_store.specs.Maildir.{File, names_of, files_in}
+use Rattle.mail_store.specs.Mboxrd.{entry_of}
+use Rattle.mail_store.specs.declared.maildir.disk.Folder.{Folder}
+use Rattle.mail_store.specs.declared.maildir.disk.Folder.TheVariants.{New, Cur}
+use Rattle.mail_store.specs.declared.maildir.disk.MaildirDisk.{Ghosts as DiskGhosts}
+use Rattle.mail_store.specs.declared.file.flat_file.FlatFile.{Ghosts as FileGhosts}
+use Rattle.fetch_session.specs.declared.account.Store.{Store}
+use Rattle.fetch_session.specs.declared.account.Store.TheVariants.{Maildir as InMaildir, Mboxrd as InMbox}
+use Rattle.fetch_session.specs.Lasting.{AllStayIn, CarriedForGood, DoesForGood, DonesLast, KeepsMailIn, RowsLast, StayFrom, TextsLast, front_in, outlives_in}
 
 pub planned_length : (settings : Settings) (rows : List Row) (items : List Item) (now : ℕ) → length (planned settings rows items now) ≡ length items
 planned_length settings rows items now = length-map (numbered items) (step_of settings rows items now) ∙ length-enumerate_from 1 items
 
-pub unprepared : (target : Target) (items : List Item) (now : ℕ) (place : Place) (store : Stores) (file : Stored) (lines : List ReportLine) (fault : Fault) (cut : Cut) (store' : Stores) (file' : Stored)
+pub unprepared : {target : Target} {items : List Item} {now : ℕ} {place : Place} {store : Stores} {file : Stored} {lines : List ReportLine} {fault : Fault} {cut : Cut} {store' : Stores} {file' : Stored}
     → cut ≡ cut_of fault None → Unready target items now store file fault store' file' → Unprepared target items now place store file lines cut (scene place store' file' [] lines)
-unprepared target items now place store file lines fault cut store' file' plain why = record {
+unprepared {target} {items} {now} {place} {store} {file} {lines} {fault} {cut} {store'} {file'} plain why = record {
   none = ap (λ (c : Cut). c.rest) plain;
   unready = subst (λ (c : Cut). Unready target items now store file c.fault store' file') (sym plain) why;
   place_is = refl;
   lines_are = refl;
 }
 
-unfoldable pub said : (target : Target) (turn : Turn) (reply : WholeReply) (a b : Place) (store : Stores) (file : Stored) (rows : List Row) (lines : List ReportLine) → Talked (turn ∷ []) (reply ∷ []) a b
-    → AllWent target (says turn ∷ []) (scene a store file rows lines) (scene b store file rows lines)
-said target turn reply a b store file rows lines talked = record {
+unfoldable said : (target : Target) (turn : Turn) (reply : WholeReply) (s : Scene) (p : Place) → Talked (turn ∷ []) (reply ∷ []) s.place p → AllWent target (says turn ∷ []) s (record s { place = p })
+said target turn reply s p talked = record {
   dones = record { task = says turn; replies = reply ∷ [] } ∷ [];
   all = refl;
-  went = record { talked = talked; each = (talked.good, tt); stored = brings_same target (record { task = says turn; replies = reply ∷ [] }) store (λ account. refl) refl; rows = refl; saved = λ stands. stands; file_count = omega arith; lines = sym (append-nil lines) };
+  went = record { talked = talked; each = (talked.good, tt); stored = brings_same target (record { task = says turn; replies = reply ∷ [] }) s.store (λ account. refl) refl; rows = refl; saved = λ stands. stands; file_count = omega arith; lines = sym (append-nil s.lines) };
 }
 
-module _ (settings : Settings) (target : Target) (items : List Item) (now : ℕ) (place : Place) (store : Stores) (file : Stored) (lines : List ReportLine) (ready : Ready) (after : List Row) (store' : Stores) (file' : Stored)
-    (is : IsReady settings target items now store file ready after store' file') (steps : List Step) (held : List Bool) (steps_are : steps ≡ ready.steps.items) (held_are : held ≡ ready.held.items)
-    (skipped : ℕ) (skipped_is : skipped ≡ skipped_in steps) where
-  mid : Scene
-  mid = scene place store' file' after lines
+-- a turn that stores nothing, after other tasks
+said_lasts : {D F : Type 0} (disk : DiskGhosts D) (files : FileGhosts F) (target : Target) (dones : List Done) (replies : List WholeReply) (old : Scene)
+    (store : Store D F) (f : F) → DonesLast disk files target dones old store f
+    → DonesLast disk files target (dones ++ record { task = says quit; replies = replies } ∷ []) old store f
+said_lasts disk files target dones replies old store f last = record {
+  texts = texts target last.texts;
+  rows = subst (λ (ids : List (List ℕ)). RowsLast files f (marked_all old.rows ids))
+      (sym (flat_map-append (λ (d : Done). ids_in d.task) dones (record { task = says quit; replies = replies } ∷ []) ∙ append-nil (ids_of dones))) last.rows;
+}
+  where
+    texts : (target : Target) → TextsLast disk files target dones old.store store
+        → TextsLast disk files target (dones ++ record { task = says quit; replies = replies } ∷ []) old.store store
+    texts (AsFiles account) last = subst (λ (fs : List File). AllByRecursion (outlives_in disk store) fs)
+        (sym (flat_map-append (λ (d : Done). files_brought account d.task d.replies) dones (record { task = says quit; replies = replies } ∷ []) ∙ append-nil (files_of account dones))) last
+    texts AsEntries last = λ was is. subst (λ (ts : List (List ℕ)). front_in files store (was ++ flat_map entry_of ts))
+        (sym (flat_map-append (λ (d : Done). texts_in d.task d.replies) dones (record { task = says quit; replies = replies } ∷ []) ∙ append-nil (texts_of dones))) (last was is)
 
-  pub prepared : Prepared target items now place store file lines (scene place store' file' after lines)
-  prepared = record { was = is.was; stood = is.stood; rows = is.rows; saved = is.saved; file_count = is.file_count; place_is = refl; settles = is.settles; lines_are = refl }
-
-  pub skips : skipped ≡ skipped_in (planned settings after items now)
-  skips = skipped_is ∙ ap skipped_in (steps_are ∙ is.steps)
-
-  pub same_tasks : tasks_planned steps items held ++ says quit ∷ [] ≡ tasks_ahead settings target items now store after
-  same_tasks = ap (λ (ss : List Step). tasks_planned ss items held ++ says quit ∷ []) (steps_are ∙ is.steps)
-      ∙ ap (λ (hs : List Bool). tasks_planned (planned settings after items now) items hs ++ says quit ∷ []) (held_are ∙ is.held)
-
-  pub carry_fell : (new : Scene) (fault : Cut) → Fell target (tasks_planned steps items held) (scene place store' file' after lines) fault new
-      → Carried settings target items now place store file lines (Err fault) new skipped
-  carry_fell new fault fell = record {
-    mid = scene place store' file' after lines;
-    prepared = prepared;
-    skips = skips;
-    does = subst (λ (ts : List Task). Fell target ts (scene place store' file' after lines) fault new) same_tasks
-        (fell_before target (tasks_planned steps items held) (says quit ∷ []) (scene place store' file' after lines) new fault fell);
+-- QUIT was said after other tasks, and answered well or not
+module _ {D F : Type 0} {disk : DiskGhosts D} {files : FileGhosts F} {sure : Type 0} {target : Target} {xs : List Task} {a b : Scene} {end : Store D F} {f : F} where
+  pub good_quit : (reply : WholeReply) (p : Place) → DoesForGood disk files sure target xs a (Ok tt) b end f → Talked (quit ∷ []) (reply ∷ []) b.place p
+      → DoesForGood disk files sure target (xs ++ says quit ∷ []) a (Ok tt) (record b { place = p }) end f
+  unfolding all_on said
+  good_quit reply p does talked = record {
+    does = all_on target xs (says quit ∷ []) a b (record b { place = p }) does.does (said target quit reply b p talked);
+    lasts = λ s. said_lasts disk files target does.does.dones (reply ∷ []) a end f (does.lasts s);
   }
 
-  pub carry_quit : (a b : Place) (store'' : Stores) (file'' : Stored) (rows : List Row) (lines' : List ReportLine) (reply : WholeReply)
-      → AllWent target (tasks_planned steps items held) (scene place store' file' after lines) (scene a store'' file'' rows lines') → Talked (quit ∷ []) (reply ∷ []) a b
-      → Carried settings target items now place store file lines (Ok tt) (scene b store'' file'' rows lines') skipped
-  carry_quit a b store'' file'' rows lines' reply went talked = record {
-    mid = scene place store' file' after lines;
-    prepared = prepared;
-    skips = skips;
-    does = subst (λ (ts : List Task). AllWent target ts (scene place store' file' after lines) (scene b store'' file'' rows lines')) same_tasks
-        (all_on target (tasks_planned steps items held) (says quit ∷ []) (scene place store' file' after lines) (scene a store'' file'' rows lines') (scene b store'' file'' rows lines') went
-        (said target quit reply a b store'' file'' rows lines' talked));
+  pub good_broke : (p : Place) (fault : Fault) (cut : Cut) → DoesForGood disk files sure target xs a (Ok tt) b end f → cut ≡ cut_of fault None
+      → Broke quit b.place p fault → DoesForGood disk files sure target (xs ++ says quit ∷ []) a (Err cut) (record b { place = p }) end f
+  unfolding fell_on fell_first
+  good_broke p fault cut does plain broke = record {
+    does = fell_on target xs (says quit ∷ []) a b (record b { place = p }) cut does.does (fell_first target (says quit) [] b (record b { place = p }) cut
+        (text_broken target (says quit) quit b.place p b.store b.file b.rows b.lines fault cut refl plain broke));
+    lasts = λ s. subst (λ (dones : List Done). DonesLast disk files target dones a end f) (sym (append-nil does.does.dones)) (does.lasts s);
   }
 
-  pub carry_broke : (a b : Place) (store'' : Stores) (file'' : Stored) (rows : List Row) (lines' : List ReportLine) (fault : Fault) (cut : Cut)
-      → AllWent target (tasks_planned steps items held) (scene place store' file' after lines) (scene a store'' file'' rows lines') → cut ≡ cut_of fault None → Broke quit a b fault
-      → Carried settings target items now place store file lines (Err cut) (scene b store'' file'' rows lines') skipped
-  carry_broke a b store'' file'' rows lines' fault cut went plain broke = record {
-    mid = scene place store' file' after lines;
-    prepared = prepared;
-    skips = skips;
-    does = subst (λ (ts : List Task). Fell target ts (scene place store' file' after lines) cut (scene b store'' file'' rows lines')) same_tasks
-        (fell_on target (tasks_planned steps items held) (says quit ∷ []) (scene place store' file' after lines) (scene a store'' file'' rows lines') (scene b store'' file'' rows lines') cut went
-        (fell_first target (says quit) [] (scene a store'' file'' rows lines') (scene b store'' file'' rows lines') cut
-        (text_broken target (says quit) quit a b store'' file'' rows lines' fault cut refl plain broke)));
-  }
+-- the files that were there stay
+pub stay_from : {D F : Type 0} (disk : DiskGhosts D) (files : FileGhosts F) (target : Target) (was : Held) (old : Stores) (mid end : Store D F)
+    → Settles target was old (stores_of disk files mid) → AllStayIn disk mid → KeepsMailIn disk mid end → StayFrom disk target old end
+stay_from disk files (AsFiles account) was old (InMaildir device) end settles all keeps = λ folder name inside.
+    keeps.0 name (all folder name (subst (λ (s : Stores). Contains (names_of (files_in s.maildir folder)) name) (sym settles) inside))
+stay_from disk files (AsFiles account) was old (InMbox device) end settles all keeps = λ folder name inside.
+    absurd (nothing folder (subst (λ (s : Stores). Contains (names_of (files_in s.maildir folder)) name) (sym settles) inside))
+  where
+    nothing : {name : List ℕ} (folder : Folder) → Contains (names_of (files_in (in_mbox (files.stored device)).maildir folder)) name → ⊥
+    nothing New c = absurd (omega (arith, c.1))
+    nothing Cur c = absurd (omega (arith, c.1))
+stay_from disk files AsEntries was old mid end settles all keeps = tt
+
+-- the planned tasks and QUIT were done once the record was ready, or as far as went well
+pub carried : {D F : Type 0} (disk : DiskGhosts D) (files : FileGhosts F) {sure : Type 0} {settings : Settings} {target : Target} {items : List Item} {now : ℕ} {place : Place} {store : Stores} {file : Stored} {lines : List ReportLine} {ready : Ready} {after : List Row}
+    (before : Store D F) {end : Store D F} {f : F} {file' : Stored} (steps : List Step) (held : List Bool) {skipped : ℕ} {r : Result (Unit {0}) Cut} {new : Scene}
+    → IsReady settings target items now store file ready after (stores_of disk files before) file' → steps ≡ ready.steps.items → held ≡ ready.held.items → skipped ≡ skipped_in ready.steps.items
+    → (sure → AllStayIn disk before) → KeepsMailIn disk before end
+    → DoesForGood disk files sure target (tasks_planned steps items held ++ says quit ∷ []) (scene place (stores_of disk files before) file' after lines) r new end f
+    → CarriedForGood disk files sure settings target items now place store file lines r new skipped end f
+carried {D} {F} disk files {sure} {settings} {target} {items} {now} {place} {store} {file} {lines} {ready} {after} before {end} {f} {file'} steps held {skipped} {r} {new} is steps_are held_are skipped_is all keeps does =
+    let mid : Scene = scene place (stores_of disk files before) file' after lines in
+    let same : tasks_planned steps items held ++ says quit ∷ [] ≡ tasks_ahead settings target items now store after =
+    ap (λ (ss : List Step). tasks_planned ss items held ++ says quit ∷ []) (steps_are ∙ is.steps)
+    ∙ ap (λ (hs : List Bool). tasks_planned (planned settings after items now) items hs ++ says quit ∷ []) (held_are ∙ is.held) in
+    let good = subst (λ (ts : List Task). DoesForGood disk files sure target ts mid r new end f) same does in
+    record {
+      carried = record {
+        mid = mid;
+        prepared = record { was = is.was; stood = is.stood; rows = is.rows; saved = is.saved; file_count = is.file_count; place_is = refl; settles = is.settles; lines_are = refl };
+        does = good.does;
+        skips = skipped_is ∙ ap skipped_in is.steps;
+      };
+      lasts = good.lasts;
+      stay = λ s. stay_from disk files target is.was store before end is.settles (all s) keeps;
+    }

@@ -4,6 +4,7 @@ use Rattle.std.specs.Prelude.{◌||◌, bytes_eq}
 use Rattle.std.specs.List.{AllByRecursion, list_any}
 use Rattle.std.proofs.lemmas.Bool.{false_from_ne_true}
 use Rattle.std.proofs.lemmas.Grind.{flat_map-append}
+use Rattle.std.proofs.Math.Seq.{drop-cons}
 use Rattle.std.proofs.lemmas.Slice.Eq.{bytes_eq-Decides}
 use Rattle.mail_terms.specs.UniqueId.{IsLegalId}
 use Rattle.mail_terms.specs.Listing.{Item}
@@ -94,20 +95,6 @@ pub fresh_later : OneMore → (account : List ℕ) (step : Step) (item : Item) (
 fresh_later law account step item held later a b text grows fresh =
     fresh_on law account (ids_ahead (fetching step.retrieve held step.number item.uid item.size)) (ids_ahead later) a b text grows (subst (AreFresh account a) (ahead step item held later) fresh)
 
--- the tasks left from the i-th step on
-left : (steps : List Step) (items : List Item) (held : List Bool) (i : ℕ) (s : Step) (t : Item) (h : Bool) → i < length steps → i < length items → i < length held
-    → tasks_planned (drop i steps) (drop i items) (drop i held)
-    ≡ tasks_in (get_or steps i s) (get_or items i t) (get_or held i h) ++ tasks_planned (drop (suc i) steps) (drop (suc i) items) (drop (suc i) held)
-left [] items held i s t h a b c = absurd (omega arith)
-left (x ∷ xs) [] held i s t h a b c = absurd (omega arith)
-left (x ∷ xs) (y ∷ ys) [] i s t h a b c = absurd (omega arith)
-left (x ∷ xs) (y ∷ ys) (z ∷ zs) zero s t h a b c = refl
-left (x ∷ xs) (y ∷ ys) (z ∷ zs) (suc i) s t h a b c = left xs ys zs i s t h (omega arith) (omega arith) (omega arith)
-
-item_is : (item : Item) (uid : List ℕ) (size : ℕ) → uid ≡ item.uid → size ≡ item.size → item ≡ record { uid = uid; size = size }
-item_is item uid size u s =
-    ap (λ (k : List ℕ). let m : Item = record { uid = k; size = item.size } in m) (sym u) ∙ ap (λ (k : ℕ). let m : Item = record { uid = uid; size = k } in m) (sym s)
-
 pub no_item : Item
 no_item = record { uid = []; size = 0 }
 
@@ -130,7 +117,8 @@ pub tasks_left : (steps : List Step) (items : List Item) (held : List Bool) (i :
     → tasks_planned (drop i steps) (drop i items) (drop i held) ≡ tasks_in (step_at steps i) item (get_or held i false) ++ later_at steps items held i
 tasks_left steps items held i item within all_steps all_flags u s =
     let next : suc i ≡ i + 1 = omega arith in
-    left steps items held i (record { number = 0; retrieve = false; delete = false }) no_item false (omega (arith, within, all_steps)) within (omega (arith, within, all_flags))
-    ∙ ap (λ (t : Item). tasks_in (step_at steps i) t (get_or held i false) ++ tasks_planned (drop (suc i) steps) (drop (suc i) items) (drop (suc i) held))
-    (item_is (get_or items i no_item) item.uid item.size u s)
-    ∙ ap (λ (n : ℕ). tasks_in (step_at steps i) item (get_or held i false) ++ tasks_planned (drop n steps) (drop n items) (drop n held)) next
+    let of_steps = drop-cons steps i (record { number = 0; retrieve = false; delete = false }) (omega (arith, within, all_steps)) in
+    let of_items = drop-cons items i no_item within in
+    let of_held = drop-cons held i false (omega (arith, within, all_flags)) in
+    (λ j. tasks_planned (of_steps j) (of_items j) (of_held j))
+    ∙ (λ j. tasks_in (step_at steps i) (record { uid = sym u j; size = sym s j }) (get_or held i false) ++ tasks_planned (drop (next j) steps) (drop (next j) items) (drop (next j) held))

@@ -9,7 +9,7 @@ use Rattle.pop3_wire.specs.declared.command.Command.TheVariants.{Quit}
 use Rattle.mail_terms.specs.Listing.{Item}
 use Rattle.std.proofs.lemmas.Bool.{true≢false}
 use Rattle.pop3_client.specs.declared.fault.Asked.{Asked}
-use Rattle.pop3_client.specs.declared.fault.Asked.TheVariants.{Greeting as ByGreeting, User as ByUser, Pass as ByPass, Stat as ByStat, Uidl as ByUidl, List as ByList, Retr as ByRetr, Dele as ByDele, Quit as ByQuit}
+use Rattle.pop3_client.specs.declared.fault.Asked.TheVariants.{User as ByUser, Pass as ByPass, Quit as ByQuit}
 use Rattle.pop3_client.specs.Turns.{Turn, Names, retr, dele, quit}
 use Rattle.pop3_wire.specs.Line.{crlf, ended}
 use Rattle.pop3_client.specs.Texts.{Fetching}
@@ -29,8 +29,8 @@ use Rattle.fetch_session.specs.Opening.{opening, Enters}
 use Rattle.fetch_session.specs.Intake.{session_limit, step_limit, opening_limit, tail_limit, GotAtMost, Took, TookBefore, TookTillCut, TookWithTail}
 use Rattle.pop3_client.proofs.TalkLemmas.{stopped_first}
 
-pub took_on : (m n : ℕ) (a b c : Place) → Took m a b → Took n b c → Took (m + n) a c
-took_on m n a b c first then =
+pub took_on : {m n : ℕ} {a b c : Place} → Took m a b → Took n b c → Took (m + n) a c
+took_on {m} {n} {a} first then =
     let both : length (first.gained ++ then.gained) ≡ length first.gained + length then.gained = length-append first.gained then.gained in
     let one = first.within in
     let two = then.within in
@@ -40,16 +40,16 @@ took_on m n a b c first then =
       within = omega arith;
     }
 
-pub took_nothing : (a : Place) → Took 0 a a
-took_nothing a = record { gained = []; got = sym (append-nil a.link.got); within = omega arith }
+pub took_nothing : {a : Place} → Took 0 a a
+took_nothing {a} = record { gained = []; got = sym (append-nil a.link.got); within = omega arith }
 
-pub took_less : (m n : ℕ) (a b : Place) → m ≤ n → Took m a b → Took n a b
-took_less m n a b less took = let one = took.within in record { gained = took.gained; got = took.got; within = omega arith }
+pub took_less : {m n : ℕ} {a b : Place} → Took m a b → m ≤ n → Took n a b
+took_less took less = let one = took.within in record { gained = took.gained; got = took.got; within = omega arith }
 
 -- ---- a cut, with or without a reply under way
 
 before_on : (m n : ℕ) (a b c : Place) (rest : Option Rest) → Took m a b → TookBefore n b rest c → TookBefore (m + n) a rest c
-before_on m n a b c None first then = took_on m n a b c first then
+before_on m n a b c None first then = took_on first then
 before_on m n a b c (Some rest) first then =
     let small = then.within in
     record {
@@ -57,29 +57,29 @@ before_on m n a b c (Some rest) first then =
       number = then.number;
       start = then.start;
       text = then.text;
-      took = took_on m then.before a b then.start first then.took;
+      took = took_on first then.took;
       fetching = then.fetching;
       within = omega arith;
     }
 
 before_less : (m n : ℕ) (a b : Place) (rest : Option Rest) → m ≤ n → TookBefore m a rest b → TookBefore n a rest b
-before_less m n a b None less took = took_less m n a b less took
+before_less m n a b None less took = took_less took less
 before_less m n a b (Some rest) less took =
     let small = took.within in
     record { before = took.before; number = took.number; start = took.start; text = took.text; took = took.took; fetching = took.fetching; within = omega arith }
 
 -- behind what went well
 pub takes_on : (m n : ℕ) (a b c : Place) (result : Result (Unit {0}) Cut) → Took m a b → TookTillCut n b result c → TookTillCut (m + n) a result c
-takes_on m n a b c (Ok done) first then = took_on m n a b c first then
+takes_on m n a b c (Ok done) first then = took_on first then
 takes_on m n a b c (Err cut) first then = before_on m n a b c cut.rest first then
 
 pub takes_less : (m n : ℕ) (a b : Place) (result : Result (Unit {0}) Cut) → m ≤ n → TookTillCut m a result b → TookTillCut n a result b
-takes_less m n a b (Ok done) less took = took_less m n a b less took
+takes_less m n a b (Ok done) less took = took_less took less
 takes_less m n a b (Err cut) less took = before_less m n a b cut.rest less took
 
 -- with no reply under way
-pub takes_plain : (limit : ℕ) (a b : Place) (fault : Fault) (cut : Cut) → cut ≡ cut_of fault None → Took limit a b → TookTillCut limit a (Err cut) b
-takes_plain limit a b fault cut plain took = subst (λ (rest : Option Rest). TookBefore limit a rest b) (sym (ap (λ (c : Cut). c.rest) plain)) took
+pub takes_plain : {limit : ℕ} {a b : Place} {fault : Fault} {cut : Cut} → cut ≡ cut_of fault None → Took limit a b → TookTillCut limit a (Err cut) b
+takes_plain {limit} {a} {b} plain took = subst (λ (rest : Option Rest). TookBefore limit a rest b) (sym (ap (λ (c : Cut). c.rest) plain)) took
 
 -- ---- the most of tails
 
@@ -95,15 +95,10 @@ is_quit (Some Quit) = true
 is_quit _ = false
 
 only_quit : (to : Asked) → Names to quit → tail (Refused to) ≡ Nothing
-only_quit ByGreeting e = absurd (true≢false (ap is_quit e))
+only_quit ByQuit e = refl
 only_quit ByUser (name, e) = absurd (true≢false (ap is_quit e))
 only_quit ByPass (word, e) = absurd (true≢false (ap is_quit e))
-only_quit ByStat e = absurd (true≢false (ap is_quit e))
-only_quit ByUidl e = absurd (true≢false (ap is_quit e))
-only_quit ByList e = absurd (true≢false (ap is_quit e))
-only_quit (ByRetr number) e = absurd (true≢false (ap is_quit e))
-only_quit (ByDele number) e = absurd (true≢false (ap is_quit e))
-only_quit ByQuit e = refl
+only_quit _ e = absurd (true≢false (ap is_quit e))
 
 -- a conversation breaks for a fault of its own
 conversation_caused : (fault : Fault) (turn : Turn) (old new : Link) (bytes : List ℕ) → Cause fault turn old new bytes → IsOfConversation fault
@@ -142,11 +137,11 @@ with_any_tail limit a b cut took =
     (limit, took, omega (arith, small))
 
 pub with_tail_on : (m n : ℕ) (a b c : Place) (result : Result (Unit {0}) Cut) → Took m a b → TookWithTail n b result c → TookWithTail (m + n) a result c
-with_tail_on m n a b c (Ok done) first then = took_on m n a b c first then
+with_tail_on m n a b c (Ok done) first then = took_on first then
 with_tail_on m n a b c (Err cut) first (before, then, small) = (m + before, before_on m before a b c cut.rest first then, omega (arith, small))
 
 pub with_tail_less : (m n : ℕ) (a b : Place) (result : Result (Unit {0}) Cut) → m ≤ n → TookWithTail m a result b → TookWithTail n a result b
-with_tail_less m n a b (Ok done) less took = took_less m n a b less took
+with_tail_less m n a b (Ok done) less took = took_less took less
 with_tail_less m n a b (Err cut) less (before, took, small) = (before, took, omega (arith, less, small))
 
 -- a session that was brought to its end
@@ -184,7 +179,7 @@ module _ (paced : ConversationsArePaced) where
   took_broke turn old new why broke = took_talks (turn ∷ []) old new (Err why) (stopped_first turn [] old new why broke)
 
   pub took_retr : (number : ℕ) (old new : Place) (why : Fault) → Broke (retr number) old new why → Took 268437504 old new
-  took_retr number old new why broke = took_broke (retr number) old new why broke
+  took_retr number = took_broke (retr number)
 
   pub took_entering : (name password : List ℕ) (old new : Place) (result : Result (List Item) Fault) → Enters name password old result new → Took opening_limit old new
   took_entering name password old new (Ok items) (count, uids, sizes, opened, joins) = took_talked (opening name password) _ old new opened.talked
@@ -214,7 +209,7 @@ module _ (paced : ConversationsArePaced) where
       by_rest : (fault : Fault) (rest : Option Rest) → StopsReading number start text fault rest new → TookBefore 268437504 start rest new
       by_rest fault None broke = took_broke (retr number) start new fault broke
       by_rest fault (Some rest) reads =
-          record { before = 0; number = number; start = start; text = text; took = took_nothing start; fetching = reads.0; within = omega arith }
+          record { before = 0; number = number; start = start; text = text; took = took_nothing; fetching = reads.0; within = omega arith }
 
   -- a text that was dropped, and a message that was deleted
   pub took_passing : (number : ℕ) (start : Place) (result : Result ℕ Fault) (new : Place) → PassesText number start result new → Took 268437504 start new
@@ -229,21 +224,18 @@ module _ (paced : ConversationsArePaced) where
 
   -- what is left of a reply under way is dropped, and the tail said
   took_leaving : (limit : ℕ) (fault : Fault) (rest : Option Rest) (old mid last : Place) → TookBefore limit old rest mid → LeftBy fault rest mid last → Took (limit + most_of (tail_turns (tail fault))) old last
-  took_leaving limit fault None old mid last took left = took_on limit (most_of (tail_turns (tail fault))) old mid last took (took_talks (tail_turns (tail fault)) mid last left.0 left.1)
+  took_leaving limit fault None old mid last took left = took_on took (took_talks (tail_turns (tail fault)) mid last left.0 left.1)
   took_leaving limit fault (Some rest) old mid last so_far left =
       let said = left.1 so_far.number so_far.start so_far.text so_far.fetching in
       let all : Took (most_of (retr so_far.number ∷ tail_turns (tail fault))) so_far.start last = took_talks (retr so_far.number ∷ tail_turns (tail fault)) so_far.start last said.0 said.1 in
       let small = so_far.within in
-      took_less (so_far.before + most_of (retr so_far.number ∷ tail_turns (tail fault))) (limit + most_of (tail_turns (tail fault))) old last (omega (arith, small))
-      (took_on so_far.before (most_of (retr so_far.number ∷ tail_turns (tail fault))) old so_far.start last so_far.took all)
+      took_less (took_on so_far.took all) (omega (arith, small))
 
   -- a session that was cut and left
   pub cut_within : (messages : ℕ) (link : Link) (cut : Cut) (mid last : Place) → TookWithTail (opening_limit + (messages * step_limit + tail_limit)) (at link []) (Err cut) mid → Left cut mid last
       → length last.waiting ≤ 4096 → GotAtMost (session_limit messages) link last.link
   cut_within messages link cut mid last (before, took, small) left short =
-      ended_within messages link last
-      (took_less (before + most_of (tail_turns (tail cut.fault))) (opening_limit + (messages * step_limit + tail_limit)) (at link []) last small
-      (took_leaving before cut.fault cut.rest (at link []) mid last took left)) short
+      ended_within messages link last (took_less (took_leaving before cut.fault cut.rest (at link []) mid last took left) small) short
 
   -- a text that was to be kept whole
   pub takes_held : (number : ℕ) (start : Place) (cut : Cut) (new : Place) → HoldsText number start (Err cut) new → TookTillCut 268437504 start (Err cut) new

@@ -1,7 +1,8 @@
 -- How what single tasks leave for good makes what lists of tasks leave.
-use Rattle.std.proofs.Common.{◌≡◌, ℕ, List, [], ◌∷◌, ◌++◌, Option, None, Some, Result, Ok, Err, true, false, Bool, refl, sym, ap, subst, ◌∙◌, inl, inr, append_assoc, arith, length, length-append}
+use Rattle.std.proofs.Common.{◌≡◌, ℕ, List, [], ◌∷◌, ◌++◌, Option, None, Some, Result, Ok, Err, true, false, Bool, refl, sym, ap, subst, ◌∙◌, inl, inr, append_assoc, arith, length, length-append, ◌≤◌}
 use Rattle.std.proofs.lemmas.List.{append-nil, append_cancel_left}
 use Rattle.std.proofs.lemmas.Grind.{flat_map-append}
+use Rattle.std.proofs.lemmas.Option.{none-some}
 use Rattle.std.specs.List.{flat_map, AllByRecursion}
 use Rattle.std.specs.Prelude.{option_map}
 use Rattle.pop3_wire.specs.Place.{Place}
@@ -19,21 +20,11 @@ use Rattle.fetch_session.specs.declared.work.Work.{Work}
 use Rattle.fetch_session.specs.Record.{Steady}
 use Rattle.fetch_session.specs.Scene.{Scene, scene, Went, AllWent, Fell, Does}
 use Rattle.fetch_session.specs.Store.{Brings, Ends, begun_with}
-use Rattle.fetch_session.specs.Lasting.{DoesForGood, DonesLast, IsSafe, IsSafeStore, IsSafeWork, KeepsMailIn, KeepsWork, Lasts, NewOutlive, RowsLast, TextsLast, front_in, outlives_in}
-use Rattle.fetch_session.specs.Target.{Target, AsFiles, AsEntries, Stores, stores_of}
-use Rattle.fetch_session.specs.Task.{Task, Done, stores, rereads, skips, deletes, fetching, deleting, files_in, texts_in, ids_in, tasks_of, ids_of, files_of, texts_of}
+use Rattle.fetch_session.specs.Lasting.{DoesForGood, DonesLast, IsSafe, IsSafeStore, IsSafeWork, KeepsMailIn, KeepsWork, NewOutlive, RowsLast, TextsLast, front_in, outlives_in}
+use Rattle.fetch_session.specs.Target.{Kind, Target, AsFiles, AsEntries, Stores, kind_of, stores_of, target as target_at, target_of}
+use Rattle.fetch_session.specs.Task.{Task, Done, deletes, fetching, deleting, files_in, texts_in, ids_in, tasks_of, ids_of, files_of, texts_of}
 use Rattle.fetch_session.proofs.StoreLemmas.{settled}
-use Rattle.fetch_session.proofs.SceneLemmas.{all_append, all_none, all_on, does_more, fell_before, fell_on, marked_on}
-
-map_all : {A : Type 0} (P Q : A → Type 0) (xs : List A) → ((x : A) → P x → Q x) → AllByRecursion P xs → AllByRecursion Q xs
-map_all P Q [] on all = tt
-map_all P Q (x ∷ xs) on all = (on x all.0, map_all P Q xs on all.1)
-
-nothing_there : {P : Type 0} (bytes : List ℕ) → None ≡ Some bytes → P
-nothing_there {P} bytes e = absurd (apart e)
-  where
-    apart : None ≡ Some bytes → ⊥
-    apart k = cc
+use Rattle.fetch_session.proofs.SceneLemmas.{all_append, all_weaker, all_none, all_on, fell_before, fell_on, marked_on}
 
 -- what two calls one after the other keep
 pub keeps_mail_on : {s s' s'' : List ℕ → Type 0} {o o' o'' : File → Type 0} → KeepsMail s o s' o' → KeepsMail s' o' s'' o'' → KeepsMail s o s'' o''
@@ -69,7 +60,7 @@ texts_on : {D F : Type 0} (disk : DiskGhosts D) (file : FileGhosts F) (target : 
 texts_on disk file (AsFiles account) xs ys a b mid new brings first keeps then =
     subst (λ (fs : List File). AllByRecursion (outlives_in disk new) fs) (sym (flat_map-append (λ (d : Done). files_in account d.task d.replies) xs ys))
     (all_append (outlives_in disk new) (files_of account xs) (files_of account ys)
-    (map_all (outlives_in disk mid) (outlives_in disk new) (files_of account xs) keeps.1 first) then)
+    (all_weaker (outlives_in disk mid) (outlives_in disk new) (files_of account xs) keeps.1 first) then)
 texts_on disk file AsEntries xs ys a b mid new brings first keeps then = λ was is.
     subst (λ (bytes : List ℕ). front_in file new bytes)
     (append_assoc was (flat_map entry_of (texts_of xs)) (flat_map entry_of (texts_of ys))
@@ -79,7 +70,7 @@ texts_on disk file AsEntries xs ys a b mid new brings first keeps then = λ was 
 
 -- ---- tasks
 
-pub dones_on : {D F : Type 0} (disk : DiskGhosts D) (file : FileGhosts F) (target : Target) (xs ys : List Done) (a b : Scene) (mid new : Store D F)
+dones_on : {D F : Type 0} (disk : DiskGhosts D) (file : FileGhosts F) (target : Target) (xs ys : List Done) (a b : Scene) (mid new : Store D F)
     (f : F) → Went target xs a b → TextsLast disk file target xs a.store mid → KeepsMailIn disk mid new → DonesLast disk file target ys b new f
     → DonesLast disk file target (xs ++ ys) a new f
 dones_on disk file target xs ys a b mid new f went first keeps then = record {
@@ -89,60 +80,67 @@ dones_on disk file target xs ys a b mid new f went first keeps then = record {
       ∙ ap (marked_all a.rows) (sym (flat_map-append (λ (d : Done). ids_in d.task) xs ys))) then.rows;
 }
 
--- some tasks were done, and then others, or not all of them
-pub good_more : {D F : Type 0} (disk : DiskGhosts D) (file : FileGhosts F) (target : Target) (xs ys : List Task) (a b c : Scene)
-    (r : Result (Unit {0}) Cut) (mid new : Store D F) (f : F) → (went : AllWent target xs a b) → TextsLast disk file target went.dones a.store mid
-    → KeepsMailIn disk mid new → DoesForGood disk file target ys b r c new f → DoesForGood disk file target (xs ++ ys) a r c new f
-unfolding does_more all_on fell_on
-good_more disk file target xs ys a b c (Ok done) mid new f went first keeps then = (
-  does_more target xs ys a b c (Ok done) went then.0,
-  dones_on disk file target went.dones then.0.dones a b mid new f went.went first keeps then.1,
-)
-good_more disk file target xs ys a b c (Err cut) mid new f went first keeps then = (
-  does_more target xs ys a b c (Err cut) went then.0,
-  dones_on disk file target went.dones then.0.dones a b mid new f went.went first keeps then.1,
-)
-
--- what is left to do from here, done for good, is all done for good
-pub record LeadsForGood {D F : Type 0} (disk : DiskGhosts D) (file : FileGhosts F) (target : Target) (all : List Task) (start : Scene)
-    (left : List Task) (now : Scene) (mid : Store D F) : Type 0 where
-  pub on : (r : Result (Unit {0}) Cut) (new : Scene) (store : Store D F) (f : F) → KeepsMailIn disk mid store
-      → DoesForGood disk file target left now r new store f → DoesForGood disk file target all start r new store f
-
-pub good_start : {D F : Type 0} (disk : DiskGhosts D) (file : FileGhosts F) (target : Target) (all : List Task) (start : Scene) (mid : Store D F)
-    → LeadsForGood disk file target all start all start mid
-good_start disk file target all start mid = record { on = λ r new store f keeps does. does }
-
 pub mail_on : {D F : Type 0} (disk : DiskGhosts D) (a b c : Store D F) → KeepsMailIn disk a b → KeepsMailIn disk b c → KeepsMailIn disk a c
 mail_on disk a b c first then = keeps_mail_on first then
 
-pub good_on : {D F : Type 0} (disk : DiskGhosts D) (file : FileGhosts F) (target : Target) (all left xs ys : List Task) (start now mid : Scene)
-    (before after : Store D F) → left ≡ xs ++ ys → LeadsForGood disk file target all start left now before → (went : AllWent target xs now mid)
-    → TextsLast disk file target went.dones now.store after → KeepsMailIn disk before after
-    → LeadsForGood disk file target all start ys mid after
-good_on disk file target all left xs ys start now mid before after split leads went texts kept = record {
-  on = λ r new store f keeps does. leads.on r new store f (mail_on disk before after store kept keeps)
-      (subst (λ (ts : List Task). DoesForGood disk file target ts now r new store f) (sym split)
-      (good_more disk file target xs ys now mid new r after store f went texts keeps does));
-}
+-- the same where another premise gives this one, and for another store of this kind
+pub in_kind : {D F : Type 0} {disk : DiskGhosts D} {file : FileGhosts F} {here safe : Type 0} {tasks : List Task} {old new : Scene}
+    {r : Result (Unit {0}) Cut} {store : Store D F} {f : F} (a b : Store D F) (account : List ℕ) → kind_of a ≡ kind_of b
+    → DoesForGood disk file here (target_of a account) tasks old r new store f → (safe → here) → DoesForGood disk file safe (target_of b account) tasks old r new store f
+in_kind {D} {F} {disk} {file} {here} {safe} {tasks} {old} {new} {r} {store} {f} a b account same does on =
+    let moved = subst (λ (k : Kind). DoesForGood disk file here (target_at k account) tasks old r new store f) same does in
+    record { does = moved.does; lasts = λ s. moved.lasts (on s) }
 
-pub good_fell : {D F : Type 0} (disk : DiskGhosts D) (file : FileGhosts F) (target : Target) (all left xs ys : List Task) (start now new : Scene)
-    (cut : Cut) (before store : Store D F) (f : F) → left ≡ xs ++ ys → LeadsForGood disk file target all start left now before
-    → KeepsMailIn disk before store → DoesForGood disk file target xs now (Err cut) new store f
-    → DoesForGood disk file target all start (Err cut) new store f
-unfolding fell_before
-good_fell disk file target all left xs ys start now new cut before store f split leads keeps does =
-    leads.on (Err cut) new store f keeps
-    (subst (λ (ts : List Task). DoesForGood disk file target ts now (Err cut) new store f) (sym split)
-    (fell_before target xs ys now new cut does.0, record { texts = does.1.texts; rows = does.1.rows }))
+module _ {D F : Type 0} {disk : DiskGhosts D} {file : FileGhosts F} {safe : Type 0} {target : Target} where
+  -- some tasks were done, and then others, or not all of them
+  pub good_more : {xs ys : List Task} {a b c : Scene} (r : Result (Unit {0}) Cut) (mid : Store D F) {new : Store D F} {f : F} → (went : AllWent target xs a b)
+      → (safe → TextsLast disk file target went.dones a.store mid) → KeepsMailIn disk mid new → DoesForGood disk file safe target ys b r c new f
+      → DoesForGood disk file safe target (xs ++ ys) a r c new f
+  unfolding all_on fell_on
+  good_more {xs} {ys} {a} {b} {c} (Ok done) mid {new} {f} went first keeps then = record {
+    does = all_on target xs ys a b c went then.does;
+    lasts = λ s. dones_on disk file target went.dones then.does.dones a b mid new f went.went (first s) keeps (then.lasts s);
+  }
+  good_more {xs} {ys} {a} {b} {c} (Err cut) mid {new} {f} went first keeps then = record {
+    does = fell_on target xs ys a b c cut went then.does;
+    lasts = λ s. dones_on disk file target went.dones then.does.dones a b mid new f went.went (first s) keeps (then.lasts s);
+  }
 
-pub good_end : {D F : Type 0} (disk : DiskGhosts D) (file : FileGhosts F) (target : Target) (all left : List Task) (start now : Scene)
-    (mid : Store D F) (f : F) → left ≡ [] → LeadsForGood disk file target all start left now mid → DonesLast disk file target [] now mid f
-    → DoesForGood disk file target all start (Ok tt) now mid f
-unfolding all_none
-good_end disk file target all left start now mid f none leads last =
-    leads.on (Ok tt) now mid f (λ name s. s, λ g s. s)
-    (subst (λ (ts : List Task). DoesForGood disk file target ts now (Ok tt) now mid f) (sym none) (all_none target now, last))
+  -- some of these tasks were done, and none of those after them
+  pub good_before : {xs : List Task} (ys : List Task) {a new : Scene} {cut : Cut} {store : Store D F} {f : F} → DoesForGood disk file safe target xs a (Err cut) new store f
+      → DoesForGood disk file safe target (xs ++ ys) a (Err cut) new store f
+  unfolding fell_before
+  good_before {xs} ys {a} {new} {cut} does = record {
+    does = fell_before target xs ys a new cut does.does;
+    lasts = λ s. record { texts = (does.lasts s).texts; rows = (does.lasts s).rows };
+  }
+
+-- what is left to do from here is all that there is to do
+pub record Leads {D F : Type 0} (disk : DiskGhosts D) (file : FileGhosts F) (safe : Type 0) (target : Target) (all : List Task) (start : Scene)
+    (left : List Task) (now : Scene) (mid : Store D F) : Type 0 where
+  pub on : (r : Result (Unit {0}) Cut) (new : Scene) (store : Store D F) (f : F) → KeepsMailIn disk mid store
+      → DoesForGood disk file safe target left now r new store f → DoesForGood disk file safe target all start r new store f
+
+module _ {D F : Type 0} {disk : DiskGhosts D} {file : FileGhosts F} {safe : Type 0} {target : Target} {all left : List Task} {start now : Scene} {before : Store D F} where
+  pub leads_on : (xs ys : List Task) {mid : Scene} {after : Store D F} {f : F} → left ≡ xs ++ ys → Leads disk file safe target all start left now before
+      → DoesForGood disk file safe target xs now (Ok tt) mid after f → KeepsMailIn disk before after → Leads disk file safe target all start ys mid after
+  leads_on xs ys {mid} {after} split leads does kept = record {
+    on = λ r new store f keeps then. leads.on r new store f (mail_on disk before after store kept keeps)
+        (subst (λ (ts : List Task). DoesForGood disk file safe target ts now r new store f) (sym split)
+        (good_more r after does.does (λ s. (does.lasts s).texts) keeps then));
+  }
+
+  pub leads_fell : (xs ys : List Task) {new : Scene} {cut : Cut} {store : Store D F} {f : F} → left ≡ xs ++ ys → Leads disk file safe target all start left now before
+      → DoesForGood disk file safe target xs now (Err cut) new store f → KeepsMailIn disk before store → DoesForGood disk file safe target all start (Err cut) new store f
+  leads_fell xs ys {new} {cut} {store} {f} split leads does keeps =
+      leads.on (Err cut) new store f keeps (subst (λ (ts : List Task). DoesForGood disk file safe target ts now (Err cut) new store f) (sym split) (good_before ys does))
+
+  pub leads_end : {f : F} → left ≡ [] → Leads disk file safe target all start left now before → (safe → DonesLast disk file target [] now before f)
+      → DoesForGood disk file safe target all start (Ok tt) now before f
+  unfolding all_none
+  leads_end {f} none leads last =
+      let here : DoesForGood disk file safe target [] now (Ok tt) now before f = record { does = all_none target now; lasts = last } in
+      leads.on (Ok tt) now before f (λ name s. s, λ g s. s) (subst (λ (ts : List Task). DoesForGood disk file safe target ts now (Ok tt) now before f) (sym none) here)
 
 -- ---- what is safe
 
@@ -171,7 +169,7 @@ no_texts disk file old new whole AsEntries = λ was is. subst (λ (bytes : List 
 -- a safe mboxrd file
 pub whole_in : {D F : Type 0} (disk : DiskGhosts D) (file : FileGhosts F) (store : Store D F) → IsSafeStore file store
     → (bytes : List ℕ) → (stores_of disk file store).mbox.content ≡ Some bytes → front_in file store bytes
-whole_in disk file (InMaildir device) safe bytes is = nothing_there bytes is
+whole_in disk file (InMaildir device) safe bytes is = absurd (none-some bytes is)
 whole_in disk file (InMbox device) safe bytes is = safe.1 bytes is
 
 -- what came into the store is safe
@@ -185,69 +183,56 @@ texts_ok disk file AsEntries dones old new brings outlive safe = λ was is.
 
 -- ---- one message
 
-single : (task : Task) (dones : List Done) (next : Task) (later : List Task) → task ∷ [] ≡ tasks_of dones ++ (next ∷ later) → dones ≡ []
-single task [] next later e = refl
-single task (d ∷ dones) next later e = absurd (omega (arith, ap length e, length-append (tasks_of dones) (next ∷ later)))
+-- of one task that wasn't brought to its end nothing was done
+none_done : (tasks : List Task) (dones : List Done) (next : Task) (later : List Task) → length tasks ≤ 1 → tasks ≡ tasks_of dones ++ (next ∷ later) → dones ≡ []
+none_done tasks [] next later few e = refl
+none_done tasks (d ∷ dones) next later few e = absurd (omega (arith, few, ap length e, length-append (tasks_of dones) (next ∷ later)))
 
-one_fetched : (retrieve held : Bool) (number : ℕ) (uid : List ℕ) (size : ℕ) → (task : Task) × (fetching retrieve held number uid size ≡ task ∷ [])
-one_fetched true true number uid size = (rereads number uid, refl)
-one_fetched true false number uid size = (stores number uid, refl)
-one_fetched false held number uid size = (skips number size, refl)
+few_fetched : (retrieve held : Bool) (number : ℕ) (uid : List ℕ) (size : ℕ) → length (fetching retrieve held number uid size) ≤ 1
+few_fetched true true number uid size = omega arith
+few_fetched true false number uid size = omega arith
+few_fetched false held number uid size = omega arith
 
--- where a message wasn't fetched, nothing was done
-pub none_fetched : (target : Target) (retrieve held : Bool) (number : ℕ) (uid : List ℕ) (size : ℕ) (old new : Scene) (cut : Cut)
-    → (fell : Fell target (fetching retrieve held number uid size) old cut new) → fell.dones ≡ []
-none_fetched target retrieve held number uid size old new cut fell =
-    let one = one_fetched retrieve held number uid size in
-    single one.0 fell.dones fell.next fell.later (sym one.1 ∙ fell.split)
-
-none_deleted : (target : Target) (wanted : Bool) (number : ℕ) (old new : Scene) (cut : Cut) → (fell : Fell target (deleting wanted number) old cut new)
-    → fell.dones ≡ []
-none_deleted target true number old new cut fell = single (deletes number) fell.dones fell.next fell.later fell.split
-none_deleted target false number old new cut fell =
-    absurd (omega (arith, ap length fell.split, length-append (tasks_of fell.dones) (fell.next ∷ fell.later)))
+few_deleted : (wanted : Bool) (number : ℕ) → length (deleting wanted number) ≤ 1
+few_deleted true number = omega arith
+few_deleted false number = omega arith
 
 task_or : Task → List Task → Task
 task_or task [] = task
 task_or task (other ∷ more) = other
 
--- a deletion stores nothing and marks nothing
-deleted_only : {D F : Type 0} (disk : DiskGhosts D) (file : FileGhosts F) (target : Target) (wanted : Bool) (number : ℕ) (dones : List Done) (old : Scene)
-    (store : Store D F) (f : F) → deleting wanted number ≡ tasks_of dones → DonesLast disk file target [] old store f
-    → DonesLast disk file target dones old store f
-unfolding task_or
-deleted_only disk file target wanted number [] old store f e last = last
-deleted_only disk file target true number (d ∷ []) old store f e last =
-    let is : deletes number ≡ d.task = ap (task_or (deletes number)) e in record {
-      texts = same_texts target d is last.texts;
-      rows = subst (λ (task : Task). RowsLast file f (marked_all old.rows (ids_in task ++ []))) is last.rows;
-    }
-  where
-    same_texts : (target : Target) (d : Done) → deletes number ≡ d.task → TextsLast disk file target [] old.store store
-        → TextsLast disk file target (d ∷ []) old.store store
-    same_texts (AsFiles account) d is texts = subst (λ (task : Task). AllByRecursion (outlives_in disk store) (files_in account task d.replies ++ [])) is tt
-    same_texts AsEntries d is texts = λ was has.
-        subst (λ (task : Task). front_in file store (was ++ flat_map entry_of (texts_in task d.replies ++ []))) is (texts was has)
-deleted_only disk file target true number (d ∷ (e2 ∷ dones)) old store f e last = absurd (omega (arith, ap length e))
-deleted_only disk file target false number (d ∷ dones) old store f e last = absurd (omega (arith, ap length e))
+module _ {D F : Type 0} {disk : DiskGhosts D} {file : FileGhosts F} {target : Target} {old : Scene} {store : Store D F} {f : F} where
+  -- a deletion stores nothing and marks nothing
+  deleted_only : (wanted : Bool) (number : ℕ) (dones : List Done) → deleting wanted number ≡ tasks_of dones → DonesLast disk file target [] old store f
+      → DonesLast disk file target dones old store f
+  unfolding task_or
+  deleted_only wanted number [] e last = last
+  deleted_only true number (d ∷ []) e last =
+      subst (λ (task : Task). DonesLast disk file target (record { task = task; replies = d.replies } ∷ []) old store f) (ap (task_or (deletes number)) e)
+      (record { texts = same target last.texts; rows = last.rows })
+    where
+      same : (target : Target) → TextsLast disk file target [] old.store store → TextsLast disk file target (record { task = deletes number; replies = d.replies } ∷ []) old.store store
+      same (AsFiles account) texts = texts
+      same AsEntries texts = texts
+  deleted_only _ number (d ∷ dones) e last = absurd (omega (arith, ap length e))
 
-pub deleted_lasts : {D F : Type 0} (disk : DiskGhosts D) (file : FileGhosts F) (target : Target) (wanted : Bool) (number : ℕ) (old new : Scene)
-    (r : Result (Unit {0}) Cut) (store : Store D F) (f : F) → (does : Does target (deleting wanted number) old r new)
-    → DonesLast disk file target [] old store f → Lasts disk file target (deleting wanted number) old r new does store f
-deleted_lasts disk file target wanted number old new (Ok done) store f does last =
-    deleted_only disk file target wanted number does.dones old store f does.all last
-deleted_lasts disk file target wanted number old new (Err cut) store f does last =
-    subst (λ (dones : List Done). DonesLast disk file target dones old store f) (sym (none_deleted target wanted number old new cut does)) last
+module _ {D F : Type 0} {disk : DiskGhosts D} {file : FileGhosts F} {safe : Type 0} {target : Target} {old : Scene} {store : Store D F} {f : F} where
+  fell_few : {tasks : List Task} {new : Scene} {cut : Cut} → length tasks ≤ 1 → Fell target tasks old cut new → (safe → DonesLast disk file target [] old store f)
+      → DoesForGood disk file safe target tasks old (Err cut) new store f
+  fell_few {tasks} few fell last = record {
+    does = fell;
+    lasts = λ s. subst (λ (dones : List Done). DonesLast disk file target dones old store f) (sym (none_done tasks fell.dones fell.next fell.later few fell.split)) (last s);
+  }
 
--- the message wasn't fetched
-pub not_fetched : {D F : Type 0} (disk : DiskGhosts D) (file : FileGhosts F) (target : Target) (retrieve held : Bool) (number : ℕ) (uid : List ℕ)
-    (size : ℕ) (more : List Task) (old new : Scene) (cut : Cut) (store : Store D F) (f : F)
-    → Fell target (fetching retrieve held number uid size) old cut new → DonesLast disk file target [] old store f
-    → DoesForGood disk file target (fetching retrieve held number uid size ++ more) old (Err cut) new store f
-unfolding fell_before
-not_fetched disk file target retrieve held number uid size more old new cut store f fell last =
-    let last' = subst (λ (dones : List Done). DonesLast disk file target dones old store f) (sym (none_fetched target retrieve held number uid size old new cut fell)) last in
-    (fell_before target (fetching retrieve held number uid size) more old new cut fell, record { texts = last'.texts; rows = last'.rows })
+  pub good_deleted : (wanted : Bool) (number : ℕ) {new : Scene} (r : Result (Unit {0}) Cut) → Does target (deleting wanted number) old r new
+      → (safe → DonesLast disk file target [] old store f) → DoesForGood disk file safe target (deleting wanted number) old r new store f
+  good_deleted wanted number (Ok done) does last = record { does = does; lasts = λ s. deleted_only wanted number does.dones does.all (last s) }
+  good_deleted wanted number (Err cut) does last = fell_few (few_deleted wanted number) does last
+
+  -- the message wasn't fetched
+  pub not_fetched : (retrieve held : Bool) (number : ℕ) (uid : List ℕ) (size : ℕ) (more : List Task) {new : Scene} {cut : Cut} → Fell target (fetching retrieve held number uid size) old cut new
+      → (safe → DonesLast disk file target [] old store f) → DoesForGood disk file safe target (fetching retrieve held number uid size ++ more) old (Err cut) new store f
+  not_fetched retrieve held number uid size more fell last = good_before more (fell_few (few_fetched retrieve held number uid size) fell last)
 
 -- ---- where nothing is done
 

@@ -1,6 +1,5 @@
 mod CarryLemmas
 mod FreshLemmas
-mod GoodLemmas
 mod IntakeLemmas
 mod LastLemmas
 mod MboxLemmas

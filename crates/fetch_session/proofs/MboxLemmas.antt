@@ -1,6 +1,6 @@
 -- What is done to an mboxrd file, and what it leaves.
-use Rattle.std.proofs.Common.{◌≡◌, ◌⊎◌, inl, inr, ◌+◌, ℕ, Bool, false, true, List, [], ◌∷◌, ◌++◌, length, Option, None, Some, Ok, Err, refl, sym, ap, subst, ◌∙◌, arith, append_assoc}
-use Rattle.std.proofs.lemmas.Bool.{true≢false}
+use Rattle.std.proofs.Common.{◌≡◌, ◌⊎◌, inl, inr, ◌+◌, ℕ, Bool, List, [], ◌∷◌, ◌++◌, length, Option, None, Some, Ok, Err, refl, sym, ap, subst, ◌∙◌, arith, append_assoc}
+use Rattle.std.proofs.lemmas.Option.{none-some, same_Some}
 use Rattle.std.proofs.lemmas.List.{append-nil}
 use Rattle.pop3_wire.specs.Body.{kept, text_of, unstuffed}
 use Rattle.mail_terms.specs.Listing.{Item}
@@ -11,7 +11,6 @@ use Rattle.fetch_rules.specs.Record.{Row, Held, Intent, Loaded, none_open, marke
 use Rattle.mail_store.specs.FlatFile.{Stored, holding, counted, edges_of, Denies, Measures}
 use Rattle.mail_store.specs.Mboxrd.{MayGoOn, entry_of}
 use Rattle.mail_store.specs.MboxCalls.{GoesOn, RefusesLook, Checks, AppendsEntry}
-use Rattle.mail_store.specs.Settling.{stands_whole, settled_file}
 use Rattle.mail_store.specs.declared.fault.StoreFault.{StoreFault}
 use Rattle.mail_store.specs.declared.fault.StoreFault.TheVariants as refused
 use Rattle.mail_store.specs.declared.file.flat_file.Edges.{Edges}
@@ -22,8 +21,7 @@ use Rattle.pop3_client.specs.Texts.{Fetched, Fetching, body_text}
 use Rattle.pop3_client.specs.Turns.{retr}
 use Rattle.fetch_session.specs.declared.fault.Cut.{Cut}
 use Rattle.pop3_client.specs.declared.fault.Fault.{Fault}
-use Rattle.pop3_client.specs.declared.fault.Fault.TheVariants.{StoreRefused, SeenRefused, NoMemory, ConnectionEnded, ReadFailed, WriteFailed, ReplyTooLong, BadReply, BadListing, ListingsDisagree, TooMany, TextTooLong, BadSeen}
-use Rattle.pop3_client.specs.declared.fault.Fault.TheVariants.{Refused as RefusedReply}
+use Rattle.pop3_client.specs.declared.fault.Fault.TheVariants.{SeenRefused, NoMemory}
 use Rattle.fetch_session.specs.declared.readiness.Found.{Found}
 use Rattle.fetch_session.specs.Fault.{cut_of}
 use Rattle.fetch_session.specs.Mbox.{AppendsText, AsksMbox, HoldsText, IsIntended, IsSettledAtMost, IsStoreFault, MarksEntry, RefusesEntry, SettlesIntent, intent_of}
@@ -38,19 +36,8 @@ use Rattle.fetch_session.specs.Target.{AsEntries, Stores, closed_file, in_mbox, 
 
 -- ---- contents
 
-abbrev has_some : Option (List ℕ) → Bool
-has_some None = false
-has_some (Some bytes) = true
-
-abbrev bytes_or : Option (List ℕ) → List ℕ
-bytes_or None = []
-bytes_or (Some bytes) = bytes
-
-some_same : (a b : List ℕ) → Some a ≡ Some b → a ≡ b
-some_same a b is = ap bytes_or is
-
 none_some : {P : Type 0} (content : Option (List ℕ)) (bytes : List ℕ) → content ≡ None → content ≡ Some bytes → P
-none_some content bytes none some = absurd (true≢false (sym (ap has_some some) ∙ ap has_some none))
+none_some content bytes none some = absurd (none-some bytes (sym none ∙ some))
 
 either : (content : Option (List ℕ)) → (content ≡ None) ⊎ ((bytes : List ℕ) × (content ≡ Some bytes))
 either None = inl refl
@@ -64,39 +51,36 @@ content_of a b is = ap (λ (s : Stored). s.content) is
 
 -- ---- settling
 
-settle_none : (intent : Option Intent) (old mid : Stored) (stored : Bool) → SettlesIntent intent old (Ok stored) mid → old.content ≡ None → mid ≡ old
-settle_none None old mid stored is none = is.1
-settle_none (Some intent) old mid stored (was, some, whole, now) none = none_some old.content was none some
-
-settle_some : (intent : Option Intent) (old mid : Stored) (stored : Bool) (was : List ℕ) → SettlesIntent intent old (Ok stored) mid → old.content ≡ Some was
-    → (stored ≡ is_stored intent was) × (mid ≡ holding old (closed_file intent was))
-settle_some None old mid stored was is some = (is.0, is.1 ∙ held_same old was some)
-settle_some (Some intent) old mid stored was (bytes, is, whole, now) some =
-    let same : bytes ≡ was = some_same bytes was (sym is ∙ some) in (
-      whole ∙ ap (stands_whole intent.start intent.len) same,
-      now ∙ ap (λ (b : List ℕ). holding old (settled_file intent.start intent.len b)) same,
-    )
+-- an intent was ended, and there was no file, or it is settled
+settled_is : (intent : Option Intent) (old mid : Stored) (stored : Bool) → SettlesIntent intent old (Ok stored) mid
+    → ((old.content ≡ None) × (mid ≡ old)) ⊎ ((was : List ℕ) × (old.content ≡ Some was) × (stored ≡ is_stored intent was) × (mid ≡ holding old (closed_file intent was)))
+settled_is None old mid stored (whole, same) =
+    elim (either old.content) [
+      | inl none ↦ inl (none, same)
+      | inr (was, some) ↦ inr (was, some, whole, same ∙ held_same old was some)
+    ]
+settled_is (Some intent) old mid stored (was, some, whole, now) = inr (was, some, whole, now)
 
 pub asks_ok : (intent : Option Intent) (old mid new : Stored) (stored : Bool) (items : List Item) (found : Found) → SettlesIntent intent old (Ok stored) mid → Checks {T = Unit {0}} mid (Ok tt) new → found.stored ≡ stored → found.held.items ≡ none_held items
     → AsksMbox intent old items (Ok found) new
 asks_ok intent old mid new stored items found settles ((bytes, goes_on), same) stored_is flags =
-    elim (either old.content) [
-      | inl none ↦ none_some mid.content bytes (content_of mid old (settle_none intent old mid stored settles none) ∙ none) goes_on.0
-      | inr (was, some) ↦ (let now = settle_some intent old mid stored was settles some in (
+    elim (settled_is intent old mid stored settles) [
+      | inl (none, is) ↦ none_some mid.content bytes (content_of mid old is ∙ none) goes_on.0
+      | inr (was, some, whole, now) ↦ (
         was,
         some,
-        stored_is ∙ now.0,
-        same ∙ now.1,
-        subst MayGoOn (some_same bytes (closed_file intent was) (sym goes_on.0 ∙ content_of mid (holding old (closed_file intent was)) now.1)) goes_on.1,
+        stored_is ∙ whole,
+        same ∙ now,
+        subst MayGoOn (same_Some bytes (closed_file intent was) (sym goes_on.0 ∙ content_of mid (holding old (closed_file intent was)) now)) goes_on.1,
         flags,
-      ))
+      )
     ]
 
 at_most : (intent : Option Intent) (old mid new : Stored) (stored : Bool) → SettlesIntent intent old (Ok stored) mid → new.content ≡ mid.content → IsSettledAtMost intent old new
 at_most intent old mid new stored settles same =
-    elim (either old.content) [
-      | inl none ↦ inl (same ∙ content_of mid old (settle_none intent old mid stored settles none))
-      | inr (was, some) ↦ inr (was, some, same ∙ content_of mid (holding old (closed_file intent was)) (settle_some intent old mid stored was settles some).1)
+    elim (settled_is intent old mid stored settles) [
+      | inl (none, is) ↦ inl (same ∙ content_of mid old is)
+      | inr (was, some, whole, now) ↦ inr (was, some, same ∙ content_of mid (holding old (closed_file intent was)) now)
     ]
 
 failures_kept : (intent : Option Intent) (old mid : Stored) (stored : Bool) → SettlesIntent intent old (Ok stored) mid → mid.failures ≡ old.failures
@@ -108,23 +92,23 @@ pub asks_refused : (intent : Option Intent) (old mid new : Stored) (stored : Boo
     → AsksMbox intent old items (Err fault) new
 asks_refused intent old mid new stored items refused.Missing fault settles (none, same) is =
     subst (λ (f : Fault). AsksMbox intent old items (Err f) new) (sym is)
-    (elim (either old.content) [
-      | inl missing ↦ (missing, same ∙ settle_none intent old mid stored settles missing)
-      | inr (was, some) ↦ none_some mid.content (closed_file intent was) none (content_of mid (holding old (closed_file intent was)) (settle_some intent old mid stored was settles some).1)
+    (elim (settled_is intent old mid stored settles) [
+      | inl (missing, is) ↦ (missing, same ∙ is)
+      | inr (was, some, whole, now) ↦ none_some mid.content (closed_file intent was) none (content_of mid (holding old (closed_file intent was)) now)
     ])
 asks_refused intent old mid new stored items refused.Refused fault settles same is =
     subst (λ (f : Fault). AsksMbox intent old items (Err f) new) (sym is)
     (ap (λ (s : Stored). s.failures) same ∙ ap (λ (n : ℕ). n + 1) (failures_kept intent old mid stored settles), at_most intent old mid new stored settles (content_of new (counted mid) same))
 asks_refused intent old mid new stored items refused.NotMbox fault settles ((bytes, is_mid, other), same) is =
     subst (λ (f : Fault). AsksMbox intent old items (Err f) new) (sym is)
-    (elim (either old.content) [
-      | inl none ↦ none_some mid.content bytes (content_of mid old (settle_none intent old mid stored settles none) ∙ none) is_mid
-      | inr (was, some) ↦ (let now = settle_some intent old mid stored was settles some in (
+    (elim (settled_is intent old mid stored settles) [
+      | inl (none, is) ↦ none_some mid.content bytes (content_of mid old is ∙ none) is_mid
+      | inr (was, some, whole, now) ↦ (
         was,
         some,
-        λ goes_on. other (subst MayGoOn (sym (some_same bytes (closed_file intent was) (sym is_mid ∙ content_of mid (holding old (closed_file intent was)) now.1))) goes_on),
-        same ∙ now.1,
-      ))
+        λ goes_on. other (subst MayGoOn (sym (same_Some bytes (closed_file intent was) (sym is_mid ∙ content_of mid (holding old (closed_file intent was)) now))) goes_on),
+        same ∙ now,
+      )
     ])
 asks_refused intent old mid new stored items refused.NoMemory fault settles never is = absurd never
 
@@ -141,8 +125,7 @@ held_wanting number start new cut rest text plain fetching = (ap (λ (c : Cut). 
 edges_denied : (mbox mbox' file : Stored) (rows : List Row) (uid text : List ℕ) (why : StoreFault) (fault : Fault) → Denies mbox why mbox' → IsStoreFault why fault → RefusesEntry mbox file rows uid text fault mbox' file
 edges_denied mbox mbox' file rows uid text refused.Missing fault is fault_is = subst (λ (f : Fault). RefusesEntry mbox file rows uid text f mbox' file) (sym fault_is) (is.0, is.1, refl)
 edges_denied mbox mbox' file rows uid text refused.Refused fault is fault_is = subst (λ (f : Fault). RefusesEntry mbox file rows uid text f mbox' file) (sym fault_is) (inl (is, refl))
-edges_denied mbox mbox' file rows uid text refused.NotMbox fault never fault_is = absurd never
-edges_denied mbox mbox' file rows uid text refused.NoMemory fault never fault_is = absurd never
+edges_denied mbox mbox' file rows uid text _ fault never fault_is = absurd never
 
 -- the file was refused before the record told of the entry
 pub not_measured : (mbox mbox' file : Stored) (rows : List Row) (uid text : List ℕ) (why : StoreFault) (fault : Fault) → Measures mbox (Err why) mbox' → IsStoreFault why fault → RefusesEntry mbox file rows uid text fault mbox' file
@@ -164,18 +147,7 @@ not_intended mbox mid file file' rows uid text edges len SeenRefused ((was, some
   ),
 )
 not_intended mbox mid file file' rows uid text edges len NoMemory ((was, some, edges_are), same) len_is saves = (same, inl saves)
-not_intended mbox mid file file' rows uid text edges len ConnectionEnded measures len_is never = absurd never
-not_intended mbox mid file file' rows uid text edges len ReadFailed measures len_is never = absurd never
-not_intended mbox mid file file' rows uid text edges len WriteFailed measures len_is never = absurd never
-not_intended mbox mid file file' rows uid text edges len ReplyTooLong measures len_is never = absurd never
-not_intended mbox mid file file' rows uid text edges len BadReply measures len_is never = absurd never
-not_intended mbox mid file file' rows uid text edges len (RefusedReply to) measures len_is never = absurd never
-not_intended mbox mid file file' rows uid text edges len BadListing measures len_is never = absurd never
-not_intended mbox mid file file' rows uid text edges len ListingsDisagree measures len_is never = absurd never
-not_intended mbox mid file file' rows uid text edges len TooMany measures len_is never = absurd never
-not_intended mbox mid file file' rows uid text edges len TextTooLong measures len_is never = absurd never
-not_intended mbox mid file file' rows uid text edges len (BadSeen line) measures len_is never = absurd never
-not_intended mbox mid file file' rows uid text edges len (StoreRefused why) measures len_is never = absurd never
+not_intended mbox mid file file' rows uid text edges len _ measures len_is never = absurd never
 
 pub intended : (mbox mid file file' : Stored) (rows : List Row) (uid text : List ℕ) (edges : Edges) (len : ℕ) → Measures mbox (Ok edges) mid → len ≡ length (entry_of text)
     → Saves file (none_open rows) (with_open rows (intent_at uid edges.size len)) (Ok tt) file' → IsIntended mbox file rows uid text file'
@@ -202,7 +174,7 @@ pub appended_all : (mbox mid mbox' file file' : Stored) (seen seen' : Loaded) (u
     → AppendsEntry {T = Unit {0}} mid text (Ok tt) mbox' → AppendsText mbox file seen uid text (Ok tt) mbox' file' seen'
 appended_all mbox mid mbox' file file' seen seen' uid text edges len ((was, some, edges_are), same) len_is opened saves appends =
     let here : AppendsEntry {T = Unit {0}} mbox text (Ok tt) mbox' = subst (λ (m : Stored). AppendsEntry {T = Unit {0}} m text (Ok tt) mbox') same appends in
-    let bytes_are : here.0 ≡ was = some_same here.0 was (sym here.1.0 ∙ some) in
+    let bytes_are : here.0 ≡ was = same_Some here.0 was (sym here.1.0 ∙ some) in
     let is : intent_at uid edges.size len ≡ intent_of was uid text = intent_is uid was text edges len edges_are len_is in (
       was,
       subst (GoesOn mbox) bytes_are here.1,
@@ -234,17 +206,18 @@ body_whole None = inl refl
 body_whole (Some lines) = text_whole lines
 
 -- the text wasn't read whole
-pub not_held : (n : ℕ) (uid : List ℕ) (a b : Place) (store : Stores) (file : Stored) (rows : List Row) (lines : List ReportLine) (cut : Cut) → HoldsText n a (Err cut) b
+pub not_held : {n : ℕ} {uid : List ℕ} {a b : Place} {store : Stores} {file : Stored} {rows : List Row} {lines : List ReportLine} {cut : Cut} → HoldsText n a (Err cut) b
     → Stops AsEntries (stores n uid) (scene a store file rows lines) cut (scene b store file rows lines)
-not_held n uid a b store file rows lines cut (none, inl broke) =
+not_held {n} (none, inl broke) =
     inl (record { none = none; turn = retr n; takes = refl; broke = broke; store = refl; file = refl; rows = refl; lines = refl })
-not_held n uid a b store file rows lines cut (none, inr (wants, (rest, text, fetching))) =
+not_held {n} {uid} (none, inr (wants, (rest, text, fetching))) =
     inr (inl (inl (record { none = none; number = n; uid = uid; rest = rest; text = text; is = refl; wants = wants; fetching = fetching; store = refl; file = refl; rows = refl; lines = refl })))
 
 -- it wasn't appended
-pub text_refused : (n : ℕ) (uid text bytes : List ℕ) (a b : Place) (mbox mbox' file file' : Stored) (rows rows' : List Row) (lines lines' : List ReportLine) (fault : Fault) (cut : Cut) → Fetched (retr n) a text b → bytes ≡ text → cut ≡ cut_of fault None
-    → RefusesEntry mbox file rows uid bytes fault mbox' file' → rows' ≡ rows → lines' ≡ lines → Stops AsEntries (stores n uid) (scene a (in_mbox mbox) file rows lines) cut (scene b (in_mbox mbox') file' rows' lines')
-text_refused n uid text bytes a b mbox mbox' file file' rows rows' lines lines' fault cut (reply, talked, is) same plain refuses rows_are told =
+pub text_refused : {n : ℕ} {uid : List ℕ} {a b : Place} {mbox mbox' file file' : Stored} {rows rows' : List Row} {lines lines' : List ReportLine} {cut : Cut} (text bytes : List ℕ) (fault : Fault) → Fetched (retr n) a text b → bytes ≡ text
+    → cut ≡ cut_of fault None → RefusesEntry mbox file rows uid bytes fault mbox' file' → rows' ≡ rows → lines' ≡ lines
+    → Stops AsEntries (stores n uid) (scene a (in_mbox mbox) file rows lines) cut (scene b (in_mbox mbox') file' rows' lines')
+text_refused {n} {uid} {a} {b} {mbox} {mbox'} {file} {file'} {rows} text bytes fault (reply, talked, is) same plain refuses rows_are told =
     inr (inl (inr (record {
       none = ap (λ (c : Cut). c.rest) plain;
       number = n;
@@ -264,10 +237,10 @@ opened_is rows seen intent rows_are opened =
     ap (λ (r : List Row). with_held r seen.intent) rows_are ∙ ap (λ (i : Option Intent). with_held rows i) opened
 
 -- its entry was appended, and the mark wasn't saved
-pub entry_not_saved : (n octets : ℕ) (uid text bytes : List ℕ) (a b : Place) (mbox mbox' file mid file' : Stored) (seen seen' : Loaded) (rows' : List Row) (lines lines' : List ReportLine) (fault : Fault) (cut : Cut) → Fetched (retr n) a text b → bytes ≡ text
-    → octets ≡ length text → cut ≡ cut_of fault None → AppendsText mbox file seen uid bytes (Ok tt) mbox' mid seen' → seen'.rows ≡ seen.rows → Saves mid (held_in seen') (none_open (marked seen'.rows uid)) (Err fault) file'
+pub entry_not_saved : {n : ℕ} {uid : List ℕ} {a b : Place} {mbox mbox' file file' : Stored} {rows' : List Row} {lines lines' : List ReportLine} {cut : Cut} (octets : ℕ) (text bytes : List ℕ) (mid : Stored) (seen seen' : Loaded) (fault : Fault)
+    → Fetched (retr n) a text b → bytes ≡ text → octets ≡ length text → cut ≡ cut_of fault None → AppendsText mbox file seen uid bytes (Ok tt) mbox' mid seen' → seen'.rows ≡ seen.rows → Saves mid (held_in seen') (none_open (marked seen'.rows uid)) (Err fault) file'
     → lines' ≡ lines ++ Delivered n octets ∷ [] → Stops AsEntries (stores n uid) (scene a (in_mbox mbox) file seen.rows lines) cut (scene b (in_mbox mbox') file' rows' lines')
-entry_not_saved n octets uid text bytes a b mbox mbox' file mid file' seen seen' rows' lines lines' fault cut (reply, talked, is) same long plain (was, goes_on, now, opened, saves) rows_are marks told =
+entry_not_saved {n} {uid} {a} {b} {mbox} {mbox'} {file} {file'} {rows'} {lines} {lines'} {cut} octets text bytes mid seen seen' fault (reply, talked, is) same long plain (was, goes_on, now, opened, saves) rows_are marks told =
     let text_is : bytes ≡ body_text reply.body = same ∙ is in
     inr (inr (record {
       none = ap (λ (c : Cut). c.rest) plain;
@@ -290,10 +263,10 @@ entry_not_saved n octets uid text bytes a b mbox mbox' file mid file' seen seen'
     }))
 
 -- it was appended and marked
-pub entry_stored : (n octets : ℕ) (uid text bytes : List ℕ) (a b : Place) (mbox mbox' file mid file' : Stored) (seen seen' : Loaded) (rows' : List Row) (lines lines' : List ReportLine) → Fetched (retr n) a text b → bytes ≡ text
-    → octets ≡ length text → AppendsText mbox file seen uid bytes (Ok tt) mbox' mid seen' → seen'.rows ≡ seen.rows → rows' ≡ marked seen'.rows uid → Saves mid (held_in seen') (none_open (marked seen'.rows uid)) (Ok tt) file'
+pub entry_stored : {n : ℕ} {uid : List ℕ} {a b : Place} {mbox mbox' file file' : Stored} {rows' : List Row} {lines lines' : List ReportLine} (octets : ℕ) (text bytes : List ℕ) (mid : Stored) (seen seen' : Loaded)
+    → Fetched (retr n) a text b → bytes ≡ text → octets ≡ length text → AppendsText mbox file seen uid bytes (Ok tt) mbox' mid seen' → seen'.rows ≡ seen.rows → rows' ≡ marked seen'.rows uid → Saves mid (held_in seen') (none_open (marked seen'.rows uid)) (Ok tt) file'
     → lines' ≡ lines ++ Delivered n octets ∷ [] → TakesTask AsEntries (stores n uid) (scene a (in_mbox mbox) file seen.rows lines) (Ok tt) (scene b (in_mbox mbox') file' rows' lines')
-entry_stored n octets uid text bytes a b mbox mbox' file mid file' seen seen' rows' lines lines' (reply, talked, is) same long (was, goes_on, now, opened, saves) rows_are mark marks told =
+entry_stored {n} {uid} {a} {b} {mbox} {mbox'} {file} {file'} {rows'} {lines} {lines'} octets text bytes mid seen seen' (reply, talked, is) same long (was, goes_on, now, opened, saves) rows_are mark marks told =
     let text_is : bytes ≡ body_text reply.body = same ∙ is in
     let marked_is : rows' ≡ marked seen.rows uid = mark ∙ ap (λ (r : List Row). marked r uid) rows_are in
     let first : mid.failures ≡ file.failures = saves.0 in

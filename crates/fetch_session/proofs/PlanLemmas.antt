@@ -20,15 +20,11 @@ use Rattle.mail_store.specs.Held.{flags_of}
 use Rattle.fetch_rules.specs.Laws.{FetchesFirsts}
 use Rattle.fetch_session.specs.Task.{ids_ahead, AreFresh, fetching, tasks_planned}
 use Rattle.fetch_session.proofs.FreshLemmas.{ahead}
-use Rattle.fetch_session.proofs.SceneLemmas.{all_append}
+use Rattle.fetch_session.proofs.SceneLemmas.{all_append, all_weaker}
 
 both_false : (a b : Bool) → (a || b) ≡ false → (a ≡ false) × (b ≡ false)
 both_false true b e = absurd (true≢false e)
 both_false false b e = (refl, e)
-
-all_weaker : {A : Type 0} (P Q : A → Type 0) (xs : List A) → ((x : A) → P x → Q x) → AllByRecursion P xs → AllByRecursion Q xs
-all_weaker P Q [] weaker all = tt
-all_weaker P Q (x ∷ xs) weaker all = (weaker x all.0, all_weaker P Q xs weaker all.1)
 
 has_item-last : (front : List Item) (item : Item) (uid : List ℕ) → has_item (front ++ item ∷ []) uid ≡ false → (has_item front uid ≡ false) × (uid ≢ item.uid)
 has_item-last front item uid none =

@@ -1,5 +1,5 @@
 -- What a session tells that changes nothing, and why it tells nothing.
-use Rattle.std.proofs.Common.{◌≡◌, inr, ℕ, Bool, false, List, [], ◌∷◌, length, Option, None, Ok, Err, refl, ap, subst, ◌∙◌}
+use Rattle.std.proofs.Common.{◌≡◌, inr, ℕ, Bool, false, List, [], ◌∷◌, length, Option, None, Result, Ok, Err, ap, subst, ◌∙◌}
 use Rattle.pop3_wire.specs.Link.{Link}
 use Rattle.pop3_wire.specs.Place.{Place, at}
 use Rattle.mail_terms.specs.Listing.{Item}
@@ -17,14 +17,12 @@ use Rattle.fetch_session.specs.declared.preview.Foreseen.{Foreseen}
 use Rattle.fetch_session.specs.declared.preview.Looked.{Looked}
 use Rattle.fetch_session.specs.declared.preview.Preview.{Preview}
 use Rattle.fetch_session.specs.declared.prospect.Prospect.{Prospect}
-use Rattle.fetch_session.specs.declared.report.Outcome.TheVariants.{Ended, Cut as WasCut}
 use Rattle.fetch_session.specs.Fault.{cut_of}
-use Rattle.fetch_session.specs.Pretend.{Foresees, Foretells, HoldsTheSame, IsUntouched, LooksIn, Pretends, Surveys, counted_as, foretold, told_in}
+use Rattle.fetch_session.specs.Pretend.{Foresees, Foretells, HoldsTheSame, IsUntouched, LooksIn, MayBeFollowed, Pretends, Surveys, counted_as, foretold, is_unsettled, told_in}
 use Rattle.fetch_session.specs.Prospect.{prospects}
 use Rattle.fetch_session.specs.Record.{ReadAs, held_in}
-use Rattle.fetch_session.specs.Session.{Keeping, Enters_with, keeping}
-use Rattle.fetch_session.specs.Tail.{Left}
-use Rattle.fetch_session.specs.Target.{Target, AsFiles, AsEntries, Stores}
+use Rattle.fetch_session.specs.Session.{Keeping, LeavesLink, Enters_with, keeping, outcome_of}
+use Rattle.fetch_session.specs.Target.{Target, AsFiles, AsEntries, Stores, flags_in}
 use Rattle.fetch_session.proofs.RecordLemmas.{not_whole, read_keeps}
 
 -- ---- what is told
@@ -38,33 +36,26 @@ foretold_is settings rows rows' intent items held now steps rows_are steps_are =
 
 -- ---- nothing changes
 
-found_same : (target : Target) (intent : Option Intent) (store store' : Stores) (items : List Item) (looked : Looked) → LooksIn target intent store items (Ok looked) store' → HoldsTheSame target store store'
-found_same (AsFiles account) intent store store' items looked is = ap (λ (s : Stores). counted_as store.maildir.failures s.maildir) is.2
-found_same AsEntries intent store store' items looked is = ap (λ (s : Stored). s.content) is.3
+looks_same : (target : Target) (intent : Option Intent) (store store' : Stores) (items : List Item) (looked : Looked) → LooksIn target intent store items (Ok looked) store'
+    → (looked.held.items ≡ flags_in target store items) × (looked.unsettled ≡ is_unsettled target intent) × MayBeFollowed target intent store × HoldsTheSame target store store'
+looks_same (AsFiles account) intent store store' items looked is = (is.0, is.1, tt, ap (λ (s : Stores). counted_as store.maildir.failures s.maildir) is.2)
+looks_same AsEntries intent store store' items looked is = (is.0, is.1, is.2, ap (λ (s : Stored). s.content) is.3)
 
-module _ (settings : Settings) (target : Target) (items : List Item) (now : ℕ) (store : Stores) (file read : Stored) (loaded : Loaded) where
-  foretells : (t : Target) (store' : Stores) (looked : Looked) (told : List Prospect) → ReadAs file.content loaded → LooksIn t loaded.intent store items (Ok looked) store'
-      → told ≡ foretold settings (merged loaded.rows items looked.held.items now) items looked.held.items now → Foretells settings t items now (keeping store file) looked.unsettled told
-  foretells (AsFiles account) store' looked told stood looks is = record {
-    was = held_in loaded;
-    stood = read_keeps file.content loaded stood;
-    followed = tt;
-    unsettled_is = looks.1;
-    told_is = is ∙ ap (λ (flags : List Bool). foretold settings (merged loaded.rows items flags now) items flags now) looks.0;
-  }
-  foretells AsEntries store' looked told stood looks is = record {
-    was = held_in loaded;
-    stood = read_keeps file.content loaded stood;
-    followed = looks.2;
-    unsettled_is = looks.1;
-    told_is = is ∙ ap (λ (flags : List Bool). foretold settings (merged loaded.rows items flags now) items flags now) looks.0;
-  }
-
-  pub foreseen : (store' : Stores) (looked : Looked) (told : List Prospect) → ReadAs file.content loaded → read ≡ file → LooksIn target loaded.intent store items (Ok looked) store'
-      → told ≡ foretold settings (merged loaded.rows items looked.held.items now) items looked.held.items now
-      → Foretells settings target items now (keeping store file) looked.unsettled told × IsUntouched target (keeping store file) (keeping store' read)
-  foreseen store' looked told stood same looks is =
-      (foretells target store' looked told stood looks is, (found_same target loaded.intent store store' items looked looks, ap (λ (s : Stored). s.content) same))
+pub foreseen : (settings : Settings) (target : Target) (items : List Item) (now : ℕ) (store : Stores) (file read : Stored) (loaded : Loaded) (store' : Stores) (looked : Looked) (told : List Prospect)
+    → ReadAs file.content loaded → read ≡ file → LooksIn target loaded.intent store items (Ok looked) store'
+    → told ≡ foretold settings (merged loaded.rows items looked.held.items now) items looked.held.items now
+    → Foretells settings target items now (keeping store file) looked.unsettled told × IsUntouched target (keeping store file) (keeping store' read)
+foreseen settings target items now store file read loaded store' looked told stood same looks is =
+    let found = looks_same target loaded.intent store store' items looked looks in (
+      record {
+        was = held_in loaded;
+        stood = read_keeps file.content loaded stood;
+        followed = found.2;
+        unsettled_is = found.1;
+        told_is = is ∙ ap (λ (flags : List Bool). foretold settings (merged loaded.rows items flags now) items flags now) found.0;
+      },
+      (found.3, ap (λ (s : Stored). s.content) same),
+    )
 
 -- ---- the session
 
@@ -77,34 +68,10 @@ module _ (settings : Settings) (target : Target) (now : ℕ) (old : Place) (befo
     says.1,
   )
 
-pub cut_preview : (settings : Settings) (target id : Target) (now : ℕ) (link : Link) (reader : List ℕ) (before : Keeping) (cut : Cut) (mid new : Place) (after : Keeping) (preview : Preview)
-    → id ≡ target → reader ≡ [] → Surveys settings id now (at link reader) before (Err cut) mid after (told_in preview) → Left cut mid new → preview.outcome ≡ WasCut cut.fault
-    → Pretends settings target now link before preview new.link after
-cut_preview settings target id now link reader before cut mid new after preview same none surveys left is = record {
-  result = Err cut;
-  mid = mid;
-  ends = there.0;
-  leaves = (new, left, refl);
-  outcome = is;
-  untouched = there.1;
-}
-  where
-    there : Surveys settings target now (at link []) before (Err cut) mid after (told_in preview)
-    there = subst (λ (r : List ℕ). Surveys settings target now (at link r) before (Err cut) mid after (told_in preview)) none
-        (subst (λ (t : Target). Surveys settings t now (at link reader) before (Err cut) mid after (told_in preview)) same surveys)
-
-pub ended_preview : (settings : Settings) (target id : Target) (now : ℕ) (link : Link) (reader : List ℕ) (before : Keeping) (mid : Place) (after : Keeping) (preview : Preview)
-    → id ≡ target → reader ≡ [] → Surveys settings id now (at link reader) before (Ok tt) mid after (told_in preview) → preview.outcome ≡ Ended
-    → Pretends settings target now link before preview mid.link after
-ended_preview settings target id now link reader before mid after preview same none surveys is = record {
-  result = Ok tt;
-  mid = mid;
-  ends = there.0;
-  leaves = refl;
-  outcome = is;
-  untouched = there.1;
-}
-  where
-    there : Surveys settings target now (at link []) before (Ok tt) mid after (told_in preview)
-    there = subst (λ (r : List ℕ). Surveys settings target now (at link r) before (Ok tt) mid after (told_in preview)) none
-        (subst (λ (t : Target). Surveys settings t now (at link reader) before (Ok tt) mid after (told_in preview)) same surveys)
+pub left_preview : {settings : Settings} {target : Target} {now : ℕ} {link link' : Link} {before after : Keeping} {preview : Preview} (id : Target) (reader : List ℕ) (result : Result (Unit {0}) Cut) (mid : Place)
+    → id ≡ target → reader ≡ [] → Surveys settings id now (at link reader) before result mid after (told_in preview) → LeavesLink result mid link' → preview.outcome ≡ outcome_of result
+    → Pretends settings target now link before preview link' after
+left_preview {settings} {target} {now} {link} {link'} {before} {after} {preview} id reader result mid same none surveys leaves is =
+    let there = subst (λ (r : List ℕ). Surveys settings target now (at link r) before result mid after (told_in preview)) none
+    (subst (λ (t : Target). Surveys settings t now (at link reader) before result mid after (told_in preview)) same surveys) in
+    record { result = result; mid = mid; ends = there.0; leaves = leaves; outcome = is; untouched = there.1 }

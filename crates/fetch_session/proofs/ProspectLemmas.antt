@@ -1,6 +1,7 @@
 -- What is told of a listing, message by message.
-use Rattle.std.proofs.Common.{◌≡◌, ◌<◌, ◌≤◌, ◌+◌, ℕ, zero, suc, Bool, true, false, List, [], ◌∷◌, ◌++◌, append_assoc, append-nil, drop, get_or, length, cond, refl, sym, ap, ◌∙◌, arith}
+use Rattle.std.proofs.Common.{◌≡◌, ◌<◌, ◌≤◌, ◌+◌, ℕ, suc, Bool, true, false, List, [], ◌∷◌, ◌++◌, append_assoc, append-nil, drop, get_or, length, cond, refl, sym, ap, ◌∙◌, arith}
 use Rattle.std.proofs.lemmas.List.{drop_all}
+use Rattle.std.proofs.Math.Seq.{drop-cons}
 use Rattle.mail_terms.specs.Listing.{Item}
 use Rattle.rc_file.specs.declared.settings.Settings.{Settings}
 use Rattle.fetch_rules.specs.Record.{Row}
@@ -9,7 +10,7 @@ use Rattle.fetch_session.specs.declared.prospect.Known.{Known}
 use Rattle.fetch_session.specs.declared.prospect.Prospect.{Prospect}
 use mir.Val.{bool_byte}
 use Rattle.fetch_session.proofs.FreshLemmas.{no_item, step_at}
-use Rattle.fetch_session.specs.Prospect.{fetched_by, known_of, prospect_of, prospects}
+use Rattle.fetch_session.specs.Prospect.{known_of, prospect_of, prospects}
 
 one_at_most : (b : Bool) → cond b 1 0 ≤ 1
 one_at_most true = omega arith
@@ -20,17 +21,6 @@ byte_of true = refl
 byte_of false = refl
 
 module _ (settings : Settings) (rows : List Row) (now : ℕ) where
-  -- the i-th message, and those after it
-  left : (n : ℕ) (steps : List Step) (items : List Item) (flags : List Bool) (i : ℕ) (s : Step) (t : Item) (h : Bool) → i < length steps → i < length items → i < length flags
-      → prospects settings rows now n (drop i steps) (drop i items) (drop i flags)
-      ≡ prospect_of settings now n (get_or steps i s) (known_of rows now (get_or flags i h) (get_or items i t))
-      ∷ prospects settings rows now (n + fetched_by (get_or steps i s)) (drop (suc i) steps) (drop (suc i) items) (drop (suc i) flags)
-  left n [] items flags i s t h a b c = absurd (omega arith)
-  left n (x ∷ xs) [] flags i s t h a b c = absurd (omega arith)
-  left n (x ∷ xs) (y ∷ ys) [] i s t h a b c = absurd (omega arith)
-  left n (x ∷ xs) (y ∷ ys) (z ∷ zs) zero s t h a b c = refl
-  left n (x ∷ xs) (y ∷ ys) (z ∷ zs) (suc i) s t h a b c = left n xs ys zs i s t h (omega arith) (omega arith) (omega arith)
-
   -- the first i messages are told of, and so many of them are fetched
   pub record IsTold (steps : List Step) (items : List Item) (flags : List Bool) (i : ℕ) (told : List Prospect) (fetched : ℕ) : Type 0 where
     pub so_far : told ++ prospects settings rows now fetched (drop i steps) (drop i items) (drop i flags) ≡ prospects settings rows now 0 steps items flags
@@ -50,16 +40,23 @@ module _ (settings : Settings) (rows : List Row) (now : ℕ) where
       next : suc i ≡ i + 1
       next = omega arith
 
+      of_steps : drop i steps ≡ step_at steps i ∷ drop (suc i) steps
+      of_steps = drop-cons steps i (record { number = 0; retrieve = false; delete = false }) (omega (arith, within, all_steps))
+
+      of_items : drop i items ≡ get_or items i no_item ∷ drop (suc i) items
+      of_items = drop-cons items i no_item within
+
+      of_flags : drop i flags ≡ get_or flags i false ∷ drop (suc i) flags
+      of_flags = drop-cons flags i false (omega (arith, within, all_flags))
+
       p_as : prospect_of settings now fetched (step_at steps i) (known_of rows now (get_or flags i false) (get_or items i no_item)) ≡ p
       p_as = sym (p_is ∙ ap (λ (k : Known). prospect_of settings now fetched (step_at steps i) k) known_is)
 
       split : prospects settings rows now fetched (drop i steps) (drop i items) (drop i flags)
           ≡ p ∷ prospects settings rows now (fetched + more) (drop (i + 1) steps) (drop (i + 1) items) (drop (i + 1) flags)
       split =
-          left fetched steps items flags i (record { number = 0; retrieve = false; delete = false }) no_item false (omega (arith, within, all_steps)) within (omega (arith, within, all_flags))
-          ∙ ap (λ (q : Prospect). q ∷ prospects settings rows now (fetched + fetched_by (step_at steps i)) (drop (suc i) steps) (drop (suc i) items) (drop (suc i) flags)) p_as
-          ∙ ap (λ (m : ℕ). p ∷ prospects settings rows now (fetched + m) (drop (suc i) steps) (drop (suc i) items) (drop (suc i) flags)) (sym more_as)
-          ∙ ap (λ (n : ℕ). p ∷ prospects settings rows now (fetched + more) (drop n steps) (drop n items) (drop n flags)) next
+          (λ j. prospects settings rows now fetched (of_steps j) (of_items j) (of_flags j))
+          ∙ (λ j. p_as j ∷ prospects settings rows now (fetched + sym more_as j) (drop (next j) steps) (drop (next j) items) (drop (next j) flags))
 
   pub told_all : (steps : List Step) (items : List Item) (flags : List Bool) (i : ℕ) (told : List Prospect) (fetched : ℕ) → IsTold steps items flags i told fetched → length steps ≤ i
       → told ≡ prospects settings rows now 0 steps items flags

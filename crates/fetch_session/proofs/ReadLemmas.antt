@@ -6,7 +6,7 @@ use Rattle.fetch_rules.specs.declared.seen.SeenFault.{SeenFault}
 use Rattle.fetch_rules.specs.declared.seen.SeenFault.TheVariants.{NoMemory as WantsMemory}
 use Rattle.mail_store.specs.FlatFile.{Stored}
 use Rattle.pop3_client.specs.declared.fault.Fault.{Fault}
-use Rattle.pop3_client.specs.declared.fault.Fault.TheVariants.{ConnectionEnded, ReadFailed, WriteFailed, ReplyTooLong, BadReply, Refused, BadListing, ListingsDisagree, TooMany, TextTooLong, StoreRefused, SeenRefused, NoMemory, BadSeen}
+use Rattle.pop3_client.specs.declared.fault.Fault.TheVariants.{NoMemory, BadSeen}
 use Rattle.fetch_session.specs.Record.{bytes_in, LineOf, Reads, IsLineFault}
 
 -- a fault with a line isn't want of memory
@@ -16,15 +16,4 @@ has_line why line at same = subst (λ (w : SeenFault). LineOf w line) same at
 pub read_fault : (old new : Stored) (loaded : Loaded) (why : SeenFault) (fault : Fault) → new ≡ old → (why ≢ WantsMemory → Means (bytes_in old.content) (Faulty why)) → IsLineFault why fault → Reads old loaded (Err fault) new
 read_fault old new loaded why (BadSeen line) same is at = (why, is (has_line why line at), at, same)
 read_fault old new loaded why NoMemory same is at = same
-read_fault old new loaded why ConnectionEnded same is at = absurd at
-read_fault old new loaded why ReadFailed same is at = absurd at
-read_fault old new loaded why WriteFailed same is at = absurd at
-read_fault old new loaded why ReplyTooLong same is at = absurd at
-read_fault old new loaded why BadReply same is at = absurd at
-read_fault old new loaded why (Refused to) same is at = absurd at
-read_fault old new loaded why BadListing same is at = absurd at
-read_fault old new loaded why ListingsDisagree same is at = absurd at
-read_fault old new loaded why TooMany same is at = absurd at
-read_fault old new loaded why TextTooLong same is at = absurd at
-read_fault old new loaded why (StoreRefused how) same is at = absurd at
-read_fault old new loaded why SeenRefused same is at = absurd at
+read_fault old new loaded why _ same is at = absurd at

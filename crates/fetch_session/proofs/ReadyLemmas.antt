@@ -1,7 +1,8 @@
 -- What a session is ready with, or why it isn't.
-use Rattle.std.proofs.Common.{◌≡◌, ◌⊎◌, inl, inr, ◌<◌, ◌+◌, ℕ, Bool, false, true, List, [], ◌∷◌, ◌++◌, append_assoc, Option, Some, Ok, Err, refl, sym, ap, subst, ◌∙◌, arith}
+use Rattle.std.proofs.Common.{◌≡◌, ◌⊎◌, inl, inr, ◌<◌, ◌+◌, ℕ, Bool, true, List, [], ◌∷◌, ◌++◌, append_assoc, Option, Some, Ok, Err, refl, sym, ap, subst, ◌∙◌, arith}
 use Rattle.mail_terms.specs.Listing.{Item}
 use Rattle.std.specs.Prelude.{◌||◌}
+use Rattle.std.proofs.Math.Bool.{or-true}
 use Rattle.std.specs.List.{AllByRecursion}
 use Rattle.std.specs.Prelude.{bytes_eq}
 use Rattle.std.proofs.lemmas.List.Folds.{list_any-append}
@@ -14,7 +15,7 @@ use Rattle.rc_file.specs.declared.settings.Settings.{Settings}
 use Rattle.mail_store.specs.Maildir.{Maildir}
 use Rattle.mail_store.specs.FlatFile.{Stored}
 use Rattle.pop3_client.specs.declared.fault.Fault.{Fault}
-use Rattle.pop3_client.specs.declared.fault.Fault.TheVariants.{ConnectionEnded, ReadFailed, WriteFailed, ReplyTooLong, BadReply, Refused, BadListing, ListingsDisagree, TooMany, TextTooLong, StoreRefused, SeenRefused, NoMemory, BadSeen}
+use Rattle.pop3_client.specs.declared.fault.Fault.TheVariants.{Refused, StoreRefused, SeenRefused, NoMemory, BadSeen}
 use Rattle.pop3_client.specs.declared.fault.Why.TheVariants as why
 use Rattle.fetch_session.specs.declared.readiness.Found.{Found}
 use Rattle.fetch_session.specs.declared.readiness.Ready.{Ready}
@@ -71,35 +72,13 @@ unread target items now store file new loaded NoMemory is = record { cause = wan
     wants : (t : Target) → CausesUnready t NoMemory store file store new
     wants (AsFiles account) = refl
     wants AsEntries = inl refl
-unread target items now store file new loaded ConnectionEnded never = absurd never
-unread target items now store file new loaded ReadFailed never = absurd never
-unread target items now store file new loaded WriteFailed never = absurd never
-unread target items now store file new loaded ReplyTooLong never = absurd never
-unread target items now store file new loaded BadReply never = absurd never
-unread target items now store file new loaded (Refused to) never = absurd never
-unread target items now store file new loaded BadListing never = absurd never
-unread target items now store file new loaded ListingsDisagree never = absurd never
-unread target items now store file new loaded TooMany never = absurd never
-unread target items now store file new loaded TextTooLong never = absurd never
-unread target items now store file new loaded (StoreRefused how) never = absurd never
+unread target items now store file new loaded _ never = absurd never
 
 files_refused : (fault : Fault) (maildir : Maildir) (file : Stored) (maildir' : Maildir) (file' : Stored) → FindsRefused maildir fault maildir' → UnreadyCause fault maildir file maildir' file'
 files_refused (StoreRefused why.Missing) maildir file maildir' file' is = is
 files_refused (StoreRefused why.Refused) maildir file maildir' file' is = is
 files_refused NoMemory maildir file maildir' file' is = is
-files_refused (StoreRefused why.NotMbox) maildir file maildir' file' never = absurd never
-files_refused ConnectionEnded maildir file maildir' file' never = absurd never
-files_refused ReadFailed maildir file maildir' file' never = absurd never
-files_refused WriteFailed maildir file maildir' file' never = absurd never
-files_refused ReplyTooLong maildir file maildir' file' never = absurd never
-files_refused BadReply maildir file maildir' file' never = absurd never
-files_refused (Refused to) maildir file maildir' file' never = absurd never
-files_refused BadListing maildir file maildir' file' never = absurd never
-files_refused ListingsDisagree maildir file maildir' file' never = absurd never
-files_refused TooMany maildir file maildir' file' never = absurd never
-files_refused TextTooLong maildir file maildir' file' never = absurd never
-files_refused SeenRefused maildir file maildir' file' never = absurd never
-files_refused (BadSeen line) maildir file maildir' file' never = absurd never
+files_refused _ maildir file maildir' file' never = absurd never
 
 mbox_refused : (fault : Fault) (items : List Item) (was : Held) (mbox file mbox' file' : Stored) → Keeps file.content was → AsksMbox was.intent mbox items (Err fault) mbox' → MboxUnready fault mbox file mbox' file'
 mbox_refused (StoreRefused why.Missing) items was mbox file mbox' file' kept is = is
@@ -108,18 +87,7 @@ mbox_refused (StoreRefused why.Refused) items was mbox file mbox' file' kept (up
 mbox_refused (StoreRefused why.NotMbox) items was mbox file mbox' file' kept (bytes, is, other, now) =
     ((closed_file was.intent bytes, ap (λ (s : Stored). s.content) now, other), inr (was, kept, inr (bytes, is, ap (λ (s : Stored). s.content) now)))
 mbox_refused NoMemory items was mbox file mbox' file' kept (same, most) = inr (was, kept, most)
-mbox_refused ConnectionEnded items was mbox file mbox' file' kept never = absurd never
-mbox_refused ReadFailed items was mbox file mbox' file' kept never = absurd never
-mbox_refused WriteFailed items was mbox file mbox' file' kept never = absurd never
-mbox_refused ReplyTooLong items was mbox file mbox' file' kept never = absurd never
-mbox_refused BadReply items was mbox file mbox' file' kept never = absurd never
-mbox_refused (Refused to) items was mbox file mbox' file' kept never = absurd never
-mbox_refused BadListing items was mbox file mbox' file' kept never = absurd never
-mbox_refused ListingsDisagree items was mbox file mbox' file' kept never = absurd never
-mbox_refused TooMany items was mbox file mbox' file' kept never = absurd never
-mbox_refused TextTooLong items was mbox file mbox' file' kept never = absurd never
-mbox_refused SeenRefused items was mbox file mbox' file' kept never = absurd never
-mbox_refused (BadSeen line) items was mbox file mbox' file' kept never = absurd never
+mbox_refused _ items was mbox file mbox' file' kept never = absurd never
 
 -- the store refused
 pub not_found : (target : Target) (items : List Item) (now : ℕ) (store store' : Stores) (file new : Stored) (loaded : Loaded) (fault : Fault) → ReadAs file.content loaded → new ≡ file
@@ -163,18 +131,7 @@ module _ (settings : Settings) (target : Target) (items : List Item) (now : ℕ)
     content = inr (held_in loaded, kept, settles, subst (λ (rows : List Row). Keeps new.content (held_in loaded) ⊎ Keeps new.content (none_open rows)) as_now merges.1);
   }
   unsaved_merge NoMemory merges = record { cause = wants_cause target settles; content = inl (ap (λ (s : Stored). s.content) (merges ∙ same)) }
-  unsaved_merge ConnectionEnded never = absurd never
-  unsaved_merge ReadFailed never = absurd never
-  unsaved_merge WriteFailed never = absurd never
-  unsaved_merge ReplyTooLong never = absurd never
-  unsaved_merge BadReply never = absurd never
-  unsaved_merge (Refused to) never = absurd never
-  unsaved_merge BadListing never = absurd never
-  unsaved_merge ListingsDisagree never = absurd never
-  unsaved_merge TooMany never = absurd never
-  unsaved_merge TextTooLong never = absurd never
-  unsaved_merge (StoreRefused why) never = absurd never
-  unsaved_merge (BadSeen line) never = absurd never
+  unsaved_merge _ never = absurd never
 
   pub saved_merge : (ready : Ready) (after : List Row) → Merges read (held_in loaded) (none_open here) (Ok tt) new → after ≡ here
       → ready.held.items ≡ found.held.items → ready.steps.items ≡ planned settings after items now → IsReady settings target items now store file ready after store' new
@@ -198,15 +155,11 @@ module _ (settings : Settings) (target : Target) (items : List Item) (now : ℕ)
 
 -- ---- every listed id has a row
 
-or_true : (b : Bool) → (b || true) ≡ true
-or_true true = refl
-or_true false = refl
-
 has_item-at : (front rest : List Item) (item : Item) → has_item (front ++ item ∷ rest) item.uid ≡ true
 has_item-at front rest item =
     list_any-append (λ (i : Item). bytes_eq item.uid i.uid) front (item ∷ rest)
     ∙ ap (λ (b : Bool). has_item front item.uid || (b || has_item rest item.uid)) ((bytes_eq-Decides item.uid item.uid).1 refl)
-    ∙ or_true (has_item front item.uid)
+    ∙ or-true (has_item front item.uid)
 
 all_listed : (rows : List Row) (items : List Item) → ((uid : List ℕ) → has_item items uid ≡ true → has_row rows uid ≡ true) → (front rest : List Item) → items ≡ front ++ rest
     → AllByRecursion (λ (item : Item). has_row rows item.uid ≡ true) rest
@@ -217,4 +170,4 @@ all_listed rows items each front (item ∷ rest) split =
 pub all_have_rows : ((rows : List Row) (listing : List Item) (held : List Bool) (now : ℕ) (uid : List ℕ) → has_row (merged rows listing held now) uid ≡ (has_row rows uid || has_item listing uid))
     → (rows : List Row) (items : List Item) (held : List Bool) (now : ℕ) (after : List Row) → after ≡ merged rows items held now → AllByRecursion (λ (item : Item). has_row after item.uid ≡ true) items
 all_have_rows law rows items held now after is =
-    all_listed after items (λ uid listed. ap (λ (r : List Row). has_row r uid) is ∙ law rows items held now uid ∙ ap (λ (b : Bool). has_row rows uid || b) listed ∙ or_true (has_row rows uid)) [] items refl
+    all_listed after items (λ uid listed. ap (λ (r : List Row). has_row r uid) is ∙ law rows items held now uid ∙ ap (λ (b : Bool). has_row rows uid || b) listed ∙ or-true (has_row rows uid)) [] items refl

@@ -11,7 +11,7 @@ use Rattle.fetch_rules.specs.Intents.{has_intent, is_older, closed_rows, IsNoneO
 use Rattle.mail_store.specs.FlatFile.{Stored, holding, counted, Appends}
 use Rattle.mail_store.specs.declared.fault.StoreFault.{StoreFault}
 use Rattle.pop3_client.specs.declared.fault.Fault.{Fault}
-use Rattle.pop3_client.specs.declared.fault.Fault.TheVariants.{ConnectionEnded, ReadFailed, WriteFailed, ReplyTooLong, BadReply, Refused, BadListing, ListingsDisagree, TooMany, TextTooLong, StoreRefused, SeenRefused, NoMemory, BadSeen}
+use Rattle.pop3_client.specs.declared.fault.Fault.TheVariants.{SeenRefused, NoMemory}
 use Rattle.fetch_session.specs.Record.{bytes_in, Keeps, Steady, ReadAs, Writes, Saves, Merges, held_in}
 
 abbrev rows_of : Meaning → List Row
@@ -89,35 +89,13 @@ writes_merges old new was now (Err SeenRefused) kept stands (inl is) = (ap (λ (
 writes_merges old new was now (Err SeenRefused) kept stands (inr is) =
     (ap (λ (s : Stored). s.failures) is, inr (keeps_at old new (Some (file_of now.rows now.intent)) now (ap (λ (s : Stored). s.content) is) (Two, false, stands)))
 writes_merges old new was now (Err NoMemory) kept stands is = is
-writes_merges old new was now (Err ConnectionEnded) kept stands never = absurd never
-writes_merges old new was now (Err ReadFailed) kept stands never = absurd never
-writes_merges old new was now (Err WriteFailed) kept stands never = absurd never
-writes_merges old new was now (Err ReplyTooLong) kept stands never = absurd never
-writes_merges old new was now (Err BadReply) kept stands never = absurd never
-writes_merges old new was now (Err (Refused to)) kept stands never = absurd never
-writes_merges old new was now (Err BadListing) kept stands never = absurd never
-writes_merges old new was now (Err ListingsDisagree) kept stands never = absurd never
-writes_merges old new was now (Err TooMany) kept stands never = absurd never
-writes_merges old new was now (Err TextTooLong) kept stands never = absurd never
-writes_merges old new was now (Err (StoreRefused why)) kept stands never = absurd never
-writes_merges old new was now (Err (BadSeen line)) kept stands never = absurd never
+writes_merges old new was now (Err _) kept stands never = absurd never
 
 pub saves_merges : (old new : Stored) (was now : Held) (r : Result (Unit {0}) Fault) → Steady old.content was → Saves old was now r new → Merges old was now r new
 saves_merges old new was now (Ok done) stood is = (is.0, is.1 stood)
 saves_merges old new was now (Err SeenRefused) stood is = (is.0, is.1 stood)
 saves_merges old new was now (Err NoMemory) stood is = is
-saves_merges old new was now (Err ConnectionEnded) stood never = absurd never
-saves_merges old new was now (Err ReadFailed) stood never = absurd never
-saves_merges old new was now (Err WriteFailed) stood never = absurd never
-saves_merges old new was now (Err ReplyTooLong) stood never = absurd never
-saves_merges old new was now (Err BadReply) stood never = absurd never
-saves_merges old new was now (Err (Refused to)) stood never = absurd never
-saves_merges old new was now (Err BadListing) stood never = absurd never
-saves_merges old new was now (Err ListingsDisagree) stood never = absurd never
-saves_merges old new was now (Err TooMany) stood never = absurd never
-saves_merges old new was now (Err TextTooLong) stood never = absurd never
-saves_merges old new was now (Err (StoreRefused why)) stood never = absurd never
-saves_merges old new was now (Err (BadSeen line)) stood never = absurd never
+saves_merges old new was now (Err _) stood never = absurd never
 
 -- ---- a group or an intent's line appended
 

@@ -42,6 +42,10 @@ pub all_append : {A : Type 0} (P : A → Type 0) (xs ys : List A) → AllByRecur
 all_append P [] ys first then = then
 all_append P (x ∷ xs) ys first then = (first.0, all_append P xs ys first.1 then)
 
+pub all_weaker : {A : Type 0} (P Q : A → Type 0) (xs : List A) → ((x : A) → P x → Q x) → AllByRecursion P xs → AllByRecursion Q xs
+all_weaker P Q [] weaker all = tt
+all_weaker P Q (x ∷ xs) weaker all = (weaker x all.0, all_weaker P Q xs weaker all.1)
+
 -- ---- what texts bring
 
 content_none : (content : Option (List ℕ)) → content ≡ option_map (λ (was : List ℕ). was ++ []) content
@@ -140,32 +144,18 @@ all_on target xs ys a b c first then = record {
   went = went_on target first.dones then.dones a b c first.went then.went;
 }
 
-unfoldable pub does_more : (target : Target) (xs ys : List Task) (a b c : Scene) (r : Result (Unit {0}) Cut) → AllWent target xs a b → Does target ys b r c → Does target (xs ++ ys) a r c
-does_more target xs ys a b c (Ok done) first then = all_on target xs ys a b c first then
-does_more target xs ys a b c (Err f) first then = fell_on target xs ys a b c f first then
-
 pub takes_does : (target : Target) (task : Task) (a b : Scene) (r : Result (Unit {0}) Cut) → TakesTask target task a r b → Does target (task ∷ []) a r b
 takes_does target task a b (Ok done) took = record { dones = record { task = task; replies = took.0 } ∷ []; all = refl; went = took.1 }
 takes_does target task a b (Err f) took = fell_first target task [] a b f took
 
--- what is left to do from here, all tasks do from the start
-pub record Leads (target : Target) (all : List Task) (start : Scene) (left : List Task) (now : Scene) : Type 0 where
-  pub on : (r : Result (Unit {0}) Cut) (new : Scene) → Does target left now r new → Does target all start r new
-
-pub leads_start : (target : Target) (all : List Task) (start : Scene) → Leads target all start all start
-leads_start target all start = record { on = λ r new does. does }
-
-pub leads_on : (target : Target) (all left xs ys : List Task) (start now mid : Scene) → left ≡ xs ++ ys → Leads target all start left now → AllWent target xs now mid → Leads target all start ys mid
-leads_on target all left xs ys start now mid split leads went =
-    record { on = λ r new does. leads.on r new (subst (λ (ts : List Task). Does target ts now r new) (sym split) (does_more target xs ys now mid new r went does)) }
-
-pub leads_fell : (target : Target) (all left xs ys : List Task) (start now new : Scene) (f : Cut) → left ≡ xs ++ ys → Leads target all start left now → Fell target xs now f new → Fell target all start f new
-leads_fell target all left xs ys start now new f split leads fell =
-    leads.on (Err f) new (subst (λ (ts : List Task). Fell target ts now f new) (sym split) (fell_before target xs ys now new f fell))
-
-pub leads_end : (target : Target) (all left : List Task) (start now : Scene) → left ≡ [] → Leads target all start left now → AllWent target all start now
-leads_end target all left start now none leads = leads.on (Ok tt) now (subst (λ (ts : List Task). AllWent target ts now now) (sym none) (all_none target now))
-
 pub on_any : {T E P : Type 0} (result : Result T E) → P → OnOk result P
 on_any (Ok done) p = p
 on_any (Err fault) p = tt
+
+-- what is known where all are sound, by what the calls of each did
+pub all_sound : {W W' L D D' F F' P Q R S : Type 0} → (W → W' × L × P) → (D → D' × Q) → (F → F' × R) → (P → Q → R → S) → W → D → F → W' × D' × F' × L × S
+all_sound link disk file did w d f =
+    let l = link w in
+    let s = disk d in
+    let r = file f in
+    (l.0, s.0, r.0, l.1, did l.2 s.1 r.1)

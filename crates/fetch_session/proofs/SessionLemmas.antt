@@ -1,5 +1,5 @@
 -- How the parts of a session make the whole.
-use Rattle.std.proofs.Common.{◌≡◌, inr, ℕ, Bool, true, false, List, [], length, Result, Ok, Err, refl, sym, ap, subst}
+use Rattle.std.proofs.Common.{◌≡◌, inl, inr, ℕ, Bool, true, false, List, [], length, Result, Ok, Err, sym, ap, subst}
 use Rattle.pop3_wire.specs.Link.{Link}
 use Rattle.pop3_wire.specs.Place.{Place, at}
 use Rattle.mail_terms.specs.Listing.{Item}
@@ -7,64 +7,71 @@ use Rattle.rc_file.specs.declared.settings.Settings.{Settings}
 use Rattle.fetch_session.specs.declared.fault.Cut.{Cut}
 use Rattle.fetch_session.specs.declared.report.ReportLine.{ReportLine}
 use Rattle.fetch_session.specs.Plan.{Carries}
-use Rattle.fetch_session.specs.Session.{Keeping, Noted, Enters_with, Proceeds, SessionIn}
+use Rattle.fetch_session.specs.Session.{Dealt, Keeping, LeavesLink, Noted, Enters_with, Proceeds, SessionIn, outcome_of}
 use Rattle.std.proofs.lemmas.Bool.{true≢false}
 use Rattle.mail_store.specs.declared.maildir.disk.MaildirDisk.{Ghosts as DiskGhosts}
 use Rattle.mail_store.specs.declared.file.flat_file.FlatFile.{Ghosts as FileGhosts}
 use Rattle.fetch_session.specs.declared.account.Store.{Store}
 use Rattle.fetch_session.specs.declared.account.Store.TheVariants.{Maildir as InMaildir, Mboxrd as InMbox}
 use Rattle.fetch_session.specs.Target.{Kind, Files, Entries, Target, AsFiles, AsEntries, Stores, IsSoundMaildir, IsSoundMbox, in_maildir, in_mbox, is_sound, kind_of, maildir_of, mbox_of, stores_of, target_of}
-use Rattle.fetch_session.specs.Tail.{Left}
+use Rattle.fetch_session.specs.Lasting.{CarriesForGood, DealtForGood, ProceedsForGood, SessionForGood}
 use Rattle.fetch_session.specs.Report.{Reports}
 use Rattle.fetch_session.specs.declared.report.Report.{Report}
-use Rattle.fetch_session.specs.declared.report.Outcome.TheVariants.{Ended, Cut as WasCut}
 
-pub dealt : (settings : Settings) (target : Target) (now : ℕ) (old : Place) (before : Keeping) (result : Result (Unit {0}) Cut) (new : Place) (after : Keeping) (notes : Noted) (items : List Item) (mid : Place) (start : List ReportLine)
+pub dealt : {D F : Type 0} (disk : DiskGhosts D) (files : FileGhosts F) (sure : Type 0) (settings : Settings) (target : Target) (now : ℕ) (old : Place) (before : Keeping)
+    (result : Result (Unit {0}) Cut) (new : Place) (after : Keeping) (notes : Noted) (items : List Item) (mid : Place) (start : List ReportLine) (store : Store D F) (f : F)
     → start ≡ [] → Enters_with settings old (Ok items) mid → notes.total ≡ length items
-    → Carries settings target items now mid before.store before.file start result new after.store after.file notes.lines notes.skipped
-    → Proceeds settings target now old before result new after notes
-dealt settings target now old before (Ok done) new after notes items mid start none enters total carries = record {
-  items = items;
-  mid = mid;
-  enters = enters;
-  total = total;
-  carries = subst (λ (l : List ReportLine). Carries settings target items now mid before.store before.file l (Ok done) new after.store after.file notes.lines notes.skipped) none carries;
-}
-dealt settings target now old before (Err cut) new after notes items mid start none enters total carries = inr (inr (record {
-  items = items;
-  mid = mid;
-  enters = enters;
-  total = total;
-  carries = subst (λ (l : List ReportLine). Carries settings target items now mid before.store before.file l (Err cut) new after.store after.file notes.lines notes.skipped) none carries;
-}))
+    → CarriesForGood disk files sure settings target items now mid before.store before.file start result new after.store after.file notes.lines notes.skipped store f
+    → ProceedsForGood disk files sure settings target now old before result new after notes store f
+dealt disk files sure settings target now old before result new after notes items mid start store f none enters total carries =
+    by result (record {
+      items = items;
+      mid = mid;
+      enters = enters;
+      total = total;
+      carries = subst (λ (l : List ReportLine). CarriesForGood disk files sure settings target items now mid before.store before.file l result new after.store after.file notes.lines notes.skipped store f) none carries;
+    })
+  where
+    by : (r : Result (Unit {0}) Cut) → DealtForGood disk files sure settings target now old before r new after notes store f → ProceedsForGood disk files sure settings target now old before r new after notes store f
+    by (Ok done) is = is
+    by (Err cut) is = inr (inr is)
 
--- a session that was cut, and then left
-pub cut_session : (settings : Settings) (target id : Target) (now : ℕ) (link : Link) (reader : List ℕ) (before : Keeping) (cut : Cut) (mid : Place) (new : Place) (after : Keeping) (notes : Noted) (report : Report)
-    → id ≡ target → reader ≡ [] → Proceeds settings id now (at link reader) before (Err cut) mid after notes → Left cut mid new
-    → Reports (WasCut cut.fault) notes.total notes.skipped notes.lines report → SessionIn settings target now link before report new.link after
-cut_session settings target id now link reader before cut mid new after notes report same none proceeds left reports = record {
-  result = Err cut;
+-- a session that was brought to its end, or cut and then left
+pub left_session : {D F : Type 0} {disk : DiskGhosts D} {files : FileGhosts F} {sure : Type 0} {settings : Settings} {target : Target} {now : ℕ} {link link' : Link} {before after : Keeping} {report : Report} {store : Store D F} {f : F}
+    (id : Target) (reader : List ℕ) (result : Result (Unit {0}) Cut) (mid : Place) (notes : Noted)
+    → id ≡ target → reader ≡ [] → ProceedsForGood disk files sure settings id now (at link reader) before result mid after notes store f → LeavesLink result mid link'
+    → Reports (outcome_of result) notes.total notes.skipped notes.lines report → SessionForGood disk files sure settings target now link before report link' after store f
+left_session {D} {F} {disk} {files} {sure} {settings} {target} {now} {link} {link'} {before} {after} {report} {store} {f} id reader result mid notes same none proceeds leaves reports = record {
+  result = result;
   mid = mid;
   notes = notes;
-  proceeds = subst (λ (r : List ℕ). Proceeds settings target now (at link r) before (Err cut) mid after notes) none
-      (subst (λ (i : Target). Proceeds settings i now (at link reader) before (Err cut) mid after notes) same proceeds);
-  leaves = (new, left, refl);
+  proceeds = subst (λ (r : List ℕ). ProceedsForGood disk files sure settings target now (at link r) before result mid after notes store f) none
+      (subst (λ (i : Target). ProceedsForGood disk files sure settings i now (at link reader) before result mid after notes store f) same proceeds);
+  leaves = leaves;
   reports = reports;
 }
 
--- a session that was brought to its end
-pub ended_session : (settings : Settings) (target id : Target) (now : ℕ) (link : Link) (reader : List ℕ) (before : Keeping) (mid : Place) (after : Keeping) (notes : Noted) (report : Report)
-    → id ≡ target → reader ≡ [] → Proceeds settings id now (at link reader) before (Ok tt) mid after notes
-    → Reports Ended notes.total notes.skipped notes.lines report → SessionIn settings target now link before report mid.link after
-ended_session settings target id now link reader before mid after notes report same none proceeds reports = record {
-  result = Ok tt;
-  mid = mid;
-  notes = notes;
-  proceeds = subst (λ (r : List ℕ). Proceeds settings target now (at link r) before (Ok tt) mid after notes) none
-      (subst (λ (i : Target). Proceeds settings i now (at link reader) before (Ok tt) mid after notes) same proceeds);
-  leaves = refl;
-  reports = reports;
-}
+-- what such a session is, without what outlives a loss of power
+pub session_in : {D F : Type 0} {disk : DiskGhosts D} {files : FileGhosts F} {sure : Type 0} {settings : Settings} {target : Target} {now : ℕ} {link : Link} {before : Keeping} {report : Report} {link' : Link} {after : Keeping} {store : Store D F} {f : F}
+    → SessionForGood disk files sure settings target now link before report link' after store f → SessionIn settings target now link before report link' after
+session_in {D} {F} {disk} {files} {sure} {settings} {target} {now} {link} {before} {report} {link'} {after} {store} {f} s =
+    record { result = s.result; mid = s.mid; notes = s.notes; proceeds = proceeds s.result s.proceeds; leaves = s.leaves; reports = s.reports }
+  where
+    carries : (items : List Item) (mid : Place) (result : Result (Unit {0}) Cut) → CarriesForGood disk files sure settings target items now mid before.store before.file [] result s.mid after.store after.file s.notes.lines s.notes.skipped store f
+        → Carries settings target items now mid before.store before.file [] result s.mid after.store after.file s.notes.lines s.notes.skipped
+    carries items mid (Ok done) (rows, is) = (rows, is.carried)
+    carries items mid (Err cut) (rows, inl not) = (rows, inl not)
+    carries items mid (Err cut) (rows, inr is) = (rows, inr is.carried)
+
+    dealt_in : (result : Result (Unit {0}) Cut) → DealtForGood disk files sure settings target now (at link []) before result s.mid after s.notes store f → Dealt settings target now (at link []) before result s.mid after s.notes
+    dealt_in result is = record { items = is.items; mid = is.mid; enters = is.enters; total = is.total; carries = carries is.items is.mid result is.carries }
+
+    proceeds : (result : Result (Unit {0}) Cut) → ProceedsForGood disk files sure settings target now (at link []) before result s.mid after s.notes store f
+        → Proceeds settings target now (at link []) before result s.mid after s.notes
+    proceeds (Ok done) is = dealt_in (Ok done) is
+    proceeds (Err cut) (inl none) = inl none
+    proceeds (Err cut) (inr (inl room)) = inr (inl room)
+    proceeds (Err cut) (inr (inr is)) = inr (inr (dealt_in (Err cut) is))
 
 -- ---- a session of an account with a Maildir, and of one with an mboxrd file
 

@@ -12,14 +12,12 @@ use Rattle.pop3_wire.specs.Reading.{WholeReply, reply_bytes}
 use Rattle.pop3_client.specs.Conversation.{Talked, Broke}
 use Rattle.pop3_client.proofs.TalkLemmas.{talked_on}
 use Rattle.pop3_client.specs.declared.fault.Fault.{Fault}
-use Rattle.pop3_client.specs.declared.fault.Fault.TheVariants.{ConnectionEnded, ReadFailed, WriteFailed, ReplyTooLong, BadReply, Refused, BadListing, ListingsDisagree, TooMany, TextTooLong, StoreRefused, SeenRefused, NoMemory, BadSeen}
+use Rattle.pop3_client.specs.declared.fault.Fault.TheVariants.{StoreRefused, SeenRefused, NoMemory}
 use Rattle.pop3_client.specs.declared.fault.Why.TheVariants.{Refused as DeviceRefused}
 use Rattle.fetch_session.specs.Task.{Task, Done, stores, task_in, tasks_of, turns_in, turns_of, replies_of, ids_in, ids_of, files_in, files_of, file_from, delivered, lines_in, lines_of}
 use Rattle.fetch_session.specs.declared.fault.Cut.{Cut}
 use Rattle.fetch_session.specs.declared.report.ReportLine.{ReportLine}
-use Rattle.pop3_wire.specs.Bodies.{Rest}
 use Rattle.pop3_wire.specs.declared.unstuffer.Spot.TheVariants.{Done as AtEnd}
-use Rattle.pop3_client.specs.Texts.{Fetching}
 use Rattle.mail_store.specs.FileName.{mail_file}
 use Rattle.fetch_session.specs.Record.{Keeps, Steady, Saves}
 use Rattle.fetch_session.specs.Scene.{Scene, Fell, Broken, NoFile, FileNotSaved}
@@ -45,100 +43,84 @@ stand turns replies old mid new more none talked is = (
     heard : talked.gained ≡ flat_map reply_bytes replies ++ mid.place.waiting
     heard = ap (λ (l : List ℕ). l ++ talked.gained) (sym none) ∙ talked.heard
 
--- the conversation broke
-short_broken : (account : List ℕ) (tasks : List Task) (old new : Scene) (cut : Cut) (fell : Fell (AsFiles account) tasks old cut new) → old.place.waiting ≡ [] → Steady old.file.content (none_open old.rows)
-    → Broken fell.next fell.mid new cut → CutShort account tasks old cut.fault new
-short_broken account tasks old new cut fell none stood broken =
-    let more = broke_got broken.turn fell.mid.place new.place cut.fault broken.broke in
-    record {
-      taken = fell.dones;
-      next = fell.next ∷ fell.later;
-      extra = [];
-      marks = ids_of fell.dones;
-      split = fell.split;
-      good = fell.went.talked.good;
-      got = stand (turns_of fell.dones) (replies_of fell.dones) old fell.mid new more.0 none fell.went.talked more.1;
-      told = broken.lines ∙ fell.went.lines;
-      files = ap (λ (s : Stores). s.maildir.in_new) broken.store ∙ fell.went.stored.in_new ∙ ap (λ (l : List File). old.store.maildir.in_new ++ l) (sym (append-nil (files_of account fell.dones)));
-      others = ap (λ (s : Stores). s.maildir.in_cur) broken.store ∙ fell.went.stored.in_cur;
-      extra_is = inl refl;
-      marks_are = inl refl;
-      record_is = keeps_at fell.mid.file new.file fell.mid.file.content (none_open (marked_all old.rows (ids_of fell.dones))) (ap (λ (s : Stored). s.content) broken.file)
-          (subst (λ (r : List Row). Keeps fell.mid.file.content (none_open r)) fell.went.rows (steady_keeps fell.mid.file.content (none_open fell.mid.rows) (fell.went.saved stood)));
-    }
-
--- the store refused: which files are there more
+-- which files are there more
 pub record Extra (account : List ℕ) (taken : List Done) (next : List Task) (old : Scene) (fault : Fault) (new mid : Scene) : Type 0 where
   pub extra : List File
   pub in_new : new.store.maildir.in_new ≡ mid.store.maildir.in_new ++ extra
   pub in_cur : new.store.maildir.in_cur ≡ mid.store.maildir.in_cur
   pub extra_is : ExtraIs account taken next old fault new extra
 
--- what came of a text
-fetching_got : (n : ℕ) (start now : Place) (rest : Rest) (text : List ℕ) → Fetching (retr n) start now rest text → (more : List ℕ) × (now.link.got ≡ start.link.got ++ more)
-fetching_got n start now rest text is =
-    (is.opened.gained ++ is.under.gained, is.under.drew.got ∙ ap (λ (l : List ℕ). l ++ is.under.gained) is.opened.got ∙ append_assoc start.link.got is.opened.gained is.under.gained)
+module _ (account : List ℕ) (tasks : List Task) (old new : Scene) (cut : Cut) (fell : Fell (AsFiles account) tasks old cut new) (none : old.place.waiting ≡ []) (stood : Steady old.file.content (none_open old.rows)) where
+  -- nothing was marked
+  short_unmarked : (more : List ℕ) → new.place.link.got ≡ fell.mid.place.link.got ++ more → Extra account fell.dones (fell.next ∷ fell.later) old cut.fault new fell.mid → new.file ≡ fell.mid.file
+      → new.lines ≡ fell.mid.lines → CutShort account tasks old cut.fault new
+  short_unmarked more got kept file lines = record {
+    taken = fell.dones;
+    next = fell.next ∷ fell.later;
+    extra = kept.extra;
+    marks = ids_of fell.dones;
+    split = fell.split;
+    good = fell.went.talked.good;
+    got = stand (turns_of fell.dones) (replies_of fell.dones) old fell.mid new more none fell.went.talked got;
+    told = lines ∙ fell.went.lines;
+    files = kept.in_new ∙ ap (λ (l : List File). l ++ kept.extra) fell.went.stored.in_new ∙ append_assoc old.store.maildir.in_new (files_of account fell.dones) kept.extra;
+    others = kept.in_cur ∙ fell.went.stored.in_cur;
+    extra_is = kept.extra_is;
+    marks_are = inl refl;
+    record_is = keeps_at fell.mid.file new.file fell.mid.file.content (none_open (marked_all old.rows (ids_of fell.dones))) (ap (λ (s : Stored). s.content) file)
+        (subst (λ (r : List Row). Keeps fell.mid.file.content (none_open r)) fell.went.rows (steady_keeps fell.mid.file.content (none_open fell.mid.rows) (fell.went.saved stood)));
+  }
 
-short_not_stored : (account : List ℕ) (tasks : List Task) (old new : Scene) (cut : Cut) (fell : Fell (AsFiles account) tasks old cut new) → old.place.waiting ≡ [] → Steady old.file.content (none_open old.rows)
-    → NoFile account fell.next fell.mid new cut → CutShort account tasks old cut.fault new
-short_not_stored account tasks old new cut fell none stood refused = record {
-  taken = fell.dones;
-  next = fell.next ∷ fell.later;
-  extra = kept.extra;
-  marks = ids_of fell.dones;
-  split = fell.split;
-  good = fell.went.talked.good;
-  got = stand (turns_of fell.dones) (replies_of fell.dones) old fell.mid new more.0 none fell.went.talked more.1;
-  told = refused.lines ∙ fell.went.lines;
-  files = kept.in_new ∙ ap (λ (l : List File). l ++ kept.extra) fell.went.stored.in_new ∙ append_assoc old.store.maildir.in_new (files_of account fell.dones) kept.extra;
-  others = kept.in_cur ∙ fell.went.stored.in_cur;
-  extra_is = kept.extra_is;
-  marks_are = inl refl;
-  record_is = keeps_at fell.mid.file new.file fell.mid.file.content (none_open (marked_all old.rows (ids_of fell.dones))) (ap (λ (s : Stored). s.content) refused.file)
-      (subst (λ (r : List Row). Keeps fell.mid.file.content (none_open r)) fell.went.rows (steady_keeps fell.mid.file.content (none_open fell.mid.rows) (fell.went.saved stood)));
-}
-  where
-    more : (more : List ℕ) × (new.place.link.got ≡ fell.mid.place.link.got ++ more)
-    more = fetching_got refused.number fell.mid.place new.place refused.rest refused.text refused.fetching
+  nothing_new : (m : Maildir) → new.store.maildir ≡ m → m.in_new ≡ fell.mid.store.maildir.in_new → m.in_cur ≡ fell.mid.store.maildir.in_cur → Extra account fell.dones (fell.next ∷ fell.later) old cut.fault new fell.mid
+  nothing_new m is files cur = record {
+    extra = [];
+    in_new = ap (λ (x : Maildir). x.in_new) is ∙ files ∙ sym (append-nil fell.mid.store.maildir.in_new);
+    in_cur = ap (λ (x : Maildir). x.in_cur) is ∙ cur;
+    extra_is = inl refl;
+  }
 
-    -- the text came whole
-    whole : refused.rest.spot ≡ AtEnd → cut.fault ≡ StoreRefused DeviceRefused → ExtraIs account fell.dones (fell.next ∷ fell.later) old cut.fault new (mail_file account refused.uid refused.text ∷ [])
-    whole done is =
-        let came = refused.whole done in
-        inr (
-          is,
-          (
-            refused.number,
-            refused.uid,
-            fell.later,
-            came.0,
-            ap (λ (t : Task). t ∷ fell.later) refused.is,
-            ap (λ (t : List ℕ). mail_file account refused.uid t ∷ []) came.2,
-            stand (turns_of fell.dones ++ retr refused.number ∷ []) (replies_of fell.dones ++ came.0 ∷ []) old new new [] none
-                (talked_on (turns_of fell.dones) (retr refused.number ∷ []) (replies_of fell.dones) (came.0 ∷ []) old.place fell.mid.place new.place fell.went.talked came.1)
-                (sym (append-nil new.place.link.got)),
-          ),
-        )
+  -- the conversation broke
+  short_broken : Broken fell.next fell.mid new cut → CutShort account tasks old cut.fault new
+  short_broken broken =
+      let more = broke_got broken.turn fell.mid.place new.place cut.fault broken.broke in
+      short_unmarked more.0 more.1 (nothing_new fell.mid.store.maildir (ap (λ (s : Stores). s.maildir) broken.store) refl refl) broken.file broken.lines
 
-    nothing_new : (m : Maildir) → new.store.maildir ≡ m → m.in_new ≡ fell.mid.store.maildir.in_new → m.in_cur ≡ fell.mid.store.maildir.in_cur → Extra account fell.dones (fell.next ∷ fell.later) old cut.fault new fell.mid
-    nothing_new m is files cur = record {
-      extra = [];
-      in_new = ap (λ (x : Maildir). x.in_new) is ∙ files ∙ sym (append-nil fell.mid.store.maildir.in_new);
-      in_cur = ap (λ (x : Maildir). x.in_cur) is ∙ cur;
-      extra_is = inl refl;
-    }
+  -- the text came whole
+  whole_extra : (refused : NoFile account fell.next fell.mid new cut) → refused.rest.spot ≡ AtEnd → cut.fault ≡ StoreRefused DeviceRefused
+      → ExtraIs account fell.dones (fell.next ∷ fell.later) old cut.fault new (mail_file account refused.uid refused.text ∷ [])
+  whole_extra refused done is =
+      let came = refused.whole done in
+      inr (
+        is,
+        (
+          refused.number,
+          refused.uid,
+          fell.later,
+          came.0,
+          ap (λ (t : Task). t ∷ fell.later) refused.is,
+          ap (λ (t : List ℕ). mail_file account refused.uid t ∷ []) came.2,
+          stand (turns_of fell.dones ++ retr refused.number ∷ []) (replies_of fell.dones ++ came.0 ∷ []) old new new [] none
+              (talked_on (turns_of fell.dones) (retr refused.number ∷ []) (replies_of fell.dones) (came.0 ∷ []) old.place fell.mid.place new.place fell.went.talked came.1)
+              (sym (append-nil new.place.link.got)),
+        ),
+      )
 
-    kept : Extra account fell.dones (fell.next ∷ fell.later) old cut.fault new fell.mid
-    kept = elim refused.refuses [
-      | inl missing ↦ nothing_new fell.mid.store.maildir missing.2 refl refl
-      | inr (is, inl same) ↦ nothing_new (counted (dropped fell.mid.store.maildir)) same refl refl
-      | inr (is, inr (done, there)) ↦ record {
-        extra = mail_file account refused.uid refused.text ∷ [];
-        in_new = ap (λ (m : Maildir). m.in_new) there;
-        in_cur = ap (λ (m : Maildir). m.in_cur) there;
-        extra_is = whole done is;
-      }
-    ]
+  short_not_stored : NoFile account fell.next fell.mid new cut → CutShort account tasks old cut.fault new
+  short_not_stored refused =
+      let under = refused.fetching.under in
+      let opened = refused.fetching.opened in
+      short_unmarked (opened.gained ++ under.gained)
+      (under.drew.got ∙ ap (λ (l : List ℕ). l ++ under.gained) opened.got ∙ append_assoc fell.mid.place.link.got opened.gained under.gained)
+      (elim refused.refuses [
+        | inl missing ↦ nothing_new fell.mid.store.maildir missing.2 refl refl
+        | inr (is, inl same) ↦ nothing_new (counted (dropped fell.mid.store.maildir)) same refl refl
+        | inr (is, inr (done, there)) ↦ record {
+          extra = mail_file account refused.uid refused.text ∷ [];
+          in_new = ap (λ (m : Maildir). m.in_new) there;
+          in_cur = ap (λ (m : Maildir). m.in_cur) there;
+          extra_is = whole_extra refused done is;
+        }
+      ]) refused.file refused.lines
 
 -- the record wasn't saved: why, and which record its file stands for
 pub record Unsaved (old : Stored) (was now : Held) (fault : Fault) (new : Stored) : Type 0 where
@@ -148,18 +130,7 @@ pub record Unsaved (old : Stored) (was now : Held) (fault : Fault) (new : Stored
 unsaved : (old : Stored) (was now : Held) (fault : Fault) (new : Stored) → Saves old was now (Err fault) new → Unsaved old was now fault new
 unsaved old was now SeenRefused new is = record { why = inl refl; content = is.1 }
 unsaved old was now NoMemory new is = record { why = inr refl; content = λ stood. inl (keeps_at old new old.content was (ap (λ (s : Stored). s.content) is) (steady_keeps old.content was stood)) }
-unsaved old was now ConnectionEnded new never = absurd never
-unsaved old was now ReadFailed new never = absurd never
-unsaved old was now WriteFailed new never = absurd never
-unsaved old was now ReplyTooLong new never = absurd never
-unsaved old was now BadReply new never = absurd never
-unsaved old was now (Refused to) new never = absurd never
-unsaved old was now BadListing new never = absurd never
-unsaved old was now ListingsDisagree new never = absurd never
-unsaved old was now TooMany new never = absurd never
-unsaved old was now TextTooLong new never = absurd never
-unsaved old was now (StoreRefused why) new never = absurd never
-unsaved old was now (BadSeen line) new never = absurd never
+unsaved old was now _ new never = absurd never
 
 pub unsaved_keeps : (old : Stored) (was now : Held) (fault : Fault) (new : Stored) → Saves old was now (Err fault) new → Steady old.content was → Keeps new.content was ⊎ Keeps new.content now
 unsaved_keeps old was now fault new saves = (unsaved old was now fault new saves).content

@@ -20,8 +20,6 @@ use Rattle.fetch_session.specs.Task.{Task, stores, skips, rereads, deletes, turn
 use Rattle.fetch_session.specs.Store.{RefusesText, StopsStoring, StoresText, StopsReading, ReadsText, PassesText}
 use Rattle.fetch_session.specs.Record.{Steady, Saves}
 use Rattle.fetch_session.specs.Scene.{scene, AllWent, Stops, TakesTask}
-use Rattle.std.specs.Prelude.{not}
-use Rattle.std.proofs.lemmas.Bool.{true≢false}
 use Rattle.pop3_client.proofs.TalkLemmas.{talked_none}
 use Rattle.fetch_session.proofs.SceneLemmas.{brings_same}
 use Rattle.fetch_session.specs.Target.{Target, AsFiles, Stores, in_maildir}
@@ -49,13 +47,13 @@ text_wanting account n uid a maildir file rows lines cut plain =
     text_broken (AsFiles account) (stores n uid) (retr n) a a (in_maildir maildir) file rows lines NoMemory cut refl plain (inr (inr (refl, refl, refl)))
 
 -- it wasn't stored
-pub text_stops : (account : List ℕ) (n : ℕ) (uid text stem : List ℕ) (a b : Place) (maildir maildir' : Maildir) (file' : Stored) (rows : List Row) (lines : List ReportLine) (cut : Cut)
+pub text_stops : {account : List ℕ} {n : ℕ} {uid : List ℕ} {a b : Place} {maildir maildir' : Maildir} {file : Stored} {rows : List Row} {lines : List ReportLine} {cut : Cut} (text stem : List ℕ)
     → stem ≡ stem_of account uid → StoresText stem maildir text (Err cut) maildir' → ReadsText n a text (Err cut) b
-    → Stops (AsFiles account) (stores n uid) (scene a (in_maildir maildir) file' rows lines) cut (scene b (in_maildir maildir') file' rows lines)
-text_stops account n uid text stem a b maildir maildir' file' rows lines cut named stores' reads = by_rest cut.fault cut.rest stores' reads
+    → Stops (AsFiles account) (stores n uid) (scene a (in_maildir maildir) file rows lines) cut (scene b (in_maildir maildir') file rows lines)
+text_stops {account} {n} {uid} {a} {b} {maildir} {maildir'} {file} {rows} {lines} {cut} text stem named stores' reads = by_rest cut.fault cut.rest stores' reads
   where
     by_rest : (fault : Fault) (rest : Option Rest) → StopsStoring stem maildir text fault rest maildir' → StopsReading n a text fault rest b
-        → Stops (AsFiles account) (stores n uid) (scene a (in_maildir maildir) file' rows lines) (cut_of fault rest) (scene b (in_maildir maildir') file' rows lines)
+        → Stops (AsFiles account) (stores n uid) (scene a (in_maildir maildir) file rows lines) (cut_of fault rest) (scene b (in_maildir maildir') file rows lines)
     by_rest fault None same broke =
         inl (record { none = refl; turn = retr n; takes = refl; broke = broke; store = ap in_maildir same; file = refl; rows = refl; lines = refl })
     by_rest fault (Some rest) refuses reads =
@@ -82,40 +80,39 @@ same_file : (account uid stem text : List ℕ) (reply : WholeReply) → stem ≡
 same_file account uid stem text reply named is = ap (λ (k : List ℕ). sized_file k text) named ∙ ap (λ (t : List ℕ). mail_file account uid t) is
 
 -- it was stored, and marked
-pub text_stored : (account : List ℕ) (n octets : ℕ) (uid text stem : List ℕ) (a b : Place) (maildir maildir' : Maildir) (file' file'' : Stored) (rows rows' : List Row) (lines lines' : List ReportLine)
-    → stem ≡ stem_of account uid → StoresText stem maildir text (Ok octets) maildir' → ReadsText n a text (Ok octets) b → rows' ≡ marked rows uid → Saves file' (none_open rows) (none_open (marked rows uid)) (Ok tt) file''
-    → lines' ≡ lines ++ Delivered n octets ∷ []
-    → TakesTask (AsFiles account) (stores n uid) (scene a (in_maildir maildir) file' rows lines) (Ok tt) (scene b (in_maildir maildir') file'' rows' lines')
-text_stored account n octets uid text stem a b maildir maildir' file' file'' rows rows' lines lines' named stored reads mark saves told = (
-  reads.0 ∷ [],
-  record {
-    talked = reads.1;
-    each = (reads.1.good, tt);
-    stored = gained_file maildir maildir' (file_from account uid reads.0) (stored.0 ∙ ap (λ (f : File). with_file maildir f) (same_file account uid stem text reads.0 named reads.2));
-    rows = mark;
-    saved = λ stood. subst (λ (r : List Row). Steady file''.content (none_open r)) (sym mark) (saves.1 stood);
-    file_count = let same : file''.failures ≡ file'.failures = saves.0 in omega arith;
-    lines = told ∙ ap (λ (l : ReportLine). lines ++ l ∷ []) (same_line n octets text reads.0 stored.1 reads.2);
-  },
-)
-
--- it was stored, and the record wasn't saved
-pub text_not_saved : (account : List ℕ) (n octets : ℕ) (uid text stem : List ℕ) (a b : Place) (maildir maildir' : Maildir) (file' file'' : Stored) (rows rows' : List Row) (lines lines' : List ReportLine) (fault : Fault) (cut : Cut)
-    → stem ≡ stem_of account uid → StoresText stem maildir text (Ok octets) maildir' → ReadsText n a text (Ok octets) b → Saves file' (none_open rows) (none_open (marked rows uid)) (Err fault) file''
-    → cut ≡ cut_of fault None → lines' ≡ lines ++ Delivered n octets ∷ []
-    → Stops (AsFiles account) (stores n uid) (scene a (in_maildir maildir) file' rows lines) cut (scene b (in_maildir maildir') file'' rows' lines')
-text_not_saved account n octets uid text stem a b maildir maildir' file' file'' rows rows' lines lines' fault cut named stored reads saves plain told =
-    inr (inr (record {
-      none = ap (λ (c : Cut). c.rest) plain;
-      number = n;
-      uid = uid;
-      reply = reads.0;
-      is = refl;
+module _ {account : List ℕ} {n : ℕ} {uid : List ℕ} {a b : Place} {maildir maildir' : Maildir} {file file' : Stored} {rows rows' : List Row} {lines lines' : List ReportLine} where
+  pub text_stored : (octets : ℕ) (text stem : List ℕ) → stem ≡ stem_of account uid → StoresText stem maildir text (Ok octets) maildir' → ReadsText n a text (Ok octets) b → rows' ≡ marked rows uid
+      → Saves file (none_open rows) (none_open (marked rows uid)) (Ok tt) file' → lines' ≡ lines ++ Delivered n octets ∷ []
+      → TakesTask (AsFiles account) (stores n uid) (scene a (in_maildir maildir) file rows lines) (Ok tt) (scene b (in_maildir maildir') file' rows' lines')
+  text_stored octets text stem named stored reads mark saves told = (
+    reads.0 ∷ [],
+    record {
       talked = reads.1;
+      each = (reads.1.good, tt);
       stored = gained_file maildir maildir' (file_from account uid reads.0) (stored.0 ∙ ap (λ (f : File). with_file maildir f) (same_file account uid stem text reads.0 named reads.2));
-      saves = subst (λ (c : Cut). Saves file' (none_open rows) (none_open (marked rows uid)) (Err c.fault) file'') (sym plain) saves;
+      rows = mark;
+      saved = λ stood. subst (λ (r : List Row). Steady file'.content (none_open r)) (sym mark) (saves.1 stood);
+      file_count = let same : file'.failures ≡ file.failures = saves.0 in omega arith;
       lines = told ∙ ap (λ (l : ReportLine). lines ++ l ∷ []) (same_line n octets text reads.0 stored.1 reads.2);
-    }))
+    },
+  )
+
+  -- it was stored, and the record wasn't saved
+  pub text_not_saved : {cut : Cut} (octets : ℕ) (text stem : List ℕ) (fault : Fault) → stem ≡ stem_of account uid → StoresText stem maildir text (Ok octets) maildir' → ReadsText n a text (Ok octets) b
+      → Saves file (none_open rows) (none_open (marked rows uid)) (Err fault) file' → cut ≡ cut_of fault None → lines' ≡ lines ++ Delivered n octets ∷ []
+      → Stops (AsFiles account) (stores n uid) (scene a (in_maildir maildir) file rows lines) cut (scene b (in_maildir maildir') file' rows' lines')
+  text_not_saved octets text stem fault named stored reads saves plain told =
+      inr (inr (record {
+        none = ap (λ (c : Cut). c.rest) plain;
+        number = n;
+        uid = uid;
+        reply = reads.0;
+        is = refl;
+        talked = reads.1;
+        stored = gained_file maildir maildir' (file_from account uid reads.0) (stored.0 ∙ ap (λ (f : File). with_file maildir f) (same_file account uid stem text reads.0 named reads.2));
+        saves = subst (λ (c : Cut). Saves file (none_open rows) (none_open (marked rows uid)) (Err c.fault) file') (sym plain) saves;
+        lines = told ∙ ap (λ (l : ReportLine). lines ++ l ∷ []) (same_line n octets text reads.0 stored.1 reads.2);
+      }))
 
 -- ---- the other tasks
 
@@ -144,31 +141,13 @@ reread_taken target number octets uid a b store file rows lines lines' passes to
     (passes.0 ∷ [], record { talked = passes.1; each = (passes.1.good, tt); stored = brings_same target (record { task = rereads number uid; replies = passes.0 ∷ [] }) store (λ account. refl) refl; rows = refl; saved = λ stands. stands; file_count = omega arith; lines = told ∙ ap (λ (k : ℕ). lines ++ Held number k ∷ []) passes.2 })
 
 pub no_deletes : (wanted : Bool) (number : ℕ) → wanted ≡ false → deleting wanted number ≡ []
-no_deletes true number e = absurd (true≢false e)
-no_deletes false number e = refl
+no_deletes wanted number is = ap (λ (w : Bool). deleting w number) is
 
 pub one_delete : (wanted : Bool) (number : ℕ) → wanted ≡ true → deleting wanted number ≡ deletes number ∷ []
-one_delete true number e = refl
-one_delete false number e = absurd (true≢false (sym e))
+one_delete wanted number is = ap (λ (w : Bool). deleting w number) is
 
 pub no_fetch : (retrieve held : Bool) (number : ℕ) (uid : List ℕ) (size : ℕ) → retrieve ≡ false → fetching retrieve held number uid size ≡ skips number size ∷ []
-no_fetch true held number uid size e = absurd (true≢false e)
-no_fetch false held number uid size e = refl
+no_fetch retrieve held number uid size is = ap (λ (r : Bool). fetching r held number uid size) is
 
-pub one_reread : (retrieve held : Bool) (number : ℕ) (uid : List ℕ) (size : ℕ) → retrieve ≡ true → held ≡ true → fetching retrieve held number uid size ≡ rereads number uid ∷ []
-one_reread true true number uid size e h = refl
-one_reread true false number uid size e h = absurd (true≢false (sym h))
-one_reread false held number uid size e h = absurd (true≢false (sym e))
-
-pub one_store : (retrieve held : Bool) (number : ℕ) (uid : List ℕ) (size : ℕ) → retrieve ≡ true → held ≡ false → fetching retrieve held number uid size ≡ stores number uid ∷ []
-one_store true true number uid size e h = absurd (true≢false h)
-one_store true false number uid size e h = refl
-one_store false held number uid size e h = absurd (true≢false (sym e))
-
-pub was_true : (a : Bool) → not a ≡ false → a ≡ true
-was_true true e = refl
-was_true false e = absurd (true≢false e)
-
-pub was_false : (a : Bool) → not a ≡ true → a ≡ false
-was_false true e = absurd (true≢false (sym e))
-was_false false e = refl
+pub one_fetch : (retrieve held known : Bool) (number : ℕ) (uid : List ℕ) (size : ℕ) → retrieve ≡ true → held ≡ known → fetching retrieve held number uid size ≡ fetching true known number uid size
+one_fetch retrieve held known number uid size is same = ap (λ (r : Bool). fetching r held number uid size) is ∙ ap (λ (h : Bool). fetching true h number uid size) same

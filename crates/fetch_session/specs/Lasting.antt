@@ -107,10 +107,11 @@ abbrev pub Lasts : {D F : Type 0} → DiskGhosts D → FileGhosts F → (target 
 Lasts disk file target tasks old (Ok done) new does store f = DonesLast disk file target does.dones old store f
 Lasts disk file target tasks old (Err cut) new does store f = DonesLast disk file target does.dones old store f
 
-abbrev pub DoesForGood : {D F : Type 0} → DiskGhosts D → FileGhosts F → Target → List Task → Scene → Result (Unit {0}) Cut → Scene
-    → Store D F → F → Type 0
-DoesForGood disk file target tasks old result new store f =
-    (does : Does target tasks old result new) × Lasts disk file target tasks old result new does store f
+-- a list of tasks was done, or as far as went well; and if this premise holds, what was done outlives a loss of power
+pub record DoesForGood {D F : Type 0} (disk : DiskGhosts D) (file : FileGhosts F) (safe : Type 0) (target : Target) (tasks : List Task)
+    (old : Scene) (result : Result (Unit {0}) Cut) (new : Scene) (store : Store D F) (f : F) : Type 0 where
+  pub does : Does target tasks old result new
+  pub lasts : safe → Lasts disk file target tasks old result new does store f
 
 -- ---- a whole session
 
@@ -120,58 +121,60 @@ StayFrom disk (AsFiles account) old store =
     (folder : Folder) (name : List ℕ) → Contains (names_of (files_in old.maildir folder)) name → stays_in disk store name
 StayFrom disk AsEntries old store = Unit {0}
 
--- what was planned was done, or as much as went well: each file that was in the Maildir before stays, and so does what was done
-pub record CarriedForGood {D F : Type 0} (disk : DiskGhosts D) (files : FileGhosts F) (settings : Settings) (target : Target)
-    (items : List Item)
+-- what was planned was done, or as much as went well; and if this premise holds, each file that was in the Maildir before stays, and what
+-- was done outlives a loss of power
+pub record CarriedForGood {D F : Type 0} (disk : DiskGhosts D) (files : FileGhosts F) (safe : Type 0) (settings : Settings)
+    (target : Target) (items : List Item)
     (now : ℕ) (place : Place) (old : Stores) (file : Stored) (lines : List ReportLine) (result : Result (Unit {0}) Cut) (new : Scene)
     (skipped : ℕ) (store : Store D F) (f : F) : Type 0 where
   pub carried : Carried settings target items now place old file lines result new skipped
-  pub lasts : Lasts disk files target
+  pub lasts : safe → Lasts disk files target
       (tasks_ahead settings target items now old carried.mid.rows) carried.mid result new carried.does store f
-  pub stay : StayFrom disk target old store
+  pub stay : safe → StayFrom disk target old store
 
-abbrev pub CarriesForGood : {D F : Type 0} → DiskGhosts D → FileGhosts F → Settings → Target → List Item → ℕ → Place → Stores → Stored
-    → List ReportLine → Result (Unit {0}) Cut → Place → Stores → Stored → List ReportLine → ℕ → Store D F → F → Type 0
-CarriesForGood disk files settings target items now place old file lines (Ok done) place' new file' lines' skipped store f =
+abbrev pub CarriesForGood : {D F : Type 0} → DiskGhosts D → FileGhosts F → Type 0 → Settings → Target → List Item → ℕ → Place → Stores
+    → Stored → List ReportLine → Result (Unit {0}) Cut → Place → Stores → Stored → List ReportLine → ℕ → Store D F → F → Type 0
+CarriesForGood disk files safe settings target items now place old file lines (Ok done) place' new file' lines' skipped store f =
     (rows : List Row)
-    × CarriedForGood disk files settings target items now place old file lines (Ok done)
+    × CarriedForGood disk files safe settings target items now place old file lines (Ok done)
     (scene place' new file' rows lines') skipped store f
-CarriesForGood disk files settings target items now place old file lines (Err cut) place' new file' lines' skipped store f =
+CarriesForGood disk files safe settings target items now place old file lines (Err cut) place' new file' lines' skipped store f =
     (rows : List Row)
     × (((skipped ≡ 0) × Unprepared target items now place old file lines cut (scene place' new file' rows lines'))
-    ⊎ CarriedForGood disk files settings target items now place old file lines (Err cut)
+    ⊎ CarriedForGood disk files safe settings target items now place old file lines (Err cut)
     (scene place' new file' rows lines') skipped store f)
 
 -- as `Dealt`, for good
-pub record DealtForGood {D F : Type 0} (disk : DiskGhosts D) (files : FileGhosts F) (settings : Settings) (target : Target)
-    (now : ℕ) (old : Place)
+pub record DealtForGood {D F : Type 0} (disk : DiskGhosts D) (files : FileGhosts F) (safe : Type 0) (settings : Settings)
+    (target : Target) (now : ℕ) (old : Place)
     (before : Keeping) (result : Result (Unit {0}) Cut) (new : Place) (after : Keeping) (notes : Noted) (store : Store D F)
     (f : F) : Type 0 where
   pub items : List Item
   pub mid : Place
   pub enters : Enters_with settings old (Ok items) mid
   pub total : notes.total ≡ length items
-  pub carries : CarriesForGood disk files settings target items now mid before.store before.file [] result new after.store after.file
-      notes.lines notes.skipped store f
+  pub carries : CarriesForGood disk files safe settings target items now mid before.store before.file [] result new after.store
+      after.file notes.lines notes.skipped store f
 
 -- as `Proceeds`, for good
-abbrev pub ProceedsForGood : {D F : Type 0} → DiskGhosts D → FileGhosts F → Settings → Target → ℕ → Place → Keeping → Result (Unit {0}) Cut
-    → Place → Keeping → Noted → Store D F → F → Type 0
-ProceedsForGood disk files settings target now old before (Ok done) new after notes store f =
-    DealtForGood disk files settings target now old before (Ok done) new after notes store f
-ProceedsForGood disk files settings target now old before
+abbrev pub ProceedsForGood : {D F : Type 0} → DiskGhosts D → FileGhosts F → Type 0 → Settings → Target → ℕ → Place → Keeping
+    → Result (Unit {0}) Cut → Place → Keeping → Noted → Store D F → F → Type 0
+ProceedsForGood disk files safe settings target now old before (Ok done) new after notes store f =
+    DealtForGood disk files safe settings target now old before (Ok done) new after notes store f
+ProceedsForGood disk files safe settings target now old before
     (Err cut) new after notes store f = NotEntered settings old before cut new after notes
     ⊎ (NoRoom settings old before cut new after notes
-    ⊎ DealtForGood disk files settings target now old before (Err cut) new after notes store f)
+    ⊎ DealtForGood disk files safe settings target now old before (Err cut) new after notes store f)
 
--- a whole session, as `SessionIn` says; and what was stored and marked for each task that was done outlives a loss of
--- power. Tasks are done in order, and a deletion comes after its message's own, so a DELE is sent only for a message
--- whose text outlives one
-pub record SessionForGood {D F : Type 0} (disk : DiskGhosts D) (files : FileGhosts F) (settings : Settings) (target : Target) (now : ℕ)
+-- a whole session, as `SessionIn` says; and if this premise holds, what was stored and marked for each task that was done
+-- outlives a loss of power. Tasks are done in order, and a deletion comes after its message's own, so a DELE is sent only for
+-- a message whose text outlives one
+pub record SessionForGood {D F : Type 0} (disk : DiskGhosts D) (files : FileGhosts F) (safe : Type 0) (settings : Settings)
+    (target : Target) (now : ℕ)
     (link : Link) (before : Keeping) (report : Report) (link' : Link) (after : Keeping) (store : Store D F) (f : F) : Type 0 where
   pub result : Result (Unit {0}) Cut
   pub mid : Place
   pub notes : Noted
-  pub proceeds : ProceedsForGood disk files settings target now (at link []) before result mid after notes store f
+  pub proceeds : ProceedsForGood disk files safe settings target now (at link []) before result mid after notes store f
   pub leaves : LeavesLink result mid link'
   pub reports : Reports (outcome_of result) notes.total notes.skipped notes.lines report

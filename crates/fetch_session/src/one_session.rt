@@ -11,7 +11,7 @@ ghost use Rattle.fetch_session.specs.Intake.{GotAtMost, session_limit, TookWithT
 ghost use Rattle.fetch_session.specs.Refusal.{RefusesTillCut, RefusesByOutcome};
 ghost use Rattle.fetch_session.specs.Lasting.{ProceedsForGood, SessionForGood, is_sure};
 ghost use Rattle.fetch_session.specs.Report.{Reports, most_lines};
-ghost use Rattle.fetch_session.specs.Session.{MboxSession, Proceeds, Session, SessionIn, keeping, kept, mbox_kept, noted};
+ghost use Rattle.fetch_session.specs.Session.{MboxSession, Session, keeping, kept, mbox_kept, noted};
 ghost use Rattle.fetch_session.specs.Target.{IsCalm, IsSoundMaildir, IsSoundMbox};
 ghost use Rattle.fetch_session.specs.Target.{is_sound, kind_of, maildir_of, mbox_of, stores_of, target_of};
 
@@ -66,19 +66,13 @@ fn proceed<W: Wire, D: MaildirDisk, F: FlatFile, H: BuildHasher>(
     ensures calm { is_sound D.MaildirDisk F.FlatFile work.new.store → is_sound D.MaildirDisk F.FlatFile work.old.store
         × ((stores_of D.MaildirDisk F.FlatFile work.new.store).maildir.begun ≡ None) }
     ensures proceeds { WhereWorkSound W.Wire D.MaildirDisk F.FlatFile client.old work.old client.new work.new
-        (λ old new. Proceeds terms.entry.settings.now (target_of work.old.store terms.entry.account.now) terms.entry.now old.place
+        (λ old new. ProceedsForGood D.MaildirDisk F.FlatFile (is_sure F.FlatFile work.old.store × F.is_sure work.old.ledger.file)
+        terms.entry.settings.now (target_of work.old.store terms.entry.account.now) terms.entry.now old.place
         (keeping old.store old.file) result
-        new.place (keeping new.store new.file) (noted counts.new.total counts.new.skipped new.lines)) }
+        new.place (keeping new.store new.file) (noted counts.new.total counts.new.skipped new.lines) work.new.store work.new.ledger.file) }
     ensures took { W.sound client.new.wire.now → W.sound client.old.wire.now
         × TookWithTail (opening_limit + (counts.new.total * step_limit + tail_limit)) (place_of W.Wire client.old) result
         (place_of W.Wire client.new) }
-    ensures good { W.sound client.new.wire.now → is_sound D.MaildirDisk F.FlatFile work.new.store → F.sound work.new.ledger.file
-        → is_sure F.FlatFile work.old.store → F.is_sure work.old.ledger.file
-        → ProceedsForGood D.MaildirDisk F.FlatFile terms.entry.settings.now
-        (target_of work.old.store terms.entry.account.now) terms.entry.now
-        (place_of W.Wire client.old) (keeping (stores_of D.MaildirDisk F.FlatFile work.old.store) (F.stored work.old.ledger.file)) result
-        (place_of W.Wire client.new) (keeping (stores_of D.MaildirDisk F.FlatFile work.new.store) (F.stored work.new.ledger.file))
-        (noted counts.new.total counts.new.skipped work.new.ledger.lines.items) work.new.store work.new.ledger.file }
 {
     conversations_are_paced();
     let listing = match enter(work.ledger.alloc, terms.settings, client) {
@@ -105,9 +99,10 @@ fn session_over<W: Wire, D: MaildirDisk, F: FlatFile, H: BuildHasher>(
     ensures kind { kind_of account.new.store ≡ kind_of account.old.store }
     ensures session { WhereAllSound W.sound W.leads_to (is_sound D.MaildirDisk F.FlatFile) F.sound client.old.wire.now client.new.wire.now
         account.old.store account.new.store account.old.file account.new.file
-        (SessionIn account.old.settings (target_of account.old.store (digits_of account.old.settings)) now (link_of W.Wire client.old)
+        (SessionForGood D.MaildirDisk F.FlatFile (is_sure F.FlatFile account.old.store × F.is_sure account.old.file)
+        account.old.settings (target_of account.old.store (digits_of account.old.settings)) now (link_of W.Wire client.old)
         (keeping (stores_of D.MaildirDisk F.FlatFile account.old.store) (F.stored account.old.file)) result (link_of W.Wire client.new)
-        (keeping (stores_of D.MaildirDisk F.FlatFile account.new.store) (F.stored account.new.file))) }
+        (keeping (stores_of D.MaildirDisk F.FlatFile account.new.store) (F.stored account.new.file)) account.new.store account.new.file) }
     ensures files { WhereAllSound W.sound W.leads_to (IsSoundMaildir D.MaildirDisk) F.sound client.old.wire.now client.new.wire.now
         account.old.store account.new.store account.old.file account.new.file
         (Session account.old.settings (digits_of account.old.settings) now (link_of W.Wire client.old)
@@ -121,9 +116,8 @@ fn session_over<W: Wire, D: MaildirDisk, F: FlatFile, H: BuildHasher>(
     ensures bounded { W.sound client.new.wire.now
         → GotAtMost (session_limit result.total) (link_of W.Wire client.old) (link_of W.Wire client.new) }
     ensures power { W.sound client.new.wire.now → is_sound D.MaildirDisk F.FlatFile account.new.store → F.sound account.new.file
-        → is_sure F.FlatFile account.old.store → F.is_sure account.old.file
-        → SessionForGood D.MaildirDisk F.FlatFile account.old.settings
-        (target_of account.old.store (digits_of account.old.settings)) now (link_of W.Wire client.old)
+        → SessionForGood D.MaildirDisk F.FlatFile (is_sure F.FlatFile account.old.store × F.is_sure account.old.file)
+        account.old.settings (target_of account.old.store (digits_of account.old.settings)) now (link_of W.Wire client.old)
         (keeping (stores_of D.MaildirDisk F.FlatFile account.old.store) (F.stored account.old.file)) result (link_of W.Wire client.new)
         (keeping (stores_of D.MaildirDisk F.FlatFile account.new.store) (F.stored account.new.file)) account.new.store account.new.file }
 {
@@ -188,9 +182,8 @@ pub fn session<W: Wire, D: MaildirDisk, F: FlatFile, H: BuildHasher>(
     ensures bounded { W.sound wire.new
         → GotAtMost (session_limit result.total) (W.history wire.old) (W.history wire.new) }
     ensures power { W.sound wire.new → is_sound D.MaildirDisk F.FlatFile account.new.store → F.sound account.new.file
-        → is_sure F.FlatFile account.old.store → F.is_sure account.old.file
-        → SessionForGood D.MaildirDisk F.FlatFile account.old.settings
-        (target_of account.old.store (digits_of account.old.settings)) now (W.history wire.old)
+        → SessionForGood D.MaildirDisk F.FlatFile (is_sure F.FlatFile account.old.store × F.is_sure account.old.file)
+        account.old.settings (target_of account.old.store (digits_of account.old.settings)) now (W.history wire.old)
         (keeping (stores_of D.MaildirDisk F.FlatFile account.old.store) (F.stored account.old.file)) result (W.history wire.new)
         (keeping (stores_of D.MaildirDisk F.FlatFile account.new.store) (F.stored account.new.file)) account.new.store account.new.file }
 {

@@ -9,7 +9,6 @@ ghost use Rattle.fetch_session.specs.Target.{IsCalm, is_sound, kind_of, stores_o
 ghost use Rattle.fetch_session.specs.Work.{WhereWorkSound};
 ghost use Rattle.fetch_session.specs.Intake.{TookWithTail, step_limit, tail_limit};
 ghost use Rattle.fetch_session.specs.Lasting.{CarriesForGood, is_sure};
-ghost use Rattle.fetch_session.specs.Plan.{Carries};
 ghost use Rattle.fetch_session.specs.Refusal.{RefusesTillCut};
 ghost use Rattle.fetch_session.specs.Report.{HasRoom, Adds};
 
@@ -47,20 +46,12 @@ pub fn carry_out<W: Wire, D: MaildirDisk, F: FlatFile, H: BuildHasher>(
     ensures calm { is_sound D.MaildirDisk F.FlatFile work.new.store → is_sound D.MaildirDisk F.FlatFile work.old.store
         × ((stores_of D.MaildirDisk F.FlatFile work.new.store).maildir.begun ≡ None) }
     ensures carries { WhereWorkSound W.Wire D.MaildirDisk F.FlatFile client.old work.old client.new work.new
-        (λ old new. Carries terms.entry.settings.now (target_of work.old.store terms.entry.account.now) listing.now terms.entry.now
+        (λ old new. CarriesForGood D.MaildirDisk F.FlatFile (is_sure F.FlatFile work.old.store × F.is_sure work.old.ledger.file)
+        terms.entry.settings.now (target_of work.old.store terms.entry.account.now) listing.now terms.entry.now
         old.place old.store old.file old.lines result
-        new.place new.store new.file new.lines skipped.new) }
+        new.place new.store new.file new.lines skipped.new work.new.store work.new.ledger.file) }
     ensures took { W.sound client.new.wire.now → W.sound client.old.wire.now
         × TookWithTail (length listing.now * step_limit + tail_limit) (place_of W.Wire client.old) result (place_of W.Wire client.new) }
-    ensures good { W.sound client.new.wire.now → is_sound D.MaildirDisk F.FlatFile work.new.store → F.sound work.new.ledger.file
-        → is_sure F.FlatFile work.old.store → F.is_sure work.old.ledger.file
-        → CarriesForGood D.MaildirDisk F.FlatFile terms.entry.settings.now
-        (target_of work.old.store terms.entry.account.now) listing.now terms.entry.now
-        (place_of W.Wire client.old) (stores_of D.MaildirDisk F.FlatFile work.old.store)
-        (F.stored work.old.ledger.file) work.old.ledger.lines.items result
-        (place_of W.Wire client.new) (stores_of D.MaildirDisk F.FlatFile work.new.store)
-        (F.stored work.new.ledger.file) work.new.ledger.lines.items
-        skipped.new work.new.store work.new.ledger.file }
 {
     conversations_are_paced();
     firsts_are_fetched();

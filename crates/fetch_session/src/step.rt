@@ -295,23 +295,15 @@ fn do_step<W: Wire, D: MaildirDisk, F: FlatFile, H: BuildHasher>(
         message.entry.size))
         (stores_of D.MaildirDisk F.FlatFile work.old.store).maildir (stores_of D.MaildirDisk F.FlatFile work.new.store).maildir }
     ensures does { WhereWorkSound W.Wire D.MaildirDisk F.FlatFile client.old work.old client.new work.new
-        (λ old new. Does (target_of work.old.store account.now)
+        (λ old new. DoesForGood D.MaildirDisk F.FlatFile (IsSafeWork F.FlatFile work.old) (target_of work.old.store account.now)
         (tasks_in message.entry.step (record { uid = message.entry.uid.now; size = message.entry.size }) message.entry.held)
-        old result new) }
+        old result new work.new.store work.new.ledger.file) }
     ensures took { W.sound client.new.wire.now → W.sound client.old.wire.now
         × TookTillCut step_limit (place_of W.Wire client.old) result (place_of W.Wire client.new) }
     ensures keeps { is_sound D.MaildirDisk F.FlatFile work.new.store → F.sound work.new.ledger.file
         → KeepsWork D.MaildirDisk F.FlatFile work.old work.new }
     ensures lasts { is_sound D.MaildirDisk F.FlatFile work.new.store → F.sound work.new.ledger.file → IsSafeWork F.FlatFile work.old
         → OnOk result (IsSafeWork F.FlatFile work.new) }
-    ensures good { W.sound client.new.wire.now
-        → is_sound D.MaildirDisk F.FlatFile work.new.store → F.sound work.new.ledger.file
-        → IsSafeWork F.FlatFile work.old
-        → DoesForGood D.MaildirDisk F.FlatFile (target_of work.old.store account.now)
-        (tasks_in message.entry.step (record { uid = message.entry.uid.now; size = message.entry.size }) message.entry.held)
-        (scene_of W.Wire D.MaildirDisk F.FlatFile client.old work.old) result
-        (scene_of W.Wire D.MaildirDisk F.FlatFile client.new work.new)
-        work.new.store work.new.ledger.file }
 {
     let step = message.step;
     if let Err(cut) = fetch_if(client, work, account, message) {
@@ -351,20 +343,13 @@ pub fn do_steps<W: Wire, D: MaildirDisk, F: FlatFile, H: BuildHasher>(
     ensures calm { is_sound D.MaildirDisk F.FlatFile work.new.store → is_sound D.MaildirDisk F.FlatFile work.old.store
         × ((stores_of D.MaildirDisk F.FlatFile work.new.store).maildir.begun ≡ None) }
     ensures does { WhereWorkSound W.Wire D.MaildirDisk F.FlatFile client.old work.old client.new work.new
-        (λ old new. Does (target_of work.old.store account.now) (tasks_planned steps.now listing.now held.now) old result new) }
+        (λ old new. DoesForGood D.MaildirDisk F.FlatFile (IsSafeWork F.FlatFile work.old) (target_of work.old.store account.now)
+        (tasks_planned steps.now listing.now held.now) old result new work.new.store work.new.ledger.file) }
     ensures took { W.sound client.new.wire.now → W.sound client.old.wire.now
         × TookTillCut (length listing.now * step_limit) (place_of W.Wire client.old) result (place_of W.Wire client.new) }
     ensures keeps { W.sound client.new.wire.now
         → is_sound D.MaildirDisk F.FlatFile work.new.store → F.sound work.new.ledger.file
         → KeepsMailIn D.MaildirDisk work.old.store work.new.store }
-    ensures good { W.sound client.new.wire.now
-        → is_sound D.MaildirDisk F.FlatFile work.new.store → F.sound work.new.ledger.file
-        → IsSafeWork F.FlatFile work.old
-        → DoesForGood D.MaildirDisk F.FlatFile (target_of work.old.store account.now)
-        (tasks_planned steps.now listing.now held.now)
-        (scene_of W.Wire D.MaildirDisk F.FlatFile client.old work.old) result
-        (scene_of W.Wire D.MaildirDisk F.FlatFile client.new work.new)
-        work.new.store work.new.ledger.file }
 {
     one_more_is_held();
     for i in 0..listing.len() {

@@ -86,14 +86,11 @@ pub(crate) fn store_text<W: Wire, D: MaildirDisk>(
     requires not_there { D.sound disk.old → (size : ℕ) → IsInNew (D.maildir disk.old) (sized (string_bytes stem) size) → ⊥ }
     ensures link { HasSameLink client.old client.new }
     ensures counted { RefusesTillCut (link_of W.Wire client.old) result (link_of W.Wire client.new) }
-    ensures stores { D.sound disk.new → D.sound disk.old
-        × ((text : List ℕ) × StoresText (string_bytes stem) (D.maildir disk.old) text result (D.maildir disk.new)
+    ensures stores { (text : List ℕ) × (D.sound disk.new → D.sound disk.old
+        × StoresText (string_bytes stem) (D.maildir disk.old) text result (D.maildir disk.new))
         × WhereSound W.sound W.leads_to client.old.wire.now client.new.wire.now
         ((number : ℕ) (start : Place) → Fetching (retr number) start (place_of W.Wire client.old) body []
-        → ReadsText number start text result (place_of W.Wire client.new))) }
-    ensures reads { W.sound client.new.wire.now → W.sound client.old.wire.now
-        × ((number : ℕ) (start : Place) → Fetching (retr number) start (place_of W.Wire client.old) body []
-        → (text : List ℕ) × ReadsText number start text result (place_of W.Wire client.new)) }
+        → ReadsText number start text result (place_of W.Wire client.new)) }
     ensures keeps { D.sound disk.new → KeepsMail (D.stays disk.old) (D.outlives disk.old) (D.stays disk.new) (D.outlives disk.new) }
     ensures lasts { D.sound disk.new → OnOk result ((text : List ℕ)
         → D.maildir disk.new ≡ with_file (D.maildir disk.old) (sized_file (string_bytes stem) text)

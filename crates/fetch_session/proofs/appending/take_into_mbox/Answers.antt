@@ -1,10 +1,10 @@
-use Rattle.std.proofs.Common.{List, [], ◌∷◌, ◌++◌, Vec, length, arith, sym, ap, subst, ◌∙◌, inl, refl}
+use Rattle.std.proofs.Common.{◌≡◌, List, [], ◌∷◌, ◌++◌, Vec, length, arith, sym, ap, subst, ◌∙◌, inl, refl}
 use Rattle.std.proofs.lemmas.Bool.{true≢false}
 use Rattle.mail_terms.specs.Text.{IsWhole}
 use Rattle.fetch_rules.specs.Record.{Row, has_row}
 use Rattle.pop3_client.specs.Client.{place_of}
-use Rattle.pop3_client.specs.declared.fault.Fault.TheVariants.{BadReply}
 use Rattle.fetch_session.specs.Target.{AsEntries, in_mbox}
+use Rattle.fetch_session.specs.Intake.{Took}
 use Rattle.fetch_session.specs.Task.{stores}
 use Rattle.fetch_session.specs.declared.report.ReportLine.{ReportLine}
 use Rattle.fetch_session.specs.declared.report.ReportLine.TheVariants.{Delivered}
@@ -13,7 +13,13 @@ use Rattle.fetch_session.proofs.MboxLemmas.{body_whole, entry_not_saved, entry_s
 use Rattle.fetch_session.proofs.IntakeLemmas.{takes_plain, took_retr, takes_text, takes_held}
 use Rattle.fetch_session.proofs.RefusalLemmas.{before_cut, cut_by}
 use Rattle.pop3_client.proofs.ClientLemmas.{did_so}
+use Rattle.fetch_session.proofs.appending.take_into_mbox.Given.{Over}
+use Rattle.fetch_session.proofs.appending.take_into_mbox.Goals.{After-note, In-Ok-read_text}
 use Rattle.fetch_session.proofs.appending.take_into_mbox.Goals as goal
+
+-- the line of the text is told
+told : (g : Over) (c : After-note g) → c.note.new.lines.items ≡ c.args.ledger.now.lines.items ++ Delivered c.args.number c.len-length.result ∷ []
+told g c = c.note.ensures.items ∙ ap (λ (v : Vec ReportLine _). v.items ++ Delivered c.args.number c.len-length.result ∷ []) c.append_text.ensures.lines
 
 pub returns-in-Err-clause-takes : goal.returns-in-Err-clause-takes
 returns-in-Err-clause-takes g c = λ w m f.
@@ -35,8 +41,7 @@ returns-in-Err-read_text-clause-takes g c = λ w m f.
       m,
       f,
       g.met.W.Wire.leads_on _ _ _ opened.1 held.1,
-      not_held c.args.number c.args.uid.now old (place_of g.W.Wire c.read_text.new.client) (in_mbox (g.F.FlatFile.stored c.args.mbox.now)) (g.F.FlatFile.stored c.args.ledger.now.file) c.args.ledger.now.seen.rows c.args.ledger.now.lines.items c.in-Err-read_text.cut
-          (held.2 c.args.number old opened.2),
+      not_held (held.2 c.args.number old opened.2),
     )
 
 pub returns-then-not-is_whole-clause-takes : goal.returns-then-not-is_whole-clause-takes
@@ -49,17 +54,8 @@ returns-then-not-is_whole-clause-takes g c = λ w m f.
 pub append_text-requires-clause-whole : goal.append_text-requires-clause-whole
 append_text-requires-clause-whole g c = subst IsWhole (c.deref.ensures.value ∙ sym c.deref-2.ensures.value) (c.is_whole.ensures.0 c.if-not-is_whole.false)
 
-pub append_text-requires-clause-closed : goal.append_text-requires-clause-closed
-append_text-requires-clause-closed g c = c.requires.ready.closed
-
-pub append_text-requires-clause-steady : goal.append_text-requires-clause-steady
-append_text-requires-clause-steady g c = c.requires.ready.steady
-
 pub remember-requires-clause-steady : goal.remember-requires-clause-steady
 remember-requires-clause-steady g c = λ f. (c.in_default.ensures.steady f).1
-
-pub remember-requires-clause-own : goal.remember-requires-clause-own
-remember-requires-clause-own g c = c.in_default.ensures.opened
 
 pub returns-in-Err-append_text-clause-takes : goal.returns-in-Err-append_text-clause-takes
 returns-in-Err-append_text-clause-takes g c = λ w m f.
@@ -71,8 +67,8 @@ returns-in-Err-append_text-clause-takes g c = λ w m f.
       appends.0,
       appends.1,
       g.met.W.Wire.leads_on _ _ _ opened.1 held.1,
-      text_refused c.args.number c.args.uid.now c.in-Ok-read_text.text.items c.deref-2.result.now old (place_of g.W.Wire c.read_text.new.client) (g.F.FlatFile.stored c.args.mbox.now) (g.F.FlatFile.stored c.append_text.new.mbox) (g.F.FlatFile.stored c.args.ledger.now.file) (g.F.FlatFile.stored c.append_text.new.ledger.file)
-          c.args.ledger.now.seen.rows c.append_text.new.ledger.seen.rows c.args.ledger.now.lines.items c.append_text.new.ledger.lines.items c.in-Err-append_text.fault c.plain-in-Err-append_text.result (held.2 c.args.number old opened.2) c.deref-2.ensures.value c.plain-in-Err-append_text.ensures appends.2 c.append_text.ensures.rows (ap (λ (v : Vec ReportLine _). v.items) c.append_text.ensures.lines),
+      text_refused c.in-Ok-read_text.text.items c.deref-2.result.now c.in-Err-append_text.fault (held.2 c.args.number old opened.2) c.deref-2.ensures.value c.plain-in-Err-append_text.ensures appends.2
+          c.append_text.ensures.rows (ap (λ (v : Vec ReportLine _). v.items) c.append_text.ensures.lines),
     )
 
 pub returns-in-Ok-remember-clause-takes : goal.returns-in-Ok-remember-clause-takes
@@ -86,8 +82,8 @@ returns-in-Ok-remember-clause-takes g c = λ w m f.
       appends.0,
       appends.1,
       g.met.W.Wire.leads_on _ _ _ opened.1 held.1,
-      entry_stored c.args.number c.len-length.result c.args.uid.now c.in-Ok-read_text.text.items c.deref-2.result.now old (place_of g.W.Wire c.read_text.new.client) (g.F.FlatFile.stored c.args.mbox.now) (g.F.FlatFile.stored c.append_text.new.mbox) (g.F.FlatFile.stored c.args.ledger.now.file) (g.F.FlatFile.stored c.append_text.new.ledger.file) (g.F.FlatFile.stored c.remember.new.file)
-          c.args.ledger.now.seen c.append_text.new.ledger.seen c.remember.new.seen.rows c.args.ledger.now.lines.items c.note.new.lines.items (held.2 c.args.number old opened.2) c.deref-2.ensures.value (omega (arith, c.len-length.ensures, c.deref-2.ensures.len, ap length c.deref-2.ensures.value)) appends.2 c.append_text.ensures.rows c.in-Ok-remember.ensures.rows saved.1 (c.note.ensures.items ∙ ap (λ (ls : List ReportLine). ls ++ Delivered c.args.number c.len-length.result ∷ []) (ap (λ (v : Vec ReportLine _). v.items) c.append_text.ensures.lines)),
+      entry_stored c.len-length.result c.in-Ok-read_text.text.items c.deref-2.result.now (g.F.FlatFile.stored c.append_text.new.ledger.file) c.args.ledger.now.seen c.append_text.new.ledger.seen (held.2 c.args.number old opened.2)
+          c.deref-2.ensures.value (omega (arith, c.len-length.ensures, c.deref-2.ensures.len, ap length c.deref-2.ensures.value)) appends.2 c.append_text.ensures.rows c.in-Ok-remember.ensures.rows saved.1 (told g (goal.at.returns-in-Ok-remember-clause-takes g c).After-note),
     )
 
 pub returns-clause-takes : goal.returns-clause-takes
@@ -101,8 +97,8 @@ returns-clause-takes g c = λ w m f.
       appends.0,
       appends.1,
       g.met.W.Wire.leads_on _ _ _ opened.1 held.1,
-      entry_not_saved c.args.number c.len-length.result c.args.uid.now c.in-Ok-read_text.text.items c.deref-2.result.now old (place_of g.W.Wire c.read_text.new.client) (g.F.FlatFile.stored c.args.mbox.now) (g.F.FlatFile.stored c.append_text.new.mbox) (g.F.FlatFile.stored c.args.ledger.now.file) (g.F.FlatFile.stored c.append_text.new.ledger.file) (g.F.FlatFile.stored c.remember.new.file)
-          c.args.ledger.now.seen c.append_text.new.ledger.seen c.remember.new.seen.rows c.args.ledger.now.lines.items c.note.new.lines.items c.in-Err-remember.fault c.plain-in-Err-remember.result (held.2 c.args.number old opened.2) c.deref-2.ensures.value (omega (arith, c.len-length.ensures, c.deref-2.ensures.len, ap length c.deref-2.ensures.value)) c.plain-in-Err-remember.ensures appends.2 c.append_text.ensures.rows saved.1 (c.note.ensures.items ∙ ap (λ (ls : List ReportLine). ls ++ Delivered c.args.number c.len-length.result ∷ []) (ap (λ (v : Vec ReportLine _). v.items) c.append_text.ensures.lines)),
+      entry_not_saved c.len-length.result c.in-Ok-read_text.text.items c.deref-2.result.now (g.F.FlatFile.stored c.append_text.new.ledger.file) c.args.ledger.now.seen c.append_text.new.ledger.seen c.in-Err-remember.fault (held.2 c.args.number old opened.2)
+          c.deref-2.ensures.value (omega (arith, c.len-length.ensures, c.deref-2.ensures.len, ap length c.deref-2.ensures.value)) c.plain-in-Err-remember.ensures appends.2 c.append_text.ensures.rows saved.1 (told g (goal.at.returns-clause-takes g c).After-note),
     )
 
 -- ---- ready for the next task
@@ -122,7 +118,7 @@ returns-in-Ok-remember-clause-rows g c = λ other has.
 
 pub returns-in-Err-clause-took : goal.returns-in-Err-clause-took
 returns-in-Err-clause-took g c = did_so g.W.Wire c.in-Err.ensures.opens (λ opened.
-    takes_plain 268437504 _ _ c.in-Err.fault c.plain.result c.plain.ensures (took_retr c.conversations_are_paced.ensures c.args.number _ _ c.in-Err.fault opened))
+    takes_plain c.plain.ensures (took_retr c.conversations_are_paced.ensures c.args.number _ _ c.in-Err.fault opened))
 
 pub returns-in-Err-read_text-clause-took : goal.returns-in-Err-read_text-clause-took
 returns-in-Err-read_text-clause-took g c = λ w.
@@ -131,41 +127,32 @@ returns-in-Err-read_text-clause-took g c = λ w.
     let old = place_of g.W.Wire c.args.client.now in
     (opened.0, takes_held c.conversations_are_paced.ensures c.args.number old c.in-Err-read_text.cut (place_of g.W.Wire c.read_text.new.client) (held.2 c.args.number old opened.2))
 
-pub returns-then-not-is_whole-clause-took : goal.returns-then-not-is_whole-clause-took
-returns-then-not-is_whole-clause-took g c = λ w.
+-- the text was read
+took_read : (g : Over) (c : In-Ok-read_text g) → g.W.Wire.sound c.read_text.new.client.wire.now
+    → g.W.Wire.sound c.args.client.now.wire.now × Took 268437504 (place_of g.W.Wire c.args.client.now) (place_of g.W.Wire c.read_text.new.client)
+took_read g c w =
     let held = c.in-Ok-read_text.ensures.holds w in
     let opened = c.in-Ok.ensures.opens held.0 in
     let old = place_of g.W.Wire c.args.client.now in
-    let new = place_of g.W.Wire c.read_text.new.client in
-    let took = takes_text c.conversations_are_paced.ensures c.args.number old c.in-Ok-read_text.text.items 0 new (held.2 c.args.number old opened.2) in
-    (opened.0, takes_plain 268437504 old new BadReply c.plain-then-not-is_whole.result c.plain-then-not-is_whole.ensures took)
+    (opened.0, takes_text c.conversations_are_paced.ensures c.args.number old c.in-Ok-read_text.text.items 0 (place_of g.W.Wire c.read_text.new.client) (held.2 c.args.number old opened.2))
+
+pub returns-then-not-is_whole-clause-took : goal.returns-then-not-is_whole-clause-took
+returns-then-not-is_whole-clause-took g c = λ w.
+    let took = took_read g (goal.at.returns-then-not-is_whole-clause-took g c).In-Ok-read_text w in
+    (took.0, takes_plain c.plain-then-not-is_whole.ensures took.1)
 
 pub returns-in-Err-append_text-clause-took : goal.returns-in-Err-append_text-clause-took
 returns-in-Err-append_text-clause-took g c = λ w.
-    let held = c.in-Ok-read_text.ensures.holds w in
-    let opened = c.in-Ok.ensures.opens held.0 in
-    let old = place_of g.W.Wire c.args.client.now in
-    let new = place_of g.W.Wire c.read_text.new.client in
-    let took = takes_text c.conversations_are_paced.ensures c.args.number old c.in-Ok-read_text.text.items 0 new (held.2 c.args.number old opened.2) in
-    (opened.0, takes_plain 268437504 old new c.in-Err-append_text.fault c.plain-in-Err-append_text.result c.plain-in-Err-append_text.ensures took)
+    let took = took_read g (goal.at.returns-in-Err-append_text-clause-took g c).In-Ok-read_text w in
+    (took.0, takes_plain c.plain-in-Err-append_text.ensures took.1)
 
 pub returns-in-Ok-remember-clause-took : goal.returns-in-Ok-remember-clause-took
-returns-in-Ok-remember-clause-took g c = λ w.
-    let held = c.in-Ok-read_text.ensures.holds w in
-    let opened = c.in-Ok.ensures.opens held.0 in
-    let old = place_of g.W.Wire c.args.client.now in
-    let new = place_of g.W.Wire c.read_text.new.client in
-    let took = takes_text c.conversations_are_paced.ensures c.args.number old c.in-Ok-read_text.text.items 0 new (held.2 c.args.number old opened.2) in
-    (opened.0, took)
+returns-in-Ok-remember-clause-took g c = took_read g (goal.at.returns-in-Ok-remember-clause-took g c).In-Ok-read_text
 
 pub returns-clause-took : goal.returns-clause-took
 returns-clause-took g c = λ w.
-    let held = c.in-Ok-read_text.ensures.holds w in
-    let opened = c.in-Ok.ensures.opens held.0 in
-    let old = place_of g.W.Wire c.args.client.now in
-    let new = place_of g.W.Wire c.read_text.new.client in
-    let took = takes_text c.conversations_are_paced.ensures c.args.number old c.in-Ok-read_text.text.items 0 new (held.2 c.args.number old opened.2) in
-    (opened.0, takes_plain 268437504 old new c.in-Err-remember.fault c.plain-in-Err-remember.result c.plain-in-Err-remember.ensures took)
+    let took = took_read g (goal.at.returns-clause-took g c).In-Ok-read_text w in
+    (took.0, takes_plain c.plain-in-Err-remember.ensures took.1)
 
 -- ---- refused calls of the link
 

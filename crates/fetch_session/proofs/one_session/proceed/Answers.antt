@@ -1,27 +1,27 @@
 use Rattle.std.proofs.Common.{◌+◌, ◌*◌, length, Ok, Err, arith, ◌∙◌, inl}
 use Rattle.pop3_client.specs.Client.{place_of}
-use Rattle.pop3_client.specs.declared.fault.Fault.TheVariants.{NoMemory}
 use Rattle.fetch_session.specs.Session.{keeping, noted}
 use Rattle.fetch_session.specs.Target.{stores_of, target_of}
 use Rattle.fetch_session.proofs.SessionLemmas.{dealt}
 use Rattle.fetch_session.proofs.IntakeLemmas.{takes_plain, took_entering, with_any_tail, with_tail_on, with_tail_less}
 use Rattle.fetch_session.proofs.RefusalLemmas.{cut_by, till_cut}
-use Rattle.fetch_session.proofs.GoodLemmas.{good_dealt}
+use Rattle.fetch_session.specs.Lasting.{is_sure}
 use Rattle.fetch_session.proofs.one_session.proceed.Goals as goal
 
 pub returns-clause-proceeds : goal.returns-clause-proceeds
 returns-clause-proceeds g c = λ w d f.
     let does = c.carry_out.ensures.carries w d f in
     let entered = c.in-Ok.ensures.enters does.0 in
+    let old = c.args.work.now in
     let new = c.carry_out.new in (
       entered.0,
       does.1,
       does.2,
       g.met.W.Wire.leads_on _ _ _ entered.1 does.3,
-      dealt c.args.terms.settings.now (target_of c.args.work.now.store c.args.terms.account.now) c.args.terms.now (place_of g.W.Wire c.args.client.now)
-          (keeping (stores_of g.D.MaildirDisk g.F.FlatFile c.args.work.now.store) (g.F.FlatFile.stored c.args.work.now.ledger.file)) c.carry_out.result
+      dealt g.D.MaildirDisk g.F.FlatFile (is_sure g.F.FlatFile old.store × g.F.FlatFile.is_sure old.ledger.file) c.args.terms.settings.now (target_of old.store c.args.terms.account.now) c.args.terms.now
+          (place_of g.W.Wire c.args.client.now) (keeping (stores_of g.D.MaildirDisk g.F.FlatFile old.store) (g.F.FlatFile.stored old.ledger.file)) c.carry_out.result
           (place_of g.W.Wire new.client) (keeping (stores_of g.D.MaildirDisk g.F.FlatFile new.work.store) (g.F.FlatFile.stored new.work.ledger.file)) (noted c.len-counts.result new.skipped new.work.ledger.lines.items)
-          c.in-Ok.listing (place_of g.W.Wire c.enter.new.client) c.reserve.new.self.items (c.reserve.ensures.items ∙ c.requires.nothing.2) entered.2 c.len-counts.ensures.count does.4,
+          c.in-Ok.listing (place_of g.W.Wire c.enter.new.client) c.reserve.new.self.items new.work.store new.work.ledger.file (c.reserve.ensures.items ∙ c.requires.nothing.2) entered.2 c.len-counts.ensures.count does.4,
     )
 
 pub returns-in-Err-clause-took : goal.returns-in-Err-clause-took
@@ -32,7 +32,7 @@ returns-in-Err-clause-took g c = λ w.
     let cut = c.plain.result in (
       entered.0,
       with_tail_less (409616384 + 4096) (409616384 + (c.args.counts.now.total * 268439552 + 4096)) old new (Err cut) (omega arith)
-          (with_any_tail 409616384 old new cut (takes_plain 409616384 old new c.in-Err.fault cut c.plain.ensures (took_entering c.conversations_are_paced.ensures _ _ old new (Err c.in-Err.fault) entered.2))),
+          (with_any_tail 409616384 old new cut (takes_plain c.plain.ensures (took_entering c.conversations_are_paced.ensures _ _ old new (Err c.in-Err.fault) entered.2))),
     )
 
 pub returns-in-Err-reserve-clause-took : goal.returns-in-Err-reserve-clause-took
@@ -43,7 +43,7 @@ returns-in-Err-reserve-clause-took g c = λ w.
     let cut = c.plain-in-Err-reserve.result in (
       entered.0,
       with_tail_less (409616384 + 4096) (409616384 + (c.len-counts.result * 268439552 + 4096)) old new (Err cut) (omega arith)
-          (with_any_tail 409616384 old new cut (takes_plain 409616384 old new NoMemory cut c.plain-in-Err-reserve.ensures (took_entering c.conversations_are_paced.ensures _ _ old new (Ok c.in-Ok.listing) entered.2))),
+          (with_any_tail 409616384 old new cut (takes_plain c.plain-in-Err-reserve.ensures (took_entering c.conversations_are_paced.ensures _ _ old new (Ok c.in-Ok.listing) entered.2))),
     )
 
 pub returns-clause-took : goal.returns-clause-took
@@ -67,16 +67,3 @@ returns-in-Err-reserve-clause-counted g c = inl c.in-Ok.ensures.counted
 
 pub returns-clause-counted : goal.returns-clause-counted
 returns-clause-counted g c = till_cut (g.W.Wire.history c.args.client.now.wire.now) (g.W.Wire.history c.enter.new.client.wire.now) (g.W.Wire.history c.carry_out.new.client.wire.now) c.carry_out.result c.in-Ok.ensures.counted c.carry_out.ensures.counted
-
--- ---- what outlives a loss of power
-
-pub returns-clause-good : goal.returns-clause-good
-returns-clause-good g c = λ w d f sure sure'.
-    let does = c.carry_out.ensures.carries w d f in
-    let entered = c.in-Ok.ensures.enters does.0 in
-    let new = c.carry_out.new in
-    good_dealt g.D.MaildirDisk g.F.FlatFile c.args.terms.settings.now (target_of c.args.work.now.store c.args.terms.account.now) c.args.terms.now (place_of g.W.Wire c.args.client.now)
-    (keeping (stores_of g.D.MaildirDisk g.F.FlatFile c.args.work.now.store) (g.F.FlatFile.stored c.args.work.now.ledger.file)) c.carry_out.result
-    (place_of g.W.Wire new.client) (keeping (stores_of g.D.MaildirDisk g.F.FlatFile new.work.store) (g.F.FlatFile.stored new.work.ledger.file)) (noted c.len-counts.result new.skipped new.work.ledger.lines.items)
-    c.in-Ok.listing (place_of g.W.Wire c.enter.new.client) c.reserve.new.self.items new.work.store new.work.ledger.file (c.reserve.ensures.items ∙ c.requires.nothing.2) entered.2 c.len-counts.ensures.count
-    (c.carry_out.ensures.good w d f sure sure')

@@ -1,17 +1,16 @@
-use Rattle.std.proofs.Common.{◌≤◌, ◌+◌, ◌*◌, ℕ, List, length, Err, sym, ap, subst, ◌∙◌}
+use Rattle.std.proofs.Common.{◌≤◌, ◌+◌, ◌*◌, ℕ, List, length, Ok, Err, refl, sym, ap, subst, ◌∙◌}
 use Rattle.pop3_wire.specs.Place.{at, most_waiting}
 use Rattle.pop3_client.specs.Client.{place_of}
 use Rattle.fetch_session.specs.Account.{digits_of}
 use Rattle.fetch_session.specs.declared.report.Outcome.{Outcome}
 use Rattle.fetch_session.specs.Refusal.{RefusesByOutcome}
 use Rattle.fetch_session.specs.Intake.{GotAtMost, session_limit, Took, TookWithTail, opening_limit, step_limit, tail_limit}
-use Rattle.fetch_session.specs.Session.{keeping, noted, SessionIn}
+use Rattle.fetch_session.specs.Session.{SessionIn, keeping, noted}
 use Rattle.fetch_session.specs.Target.{is_sound, kind_of, stores_of, target_of}
 use Rattle.fetch_session.proofs.IntakeLemmas.{cut_within, ended_within}
-use Rattle.fetch_session.proofs.SessionLemmas.{cut_session, ended_session, entries_session, files_session}
+use Rattle.fetch_session.proofs.SessionLemmas.{entries_session, files_session, left_session, session_in}
 use Rattle.fetch_session.proofs.RefusalLemmas.{left_alone}
 use Rattle.fetch_session.specs.Lasting.{SessionForGood, is_sure}
-use Rattle.fetch_session.proofs.GoodLemmas.{good_cut_session, good_ended_session}
 use Rattle.fetch_session.proofs.one_session.session_over.Goals as goal
 
 pub returns-in-Err-clause-session : goal.returns-in-Err-clause-session
@@ -21,17 +20,15 @@ returns-in-Err-clause-session g c = λ w d f.
     let done = c.proceed.new in
     let inside = c.account.inside in
     let after = keeping (stores_of g.D.MaildirDisk g.F.FlatFile done.work.store) (g.F.FlatFile.stored done.work.ledger.file) in
-    let new = place_of g.W.Wire c.leave.new.client in
     subst (λ h. g.W.Wire.sound c.args.client.now.wire.now × is_sound g.D.MaildirDisk g.F.FlatFile h.store × g.F.FlatFile.sound h.file × g.W.Wire.leads_to c.args.client.now.wire.now c.leave.new.client.wire.now
-    × SessionIn h.settings (target_of h.store (digits_of h.settings)) c.args.now (g.W.Wire.history c.args.client.now.wire.now) (keeping (stores_of g.D.MaildirDisk g.F.FlatFile h.store) (g.F.FlatFile.stored h.file)) c.tell.result new.link after) c.account.view_is (
+    × SessionForGood g.D.MaildirDisk g.F.FlatFile (is_sure g.F.FlatFile h.store × g.F.FlatFile.is_sure h.file) h.settings (target_of h.store (digits_of h.settings)) c.args.now (g.W.Wire.history c.args.client.now.wire.now)
+    (keeping (stores_of g.D.MaildirDisk g.F.FlatFile h.store) (g.F.FlatFile.stored h.file)) c.tell.result (place_of g.W.Wire c.leave.new.client).link after done.work.store done.work.ledger.file) c.account.view_is (
       went.0,
       went.1,
       went.2,
       g.met.W.Wire.leads_on _ _ _ went.3 says.1,
-      cut_session inside.settings (target_of inside.work.store (digits_of inside.settings)) (target_of inside.work.store inside.id) c.args.now (g.W.Wire.history c.args.client.now.wire.now) c.args.client.now.reader
-          (keeping (stores_of g.D.MaildirDisk g.F.FlatFile inside.work.store) (g.F.FlatFile.stored inside.work.ledger.file)) c.in-Err.cut
-          (place_of g.W.Wire done.client) new after (noted done.counts.total done.counts.skipped done.work.ledger.lines.items) c.tell.result
-          (ap (λ (digits : List ℕ). target_of inside.work.store digits) c.account.invariant.1) c.requires went.4 says.2 (rw c.replace-lines.ensures.value at c.tell.ensures),
+      left_session (target_of inside.work.store inside.id) c.args.client.now.reader (Err c.in-Err.cut) (place_of g.W.Wire done.client) (noted done.counts.total done.counts.skipped done.work.ledger.lines.items)
+          (ap (λ (digits : List ℕ). target_of inside.work.store digits) c.account.invariant.1) c.requires went.4 (place_of g.W.Wire c.leave.new.client, says.2, refl) (rw c.replace-lines.ensures.value at c.tell.ensures),
     )
 
 pub returns-clause-session : goal.returns-clause-session
@@ -40,16 +37,15 @@ returns-clause-session g c = λ w d f.
     let done = c.proceed.new in
     let inside = c.account.inside in
     let after = keeping (stores_of g.D.MaildirDisk g.F.FlatFile done.work.store) (g.F.FlatFile.stored done.work.ledger.file) in
-    let mid = place_of g.W.Wire done.client in
     subst (λ h. g.W.Wire.sound c.args.client.now.wire.now × is_sound g.D.MaildirDisk g.F.FlatFile h.store × g.F.FlatFile.sound h.file × g.W.Wire.leads_to c.args.client.now.wire.now done.client.wire.now
-    × SessionIn h.settings (target_of h.store (digits_of h.settings)) c.args.now (g.W.Wire.history c.args.client.now.wire.now) (keeping (stores_of g.D.MaildirDisk g.F.FlatFile h.store) (g.F.FlatFile.stored h.file)) c.tell-2.result mid.link after) c.account.view_is (
+    × SessionForGood g.D.MaildirDisk g.F.FlatFile (is_sure g.F.FlatFile h.store × g.F.FlatFile.is_sure h.file) h.settings (target_of h.store (digits_of h.settings)) c.args.now (g.W.Wire.history c.args.client.now.wire.now)
+    (keeping (stores_of g.D.MaildirDisk g.F.FlatFile h.store) (g.F.FlatFile.stored h.file)) c.tell-2.result (place_of g.W.Wire done.client).link after done.work.store done.work.ledger.file) c.account.view_is (
       went.0,
       went.1,
       went.2,
       went.3,
-      ended_session inside.settings (target_of inside.work.store (digits_of inside.settings)) (target_of inside.work.store inside.id) c.args.now (g.W.Wire.history c.args.client.now.wire.now) c.args.client.now.reader
-          (keeping (stores_of g.D.MaildirDisk g.F.FlatFile inside.work.store) (g.F.FlatFile.stored inside.work.ledger.file)) mid after (noted done.counts.total done.counts.skipped done.work.ledger.lines.items) c.tell-2.result
-          (ap (λ (digits : List ℕ). target_of inside.work.store digits) c.account.invariant.1) c.requires went.4 (rw c.replace-lines-2.ensures.value at c.tell-2.ensures),
+      left_session (target_of inside.work.store inside.id) c.args.client.now.reader (Ok tt) (place_of g.W.Wire done.client) (noted done.counts.total done.counts.skipped done.work.ledger.lines.items)
+          (ap (λ (digits : List ℕ). target_of inside.work.store digits) c.account.invariant.1) c.requires went.4 refl (rw c.replace-lines-2.ensures.value at c.tell-2.ensures),
     )
 
 pub returns-in-Err-clause-bounded : goal.returns-in-Err-clause-bounded
@@ -96,7 +92,7 @@ returns-in-Err-clause-files g c = λ w d f.
     let new = c.proceed.new.work in
     files_session g.D.MaildirDisk g.F.FlatFile old.store new.store (digits_of old.settings)
     (λ t s s'. SessionIn old.settings t c.args.now (g.W.Wire.history c.args.client.now.wire.now) (keeping s (g.F.FlatFile.stored old.file)) c.tell.result (g.W.Wire.history c.leave.new.client.wire.now) (keeping s' (g.F.FlatFile.stored new.ledger.file)))
-    _ _ _ (returns-in-Err-clause-kind g c) (λ sound. returns-in-Err-clause-session g c w sound f) d
+    _ _ _ (returns-in-Err-clause-kind g c) (λ sound. let s = returns-in-Err-clause-session g c w sound f in (s.0, s.1, s.2, s.3, session_in s.4)) d
 
 pub returns-in-Err-clause-entries : goal.returns-in-Err-clause-entries
 returns-in-Err-clause-entries g c = λ w d f.
@@ -104,7 +100,7 @@ returns-in-Err-clause-entries g c = λ w d f.
     let new = c.proceed.new.work in
     entries_session g.D.MaildirDisk g.F.FlatFile old.store new.store (digits_of old.settings)
     (λ t s s'. SessionIn old.settings t c.args.now (g.W.Wire.history c.args.client.now.wire.now) (keeping s (g.F.FlatFile.stored old.file)) c.tell.result (g.W.Wire.history c.leave.new.client.wire.now) (keeping s' (g.F.FlatFile.stored new.ledger.file)))
-    _ _ _ (returns-in-Err-clause-kind g c) (λ sound. returns-in-Err-clause-session g c w sound f) d
+    _ _ _ (returns-in-Err-clause-kind g c) (λ sound. let s = returns-in-Err-clause-session g c w sound f in (s.0, s.1, s.2, s.3, session_in s.4)) d
 
 pub returns-clause-files : goal.returns-clause-files
 returns-clause-files g c = λ w d f.
@@ -112,7 +108,7 @@ returns-clause-files g c = λ w d f.
     let new = c.proceed.new.work in
     files_session g.D.MaildirDisk g.F.FlatFile old.store new.store (digits_of old.settings)
     (λ t s s'. SessionIn old.settings t c.args.now (g.W.Wire.history c.args.client.now.wire.now) (keeping s (g.F.FlatFile.stored old.file)) c.tell-2.result (g.W.Wire.history c.proceed.new.client.wire.now) (keeping s' (g.F.FlatFile.stored new.ledger.file)))
-    _ _ _ (returns-clause-kind g c) (λ sound. returns-clause-session g c w sound f) d
+    _ _ _ (returns-clause-kind g c) (λ sound. let s = returns-clause-session g c w sound f in (s.0, s.1, s.2, s.3, session_in s.4)) d
 
 pub returns-clause-entries : goal.returns-clause-entries
 returns-clause-entries g c = λ w d f.
@@ -120,36 +116,10 @@ returns-clause-entries g c = λ w d f.
     let new = c.proceed.new.work in
     entries_session g.D.MaildirDisk g.F.FlatFile old.store new.store (digits_of old.settings)
     (λ t s s'. SessionIn old.settings t c.args.now (g.W.Wire.history c.args.client.now.wire.now) (keeping s (g.F.FlatFile.stored old.file)) c.tell-2.result (g.W.Wire.history c.proceed.new.client.wire.now) (keeping s' (g.F.FlatFile.stored new.ledger.file)))
-    _ _ _ (returns-clause-kind g c) (λ sound. returns-clause-session g c w sound f) d
-
--- ---- what outlives a loss of power
+    _ _ _ (returns-clause-kind g c) (λ sound. let s = returns-clause-session g c w sound f in (s.0, s.1, s.2, s.3, session_in s.4)) d
 
 pub returns-in-Err-clause-power : goal.returns-in-Err-clause-power
-returns-in-Err-clause-power g c = λ w d f.
-    let says = c.leave.ensures.leaves w in
-    let done = c.proceed.new in
-    let inside = c.account.inside in
-    let after = keeping (stores_of g.D.MaildirDisk g.F.FlatFile done.work.store) (g.F.FlatFile.stored done.work.ledger.file) in
-    let new = place_of g.W.Wire c.leave.new.client in
-    subst (λ h. is_sure g.F.FlatFile h.store → g.F.FlatFile.is_sure h.file
-    → SessionForGood g.D.MaildirDisk g.F.FlatFile h.settings (target_of h.store (digits_of h.settings)) c.args.now (g.W.Wire.history c.args.client.now.wire.now) (keeping (stores_of g.D.MaildirDisk g.F.FlatFile h.store) (g.F.FlatFile.stored h.file)) c.tell.result new.link after
-    done.work.store done.work.ledger.file) c.account.view_is
-    (λ sure sure'.
-    good_cut_session g.D.MaildirDisk g.F.FlatFile inside.settings (target_of inside.work.store (digits_of inside.settings)) (target_of inside.work.store inside.id) c.args.now (g.W.Wire.history c.args.client.now.wire.now) c.args.client.now.reader
-    (keeping (stores_of g.D.MaildirDisk g.F.FlatFile inside.work.store) (g.F.FlatFile.stored inside.work.ledger.file)) c.in-Err.cut
-    (place_of g.W.Wire done.client) new after (noted done.counts.total done.counts.skipped done.work.ledger.lines.items) c.tell.result done.work.store done.work.ledger.file
-    (ap (λ (digits : List ℕ). target_of inside.work.store digits) c.account.invariant.1) c.requires (c.in-Err.ensures.good says.0 d f sure sure') says.2 (rw c.replace-lines.ensures.value at c.tell.ensures))
+returns-in-Err-clause-power g c = λ w d f. (returns-in-Err-clause-session g c w d f).4
 
 pub returns-clause-power : goal.returns-clause-power
-returns-clause-power g c = λ w d f.
-    let done = c.proceed.new in
-    let inside = c.account.inside in
-    let after = keeping (stores_of g.D.MaildirDisk g.F.FlatFile done.work.store) (g.F.FlatFile.stored done.work.ledger.file) in
-    let mid = place_of g.W.Wire done.client in
-    subst (λ h. is_sure g.F.FlatFile h.store → g.F.FlatFile.is_sure h.file
-    → SessionForGood g.D.MaildirDisk g.F.FlatFile h.settings (target_of h.store (digits_of h.settings)) c.args.now (g.W.Wire.history c.args.client.now.wire.now) (keeping (stores_of g.D.MaildirDisk g.F.FlatFile h.store) (g.F.FlatFile.stored h.file)) c.tell-2.result mid.link after
-    done.work.store done.work.ledger.file) c.account.view_is
-    (λ sure sure'.
-    good_ended_session g.D.MaildirDisk g.F.FlatFile inside.settings (target_of inside.work.store (digits_of inside.settings)) (target_of inside.work.store inside.id) c.args.now (g.W.Wire.history c.args.client.now.wire.now) c.args.client.now.reader
-    (keeping (stores_of g.D.MaildirDisk g.F.FlatFile inside.work.store) (g.F.FlatFile.stored inside.work.ledger.file)) mid after (noted done.counts.total done.counts.skipped done.work.ledger.lines.items) c.tell-2.result done.work.store done.work.ledger.file
-    (ap (λ (digits : List ℕ). target_of inside.work.store digits) c.account.invariant.1) c.requires (c.in_default.ensures.good w d f sure sure') (rw c.replace-lines-2.ensures.value at c.tell-2.ensures))
+returns-clause-power g c = λ w d f. (returns-clause-session g c w d f).4

@@ -1,24 +1,23 @@
-use Rattle.std.proofs.Common.{◌+◌, ◌*◌, List, [], Bool, inl, inr, arith, length, Ok, Err, sym, ap, subst, ◌∙◌, refl}
+use Rattle.std.proofs.Common.{◌+◌, ◌*◌, List, [], ◌∷◌, Bool, inl, inr, arith, length, Err, sym, ap, subst, ◌∙◌, refl}
 use Rattle.pop3_client.specs.Client.{place_of}
 use Rattle.fetch_rules.specs.Plan.{planned}
+use Rattle.pop3_client.specs.Turns.{quit}
 use Rattle.fetch_rules.specs.declared.steps.Step.{Step}
 use Rattle.mail_store.specs.Held.{flags_of}
-use Rattle.fetch_session.specs.Target.{Kind, Target, flags_in, stores_of, target as target_at, target_of}
-use Rattle.fetch_session.specs.Task.{tasks_planned, ids_ahead, AreFresh}
+use Rattle.fetch_session.specs.Target.{Kind, flags_in, stores_of, target as target_at}
+use Rattle.fetch_session.specs.Task.{tasks_planned, ids_ahead, says, AreFresh}
 use Rattle.fetch_session.specs.Report.{skipped_in}
-use Rattle.fetch_session.specs.Scene.{scene, AllWent, Fell}
 use Rattle.fetch_session.proofs.PlanLemmas.{flags_same, fresh_firsts}
-use Rattle.fetch_session.proofs.CarryLemmas.{unprepared, carry_fell, carry_quit, carry_broke}
+use Rattle.fetch_session.proofs.CarryLemmas.{carried, good_broke, good_quit, unprepared}
 use Rattle.fetch_session.proofs.IntakeLemmas.{takes_plain, took_nothing, took_less, took_on, with_any_tail, with_tail_on, with_tail_less, quit_told, quit_broke}
 use Rattle.fetch_session.proofs.RefusalLemmas.{before_cut, cut_by}
-use Rattle.fetch_session.specs.Lasting.{DoesForGood}
-use Rattle.fetch_session.proofs.GoodLemmas.{good_carry_broke, good_carry_fell, good_carry_quit}
+use Rattle.fetch_session.proofs.LastLemmas.{good_before, in_kind}
 use Rattle.fetch_session.proofs.plan.carry_out.Goals as goal
 
 pub returns-in-Err-clause-carries : goal.returns-in-Err-clause-carries
 returns-in-Err-clause-carries g c = λ w d f.
     let ready = c.in-Err.ensures.readies d f in
-    (w, ready.0, ready.1, g.met.W.Wire.leads_same c.args.client.now.wire.now, ([], inl (c.requires.none_skipped, unprepared (target_of c.args.work.now.store c.args.terms.account.now) c.args.listing.now c.args.terms.now (place_of g.W.Wire c.args.client.now) (stores_of g.D.MaildirDisk g.F.FlatFile c.args.work.now.store) (g.F.FlatFile.stored c.args.work.now.ledger.file) c.args.work.now.ledger.lines.items c.in-Err.fault c.plain.result (stores_of g.D.MaildirDisk g.F.FlatFile c.prepare.new.store) (g.F.FlatFile.stored c.prepare.new.file) c.plain.ensures ready.2)))
+    (w, ready.0, ready.1, g.met.W.Wire.leads_same c.args.client.now.wire.now, ([], inl (c.requires.none_skipped, unprepared c.plain.ensures ready.2)))
 
 pub skipped_in-requires : goal.skipped_in-requires
 skipped_in-requires g c = omega (arith, ap length c.deref.ensures.value, c.in-Ok.ensures.lengths.0, c.requires.few)
@@ -43,20 +42,17 @@ do_steps-requires-clause-free g c = λ kept.
 pub returns-in-Err-do_steps-clause-carries : goal.returns-in-Err-do_steps-clause-carries
 returns-in-Err-do_steps-clause-carries g c = λ w d f.
     let done = c.in-Err-do_steps.ensures.does w d f in
-    let ready = c.in-Ok.ensures.readies done.1 done.2 in
-    let old = place_of g.W.Wire c.args.client.now in
-    let store = stores_of g.D.MaildirDisk g.F.FlatFile c.args.work.now.store in
-    let file = g.F.FlatFile.stored c.args.work.now.ledger.file in
-    let new = scene (place_of g.W.Wire c.do_steps.new.client) (stores_of g.D.MaildirDisk g.F.FlatFile c.do_steps.new.work.store) (g.F.FlatFile.stored c.do_steps.new.work.ledger.file) c.do_steps.new.work.ledger.seen.rows c.do_steps.new.work.ledger.lines.items in (
+    let ready = c.in-Ok.ensures.readies done.1 done.2 in (
       done.0,
       ready.0,
       ready.1,
       done.3,
       (
         c.do_steps.new.work.ledger.seen.rows,
-        inr (carry_fell c.args.terms.settings.now (target_of c.args.work.now.store c.args.terms.account.now) c.args.listing.now c.args.terms.now old store file c.args.work.now.ledger.lines.items c.in-Ok.ready c.prepare.new.seen.rows (stores_of g.D.MaildirDisk g.F.FlatFile c.prepare.new.store) (g.F.FlatFile.stored c.prepare.new.file) ready.2 c.deref-2.result.now c.deref-3.result.now c.deref-2.ensures.value c.deref-3.ensures.value c.skipped_in.result (c.skipped_in.ensures ∙ ap skipped_in (c.deref.ensures.value ∙ sym c.deref-2.ensures.value)) new c.in-Err-do_steps.cut
-            (subst (λ (t : Target). Fell t (tasks_planned c.deref-2.result.now c.args.listing.now c.deref-3.result.now) (scene old (stores_of g.D.MaildirDisk g.F.FlatFile c.prepare.new.store) (g.F.FlatFile.stored c.prepare.new.file) c.prepare.new.seen.rows c.args.work.now.ledger.lines.items) c.in-Err-do_steps.cut new)
-            (ap (λ (k : Kind). target_at k c.args.terms.account.now) c.prepare.ensures.kind) done.4)),
+        inr (carried g.D.MaildirDisk g.F.FlatFile c.prepare.new.store c.deref-2.result.now c.deref-3.result.now ready.2 c.deref-2.ensures.value c.deref-3.ensures.value
+            (c.skipped_in.ensures ∙ ap skipped_in c.deref.ensures.value) (λ sure. (c.in-Ok.ensures.lasts done.1 sure.0).1) (c.do_steps.ensures.keeps w d f)
+            (good_before (says quit ∷ []) (in_kind c.prepare.new.store c.args.work.now.store c.args.terms.account.now c.prepare.ensures.kind done.4
+            (λ sure. (c.in-Ok.ensures.file_lasts done.2 sure.1, (c.in-Ok.ensures.lasts done.1 sure.0).0))))),
       ),
     )
 
@@ -64,21 +60,17 @@ pub returns-in-Ok-quit-clause-carries : goal.returns-in-Ok-quit-clause-carries
 returns-in-Ok-quit-clause-carries g c = λ w d f.
     let tells = c.in-Ok-quit.ensures.tells w in
     let done = c.in_default.ensures.does tells.0 d f in
-    let ready = c.in-Ok.ensures.readies done.1 done.2 in
-    let old = place_of g.W.Wire c.args.client.now in
-    let store = stores_of g.D.MaildirDisk g.F.FlatFile c.args.work.now.store in
-    let file = g.F.FlatFile.stored c.args.work.now.ledger.file in (
+    let ready = c.in-Ok.ensures.readies done.1 done.2 in (
       done.0,
       ready.0,
       ready.1,
       g.met.W.Wire.leads_on _ _ _ done.3 tells.1,
       (
         c.do_steps.new.work.ledger.seen.rows,
-        carry_quit c.args.terms.settings.now (target_of c.args.work.now.store c.args.terms.account.now) c.args.listing.now c.args.terms.now old store file c.args.work.now.ledger.lines.items c.in-Ok.ready c.prepare.new.seen.rows (stores_of g.D.MaildirDisk g.F.FlatFile c.prepare.new.store) (g.F.FlatFile.stored c.prepare.new.file) ready.2 c.deref-2.result.now c.deref-3.result.now c.deref-2.ensures.value c.deref-3.ensures.value c.skipped_in.result (c.skipped_in.ensures ∙ ap skipped_in (c.deref.ensures.value ∙ sym c.deref-2.ensures.value))
-            (place_of g.W.Wire c.do_steps.new.client) (place_of g.W.Wire c.quit.new.self)
-            (stores_of g.D.MaildirDisk g.F.FlatFile c.do_steps.new.work.store) (g.F.FlatFile.stored c.do_steps.new.work.ledger.file) c.do_steps.new.work.ledger.seen.rows c.do_steps.new.work.ledger.lines.items tells.2.0 (subst (λ (t : Target). AllWent t (tasks_planned c.deref-2.result.now c.args.listing.now c.deref-3.result.now) (scene old (stores_of g.D.MaildirDisk g.F.FlatFile c.prepare.new.store) (g.F.FlatFile.stored c.prepare.new.file) c.prepare.new.seen.rows c.args.work.now.ledger.lines.items)
-            (scene (place_of g.W.Wire c.do_steps.new.client) (stores_of g.D.MaildirDisk g.F.FlatFile c.do_steps.new.work.store) (g.F.FlatFile.stored c.do_steps.new.work.ledger.file) c.do_steps.new.work.ledger.seen.rows c.do_steps.new.work.ledger.lines.items))
-            (ap (λ (k : Kind). target_at k c.args.terms.account.now) c.prepare.ensures.kind) done.4) tells.2.1,
+        (carried g.D.MaildirDisk g.F.FlatFile c.prepare.new.store c.deref-2.result.now c.deref-3.result.now ready.2 c.deref-2.ensures.value c.deref-3.ensures.value
+            (c.skipped_in.ensures ∙ ap skipped_in c.deref.ensures.value) (λ sure. (c.in-Ok.ensures.lasts done.1 sure.0).1) (c.do_steps.ensures.keeps tells.0 d f)
+            (good_quit tells.2.0 (place_of g.W.Wire c.quit.new.self) (in_kind c.prepare.new.store c.args.work.now.store c.args.terms.account.now c.prepare.ensures.kind done.4
+            (λ sure. (c.in-Ok.ensures.file_lasts done.2 sure.1, (c.in-Ok.ensures.lasts done.1 sure.0).0))) tells.2.1)),
       ),
     )
 
@@ -86,21 +78,18 @@ pub returns-clause-carries : goal.returns-clause-carries
 returns-clause-carries g c = λ w d f.
     let tells = c.in-Err-quit.ensures.tells w in
     let done = c.in_default.ensures.does tells.0 d f in
-    let ready = c.in-Ok.ensures.readies done.1 done.2 in
-    let old = place_of g.W.Wire c.args.client.now in
-    let store = stores_of g.D.MaildirDisk g.F.FlatFile c.args.work.now.store in
-    let file = g.F.FlatFile.stored c.args.work.now.ledger.file in (
+    let ready = c.in-Ok.ensures.readies done.1 done.2 in (
       done.0,
       ready.0,
       ready.1,
       g.met.W.Wire.leads_on _ _ _ done.3 tells.1,
       (
         c.do_steps.new.work.ledger.seen.rows,
-        inr (carry_broke c.args.terms.settings.now (target_of c.args.work.now.store c.args.terms.account.now) c.args.listing.now c.args.terms.now old store file c.args.work.now.ledger.lines.items c.in-Ok.ready c.prepare.new.seen.rows (stores_of g.D.MaildirDisk g.F.FlatFile c.prepare.new.store) (g.F.FlatFile.stored c.prepare.new.file) ready.2 c.deref-2.result.now c.deref-3.result.now c.deref-2.ensures.value c.deref-3.ensures.value c.skipped_in.result (c.skipped_in.ensures ∙ ap skipped_in (c.deref.ensures.value ∙ sym c.deref-2.ensures.value))
-            (place_of g.W.Wire c.do_steps.new.client) (place_of g.W.Wire c.quit.new.self)
-            (stores_of g.D.MaildirDisk g.F.FlatFile c.do_steps.new.work.store) (g.F.FlatFile.stored c.do_steps.new.work.ledger.file) c.do_steps.new.work.ledger.seen.rows c.do_steps.new.work.ledger.lines.items c.in-Err-quit.fault c.plain-in-Err-quit.result (subst (λ (t : Target). AllWent t (tasks_planned c.deref-2.result.now c.args.listing.now c.deref-3.result.now) (scene old (stores_of g.D.MaildirDisk g.F.FlatFile c.prepare.new.store) (g.F.FlatFile.stored c.prepare.new.file) c.prepare.new.seen.rows c.args.work.now.ledger.lines.items)
-            (scene (place_of g.W.Wire c.do_steps.new.client) (stores_of g.D.MaildirDisk g.F.FlatFile c.do_steps.new.work.store) (g.F.FlatFile.stored c.do_steps.new.work.ledger.file) c.do_steps.new.work.ledger.seen.rows c.do_steps.new.work.ledger.lines.items))
-            (ap (λ (k : Kind). target_at k c.args.terms.account.now) c.prepare.ensures.kind) done.4) c.plain-in-Err-quit.ensures tells.2),
+        inr (carried g.D.MaildirDisk g.F.FlatFile c.prepare.new.store c.deref-2.result.now c.deref-3.result.now ready.2 c.deref-2.ensures.value c.deref-3.ensures.value
+            (c.skipped_in.ensures ∙ ap skipped_in c.deref.ensures.value) (λ sure. (c.in-Ok.ensures.lasts done.1 sure.0).1) (c.do_steps.ensures.keeps tells.0 d f)
+            (good_broke (place_of g.W.Wire c.quit.new.self) c.in-Err-quit.fault c.plain-in-Err-quit.result
+            (in_kind c.prepare.new.store c.args.work.now.store c.args.terms.account.now c.prepare.ensures.kind done.4
+            (λ sure. (c.in-Ok.ensures.file_lasts done.2 sure.1, (c.in-Ok.ensures.lasts done.1 sure.0).0))) c.plain-in-Err-quit.ensures tells.2)),
       ),
     )
 
@@ -111,7 +100,7 @@ returns-in-Err-clause-took g c = λ w.
     let here = place_of g.W.Wire c.args.client.now in (
       w,
       with_tail_less (0 + 4096) (length c.args.listing.now * 268439552 + 4096) here here (Err c.plain.result) (omega arith)
-          (with_any_tail 0 here here c.plain.result (takes_plain 0 here here c.in-Err.fault c.plain.result c.plain.ensures (took_nothing here))),
+          (with_any_tail 0 here here c.plain.result (takes_plain c.plain.ensures took_nothing)),
     )
 
 pub returns-in-Err-do_steps-clause-took : goal.returns-in-Err-do_steps-clause-took
@@ -123,11 +112,7 @@ pub returns-in-Ok-quit-clause-took : goal.returns-in-Ok-quit-clause-took
 returns-in-Ok-quit-clause-took g c = λ w.
     let tells = c.in-Ok-quit.ensures.tells w in
     let done = c.in_default.ensures.took tells.0 in
-    let most = length c.args.listing.now * 268439552 in
-    let old = place_of g.W.Wire c.args.client.now in
-    let mid = place_of g.W.Wire c.do_steps.new.client in
-    let new = place_of g.W.Wire c.quit.new.self in
-    (done.0, took_less (most + 2048) (most + 4096) old new (omega arith) (took_on most 2048 old mid new done.1 (quit_told c.conversations_are_paced.ensures mid new tells.2)))
+    (done.0, took_less (took_on done.1 (quit_told c.conversations_are_paced.ensures _ _ tells.2)) (omega arith))
 
 pub returns-clause-took : goal.returns-clause-took
 returns-clause-took g c = λ w.
@@ -164,58 +149,3 @@ returns-in-Ok-quit-clause-kind g c = c.do_steps.ensures.kind ∙ c.prepare.ensur
 
 pub returns-in-Err-do_steps-clause-kind : goal.returns-in-Err-do_steps-clause-kind
 returns-in-Err-do_steps-clause-kind g c = c.do_steps.ensures.kind ∙ c.prepare.ensures.kind
-
--- ---- what outlives a loss of power
-
-pub returns-in-Err-clause-good : goal.returns-in-Err-clause-good
-returns-in-Err-clause-good g c = λ w d f sure sure'.
-    let ready = c.in-Err.ensures.readies d f in
-    ([], inl (c.requires.none_skipped, unprepared (target_of c.args.work.now.store c.args.terms.account.now) c.args.listing.now c.args.terms.now (place_of g.W.Wire c.args.client.now) (stores_of g.D.MaildirDisk g.F.FlatFile c.args.work.now.store) (g.F.FlatFile.stored c.args.work.now.ledger.file) c.args.work.now.ledger.lines.items c.in-Err.fault c.plain.result (stores_of g.D.MaildirDisk g.F.FlatFile c.prepare.new.store) (g.F.FlatFile.stored c.prepare.new.file) c.plain.ensures ready.2))
-
-pub returns-in-Err-do_steps-clause-good : goal.returns-in-Err-do_steps-clause-good
-returns-in-Err-do_steps-clause-good g c = λ w d f sure sure'.
-    let done = c.in-Err-do_steps.ensures.does w d f in
-    let ready = c.in-Ok.ensures.readies done.1 done.2 in
-    let store_lasts = c.in-Ok.ensures.lasts done.1 sure in
-    let file_lasts = c.in-Ok.ensures.file_lasts done.2 sure' in (
-      c.do_steps.new.work.ledger.seen.rows,
-      inr (good_carry_fell g.D.MaildirDisk g.F.FlatFile c.args.terms.settings.now (target_of c.args.work.now.store c.args.terms.account.now) c.args.listing.now c.args.terms.now (place_of g.W.Wire c.args.client.now) (stores_of g.D.MaildirDisk g.F.FlatFile c.args.work.now.store) (g.F.FlatFile.stored c.args.work.now.ledger.file)
-          c.args.work.now.ledger.lines.items c.in-Ok.ready c.prepare.new.seen.rows c.prepare.new.store c.do_steps.new.work.store c.do_steps.new.work.ledger.file (g.F.FlatFile.stored c.prepare.new.file) ready.2 c.deref-2.result.now c.deref-3.result.now c.deref-2.ensures.value c.deref-3.ensures.value
-          c.skipped_in.result (c.skipped_in.ensures ∙ ap skipped_in (c.deref.ensures.value ∙ sym c.deref-2.ensures.value)) store_lasts.1 (c.do_steps.ensures.keeps w d f)
-          (scene (place_of g.W.Wire c.do_steps.new.client) (stores_of g.D.MaildirDisk g.F.FlatFile c.do_steps.new.work.store) (g.F.FlatFile.stored c.do_steps.new.work.ledger.file) c.do_steps.new.work.ledger.seen.rows c.do_steps.new.work.ledger.lines.items) c.in-Err-do_steps.cut
-          (subst (λ (t : Target). DoesForGood g.D.MaildirDisk g.F.FlatFile t (tasks_planned c.deref-2.result.now c.args.listing.now c.deref-3.result.now) (scene (place_of g.W.Wire c.args.client.now) (stores_of g.D.MaildirDisk g.F.FlatFile c.prepare.new.store) (g.F.FlatFile.stored c.prepare.new.file) c.prepare.new.seen.rows c.args.work.now.ledger.lines.items) (Err c.in-Err-do_steps.cut) (scene (place_of g.W.Wire c.do_steps.new.client) (stores_of g.D.MaildirDisk g.F.FlatFile c.do_steps.new.work.store) (g.F.FlatFile.stored c.do_steps.new.work.ledger.file) c.do_steps.new.work.ledger.seen.rows c.do_steps.new.work.ledger.lines.items) c.do_steps.new.work.store c.do_steps.new.work.ledger.file)
-          (ap (λ (k : Kind). target_at k c.args.terms.account.now) c.prepare.ensures.kind) (c.in-Err-do_steps.ensures.good w d f (file_lasts, store_lasts.0)))),
-    )
-
-pub returns-in-Ok-quit-clause-good : goal.returns-in-Ok-quit-clause-good
-returns-in-Ok-quit-clause-good g c = λ w d f sure sure'.
-    let tells = c.in-Ok-quit.ensures.tells w in
-    let done = c.in_default.ensures.does tells.0 d f in
-    let ready = c.in-Ok.ensures.readies done.1 done.2 in
-    let store_lasts = c.in-Ok.ensures.lasts done.1 sure in
-    let file_lasts = c.in-Ok.ensures.file_lasts done.2 sure' in (
-      c.do_steps.new.work.ledger.seen.rows,
-      good_carry_quit g.D.MaildirDisk g.F.FlatFile c.args.terms.settings.now (target_of c.args.work.now.store c.args.terms.account.now) c.args.listing.now c.args.terms.now (place_of g.W.Wire c.args.client.now) (stores_of g.D.MaildirDisk g.F.FlatFile c.args.work.now.store) (g.F.FlatFile.stored c.args.work.now.ledger.file)
-          c.args.work.now.ledger.lines.items c.in-Ok.ready c.prepare.new.seen.rows c.prepare.new.store c.do_steps.new.work.store c.do_steps.new.work.ledger.file (g.F.FlatFile.stored c.prepare.new.file) ready.2 c.deref-2.result.now c.deref-3.result.now c.deref-2.ensures.value c.deref-3.ensures.value
-          c.skipped_in.result (c.skipped_in.ensures ∙ ap skipped_in (c.deref.ensures.value ∙ sym c.deref-2.ensures.value)) store_lasts.1 (c.do_steps.ensures.keeps tells.0 d f)
-          (place_of g.W.Wire c.do_steps.new.client) (place_of g.W.Wire c.quit.new.self) (stores_of g.D.MaildirDisk g.F.FlatFile c.do_steps.new.work.store) (g.F.FlatFile.stored c.do_steps.new.work.ledger.file) c.do_steps.new.work.ledger.seen.rows c.do_steps.new.work.ledger.lines.items tells.2.0
-          (subst (λ (t : Target). DoesForGood g.D.MaildirDisk g.F.FlatFile t (tasks_planned c.deref-2.result.now c.args.listing.now c.deref-3.result.now) (scene (place_of g.W.Wire c.args.client.now) (stores_of g.D.MaildirDisk g.F.FlatFile c.prepare.new.store) (g.F.FlatFile.stored c.prepare.new.file) c.prepare.new.seen.rows c.args.work.now.ledger.lines.items) (Ok tt) (scene (place_of g.W.Wire c.do_steps.new.client) (stores_of g.D.MaildirDisk g.F.FlatFile c.do_steps.new.work.store) (g.F.FlatFile.stored c.do_steps.new.work.ledger.file) c.do_steps.new.work.ledger.seen.rows c.do_steps.new.work.ledger.lines.items) c.do_steps.new.work.store c.do_steps.new.work.ledger.file)
-          (ap (λ (k : Kind). target_at k c.args.terms.account.now) c.prepare.ensures.kind) (c.in_default.ensures.good tells.0 d f (file_lasts, store_lasts.0))) tells.2.1,
-    )
-
-pub returns-clause-good : goal.returns-clause-good
-returns-clause-good g c = λ w d f sure sure'.
-    let tells = c.in-Err-quit.ensures.tells w in
-    let done = c.in_default.ensures.does tells.0 d f in
-    let ready = c.in-Ok.ensures.readies done.1 done.2 in
-    let store_lasts = c.in-Ok.ensures.lasts done.1 sure in
-    let file_lasts = c.in-Ok.ensures.file_lasts done.2 sure' in (
-      c.do_steps.new.work.ledger.seen.rows,
-      inr (good_carry_broke g.D.MaildirDisk g.F.FlatFile c.args.terms.settings.now (target_of c.args.work.now.store c.args.terms.account.now) c.args.listing.now c.args.terms.now (place_of g.W.Wire c.args.client.now) (stores_of g.D.MaildirDisk g.F.FlatFile c.args.work.now.store) (g.F.FlatFile.stored c.args.work.now.ledger.file)
-          c.args.work.now.ledger.lines.items c.in-Ok.ready c.prepare.new.seen.rows c.prepare.new.store c.do_steps.new.work.store c.do_steps.new.work.ledger.file (g.F.FlatFile.stored c.prepare.new.file) ready.2 c.deref-2.result.now c.deref-3.result.now c.deref-2.ensures.value c.deref-3.ensures.value
-          c.skipped_in.result (c.skipped_in.ensures ∙ ap skipped_in (c.deref.ensures.value ∙ sym c.deref-2.ensures.value)) store_lasts.1 (c.do_steps.ensures.keeps tells.0 d f)
-          (place_of g.W.Wire c.do_steps.new.client) (place_of g.W.Wire c.quit.new.self) (stores_of g.D.MaildirDisk g.F.FlatFile c.do_steps.new.work.store) (g.F.FlatFile.stored c.do_steps.new.work.ledger.file) c.do_steps.new.work.ledger.seen.rows c.do_steps.new.work.ledger.lines.items
-          c.in-Err-quit.fault c.plain-in-Err-quit.result
-          (subst (λ (t : Target). DoesForGood g.D.MaildirDisk g.F.FlatFile t (tasks_planned c.deref-2.result.now c.args.listing.now c.deref-3.result.now) (scene (place_of g.W.Wire c.args.client.now) (stores_of g.D.MaildirDisk g.F.FlatFile c.prepare.new.store) (g.F.FlatFile.stored c.prepare.new.file) c.prepare.new.seen.rows c.args.work.now.ledger.lines.items) (Ok tt) (scene (place_of g.W.Wire c.do_steps.new.client) (stores_of g.D.MaildirDisk g.F.FlatFile c.do_steps.new.work.store) (g.F.FlatFile.stored c.do_steps.new.work.ledger.file) c.do_steps.new.work.ledger.seen.rows c.do_steps.new.work.ledger.lines.items) c.do_steps.new.work.store c.do_steps.new.work.ledger.file)
-          (ap (λ (k : Kind). target_at k c.args.terms.account.now) c.prepare.ensures.kind) (c.in_default.ensures.good tells.0 d f (file_lasts, store_lasts.0))) c.plain-in-Err-quit.ensures tells.2),
-    )

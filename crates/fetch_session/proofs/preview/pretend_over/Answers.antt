@@ -1,4 +1,4 @@
-use Rattle.std.proofs.Common.{ℕ, List, ap, refl, subst}
+use Rattle.std.proofs.Common.{ℕ, List, Ok, Err, ap, refl, subst}
 use Rattle.pop3_client.specs.Client.{place_of}
 use Rattle.fetch_session.specs.Account.{digits_of}
 use Rattle.fetch_session.specs.declared.preview.Preview.{Preview}
@@ -6,7 +6,7 @@ use Rattle.fetch_session.specs.declared.report.Outcome.TheVariants.{Cut as WasCu
 use Rattle.fetch_session.specs.Pretend.{Pretends}
 use Rattle.fetch_session.specs.Session.{keeping}
 use Rattle.fetch_session.specs.Target.{is_sound, stores_of, target_of}
-use Rattle.fetch_session.proofs.PretendLemmas.{cut_preview, ended_preview}
+use Rattle.fetch_session.proofs.PretendLemmas.{left_preview}
 use Rattle.fetch_session.proofs.preview.pretend_over.Goals as goal
 
 pub returns-in-Err-clause-pretends : goal.returns-in-Err-clause-pretends
@@ -24,9 +24,8 @@ returns-in-Err-clause-pretends g c = λ w d f.
       went.1,
       went.2,
       g.met.W.Wire.leads_on _ _ _ went.3 says.1,
-      cut_preview inside.settings (target_of inside.work.store (digits_of inside.settings)) (target_of inside.work.store inside.id) c.args.now (g.W.Wire.history c.args.client.now.wire.now) c.args.client.now.reader
-          (keeping (stores_of g.D.MaildirDisk g.F.FlatFile inside.work.store) (g.F.FlatFile.stored inside.work.ledger.file)) c.in-Err.cut (place_of g.W.Wire done.client) new after preview
-          (ap (λ (digits : List ℕ). target_of inside.work.store digits) c.account.invariant.1) c.requires went.4 says.2 refl,
+      left_preview (target_of inside.work.store inside.id) c.args.client.now.reader (Err c.in-Err.cut) (place_of g.W.Wire done.client)
+          (ap (λ (digits : List ℕ). target_of inside.work.store digits) c.account.invariant.1) c.requires went.4 (new, says.2, refl) refl,
     )
 
 pub returns-clause-pretends : goal.returns-clause-pretends
@@ -42,7 +41,6 @@ returns-clause-pretends g c = λ w d f.
       went.1,
       went.2,
       went.3,
-      ended_preview inside.settings (target_of inside.work.store (digits_of inside.settings)) (target_of inside.work.store inside.id) c.args.now (g.W.Wire.history c.args.client.now.wire.now) c.args.client.now.reader
-          (keeping (stores_of g.D.MaildirDisk g.F.FlatFile inside.work.store) (g.F.FlatFile.stored inside.work.ledger.file)) mid after done.preview
-          (ap (λ (digits : List ℕ). target_of inside.work.store digits) c.account.invariant.1) c.requires went.4 c.in_default.ensures.outcome,
+      left_preview (target_of inside.work.store inside.id) c.args.client.now.reader (Ok tt) mid
+          (ap (λ (digits : List ℕ). target_of inside.work.store digits) c.account.invariant.1) c.requires went.4 refl c.in_default.ensures.outcome,
     )

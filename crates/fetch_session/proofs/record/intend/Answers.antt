@@ -10,15 +10,6 @@ grow-requires g c = record {
   begun = λ kept some. row_begun (g.F.FlatFile.stored c.args.file.now).content c.args.seen.now.rows c.args.uid.now (c.requires.steady kept) c.requires.row;
 }
 
-pub returns-clause-steady : goal.returns-clause-steady
-returns-clause-steady g c = λ kept.
-    let saves = c.grow.ensures.saves kept in
-    let rows = c.args.seen.now.rows in
-    let intent = intent_at c.args.uid.now c.args.start c.args.len in
-    let grows : Grows rows None c.deref.result.now rows (Some intent) =
-    opens rows intent c.deref.result.now (record { legal = c.requires.legal; start = c.ranges.start.fits; len = c.ranges.len.fits }) c.requires.row (c.deref.ensures.value ∙ c.in-Ok.ensures.line) in
-    (saves.0, saves_steady (g.F.FlatFile.stored c.args.file.now) (g.F.FlatFile.stored c.grow.new.file) (none_open rows) (with_open rows intent) c.grow.result (c.requires.steady saves.0) (saves.1 (none_open rows) (with_open rows intent) grows))
-
 pub returns-clause-saves : goal.returns-clause-saves
 returns-clause-saves g c = λ kept.
     let saves = c.grow.ensures.saves kept in
@@ -27,3 +18,8 @@ returns-clause-saves g c = λ kept.
     let grows : Grows rows None c.deref.result.now rows (Some intent) =
     opens rows intent c.deref.result.now (record { legal = c.requires.legal; start = c.ranges.start.fits; len = c.ranges.len.fits }) c.requires.row (c.deref.ensures.value ∙ c.in-Ok.ensures.line) in
     (saves.0, saves.1 (none_open rows) (with_open rows intent) grows)
+
+pub returns-clause-steady : goal.returns-clause-steady
+returns-clause-steady g c = λ kept.
+    let saves = returns-clause-saves g c kept in
+    (saves.0, saves_steady (g.F.FlatFile.stored c.args.file.now) (g.F.FlatFile.stored c.grow.new.file) (none_open c.args.seen.now.rows) _ c.grow.result (c.requires.steady saves.0) saves.1)

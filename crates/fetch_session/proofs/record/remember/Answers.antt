@@ -1,7 +1,8 @@
 use Rattle.std.proofs.Common.{List, ℕ, Option, None, inl, sym, subst}
-use Rattle.fetch_rules.specs.Record.{Row, Intent, none_open}
+use Rattle.std.specs.Prelude.{OnOk}
+use Rattle.fetch_rules.specs.Record.{Row, Intent, marked, none_open}
 use Rattle.fetch_rules.specs.RecordGrowth.{Updates}
-use Rattle.fetch_session.specs.Record.{Saves, held_in}
+use Rattle.fetch_session.specs.Record.{Saves, Steady, held_in}
 use Rattle.fetch_session.proofs.RecordLemmas.{saves_steady, mark_begun}
 use Rattle.fetch_session.proofs.record.remember.Goals as goal
 
@@ -14,18 +15,6 @@ grow-requires g c = record {
       some;
 }
 
-pub returns-clause-steady : goal.returns-clause-steady
-returns-clause-steady g c = λ kept.
-    let saves = c.grow.ensures.saves kept in
-    let was = c.args.seen.now.rows in
-    let rows = c.mark_rows.new.self.rows in
-    let updates : Updates was c.args.seen.now.intent c.deref.result.now rows None = subst (λ (bytes : List ℕ). Updates was c.args.seen.now.intent bytes rows None) (sym c.deref.ensures.value)
-    (subst (λ (i : Option Intent). Updates was c.args.seen.now.intent c.in-Ok.group.items rows i) c.in-Ok.ensures.intent c.in-Ok.ensures.updates) in (
-      saves.0,
-      saves_steady (g.F.FlatFile.stored c.args.file.now) (g.F.FlatFile.stored c.grow.new.file) (held_in c.args.seen.now) (none_open rows) c.grow.result (c.requires.steady saves.0)
-          (saves.1 (held_in c.args.seen.now) (none_open rows) (inl updates)),
-    )
-
 pub returns-clause-saves : goal.returns-clause-saves
 returns-clause-saves g c = λ kept.
     let saves = c.grow.ensures.saves kept in
@@ -36,4 +25,13 @@ returns-clause-saves g c = λ kept.
       saves.0,
       subst (λ (r : List Row). Saves (g.F.FlatFile.stored c.args.file.now) (held_in c.args.seen.now) (none_open r) c.grow.result (g.F.FlatFile.stored c.grow.new.file)) c.in-Ok.ensures.rows
           (saves.1 (held_in c.args.seen.now) (none_open rows) (inl updates)),
+    )
+
+pub returns-clause-steady : goal.returns-clause-steady
+returns-clause-steady g c = λ kept.
+    let saves = returns-clause-saves g c kept in
+    let new = g.F.FlatFile.stored c.grow.new.file in (
+      saves.0,
+      subst (λ (r : List Row). OnOk c.grow.result (Steady new.content (none_open r))) (sym c.in-Ok.ensures.rows)
+          (saves_steady (g.F.FlatFile.stored c.args.file.now) new (held_in c.args.seen.now) (none_open (marked c.args.seen.now.rows c.args.uid.now)) c.grow.result (c.requires.steady saves.0) saves.1),
     )

@@ -34,7 +34,7 @@ returns-in-Err-clause-deletes g c = λ account maildir file rows.
     (text_broken account (deletes c.args.number) (dele c.args.number) old.place new.place maildir file rows old.lines c.in-Err.fault c.plain.result refl c.plain.ensures tells)))
 
 pub returns-then-not-wanted-clause-took : goal.returns-then-not-wanted-clause-took
-returns-then-not-wanted-clause-took g c = λ w. (w, took_less 0 2048 _ _ (omega arith) (took_nothing _))
+returns-then-not-wanted-clause-took g c = λ w. (w, took_less took_nothing (omega arith))
 
 pub returns-in-Ok-clause-took : goal.returns-in-Ok-clause-took
 returns-in-Ok-clause-took g c = did_so g.W.Wire c.in-Ok.ensures.tells (λ tells. took_deleting c.conversations_are_paced.ensures c.args.number _ _ (Ok tt) tells)
@@ -44,7 +44,7 @@ returns-in-Err-clause-took g c =
     let old = place_of g.W.Wire c.args.client.now in
     let new = place_of g.W.Wire c.delete.new.self in
     did_so g.W.Wire c.in-Err.ensures.tells (λ tells.
-    takes_plain 2048 old new c.in-Err.fault c.plain.result c.plain.ensures (took_deleting c.conversations_are_paced.ensures c.args.number old new (Err c.in-Err.fault) tells))
+    takes_plain c.plain.ensures (took_deleting c.conversations_are_paced.ensures c.args.number old new (Err c.in-Err.fault) tells))
 
 pub returns-in-Err-clause-counted : goal.returns-in-Err-clause-counted
 returns-in-Err-clause-counted g c = cut_by c.in-Err.fault c.plain.result (g.W.Wire.history c.args.client.now.wire.now) (g.W.Wire.history c.delete.new.self.wire.now) c.plain.ensures c.in-Err.ensures.counted

@@ -1,20 +1,17 @@
-use Rattle.std.proofs.Common.{◌≡◌, ◌<◌, ◌+◌, ◌*◌, ℕ, List, true, false, length, drop, get_or, Ok, Err, sym, ap, subst, arith, refl, ◌∙◌}
+use Rattle.std.proofs.Common.{◌≡◌, ◌<◌, ◌+◌, ◌*◌, ℕ, List, true, false, length, drop, get_or, Err, sym, ap, subst, arith, refl, ◌∙◌}
 use Rattle.fetch_rules.specs.Record.{has_row}
 use Rattle.std.proofs.lemmas.List.{drop_all}
 use Rattle.pop3_client.specs.Client.{place_of}
 use Rattle.mail_terms.specs.Listing.{Item}
 use Rattle.fetch_rules.specs.declared.steps.Step.{Step}
-use Rattle.fetch_session.specs.Scene.{AllWent, Fell}
-use Rattle.fetch_session.specs.Target.{Kind, Target, stores_of, target as target_at, target_of}
-use Rattle.fetch_session.specs.Work.{scene_of}
-use Rattle.fetch_session.specs.Lasting.{DoesForGood}
+use Rattle.fetch_session.specs.Target.{stores_of, target_of}
+use Rattle.fetch_session.specs.Lasting.{IsSafeWork}
 use Rattle.fetch_session.specs.Task.{Task, tasks_in, tasks_planned, fetching, ids_ahead, AreFresh}
-use Rattle.fetch_session.proofs.SceneLemmas.{leads_start, leads_on, leads_fell, leads_end}
 use Rattle.fetch_session.proofs.FreshLemmas.{fresh_step, fresh_later, grows_calm, step_at, later_at, tasks_left, no_item, row_at}
 use Rattle.fetch_session.proofs.ReportLemmas.{adds_on}
 use Rattle.fetch_session.proofs.IntakeLemmas.{took_on, took_less, took_nothing, takes_on, takes_less}
 use Rattle.fetch_session.proofs.RefusalLemmas.{before_cut}
-use Rattle.fetch_session.proofs.LastLemmas.{good_end, good_fell, good_on, good_start, keeps_same, mail_on, none_lasts}
+use Rattle.fetch_session.proofs.LastLemmas.{in_kind, keeps_same, leads_end, leads_fell, leads_on, mail_on, none_lasts}
 use Rattle.fetch_session.proofs.step.do_steps.Goals as goal
 
 pub do_step-requires-clause-free : goal.do_step-requires-clause-free
@@ -35,7 +32,6 @@ pub returns-in-Err-clause-does : goal.returns-in-Err-clause-does
 returns-in-Err-clause-does g c = λ w d f.
     let i = c.loop-i.i in
     let account = c.args.account.now in
-    let target = target_of c.args.work.now.store account in
     let steps = c.args.steps.now in
     let items = c.args.listing.now in
     let held = c.args.held.now in
@@ -48,9 +44,8 @@ returns-in-Err-clause-does g c = λ w d f.
       inv.1,
       inv.2,
       g.met.W.Wire.leads_on _ _ _ inv.3 done.3,
-      leads_fell target (tasks_planned steps items held) _ (tasks_in (step_at steps i) item (get_or held i false)) (later_at steps items held i) _ _ _ c.in-Err.cut split inv.4
-          (subst (λ (t : Target). Fell t (tasks_in (step_at steps i) item (get_or held i false)) (scene_of g.W.Wire g.D.MaildirDisk g.F.FlatFile c.loop-i.client c.loop-i.work) c.in-Err.cut (scene_of g.W.Wire g.D.MaildirDisk g.F.FlatFile c.do_step.new.client c.do_step.new.work))
-          (ap (λ (k : Kind). target_at k account) c.loop-i.invariant.7) done.4),
+      leads_fell (tasks_in (step_at steps i) item (get_or held i false)) (later_at steps items held i) split inv.4.2
+          (in_kind c.loop-i.work.store c.args.work.now.store account c.loop-i.invariant.7 done.4 inv.4.1) (c.do_step.ensures.keeps d f).0,
     )
 
 pub loop-i-init : goal.loop-i-init
@@ -58,20 +53,18 @@ loop-i-init g c = (
   (omega arith, omega arith),
   c.requires.ready,
   λ d. (d, c.requires.free d),
-  λ w d f. (w, d, f, g.met.W.Wire.leads_same c.args.client.now.wire.now, leads_start _ _ _),
-  λ w. (w, took_nothing _),
+  λ w d f. (w, d, f, g.met.W.Wire.leads_same c.args.client.now.wire.now, ((λ name is. is, λ f is. is), λ safe. safe, record { on = λ r new store f keeps does. does })),
+  λ w. (w, took_nothing),
   refl,
   refl,
   refl,
   λ uid has. has,
-  λ w d f. ((λ name is. is, λ f is. is), λ safe. (safe, good_start g.D.MaildirDisk g.F.FlatFile _ _ _ _)),
 )
 
 pub loop-i-preserved : goal.loop-i-preserved
 loop-i-preserved g c =
     let i = c.loop-i.i in
     let account = c.args.account.now in
-    let target = target_of c.args.work.now.store account in
     let steps = c.args.steps.now in
     let items = c.args.listing.now in
     let held = c.args.held.now in
@@ -90,38 +83,27 @@ loop-i-preserved g c =
           ),
       λ w d f.
           let done = c.in_default.ensures.does w d f in
-          let inv = c.loop-i.invariant.3 done.0 done.1 done.2 in (
+          let inv = c.loop-i.invariant.3 done.0 done.1 done.2 in
+          let keeps = (c.do_step.ensures.keeps d f).0 in (
             inv.0,
             inv.1,
             inv.2,
             g.met.W.Wire.leads_on _ _ _ inv.3 done.3,
-            leads_on target (tasks_planned steps items held) _ (tasks_in (step_at steps i) item (get_or held i false)) (later_at steps items held i) _ _ _ split inv.4
-                (subst (λ (t : Target). AllWent t (tasks_in (step_at steps i) item (get_or held i false)) (scene_of g.W.Wire g.D.MaildirDisk g.F.FlatFile c.loop-i.client c.loop-i.work) (scene_of g.W.Wire g.D.MaildirDisk g.F.FlatFile c.do_step.new.client c.do_step.new.work))
-                (ap (λ (k : Kind). target_at k account) c.loop-i.invariant.7) done.4),
+            (
+              mail_on g.D.MaildirDisk c.args.work.now.store c.loop-i.work.store c.do_step.new.work.store inv.4.0 keeps,
+              λ safe. c.in_default.ensures.lasts d f (inv.4.1 safe),
+              leads_on (tasks_in (step_at steps i) item (get_or held i false)) (later_at steps items held i) split inv.4.2
+                  (in_kind c.loop-i.work.store c.args.work.now.store account c.loop-i.invariant.7 done.4 inv.4.1) keeps,
+            ),
           ),
       λ w.
           let done = c.in_default.ensures.took w in
           let inv = c.loop-i.invariant.4 done.0 in
-          let old = place_of g.W.Wire c.args.client.now in
-          let new = place_of g.W.Wire c.do_step.new.client in
-          (inv.0, took_less (i * 268439552 + 268439552) ((i + 1) * 268439552) old new (omega arith) (took_on (i * 268439552) 268439552 old (place_of g.W.Wire c.loop-i.client) new inv.1 done.1)),
+          (inv.0, took_less (took_on inv.1 done.1) (omega arith)),
       c.in_default.ensures.counted ∙ c.loop-i.invariant.5,
       c.do_step.ensures.link ∙ c.loop-i.invariant.6,
       c.do_step.ensures.kind ∙ c.loop-i.invariant.7,
       λ uid has. c.in_default.ensures.rows uid (c.loop-i.invariant.8 uid has),
-      λ w d f.
-          let done = c.in_default.ensures.does w d f in
-          let inv = c.loop-i.invariant.9 done.0 done.1 done.2 in
-          let keeps = (c.do_step.ensures.keeps d f).0 in (
-            mail_on g.D.MaildirDisk c.args.work.now.store c.loop-i.work.store c.do_step.new.work.store inv.0 keeps,
-            λ safe.
-                let leads = inv.1 safe in
-                let good = subst (λ (t : Target). DoesForGood g.D.MaildirDisk g.F.FlatFile t (tasks_in (step_at steps i) item (get_or held i false)) (scene_of g.W.Wire g.D.MaildirDisk g.F.FlatFile c.loop-i.client c.loop-i.work) (Ok tt) (scene_of g.W.Wire g.D.MaildirDisk g.F.FlatFile c.do_step.new.client c.do_step.new.work) c.do_step.new.work.store c.do_step.new.work.ledger.file)
-                (ap (λ (k : Kind). target_at k account) c.loop-i.invariant.7) (c.in_default.ensures.good w d f leads.0) in (
-                  c.in_default.ensures.lasts d f leads.0,
-                  good_on g.D.MaildirDisk g.F.FlatFile target (tasks_planned steps items held) _ (tasks_in (step_at steps i) item (get_or held i false)) (later_at steps items held i) _ _ _ c.loop-i.work.store c.do_step.new.work.store split leads.1 good.0 good.1.texts keeps,
-                ),
-          ),
     )
 
 pub returns-clause-does : goal.returns-clause-does
@@ -130,7 +112,9 @@ returns-clause-does g c = λ w d f.
     let steps = c.args.steps.now in
     let none = ap (λ (ss : List Step). tasks_planned ss (drop c.loop-i.i c.args.listing.now) (drop c.loop-i.i c.args.held.now))
     (drop_all c.loop-i.i steps (omega (arith, c.loop-i-test.false, c.len-i-end.ensures.count, c.requires.all_steps))) in
-    (inv.0, inv.1, inv.2, inv.3, leads_end (target_of c.args.work.now.store c.args.account.now) (tasks_planned steps c.args.listing.now c.args.held.now) _ _ _ none inv.4)
+    let last = λ (safe : IsSafeWork g.F.FlatFile c.args.work.now). none_lasts g.D.MaildirDisk g.F.FlatFile (target_of c.args.work.now.store c.args.account.now) (place_of g.W.Wire c.loop-i.client) c.loop-i.work c.loop-i.work
+    (inv.4.1 safe) (keeps_same g.D.MaildirDisk g.F.FlatFile c.loop-i.work) (c.loop-i.invariant.1.written.steady f) in
+    (inv.0, inv.1, inv.2, inv.3, leads_end none inv.4.2 last)
 
 pub returns-in-Err-clause-took : goal.returns-in-Err-clause-took
 returns-in-Err-clause-took g c = λ w.
@@ -149,7 +133,7 @@ pub returns-clause-took : goal.returns-clause-took
 returns-clause-took g c = λ w.
     let i = c.loop-i.i in
     let inv = c.loop-i.invariant.4 w in
-    (inv.0, took_less (i * 268439552) (length c.args.listing.now * 268439552) (place_of g.W.Wire c.args.client.now) (place_of g.W.Wire c.loop-i.client) (omega arith) inv.1)
+    (inv.0, took_less inv.1 (omega arith))
 
 pub returns-in-Err-clause-counted : goal.returns-in-Err-clause-counted
 returns-in-Err-clause-counted g c = before_cut (g.W.Wire.history c.args.client.now.wire.now) (g.W.Wire.history c.loop-i.client.wire.now) (g.W.Wire.history c.do_step.new.client.wire.now) c.in-Err.cut c.loop-i.invariant.5 c.in-Err.ensures.counted
@@ -176,37 +160,9 @@ do_step-requires-clause-row g c =
 -- ---- what outlives a loss of power
 
 pub returns-clause-keeps : goal.returns-clause-keeps
-returns-clause-keeps g c = λ w d f. (c.loop-i.invariant.9 w d f).0
+returns-clause-keeps g c = λ w d f. (c.loop-i.invariant.3 w d f).4.0
 
 pub returns-in-Err-clause-keeps : goal.returns-in-Err-clause-keeps
 returns-in-Err-clause-keeps g c = λ w d f.
     let done = c.in-Err.ensures.does w d f in
-    mail_on g.D.MaildirDisk c.args.work.now.store c.loop-i.work.store c.do_step.new.work.store (c.loop-i.invariant.9 done.0 done.1 done.2).0 (c.do_step.ensures.keeps d f).0
-
-pub returns-in-Err-clause-good : goal.returns-in-Err-clause-good
-returns-in-Err-clause-good g c = λ w d f safe.
-    let i = c.loop-i.i in
-    let account = c.args.account.now in
-    let target = target_of c.args.work.now.store account in
-    let steps = c.args.steps.now in
-    let items = c.args.listing.now in
-    let held = c.args.held.now in
-    let item : Item = record { uid = c.uid.result.now; size = c.size.result } in
-    let in_items : i < length items = omega (arith, c.loop-i-test.true, c.len-i-end.ensures.count) in
-    let split = tasks_left steps items held i item in_items c.requires.all_steps c.requires.all_flags (c.uid.ensures.value no_item) (c.size.ensures no_item) in
-    let done = c.in-Err.ensures.does w d f in
-    let leads = (c.loop-i.invariant.9 done.0 done.1 done.2).1 safe in
-    good_fell g.D.MaildirDisk g.F.FlatFile target (tasks_planned steps items held) _ (tasks_in (step_at steps i) item (get_or held i false)) (later_at steps items held i) _ _ _ c.in-Err.cut
-    c.loop-i.work.store c.do_step.new.work.store c.do_step.new.work.ledger.file split leads.1 (c.do_step.ensures.keeps d f).0
-    (subst (λ (t : Target). DoesForGood g.D.MaildirDisk g.F.FlatFile t (tasks_in (step_at steps i) item (get_or held i false)) (scene_of g.W.Wire g.D.MaildirDisk g.F.FlatFile c.loop-i.client c.loop-i.work) (Err c.in-Err.cut) (scene_of g.W.Wire g.D.MaildirDisk g.F.FlatFile c.do_step.new.client c.do_step.new.work) c.do_step.new.work.store c.do_step.new.work.ledger.file)
-    (ap (λ (k : Kind). target_at k account) c.loop-i.invariant.7) (c.in-Err.ensures.good w d f leads.0))
-
-pub returns-clause-good : goal.returns-clause-good
-returns-clause-good g c = λ w d f safe.
-    let leads = (c.loop-i.invariant.9 w d f).1 safe in
-    let target = target_of c.args.work.now.store c.args.account.now in
-    let none = ap (λ (ss : List Step). tasks_planned ss (drop c.loop-i.i c.args.listing.now) (drop c.loop-i.i c.args.held.now))
-    (drop_all c.loop-i.i c.args.steps.now (omega (arith, c.loop-i-test.false, c.len-i-end.ensures.count, c.requires.all_steps))) in
-    good_end g.D.MaildirDisk g.F.FlatFile target (tasks_planned c.args.steps.now c.args.listing.now c.args.held.now) _ _ _ c.loop-i.work.store c.loop-i.work.ledger.file none leads.1
-    (none_lasts g.D.MaildirDisk g.F.FlatFile target (place_of g.W.Wire c.loop-i.client) c.loop-i.work c.loop-i.work leads.0
-    (keeps_same g.D.MaildirDisk g.F.FlatFile c.loop-i.work) (c.loop-i.invariant.1.written.steady f))
+    mail_on g.D.MaildirDisk c.args.work.now.store c.loop-i.work.store c.do_step.new.work.store (c.loop-i.invariant.3 done.0 done.1 done.2).4.0 (c.do_step.ensures.keeps d f).0

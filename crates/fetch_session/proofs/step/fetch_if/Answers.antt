@@ -1,11 +1,12 @@
-use Rattle.std.proofs.Common.{List, arith, sym, subst}
+use Rattle.std.proofs.Common.{List, true, false, arith, sym, subst}
+use Rattle.std.proofs.lemmas.Bool.{not-false, not-true}
 use Rattle.pop3_client.specs.Client.{place_of}
 use Rattle.fetch_session.specs.Task.{Task, stores, rereads}
 use Rattle.fetch_session.specs.Target.{target_of}
 use Rattle.fetch_session.specs.Work.{scene_of}
 use Rattle.fetch_session.specs.Scene.{scene, AllWent, Does}
 use Rattle.fetch_session.proofs.SceneLemmas.{takes_does, on_any}
-use Rattle.fetch_session.proofs.TakeLemmas.{skipped, no_fetch, one_reread, one_store, was_true, was_false}
+use Rattle.fetch_session.proofs.TakeLemmas.{skipped, no_fetch, one_fetch}
 use Rattle.fetch_session.proofs.IntakeLemmas.{took_nothing, took_less}
 use Rattle.fetch_session.proofs.LastLemmas.{keeps_same, none_came}
 use Rattle.fetch_session.proofs.step.fetch_if.Goals as goal
@@ -21,7 +22,7 @@ returns-then-not-step-clause-does g c = λ w d f.
       f,
       g.met.W.Wire.leads_same c.args.client.now.wire.now,
       subst (λ (ts : List Task). AllWent target ts here (record here { lines = lines' }))
-          (sym (no_fetch message.step.retrieve message.held message.step.number message.uid.now message.size (was_false message.step.retrieve c.if-not-step.true)))
+          (sym (no_fetch message.step.retrieve message.held message.step.number message.uid.now message.size (not-true message.step.retrieve c.if-not-step.true)))
           (skipped target message.step.number message.size here.place here.store here.file here.rows here.lines lines' c.note.ensures.items),
     )
 
@@ -37,7 +38,7 @@ returns-then-held-clause-does g c = λ w d f.
       f,
       took.1,
       subst (λ (ts : List Task). Does target ts old c.reread.result new)
-          (sym (one_reread message.step.retrieve message.held message.step.number message.uid.now message.size (was_true message.step.retrieve c.if-not-step.false) c.if-held.true))
+          (sym (one_fetch message.step.retrieve message.held true message.step.number message.uid.now message.size (not-false message.step.retrieve c.if-not-step.false) c.if-held.true))
           (takes_does target (rereads message.step.number message.uid.now) old new c.reread.result took.2),
     )
 
@@ -53,7 +54,7 @@ returns-clause-does g c = λ w d f.
       took.2,
       took.3,
       subst (λ (ts : List Task). Does target ts old c.take.result new)
-          (sym (one_store message.step.retrieve message.held message.step.number message.uid.now message.size (was_true message.step.retrieve c.if-not-step.false) c.if-held.false))
+          (sym (one_fetch message.step.retrieve message.held false message.step.number message.uid.now message.size (not-false message.step.retrieve c.if-not-step.false) c.if-held.false))
           (takes_does target (stores message.step.number message.uid.now) old new c.take.result took.4),
     )
 
@@ -65,9 +66,7 @@ pub returns-then-held-clause-ready : goal.returns-then-held-clause-ready
 returns-then-held-clause-ready g c = on_any c.reread.result (record { calm = c.requires.ready.calm; written = record { closed = c.requires.ready.written.closed; steady = c.requires.ready.written.steady } })
 
 pub returns-then-not-step-clause-took : goal.returns-then-not-step-clause-took
-returns-then-not-step-clause-took g c = λ w.
-    let here = place_of g.W.Wire c.args.client.now in
-    (w, took_less 0 268437504 here here (omega arith) (took_nothing here))
+returns-then-not-step-clause-took g c = λ w. (w, took_less took_nothing (omega arith))
 
 pub returns-then-not-step-clause-rows : goal.returns-then-not-step-clause-rows
 returns-then-not-step-clause-rows g c = λ uid has. has

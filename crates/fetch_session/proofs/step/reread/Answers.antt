@@ -24,7 +24,7 @@ returns-in-Err-pass_text-clause-rereads g c = λ account uid maildir file rows.
 
 pub returns-in-Err-clause-took : goal.returns-in-Err-clause-took
 returns-in-Err-clause-took g c = did_so g.W.Wire c.in-Err.ensures.opens (λ opened.
-    takes_plain 268437504 _ _ c.in-Err.fault c.plain.result c.plain.ensures (took_retr c.conversations_are_paced.ensures c.args.number _ _ c.in-Err.fault opened))
+    takes_plain c.plain.ensures (took_retr c.conversations_are_paced.ensures c.args.number _ _ c.in-Err.fault opened))
 
 pub returns-in-Ok-pass_text-clause-took : goal.returns-in-Ok-pass_text-clause-took
 returns-in-Ok-pass_text-clause-took g c =
@@ -37,7 +37,7 @@ returns-in-Err-pass_text-clause-took g c =
     let old = place_of g.W.Wire c.args.client.now in
     let new = place_of g.W.Wire c.pass_text.new.client in
     did_both g.W.Wire c.in-Ok.ensures.opens c.in-Err-pass_text.ensures.passes (λ opened passed.
-    takes_plain 268437504 old new c.in-Err-pass_text.fault c.plain-in-Err-pass_text.result c.plain-in-Err-pass_text.ensures
+    takes_plain c.plain-in-Err-pass_text.ensures
     (took_passing c.conversations_are_paced.ensures c.args.number old (Err c.in-Err-pass_text.fault) new (passed c.args.number old opened)))
 
 pub returns-in-Err-clause-counted : goal.returns-in-Err-clause-counted

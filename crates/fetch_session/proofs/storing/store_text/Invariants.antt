@@ -1,4 +1,5 @@
 use Rattle.std.proofs.Common.{◌≡◌, ◌≢◌, ◌≤◌, ◌+◌, ◌*◌, ℕ, List, [], string_bytes}
+use Rattle.pop3_wire.specs.Link.{WhereSound}
 use Rattle.pop3_wire.specs.Place.{Place}
 use Rattle.pop3_client.specs.Client.{HasSameLink, place_of}
 use Rattle.pop3_wire.specs.declared.unstuffer.Spot.TheVariants.{Done}
@@ -13,14 +14,10 @@ abbrev pub invariant-pieces : goal.invariant-pieces
 invariant-pieces g l =
     (l.rest.spot ≢ Done)
     × (l.length + 4097 * l.rest.left ≤ 4097 * 268435456)
-    × (g.D.MaildirDisk.sound l.disk → g.D.MaildirDisk.sound l.fn.disk
-    × ((text : List ℕ) × (g.D.MaildirDisk.maildir l.disk ≡ begun_with (g.D.MaildirDisk.maildir l.fn.disk) (file (string_bytes l.fn.stem) text)) × (l.length ≡ Rattle.std.specs.Prelude.length text)
-    × (g.W.Wire.sound l.client.wire.now → g.W.Wire.sound l.fn.client.wire.now × g.W.Wire.leads_to l.fn.client.wire.now l.client.wire.now
-    × ((number : ℕ) (start : Place) → Fetching (retr number) start (place_of g.W.Wire l.fn.client) l.fn.body []
-    → Fetching (retr number) start (place_of g.W.Wire l.client) l.rest text))))
-    × (g.W.Wire.sound l.client.wire.now → g.W.Wire.sound l.fn.client.wire.now
-    × ((number : ℕ) (start : Place) → Fetching (retr number) start (place_of g.W.Wire l.fn.client) l.fn.body []
-    → (text : List ℕ) × Fetching (retr number) start (place_of g.W.Wire l.client) l.rest text))
+    × ((text : List ℕ) × (l.length ≡ Rattle.std.specs.Prelude.length text)
+    × (g.D.MaildirDisk.sound l.disk → g.D.MaildirDisk.sound l.fn.disk × (g.D.MaildirDisk.maildir l.disk ≡ begun_with (g.D.MaildirDisk.maildir l.fn.disk) (file (string_bytes l.fn.stem) text)))
+    × WhereSound g.W.Wire.sound g.W.Wire.leads_to l.fn.client.wire.now l.client.wire.now ((number : ℕ) (start : Place) → Fetching (retr number) start (place_of g.W.Wire l.fn.client) l.fn.body []
+    → Fetching (retr number) start (place_of g.W.Wire l.client) l.rest text))
     × ((g.W.Wire.history l.client.wire.now).failures ≡ (g.W.Wire.history l.fn.client.wire.now).failures)
     × HasSameLink l.fn.client l.client
     × (g.D.MaildirDisk.sound l.disk → KeepsMail (g.D.MaildirDisk.stays l.fn.disk) (g.D.MaildirDisk.outlives l.fn.disk) (g.D.MaildirDisk.stays l.disk) (g.D.MaildirDisk.outlives l.disk))
