@@ -6,7 +6,7 @@ use Rattle.std.proofs.lemmas.List.Concat.{flat_map-append}
 use Rattle.rc_file.specs.declared.settings.Settings.{Settings}
 use Rattle.fetch_rules.specs.Record.{Row, Held, none_open, merged, marked}
 use Rattle.fetch_rules.specs.RecordMeaning.{FileStandsFor}
-use Rattle.mail_store.specs.Maildir.{Maildir, File, counted}
+use Rattle.mail_store.specs.Maildir.{Maildir, File}
 use Rattle.mail_store.specs.FlatFile.{Stored}
 use Rattle.mail_store.specs.FileName.{stem_of, mail_file}
 use Rattle.mail_store.specs.Held.{flags_of}
