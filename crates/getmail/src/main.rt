@@ -1,6 +1,7 @@
 //! `getmail`: fetches mail from a POP3 server (RFC 1939) into a Maildir or an mboxrd file.
 #![tactic(auto)]
 
+ghost use Rattle.std.specs.Prelude.{◌≤◌};
 ghost use Rattle.rc_file.specs.Settings.{IsValid};
 
 mod connection;
@@ -11,8 +12,7 @@ use crate::host::{Host, host_of};
 use fetch_rules::RcFault;
 use folder_store::ProcessMark;
 use getmail_program::{
-    Failure, Setup, Words, WordsFault, command, failure_of, fetch_over, read_words, rehearse,
-    set_up, tell,
+    Failure, Setup, Words, explain, failure_of, fetch_over, read_words, rehearse, set_up, tell,
 };
 use std::env;
 use std::hash::RandomState;
@@ -28,8 +28,9 @@ fn draw(rt: &HostRuntime) -> io::Result<(RandomState, ProcessMark)> {
 }
 
 /// Connects, runs one session or only tells what it would do, and returns the exit status.
-fn fetch(host: &Host, setup: Setup, pretends: bool) -> u8
+fn fetch(host: &Host, setup: Setup) -> u8
     requires { IsValid setup.settings }
+    ensures { result ≤ 2 }
 {
     let rt = host.inner();
     let drawn = match draw(rt) {
@@ -45,18 +46,13 @@ fn fetch(host: &Host, setup: Setup, pretends: bool) -> u8
         Ok(link) => link,
         Err(error) => return tell(rt, error.into()),
     };
-    fetch_over(
-        host,
-        setup,
-        link,
-        drawn,
-        (&mut rt.stdout(), rt.stderr()),
-        pretends,
-    )
+    fetch_over(host, setup, link, drawn, &mut rt.stdout(), rt.stderr())
 }
 
 /// Does what the command line asks for, and returns the exit status.
-fn obey(rt: &HostRuntime, words: &Words) -> u8 {
+fn obey(rt: &HostRuntime, words: &Words) -> u8
+    ensures { result ≤ 2 }
+{
     let host = host_of(rt, words.trace);
     if words.rehearse {
         let trace = host.err();
@@ -67,29 +63,18 @@ fn obey(rt: &HostRuntime, words: &Words) -> u8 {
         return status;
     }
     match set_up(&host, words) {
-        Ok(setup) => fetch(&host, setup, words.pretend),
+        Ok(setup) => fetch(&host, setup),
         Err(failure) => tell(rt, failure),
     }
 }
 
-/// Writes clap's text for these words: help to standard output, a mistake to standard error.
-fn show(rt: &HostRuntime, arguments: &[String]) -> io::Result<()> {
-    match command(rt.alloc())?.try_get_matches_from(arguments) {
-        Ok(_) => Ok(()),
-        Err(error) => error.print(rt),
-    }
-}
-
 /// Reads the command line, does what it asks for, and returns the exit status.
-fn start(rt: &HostRuntime, arguments: &[String]) -> u8 {
+fn start(rt: &HostRuntime, arguments: &[String]) -> u8
+    ensures { result ≤ 2 }
+{
     match read_words(rt.alloc(), arguments) {
         Ok(words) => obey(rt, &words),
-        Err(WordsFault::NoMemory) => tell(rt, Failure::NoMemory),
-        Err(WordsFault::Usage) => {
-            let _ = show(rt, arguments);
-            2
-        }
-        Err(WordsFault::Help) => { if show(rt, arguments).is_ok() { 0 } else { 1 } }
+        Err(error) => explain(rt, &error),
     }
 }
 

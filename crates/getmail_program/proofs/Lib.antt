@@ -1,1 +1,2 @@
+mod TellingLemmas
 mod WordsLemmas

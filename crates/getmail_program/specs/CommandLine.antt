@@ -1,24 +1,10 @@
 -- The command line: its options and flags, and what words ask for.
-use Rattle.std.specs.Prelude.{◌≡◌, ◌≢◌, ℕ, Bool, List, Some, codes, nat_lt, option_map}
+use Rattle.std.specs.Prelude.{◌≡◌, List, codes, option_map}
 use Rattle.std.specs.String.{string_bytes}
-use Rattle.clap.specs.declared.error.kind.ErrorKind.{ErrorKind}
-use Rattle.clap.specs.declared.error.kind.ErrorKind.TheVariants.{DisplayHelp}
-use Rattle.clap.specs.Words.{App, IsAmong, Kinds, Row, Rule, count_of, first_of, new_app, new_rule, with_rule}
-use Rattle.clap.specs.declared.builder.action.ArgAction.TheVariants.{Set, Count}
+use Rattle.clap.specs.Words.{App, Row, count_of, first_of, new_app, with_rule}
+use Rattle.command_line.specs.Rules.{flag_rule, is_given, long_flag_rule, value_rule}
 use Rattle.rc_file.specs.declared.flags.Flags.{Flags}
 use Rattle.getmail_program.specs.declared.words.Words.{Words}
-
--- an option with a value, given at most once
-abbrev pub value_rule : List ℕ → ℕ → Rule
-value_rule name short = record (new_rule name) { long = Some name; short = Some short; value_names = 1; action = Some Set }
-
--- a flag, given any number of times
-abbrev pub flag_rule : List ℕ → ℕ → Rule
-flag_rule name short = record (new_rule name) { long = Some name; short = Some short; action = Some Count }
-
--- a flag with no short form
-abbrev pub long_flag_rule : List ℕ → Rule
-long_flag_rule name = record (new_rule name) { long = Some name; action = Some Count }
 
 -- -r FILE, -g DIR
 abbrev pub with_places : App → App
@@ -40,10 +26,6 @@ getmail =
     with_rule (with_rule (with_choices (with_loudness (with_places (new_app (codes "getmail")))))
     (long_flag_rule (codes "pretend"))) (long_flag_rule (codes "rehearse"))
 
--- whether a flag was given, however often
-abbrev pub is_given : List ℕ → List Row → Bool
-is_given name rows = nat_lt 0 (count_of name rows)
-
 -- the flags that were given
 abbrev pub flags_in : List Row → Flags
 flags_in rows = record {
@@ -63,11 +45,3 @@ pub record AsksFor (rows : List Row) (words : Words) : Type 0 where
   pub rehearse : words.rehearse ≡ is_given (codes "rehearse") rows
   pub pretend : words.pretend ≡ is_given (codes "pretend") rows
   pub trace : words.trace ≡ is_given (codes "trace") rows
-
--- a parse may end by asking for help
-abbrev pub IsHelp : Kinds → Type 0
-IsHelp kinds = IsAmong DisplayHelp kinds
-
--- a parse may end by a mistake
-abbrev pub IsMistake : Kinds → Type 0
-IsMistake kinds = (kind : ErrorKind) × IsAmong kind kinds × (kind ≢ DisplayHelp)

@@ -41,6 +41,11 @@ abbrev pub folder_given : Option (List ℕ) → List ℕ
 folder_given (Some path) = path
 folder_given None = codes "~/.getmail"
 
+-- the rc file's path: a name in the folder, unless it begins with '/' or '~/'; 'getmailrc' where none is given
+abbrev pub rc_path : List ℕ → List ℕ → Option (List ℕ) → List ℕ
+rc_path home folder None = joined folder (codes "getmailrc")
+rc_path home folder (Some path) = if stands_alone path then whole_path home path else joined folder path
+
 -- the record stands in the folder, under the account's digits
 abbrev pub record_path : List ℕ → Setup → List ℕ
 record_path folder setup = joined folder (codes "seen-" ++ digits_of setup.settings)

@@ -1,5 +1,5 @@
 -- What is told of a session.
-use Rattle.std.specs.Prelude.{◌≡◌, ℕ, List, [], ◌++◌, Option, Result, Ok, Err, OnOk, codes}
+use Rattle.std.specs.Prelude.{◌≡◌, ℕ, Bool, true, false, List, [], ◌++◌, Option, Result, Ok, Err, OnOk, codes}
 use Rattle.std.specs.Io.KnownBytes.{Appends}
 use Rattle.rc_file.specs.declared.settings.Settings.{Settings}
 use Rattle.pop3_client.specs.declared.fault.Fault.{Fault}
@@ -41,3 +41,8 @@ pub record TellsAhead (settings : Settings) (preview : Preview) (fetched : Fetch
   pub outcome : fetched.outcome ≡ preview.outcome
   pub reported : OnOk fetched.report (Appends out out' (preview_text preview settings))
   pub faulted : OnOk fetched.fault (Appends err err' (outcome_line preview.outcome))
+
+-- a run that ended well wrote the whole report of a session that came to its end, and nothing else; or with --pretend what it would do
+abbrev pub IsTold : Bool → Settings → Option (List ℕ) → Option (List ℕ) → Type 0
+IsTold false settings out out' = (report : Report) × (report.outcome ≡ Ended) × Appends out out' (report_text report settings)
+IsTold true settings out out' = (preview : Preview) × (preview.outcome ≡ Ended) × Appends out out' (preview_text preview settings)

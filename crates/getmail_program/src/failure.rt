@@ -1,5 +1,5 @@
 //! Why a run ends before its session: the line on standard error, and the exit status.
-ghost use Rattle.std.specs.Prelude.{◌≡◌, ◌≢◌};
+ghost use Rattle.std.specs.Prelude.{◌≡◌, ◌≢◌, ◌≤◌};
 ghost use Rattle.std.specs.IoError.{error_kind};
 ghost use Rattle.getmail_program.specs.Failures.{status_of};
 
@@ -79,7 +79,8 @@ fn tell_rc_fault<R: Eprint + AllocGlobal>(rt: &R, fault: &RcFault) {
 /// Writes a failure's line to standard error and returns the exit status: 1 if there was no
 /// connection, 2 for all that is found before. A line that can't be written changes nothing.
 pub fn tell<R: Eprint + AllocGlobal>(rt: &R, failure: Failure<'_>) -> u8
-    ensures { result ≡ status_of failure.entry }
+    ensures status { result ≡ status_of failure.entry }
+    ensures within { result ≤ 2 }
 {
     let _ = match failure {
         Failure::NoHome => rt.eprintln("getmail: HOME is not set"),

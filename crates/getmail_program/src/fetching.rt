@@ -1,5 +1,5 @@
 //! One session over a link, its report, and the line of its fault.
-ghost use Rattle.std.specs.Prelude.{◌≡◌, OnOk};
+ghost use Rattle.std.specs.Prelude.{◌≡◌, ◌≤◌, OnOk};
 ghost use Rattle.std.specs.Io.KnownBytes.{Appends};
 ghost use Rattle.fetch_session.specs.Account.{digits_of};
 ghost use Rattle.fetch_session.specs.Pretend.{Pretends};
@@ -38,7 +38,8 @@ impl Fetched {
     /// The exit status: 0 if the session came to its end and the report was written, else 1. It doesn't
     /// depend on whether a fault's line could be written.
     pub fn status(&self) -> u8
-        ensures { result ≡ status_of self.now }
+        ensures status { result ≡ status_of self.now }
+        ensures within { result ≤ 1 }
     {
         match self.outcome {
             Outcome::Ended => { if self.report.is_ok() { 0 } else { 1 } }
@@ -100,6 +101,40 @@ fn write_outcome<E: Write>(alloc: Global, outcome: &Outcome, err: &mut E) -> io:
     }
 }
 
+/// Writes a session's report to `out`, then the line of the fault that cut it, if one did, to `err`.
+fn tell_report<O: Write, E: Write>(
+    alloc: Global,
+    report: Report,
+    settings: &Settings,
+    out: &mut O,
+    err: &mut E,
+) -> Fetched
+    ensures { Tells settings.now report result (O.contents out.old) (O.contents out.new) (E.contents err.old) (E.contents err.new) }
+{
+    Fetched {
+        report: write_report(alloc, &report, settings, out),
+        fault: write_outcome(alloc, &report.outcome, err),
+        outcome: report.outcome,
+    }
+}
+
+/// Writes what a run would do to `out`, then the line of the fault that cut it, if one did, to `err`.
+fn tell_preview<O: Write, E: Write>(
+    alloc: Global,
+    preview: Preview,
+    settings: &Settings,
+    out: &mut O,
+    err: &mut E,
+) -> Fetched
+    ensures { TellsAhead settings.now preview result (O.contents out.old) (O.contents out.new) (E.contents err.old) (E.contents err.new) }
+{
+    Fetched {
+        report: write_preview(alloc, &preview, settings, out),
+        fault: write_outcome(alloc, &preview.outcome, err),
+        outcome: preview.outcome,
+    }
+}
+
 /// Runs one session of the account over the link, wipes the line of progress, and writes the report
 /// to `out`, then the line of the fault that cut it, if one did, to `err`, and nothing else to either.
 /// The fault's line is written even if the report couldn't be.
@@ -134,11 +169,7 @@ pub fn fetch_into<
 {
     let report = session(account, wire, now);
     wire.wipe();
-    Fetched {
-        report: write_report(alloc, &report, account.settings(), out),
-        fault: write_outcome(alloc, &report.outcome, err),
-        outcome: report.outcome,
-    }
+    tell_report(alloc, report, account.settings(), out, err)
 }
 
 /// Holds a session that changes nothing, and writes what a run would do to `out`, then the line of the
@@ -170,9 +201,5 @@ pub fn pretend_into<
 {
     let preview = pretend(account, wire, now);
     wire.wipe();
-    Fetched {
-        report: write_preview(alloc, &preview, account.settings(), out),
-        fault: write_outcome(alloc, &preview.outcome, err),
-        outcome: preview.outcome,
-    }
+    tell_preview(alloc, preview, account.settings(), out, err)
 }

@@ -17,4 +17,4 @@ pub use fetching::Fetched;
 pub use rehearsal::rehearse;
 pub use run::fetch_over;
 pub use setup::{Setup, set_up};
-pub use words::{Words, WordsFault, command, read_words};
+pub use words::{Words, explain, read_words};

@@ -1,7 +1,7 @@
 //! The paths of the rc file, the record and the destination.
 ghost use Rattle.std.specs.Prelude.{◌≡◌, ℕ, List, IfOk, option_map};
 ghost use Rattle.std.specs.String.{string_bytes};
-ghost use Rattle.getmail_program.specs.Places.{folder_given, joined, stands_alone, whole_path};
+ghost use Rattle.getmail_program.specs.Places.{folder_given, joined, rc_path, stands_alone, whole_path};
 
 use crate::failure::Failure;
 use fetch_rules::full_path;
@@ -69,10 +69,13 @@ pub fn rc_file<'a, R: Env + AllocGlobal>(
     rt: &R,
     folder: &str,
     given: Option<&str>,
-) -> Result<String, Failure<'a>> {
-    let path = given.unwrap_or(RC_FILE);
-    if stands_alone(path) {
-        return whole_path(rt, path);
+) -> Result<String, Failure<'a>>
+    ensures { IfOk result (λ path. (home : List ℕ)
+        × (string_bytes path ≡ rc_path home folder.now (option_map (λ text. text.now) given.entry))) }
+{
+    match given {
+        None => Ok(joined(rt.alloc(), folder, RC_FILE)?),
+        Some(path) if stands_alone(path) => whole_path(rt, path),
+        Some(path) => Ok(joined(rt.alloc(), folder, path)?),
     }
-    Ok(joined(rt.alloc(), folder, path)?)
 }

@@ -1,10 +1,11 @@
 //! A run: one session over a link, or only what it would do.
-ghost use Rattle.std.specs.Prelude.{◌≡◌};
+ghost use Rattle.std.specs.Prelude.{◌≡◌, ◌≤◌};
 ghost use Rattle.rc_file.specs.Settings.{IsValid};
 ghost use Rattle.fetch_session.specs.Target.{IsCalm, kind_of};
 ghost use Rattle.getmail_program.specs.Places.{kind_in};
+ghost use Rattle.getmail_program.specs.Telling.{IsTold};
 
-use crate::fetching::{Fetched, fetch_into, pretend_into};
+use crate::fetching::{fetch_into, pretend_into};
 use crate::setup::{Setup, account_of};
 use crate::shown_wire::ShownWire;
 use fetch_rules::{Dest, Settings};
@@ -64,71 +65,72 @@ fn store_at<'a, R: Files + Clock + AllocGlobal + Clone + Drop>(
     }
 }
 
-/// Removes what killed runs of the account left.
-fn sweep<R: Files + Clock + AllocGlobal + Clone + Drop>(
-    settings: &Settings,
-    store: &Store<HostMaildir<'_, R>, HostRecord<'_, R>>,
-    record: &HostRecord<'_, R>,
+/// The account of a run.
+type HostAccount<'a, R, H> = Account<HostMaildir<'a, R>, HostRecord<'a, R>, H>;
+
+/// The account of a run, with the store at the first path and the record at the second one.
+fn account_at<'a, R: Files + Clock + AllocGlobal + Clone + Drop, H: BuildHasher>(
+    host: &'a R,
+    settings: Settings,
+    paths: (&'a str, &'a str),
+    drawn: (H, ProcessMark),
+) -> HostAccount<'a, R, H>
+    requires { IsValid settings }
+    ensures settings { result.settings ≡ settings }
+    ensures kind { kind_of result.store ≡ kind_in settings.dest }
+{
+    let (destination, record) = paths;
+    let (hasher, mark) = drawn;
+    let store = store_at(host, &settings.dest, destination, mark);
+    let record = HostFile::by_pages(host, record, mark);
+    Account::new(host.alloc(), settings, store, record, hasher)
+}
+
+/// Closes the account of a run, and removes what killed runs of it left, unless the run only told what
+/// it would do.
+fn close<R: Files + Clock + AllocGlobal + Clone + Drop, H: BuildHasher + Drop>(
+    account: HostAccount<'_, R, H>,
+    pretends: bool,
 ) {
-    if let Store::Maildir(maildir) = store {
-        maildir.sweep(&account_of(settings));
+    let (settings, store, record) = account.into_parts();
+    if pretends {
+        return;
+    }
+    if let Store::Maildir(maildir) = &store {
+        maildir.sweep(&account_of(&settings));
     }
     record.sweep();
 }
 
-/// What a session works on, when it is, and whether it only tells what it would do.
-#[derive(Drop)]
-struct Session<D, F, H> {
-    settings: Settings,
-    store: Store<D, F>,
-    record: F,
-    hasher: H,
+/// When a session is, and whether it only tells what it would do.
+#[derive(Clone, Copy)]
+struct Manner {
     now: u64,
     pretends: bool,
 }
 
-/// Runs one session over a link, or only tells what it would do. Gives back the settings, the store and
-/// the record.
-fn hold<
-    D: MaildirDisk,
-    F: FlatFile,
-    H: BuildHasher + Drop,
-    W: Wire + Drop,
-    O: Write,
-    E: Write + Copy + Drop,
->(
+/// Runs one session over a link, or only tells what it would do, and returns the exit status.
+fn hold<D: MaildirDisk, F: FlatFile, H: BuildHasher, W: Wire + Drop, O: Write, E: Write + Drop>(
     alloc: Global,
-    session: Session<D, F, H>,
-    wire: W,
-    screen: Option<E>,
-    streams: (&mut O, E),
-) -> (Fetched, Settings, Store<D, F>, F)
-    requires valid { IsValid session.settings }
-    requires calm { IsCalm D.MaildirDisk F.FlatFile session.store }
+    account: &mut Account<D, F, H>,
+    mut wire: ShownWire<W, E>,
+    manner: Manner,
+    out: &mut O,
+    mut err: E,
+) -> u8
+    ensures within { result ≤ 1 }
+    ensures tells { result ≡ 0 → IsTold manner.pretends account.old.settings (O.contents out.old) (O.contents out.new) }
 {
-    let Session {
-        settings,
-        store,
-        record,
-        hasher,
-        now,
-        pretends,
-    } = session;
-    let (out, mut err) = streams;
-    let mut wire = ShownWire::new(alloc, wire, screen);
-    let mut account = Account::new(alloc, settings, store, record, hasher);
-    let fetched = if pretends {
-        pretend_into(alloc, &mut account, &mut wire, now, out, &mut err)
+    if manner.pretends {
+        pretend_into(alloc, account, &mut wire, manner.now, out, &mut err).status()
     } else {
-        fetch_into(alloc, &mut account, &mut wire, now, out, &mut err)
-    };
-    let (settings, store, record) = account.into_parts();
-    (fetched, settings, store, record)
+        fetch_into(alloc, account, &mut wire, manner.now, out, &mut err).status()
+    }
 }
 
 /// Runs one session over a link, or only tells what it would do, and returns the exit status. The
-/// caller has drawn the hasher's keys and the mark of the files. The report goes to the first stream;
-/// the line of a fault and the line of progress go to the second one.
+/// caller has drawn the hasher's keys and the mark of the files. The report goes to `out`; the line of
+/// a fault and the line of progress go to `err`.
 pub fn fetch_over<
     R: Files + Clock + AllocGlobal + Clone + Drop,
     E: Write + IsTerminal + Copy + Drop,
@@ -140,29 +142,27 @@ pub fn fetch_over<
     setup: Setup,
     wire: W,
     drawn: (H, ProcessMark),
-    streams: (&mut O, E),
-    pretends: bool,
+    out: &mut O,
+    err: E,
 ) -> u8
     requires { IsValid setup.settings }
+    ensures within { result ≤ 1 }
+    ensures tells { result ≡ 0 → IsTold setup.pretends setup.settings (O.contents out.old) (O.contents out.new) }
 {
     let Setup {
         settings,
         destination,
         record,
+        pretends,
     } = setup;
-    let (hasher, mark) = drawn;
-    let screen = screen_of(host, streams.1, &settings);
-    let session = Session {
-        store: store_at(host, &settings.dest, destination.as_str(), mark),
-        record: HostFile::by_pages(host, record.as_str(), mark),
-        settings,
-        hasher,
+    let wire = ShownWire::new(host.alloc(), wire, screen_of(host, err, &settings));
+    let paths = (destination.as_str(), record.as_str());
+    let mut account = account_at(host, settings, paths, drawn);
+    let manner = Manner {
         now: seconds_now(host),
         pretends,
     };
-    let (fetched, settings, store, record) = hold(host.alloc(), session, wire, screen, streams);
-    if !pretends {
-        sweep(&settings, &store, &record);
-    }
-    fetched.status()
+    let status = hold(host.alloc(), &mut account, wire, manner, out, err);
+    close(account, pretends);
+    status
 }

@@ -29,6 +29,8 @@ pub struct Setup {
     pub destination: String,
     /// The record's path.
     pub record: String,
+    /// Whether the run only tells what it would do.
+    pub pretends: bool,
 }
 
 /// The octets of the rc file; of one that is too long, enough to notice it.
@@ -109,6 +111,7 @@ pub fn set_up<'a, R: Files + Env + Eprint + AllocGlobal, E: Write + Copy>(
     ensures valid { IfOk result (λ setup. IsValid setup.settings) }
     ensures asked { IfOk result (λ setup. AreAsked words.now.flags setup.settings) }
     ensures placed { IfOk result (IsPlaced words.now) }
+    ensures pretends { IfOk result (λ setup. setup.pretends ≡ words.now.pretend) }
 {
     let rt = host.inner();
     let folder = folder(rt, words.dir.as_deref())?;
@@ -120,5 +123,6 @@ pub fn set_up<'a, R: Files + Env + Eprint + AllocGlobal, E: Write + Copy>(
         settings,
         destination,
         record,
+        pretends: words.pretend,
     })
 }

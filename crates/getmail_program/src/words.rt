@@ -1,13 +1,14 @@
 //! The command line, read with clap.
-ghost use Rattle.std.specs.Prelude.{◌≡◌, ◌≢◌, ℕ, IfOk, IfErr, Err, [], false, map, option_map};
+ghost use Rattle.std.specs.Prelude.{◌≡◌, ◌≢◌, ◌≤◌, IfOk, map};
 ghost use Rattle.std.specs.String.{string_bytes};
 ghost use Rattle.clap.specs.Values.{kind_of};
-ghost use Rattle.clap.specs.Words.{app_of, fault_of, found_of, matches_of, rows_of, rule_of};
-ghost use Rattle.getmail_program.specs.CommandLine.{AsksFor, IsHelp, IsMistake, flag_rule, flags_in, getmail, long_flag_rule, value_rule};
-ghost use Rattle.getmail_program.specs.CommandLine.{with_choices, with_loudness, with_places};
+ghost use Rattle.clap.specs.Words.{FailsBy, app_of, fault_of, found_of, matches_of, rows_of};
+ghost use Rattle.getmail_program.specs.CommandLine.{AsksFor, flags_in, getmail, with_choices, with_loudness, with_places};
 
+use crate::failure::{Failure, tell};
 use clap::error::ErrorKind;
-use clap::{Arg, ArgAction, ArgMatches, Command, Error};
+use clap::{ArgMatches, Command, Error};
+use command_line::{add, flag, is_given, long_flag, show, text, value_option};
 use fetch_rules::Flags;
 use std::alloc::{AllocError, Global};
 
@@ -26,70 +27,6 @@ pub struct Words {
     pub pretend: bool,
     /// Whether the conversation and refused calls of the system are told.
     pub trace: bool,
-}
-
-/// Why there is no run.
-#[derive(Clone, Copy, Debug, PartialEq, Eq)]
-pub enum WordsFault {
-    /// The command line asks for help.
-    Help,
-    /// The command line is wrong.
-    Usage,
-    /// Out of memory.
-    NoMemory,
-}
-
-impl From<AllocError> for WordsFault {
-    ghost use Rattle.std.specs.Prelude.{◌≡◌};
-    ghost use Rattle.getmail_program.specs.declared.words.WordsFault.TheVariants.{NoMemory};
-
-    ghost from_gives = { λ _ fault. fault ≡ NoMemory };
-
-    fn from(_error: AllocError) -> WordsFault {
-        WordsFault::NoMemory
-    }
-}
-
-/// An option with a value, given at most once.
-fn value_option<'a>(
-    alloc: Global,
-    name: &'a str,
-    short: char,
-    value: &'a str,
-    help: &'a str,
-) -> Arg<'a>
-    ensures rule { rule_of result ≡ value_rule name.entry.now short }
-    ensures local { result.global ≡ false }
-{
-    Arg::new(alloc, name)
-        .short(short)
-        .long(name)
-        .value_name(value)
-        .help(help)
-        .action(ArgAction::Set)
-}
-
-/// A flag, given any number of times.
-fn flag<'a>(alloc: Global, name: &'a str, short: char, help: &'a str) -> Arg<'a>
-    ensures rule { rule_of result ≡ flag_rule name.entry.now short }
-    ensures local { result.global ≡ false }
-{
-    Arg::new(alloc, name)
-        .short(short)
-        .long(name)
-        .help(help)
-        .action(ArgAction::Count)
-}
-
-/// A flag with no short form.
-fn long_flag<'a>(alloc: Global, name: &'a str, help: &'a str) -> Arg<'a>
-    ensures rule { rule_of result ≡ long_flag_rule name.entry.now }
-    ensures local { result.global ≡ false }
-{
-    Arg::new(alloc, name)
-        .long(name)
-        .help(help)
-        .action(ArgAction::Count)
 }
 
 // The lines of help.
@@ -123,52 +60,42 @@ const REHEARSE: &str = "Hold a session with standard input as the server, and st
 fn with_places<'a>(alloc: Global, command: Command<'a>) -> Result<Command<'a>, AllocError>
     ensures { IfOk result (λ added. app_of added ≡ with_places (app_of command.entry)) }
 {
-    command
-        .arg(value_option(alloc, "rcfile", 'r', "FILE", RCFILE))?
-        .arg(value_option(alloc, "getmaildir", 'g', "DIR", GETMAILDIR))
+    let command = add(command, value_option(alloc, "rcfile", 'r', "FILE", RCFILE))?;
+    add(
+        command,
+        value_option(alloc, "getmaildir", 'g', "DIR", GETMAILDIR),
+    )
 }
 
 /// With the flags that say how much is told.
 fn with_loudness<'a>(alloc: Global, command: Command<'a>) -> Result<Command<'a>, AllocError>
     ensures { IfOk result (λ added. app_of added ≡ with_loudness (app_of command.entry)) }
 {
-    command
-        .arg(flag(alloc, "verbose", 'v', VERBOSE))?
-        .arg(flag(alloc, "quiet", 'q', QUIET))?
-        .arg(long_flag(alloc, "trace", TRACE))
+    let command = add(command, flag(alloc, "verbose", 'v', VERBOSE))?;
+    let command = add(command, flag(alloc, "quiet", 'q', QUIET))?;
+    add(command, long_flag(alloc, "trace", TRACE))
 }
 
 /// With the flags that say what is fetched and deleted.
 fn with_choices<'a>(alloc: Global, command: Command<'a>) -> Result<Command<'a>, AllocError>
     ensures { IfOk result (λ added. app_of added ≡ with_choices (app_of command.entry)) }
 {
-    command
-        .arg(flag(alloc, "all", 'a', ALL))?
-        .arg(flag(alloc, "new", 'n', NEW))?
-        .arg(flag(alloc, "delete", 'd', DELETE))?
-        .arg(flag(alloc, "dont-delete", 'l', DONT_DELETE))
+    let command = add(command, flag(alloc, "all", 'a', ALL))?;
+    let command = add(command, flag(alloc, "new", 'n', NEW))?;
+    let command = add(command, flag(alloc, "delete", 'd', DELETE))?;
+    add(command, flag(alloc, "dont-delete", 'l', DONT_DELETE))
 }
 
 /// The options and flags of the program.
-pub fn command<'a>(alloc: Global) -> Result<Command<'a>, AllocError>
+fn command<'a>(alloc: Global) -> Result<Command<'a>, AllocError>
     ensures { IfOk result (λ command. app_of command ≡ getmail) }
 {
     let command = Command::new(alloc, "getmail").about(ABOUT);
     let command = with_places(alloc, command)?;
     let command = with_loudness(alloc, command)?;
-    with_choices(alloc, command)?
-        .arg(long_flag(alloc, "pretend", PRETEND))?
-        .arg(long_flag(alloc, "rehearse", REHEARSE))
-}
-
-/// A copy of a text.
-fn copy(alloc: Global, text: Option<&str>) -> Result<Option<String>, AllocError>
-    ensures { IfOk result (λ owned. option_map string_bytes owned ≡ option_map (λ t. t.now) text.entry) }
-{
-    match text {
-        None => Ok(None),
-        Some(text) => Ok(Some(String::from_str(alloc, text)?)),
-    }
+    let command = with_choices(alloc, command)?;
+    let command = add(command, long_flag(alloc, "pretend", PRETEND))?;
+    add(command, long_flag(alloc, "rehearse", REHEARSE))
 }
 
 /// The flags in clap's matches.
@@ -176,11 +103,11 @@ fn flags_of(matches: &ArgMatches<'_>) -> Flags
     ensures { result ≡ flags_in (rows_of (found_of matches.now)) }
 {
     Flags {
-        all: matches.get_count("all") > 0,
-        new_only: matches.get_count("new") > 0,
-        delete: matches.get_count("delete") > 0,
-        dont_delete: matches.get_count("dont-delete") > 0,
-        quiet: matches.get_count("quiet") > 0,
+        all: is_given(matches, "all"),
+        new_only: is_given(matches, "new"),
+        delete: is_given(matches, "delete"),
+        dont_delete: is_given(matches, "dont-delete"),
+        quiet: is_given(matches, "quiet"),
         verbose: matches.get_count("verbose"),
     }
 }
@@ -190,39 +117,36 @@ fn words_of(alloc: Global, matches: &ArgMatches<'_>) -> Result<Words, AllocError
     ensures { IfOk result (AsksFor (rows_of (found_of matches.now))) }
 {
     Ok(Words {
-        rcfile: copy(alloc, matches.get_str("rcfile"))?,
-        dir: copy(alloc, matches.get_str("getmaildir"))?,
+        rcfile: text(alloc, matches, "rcfile")?,
+        dir: text(alloc, matches, "getmaildir")?,
         flags: flags_of(matches),
-        rehearse: matches.get_count("rehearse") > 0,
-        pretend: matches.get_count("pretend") > 0,
-        trace: matches.get_count("trace") > 0,
+        rehearse: is_given(matches, "rehearse"),
+        pretend: is_given(matches, "pretend"),
+        trace: is_given(matches, "trace"),
     })
 }
 
-/// The fault for an error of clap.
-fn fault_of_error(error: &Error) -> WordsFault
-    ensures help { kind_of error.now ≡ ErrorKind.DisplayHelp → result ≡ WordsFault.Help }
-    ensures memory { kind_of error.now ≡ ErrorKind.OutOfMemory → result ≡ WordsFault.NoMemory }
-    ensures usage { kind_of error.now ≢ ErrorKind.DisplayHelp → kind_of error.now ≢ ErrorKind.OutOfMemory
-        → result ≡ WordsFault.Usage }
-{
-    match error.kind() {
-        ErrorKind::DisplayHelp => WordsFault::Help,
-        ErrorKind::OutOfMemory => WordsFault::NoMemory,
-        _ => WordsFault::Usage,
-    }
-}
-
-/// What these words ask for, the program's name first.
-pub fn read_words(alloc: Global, words: &[String]) -> Result<Words, WordsFault>
+/// What these words ask for, the program's name first. Clap's error has the text of help or of the
+/// mistake, or its kind is OutOfMemory.
+pub fn read_words(alloc: Global, words: &[String]) -> Result<Words, Error>
+    ensures faults { FailsBy (fault_of getmail (map string_bytes words.now)) result }
     ensures asks { IfOk result (AsksFor (matches_of getmail (map string_bytes words.now))) }
-    ensures faultless { IfOk result (λ _. fault_of getmail (map string_bytes words.now) ≡ []) }
-    ensures passes { fault_of getmail (map string_bytes words.now) ≡ [] → IfErr result (λ fault. fault ≡ WordsFault.NoMemory) }
-    ensures help { result ≡ Err WordsFault.Help → IsHelp (fault_of getmail (map string_bytes words.now)) }
-    ensures usage { result ≡ Err WordsFault.Usage → IsMistake (fault_of getmail (map string_bytes words.now)) }
 {
     match command(alloc)?.try_get_matches_from(words) {
         Ok(matches) => Ok(words_of(alloc, &matches)?),
-        Err(error) => Err(fault_of_error(&error)),
+        Err(error) => Err(error),
+    }
+}
+
+/// Says why there are no words, and returns the exit status: 0 for help that was written, 1 for help
+/// that wasn't, 2 for a mistake or if memory ran out.
+pub fn explain<R: Print + Eprint + AllocGlobal>(rt: &R, error: &Error) -> u8
+    ensures help { kind_of error.now ≡ ErrorKind.DisplayHelp → result ≤ 1 }
+    ensures other { kind_of error.now ≢ ErrorKind.DisplayHelp → result ≡ 2 }
+    ensures within { result ≤ 2 }
+{
+    match show(rt, error) {
+        Some(status) => status,
+        None => tell(rt, Failure::NoMemory),
     }
 }

@@ -1,31 +1,19 @@
-use Rattle.std.proofs.Common.{◌∙◌, List, ap, map, rules, subst, sym}
+use Rattle.std.proofs.Common.{◌∙◌, List, ap, map, subst, sym}
 use Rattle.std.specs.String.{string_bytes}
 use Rattle.clap.specs.Words.{App, Row, fault_of, is_simple_and_free}
 use Rattle.getmail_program.specs.CommandLine.{AsksFor}
-use Rattle.getmail_program.proofs.WordsLemmas.{faultless, getmail_is_free, has_kind, help, mistake, rows_are}
+use Rattle.getmail_program.proofs.WordsLemmas.{getmail_is_free, has_kind, rows_are}
 use Rattle.getmail_program.proofs.words.read_words.Goals as goal
+
+pub returns-in_ok-words_of-in-Ok-clause-faults : goal.returns-in_ok-words_of-in-Ok-clause-faults
+returns-in_ok-words_of-in-Ok-clause-faults c =
+    ap (λ (app : App). fault_of app (map string_bytes c.args.words.now)) (sym c.in_ok-command.ensures)
+    ∙ c.in-Ok.ensures.kinds (ap is_simple_and_free c.in_ok-command.ensures ∙ getmail_is_free)
 
 pub returns-in_ok-words_of-in-Ok-clause-asks : goal.returns-in_ok-words_of-in-Ok-clause-asks
 returns-in_ok-words_of-in-Ok-clause-asks c =
     subst (λ (rows : List Row). AsksFor rows c.in_ok-words_of-in-Ok.field-0)
     (rows_are _ _ c.in-Ok.matches c.in_ok-command.ensures c.in-Ok.ensures.matches) c.in_ok-words_of-in-Ok.ensures
 
-pub returns-in_ok-words_of-in-Ok-clause-faultless : goal.returns-in_ok-words_of-in-Ok-clause-faultless
-returns-in_ok-words_of-in-Ok-clause-faultless c =
-    ap (λ (app : App). fault_of app (map string_bytes c.args.words.now)) (sym c.in_ok-command.ensures)
-    ∙ c.in-Ok.ensures.kinds (ap is_simple_and_free c.in_ok-command.ensures ∙ getmail_is_free)
-
-pub returns-in-Err-clause-passes : goal.returns-in-Err-clause-passes
-returns-in-Err-clause-passes c none =
-    faultless _ c.in-Err.error c.fault_of_error.result (has_kind _ _ c.in-Err.error c.in_ok-command.ensures c.in-Err.ensures.kinds)
-    c.fault_of_error.ensures.memory none
-
-pub returns-in-Err-clause-help : goal.returns-in-Err-clause-help
-returns-in-Err-clause-help c told =
-    help _ c.in-Err.error c.fault_of_error.result (has_kind _ _ c.in-Err.error c.in_ok-command.ensures c.in-Err.ensures.kinds)
-    c.fault_of_error.ensures.memory c.fault_of_error.ensures.usage (search rules)
-
-pub returns-in-Err-clause-usage : goal.returns-in-Err-clause-usage
-returns-in-Err-clause-usage c told =
-    mistake _ c.in-Err.error c.fault_of_error.result (has_kind _ _ c.in-Err.error c.in_ok-command.ensures c.in-Err.ensures.kinds)
-    c.fault_of_error.ensures.help c.fault_of_error.ensures.memory (search rules)
+pub returns-in-Err-clause-faults : goal.returns-in-Err-clause-faults
+returns-in-Err-clause-faults c = has_kind _ _ c.in-Err.error c.in_ok-command.ensures c.in-Err.ensures.kinds

@@ -5,7 +5,7 @@ use Rattle.getmail_program.proofs.words.with_choices.Goals as goal
 
 pub returns : goal.returns
 returns c =
-    let first = c.in_ok-arg.ensures.shape c.flag.ensures.local ∙ ap₂ with_rule refl c.flag.ensures.rule in
-    let second = c.in_ok-arg-2.ensures.shape c.flag-2.ensures.local ∙ ap₂ with_rule first c.flag-2.ensures.rule in
-    let third = c.in_ok-arg-3.ensures.shape c.flag-3.ensures.local ∙ ap₂ with_rule second c.flag-3.ensures.rule in
-    IfOk-weaker c.arg-4.result _ _ (λ command added. added.shape c.flag-4.ensures.local ∙ ap₂ with_rule third c.flag-4.ensures.rule) c.arg-4.ensures
+    let first = c.in_ok-command.ensures ∙ ap₂ with_rule refl c.flag.ensures.rule in
+    let second = c.in_ok-command-2.ensures ∙ ap₂ with_rule first c.flag-2.ensures.rule in
+    let third = c.in_ok-command-3.ensures ∙ ap₂ with_rule second c.flag-3.ensures.rule in
+    IfOk-weaker c.add-4.result _ _ (λ command added. added ∙ ap₂ with_rule third c.flag-4.ensures.rule) c.add-4.ensures

@@ -5,5 +5,5 @@ use Rattle.getmail_program.proofs.words.with_places.Goals as goal
 
 pub returns : goal.returns
 returns c =
-    let first = c.in_ok-arg.ensures.shape c.value_option.ensures.local ∙ ap₂ with_rule refl c.value_option.ensures.rule in
-    IfOk-weaker c.arg-2.result _ _ (λ command added. added.shape c.value_option-2.ensures.local ∙ ap₂ with_rule first c.value_option-2.ensures.rule) c.arg-2.ensures
+    let first = c.in_ok-command.ensures ∙ ap₂ with_rule refl c.value_option.ensures.rule in
+    IfOk-weaker c.add-2.result _ _ (λ command added. added ∙ ap₂ with_rule first c.value_option-2.ensures.rule) c.add-2.ensures
