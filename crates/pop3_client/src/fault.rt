@@ -70,7 +70,7 @@ pub enum Fault {
     SeenRefused,
     /// 13: out of memory.
     NoMemory,
-    /// 14: the record's file has no record. This line of it is the first that isn't understood.
+    /// 14: the record's file isn't understood; this is its first faulty line, counted from 1.
     BadSeen(u32),
 }
 
