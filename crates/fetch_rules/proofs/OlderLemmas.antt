@@ -4,7 +4,7 @@ use Rattle.std.specs.Prelude.{flat_map, ◌==◌, Option, None}
 use Rattle.std.specs.List.{list_any}
 use Rattle.std.proofs.lemmas.Bool.{or_cases, and_parts, or_left, or_right, and_from}
 use Rattle.fetch_rules.specs.Record.{Row, Intent, is_of, has_row}
-use Rattle.fetch_rules.specs.RecordFile.{Version, One, Two, header, Line, RowLine, GroupLine, IntentLine, text_of}
+use Rattle.fetch_rules.specs.RecordFile.{Version, One, Two, header, Line, RowLine, GroupLine, text_of}
 use Rattle.fetch_rules.specs.RecordMeaning.{IsCut, Rows, Fault, Means, Progress, Judged, judged, after_line, may_take, delivers, taken, Stands, Fails, InBase, BetweenGroups, InGroup, Ends, line_after, counted, left_open, is_open, has_line_feed, has_bytes}
 use Rattle.fetch_rules.specs.RecordGrowth.{OneIsRead}
 use Rattle.fetch_rules.specs.declared.seen.SeenFault.{SeenFault}

@@ -26,4 +26,4 @@ pub use seen::{
     Intent, Seen, SeenFault, appended_counts, bytes_have_one_meaning, bytes_stand, cut_is_ignored,
     files_stand_for_one_record, older_files_are_read, open_intents_have_rows,
 };
-pub use steps::{Step, distinct_messages_are_filtered, plan};
+pub use steps::{SECONDS_PER_DAY, Step, distinct_messages_are_filtered, plan};

@@ -14,7 +14,8 @@ use rc_file::Settings;
 use std::alloc::{AllocError, Global};
 use std::hash::BuildHasher;
 
-const SECONDS_PER_DAY: u64 = 86_400;
+/// How many seconds a day has.
+pub const SECONDS_PER_DAY: u64 = 86_400;
 
 /// What is done with the message of a number.
 #[derive(Clone, Copy, Debug, PartialEq, Eq)]

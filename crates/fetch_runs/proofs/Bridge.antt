@@ -139,10 +139,10 @@ module _ (stores : ToldStores) (settings : Settings) (account : List ℕ) (now :
     keeps = subst (λ (k : Kept). KeepsRows k.file.content rows) (sym left.1) keeps;
     left = inl (unchanged, counts ∙ ap retrieved_in left.2);
     stepped = record {
-      commands = said.tells.0;
-      asked = said.tells.1;
-      begun = all_weaker (IsOfTask []) (IsBegun [] []) said.tells.0 (begun_one account before.maildir [] [] tt) said.tells.2;
-      next = begins_of (IsOfTask []) (IsBegun [] []) (begun_one account before.maildir [] [] tt) said.tells.1.part said.tells.3;
+      commands = said.exchanges.0;
+      asked = said.exchanges.1;
+      begun = all_weaker (IsOfTask []) (IsBegun [] []) said.exchanges.0 (begun_one account before.maildir [] [] tt) said.exchanges.2;
+      next = begins_of (IsOfTask []) (IsBegun [] []) (begun_one account before.maildir [] [] tt) said.exchanges.1.part said.exchanges.3;
       step = inl unchanged;
     };
   }
@@ -170,24 +170,24 @@ module _ (stores : ToldStores) (settings : Settings) (account : List ℕ) (now :
       ];
     });
     stepped = record {
-      commands = commands_of said.tells;
-      asked = said.tells.talked.asked;
-      begun = all_weaker (IsOfTask (begun_of c)) (IsBegun c.items (deleted_by c.items (begun_of c))) (commands_of said.tells) (begun_one account before.maildir c.items (begun_of c) left.right) said.tells.deletes;
-      next = begins_of (IsOfTask (begun_of c)) (IsBegun c.items (deleted_by c.items (begun_of c))) (begun_one account before.maildir c.items (begun_of c) left.right) said.tells.talked.asked.part said.tells.next;
+      commands = commands_of said.exchanges;
+      asked = said.exchanges.talked.asked;
+      begun = all_weaker (IsOfTask (begun_of c)) (IsBegun c.items (deleted_by c.items (begun_of c))) (commands_of said.exchanges) (begun_one account before.maildir c.items (begun_of c) left.right) said.exchanges.deletes;
+      next = begins_of (IsOfTask (begun_of c)) (IsBegun c.items (deleted_by c.items (begun_of c))) (begun_one account before.maildir c.items (begun_of c) left.right) said.exchanges.talked.asked.part said.exchanges.next;
       step = inr (
         stores settings account (holds rows before.maildir) (effect_of now (is_ended result) c) (holds left.rows' after.maildir) left.told,
-        reads said.tells now (is_ended result) (wanted_at settings account (holds rows before.maildir) (effect_of now (is_ended result) c)) left.numbers,
+        reads said.exchanges now (is_ended result) (wanted_at settings account (holds rows before.maildir) (effect_of now (is_ended result) c)) left.numbers,
       );
     };
   }
     where
-      stops : begun_of c ≡ [] → StopsAtList report.outcome (commands_of said.tells) said.tells.talked.asked.part
+      stops : begun_of c ≡ [] → StopsAtList report.outcome (commands_of said.exchanges) said.exchanges.talked.asked.part
       stops none = record {
-        name = said.tells.name;
-        word = said.tells.word;
-        more = said.tells.more;
+        name = said.exchanges.name;
+        word = said.exchanges.word;
+        more = said.exchanges.more;
         commands_are = refl;
-        only = subst (λ (turns : List Turn). SaysOnly turns said.tells.more said.tells.talked.asked.part) (ap tail_behind (sym outcome_is)) (said.tells.stops none);
+        only = subst (λ (turns : List Turn). SaysOnly turns said.exchanges.more said.exchanges.talked.asked.part) (ap tail_behind (sym outcome_is)) (said.exchanges.stops none);
       }
 
 pub session_is_a_step : Laws → ToldStores → TurnsJoin → ConversationsArePaced → FrontsAreAsked → SessionIsAStep
@@ -250,10 +250,10 @@ module _ (stores : MboxToldStores) (settings : Settings) (now : ℕ) (link : Lin
 
   mbox_joined : (way : Way) → WayLeaves settings now result way held (keeps_entries before) (keeps_entries after) lines → Gained way (tail_for result) link link' → IsMboxStep settings now link before held report link' after
   mbox_joined Idle left said =
-      quiet (course [] [] [] []) refl said said.tells.0 said.tells.1 said.tells.2 said.tells.3
+      quiet (course [] [] [] []) refl said said.exchanges.0 said.exchanges.1 said.exchanges.2 said.exchanges.3
       (record { rows = refl; intent = refl; file = inl (ap (λ (k : Keeping). mail_in k.store.mbox.content) left.1); begun = refl; ended = left.0 })
       (ap retrieved_in left.2) (subst (λ (k : Keeping). Keeps k.file.content held) (sym left.1) keeps)
-  mbox_joined (Deals c) (inl left) said = quiet c left.none said (commands_of said.tells) said.tells.talked.asked said.tells.deletes said.tells.next left.leaves left.told left.keeps
+  mbox_joined (Deals c) (inl left) said = quiet c left.none said (commands_of said.exchanges) said.exchanges.talked.asked said.exchanges.deletes said.exchanges.next left.leaves left.told left.keeps
   mbox_joined (Deals c) (inr left) said = record {
     sent = said.sent;
     got = said.got;
@@ -266,13 +266,13 @@ module _ (stores : MboxToldStores) (settings : Settings) (now : ℕ) (link : Lin
     keeps = left.keeps;
     left = inr (record { told = left.told; retrieved_is = counts ∙ left.counted; one_less = λ is. unsaved_is result report.outcome outcome_is (left.one_less is) });
     stepped = record {
-      commands = commands_of said.tells;
-      asked = said.tells.talked.asked;
-      begun = all_weaker (IsOfTask (begun_of c)) (IsBegun c.items (deleted_by c.items (begun_of c))) (commands_of said.tells) begun said.tells.deletes;
-      next = begins_of (IsOfTask (begun_of c)) (IsBegun c.items (deleted_by c.items (begun_of c))) begun said.tells.talked.asked.part said.tells.next;
+      commands = commands_of said.exchanges;
+      asked = said.exchanges.talked.asked;
+      begun = all_weaker (IsOfTask (begun_of c)) (IsBegun c.items (deleted_by c.items (begun_of c))) (commands_of said.exchanges) begun said.exchanges.deletes;
+      next = begins_of (IsOfTask (begun_of c)) (IsBegun c.items (deleted_by c.items (begun_of c))) begun said.exchanges.talked.asked.part said.exchanges.next;
       step = inr (
         stores settings (mbox_holds held before.mbox) (effect_of now (is_ended result) c) (mbox_holds left.held' after.mbox) left.told,
-        reads said.tells now (is_ended result) (mbox_wanted settings (mbox_holds held before.mbox) (effect_of now (is_ended result) c)) left.numbers,
+        reads said.exchanges now (is_ended result) (mbox_wanted settings (mbox_holds held before.mbox) (effect_of now (is_ended result) c)) left.numbers,
       );
     };
   }

@@ -1,8 +1,7 @@
 -- From a kept state every list of sessions, and of what happens between them, keeps what is promised.
-use Rattle.std.proofs.Common.{◌≡◌, ◌⊎◌, inl, inr, ◌-◌, ◌<◌, ℕ, zero, suc, true, false, List, [], ◌∷◌, Option, Some, refl, sym, ap, subst, ◌∙◌, ◌++◌}
+use Rattle.std.proofs.Common.{◌≡◌, ◌⊎◌, inl, inr, ◌-◌, ◌<◌, ℕ, zero, suc, true, false, List, [], ◌∷◌, Some, refl, sym, ap, subst, ◌∙◌, ◌++◌}
 use Rattle.std.specs.Prelude.{bytes_eq, slice_get}
 use Rattle.std.specs.List.{AllByRecursion}
-use Rattle.std.specs.String.{string_bytes}
 use Rattle.std.proofs.lemmas.Bool.{or_cases, true≢false, cases_Bool}
 use Rattle.std.proofs.lemmas.List.{append-nil}
 use Rattle.std.proofs.lemmas.Slice.Eq.{bytes_eq-Decides}
@@ -15,6 +14,7 @@ use Rattle.mail_store.specs.FileName.{account_text, is_held, IsAccountText, stem
 use Rattle.mail_store.specs.Maildir.{Maildir}
 use Rattle.fetch_rules.specs.Record.{Row, is_delivered}
 use Rattle.rc_file.specs.declared.settings.Settings.{Settings}
+use Rattle.fetch_rules.specs.RecordGrowth.{OneRecord}
 use Rattle.fetch_rules.specs.Wanted.{candidates}
 use Rattle.fetch_session.specs.Account.{digits_of}
 use Rattle.fetch_session.specs.Record.{KeepsRows}
@@ -38,16 +38,14 @@ pub record Laws : Type 0 where
   pub stays : KeptStaysKept
   pub holds_what_is_left : KeptHoldsWhatIsLeft
   pub digits : (server : List ℕ) (port : ℕ) (username : List ℕ) → IsAccountText (account_text server port username)
-  pub one : (content : Option (List ℕ)) (a b : List Row) → KeepsRows content a → KeepsRows content b → a ≡ b
+  pub one : OneRecord
 
 pub sound_frame : ((server : List ℕ) (port : ℕ) (username : List ℕ) → IsAccountText (account_text server port username)) → (world : World) → IsSound world → IsFrame (frame_of world)
 sound_frame digits world sound = record { account = digits world.server world.port world.username; world = sound }
 
 -- the digits are the account's
 same_digits : (world : World) (settings : Settings) → AreSettings world settings → digits_of settings ≡ account_of world
-same_digits world settings are = ap (λ (s : List ℕ). account_text s settings.port (string_bytes settings.username)) are.server
-    ∙ ap (λ (n : ℕ). account_text world.server n (string_bytes settings.username)) are.port
-    ∙ ap (λ (u : List ℕ). account_text world.server world.port u) are.username
+same_digits world settings are = rw (are.server, are.port, are.username)
 
 -- a prefix is held, whatever the record says
 holds_prefix : Laws → (world : World) (state : State) → IsSound world → IsKept world state → HoldsAPrefix world state
@@ -159,7 +157,7 @@ module _ (laws : Laws) (world : World) (state : State) (occasion : Occasion) (so
 
     stores_only_new : StoresNew (frame_of world) (situation rows state) (visit_of s) → StoresOnlyNew world state occasion
     stores_only_new new only_new id legal recorded =
-        let same : rows ≡ recorded.0 = laws.one state.kept.file.content rows recorded.0 keeps recorded.1 in
+        let same : rows ≡ recorded.0 = (laws.one state.kept.file.content rows recorded.0 keeps.0 recorded.1.0 keeps.1 recorded.1.1).0 in
         let now = new only_new id legal (ap (λ (rs : List Row). is_delivered rs id) same ∙ recorded.2) in
         (now.0, (s.rows', s.keeps, now.1))
 

@@ -1,5 +1,5 @@
 -- What a session leaves of an account with an mboxrd file.
-use Rattle.std.proofs.Common.{◌≡◌, inl, inr, ◌+◌, ℕ, zero, suc, List, [], ◌∷◌, ◌++◌, map, take, length, Option, None, Some, refl, sym, ap, ◌∙◌, ◌⊎◌, Bool, true, false, Result, Ok, Err, subst, append_assoc}
+use Rattle.std.proofs.Common.{◌≡◌, inl, inr, ◌+◌, ℕ, zero, suc, List, [], ◌∷◌, ◌++◌, map, take, length, Option, None, Some, refl, sym, ap, ◌∙◌, ◌⊎◌, Bool, true, false, Result, Ok, Err, subst, append_assoc, rules}
 use Rattle.std.specs.Prelude.{slice_get, option_map}
 use Rattle.std.specs.List.{AllByRecursion, flat_map, AllZip}
 use Rattle.std.proofs.lemmas.Bool.{true≢false}
@@ -60,9 +60,7 @@ texts_one items other replies right = refl
 pub texts_same : (items : List Item) (dones : List Done) → AllByRecursion (IsRight [] no_maildir items) (tasks_of dones) → texts_of dones ≡ texts_by dones
 texts_same items [] right = refl
 texts_same items (d ∷ dones) right =
-    ap (λ (l : List (List ℕ)). l ++ texts_of dones) (texts_one items d.task d.replies right.0)
-    ∙ ap (λ (l : List (List ℕ)). map text_found (found_in d.task d.replies) ++ l) (texts_same items dones right.1)
-    ∙ sym (map-append text_found (found_in d.task d.replies) (found_by dones))
+    simp (map-append, texts_one items d.task d.replies right.0, texts_same items dones right.1)
 
 -- ---- the next message
 
@@ -379,13 +377,9 @@ held_same a b rows intent = ap (λ (r : List Row). held_with r a.intent) rows �
 
 -- a cause leaves the mboxrd file as it was, or settled
 settled_by : (fault : Fault) (mbox file mbox' file' : Stored) → MboxUnready fault mbox file mbox' file' → IsSettledBy file mbox mbox'
-settled_by SeenRefused mbox file mbox' file' is = is.1
 settled_by (BadSeen line) mbox file mbox' file' is = inl (ap (λ (s : Stored). s.content) is.1)
 settled_by (StoreRefused why.Missing) mbox file mbox' file' is = inl (ap (λ (s : Stored). s.content) is.1)
-settled_by (StoreRefused why.Refused) mbox file mbox' file' is = is.1
-settled_by (StoreRefused why.NotMbox) mbox file mbox' file' is = is.1
-settled_by NoMemory mbox file mbox' file' is = is
-settled_by other mbox file mbox' file' never = absurd never
+settled_by fault mbox file mbox' file' is = search rules
 
 -- nothing was asked for: the record is as it was, and the file is as it was, or settled
 pub record Rests (settings : Settings) (now : ℕ) (ended : Bool) (c : Course) (held : Held) (mbox mbox' : Stored) (content' : Option (List ℕ)) (lines : List ReportLine) : Type 0 where

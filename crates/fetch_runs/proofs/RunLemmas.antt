@@ -1,5 +1,5 @@
 -- How sessions in a row make a run of them.
-use Rattle.std.proofs.Common.{◌≡◌, ◌≢◌, ◌<◌, ◌≤◌, ◌+◌, ℕ, List, [], ◌∷◌, ◌++◌, take, set, get_or, length, refl, sym, ap, subst, ◌∙◌, arith}
+use Rattle.std.proofs.Common.{◌≡◌, ◌≢◌, ◌<◌, ◌≤◌, ◌+◌, ℕ, List, [], ◌∷◌, ◌++◌, take, set, get_or, length, refl, sym, ap, subst, ◌∙◌, arith, rules}
 use Rattle.std.proofs.lemmas.Grind.{take_at_read, take-set_at}
 use Rattle.std.proofs.lemmas.List.{get_or-set_other, take_all}
 use Rattle.pop3_wire.specs.Link.{Link}
@@ -24,17 +24,14 @@ pub record Ran {W K : Type 0} (sound : W → Type 0) (Made : Visit W → K → R
 runs_on : {W K : Type 0} (Made : Visit W → K → Report → Visit W → K → Type 0) (olds : List (Visit W)) (first : K) (reports : List Report) (news : List (Visit W)) (mid : K) (old new : Visit W) (report : Report) (last : K)
     → RunsBy Made olds first reports news mid → Made old mid report new last → RunsBy Made (olds ++ old ∷ []) first (reports ++ report ∷ []) (news ++ new ∷ []) last
 runs_on {K = K} Made [] first [] [] mid old new report last runs made = (last, subst (λ (k : K). Made old k report new last) runs made, refl)
-runs_on Made [] first [] (v ∷ news) mid old new report last runs made = absurd runs
-runs_on Made [] first (r ∷ reports) news mid old new report last runs made = absurd runs
-runs_on Made (o ∷ olds) first [] news mid old new report last runs made = absurd runs
-runs_on Made (o ∷ olds) first (r ∷ reports) [] mid old new report last runs made = absurd runs
 runs_on Made (o ∷ olds) first (r ∷ reports) (v ∷ news) mid old new report last runs made = (runs.0, runs.1, runs_on Made olds runs.0 reports news mid old new report last runs.2 made)
+runs_on Made olds first reports news mid old new report last runs made = search rules
 
-ran_more : {W K : Type 0} (sound : W → Type 0) (Made : Visit W → K → Report → Visit W → K → Type 0) (olds : List (Visit W)) (start : K) (at_start : Type 0) (reports : List Report) (news : List (Visit W)) (mid : K) (at_mid : Type 0)
-    (old new : Visit W) (report : Report) (last : K) (at_last : Type 0) → Ran sound Made olds start at_start reports news mid at_mid
-    → (sound new.wire → at_last → sound old.wire × at_mid × Made old mid report new last)
+ran_more : {W K : Type 0} {sound : W → Type 0} {Made : Visit W → K → Report → Visit W → K → Type 0}
+    {olds news : List (Visit W)} {start mid last : K} {at_start at_mid at_last : Type 0} {reports : List Report} {report : Report} (old new : Visit W)
+    → Ran sound Made olds start at_start reports news mid at_mid → (sound new.wire → at_last → sound old.wire × at_mid × Made old mid report new last)
     → Ran sound Made (olds ++ old ∷ []) start at_start (reports ++ report ∷ []) (news ++ new ∷ []) last at_last
-ran_more {W = W} sound Made olds start at_start reports news mid at_mid old new report last at_last ran session = record {
+ran_more {W} {K} {sound} {Made} {olds} {news} {start} {mid} {last} {at_start} {at_mid} {at_last} {reports} {report} old new ran session = record {
   made = λ all held.
       let this = session (all_back (λ (v : Visit W). sound v.wire) news (new ∷ []) all).0 held in
       let before = ran.made (all_front (λ (v : Visit W). sound v.wire) news (new ∷ []) all) this.1 in
@@ -42,17 +39,14 @@ ran_more {W = W} sound Made olds start at_start reports news mid at_mid old new 
 }
 
 -- the next visit was made
-pub ran_next : {W K : Type 0} (sound : W → Type 0) (Made : Visit W → K → Report → Visit W → K → Type 0) (olds news : List (Visit W)) (i : ℕ) (start : K) (at_start : Type 0) (reports : List Report) (mid : K) (at_mid : Type 0)
-    (old new : Visit W) (report : Report) (last : K) (at_last : Type 0) → Ran sound Made (take i olds) start at_start reports (take i news) mid at_mid
-    → i < length olds → i < length news → get_or olds i old ≡ old
+pub ran_next : {W K : Type 0} {sound : W → Type 0} {Made : Visit W → K → Report → Visit W → K → Type 0}
+    (olds news : List (Visit W)) (i : ℕ) {start mid last : K} {at_start at_mid at_last : Type 0} {reports more : List Report} {report : Report} (old new : Visit W)
+    → Ran sound Made (take i olds) start at_start reports (take i news) mid at_mid → more ≡ reports ++ report ∷ [] → i < length olds → i < length news → get_or olds i old ≡ old
     → (sound new.wire → at_last → sound old.wire × at_mid × Made old mid report new last)
-    → Ran sound Made (take (i + 1) olds) start at_start (reports ++ report ∷ []) (take (i + 1) (set news i new)) last at_last
-ran_next {W} sound Made olds news i start at_start reports mid at_mid old new report last at_last ran inside within is session =
-    subst (λ (os : List (Visit W)). Ran sound Made os start at_start (reports ++ report ∷ []) (take (i + 1) (set news i new)) last at_last)
-    (sym ((take_at_read olds i old inside).1 ∙ ap (λ (o : Visit W). take i olds ++ o ∷ []) is))
-    (subst (λ (ns : List (Visit W)). Ran sound Made (take i olds ++ old ∷ []) start at_start (reports ++ report ∷ []) ns last at_last)
-    (sym (take-set_at news i (i + 1) new refl within))
-    (ran_more sound Made (take i olds) start at_start reports (take i news) mid at_mid old new report last at_last ran session))
+    → Ran sound Made (take (i + 1) olds) start at_start more (take (i + 1) (set news i new)) last at_last
+ran_next {W} olds news i old new ran pushed inside within is session =
+    let first = (take_at_read olds i old inside).1 ∙ ap (λ (o : Visit W). take i olds ++ o ∷ []) is in
+    rw (first, take-set_at news i (i + 1) new refl within, pushed) (ran_more old new ran session)
 
 -- the visits after it stay as they were
 pub others_stay : {V : Type 0} (xs ys : List V) (i : ℕ) (new : V) → ((k : ℕ) (d : V) → i ≤ k → get_or xs k d ≡ get_or ys k d)
@@ -75,28 +69,18 @@ pub runs_promised : {W : Type 0} → Headline → (seen : W → Link) (settings 
     → IsSound world → AreSettings world settings → IsKept world state → AreServed seen world.all state.gone olds news facts
     → Runs seen settings (digits_of settings) olds state.kept reports news last → ArePromised seen settings world state olds reports news facts last
 runs_promised law seen settings world [] state [] [] [] last sound are is served runs = ((law world state [] sound is tt).0, is, sym runs)
-runs_promised law seen settings world [] state [] [] (fact ∷ facts) last sound are is served runs = absurd served
-runs_promised law seen settings world [] state [] (new ∷ news) facts last sound are is served runs = absurd runs
-runs_promised law seen settings world [] state (report ∷ reports) news facts last sound are is served runs = absurd runs
-runs_promised law seen settings world (old ∷ olds) state [] news facts last sound are is served runs = absurd runs
-runs_promised law seen settings world (old ∷ olds) state (report ∷ reports) [] facts last sound are is served runs = absurd runs
-runs_promised law seen settings world (old ∷ olds) state (report ∷ reports) (new ∷ news) [] last sound are is served runs = absurd served
 runs_promised law seen settings world (old ∷ olds) state (report ∷ reports) (new ∷ news) (fact ∷ facts) last sound are is served runs =
     let occasion = occasion_of seen settings old report new fact runs.0 in
     let one = law world state (Fetched occasion ∷ []) sound is (record { settings = are; session = runs.1.0; served = served.0 }, tt) in
     (runs.0, runs.1.0, one.0.0, one.0.1, runs_promised law seen settings world olds (after_event state (Fetched occasion)) reports news facts last sound are one.1 served.1 runs.2)
+runs_promised law seen settings world olds state reports news facts last sound are is served runs = search rules
 
 pub mbox_runs_promised : {W : Type 0} → MboxHeadline → (seen : W → Link) (settings : Settings) (frame : MboxFrame) (olds : List (Visit W)) (state : MboxState) (reports : List Report) (news : List (Visit W)) (facts : List Fact) (last : MboxKept)
     → IsWorld frame.all → AreMboxSettings frame settings → IsMboxKept frame state → AreServed seen frame.all state.gone olds news facts
     → MboxRuns seen settings olds state.kept reports news last → AreMboxPromised seen settings frame state olds reports news facts last
 mbox_runs_promised law seen settings frame [] state [] [] [] last world are is served runs = ((law frame state [] world is tt).0, is, sym runs)
-mbox_runs_promised law seen settings frame [] state [] [] (fact ∷ facts) last world are is served runs = absurd served
-mbox_runs_promised law seen settings frame [] state [] (new ∷ news) facts last world are is served runs = absurd runs
-mbox_runs_promised law seen settings frame [] state (report ∷ reports) news facts last world are is served runs = absurd runs
-mbox_runs_promised law seen settings frame (old ∷ olds) state [] news facts last world are is served runs = absurd runs
-mbox_runs_promised law seen settings frame (old ∷ olds) state (report ∷ reports) [] facts last world are is served runs = absurd runs
-mbox_runs_promised law seen settings frame (old ∷ olds) state (report ∷ reports) (new ∷ news) [] last world are is served runs = absurd served
 mbox_runs_promised law seen settings frame (old ∷ olds) state (report ∷ reports) (new ∷ news) (fact ∷ facts) last world are is served runs =
     let occasion = mbox_occasion seen settings old report new fact runs.0 in
     let one = law frame state (InMbox occasion ∷ []) world is (record { settings = are; session = runs.1.0; served = served.0 }, tt) in
     (runs.0, runs.1.0, one.0.0, one.0.1, mbox_runs_promised law seen settings frame olds (after_mbox state (InMbox occasion)) reports news facts last world are one.1 served.1 runs.2)
+mbox_runs_promised law seen settings frame olds state reports news facts last world are is served runs = search rules

@@ -151,22 +151,28 @@ module _ (laws : Laws) (p : Ground) where
       not_ended : {P : Type 0} → false ≡ true → P
       not_ended never = absurd (true≢false (sym never))
 
-      -- nothing came of the next task
-      pub tally_bare : {refused unsaved : Type 0} → new.lines ≡ fell.mid.lines → Tally p false fell.dones [] (fell.next ∷ []) fell.dones fell.dones new.lines refused unsaved
-      tally_bare told = record {
-        found = ap (λ (l : List (ℕ × List ℕ)). found_by fell.dones ++ (l ++ [])) (nothing_found fell.next) ∙ append-nil (found_by fell.dones);
-        whole = part_done;
+      -- nothing is in the report of the next task
+      tally_next : {refused unsaved : Type 0} {spare : List WholeReply} {full : List Done} → found_of (course p.items fell.dones spare (fell.next ∷ [])) ≡ found_by full → Part (tasks_on p) full
+          → (length (found_by fell.dones) ≡ length (found_by full)) ⊎ (length (found_by fell.dones) + 1 ≡ length (found_by full)) → (length (found_by fell.dones) + 1 ≡ length (found_by full) → refused)
+          → new.lines ≡ fell.mid.lines → Tally p false fell.dones spare (fell.next ∷ []) full fell.dones new.lines refused unsaved
+      tally_next found whole number one_more told = record {
+        found = found;
+        whole = whole;
         part = part_done;
-        number = inl refl;
+        number = number;
         mark = inl refl;
         begun = begun_next fell.dones recorded_done;
         later = fell.later;
         front = front_next;
         ends = not_ended;
         counts = ap retrieved_in told ∙ mid_count fell.dones fell.mid fell.went;
-        one_more = λ is. absurd (omega (arith, is));
+        one_more = one_more;
         one_less = λ is. absurd (omega (arith, is));
       }
+
+      -- nothing came of it
+      pub tally_bare : {refused unsaved : Type 0} → new.lines ≡ fell.mid.lines → Tally p false fell.dones [] (fell.next ∷ []) fell.dones fell.dones new.lines refused unsaved
+      tally_bare = tally_next (ap (λ (l : List (ℕ × List ℕ)). found_by fell.dones ++ (l ++ [])) (nothing_found fell.next) ∙ append-nil (found_by fell.dones)) part_done (inl refl) (λ is. absurd (omega (arith, is)))
 
       -- the next task retrieved a text
       module _ (number : ℕ) (uid : List ℕ) (reply : WholeReply) (is : fell.next ≡ stores number uid) (answered : AllZip IsGood (retr number ∷ []) (reply ∷ [])) where
@@ -191,20 +197,7 @@ module _ (laws : Laws) (p : Ground) where
 
         -- its text isn't in the report
         pub tally_spare : {refused unsaved : Type 0} → new.lines ≡ fell.mid.lines → refused → Tally p false fell.dones (reply ∷ []) (fell.next ∷ []) full fell.dones new.lines refused unsaved
-        tally_spare told refuses = record {
-          found = ap (λ (t : Task). found_by fell.dones ++ (found_in t (reply ∷ []) ++ [])) is ∙ sym full_found;
-          whole = part_full;
-          part = part_done;
-          number = inr one_found;
-          mark = inl refl;
-          begun = begun_next fell.dones recorded_done;
-          later = fell.later;
-          front = front_next;
-          ends = not_ended;
-          counts = ap retrieved_in told ∙ mid_count fell.dones fell.mid fell.went;
-          one_more = λ one. refuses;
-          one_less = λ one. absurd (omega (arith, one));
-        }
+        tally_spare told refuses = tally_next (ap (λ (t : Task). found_by fell.dones ++ (found_in t (reply ∷ []) ++ [])) is ∙ sym full_found) part_full (inr one_found) (λ one. refuses) told
 
         -- its text is in the report, and the record is one of two
         tally_kept : {refused unsaved : Type 0} (noted : List Done) → Part (tasks_on p) noted → AllByRecursion (IsRecorded p noted) (ids_ahead (tasks_of fell.dones))

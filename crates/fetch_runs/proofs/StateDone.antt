@@ -1,5 +1,5 @@
 -- What tasks that were done retrieved, stored and recorded, compared with what was wanted.
-use Rattle.std.proofs.Common.{◌≡◌, ℕ, Bool, true, false, not, cond, List, [], ◌∷◌, ◌++◌, map, take, zip, length, length-append, ◌+◌, refl, sym, ap, subst, ◌∙◌}
+use Rattle.std.proofs.Common.{◌≡◌, ℕ, Bool, true, not, cond, List, [], ◌∷◌, ◌++◌, map, take, zip, length, length-append, refl, sym, ap, subst, ◌∙◌, arith, rules}
 use Rattle.std.specs.List.{filter, AllByRecursion, AllZip}
 use Rattle.std.proofs.lemmas.List.{take_at, take-map, length-map, map-append}
 use Rattle.std.proofs.lemmas.List.Concat.{flat_map-append}
@@ -9,16 +9,15 @@ use Rattle.mail_store.specs.Maildir.{Maildir, File}
 use Rattle.mail_store.specs.FileName.{is_held, mail_file}
 use Rattle.pop3_wire.specs.Reading.{WholeReply}
 use Rattle.pop3_client.specs.Turns.{IsGood, retr}
-use Rattle.pop3_client.specs.Texts.{body_text}
-use Rattle.fetch_session.specs.Task.{Task, says, skips, stores, rereads, deletes, Done, IsAnswered, turns_in, tasks_of, files_in, files_of, file_from, lines_in, lines_of, ids_in, ids_of, ids_ahead}
+use Rattle.fetch_session.specs.Task.{Task, stores, rereads, deletes, Done, IsAnswered, turns_in, tasks_of, files_in, files_of, lines_in, lines_of, ids_in, ids_of, ids_ahead}
 use Rattle.fetch_session.specs.Report.{is_taken, retrieved_in}
 use Rattle.run_law.specs.Steps.{file_for, is_unheld, Effect, ids_wanted}
 use Rattle.fetch_runs.proofs.Courses.{found_in, found_by, Course, found_of, begun_of}
 use Rattle.fetch_runs.proofs.StatePlan.{key, fetched_in, fetched, IsRight, deleted_in, deleted_by, Safe, tasks_ahead, PlansFetchWanted, fetched_ahead, right_ahead, safe_ahead}
-use Rattle.fetch_runs.proofs.TalkCommands.{all_front, one_reply, all_append}
+use Rattle.fetch_runs.proofs.TalkCommands.{all_front, all_weaker, one_reply, all_append}
 use Rattle.std.specs.Prelude.{◌&&◌, ◌||◌, bytes_eq}
 use Rattle.std.proofs.lemmas.Slice.Eq.{bytes_eq-Decides}
-use Rattle.std.proofs.Math.Bool.{or-true, or_comm}
+use Rattle.std.proofs.Math.Bool.{or-true}
 use Rattle.fetch_rules.specs.Record.{Row, is_of, has_row, is_delivered, with_delivered, marked, marked_all, new_ids, with_held, merged}
 use Rattle.mail_store.specs.Held.{flags_of}
 use Rattle.rc_file.specs.declared.settings.Settings.{Settings}
@@ -50,10 +49,7 @@ found_numbers other replies answered = refl
 pub numbers_by : (dones : List Done) → AllByRecursion IsAnswered dones → map number_found (found_by dones) ≡ map (λ (p : ℕ × List ℕ). p.0) (fetched (tasks_of dones))
 numbers_by [] answered = refl
 numbers_by (d ∷ dones) answered =
-    map-append number_found (found_in d.task d.replies) (found_by dones)
-    ∙ ap (λ l. l ++ map number_found (found_by dones)) (found_numbers d.task d.replies answered.0)
-    ∙ ap (λ l. map (λ (p : ℕ × List ℕ). p.0) (fetched_in d.task) ++ l) (numbers_by dones answered.1)
-    ∙ sym (map-append (λ (p : ℕ × List ℕ). p.0) (fetched_in d.task) (fetched (tasks_of dones)))
+    simp (map-append, found_numbers d.task d.replies answered.0, numbers_by dones answered.1)
 
 -- ---- files
 
@@ -73,33 +69,15 @@ files_by account maildir items (d ∷ dones) answered right = by d.task d.replie
         → files_of account dones ≡ map (file_at account) (filter (is_free account maildir) (zip (fetched (tasks_of dones)) (texts_by dones)))
         → files_in account task replies ++ files_of account dones
         ≡ map (file_at account) (filter (is_free account maildir) (zip (fetched_in task ++ fetched (tasks_of dones)) (map text_found (found_in task replies ++ found_by dones))))
-    by (stores number uid) [] is right ih = absurd is
-    by (stores number uid) (reply ∷ []) is right ih =
-        let later = filter (is_free account maildir) (zip (fetched (tasks_of dones)) (texts_by dones)) in
-        let this : (ℕ × List ℕ) × List ℕ = ((number, uid), body_text reply.body) in
-        ap (λ l. file_from account uid reply ∷ l) ih
-        ∙ ap (λ (held : Bool). map (file_at account) (cond (not held) (this ∷ later) later)) (sym right.0)
-    by (stores number uid) (reply ∷ other ∷ more) is right ih = absurd is.1
-    by (rereads number uid) [] is right ih = absurd is
-    by (rereads number uid) (reply ∷ []) is right ih =
-        let later = filter (is_free account maildir) (zip (fetched (tasks_of dones)) (texts_by dones)) in
-        let this : (ℕ × List ℕ) × List ℕ = ((number, uid), body_text reply.body) in
-        ih ∙ ap (λ (held : Bool). map (file_at account) (cond (not held) (this ∷ later) later)) (sym right.0)
-    by (rereads number uid) (reply ∷ other ∷ more) is right ih = absurd is.1
-    by (says turn) replies is right ih = ih
-    by (skips number size) replies is right ih = ih
-    by (deletes number) replies is right ih = ih
+    by (stores number uid) (reply ∷ []) is right ih = grind (arith, ih, right.0)
+    by (rereads number uid) (reply ∷ []) is right ih = grind (arith, ih, right.0)
+    by task replies is right ih = search rules
 
 by_messages : (account : List ℕ) (maildir : Maildir) (messages : List (ℕ × Item)) (texts : List (List ℕ))
     → map (file_at account) (filter (is_free account maildir) (zip (map key messages) texts)) ≡ map (file_for account) (filter (is_unheld account maildir) (zip messages texts))
 by_messages account maildir [] texts = refl
 by_messages account maildir (q ∷ qs) [] = refl
-by_messages account maildir (q ∷ qs) (text ∷ texts) = by (is_held account maildir q.1.uid) _ _ (by_messages account maildir qs texts)
-  where
-    by : (held : Bool) (keys : List ((ℕ × List ℕ) × List ℕ)) (pairs : List ((ℕ × Item) × List ℕ)) → map (file_at account) keys ≡ map (file_for account) pairs
-        → map (file_at account) (cond (not held) ((key q, text) ∷ keys) keys) ≡ map (file_for account) (cond (not held) ((q, text) ∷ pairs) pairs)
-    by true keys pairs ih = ih
-    by false keys pairs ih = ap (λ l. mail_file account q.1.uid text ∷ l) ih
+by_messages account maildir (q ∷ qs) (text ∷ texts) = grind (arith, by_messages account maildir qs texts)
 
 -- ---- a plan that fetches what is wanted, as far as it was done
 
@@ -153,36 +131,26 @@ counted_in other replies answered = refl
 pub counted_by : (dones : List Done) → AllByRecursion IsAnswered dones → retrieved_in (lines_of dones) ≡ length (found_by dones)
 counted_by [] answered = refl
 counted_by (d ∷ dones) answered =
-    sum_by-append (λ line. cond (is_taken line) 1 0) (lines_in d.task d.replies) (lines_of dones)
-    ∙ ap (λ (n : ℕ). n + retrieved_in (lines_of dones)) (counted_in d.task d.replies answered.0)
-    ∙ ap (λ (n : ℕ). length (found_in d.task d.replies) + n) (counted_by dones answered.1)
-    ∙ sym (length-append (found_in d.task d.replies) (found_by dones))
+    let first = counted_in d.task d.replies answered.0 in
+    let later = counted_by dones answered.1 in
+    omega (arith, first, later, sum_by-append (λ line. cond (is_taken line) 1 0) (lines_in d.task d.replies) (lines_of dones), length-append (found_in d.task d.replies) (found_by dones))
 
--- ---- the laws of the crates below that are used
-
-abbrev pub HeldIsDelivered : Type 0
-HeldIsDelivered = (rows : List Row) (listing : List Item) (held : List Bool) (now : ℕ) (uid : List ℕ)
-    → is_delivered (merged rows listing held now) uid ≡ is_delivered rows uid || is_flagged listing held uid
-
-abbrev pub ListedHasRow : Type 0
-ListedHasRow = (rows : List Row) (listing : List Item) (held : List Bool) (now : ℕ) (uid : List ℕ)
-    → has_row (merged rows listing held now) uid ≡ has_row rows uid || has_item listing uid
-
-abbrev pub MarkedIsDelivered : Type 0
-MarkedIsDelivered = (rows : List Row) (uid other : List ℕ) → is_delivered (marked rows uid) other ≡ is_delivered rows other || (has_row rows other && bytes_eq uid other)
-
-abbrev pub MarkedKeepsRows : Type 0
-MarkedKeepsRows = (rows : List Row) (uid other : List ℕ) → has_row (marked rows uid) other ≡ has_row rows other
-
-abbrev pub FlagsTell : Type 0
-FlagsTell = (account : List ℕ) (maildir : Maildir) (items : List Item) (uid : List ℕ)
-    → is_flagged items (flags_of account maildir items) uid ≡ (has_item items uid && is_held account maildir uid)
+-- the laws of the crates below that are used
+pub record Laws : Type 0 where
+  pub plans : PlansFetchWanted
+  pub held : (rows : List Row) (listing : List Item) (held : List Bool) (now : ℕ) (uid : List ℕ) → is_delivered (merged rows listing held now) uid ≡ is_delivered rows uid || is_flagged listing held uid
+  pub listed : (rows : List Row) (listing : List Item) (held : List Bool) (now : ℕ) (uid : List ℕ) → has_row (merged rows listing held now) uid ≡ has_row rows uid || has_item listing uid
+  pub marks : (rows : List Row) (uid other : List ℕ) → is_delivered (marked rows uid) other ≡ is_delivered rows other || (has_row rows other && bytes_eq uid other)
+  pub rows : (rows : List Row) (uid other : List ℕ) → has_row (marked rows uid) other ≡ has_row rows other
+  pub flags : (account : List ℕ) (maildir : Maildir) (items : List Item) (uid : List ℕ) → is_flagged items (flags_of account maildir items) uid ≡ (has_item items uid && is_held account maildir uid)
+  pub one : OneRecord
+  pub steady : SteadyFilesKeep
+  pub unsaved : UnsavedFilesKeep
 
 -- ---- marks that change nothing
 
 or_swap : (d a b : Bool) → ((d || a) || b) ≡ ((d || b) || a)
-or_swap true a b = refl
-or_swap false a b = or_comm a b
+or_swap d a b = grind arith
 
 marks_swap : (rows : List Row) (x y : List ℕ) → marked (marked rows x) y ≡ marked (marked rows y) x
 marks_swap [] x y = refl
@@ -195,9 +163,7 @@ abbrev IsSettled : List ℕ → Row → Type 0
 IsSettled uid row = is_of uid row ≡ true → row.delivered ≡ true
 
 or_same : (d e : Bool) → (e ≡ true → d ≡ true) → (d || e) ≡ d
-or_same true e is = refl
-or_same false true is = sym (is refl)
-or_same false false is = refl
+or_same d e is = grind arith
 
 settled_stays : (rows : List Row) (uid : List ℕ) → AllByRecursion (IsSettled uid) rows → marked rows uid ≡ rows
 settled_stays [] uid settled = refl
@@ -218,9 +184,9 @@ settled_new test uid now [] is = tt
 settled_new test uid now (id ∷ ids) is = (λ same. subst (λ (other : List ℕ). test other ≡ true) ((bytes_eq-Decides uid id).0 same) is, settled_new test uid now ids is)
 
 -- after the merge a mark of an id that is listed and held changes nothing
-pub held_settled : FlagsTell → (account : List ℕ) (maildir : Maildir) (items : List Item) (now : ℕ) (rows : List Row) (uid : List ℕ)
+pub held_settled : Laws → (account : List ℕ) (maildir : Maildir) (items : List Item) (now : ℕ) (rows : List Row) (uid : List ℕ)
     → has_item items uid ≡ true → is_held account maildir uid ≡ true → marked (merged rows items (flags_of account maildir items) now) uid ≡ merged rows items (flags_of account maildir items) now
-held_settled law account maildir items now rows uid listed held =
+held_settled laws account maildir items now rows uid listed held =
     settled_stays (merged rows items flags now) uid
     (all_append (IsSettled uid) (with_held items flags rows) (map (λ (id : List ℕ). let row : Row = record { uid = id; first_seen = now; delivered = is_flagged items flags id } in row) (new_ids rows items))
     (settled_held (is_flagged items flags) uid rows flagged) (settled_new (is_flagged items flags) uid now (new_ids rows items) flagged))
@@ -229,7 +195,7 @@ held_settled law account maildir items now rows uid listed held =
     flags = flags_of account maildir items
 
     flagged : is_flagged items (flags_of account maildir items) uid ≡ true
-    flagged = law account maildir items uid ∙ ap (λ b. b && is_held account maildir uid) listed ∙ held
+    flagged = laws.flags account maildir items uid ∙ ap (λ b. b && is_held account maildir uid) listed ∙ held
 
 -- so marking what was stored is marking all that was fetched
 pub marks_by : (account : List ℕ) (maildir : Maildir) (items : List Item) (dones : List Done) (rows : List Row)
@@ -252,47 +218,44 @@ marks_by account maildir items (d ∷ dones) rows settled right = by d.task righ
 
 -- ---- what is recorded as delivered
 
-pub still_delivered : MarkedIsDelivered → (rows : List Row) (ids : List (List ℕ)) (uid : List ℕ) → is_delivered rows uid ≡ true → is_delivered (marked_all rows ids) uid ≡ true
-still_delivered law rows [] uid is = is
-still_delivered law rows (id ∷ ids) uid is =
-    still_delivered law (marked rows id) ids uid (law rows id uid ∙ ap (λ b. b || (has_row rows uid && bytes_eq id uid)) is)
+pub still_delivered : Laws → (rows : List Row) (ids : List (List ℕ)) (uid : List ℕ) → is_delivered rows uid ≡ true → is_delivered (marked_all rows ids) uid ≡ true
+still_delivered laws rows [] uid is = is
+still_delivered laws rows (id ∷ ids) uid is =
+    still_delivered laws (marked rows id) ids uid (laws.marks rows id uid ∙ ap (λ b. b || (has_row rows uid && bytes_eq id uid)) is)
 
-pub marked_delivered : MarkedIsDelivered → MarkedKeepsRows → (rows : List Row) (ids : List (List ℕ)) → AllByRecursion (λ (uid : List ℕ). has_row rows uid ≡ true) ids
+pub marked_delivered : Laws → (rows : List Row) (ids : List (List ℕ)) → AllByRecursion (λ (uid : List ℕ). has_row rows uid ≡ true) ids
     → AllByRecursion (λ (uid : List ℕ). is_delivered (marked_all rows ids) uid ≡ true) ids
-marked_delivered law keeps rows [] all = tt
-marked_delivered law keeps rows (id ∷ ids) all = (
-  still_delivered law (marked rows id) ids id
-      (law rows id id ∙ ap (λ b. is_delivered rows id || (b && bytes_eq id id)) all.0 ∙ ap (λ b. is_delivered rows id || b) ((bytes_eq-Decides id id).1 refl) ∙ or-true (is_delivered rows id)),
-  marked_delivered law keeps (marked rows id) ids (rows_stay ids all.1),
+marked_delivered laws rows [] all = tt
+marked_delivered laws rows (id ∷ ids) all = (
+  still_delivered laws (marked rows id) ids id
+      (laws.marks rows id id ∙ ap (λ b. is_delivered rows id || (b && bytes_eq id id)) all.0 ∙ ap (λ b. is_delivered rows id || b) ((bytes_eq-Decides id id).1 refl) ∙ or-true (is_delivered rows id)),
+  marked_delivered laws (marked rows id) ids
+      (all_weaker (λ (uid : List ℕ). has_row rows uid ≡ true) (λ (uid : List ℕ). has_row (marked rows id) uid ≡ true) ids (λ other has. laws.rows rows id other ∙ has) all.1),
 )
-  where
-    rows_stay : (others : List (List ℕ)) → AllByRecursion (λ (uid : List ℕ). has_row rows uid ≡ true) others → AllByRecursion (λ (uid : List ℕ). has_row (marked rows id) uid ≡ true) others
-    rows_stay [] all = tt
-    rows_stay (other ∷ others) all = (keeps rows id other ∙ all.0, rows_stay others all.1)
 
 pub ids_are : (dones : List Done) → ids_of dones ≡ ids_ahead (tasks_of dones)
 ids_are [] = refl
 ids_are (d ∷ dones) = ap (λ l. ids_in d.task ++ l) (ids_are dones)
 
 -- each stored id has a row after the merge
-pub stored_has_row : ListedHasRow → (account : List ℕ) (maildir : Maildir) (items : List Item) (now : ℕ) (rows : List Row) (held : List Bool) (tasks : List Task)
+pub stored_has_row : Laws → (account : List ℕ) (maildir : Maildir) (items : List Item) (now : ℕ) (rows : List Row) (held : List Bool) (tasks : List Task)
     → AllByRecursion (IsRight account maildir items) tasks → AllByRecursion (λ (uid : List ℕ). has_row (merged rows items held now) uid ≡ true) (ids_ahead tasks)
-stored_has_row law account maildir items now rows held [] right = tt
-stored_has_row law account maildir items now rows held (task ∷ tasks) right = by task right.0 (stored_has_row law account maildir items now rows held tasks right.1)
+stored_has_row laws account maildir items now rows held [] right = tt
+stored_has_row laws account maildir items now rows held (task ∷ tasks) right = by task right.0 (stored_has_row laws account maildir items now rows held tasks right.1)
   where
     HasRow : List ℕ → Type 0
     HasRow uid = has_row (merged rows items held now) uid ≡ true
 
     by : (task : Task) → IsRight account maildir items task → AllByRecursion HasRow (ids_ahead tasks) → AllByRecursion HasRow (ids_in task ++ ids_ahead tasks)
-    by (stores number uid) is ih = (law rows items held now uid ∙ ap (λ b. has_row rows uid || b) is.1 ∙ or-true (has_row rows uid), ih)
+    by (stores number uid) is ih = (laws.listed rows items held now uid ∙ ap (λ b. has_row rows uid || b) is.1 ∙ or-true (has_row rows uid), ih)
     by other is ih = ih
 
 -- what is listed and held is recorded as delivered after the merge
-pub held_delivered : HeldIsDelivered → FlagsTell → (account : List ℕ) (maildir : Maildir) (items : List Item) (now : ℕ) (rows : List Row) (uid : List ℕ)
+pub held_delivered : Laws → (account : List ℕ) (maildir : Maildir) (items : List Item) (now : ℕ) (rows : List Row) (uid : List ℕ)
     → has_item items uid ≡ true → is_held account maildir uid ≡ true → is_delivered (merged rows items (flags_of account maildir items) now) uid ≡ true
-held_delivered law tell account maildir items now rows uid listed held =
-    law rows items (flags_of account maildir items) now uid
-    ∙ ap (λ b. is_delivered rows uid || b) (tell account maildir items uid ∙ ap (λ b. b && is_held account maildir uid) listed ∙ held)
+held_delivered laws account maildir items now rows uid listed held =
+    laws.held rows items (flags_of account maildir items) now uid
+    ∙ ap (λ b. is_delivered rows uid || b) (laws.flags account maildir items uid ∙ ap (λ b. b && is_held account maildir uid) listed ∙ held)
     ∙ or-true (is_delivered rows uid)
 
 -- ---- deletions
@@ -313,18 +276,6 @@ safe_done D items (deletes number ∷ tasks) later safe all = all_append D (dele
 safe_done D items (other ∷ tasks) later safe all = safe_done D items tasks later safe all
 
 -- ---- What a session did, as the law over runs takes it, from the tasks that it completed.
-
--- the laws of the crates below that are used
-pub record Laws : Type 0 where
-  pub plans : PlansFetchWanted
-  pub held : HeldIsDelivered
-  pub listed : ListedHasRow
-  pub marks : MarkedIsDelivered
-  pub rows : MarkedKeepsRows
-  pub flags : FlagsTell
-  pub one : OneRecord
-  pub steady : SteadyFilesKeep
-  pub unsaved : UnsavedFilesKeep
 
 -- the parts of a session that the law over runs uses
 abbrev pub effect_of : ℕ → Bool → Course → Effect
@@ -379,8 +330,8 @@ ids_of_keys (q ∷ qs) = ap (λ l. q.1.uid ∷ l) (ids_of_keys qs)
 module _ (laws : Laws) (p : Ground) where
   pub safe_tasks : (dones : List Done) → Safe (IsRecorded p dones) p.items (tasks_on p)
   safe_tasks dones =
-      safe_ahead (IsRecorded p dones) p.settings p.account p.items p.now p.maildir (rows_on p) (λ uid known. still_delivered laws.marks (rows_on p) (ids_of dones) uid known)
-      (λ uid listed held. still_delivered laws.marks (rows_on p) (ids_of dones) uid (held_delivered laws.held laws.flags p.account p.maildir p.items p.now p.rows uid listed held))
+      safe_ahead (IsRecorded p dones) p.settings p.account p.items p.now p.maildir (rows_on p) (λ uid known. still_delivered laws (rows_on p) (ids_of dones) uid known)
+      (λ uid listed held. still_delivered laws (rows_on p) (ids_of dones) uid (held_delivered laws p.account p.maildir p.items p.now p.rows uid listed held))
 
   pub right_front : (front rest : List Task) → tasks_on p ≡ front ++ rest → AllByRecursion (IsRightOn p) front
   right_front front rest split = all_front (IsRightOn p) front rest (subst (AllByRecursion (IsRightOn p)) split (right_ahead p.settings p.account p.items p.now p.maildir (rows_on p)))
@@ -391,8 +342,8 @@ module _ (laws : Laws) (p : Ground) where
   pub recorded_all : (dones : List Done) → Part (tasks_on p) dones → AllByRecursion (IsRecorded p dones) (ids_ahead (tasks_of dones))
   recorded_all dones part =
       subst (λ (ids : List (List ℕ)). AllByRecursion (λ (uid : List ℕ). is_delivered (marked_all (rows_on p) ids) uid ≡ true) (ids_ahead (tasks_of dones))) (sym (ids_are dones))
-      (marked_delivered laws.marks laws.rows (rows_on p) (ids_ahead (tasks_of dones))
-      (stored_has_row laws.listed p.account p.maildir p.items p.now p.rows (flags_of p.account p.maildir p.items) (tasks_of dones) (right_part dones part)))
+      (marked_delivered laws (rows_on p) (ids_ahead (tasks_of dones))
+      (stored_has_row laws p.account p.maildir p.items p.now p.rows (flags_of p.account p.maildir p.items) (tasks_of dones) (right_part dones part)))
 
   pub wanted_are : fetched (tasks_on p) ≡ map key (messages_on p)
   wanted_are = fetched_ahead laws.plans p.settings p.account p.items p.now p.maildir (rows_on p)
@@ -400,7 +351,7 @@ module _ (laws : Laws) (p : Ground) where
   -- the record is the merged one, with the first of the wanted messages marked
   pub records_part : (dones : List Done) → Part (tasks_on p) dones → rows_after p dones ≡ marked_all (rows_on p) (ids_wanted (take (length (found_by dones)) (messages_on p)))
   records_part dones part =
-      marks_by p.account p.maildir p.items dones (rows_on p) (held_settled laws.flags p.account p.maildir p.items p.now p.rows) (right_part dones part)
+      marks_by p.account p.maildir p.items dones (rows_on p) (held_settled laws p.account p.maildir p.items p.now p.rows) (right_part dones part)
       ∙ ap (λ (l : List (ℕ × List ℕ)). marked_all (rows_on p) (map (λ (p : ℕ × List ℕ). p.1) l)) (fetched_first (tasks_on p) part.rest dones (messages_on p) wanted_are part.split part.answered)
       ∙ ap (marked_all (rows_on p)) (ids_of_keys (take (length (found_by dones)) (messages_on p)))
 

@@ -1,5 +1,5 @@
 -- What a session leaves of its account with a Maildir.
-use Rattle.std.proofs.Common.{◌≡◌, ◌+◌, ◌⊎◌, inl, inr, ℕ, Bool, false, List, [], ◌∷◌, ◌++◌, map, take, zip, length, Option, None, Result, Ok, Err, refl, sym, ap, subst, ◌∙◌, append_assoc}
+use Rattle.std.proofs.Common.{◌≡◌, ◌+◌, ◌⊎◌, inl, inr, ℕ, Bool, false, List, [], ◌∷◌, ◌++◌, map, take, zip, length, Option, None, Result, Ok, Err, refl, sym, ap, subst, ◌∙◌, append_assoc, arith}
 use Rattle.std.specs.List.{filter, AllByRecursion, AllZip}
 use Rattle.std.proofs.lemmas.List.{append-nil}
 use Rattle.std.proofs.lemmas.List.Concat.{flat_map-append}
@@ -15,7 +15,7 @@ use Rattle.pop3_wire.specs.Reading.{WholeReply}
 use Rattle.pop3_client.specs.Turns.{IsGood, retr}
 use Rattle.fetch_session.specs.declared.fault.Cut.{Cut}
 use Rattle.pop3_client.specs.declared.fault.Fault.{Fault}
-use Rattle.pop3_client.specs.declared.fault.Fault.TheVariants.{BadSeen, NoMemory, SeenRefused, StoreRefused}
+use Rattle.pop3_client.specs.declared.fault.Fault.TheVariants.{StoreRefused}
 use Rattle.pop3_client.specs.declared.fault.Why.TheVariants as why
 use Rattle.fetch_session.specs.declared.report.ReportLine.{ReportLine}
 use Rattle.fetch_session.specs.Record.{Keeps, KeepsRows}
@@ -192,12 +192,8 @@ abbrev SameFiles : Maildir → Maildir → Type 0
 SameFiles old new = (new.in_new ≡ old.in_new) × (new.in_cur ≡ old.in_cur)
 
 unready_files : (fault : Fault) (old : Maildir) (file : Stored) (new : Maildir) (file' : Stored) → UnreadyCause fault old file new file' → SameFiles old new
-unready_files SeenRefused old file new file' is = subst (SameFiles old) (sym is.1) (refl, refl)
-unready_files (BadSeen line) old file new file' is = subst (SameFiles old) (sym is.1) (refl, refl)
-unready_files (StoreRefused why.Missing) old file new file' is = subst (SameFiles old) (sym is.1) (refl, refl)
 unready_files (StoreRefused why.Refused) old file new file' is = subst (SameFiles old) (sym is) (refl, refl)
-unready_files NoMemory old file new file' is = subst (SameFiles old) (sym is) (refl, refl)
-unready_files other old file new file' never = absurd never
+unready_files fault old file new file' is = grind arith
 
 module _ (laws : Laws) (p : Ground) (place : Place) (file : Stored) (lines : List ReportLine) (keeps : KeepsRows file.content p.rows) (no_lines : lines ≡ []) where
   -- the record that was read has these rows

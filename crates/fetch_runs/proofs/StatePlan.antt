@@ -1,8 +1,9 @@
 -- The tasks of a plan: what they fetch, whether it is held, and what comes before a deletion.
-use Rattle.std.proofs.Common.{◌≡◌, ◌⊎◌, inl, inr, ◌+◌, ◌-◌, ℕ, Bool, true, false, cond, List, [], ◌∷◌, ◌++◌, map, zip, Option, None, Some, refl, sym, ap, subst, ◌∙◌, append_assoc, length, length-append, arith}
+use Rattle.std.proofs.Common.{◌≡◌, ◌⊎◌, inl, inr, ◌+◌, ◌-◌, ℕ, Bool, true, false, cond, List, [], ◌∷◌, ◌++◌, map, zip, Option, None, Some, refl, sym, ap, subst, ◌∙◌, append_assoc, length, length-append, arith, rules}
 use Rattle.std.specs.Prelude.{◌&&◌, ◌||◌, ◌<◌, bytes_eq, slice_get}
 use Rattle.std.specs.List.{flat_map, filter, AllByRecursion, enumerate_from}
-use Rattle.std.proofs.lemmas.Bool.{and_parts, or_cases, true≢false}
+use Rattle.std.proofs.lemmas.Bool.{true≢false}
+use Rattle.std.proofs.lemmas.List.{append-nil}
 use Rattle.std.proofs.lemmas.List.Concat.{flat_map-append}
 use Rattle.std.proofs.lemmas.Slice.Eq.{bytes_eq-Decides}
 use Rattle.std.proofs.Math.Bool.{or-true}
@@ -10,8 +11,7 @@ use Rattle.mail_terms.specs.Listing.{Item, has_item, numbered, is_first, is_last
 use Rattle.rc_file.specs.declared.settings.Settings.{Settings}
 use Rattle.fetch_rules.specs.Record.{Row, is_delivered}
 use Rattle.fetch_rules.specs.Wanted.{wanted}
-use Rattle.fetch_rules.specs.Due.{is_due}
-use Rattle.fetch_rules.specs.Plan.{has_number, seen_since, step_of, planned, retrieved}
+use Rattle.fetch_rules.specs.Plan.{step_of, planned, retrieved}
 use Rattle.fetch_rules.specs.declared.steps.Step.{Step}
 use Rattle.mail_store.specs.Maildir.{Maildir}
 use Rattle.mail_store.specs.FileName.{is_held}
@@ -96,26 +96,15 @@ tasks_are settings account items now maildir rows =
 -- ---- what is fetched
 
 fetched_by : (r h d : Bool) (n : ℕ) (uid : List ℕ) (size : ℕ) → fetched (fetching r h n uid size ++ deleting d n) ≡ cond r ((n, uid) ∷ []) []
-fetched_by true true true n uid size = refl
-fetched_by true true false n uid size = refl
-fetched_by true false true n uid size = refl
-fetched_by true false false n uid size = refl
-fetched_by false h true n uid size = refl
-fetched_by false h false n uid size = refl
+fetched_by r h d n uid size = grind arith
 
 fetched_plan : (f : ℕ × Item → Step) (held : List ℕ → Bool) → ((q : ℕ × Item) → (f q).number ≡ q.0) → (qs : List (ℕ × Item))
     → fetched (flat_map (tasks_at f held) qs) ≡ map key (map (λ (p : Step × (ℕ × Item)). p.1) (filter (λ (p : Step × (ℕ × Item)). p.0.retrieve) (zip (map f qs) qs)))
 fetched_plan f held same [] = refl
 fetched_plan f held same (q ∷ qs) =
-    flat_map-append fetched_in (tasks_at f held q) (flat_map (tasks_at f held) qs)
-    ∙ ap (λ l. l ++ fetched (flat_map (tasks_at f held) qs)) (fetched_by (f q).retrieve (held q.1.uid) (f q).delete (f q).number q.1.uid q.1.size)
-    ∙ ap (λ l. cond (f q).retrieve (((f q).number, q.1.uid) ∷ []) [] ++ l) (fetched_plan f held same qs)
-    ∙ by (f q).retrieve (f q).number (same q) _
-  where
-    by : (b : Bool) (n : ℕ) → n ≡ q.0 → (pairs : List (Step × (ℕ × Item)))
-        → cond b ((n, q.1.uid) ∷ []) [] ++ map key (map (λ (p : Step × (ℕ × Item)). p.1) pairs) ≡ map key (map (λ (p : Step × (ℕ × Item)). p.1) (cond b ((f q, q) ∷ pairs) pairs))
-    by true n is pairs = ap (λ (k : ℕ). (k, q.1.uid) ∷ map key (map (λ (p : Step × (ℕ × Item)). p.1) pairs)) is
-    by false n is pairs = refl
+    let number = same q in
+    let first = fetched_by (f q).retrieve (held q.1.uid) (f q).delete (f q).number q.1.uid q.1.size in
+    grind (arith, number, first, flat_map-append fetched_in (tasks_at f held q) (flat_map (tasks_at f held) qs), fetched_plan f held same qs)
 
 -- a plan fetches what is wanted
 abbrev pub PlansFetchWanted : Type 0
@@ -126,29 +115,22 @@ pub fetched_ahead : PlansFetchWanted → (settings : Settings) (account : List �
 fetched_ahead law settings account items now maildir rows =
     ap fetched (tasks_are settings account items now maildir rows)
     ∙ flat_map-append fetched_in messages (says quit ∷ [])
-    ∙ nothing_more (fetched messages)
+    ∙ append-nil (fetched messages)
     ∙ fetched_plan (step_of settings rows items now) (is_held account maildir) (λ q. refl) (numbered items)
     ∙ ap (map key) (law settings rows items now)
   where
     messages : List Task
     messages = flat_map (tasks_at (step_of settings rows items now) (is_held account maildir)) (numbered items)
 
-    nothing_more : (l : List (ℕ × List ℕ)) → l ++ [] ≡ l
-    nothing_more [] = refl
-    nothing_more (x ∷ xs) = ap (λ l. x ∷ l) (nothing_more xs)
-
 -- ---- what is held
 
 right_by : (account : List ℕ) (maildir : Maildir) (items : List Item) (r h d : Bool) (n : ℕ) (uid : List ℕ) (size : ℕ) → is_held account maildir uid ≡ h → has_item items uid ≡ true
     → (d ≡ true → IsRight account maildir items (deletes n)) → AllByRecursion (IsRight account maildir items) (fetching r h n uid size ++ deleting d n)
 right_by account maildir items true true true n uid size held listed at = ((held, listed), (at refl, tt))
-right_by account maildir items true true false n uid size held listed at = ((held, listed), tt)
 right_by account maildir items true false true n uid size held listed at = ((held, listed), (at refl, tt))
-right_by account maildir items true false false n uid size held listed at = ((held, listed), tt)
 right_by account maildir items false true true n uid size held listed at = (tt, (at refl, tt))
 right_by account maildir items false false true n uid size held listed at = (tt, (at refl, tt))
-right_by account maildir items false true false n uid size held listed at = (tt, tt)
-right_by account maildir items false false false n uid size held listed at = (tt, tt)
+right_by account maildir items r h d n uid size held listed at = search rules
 
 -- a message is at its number, which counts from 1, and is listed
 abbrev IsAt : List Item → ℕ × Item → Type 0
@@ -186,9 +168,7 @@ right_all account maildir items f same alone (q ∷ qs) at =
 
 -- a message is deleted only if no other has its id
 deleted_alone : (settings : Settings) (rows : List Row) (items : List Item) (now : ℕ) (q : ℕ × Item) → (step_of settings rows items now q).delete ≡ true → IsAlone items q
-deleted_alone settings rows items now q is =
-    let fetched = has_number (wanted settings rows items) q.0 in
-    (and_parts (is_due settings now (seen_since rows q.1.uid now) && (is_delivered rows q.1.uid || fetched)) (is_first items q && is_last items q) is).1
+deleted_alone settings rows items now q is = grind (arith, is)
 
 pub right_ahead : (settings : Settings) (account : List ℕ) (items : List Item) (now : ℕ) (maildir : Maildir) (rows : List Row)
     → AllByRecursion (IsRight account maildir items) (tasks_ahead settings account items now maildir rows)
@@ -203,15 +183,13 @@ safe_by : (D : List ℕ → Type 0) (items : List Item) (r h d : Bool) (n : ℕ)
     → (d ≡ true → (r ≡ true) ⊎ D uid) → (h ≡ true → D uid) → (D uid → AllByRecursion D (deleted_in items (deletes n))) → Safe D items later
     → Safe D items ((fetching r h n uid size ++ deleting d n) ++ later)
 safe_by D items true true true n uid size later due held at safe = (at (held refl), safe)
-safe_by D items true true false n uid size later due held at safe = safe
 safe_by D items true false true n uid size later due held at safe = λ stored. (at stored, safe)
-safe_by D items true false false n uid size later due held at safe = λ stored. safe
 safe_by D items false h true n uid size later due held at safe = (at (known (due refl)), safe)
   where
     known : (false ≡ true) ⊎ D uid → D uid
     known (inl never) = absurd (true≢false (sym never))
     known (inr is) = is
-safe_by D items false h false n uid size later due held at safe = safe
+safe_by D items r h d n uid size later due held at safe = search rules
 
 safe_all : (D : List ℕ → Type 0) (account : List ℕ) (maildir : Maildir) (items : List Item) (f : ℕ × Item → Step) → ((q : ℕ × Item) → (f q).number ≡ q.0)
     → ((q : ℕ × Item) → (f q).delete ≡ true → ((f q).retrieve ≡ true) ⊎ D q.1.uid) → ((uid : List ℕ) → has_item items uid ≡ true → is_held account maildir uid ≡ true → D uid)
@@ -227,16 +205,7 @@ safe_all D account maildir items f same due held (q ∷ qs) later at safe =
 -- a message is deleted only if it is known or fetched
 due_known : (settings : Settings) (rows : List Row) (items : List Item) (now : ℕ) (q : ℕ × Item) → (step_of settings rows items now q).delete ≡ true
     → ((step_of settings rows items now q).retrieve ≡ true) ⊎ (is_delivered rows q.1.uid ≡ true)
-due_known settings rows items now q is =
-    let due = is_due settings now (seen_since rows q.1.uid now) in
-    let known = is_delivered rows q.1.uid in
-    let fetched = has_number (wanted settings rows items) q.0 in
-    let front = and_parts (due && (known || fetched)) (is_first items q && is_last items q) is in
-    let which = and_parts due (known || fetched) front.0 in
-    elim (or_cases known fetched which.1) [
-      | inl delivered ↦ inr delivered
-      | inr taken ↦ inl taken
-    ]
+due_known settings rows items now q is = grind (arith, is)
 
 -- a plan is safe for what holds of each id that is recorded as delivered after the merge, or is held and listed
 pub safe_ahead : (D : List ℕ → Type 0) (settings : Settings) (account : List ℕ) (items : List Item) (now : ℕ) (maildir : Maildir) (rows : List Row)

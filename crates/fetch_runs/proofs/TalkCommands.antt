@@ -1,5 +1,5 @@
 -- The commands and the replies of a conversation, and the tasks of a plan as commands.
-use Rattle.std.proofs.Common.{◌≡◌, inl, inr, ◌⊎◌, ℕ, List, [], ◌∷◌, ◌++◌, true, None, Some, refl, sym, ap, subst, ◌∙◌, append_assoc, ◌<◌, ◌^◌, Bool, Option, ◌≤◌, ◌+◌, false, length, map, arith}
+use Rattle.std.proofs.Common.{◌≡◌, inl, inr, ◌⊎◌, ℕ, List, [], ◌∷◌, ◌++◌, true, None, Some, refl, sym, ap, subst, ◌∙◌, append_assoc, ◌<◌, ◌^◌, Bool, Option, ◌≤◌, ◌+◌, false, length, map, arith, rules}
 use Rattle.std.specs.List.{flat_map, AllByRecursion, AllZip, enumerate_from}
 use Rattle.std.proofs.lemmas.List.{append-nil}
 use Rattle.std.proofs.lemmas.List.Concat.{flat_map-append}
@@ -13,7 +13,7 @@ use Rattle.pop3_client.specs.Turns.{Turn, asking, retr, dele, quit, IsBody, IsGo
 use Rattle.run_law.specs.Sessions.{BeginsOne}
 use Rattle.fetch_runs.specs.Conversations.{SentBehind, Conversation}
 use Rattle.std.proofs.lemmas.Bool.{true≢false}
-use Rattle.pop3_wire.specs.declared.command.Command.TheVariants.{UidlAll, ListAll, Retr, Dele, Quit}
+use Rattle.pop3_wire.specs.declared.command.Command.TheVariants.{Retr, Dele, Quit}
 use Rattle.pop3_wire.specs.Body.{Body}
 use Rattle.pop3_client.specs.Texts.{body_text}
 use Rattle.run_law.specs.Readings.{AreGood, Retrieves, IsGood as IsRead}
@@ -121,49 +121,36 @@ pub record Commanded (done begun tail : List Turn) (sent : List ℕ) : Type 0 wh
   pub next_is : (next ≡ unsaid) ⊎ (next ≡ unended)
   pub begins : BeginsNext next asked.part
 
-spoken_behind : (first more next : List Command) (octets : List ℕ) → AllByRecursion (λ command. can_be_sent command ≡ true) first → AllByRecursion HasNumbers first → Spoken more next octets
-    → Spoken (first ++ more) next (octets_of first ++ octets)
-spoken_behind first more next octets sendable numbers (asked, begins) = (asked_behind first more octets sendable numbers asked, begins)
+spoken_behind : (turns : List Turn) (more next : List Command) (octets : List ℕ) → AllByRecursion CanBeSaid turns → Spoken more next octets → Spoken (commands_in turns ++ more) next (asking turns ++ octets)
+spoken_behind turns more next octets can (asked, begins) = subst (λ (l : List ℕ). Spoken (commands_in turns ++ more) next (l ++ octets)) (sym (octets_same turns))
+    (asked_behind (commands_in turns) more octets (sendable_in turns can) (numbers_in turns can) asked, begins)
+
+commanded_of : {done begun tail : List Turn} {sent : List ℕ} (ahead unsaid ends unended next : List Command) → commands_in begun ≡ ahead ++ unsaid → commands_in tail ≡ ends ++ unended → (next ≡ unsaid) ⊎ (next ≡ unended)
+    → Spoken (commands_in done ++ (ahead ++ ends)) next sent → Commanded done begun tail sent
+commanded_of ahead unsaid ends unended next of_begun of_tail next_is (asked, begins) = record {
+  ahead = ahead;
+  unsaid = unsaid;
+  ends = ends;
+  unended = unended;
+  of_begun = of_begun;
+  of_tail = of_tail;
+  asked = asked;
+  next = next;
+  next_is = next_is;
+  begins = begins;
+}
 
 commanded_by : FrontsAreAsked → (done begun tail : List Turn) (behind : List ℕ) → AllByRecursion CanBeSaid done → AllByRecursion CanBeSaid begun → AllByRecursion CanBeSaid tail
     → SentBehind begun tail behind → Commanded done begun tail (asking done ++ behind)
 commanded_by law done begun tail behind d b t (inl (later, front)) =
     let some = law (commands_in begun) behind later (sendable_in begun b) (numbers_in begun b) (sym (octets_same begun) ∙ front) in
-    let all : Spoken (commands_in done ++ (some.0 ++ [])) some.1 (asking done ++ behind) =
-    subst (λ (l : List ℕ). Spoken (commands_in done ++ (some.0 ++ [])) some.1 (l ++ behind)) (sym (octets_same done))
-    (spoken_behind (commands_in done) (some.0 ++ []) some.1 behind (sendable_in done d) (numbers_in done d)
-    (subst (λ (cs : List Command). Spoken cs some.1 behind) (sym (append-nil some.0)) (some.3, some.4))) in
-    record {
-      ahead = some.0;
-      unsaid = some.1;
-      ends = [];
-      unended = commands_in tail;
-      of_begun = some.2;
-      of_tail = refl;
-      asked = all.0;
-      next = some.1;
-      next_is = inl refl;
-      begins = all.1;
-    }
+    commanded_of some.0 some.1 [] (commands_in tail) some.1 some.2 refl (inl refl)
+    (spoken_behind done (some.0 ++ []) some.1 behind d (subst (λ (cs : List Command). Spoken cs some.1 behind) (sym (append-nil some.0)) (some.3, some.4)))
 commanded_by law done begun tail behind d b t (inr (part, later, front, whole)) =
     let some = law (commands_in tail) part later (sendable_in tail t) (numbers_in tail t) (sym (octets_same tail) ∙ front) in
-    let all : Spoken (commands_in done ++ (commands_in begun ++ some.0)) some.1 (asking done ++ behind) =
-    subst (λ (l : List ℕ). Spoken (commands_in done ++ (commands_in begun ++ some.0)) some.1 (l ++ behind)) (sym (octets_same done))
-    (spoken_behind (commands_in done) (commands_in begun ++ some.0) some.1 behind (sendable_in done d) (numbers_in done d)
-    (subst (λ (l : List ℕ). Spoken (commands_in begun ++ some.0) some.1 l) (sym (whole ∙ ap (λ (l : List ℕ). l ++ part) (octets_same begun)))
-    (spoken_behind (commands_in begun) some.0 some.1 part (sendable_in begun b) (numbers_in begun b) (some.3, some.4)))) in
-    record {
-      ahead = commands_in begun;
-      unsaid = [];
-      ends = some.0;
-      unended = some.1;
-      of_begun = sym (append-nil (commands_in begun));
-      of_tail = some.2;
-      asked = all.0;
-      next = some.1;
-      next_is = inr refl;
-      begins = all.1;
-    }
+    commanded_of (commands_in begun) [] some.0 some.1 some.1 (sym (append-nil (commands_in begun))) some.2 (inr refl)
+    (spoken_behind done (commands_in begun ++ some.0) some.1 behind d
+    (subst (λ (l : List ℕ). Spoken (commands_in begun ++ some.0) some.1 l) (sym whole) (spoken_behind begun some.0 some.1 part b (some.3, some.4))))
 
 pub commanded : FrontsAreAsked → (done : List Turn) (replies : List WholeReply) (begun tail : List Turn) (sent got : List ℕ) → AllByRecursion CanBeSaid done
     → AllByRecursion CanBeSaid begun → AllByRecursion CanBeSaid tail → Conversation done replies begun tail sent got → Commanded done begun tail sent
@@ -179,10 +166,8 @@ IsCommand (Some command) = Unit {0}
 
 body_read : (command : Command) (body : Option (List (List ℕ))) → IsBody (Some command) body → IsBodyIf (has_body command) body
 body_read command None none = subst (λ (has : Bool). IsBodyIf has None) (sym none) tt
-body_read UidlAll (Some lines) is = is.0
-body_read ListAll (Some lines) is = is.0
 body_read (Retr number) (Some lines) is = is.0
-body_read other (Some lines) is = absurd is.1
+body_read other (Some lines) is = search rules
 
 pub reply_read : (command : Command) (reply : WholeReply) → IsGood (Some command) reply → IsRead command reply
 reply_read command reply good = record { rest = good.rest; line = good.line; positive = good.positive; body = body_read command reply.body good.body }
@@ -190,10 +175,8 @@ reply_read command reply good = record { rest = good.rest; line = good.line; pos
 -- the replies to turns that send commands are whole and positive ones to these commands
 pub replies_read : (turns : List Turn) (replies : List WholeReply) (more : List Command) → AllByRecursion IsCommand turns → AllZip IsGood turns replies → AreGood (commands_in turns ++ more) replies
 replies_read [] [] more all good = tt
-replies_read [] (reply ∷ replies) more all good = absurd good
-replies_read (turn ∷ turns) [] more all good = absurd good
-replies_read (None ∷ turns) (reply ∷ replies) more all good = absurd all.0
 replies_read (Some command ∷ turns) (reply ∷ replies) more all good = (reply_read command reply good.0, replies_read turns replies more all.1 good.1)
+replies_read turns replies more all good = search rules
 
 -- ---- texts
 
@@ -214,9 +197,8 @@ IsPlain (deletes number) = number < 2 ^ 32
 
 -- the replies to one turn are one reply
 pub one_reply : (P : List WholeReply → Type 0) (turn : Turn) (replies : List WholeReply) → AllZip IsGood (turn ∷ []) replies → ((reply : WholeReply) → IsGood turn reply → P (reply ∷ [])) → P replies
-one_reply P turn [] good of_one = absurd good
 one_reply P turn (reply ∷ []) good of_one = of_one reply good.0
-one_reply P turn (reply ∷ other ∷ more) good of_one = absurd good.1
+one_reply P turn replies good of_one = search rules
 
 -- what one task's replies retrieve, before others
 read_first : (task : Task) (replies others : List WholeReply) (commands : List Command) (found : List (ℕ × List ℕ)) → IsPlain task → AllZip IsGood (turns_in task) replies
@@ -266,8 +248,7 @@ IsSmall step = step.number < 2 ^ 32
 
 plain_fetching : (retrieve held : Bool) (number size : ℕ) (uid : List ℕ) → number < 2 ^ 32 → AllByRecursion IsPlain (fetching retrieve held number uid size)
 plain_fetching true true number size uid small = (small, tt)
-plain_fetching true false number size uid small = (small, tt)
-plain_fetching false held number size uid small = (tt, tt)
+plain_fetching retrieve held number size uid small = search rules
 
 plain_deleting : (delete : Bool) (number : ℕ) → number < 2 ^ 32 → AllByRecursion IsPlain (deleting delete number)
 plain_deleting true number small = (small, tt)

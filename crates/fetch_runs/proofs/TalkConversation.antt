@@ -208,12 +208,10 @@ module _ (joining : TurnsJoin) (paced : ConversationsArePaced) where
 step_turns : (retrieve held delete : Bool) (number size : ℕ) (uid : List ℕ) (tasks last : List Task) (commands ends : List Command)
     → flat_map turns_in (tasks ++ last) ≡ map Some (commands ++ ends)
     → flat_map turns_in (((fetching retrieve held number uid size ++ deleting delete number) ++ tasks) ++ last) ≡ map Some (((asked_if retrieve (Retr number) ++ asked_if delete (Dele number)) ++ commands) ++ ends)
-step_turns true true true number size uid tasks last commands ends later = ap (λ (ts : List Turn). Some (Retr number) ∷ Some (Dele number) ∷ ts) later
-step_turns true true false number size uid tasks last commands ends later = ap (λ (ts : List Turn). Some (Retr number) ∷ ts) later
-step_turns true false true number size uid tasks last commands ends later = ap (λ (ts : List Turn). Some (Retr number) ∷ Some (Dele number) ∷ ts) later
-step_turns true false false number size uid tasks last commands ends later = ap (λ (ts : List Turn). Some (Retr number) ∷ ts) later
-step_turns false held true number size uid tasks last commands ends later = ap (λ (ts : List Turn). Some (Dele number) ∷ ts) later
-step_turns false held false number size uid tasks last commands ends later = later
+step_turns true true true number size uid tasks last commands ends later = cc
+step_turns true false true number size uid tasks last commands ends later = cc
+step_turns false held true number size uid tasks last commands ends later = cc
+step_turns retrieve held delete number size uid tasks last commands ends later = cc
 
 plan_same : (held : Item → Bool) (f : ℕ × Item → Step) (n : ℕ) (items : List Item)
     → flat_map turns_in (tasks_planned (map f (enumerate_from n items)) items (map held items) ++ says quit ∷ [])
@@ -245,10 +243,9 @@ taken_first (deletes number) replies is good = refl
 pub taken_same : (dones : List Done) → AllByRecursion IsPlain (tasks_of dones) → AllByRecursion IsAnswered dones → count_by is_taken (lines_of dones) ≡ retrieved_by (turns_of dones)
 taken_same [] plain each = refl
 taken_same (d ∷ dones) plain each =
-    count_on is_taken (lines_in d.task d.replies) (lines_of dones)
-    ∙ ap (λ (n : ℕ). n + count_by is_taken (lines_of dones)) (taken_first d.task d.replies plain.0 each.0)
-    ∙ ap (λ (n : ℕ). retrieved_by (turns_in d.task) + n) (taken_same dones plain.1 each.1)
-    ∙ sym (count_on is_retrieval (turns_in d.task) (turns_of dones))
+    let first = taken_first d.task d.replies plain.0 each.0 in
+    let later = taken_same dones plain.1 each.1 in
+    omega (arith, first, later, count_on is_taken (lines_in d.task d.replies) (lines_of dones), count_on is_retrieval (turns_in d.task) (turns_of dones))
 
 -- ---- What a session said: as a plan has it if its listing was joined, and else the opening alone.
 
@@ -409,16 +406,16 @@ follows_none law settings valid turns kind link link' it = record {
 -- ---- Each session is one conversation, which the law over runs takes.
 
 -- what the law over runs takes of what was sent and read
-abbrev pub Tells : Way → List Turn → List ℕ → List ℕ → Type 0
-Tells Idle turns sent got = (commands : List Command) × (asked : Asked commands sent) × AllByRecursion (IsOfTask []) commands × BeginsOne (IsOfTask []) asked.part
-Tells (Deals c) turns sent got = Speaks c turns sent got
+abbrev pub Exchanges : Way → List Turn → List ℕ → List ℕ → Type 0
+Exchanges Idle turns sent got = (commands : List Command) × (asked : Asked commands sent) × AllByRecursion (IsOfTask []) commands × BeginsOne (IsOfTask []) asked.part
+Exchanges (Deals c) turns sent got = Speaks c turns sent got
 
 pub record Gained (way : Way) (turns : List Turn) (old new : Link) : Type 0 where
   pub sent : List ℕ
   pub got : List ℕ
   pub sent_is : new.sent ≡ old.sent ++ sent
   pub got_is : new.got ≡ old.got ++ got
-  pub tells : Tells way turns sent got
+  pub exchanges : Exchanges way turns sent got
 
 -- what each session sent and read
 pub talks : TurnsJoin → ConversationsArePaced → FrontsAreAsked → (settings : Settings) (target : Target) (now : ℕ) (link : Link) (before : Keeping) (report : Report) (link' : Link) (after : Keeping)
@@ -432,9 +429,9 @@ talks joining paced law settings target now link before report link' after valid
       got = it.got;
       sent_is = it.sent_is;
       got_is = it.got_is;
-      tells = idle_said law (name_of settings) (word_of settings) valid.valid_username valid.valid_password (tail_for session.result) (is_tail_for session.result) it.sent it.got it.said;
+      exchanges = idle_said law (name_of settings) (word_of settings) valid.valid_username valid.valid_password (tail_for session.result) (is_tail_for session.result) it.sent it.got it.said;
     }
-    by (Deals c) p = record { sent = p.sent; got = p.got; sent_is = p.sent_is; got_is = p.got_is; tells = p.speaks }
+    by (Deals c) p = record { sent = p.sent; got = p.got; sent_is = p.sent_is; got_is = p.got_is; exchanges = p.speaks }
 
 -- ---- What a session with an mboxrd file sends follows a plan.
 

@@ -1,13 +1,12 @@
 -- What each session sent and read: the opening, what followed it, and the tail.
-use Rattle.std.proofs.Common.{◌≡◌, ◌≤◌, ℕ, List, [], ◌∷◌, ◌++◌, true, length, Option, None, Some, Result, Ok, refl, sym, ap, ◌∙◌, arith, inl, inr, map, subst, append_assoc, Err}
+use Rattle.std.proofs.Common.{◌≡◌, ◌≤◌, ℕ, List, [], ◌∷◌, ◌++◌, true, length, Option, None, Some, Result, refl, sym, ap, ◌∙◌, arith, inl, inr, map, subst, append_assoc, Err, rules}
 use Rattle.std.specs.List.{AllByRecursion, AllZip, flat_map}
 use Rattle.std.proofs.lemmas.List.{append_cancel_left, append-nil}
-use Rattle.pop3_wire.specs.declared.fault.WireFault.{WireFault}
 use Rattle.pop3_wire.specs.declared.reply.Status.TheVariants.{Positive}
 use Rattle.pop3_wire.specs.Fields.{number_and_size}
 use Rattle.pop3_wire.specs.Reply.{IsFirstLine, indicator, without_space}
 use Rattle.pop3_wire.specs.Place.{Place}
-use Rattle.pop3_wire.specs.Reading.{WholeReply, TellsCount, body_bytes, reply_bytes}
+use Rattle.pop3_wire.specs.Reading.{WholeReply, GivesCount, body_bytes, reply_bytes}
 use Rattle.mail_terms.specs.Credential.{is_credential}
 use Rattle.mail_terms.specs.Listing.{Item, Joins}
 use Rattle.mail_terms.specs.declared.listing.UidRow.{UidRow}
@@ -17,15 +16,15 @@ use Rattle.run_law.specs.Readings.{IsListed, AreGood, Talked as IsTalked, Retrie
 use Rattle.fetch_session.specs.Opening.{opening, Opened, Enters}
 use Rattle.fetch_runs.proofs.TalkCommands.{CanBeSaid, commands_in, Commanded, commanded, both_none, begins_any, begins_one, all_append, all_front, all_back, IsCommand, IsPlain, reply_read, replies_read, said_tasks, commands_tasks, commands_split, of_tasks}
 use Rattle.pop3_wire.specs.declared.command.Command.{Command}
-use Rattle.pop3_wire.specs.declared.command.Command.TheVariants.{User, Pass, Stat, UidlAll, ListAll, Rset, Quit}
+use Rattle.pop3_wire.specs.declared.command.Command.TheVariants.{User, Pass, Stat, UidlAll, ListAll}
 use Rattle.pop3_wire.specs.Line.{ended}
 use Rattle.pop3_wire.specs.Link.{Link}
 use Rattle.pop3_wire.specs.Honest.{BeginsNext, FrontsAreAsked, Asked}
 use Rattle.run_law.specs.Sessions.{BeginsOne}
 use Rattle.fetch_session.specs.Task.{Task, turns_in}
-use Rattle.pop3_client.specs.declared.fault.Asked.TheVariants.{Greeting as ByGreeting, User as ByUser, Pass as ByPass, Stat as ByStat, Uidl as ByUidl, List as ByList, Retr as ByRetr, Dele as ByDele}
+use Rattle.pop3_client.specs.declared.fault.Asked.TheVariants.{Greeting as ByGreeting}
 use Rattle.pop3_client.specs.declared.fault.Fault.{Fault}
-use Rattle.pop3_client.specs.declared.fault.Fault.TheVariants.{Refused, StoreRefused, SeenRefused, BadSeen}
+use Rattle.pop3_client.specs.declared.fault.Fault.TheVariants.{Refused}
 use Rattle.fetch_session.specs.Tail.{tail, turns_in as tail_turns}
 use Rattle.fetch_session.specs.Laws.{TurnsJoin}
 use Rattle.fetch_runs.specs.Conversations.{Conversation, plan_turns, Converses}
@@ -48,14 +47,9 @@ pub record Replied (name word : List ℕ) (welcome : List WholeReply) (counted n
 
 pub replied : (name word : List ℕ) (welcome : List WholeReply) (counted named sized : WholeReply) → AllZip IsGood (opening name word) (welcome ++ counted ∷ named ∷ sized ∷ [])
     → Replied name word welcome counted named sized
-replied name word [] counted named sized good = absurd good.1.1.1
-replied name word (a ∷ []) counted named sized good = absurd good.1.1.1.1
-replied name word (a ∷ b ∷ []) counted named sized good = absurd good.1.1.1.1.1
 replied name word (a ∷ b ∷ c ∷ []) counted named sized good = record { hello = a; to_user = b; to_pass = c; is = refl; good = good }
-replied name word (a ∷ b ∷ c ∷ d ∷ []) counted named sized good = absurd good.1.1.1.1.1.1
-replied name word (a ∷ b ∷ c ∷ d ∷ e ∷ []) counted named sized good = absurd good.1.1.1.1.1.1
-replied name word (a ∷ b ∷ c ∷ d ∷ e ∷ f ∷ []) counted named sized good = absurd good.1.1.1.1.1.1
 replied name word (a ∷ b ∷ c ∷ d ∷ e ∷ f ∷ g ∷ more) counted named sized good = absurd good.1.1.1.1.1.1
+replied name word welcome counted named sized good = search rules depth 9
 
 -- the greeting has no body
 no_body_in : (body : Option (List (List ℕ))) → IsBody greeting body → body ≡ None
@@ -74,20 +68,12 @@ said_opening name word n w = (tt, ((n, tt), ((w, tt), ((refl, tt), ((refl, tt), 
 rest_same : (line rest other : List ℕ) → IsFirstLine line Positive rest → IsFirstLine line Positive other → rest ≡ other
 rest_same line rest other p q = p.2 ∙ ap without_space (append_cancel_left (indicator Positive) p.0 q.0 (sym p.1 ∙ q.1)) ∙ sym q.2
 
-abbrev counted_as : ℕ × ℕ → Result (ℕ × ℕ) WireFault
-counted_as pair = Ok pair
-
-pair_same : (p q : ℕ × ℕ) → counted_as p ≡ counted_as q → p ≡ q
-pair_same p q e = cc
-
-count_same : (a b c d : ℕ) → counted_as (a, b) ≡ counted_as (c, d) → a ≡ c
-count_same a b c d e = ap (λ (p : ℕ × ℕ). p.0) (pair_same (a, b) (c, d) e)
-
-pub few_items : (counted : WholeReply) (count : ℕ) (uids : List UidRow) (sizes : List ScanRow) (items : List Item) → IsGood stat counted → TellsCount counted count → Joins count uids sizes items
+pub few_items : (counted : WholeReply) (count : ℕ) (uids : List UidRow) (sizes : List ScanRow) (items : List Item) → IsGood stat counted → GivesCount counted count → Joins count uids sizes items
     → length items ≤ 100000
 few_items counted count uids sizes items good tells joins =
     let fits = good.fits refl in
-    let same : fits.0 ≡ count = count_same fits.0 fits.1 count tells.1 (sym fits.2 ∙ ap number_and_size (rest_same counted.first good.rest tells.0 good.positive tells.2) ∙ tells.3) in
+    let both = sym fits.2 ∙ ap number_and_size (rest_same counted.first good.rest tells.0 good.positive tells.2) ∙ tells.3 in
+    let same : fits.0 ≡ count = grind (arith, both) in
     let all : length items ≡ count = joins.count in
     let within : fits.0 ≤ 100000 = fits.3 in
     omega arith
@@ -126,32 +112,19 @@ pub data IsTail : List Turn → Type 0 where
 
 pub is_tail : (fault : Fault) → IsTail (tail_turns (tail fault))
 is_tail (Refused ByGreeting) = leaves
-is_tail (Refused ByUser) = leaves
-is_tail (Refused ByPass) = leaves
-is_tail (Refused ByStat) = leaves
-is_tail (Refused ByUidl) = leaves
-is_tail (Refused ByList) = leaves
-is_tail (Refused (ByRetr number)) = leaves
-is_tail (Refused (ByDele number)) = leaves
-is_tail (StoreRefused why) = undoes
-is_tail SeenRefused = undoes
-is_tail (BadSeen line) = undoes
-is_tail other = silent
+is_tail other = search (silent, leaves, undoes)
 
 pub said_tail : (turns : List Turn) → IsTail turns → AllByRecursion CanBeSaid turns
 said_tail turns silent = tt
-said_tail turns leaves = ((refl, tt), tt)
-said_tail turns undoes = ((refl, tt), ((refl, tt), tt))
+said_tail turns kind = search rules
 
 tail_back : (turns : List Turn) → IsTail turns → turns ≡ map Some (commands_in turns)
 tail_back turns silent = refl
-tail_back turns leaves = refl
-tail_back turns undoes = refl
+tail_back turns kind = refl
 
 pub of_tail_tasks : (tasks : List Task) (turns : List Turn) → IsTail turns → AllByRecursion (IsOfTask tasks) (commands_in turns)
 of_tail_tasks tasks turns silent = tt
-of_tail_tasks tasks turns leaves = (tt, tt)
-of_tail_tasks tasks turns undoes = (tt, (tt, tt))
+of_tail_tasks tasks turns kind = search rules
 
 module _ (tasks : List Task) {done begun turns : List Turn} {sent : List ℕ} (kind : IsTail turns) (c : Commanded done begun turns sent) (all : AllByRecursion (IsOfTask tasks) (commands_in done ++ commands_in begun)) where
   begun_of_tasks : AllByRecursion (IsOfTask tasks) (c.ahead ++ c.unsaid)
@@ -272,14 +245,9 @@ module _ (joining : TurnsJoin) (law : FrontsAreAsked) (name word : List ℕ) (na
 
 ends_tail : (turns : List Turn) → IsTail turns → (ends more : List Command) → commands_in turns ≡ ends ++ more → IsTailOf ends
 ends_tail turns silent [] more e = inl refl
-ends_tail turns silent (c ∷ ends) more e = absurd cc
-ends_tail turns leaves [] more e = inl refl
-ends_tail turns leaves (c ∷ []) more e = let f : Quit ∷ [] ≡ c ∷ more = e in inr (inl cc)
-ends_tail turns leaves (c ∷ d ∷ ends) more e = absurd (let f : Quit ∷ [] ≡ c ∷ d ∷ (ends ++ more) = e in cc)
-ends_tail turns undoes [] more e = inl refl
-ends_tail turns undoes (c ∷ []) more e = let f : Rset ∷ Quit ∷ [] ≡ c ∷ more = e in inr (inr (inl cc))
-ends_tail turns undoes (c ∷ d ∷ []) more e = let f : Rset ∷ Quit ∷ [] ≡ c ∷ d ∷ more = e in inr (inr (inr cc))
-ends_tail turns undoes (c ∷ d ∷ f ∷ ends) more e = absurd (let g : Rset ∷ Quit ∷ [] ≡ c ∷ d ∷ f ∷ (ends ++ more) = e in cc)
+ends_tail turns leaves (c ∷ d ∷ ends) more e = grind arith
+ends_tail turns undoes (c ∷ d ∷ f ∷ ends) more e = grind arith
+ends_tail turns kind ends more e = grind arith
 
 commands_back : (commands : List Command) → commands_in (map Some commands) ≡ commands
 commands_back [] = refl

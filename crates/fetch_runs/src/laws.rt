@@ -43,6 +43,7 @@ pub fn sessions_are_conversations()
 
 /// If the record's file stood for a record, a session is a step that the law over runs takes: its link
 /// gained a conversation that follows the plan, and it left the account as that conversation says.
+#[tactic(auto, using(crate::proofs::Bridge::session_is_a_step))]
 pub fn session_is_a_step()
     ensures { SessionIsAStep }
 {
@@ -103,6 +104,7 @@ pub fn headline()
 }
 
 /// The headline for runs in which nothing is taken away, without the words on that.
+#[tactic(auto, using(crate::proofs::HeadlineLemmas::headline_word_for_word))]
 pub fn headline_word_for_word()
     ensures { HeadlineWordForWord }
 {
@@ -112,6 +114,7 @@ pub fn headline_word_for_word()
 
 /// If each session reads only what is new, a message that is recorded as delivered and was taken
 /// away is never stored again.
+#[tactic(auto, using(crate::proofs::HeadlineLemmas::stays_away))]
 pub fn recorded_stay_away()
     ensures { StaysAway }
 {
@@ -123,17 +126,20 @@ pub fn recorded_stay_away()
 /// What a new process finds, with the files as they were, is one of the things that may happen
 /// between two sessions: its counts of refusals begin at 0, it has begun no file, and folders may
 /// have been made.
+#[tactic(auto, using(crate::proofs::HeadlineLemmas::new_processes_are_between))]
 pub fn new_processes_are_between()
     ensures { NewProcessesAreBetween }
 {}
 
 /// A program that is stopped, and leaves what a session leaves if all its calls are refused from
 /// that moment on, is an event of a run, and the next process goes on from there.
+#[tactic(auto, using(crate::proofs::HeadlineLemmas::stops_are_runs))]
 pub fn stops_are_runs()
     ensures { StopsAreRuns }
 {}
 
 /// The headline may begin with an account that has an empty record and no file of its own.
+#[tactic(auto, using(crate::proofs::HeadlineLemmas::empty_is_kept))]
 pub fn empty_account_is_kept()
     ensures { EmptyIsKept }
 {
@@ -141,6 +147,7 @@ pub fn empty_account_is_kept()
 }
 
 /// The headline from the first session on, for an account with an empty record and no file of its own.
+#[tactic(auto, using(crate::proofs::HeadlineLemmas::from_empty))]
 pub fn headline_from_empty()
     ensures { HeadlineFromEmpty }
 {
@@ -161,6 +168,7 @@ pub fn mbox_sessions_follow_plans()
 /// With an mboxrd file: if the record's file stood for a record, a session is a step that the law
 /// over runs takes: its link gained a conversation that follows the plan, and it left the mboxrd
 /// file and the record as that conversation says.
+#[tactic(auto, using(crate::proofs::Bridge::mbox_session_is_a_step))]
 pub fn mbox_session_is_a_step()
     ensures { MboxSessionIsAStep }
 {
@@ -222,6 +230,7 @@ pub fn mbox_headline()
 
 /// The headline for an mboxrd file may begin with any file, and with a record that has no open intent
 /// and shows exactly a prefix of the selected messages as delivered, as an empty one does.
+#[tactic(auto, using(crate::proofs::MboxHeadlineLemmas::start_is_kept))]
 pub fn mbox_start_is_kept()
     ensures { MboxStartIsKept }
 {
@@ -229,6 +238,7 @@ pub fn mbox_start_is_kept()
 }
 
 /// The headline for an mboxrd file from the first session on, with such a record.
+#[tactic(auto, using(crate::proofs::MboxHeadlineLemmas::from_start))]
 pub fn mbox_headline_from_start()
     ensures { MboxHeadlineFromStart }
 {
@@ -238,6 +248,7 @@ pub fn mbox_headline_from_start()
 
 /// With an mboxrd file: a program that is stopped, and leaves what a session leaves if all its calls
 /// are refused from that moment on, is an event of a run, and the next process goes on from there.
+#[tactic(auto, using(crate::proofs::MboxHeadlineLemmas::stops_are_runs))]
 pub fn mbox_stops_are_runs()
     ensures { MboxStopsAreRuns }
 {}

@@ -43,12 +43,7 @@ planned_length settings rows items now = length-map (numbered items) (step_of se
 
 pub unprepared : {target : Target} {items : List Item} {now : ℕ} {place : Place} {store : Stores} {file : Stored} {lines : List ReportLine} {fault : Fault} {cut : Cut} {store' : Stores} {file' : Stored}
     → cut ≡ cut_of fault None → Unready target items now store file fault store' file' → Unprepared target items now place store file lines cut (scene place store' file' [] lines)
-unprepared {target} {items} {now} {place} {store} {file} {lines} {fault} {cut} {store'} {file'} plain why = record {
-  none = ap (λ (c : Cut). c.rest) plain;
-  unready = subst (λ (c : Cut). Unready target items now store file c.fault store' file') (sym plain) why;
-  place_is = refl;
-  lines_are = refl;
-}
+unprepared plain why = rw plain (record { none = refl; unready = why; place_is = refl; lines_are = refl })
 
 unfoldable said : (target : Target) (turn : Turn) (reply : WholeReply) (s : Scene) (p : Place) → Talked (turn ∷ []) (reply ∷ []) s.place p → AllWent target (says turn ∷ []) s (record s { place = p })
 said target turn reply s p talked = record {
@@ -63,16 +58,13 @@ said_lasts : {D F : Type 0} (disk : DiskGhosts D) (files : FileGhosts F) (target
     → DonesLast disk files target (dones ++ record { task = says quit; replies = replies } ∷ []) old store f
 said_lasts disk files target dones replies old store f last = record {
   texts = texts target last.texts;
-  rows = subst (λ (ids : List (List ℕ)). RowsLast files f (marked_all old.rows ids))
-      (sym (flat_map-append (λ (d : Done). ids_in d.task) dones (record { task = says quit; replies = replies } ∷ []) ∙ append-nil (ids_of dones))) last.rows;
+  rows = simp (flat_map-append, append-nil) last.rows;
 }
   where
     texts : (target : Target) → TextsLast disk files target dones old.store store
         → TextsLast disk files target (dones ++ record { task = says quit; replies = replies } ∷ []) old.store store
-    texts (AsFiles account) last = subst (λ (fs : List File). AllByRecursion (outlives_in disk store) fs)
-        (sym (flat_map-append (λ (d : Done). files_brought account d.task d.replies) dones (record { task = says quit; replies = replies } ∷ []) ∙ append-nil (files_of account dones))) last
-    texts AsEntries last = λ was is. subst (λ (ts : List (List ℕ)). front_in files store (was ++ flat_map entry_of ts))
-        (sym (flat_map-append (λ (d : Done). texts_in d.task d.replies) dones (record { task = says quit; replies = replies } ∷ []) ∙ append-nil (texts_of dones))) (last was is)
+    texts (AsFiles account) last = simp (flat_map-append, append-nil) last
+    texts AsEntries last = λ was is. simp (flat_map-append, append-nil) (last was is)
 
 -- QUIT was said after other tasks, and answered well or not
 module _ {D F : Type 0} {disk : DiskGhosts D} {files : FileGhosts F} {sure : Type 0} {target : Target} {xs : List Task} {a b : Scene} {end : Store D F} {f : F} where
@@ -115,10 +107,7 @@ pub carried : {D F : Type 0} (disk : DiskGhosts D) (files : FileGhosts F) {sure 
     → CarriedForGood disk files sure settings target items now place store file lines r new skipped end f
 carried {D} {F} disk files {sure} {settings} {target} {items} {now} {place} {store} {file} {lines} {ready} {after} before {end} {f} {file'} steps held {skipped} {r} {new} is steps_are held_are skipped_is all keeps does =
     let mid : Scene = scene place (stores_of disk files before) file' after lines in
-    let same : tasks_planned steps items held ++ says quit ∷ [] ≡ tasks_ahead settings target items now store after =
-    ap (λ (ss : List Step). tasks_planned ss items held ++ says quit ∷ []) (steps_are ∙ is.steps)
-    ∙ ap (λ (hs : List Bool). tasks_planned (planned settings after items now) items hs ++ says quit ∷ []) (held_are ∙ is.held) in
-    let good = subst (λ (ts : List Task). DoesForGood disk files sure target ts mid r new end f) same does in
+    let good = rw (steps_are, is.steps, held_are, is.held) at does in
     record {
       carried = record {
         mid = mid;

@@ -18,8 +18,7 @@ use Rattle.fetch_session.specs.Store.{Grows, GrowsBy, Rests}
 -- what is held goes by the names in `new` and `cur` alone
 held_by_files : (account uid : List ℕ) (a b : Maildir) → b.in_new ≡ a.in_new → b.in_cur ≡ a.in_cur → is_held account b uid ≡ is_held account a uid
 held_by_files account uid a b news curs =
-    ap (λ (l : List File). list_any (λ (f : File). names_id account uid f.name) (l ++ b.in_cur)) news
-    ∙ ap (λ (l : List File). list_any (λ (f : File). names_id account uid f.name) (a.in_new ++ l)) curs
+    simp (news, curs)
 
 -- a file under the name of an id makes that id held, and no other
 abbrev pub OneMore : Type 0
@@ -54,20 +53,10 @@ fresh_on law account [] later a b text grows fresh = fresh_rests account later a
 fresh_on law account (uid ∷ []) later a b text grows fresh = fresh_grows law account uid later a b text fresh.0 fresh.2 grows fresh.3
 fresh_on law account (uid ∷ other ∷ more) later a b text grows fresh = absurd grows
 
-pub fresh_front : (account : List ℕ) (uids later : List (List ℕ)) (a : Maildir) → AreFresh account a (uids ++ later) → length uids ≤ 1 → AreFresh account a uids
-fresh_front account [] later a fresh few = tt
-fresh_front account (uid ∷ []) later a fresh few = (fresh.0, fresh.1, tt, tt)
-fresh_front account (uid ∷ other ∷ more) later a fresh few = absurd (omega arith)
-
 pub grows_calm : (account : List ℕ) (uids : List (List ℕ)) (a b : Maildir) → GrowsBy account uids a b → b.begun ≡ None
 grows_calm account [] a b grows = grows.calm
 grows_calm account (uid ∷ []) a b grows = grows.calm
 grows_calm account (uid ∷ other ∷ more) a b grows = absurd grows
-
-fetching_few : (retrieve held : Bool) (number : ℕ) (uid : List ℕ) (size : ℕ) → length (ids_ahead (fetching retrieve held number uid size)) ≤ 1
-fetching_few true true number uid size = omega arith
-fetching_few true false number uid size = omega arith
-fetching_few false held number uid size = omega arith
 
 no_ids_deleting : (delete : Bool) (number : ℕ) → ids_ahead (deleting delete number) ≡ []
 no_ids_deleting true number = refl
@@ -82,18 +71,23 @@ ahead step item held later =
     ∙ append_assoc (ids_ahead front) (ids_ahead (deleting step.delete step.number)) (ids_ahead later)
     ∙ ap (λ (l : List (List ℕ)). ids_ahead front ++ (l ++ ids_ahead later)) (no_ids_deleting step.delete step.number)
 
+fresh_first : (account : List ℕ) (retrieve held : Bool) (number : ℕ) (uid : List ℕ) (size : ℕ) (later : List (List ℕ)) (a : Maildir)
+    → AreFresh account a (ids_ahead (fetching retrieve held number uid size) ++ later) → AreFresh account a (ids_ahead (fetching retrieve held number uid size))
+fresh_first account true false number uid size later a fresh = (fresh.0, fresh.1, tt, tt)
+fresh_first account true true number uid size later a fresh = tt
+fresh_first account false held number uid size later a fresh = tt
+
 -- one step's ids are fresh, and after it those of the others are
 pub fresh_step : (account : List ℕ) (step : Step) (item : Item) (held : Bool) (later : List Task) (a : Maildir) → AreFresh account a (ids_ahead (tasks_in step item held ++ later))
     → AreFresh account a (ids_ahead (fetching step.retrieve held step.number item.uid item.size))
 fresh_step account step item held later a fresh =
-    fresh_front account (ids_ahead (fetching step.retrieve held step.number item.uid item.size)) (ids_ahead later) a (subst (AreFresh account a) (ahead step item held later) fresh)
-    (fetching_few step.retrieve held step.number item.uid item.size)
+    fresh_first account step.retrieve held step.number item.uid item.size (ids_ahead later) a (rw (ahead step item held later) at fresh)
 
 pub fresh_later : OneMore → (account : List ℕ) (step : Step) (item : Item) (held : Bool) (later : List Task) (a b : Maildir) → IsAccountText account
     → GrowsBy account (ids_ahead (fetching step.retrieve held step.number item.uid item.size)) a b → AreFresh account a (ids_ahead (tasks_in step item held ++ later))
     → AreFresh account b (ids_ahead later)
 fresh_later law account step item held later a b text grows fresh =
-    fresh_on law account (ids_ahead (fetching step.retrieve held step.number item.uid item.size)) (ids_ahead later) a b text grows (subst (AreFresh account a) (ahead step item held later) fresh)
+    fresh_on law account (ids_ahead (fetching step.retrieve held step.number item.uid item.size)) (ids_ahead later) a b text grows (rw (ahead step item held later) at fresh)
 
 pub no_item : Item
 no_item = record { uid = []; size = 0 }

@@ -30,21 +30,16 @@ use Rattle.fetch_session.proofs.SceneLemmas.{all_append, all_weaker, all_none, a
 pub keeps_mail_on : {s s' s'' : List ℕ → Type 0} {o o' o'' : File → Type 0} → KeepsMail s o s' o' → KeepsMail s' o' s'' o'' → KeepsMail s o s'' o''
 keeps_mail_on first then = (λ name is. then.0 name (first.0 name is), λ f is. then.1 f (first.1 f is))
 
-file_or : File → List File → File
-file_or f [] = f
-file_or f (g ∷ more) = g
-
 -- the file that was settled outlives a loss of power, whatever its text is called
 pub lasts_settled : (old now new : Maildir) (stem text : List ℕ) (octets : ℕ) (P : File → Type 0) → now ≡ begun_with old (file stem text)
     → octets ≡ length text → Ends now (sized stem octets) (Ok tt) new
     → ((f : File) → now.begun ≡ Some f → P (file (sized stem octets) f.content))
     → (other : List ℕ) → new ≡ with_file old (sized_file stem other) → P (sized_file stem other)
-unfolding file_or
 lasts_settled old now new stem text octets P was counted ends lasts other is =
     let both = sym (settled old now new stem text octets was counted ends) ∙ is in
-    subst P (ap (file_or (sized_file stem text)) (append_cancel_left old.in_new (sized_file stem text ∷ []) (sized_file stem other ∷ [])
-    (ap (λ (m : Maildir). m.in_new) both)))
-    (subst (λ (n : ℕ). P (file (sized stem n) text)) counted (lasts (file stem text) (ap (λ (m : Maildir). m.begun) was)))
+    let one = append_cancel_left old.in_new (sized_file stem text ∷ []) (sized_file stem other ∷ []) (ap (λ (m : Maildir). m.in_new) both) in
+    let same : sized_file stem text ≡ sized_file stem other = cc in
+    subst P same (subst (λ (n : ℕ). P (file (sized stem n) text)) counted (lasts (file stem text) (ap (λ (m : Maildir). m.begun) was)))
 
 -- ---- texts
 
@@ -58,15 +53,10 @@ texts_on : {D F : Type 0} (disk : DiskGhosts D) (file : FileGhosts F) (target : 
     → Brings target xs a b → TextsLast disk file target xs a mid → KeepsMailIn disk mid new → TextsLast disk file target ys b new
     → TextsLast disk file target (xs ++ ys) a new
 texts_on disk file (AsFiles account) xs ys a b mid new brings first keeps then =
-    subst (λ (fs : List File). AllByRecursion (outlives_in disk new) fs) (sym (flat_map-append (λ (d : Done). files_in account d.task d.replies) xs ys))
-    (all_append (outlives_in disk new) (files_of account xs) (files_of account ys)
+    simp flat_map-append (all_append (outlives_in disk new) (files_of account xs) (files_of account ys)
     (all_weaker (outlives_in disk mid) (outlives_in disk new) (files_of account xs) keeps.1 first) then)
 texts_on disk file AsEntries xs ys a b mid new brings first keeps then = λ was is.
-    subst (λ (bytes : List ℕ). front_in file new bytes)
-    (append_assoc was (flat_map entry_of (texts_of xs)) (flat_map entry_of (texts_of ys))
-    ∙ ap (λ (bytes : List ℕ). was ++ bytes) (sym (flat_map-append entry_of (texts_of xs) (texts_of ys))
-    ∙ ap (flat_map entry_of) (sym (flat_map-append (λ (d : Done). texts_in d.task d.replies) xs ys))))
-    (then (was ++ flat_map entry_of (texts_of xs)) (content_is a.mbox.content b.mbox.content was (texts_of xs) is brings.content))
+    simp (flat_map-append, ← append_assoc) (then (was ++ flat_map entry_of (texts_of xs)) (content_is a.mbox.content b.mbox.content was (texts_of xs) is brings.content))
 
 -- ---- tasks
 
@@ -75,9 +65,7 @@ dones_on : {D F : Type 0} (disk : DiskGhosts D) (file : FileGhosts F) (target : 
     → DonesLast disk file target (xs ++ ys) a new f
 dones_on disk file target xs ys a b mid new f went first keeps then = record {
   texts = texts_on disk file target xs ys a.store b.store mid new went.stored first keeps then.texts;
-  rows = subst (λ (rows : List Row). RowsLast file f rows)
-      (ap (λ (rows : List Row). marked_all rows (ids_of ys)) went.rows ∙ sym (marked_on a.rows (ids_of xs) (ids_of ys))
-      ∙ ap (marked_all a.rows) (sym (flat_map-append (λ (d : Done). ids_in d.task) xs ys))) then.rows;
+  rows = simp (flat_map-append, marked_on) (rw went.rows at then.rows);
 }
 
 pub mail_on : {D F : Type 0} (disk : DiskGhosts D) (a b c : Store D F) → KeepsMailIn disk a b → KeepsMailIn disk b c → KeepsMailIn disk a c
@@ -197,19 +185,14 @@ few_deleted : (wanted : Bool) (number : ℕ) → length (deleting wanted number)
 few_deleted true number = omega arith
 few_deleted false number = omega arith
 
-task_or : Task → List Task → Task
-task_or task [] = task
-task_or task (other ∷ more) = other
-
 module _ {D F : Type 0} {disk : DiskGhosts D} {file : FileGhosts F} {target : Target} {old : Scene} {store : Store D F} {f : F} where
   -- a deletion stores nothing and marks nothing
   deleted_only : (wanted : Bool) (number : ℕ) (dones : List Done) → deleting wanted number ≡ tasks_of dones → DonesLast disk file target [] old store f
       → DonesLast disk file target dones old store f
-  unfolding task_or
   deleted_only wanted number [] e last = last
   deleted_only true number (d ∷ []) e last =
-      subst (λ (task : Task). DonesLast disk file target (record { task = task; replies = d.replies } ∷ []) old store f) (ap (task_or (deletes number)) e)
-      (record { texts = same target last.texts; rows = last.rows })
+      let is : deletes number ≡ d.task = cc e in
+      subst (λ (task : Task). DonesLast disk file target (record { task = task; replies = d.replies } ∷ []) old store f) is (record { texts = same target last.texts; rows = last.rows })
     where
       same : (target : Target) → TextsLast disk file target [] old.store store → TextsLast disk file target (record { task = deletes number; replies = d.replies } ∷ []) old.store store
       same (AsFiles account) texts = texts

@@ -18,4 +18,3 @@ mod StoppingLemmas
 mod StoreLemmas
 mod TailLemmas
 mod TakeLemmas
-mod TurnLemmas

@@ -1,24 +1,23 @@
 -- How logging in, the count and the listings make the beginning.
-use Rattle.std.proofs.Common.{◌≡◌, inl, inr, ℕ, List, [], ◌∷◌, Result, Ok, Err, subst}
+use Rattle.std.proofs.Common.{◌≡◌, inl, inr, ℕ, List, [], ◌∷◌, ◌++◌, Result, Ok, Err, ap, ◌∙◌, append_assoc}
 use Rattle.pop3_wire.specs.Place.{Place}
-use Rattle.pop3_wire.specs.Reading.{WholeReply, TellsCount}
+use Rattle.pop3_wire.specs.Reading.{WholeReply, GivesCount}
 use Rattle.mail_terms.specs.Listing.{Item}
 use Rattle.mail_terms.specs.declared.listing.UidRow.{UidRow}
 use Rattle.mail_terms.specs.declared.listing.ScanRow.{ScanRow}
 use Rattle.pop3_client.specs.declared.fault.Fault.{Fault}
-use Rattle.pop3_client.specs.Turns.{stat, uidl, list}
+use Rattle.pop3_client.specs.Turns.{Turn, stat, uidl, list}
 use Rattle.pop3_client.specs.Conversation.{Talked, Stopped, Broke, login}
 use Rattle.pop3_client.specs.Listing.{Listed, GetsListing}
 use Rattle.fetch_session.specs.Opening.{Opened, Enters}
-use Rattle.pop3_client.proofs.TalkLemmas.{talked_on, stopped_first}
-use Rattle.fetch_session.proofs.TurnLemmas.{stopped_before, stopped_behind}
+use Rattle.pop3_client.proofs.TalkLemmas.{talked_on, stopped_first, stopped_behind}
 
 module _ (name password : List ℕ) (a b c d : Place) (welcome : List WholeReply) (entered : Talked (login name password) welcome a b) where
   -- the count wasn't told
   pub not_counted : (fault : Fault) → Broke stat b c fault → Enters name password a (Err fault) c
   not_counted fault broke = inl (stopped_behind (login name password) (stat ∷ uidl ∷ list ∷ []) welcome a b c fault entered (stopped_first stat (uidl ∷ list ∷ []) b c fault broke))
 
-  all_opened : (counted : WholeReply) (count : ℕ) (uids : List UidRow) (sizes : List ScanRow) → Talked (stat ∷ []) (counted ∷ []) b c → TellsCount counted count → Listed c d uids sizes
+  all_opened : (counted : WholeReply) (count : ℕ) (uids : List UidRow) (sizes : List ScanRow) → Talked (stat ∷ []) (counted ∷ []) b c → GivesCount counted count → Listed c d uids sizes
       → Opened name password a d count uids sizes
   all_opened counted count uids sizes talked tells listed = record {
     welcome = welcome;
@@ -32,7 +31,7 @@ module _ (name password : List ℕ) (a b c d : Place) (welcome : List WholeReply
     octets = listed.octets;
   }
 
-  pub listed_too : (counted : WholeReply) (count : ℕ) (result : Result (List Item) Fault) → Talked (stat ∷ []) (counted ∷ []) b c → TellsCount counted count → GetsListing count c result d
+  pub listed_too : (counted : WholeReply) (count : ℕ) (result : Result (List Item) Fault) → Talked (stat ∷ []) (counted ∷ []) b c → GivesCount counted count → GetsListing count c result d
       → Enters name password a result d
   listed_too counted count (Ok items) talked tells (uids, sizes, listed, joins) = (count, uids, sizes, all_opened counted count uids sizes talked tells listed, joins)
   listed_too counted count (Err fault) talked tells (inl stopped) =
@@ -43,10 +42,13 @@ module _ (name password : List ℕ) (a b c d : Place) (welcome : List WholeReply
 
 -- logging in stopped
 pub not_entered : (name password : List ℕ) (a b : Place) (fault : Fault) → Stopped (login name password) a b fault → Enters name password a (Err fault) b
-not_entered name password a b fault stopped = inl (stopped_before (login name password) (stat ∷ uidl ∷ list ∷ []) a b fault stopped)
-
--- by the same name and password
-pub entered_as : (name name' password password' : List ℕ) (old : Place) (result : Result (List Item) Fault) (new : Place) → name ≡ name' → password ≡ password'
-    → Enters name password old result new → Enters name' password' old result new
-entered_as name name' password password' old result new same also enters =
-    subst (λ (n : List ℕ). Enters n password' old result new) same (subst (λ (p : List ℕ). Enters name p old result new) also enters)
+not_entered name password a b fault stopped = inl (record {
+  done = stopped.done;
+  replies = stopped.replies;
+  next = stopped.next;
+  later = stopped.later ++ (stat ∷ uidl ∷ list ∷ []);
+  mid = stopped.mid;
+  split = ap (λ (turns : List Turn). turns ++ (stat ∷ uidl ∷ list ∷ [])) stopped.split ∙ append_assoc stopped.done (stopped.next ∷ stopped.later) (stat ∷ uidl ∷ list ∷ []);
+  talked = stopped.talked;
+  broke = stopped.broke;
+})

@@ -2,7 +2,7 @@
 use Rattle.std.proofs.Common.{◌≡◌, ◌≢◌, ℕ, Bool, true, false, List, [], ◌∷◌, ◌++◌, refl, sym, subst, ◌∙◌}
 use Rattle.std.specs.Prelude.{◌||◌, bytes_eq}
 use Rattle.std.specs.List.{AllByRecursion}
-use Rattle.std.proofs.lemmas.Bool.{true≢false}
+use Rattle.std.proofs.lemmas.Bool.{true≢false, or_parts}
 use Rattle.std.proofs.lemmas.List.Folds.{list_any-append}
 use Rattle.std.proofs.lemmas.Slice.Eq.{bytes_eq-Decides}
 use Rattle.mail_terms.specs.UniqueId.{IsLegalId}
@@ -22,14 +22,10 @@ use Rattle.fetch_session.specs.Task.{ids_ahead, AreFresh, fetching, tasks_planne
 use Rattle.fetch_session.proofs.FreshLemmas.{ahead}
 use Rattle.fetch_session.proofs.SceneLemmas.{all_append, all_weaker}
 
-both_false : (a b : Bool) → (a || b) ≡ false → (a ≡ false) × (b ≡ false)
-both_false true b e = absurd (true≢false e)
-both_false false b e = (refl, e)
-
 has_item-last : (front : List Item) (item : Item) (uid : List ℕ) → has_item (front ++ item ∷ []) uid ≡ false → (has_item front uid ≡ false) × (uid ≢ item.uid)
 has_item-last front item uid none =
-    let parts = both_false (has_item front uid) (bytes_eq uid item.uid || false) (sym (list_any-append (λ (i : Item). bytes_eq uid i.uid) front (item ∷ [])) ∙ none) in
-    let apart = both_false (bytes_eq uid item.uid) false parts.1 in
+    let parts = or_parts (has_item front uid) (bytes_eq uid item.uid || false) (sym (list_any-append (λ (i : Item). bytes_eq uid i.uid) front (item ∷ [])) ∙ none) in
+    let apart = or_parts (bytes_eq uid item.uid) false parts.1 in
     (parts.0, λ same. true≢false (sym ((bytes_eq-Decides uid item.uid).1 same) ∙ apart.0))
 
 fetched_apart : (front : List Item) (retrieve held : Bool) (number : ℕ) (uid : List ℕ) (size : ℕ) → (retrieve ≡ true → has_item front uid ≡ false)

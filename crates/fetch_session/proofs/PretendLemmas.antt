@@ -52,7 +52,7 @@ foreseen settings target items now store file read loaded store' looked told sto
         stood = read_keeps file.content loaded stood;
         followed = found.2;
         unsettled_is = found.1;
-        told_is = is ∙ ap (λ (flags : List Bool). foretold settings (merged loaded.rows items flags now) items flags now) found.0;
+        told_is = rw found.0 at is;
       },
       (found.3, ap (λ (s : Stored). s.content) same),
     )
@@ -72,6 +72,5 @@ pub left_preview : {settings : Settings} {target : Target} {now : ℕ} {link lin
     → id ≡ target → reader ≡ [] → Surveys settings id now (at link reader) before result mid after (told_in preview) → LeavesLink result mid link' → preview.outcome ≡ outcome_of result
     → Pretends settings target now link before preview link' after
 left_preview {settings} {target} {now} {link} {link'} {before} {after} {preview} id reader result mid same none surveys leaves is =
-    let there = subst (λ (r : List ℕ). Surveys settings target now (at link r) before result mid after (told_in preview)) none
-    (subst (λ (t : Target). Surveys settings t now (at link reader) before result mid after (told_in preview)) same surveys) in
+    let there = rw (same, none) at surveys in
     record { result = result; mid = mid; ends = there.0; leaves = leaves; outcome = is; untouched = there.1 }

@@ -1,5 +1,5 @@
 -- What is told of a listing, message by message.
-use Rattle.std.proofs.Common.{◌≡◌, ◌<◌, ◌≤◌, ◌+◌, ℕ, suc, Bool, true, false, List, [], ◌∷◌, ◌++◌, append_assoc, append-nil, drop, get_or, length, cond, refl, sym, ap, ◌∙◌, arith}
+use Rattle.std.proofs.Common.{◌≡◌, ◌<◌, ◌≤◌, ◌+◌, ℕ, suc, Bool, true, false, List, [], ◌∷◌, ◌++◌, append_assoc, append-nil, drop, get_or, length, cond, add-one, refl, sym, ap, ◌∙◌, arith}
 use Rattle.std.proofs.lemmas.List.{drop_all}
 use Rattle.std.proofs.Math.Seq.{drop-cons}
 use Rattle.mail_terms.specs.Listing.{Item}
@@ -37,26 +37,13 @@ module _ (settings : Settings) (rows : List Row) (now : ℕ) where
       more_as : more ≡ cond (step_at steps i).retrieve 1 0
       more_as = more_is ∙ byte_of (step_at steps i).retrieve
 
-      next : suc i ≡ i + 1
-      next = omega arith
-
-      of_steps : drop i steps ≡ step_at steps i ∷ drop (suc i) steps
-      of_steps = drop-cons steps i (record { number = 0; retrieve = false; delete = false }) (omega (arith, within, all_steps))
-
-      of_items : drop i items ≡ get_or items i no_item ∷ drop (suc i) items
-      of_items = drop-cons items i no_item within
-
-      of_flags : drop i flags ≡ get_or flags i false ∷ drop (suc i) flags
-      of_flags = drop-cons flags i false (omega (arith, within, all_flags))
-
-      p_as : prospect_of settings now fetched (step_at steps i) (known_of rows now (get_or flags i false) (get_or items i no_item)) ≡ p
-      p_as = sym (p_is ∙ ap (λ (k : Known). prospect_of settings now fetched (step_at steps i) k) known_is)
-
       split : prospects settings rows now fetched (drop i steps) (drop i items) (drop i flags)
           ≡ p ∷ prospects settings rows now (fetched + more) (drop (i + 1) steps) (drop (i + 1) items) (drop (i + 1) flags)
       split =
-          (λ j. prospects settings rows now fetched (of_steps j) (of_items j) (of_flags j))
-          ∙ (λ j. p_as j ∷ prospects settings rows now (fetched + sym more_as j) (drop (next j) steps) (drop (next j) items) (drop (next j) flags))
+          let of_steps = drop-cons steps i (record { number = 0; retrieve = false; delete = false }) (omega (arith, within, all_steps)) in
+          let of_items = drop-cons items i no_item within in
+          let of_flags = drop-cons flags i false (omega (arith, within, all_flags)) in
+          rw (of_steps, of_items, of_flags, p_is, known_is, more_as, add-one)
 
   pub told_all : (steps : List Step) (items : List Item) (flags : List Bool) (i : ℕ) (told : List Prospect) (fetched : ℕ) → IsTold steps items flags i told fetched → length steps ≤ i
       → told ≡ prospects settings rows now 0 steps items flags

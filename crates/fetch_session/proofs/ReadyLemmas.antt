@@ -27,25 +27,11 @@ use Rattle.fetch_session.proofs.RecordLemmas.{read_keeps, steady_keeps, not_whol
 
 -- ---- what was found
 
-mail_is : (content : Option (List ℕ)) (bytes : List ℕ) → content ≡ Some bytes → mail_in content ≡ bytes
-mail_is content bytes is = ap mail_in is
-
--- the rows that an intent leaves that was ended by what was found
-pub closed_by_found : (target : Target) (store store' : Stores) (items : List Item) (was : Held) (found : Found) → FindsIn target was.intent store items (Ok found) store'
-    → closed_rows found.stored was.rows was.intent ≡ rows_in target store was
-closed_by_found (AsFiles account) store store' items was found (held, stored, same) = ap (λ (b : Bool). closed_rows b was.rows was.intent) stored ∙ not_whole was.rows was.intent
-closed_by_found AsEntries store store' items was found (bytes, is, stored, now, goes_on, held) =
-    ap (λ (b : Bool). closed_rows b was.rows was.intent) (stored ∙ ap (is_stored was.intent) (sym (mail_is store.mbox.content bytes is)))
-
-pub flags_found : (target : Target) (store store' : Stores) (items : List Item) (was : Held) (found : Found) → FindsIn target was.intent store items (Ok found) store'
-    → found.held.items ≡ flags_in target store items
-flags_found (AsFiles account) store store' items was found (held, stored, same) = held
-flags_found AsEntries store store' items was found (bytes, is, stored, now, goes_on, held) = held
-
-pub settles_found : (target : Target) (store store' : Stores) (items : List Item) (was : Held) (found : Found) → FindsIn target was.intent store items (Ok found) store'
-    → Settles target was store store'
-settles_found (AsFiles account) store store' items was found (held, stored, same) = same
-settles_found AsEntries store store' items was found (bytes, is, stored, now, goes_on, held) = (bytes, is, now, goes_on)
+-- the rows that an intent leaves that was ended by it, which messages are held, and the store
+found_is : (target : Target) (store store' : Stores) (items : List Item) (was : Held) (found : Found) → FindsIn target was.intent store items (Ok found) store'
+    → (closed_rows found.stored was.rows was.intent ≡ rows_in target store was) × (found.held.items ≡ flags_in target store items) × Settles target was store store'
+found_is (AsFiles account) store store' items was found (held, stored, same) = (rw stored (not_whole was.rows was.intent), held, same)
+found_is AsEntries store store' items was found (bytes, is, stored, now, goes_on, held) = (rw (stored, is), held, (bytes, is, now, goes_on))
 
 settled_at_most : (file : Stored) (store store' : Stores) (was : Held) → Keeps file.content was → Settles AsEntries was store store' → IsSettledBy file store.mbox store'.mbox
 settled_at_most file store store' was kept (bytes, is, now, goes_on) =
@@ -54,25 +40,13 @@ settled_at_most file store store' was kept (bytes, is, now, goes_on) =
 -- ---- nothing was planned
 
 pub unread : (target : Target) (items : List Item) (now : ℕ) (store : Stores) (file new : Stored) (loaded : Loaded) (fault : Fault) → Reads file loaded (Err fault) new → Unready target items now store file fault store new
-unread target items now store file new loaded SeenRefused is = record { cause = refused target; content = inl (ap (λ (s : Stored). s.content) is) }
-  where
-    risen : file.failures < new.failures
-    risen = let up : new.failures ≡ file.failures + 1 = ap (λ (s : Stored). s.failures) is in omega arith
-
-    refused : (t : Target) → CausesUnready t SeenRefused store file store new
-    refused (AsFiles account) = (risen, refl)
-    refused AsEntries = (risen, inl refl)
-unread target items now store file new loaded (BadSeen line) is = record { cause = bad target; content = inl (ap (λ (s : Stored). s.content) is.3) }
-  where
-    bad : (t : Target) → CausesUnready t (BadSeen line) store file store new
-    bad (AsFiles account) = (is, refl)
-    bad AsEntries = (is, refl)
-unread target items now store file new loaded NoMemory is = record { cause = wants target; content = inl (ap (λ (s : Stored). s.content) is) }
-  where
-    wants : (t : Target) → CausesUnready t NoMemory store file store new
-    wants (AsFiles account) = refl
-    wants AsEntries = inl refl
-unread target items now store file new loaded _ never = absurd never
+unread (AsFiles account) items now store file new loaded SeenRefused is = record { cause = (omega (arith, ap (λ (s : Stored). s.failures) is), refl); content = inl (rw is) }
+unread AsEntries items now store file new loaded SeenRefused is = record { cause = (omega (arith, ap (λ (s : Stored). s.failures) is), inl refl); content = inl (rw is) }
+unread (AsFiles account) items now store file new loaded (BadSeen line) is = record { cause = (is, refl); content = inl (rw is.3) }
+unread AsEntries items now store file new loaded (BadSeen line) is = record { cause = (is, refl); content = inl (rw is.3) }
+unread (AsFiles account) items now store file new loaded NoMemory is = record { cause = refl; content = inl (rw is) }
+unread AsEntries items now store file new loaded NoMemory is = record { cause = inl refl; content = inl (rw is) }
+unread _ items now store file new loaded _ never = absurd never
 
 files_refused : (fault : Fault) (maildir : Maildir) (file : Stored) (maildir' : Maildir) (file' : Stored) → FindsRefused maildir fault maildir' → UnreadyCause fault maildir file maildir' file'
 files_refused (StoreRefused why.Missing) maildir file maildir' file' is = is
@@ -83,7 +57,7 @@ files_refused _ maildir file maildir' file' never = absurd never
 mbox_refused : (fault : Fault) (items : List Item) (was : Held) (mbox file mbox' file' : Stored) → Keeps file.content was → AsksMbox was.intent mbox items (Err fault) mbox' → MboxUnready fault mbox file mbox' file'
 mbox_refused (StoreRefused why.Missing) items was mbox file mbox' file' kept is = is
 mbox_refused (StoreRefused why.Refused) items was mbox file mbox' file' kept (up, most) =
-    (let risen : mbox'.failures ≡ mbox.failures + 1 = up in omega arith, inr (was, kept, most))
+    (omega (arith, up), inr (was, kept, most))
 mbox_refused (StoreRefused why.NotMbox) items was mbox file mbox' file' kept (bytes, is, other, now) =
     ((closed_file was.intent bytes, ap (λ (s : Stored). s.content) now, other), inr (was, kept, inr (bytes, is, ap (λ (s : Stored). s.content) now)))
 mbox_refused NoMemory items was mbox file mbox' file' kept (same, most) = inr (was, kept, most)
@@ -108,14 +82,13 @@ module _ (settings : Settings) (target : Target) (items : List Item) (now : ℕ)
   here = merged (closed_rows found.stored loaded.rows loaded.intent) items found.held.items now
 
   as_now : here ≡ merged_in target store (held_in loaded) items now
-  as_now = ap (λ (flags : List Bool). merged (closed_rows found.stored loaded.rows loaded.intent) items flags now) (flags_found target store store' items (held_in loaded) found finds)
-      ∙ ap (λ (rows : List Row). merged rows items (flags_in target store items) now) (closed_by_found target store store' items (held_in loaded) found finds)
+  as_now = rw ((found_is target store store' items (held_in loaded) found finds).1, (found_is target store store' items (held_in loaded) found finds).0)
 
   failures_same : read.failures ≡ file.failures
   failures_same = ap (λ (s : Stored). s.failures) same
 
   settles : Settles target (held_in loaded) store store'
-  settles = settles_found target store store' items (held_in loaded) found finds
+  settles = (found_is target store store' items (held_in loaded) found finds).2
 
   risen_cause : file.failures < new.failures → (t : Target) → Settles t (held_in loaded) store store' → CausesUnready t SeenRefused store file store' new
   risen_cause risen (AsFiles account) is = (risen, ap (λ (s : Stores). s.maildir) is)
@@ -138,7 +111,7 @@ module _ (settings : Settings) (target : Target) (items : List Item) (now : ℕ)
   saved_merge ready after merges rows_are flags_are steps_are = record {
     was = held_in loaded;
     stood = kept;
-    held = flags_are ∙ flags_found target store store' items (held_in loaded) found finds;
+    held = flags_are ∙ (found_is target store store' items (held_in loaded) found finds).1;
     rows = rows_are ∙ as_now;
     steps = steps_are;
     saved = subst (λ (rows : List Row). Steady new.content (none_open rows)) (sym rows_are) merges.1;

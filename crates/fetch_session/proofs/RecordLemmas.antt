@@ -1,7 +1,7 @@
 -- What saving the record leaves.
 use Rattle.std.proofs.Common.{◌≡◌, ◌≢◌, ◌⊎◌, inl, inr, ℕ, Bool, false, List, [], ◌∷◌, ◌++◌, Option, None, Some, Result, Ok, Err, ◌≤◌, refl, sym, ap, subst, arith, ◌∙◌}
 use Rattle.std.specs.Prelude.{OnOk, ◌==◌, ◌||◌, true, if◌then◌else◌, length}
-use Rattle.std.proofs.lemmas.Bool.{true≢false}
+use Rattle.std.proofs.lemmas.Bool.{true≢false, or_parts}
 use Rattle.std.proofs.lemmas.List.{append-nil}
 use Rattle.fetch_rules.specs.Record.{Row, Intent, Held, Loaded, none_open, IntentHasRow, IsIntent, has_row, marked}
 use Rattle.fetch_rules.specs.RecordFile.{Version, One, Two, header, file_of, intent_line}
@@ -14,26 +14,18 @@ use Rattle.pop3_client.specs.declared.fault.Fault.{Fault}
 use Rattle.pop3_client.specs.declared.fault.Fault.TheVariants.{SeenRefused, NoMemory}
 use Rattle.fetch_session.specs.Record.{bytes_in, Keeps, Steady, ReadAs, Writes, Saves, Merges, held_in}
 
-abbrev rows_of : Meaning → List Row
-rows_of (Rows version rows intent torn) = rows
-rows_of (Faulty fault) = []
-
-abbrev intent_of : Meaning → Option Intent
-intent_of (Rows version rows intent torn) = intent
-intent_of (Faulty fault) = None
-
 bytes_begin : (version : Version) (rest : List ℕ) → [] ≢ header version ++ rest
 bytes_begin One rest is = true≢false (sym (ap has_bytes is))
 bytes_begin Two rest is = true≢false (sym (ap has_bytes is))
 
 -- no bytes stand for no row and no intent
 empty_means : (version : Version) (rows : List Row) (intent : Option Intent) (torn : Bool) → Means [] (Rows version rows intent torn) → (rows ≡ []) × (intent ≡ None)
-empty_means version rows intent torn (inl is) = (ap rows_of is.1, ap intent_of is.1)
+empty_means version rows intent torn (inl is) = (cc is.1, cc is.1)
 empty_means version rows intent torn (inr (inl other)) = absurd (other.0 refl)
 empty_means version rows intent torn (inr (inr lines)) = absurd (bytes_begin lines.version _ lines.cut.whole)
 
 pub keeps_at : (old new : Stored) (content : Option (List ℕ)) (held : Held) → new.content ≡ content → Keeps content held → Keeps new.content held
-keeps_at old new content held is kept = subst (λ (c : Option (List ℕ)). Keeps c held) (sym is) kept
+keeps_at old new content held is kept = rw is kept
 
 means_keeps : (content : Option (List ℕ)) (version : Version) (held : Held) (torn : Bool) → Means (bytes_in content) (Rows version held.rows held.intent torn) → Keeps content held
 means_keeps None version held torn means = empty_means version held.rows held.intent torn means
@@ -46,12 +38,6 @@ pub steady_keeps : (content : Option (List ℕ)) (held : Held) → Steady conten
 steady_keeps content held steady = means_keeps content Two held false steady
 
 -- what isn't stale is of version 2, isn't torn, and has no open intent
-parts_false : (a b c d : Bool) → (a || (b || (c || d))) ≡ false → (a ≡ false) × (b ≡ false) × (c ≡ false)
-parts_false true b c d is = absurd (true≢false is)
-parts_false false true c d is = absurd (true≢false is)
-parts_false false false true d is = absurd (true≢false is)
-parts_false false false false d is = (refl, refl, refl)
-
 not_older : (version : Version) → is_older version ≡ false → version ≡ Two
 not_older One is = absurd (true≢false is)
 not_older Two is = refl
@@ -62,13 +48,10 @@ no_intent (Some intent) is = absurd (true≢false is)
 
 pub read_steady : (content : Option (List ℕ)) (loaded : Loaded) → ReadAs content loaded → loaded.stale ≡ false → Steady content (none_open loaded.rows) × (loaded.intent ≡ None)
 read_steady content loaded is fresh =
-    let parts = parts_false (is_older is.version) is.torn (has_intent loaded.intent) is.outgrown (sym is.stale ∙ fresh) in
-    let closed : loaded.intent ≡ None = no_intent loaded.intent parts.2 in (
-      subst (λ (i : Option Intent). Means (bytes_in content) (Rows Two loaded.rows i false)) closed
-          (subst (λ (t : Bool). Means (bytes_in content) (Rows Two loaded.rows loaded.intent t)) parts.1
-          (subst (λ (v : Version). Means (bytes_in content) (Rows v loaded.rows loaded.intent is.torn)) (not_older is.version parts.0) is.means)),
-      closed,
-    )
+    let old = or_parts (is_older is.version) (is.torn || (has_intent loaded.intent || is.outgrown)) (sym is.stale ∙ fresh) in
+    let torn = or_parts is.torn (has_intent loaded.intent || is.outgrown) old.1 in
+    let closed : loaded.intent ≡ None = no_intent loaded.intent (or_parts (has_intent loaded.intent) is.outgrown torn.1).0 in
+    (rw (not_older is.version old.0, closed, torn.0) at is.means, closed)
 
 abbrev pub held : List Row → Option Intent → Held
 held rows intent = record { rows = rows; intent = intent }
@@ -84,10 +67,9 @@ not_whole rows (Some intent) = refl
 -- ---- the whole record written
 
 pub writes_merges : (old new : Stored) (was now : Held) (r : Result (Unit {0}) Fault) → Keeps old.content was → Means (file_of now.rows now.intent) (Rows Two now.rows now.intent false) → Writes old now r new → Merges old was now r new
-writes_merges old new was now (Ok done) kept stands is = (ap (λ (s : Stored). s.failures) is, subst (λ (s : Stored). Steady s.content now) (sym is) stands)
-writes_merges old new was now (Err SeenRefused) kept stands (inl is) = (ap (λ (s : Stored). s.failures) is, inl (keeps_at old new old.content was (ap (λ (s : Stored). s.content) is) kept))
-writes_merges old new was now (Err SeenRefused) kept stands (inr is) =
-    (ap (λ (s : Stored). s.failures) is, inr (keeps_at old new (Some (file_of now.rows now.intent)) now (ap (λ (s : Stored). s.content) is) (Two, false, stands)))
+writes_merges old new was now (Ok done) kept stands is = rw is (refl, stands)
+writes_merges old new was now (Err SeenRefused) kept stands (inl is) = rw is (refl, inl kept)
+writes_merges old new was now (Err SeenRefused) kept stands (inr is) = rw is (refl, inr (Two, false, stands))
 writes_merges old new was now (Err NoMemory) kept stands is = is
 writes_merges old new was now (Err _) kept stands never = absurd never
 
@@ -113,13 +95,13 @@ GrowsBy added was now = Grows was.rows was.intent added now.rows now.intent
 pub grown : AppendedCounts → (old new : Stored) (added : List ℕ) (was now : Held) → bytes_in old.content ≢ [] → GrowsBy added was now
     → Appends {T = Unit {0}} old added (Ok tt) new → Saves old was now (Ok tt) new
 grown counts old new added was now some grows appends =
-    let is : new ≡ holding old (bytes_in old.content ++ added) = appends (bytes_in old.content) (is_there old.content some) in
-    (ap (λ (s : Stored). s.failures) is, λ stood. subst (λ (s : Stored). Steady s.content now) (sym is) (counts (bytes_in old.content) added was.rows now.rows was.intent now.intent some stood grows))
+    rw (appends (bytes_in old.content) (is_there old.content some))
+    (refl, λ stood. counts (bytes_in old.content) added was.rows now.rows was.intent now.intent some stood grows)
 
 kept_front : AppendedCounts → CutIsIgnored → (bytes added front rest : List ℕ) (was now : Held) → bytes ≢ [] → GrowsBy added was now → Means bytes (Rows Two was.rows was.intent false) → added ≡ front ++ rest
     → Keeps (Some (bytes ++ front)) was ⊎ Keeps (Some (bytes ++ front)) now
 kept_front counts ignored bytes added front [] was now some grows stood split =
-    inr (Two, false, subst (λ (f : List ℕ). Means (bytes ++ f) (Rows Two now.rows now.intent false)) (split ∙ append-nil front) (counts bytes added was.rows now.rows was.intent now.intent some stood grows))
+    inr (Two, false, rw (split, append-nil) at (counts bytes added was.rows now.rows was.intent now.intent some stood grows))
 kept_front counts ignored bytes added front (byte ∷ rest) was now some grows stood split =
     inl (Two, has_bytes front, ignored bytes added front (byte ∷ rest) was.rows now.rows was.intent now.intent some stood grows split (λ none. true≢false (ap has_bytes none)))
 
@@ -127,22 +109,15 @@ pub cut_short : AppendedCounts → CutIsIgnored → (old new : Stored) (added : 
     → Appends {T = Unit {0}} old added (Err fault) new → Saves old was now (Err SeenRefused) new
 cut_short counts ignored old new added was now fault some grows appends =
     let cut = appends (bytes_in old.content) (is_there old.content some) in
-    let is : new ≡ counted (holding old (bytes_in old.content ++ cut.0)) = cut.3 in (
-      ap (λ (s : Stored). s.failures) is,
-      λ stood. subst (λ (s : Stored). Keeps s.content was ⊎ Keeps s.content now) (sym is)
-          (kept_front counts ignored (bytes_in old.content) added cut.0 cut.1 was now some grows stood cut.2),
-    )
+    rw cut.3 (refl, λ stood. kept_front counts ignored (bytes_in old.content) added cut.0 cut.1 was now some grows stood cut.2)
 
 -- ---- a mark, and a listing
-
-no_cons : {row : Row} {rows : List Row} → row ∷ rows ≡ [] → ⊥
-no_cons is = omega (arith, ap length is)
 
 -- a group's row leaves no rows empty
 taken_by : (has : Bool) (rows : List Row) (row : Row) → rows ≢ [] → (if has then marked rows row.uid else (rows ++ row ∷ [])) ≢ []
 taken_by has [] row some = absurd (some refl)
-taken_by true (first ∷ rows) row some = λ none. no_cons none
-taken_by false (first ∷ rows) row some = λ none. no_cons none
+taken_by true (first ∷ rows) row some = λ none. cc
+taken_by false (first ∷ rows) row some = λ none. cc
 
 still_some : (rows group : List Row) → rows ≢ [] → taken_all rows group ≢ []
 still_some rows [] some = some
@@ -152,17 +127,17 @@ still_some rows (row ∷ group) some = still_some (taken rows row) group (taken_
 pub mark_begun : (content : Option (List ℕ)) (was now : List Row) (before after : Option Intent) (uid group : List ℕ) → Steady content (held was before) → now ≡ marked was uid → Updates was before group now after → group ≢ [] → bytes_in content ≢ []
 mark_begun content was now before after uid group steady marks (inl same) some none = some same.0
 mark_begun content was now before after uid group steady marks (inr (rows, is, bytes, grown', closed)) some none =
-    let no_row : was ≡ [] = (empty_means Two was before false (subst (λ (b : List ℕ). Means b (Rows Two was before false)) none steady)).0 in
+    let no_row : was ≡ [] = (empty_means Two was before false (rw none at steady)).0 in
     by_rows rows is.count.0 (sym grown' ∙ marks ∙ ap (λ (r : List Row). marked r uid) no_row) no_row
   where
     by_rows : (rows : List Row) → 1 ≤ length rows → taken_all was rows ≡ [] → was ≡ [] → ⊥
     by_rows [] count nothing no_row = absurd (omega (arith, count))
-    by_rows (row ∷ more) count nothing no_row = still_some (row ∷ []) more (λ e. no_cons e) (subst (λ (r : List Row). taken_all (taken r row) more ≡ []) no_row nothing)
+    by_rows (row ∷ more) count nothing no_row = still_some (row ∷ []) more (λ e. cc) (rw no_row at nothing)
 
 -- where an id has a row, the file has bytes
 pub row_begun : (content : Option (List ℕ)) (rows : List Row) (uid : List ℕ) → Steady content (none_open rows) → has_row rows uid ≡ true → bytes_in content ≢ []
 row_begun content rows uid steady has none =
-    let no_row : rows ≡ [] = (empty_means Two rows None false (subst (λ (b : List ℕ). Means b (Rows Two rows None false)) none steady)).0 in
+    let no_row : rows ≡ [] = (empty_means Two rows None false (rw none at steady)).0 in
     true≢false (sym has ∙ ap (λ (r : List Row). has_row r uid) no_row)
 
 -- an intent's line opens it
@@ -171,11 +146,11 @@ opens rows intent line is has line_is =
     inr (record { intent = intent; is_one = is; row = has; closed = refl; bytes_are = line_is; same = refl; opened = refl })
 
 pub has_row_where_none : (rows : List Row) (intent : Option Intent) → intent ≡ None → IntentHasRow rows intent
-has_row_where_none rows intent closed = subst (λ (i : Option Intent). IntentHasRow rows i) (sym closed) tt
+has_row_where_none rows intent closed = rw closed tt
 
 -- no intent is open, so it is of any id
 pub none_or_of : (uid : List ℕ) (intent : Option Intent) → intent ≡ None → IsNoneOrOf uid intent
-none_or_of uid intent closed = subst (λ (i : Option Intent). IsNoneOrOf uid i) (sym closed) tt
+none_or_of uid intent closed = rw closed tt
 
 pub saves_steady : (old new : Stored) (was now : Held) (r : Result (Unit {0}) Fault) → Steady old.content was → Saves old was now r new → OnOk r (Steady new.content now)
 saves_steady old new was now (Ok done) stood saves = saves.1 stood

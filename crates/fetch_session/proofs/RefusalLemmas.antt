@@ -4,7 +4,7 @@ use Rattle.mail_terms.specs.FailureCount.{Tallies, counted_up}
 use Rattle.pop3_wire.specs.Link.{Link}
 use Rattle.pop3_client.specs.Conversation.{is_refusal}
 use Rattle.pop3_client.specs.declared.fault.Fault.{Fault}
-use Rattle.pop3_client.specs.declared.fault.Fault.TheVariants.{ConnectionEnded, ReadFailed, WriteFailed, ReplyTooLong, BadReply, Refused, BadListing, ListingsDisagree, TooMany, TextTooLong, StoreRefused, SeenRefused, NoMemory, BadSeen}
+use Rattle.pop3_client.specs.declared.fault.Fault.TheVariants.{ReadFailed, WriteFailed}
 use Rattle.fetch_session.specs.declared.fault.Cut.{Cut}
 use Rattle.fetch_session.specs.declared.report.Outcome.{Outcome}
 use Rattle.fetch_session.specs.declared.report.Outcome.TheVariants.{Cut as WasCut}
@@ -32,28 +32,17 @@ till_cut a b c (Err cut) first then = before_cut a b c cut first then
 
 -- a fault of the conversation: behind a refused call nothing is said
 by_fault : (why : Fault) (old new : Link) → Tallies (is_refusal why) old.failures new.failures → RefusesBefore old (cut_of why None) new
-by_fault ConnectionEnded old new same = inl same
 by_fault ReadFailed old new up = inr (up, refl, refl)
 by_fault WriteFailed old new up = inr (up, refl, refl)
-by_fault ReplyTooLong old new same = inl same
-by_fault BadReply old new same = inl same
-by_fault (Refused to) old new same = inl same
-by_fault BadListing old new same = inl same
-by_fault ListingsDisagree old new same = inl same
-by_fault TooMany old new same = inl same
-by_fault TextTooLong old new same = inl same
-by_fault (StoreRefused reason) old new same = inl same
-by_fault SeenRefused old new same = inl same
-by_fault NoMemory old new same = inl same
-by_fault (BadSeen line) old new same = inl same
+by_fault _ old new same = inl same
 
 pub cut_by : (fault : Fault) (cut : Cut) (old new : Link) → cut ≡ cut_of fault None → Tallies (is_refusal fault) old.failures new.failures → RefusesBefore old cut new
-cut_by fault cut old new plain counts = subst (λ (c : Cut). RefusesBefore old c new) (sym plain) (by_fault fault old new counts)
+cut_by fault cut old new plain counts = rw plain (by_fault fault old new counts)
 
 -- a session that was cut and left
 pub left_alone : (cut : Cut) (a b c : Link) (outcome : Outcome) → outcome ≡ WasCut cut.fault → RefusesBefore a cut b → RefusesAtMostOne b c → (cut.rest ≡ None → tail cut.fault ≡ Nothing → RefusesNone b c) → RefusesByOutcome a outcome c
 left_alone cut a b c outcome is before left silent =
-    subst (λ (o : Outcome). RefusesByOutcome a o c) (sym is)
+    rw is
     (elim before [
       | inl same ↦ then_at_most_one a b c same left
       | inr (up, none, nothing) ↦ inr (silent none nothing ∙ up)

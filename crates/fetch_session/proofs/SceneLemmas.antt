@@ -23,16 +23,13 @@ pub gained_none : (m : Maildir) → Gained m m []
 gained_none m = record { in_new = sym (append-nil m.in_new); in_cur = refl; there = refl; calm = λ calm. calm; failures = omega arith }
 
 pub gained_on : (a b c : Maildir) (xs ys : List File) → Gained a b xs → Gained b c ys → Gained a c (xs ++ ys)
-gained_on a b c xs ys first then =
-    let low : a.failures ≤ b.failures = first.failures in
-    let high : b.failures ≤ c.failures = then.failures in
-    record {
-      in_new = then.in_new ∙ ap (λ (l : List File). l ++ ys) first.in_new ∙ append_assoc a.in_new xs ys;
-      in_cur = then.in_cur ∙ first.in_cur;
-      there = then.there ∙ first.there;
-      calm = λ calm. then.calm (first.calm calm);
-      failures = omega arith;
-    }
+gained_on a b c xs ys first then = record {
+  in_new = simp (then.in_new, first.in_new, append_assoc);
+  in_cur = then.in_cur ∙ first.in_cur;
+  there = then.there ∙ first.there;
+  calm = λ calm. then.calm (first.calm calm);
+  failures = omega (arith, first.failures, then.failures);
+}
 
 pub marked_on : (rows : List Row) (xs ys : List (List ℕ)) → marked_all rows (xs ++ ys) ≡ marked_all (marked_all rows xs) ys
 marked_on rows [] ys = refl
@@ -56,8 +53,7 @@ content_on : (content : Option (List ℕ)) (xs ys : List (List ℕ))
     → option_map (λ (was : List ℕ). was ++ flat_map entry_of ys) (option_map (λ (was : List ℕ). was ++ flat_map entry_of xs) content)
     ≡ option_map (λ (was : List ℕ). was ++ flat_map entry_of (xs ++ ys)) content
 content_on None xs ys = refl
-content_on (Some was) xs ys =
-    ap Some (append_assoc was (flat_map entry_of xs) (flat_map entry_of ys) ∙ ap (λ (l : List ℕ). was ++ l) (sym (flat_map-append entry_of xs ys)))
+content_on (Some was) xs ys = simp (flat_map-append, append_assoc)
 
 appended_none : (mbox : Stored) → Appended mbox mbox []
 appended_none mbox = record { content = content_none mbox.content; failures = refl }
@@ -74,17 +70,14 @@ brings_none AsEntries s = appended_none s.mbox
 
 brings_on : (target : Target) (xs ys : List Done) (a b c : Stores) → Brings target xs a b → Brings target ys b c → Brings target (xs ++ ys) a c
 brings_on (AsFiles account) xs ys a b c first then =
-    subst (λ (fs : List File). Gained a.maildir c.maildir fs) (sym (flat_map-append (λ (d : Done). files_in account d.task d.replies) xs ys))
-    (gained_on a.maildir b.maildir c.maildir (files_of account xs) (files_of account ys) first then)
-brings_on AsEntries xs ys a b c first then =
-    subst (λ (ts : List (List ℕ)). Appended a.mbox c.mbox ts) (sym (flat_map-append (λ (d : Done). texts_in d.task d.replies) xs ys))
-    (appended_on a.mbox b.mbox c.mbox (texts_of xs) (texts_of ys) first then)
+    simp flat_map-append (gained_on a.maildir b.maildir c.maildir (files_of account xs) (files_of account ys) first then)
+brings_on AsEntries xs ys a b c first then = simp flat_map-append (appended_on a.mbox b.mbox c.mbox (texts_of xs) (texts_of ys) first then)
 
 -- a task that stored nothing
 pub brings_same : (target : Target) (done : Done) (s : Stores) → ((account : List ℕ) → files_in account done.task done.replies ≡ []) → texts_in done.task done.replies ≡ []
     → Brings target (done ∷ []) s s
-brings_same (AsFiles account) done s files texts = subst (λ (fs : List File). Gained s.maildir s.maildir (fs ++ [])) (sym (files account)) (gained_none s.maildir)
-brings_same AsEntries done s files texts = subst (λ (ts : List (List ℕ)). Appended s.mbox s.mbox (ts ++ [])) (sym texts) (appended_none s.mbox)
+brings_same (AsFiles account) done s files texts = rw files (gained_none s.maildir)
+brings_same AsEntries done s files texts = rw texts (appended_none s.mbox)
 
 pub went_none : (target : Target) (s : Scene) → Went target [] s s
 went_none target s =
@@ -92,17 +85,13 @@ went_none target s =
 
 pub went_on : (target : Target) (xs ys : List Done) (a b c : Scene) → Went target xs a b → Went target ys b c → Went target (xs ++ ys) a c
 went_on target xs ys a b c first then = record {
-  talked = subst (λ (ts : List Turn). Talked ts (replies_of (xs ++ ys)) a.place c.place) (sym (flat_map-append (λ (d : Done). turns_in d.task) xs ys))
-      (subst (λ (rs : List WholeReply). Talked (turns_of xs ++ turns_of ys) rs a.place c.place) (sym (flat_map-append (λ (d : Done). d.replies) xs ys))
-      (talked_on (turns_of xs) (turns_of ys) (replies_of xs) (replies_of ys) a.place b.place c.place first.talked then.talked));
+  talked = simp flat_map-append (talked_on (turns_of xs) (turns_of ys) (replies_of xs) (replies_of ys) a.place b.place c.place first.talked then.talked);
   each = all_append IsAnswered xs ys first.each then.each;
   stored = brings_on target xs ys a.store b.store c.store first.stored then.stored;
-  rows = then.rows ∙ ap (λ (r : List Row). marked_all r (ids_of ys)) first.rows ∙ sym (marked_on a.rows (ids_of xs) (ids_of ys))
-      ∙ ap (λ (is : List (List ℕ)). marked_all a.rows is) (sym (flat_map-append (λ (d : Done). ids_in d.task) xs ys));
+  rows = simp (then.rows, first.rows, flat_map-append, marked_on);
   saved = λ stands. then.saved (first.saved stands);
   file_count = omega (arith, first.file_count, then.file_count);
-  lines = then.lines ∙ ap (λ (l : List ReportLine). l ++ lines_of ys) first.lines ∙ append_assoc a.lines (lines_of xs) (lines_of ys)
-      ∙ ap (λ (l : List ReportLine). a.lines ++ l) (sym (flat_map-append (λ (d : Done). lines_in d.task d.replies) xs ys));
+  lines = simp (then.lines, first.lines, flat_map-append, append_assoc);
 }
 
 unfoldable pub fell_first : (target : Target) (task : Task) (later : List Task) (a new : Scene) (f : Cut) → Stops target task a f new → Fell target (task ∷ later) a f new
@@ -115,9 +104,7 @@ fell_on target xs ys a b new f first then = record {
   next = then.next;
   later = then.later;
   mid = then.mid;
-  split = ap (λ (l : List Task). l ++ ys) first.all ∙ ap (λ (l : List Task). tasks_of first.dones ++ l) then.split
-      ∙ sym (append_assoc (tasks_of first.dones) (tasks_of then.dones) (then.next ∷ then.later))
-      ∙ ap (λ (l : List Task). l ++ then.next ∷ then.later) (sym (map-append task_in first.dones then.dones));
+  split = simp (first.all, then.split, map-append, append_assoc);
   went = went_on target first.dones then.dones a b then.mid first.went then.went;
   stops = then.stops;
 }
@@ -128,7 +115,7 @@ fell_before target xs ys a new f fell = record {
   next = fell.next;
   later = fell.later ++ ys;
   mid = fell.mid;
-  split = ap (λ (l : List Task). l ++ ys) fell.split ∙ append_assoc (tasks_of fell.dones) (fell.next ∷ fell.later) ys;
+  split = rw fell.split (append_assoc (tasks_of fell.dones) (fell.next ∷ fell.later) ys);
   went = fell.went;
   stops = fell.stops;
 }
@@ -139,8 +126,7 @@ all_none target s = record { dones = []; all = refl; went = went_none target s }
 unfoldable pub all_on : (target : Target) (xs ys : List Task) (a b c : Scene) → AllWent target xs a b → AllWent target ys b c → AllWent target (xs ++ ys) a c
 all_on target xs ys a b c first then = record {
   dones = first.dones ++ then.dones;
-  all = ap (λ (l : List Task). l ++ ys) first.all ∙ ap (λ (l : List Task). tasks_of first.dones ++ l) then.all
-      ∙ sym (map-append task_in first.dones then.dones);
+  all = simp (first.all, then.all, map-append);
   went = went_on target first.dones then.dones a b c first.went then.went;
 }
 

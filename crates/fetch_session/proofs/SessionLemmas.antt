@@ -29,7 +29,7 @@ dealt disk files sure settings target now old before result new after notes item
       mid = mid;
       enters = enters;
       total = total;
-      carries = subst (λ (l : List ReportLine). CarriesForGood disk files sure settings target items now mid before.store before.file l result new after.store after.file notes.lines notes.skipped store f) none carries;
+      carries = rw none at carries;
     })
   where
     by : (r : Result (Unit {0}) Cut) → DealtForGood disk files sure settings target now old before r new after notes store f → ProceedsForGood disk files sure settings target now old before r new after notes store f
@@ -45,8 +45,7 @@ left_session {D} {F} {disk} {files} {sure} {settings} {target} {now} {link} {lin
   result = result;
   mid = mid;
   notes = notes;
-  proceeds = subst (λ (r : List ℕ). ProceedsForGood disk files sure settings target now (at link r) before result mid after notes store f) none
-      (subst (λ (i : Target). ProceedsForGood disk files sure settings i now (at link reader) before result mid after notes store f) same proceeds);
+  proceeds = rw (same, none) at proceeds;
   leaves = leaves;
   reports = reports;
 }
@@ -75,22 +74,16 @@ session_in {D} {F} {disk} {files} {sure} {settings} {target} {now} {link} {befor
 
 -- ---- a session of an account with a Maildir, and of one with an mboxrd file
 
-abbrev is_files : Kind → Bool
-is_files Files = true
-is_files Entries = false
-
 pub files_session : {D F : Type 0} (disk : DiskGhosts D) (file : FileGhosts F) (store store' : Store D F) (digits : List ℕ) (Did : Target → Stores → Stores → Type 0) (A B C : Type 0) → kind_of store' ≡ kind_of store
     → (is_sound disk file store' → A × is_sound disk file store × B × C × Did (target_of store digits) (stores_of disk file store) (stores_of disk file store'))
     → IsSoundMaildir disk store' → A × IsSoundMaildir disk store × B × C × Did (AsFiles digits) (in_maildir (maildir_of disk store)) (in_maildir (maildir_of disk store'))
 files_session disk file (InMaildir device) (InMaildir device') digits Did A B C kind met sound = met sound
-files_session disk file (InMbox device) (InMaildir device') digits Did A B C kind met sound = absurd (true≢false (ap is_files kind))
-files_session disk file (InMaildir device) (InMbox device') digits Did A B C kind met never = absurd never
-files_session disk file (InMbox device) (InMbox device') digits Did A B C kind met never = absurd never
+files_session disk file (InMbox device) (InMaildir device') digits Did A B C kind met sound = absurd cc
+files_session disk file store (InMbox device') digits Did A B C kind met never = absurd never
 
 pub entries_session : {D F : Type 0} (disk : DiskGhosts D) (file : FileGhosts F) (store store' : Store D F) (digits : List ℕ) (Did : Target → Stores → Stores → Type 0) (A B C : Type 0) → kind_of store' ≡ kind_of store
     → (is_sound disk file store' → A × is_sound disk file store × B × C × Did (target_of store digits) (stores_of disk file store) (stores_of disk file store'))
     → IsSoundMbox file store' → A × IsSoundMbox file store × B × C × Did AsEntries (in_mbox (mbox_of file store)) (in_mbox (mbox_of file store'))
 entries_session disk file (InMbox device) (InMbox device') digits Did A B C kind met sound = met sound
-entries_session disk file (InMaildir device) (InMbox device') digits Did A B C kind met sound = absurd (true≢false (sym (ap is_files kind)))
-entries_session disk file (InMaildir device) (InMaildir device') digits Did A B C kind met never = absurd never
-entries_session disk file (InMbox device) (InMaildir device') digits Did A B C kind met never = absurd never
+entries_session disk file (InMaildir device) (InMbox device') digits Did A B C kind met sound = absurd cc
+entries_session disk file store (InMaildir device') digits Did A B C kind met never = absurd never

@@ -9,8 +9,8 @@ use Rattle.mail_store.specs.Maildir.{Maildir, File, dropped, counted}
 use Rattle.mail_store.specs.FlatFile.{Stored}
 use Rattle.pop3_client.specs.Turns.{Turn, retr}
 use Rattle.pop3_wire.specs.Reading.{WholeReply, reply_bytes}
-use Rattle.pop3_client.specs.Conversation.{Talked, Broke}
-use Rattle.pop3_client.proofs.TalkLemmas.{talked_on}
+use Rattle.pop3_client.specs.Conversation.{Talked, ConversationsArePaced}
+use Rattle.pop3_client.proofs.TalkLemmas.{talked_on, stopped_first}
 use Rattle.pop3_client.specs.declared.fault.Fault.{Fault}
 use Rattle.pop3_client.specs.declared.fault.Fault.TheVariants.{StoreRefused, SeenRefused, NoMemory}
 use Rattle.pop3_client.specs.declared.fault.Why.TheVariants.{Refused as DeviceRefused}
@@ -22,74 +22,61 @@ use Rattle.mail_store.specs.FileName.{mail_file}
 use Rattle.fetch_session.specs.Record.{Keeps, Steady, Saves}
 use Rattle.fetch_session.specs.Scene.{Scene, Fell, Broken, NoFile, FileNotSaved}
 use Rattle.fetch_session.specs.Target.{AsFiles, Stores}
-use Rattle.fetch_session.specs.Laws.{Stands, ExtraIs, MarksAre, CutShort}
+use Rattle.fetch_session.specs.Laws.{Stands, ExtraIs, MarksAre, CutShort, StoppingCutsShort, UnsavedFilesKeep}
 use Rattle.fetch_session.proofs.SceneLemmas.{marked_on}
-use Rattle.fetch_session.proofs.RecordLemmas.{keeps_at, steady_keeps}
-
--- what came after the replies
-broke_got : (turn : Turn) (mid new : Place) (why : Fault) → Broke turn mid new why → (more : List ℕ) × (new.link.got ≡ mid.link.got ++ more)
-broke_got turn mid new why (inl said) = ([], said.1.got ∙ sym (append-nil mid.link.got))
-broke_got turn mid new why (inr (inl there)) = (there.gained, there.got)
-broke_got turn mid new why (inr (inr wanting)) = ([], ap (λ (p : Place). p.link.got) wanting.2 ∙ sym (append-nil mid.link.got))
+use Rattle.fetch_session.proofs.RecordLemmas.{steady_keeps}
 
 stand : (turns : List Turn) (replies : List WholeReply) (old mid new : Scene) (more : List ℕ) → old.place.waiting ≡ [] → Talked turns replies old.place mid.place
     → new.place.link.got ≡ mid.place.link.got ++ more → Stands replies old new
-stand turns replies old mid new more none talked is = (
-  mid.place.waiting ++ more,
-  is ∙ ap (λ (l : List ℕ). l ++ more) talked.got ∙ append_assoc old.place.link.got talked.gained more
-      ∙ ap (λ (l : List ℕ). old.place.link.got ++ l) (ap (λ (l : List ℕ). l ++ more) heard ∙ append_assoc (flat_map reply_bytes replies) mid.place.waiting more),
-)
-  where
-    heard : talked.gained ≡ flat_map reply_bytes replies ++ mid.place.waiting
-    heard = ap (λ (l : List ℕ). l ++ talked.gained) (sym none) ∙ talked.heard
+stand turns replies old mid new more none talked is =
+    let heard = rw none at talked.heard in
+    (mid.place.waiting ++ more, simp (is, talked.got, heard, append_assoc))
 
--- which files are there more
-pub record Extra (account : List ℕ) (taken : List Done) (next : List Task) (old : Scene) (fault : Fault) (new mid : Scene) : Type 0 where
-  pub extra : List File
-  pub in_new : new.store.maildir.in_new ≡ mid.store.maildir.in_new ++ extra
-  pub in_cur : new.store.maildir.in_cur ≡ mid.store.maildir.in_cur
-  pub extra_is : ExtraIs account taken next old fault new extra
+-- the record wasn't saved: why, and which record its file stands for
+unsaved_why : (old : Stored) (was now : Held) (fault : Fault) (new : Stored) → Saves old was now (Err fault) new → (fault ≡ SeenRefused) ⊎ (fault ≡ NoMemory)
+unsaved_why old was now SeenRefused new is = inl refl
+unsaved_why old was now NoMemory new is = inr refl
+unsaved_why old was now _ new never = absurd never
 
-module _ (account : List ℕ) (tasks : List Task) (old new : Scene) (cut : Cut) (fell : Fell (AsFiles account) tasks old cut new) (none : old.place.waiting ≡ []) (stood : Steady old.file.content (none_open old.rows)) where
+pub unsaved_keeps : UnsavedFilesKeep
+unsaved_keeps old was now SeenRefused new is = is.1
+unsaved_keeps old was now NoMemory new is = λ stood. inl (rw is (steady_keeps old.content was stood))
+unsaved_keeps old was now _ new never = absurd never
+
+module _ (account : List ℕ) (tasks : List Task) (old new : Scene) (cut : Cut) (fell : Fell (AsFiles account) tasks old cut new) (none : old.place.waiting ≡ [])
+    (stood : Steady old.file.content (none_open old.rows)) where
   -- nothing was marked
-  short_unmarked : (more : List ℕ) → new.place.link.got ≡ fell.mid.place.link.got ++ more → Extra account fell.dones (fell.next ∷ fell.later) old cut.fault new fell.mid → new.file ≡ fell.mid.file
-      → new.lines ≡ fell.mid.lines → CutShort account tasks old cut.fault new
-  short_unmarked more got kept file lines = record {
+  short_unmarked : (more : List ℕ) → new.place.link.got ≡ fell.mid.place.link.got ++ more → new.file ≡ fell.mid.file → new.lines ≡ fell.mid.lines → (extra : List File)
+      → new.store.maildir.in_new ≡ fell.mid.store.maildir.in_new ++ extra → new.store.maildir.in_cur ≡ fell.mid.store.maildir.in_cur
+      → ExtraIs account fell.dones (fell.next ∷ fell.later) old cut.fault new extra → CutShort account tasks old cut.fault new
+  short_unmarked more got file lines extra in_new in_cur extra_is = record {
     taken = fell.dones;
     next = fell.next ∷ fell.later;
-    extra = kept.extra;
+    extra = extra;
     marks = ids_of fell.dones;
     split = fell.split;
     good = fell.went.talked.good;
     got = stand (turns_of fell.dones) (replies_of fell.dones) old fell.mid new more none fell.went.talked got;
     told = lines ∙ fell.went.lines;
-    files = kept.in_new ∙ ap (λ (l : List File). l ++ kept.extra) fell.went.stored.in_new ∙ append_assoc old.store.maildir.in_new (files_of account fell.dones) kept.extra;
-    others = kept.in_cur ∙ fell.went.stored.in_cur;
-    extra_is = kept.extra_is;
+    files = simp (in_new, fell.went.stored.in_new, append_assoc);
+    others = in_cur ∙ fell.went.stored.in_cur;
+    extra_is = extra_is;
     marks_are = inl refl;
-    record_is = keeps_at fell.mid.file new.file fell.mid.file.content (none_open (marked_all old.rows (ids_of fell.dones))) (ap (λ (s : Stored). s.content) file)
-        (subst (λ (r : List Row). Keeps fell.mid.file.content (none_open r)) fell.went.rows (steady_keeps fell.mid.file.content (none_open fell.mid.rows) (fell.went.saved stood)));
-  }
-
-  nothing_new : (m : Maildir) → new.store.maildir ≡ m → m.in_new ≡ fell.mid.store.maildir.in_new → m.in_cur ≡ fell.mid.store.maildir.in_cur → Extra account fell.dones (fell.next ∷ fell.later) old cut.fault new fell.mid
-  nothing_new m is files cur = record {
-    extra = [];
-    in_new = ap (λ (x : Maildir). x.in_new) is ∙ files ∙ sym (append-nil fell.mid.store.maildir.in_new);
-    in_cur = ap (λ (x : Maildir). x.in_cur) is ∙ cur;
-    extra_is = inl refl;
+    record_is = rw file (rw fell.went.rows at (steady_keeps fell.mid.file.content (none_open fell.mid.rows) (fell.went.saved stood)));
   }
 
   -- the conversation broke
-  short_broken : Broken fell.next fell.mid new cut → CutShort account tasks old cut.fault new
-  short_broken broken =
-      let more = broke_got broken.turn fell.mid.place new.place cut.fault broken.broke in
-      short_unmarked more.0 more.1 (nothing_new fell.mid.store.maildir (ap (λ (s : Stores). s.maildir) broken.store) refl refl) broken.file broken.lines
+  short_broken : ConversationsArePaced → Broken fell.next fell.mid new cut → CutShort account tasks old cut.fault new
+  short_broken paced broken =
+      let p = paced (broken.turn ∷ []) fell.mid.place new.place (Err cut.fault) (stopped_first broken.turn [] fell.mid.place new.place cut.fault broken.broke) in
+      short_unmarked p.gained p.got broken.file broken.lines [] (rw (broken.store, append-nil)) (rw broken.store) (inl refl)
 
   -- the text came whole
   whole_extra : (refused : NoFile account fell.next fell.mid new cut) → refused.rest.spot ≡ AtEnd → cut.fault ≡ StoreRefused DeviceRefused
       → ExtraIs account fell.dones (fell.next ∷ fell.later) old cut.fault new (mail_file account refused.uid refused.text ∷ [])
   whole_extra refused done is =
       let came = refused.whole done in
+      let talked = talked_on (turns_of fell.dones) (retr refused.number ∷ []) (replies_of fell.dones) (came.0 ∷ []) old.place fell.mid.place new.place fell.went.talked came.1 in
       inr (
         is,
         (
@@ -97,11 +84,9 @@ module _ (account : List ℕ) (tasks : List Task) (old new : Scene) (cut : Cut) 
           refused.uid,
           fell.later,
           came.0,
-          ap (λ (t : Task). t ∷ fell.later) refused.is,
-          ap (λ (t : List ℕ). mail_file account refused.uid t ∷ []) came.2,
-          stand (turns_of fell.dones ++ retr refused.number ∷ []) (replies_of fell.dones ++ came.0 ∷ []) old new new [] none
-              (talked_on (turns_of fell.dones) (retr refused.number ∷ []) (replies_of fell.dones) (came.0 ∷ []) old.place fell.mid.place new.place fell.went.talked came.1)
-              (sym (append-nil new.place.link.got)),
+          rw refused.is,
+          rw came.2,
+          stand (turns_of fell.dones ++ retr refused.number ∷ []) (replies_of fell.dones ++ came.0 ∷ []) old new new [] none talked (sym (append-nil new.place.link.got)),
         ),
       )
 
@@ -109,96 +94,51 @@ module _ (account : List ℕ) (tasks : List Task) (old new : Scene) (cut : Cut) 
   short_not_stored refused =
       let under = refused.fetching.under in
       let opened = refused.fetching.opened in
-      short_unmarked (opened.gained ++ under.gained)
-      (under.drew.got ∙ ap (λ (l : List ℕ). l ++ under.gained) opened.got ∙ append_assoc fell.mid.place.link.got opened.gained under.gained)
-      (elim refused.refuses [
-        | inl missing ↦ nothing_new fell.mid.store.maildir missing.2 refl refl
-        | inr (is, inl same) ↦ nothing_new (counted (dropped fell.mid.store.maildir)) same refl refl
-        | inr (is, inr (done, there)) ↦ record {
-          extra = mail_file account refused.uid refused.text ∷ [];
-          in_new = ap (λ (m : Maildir). m.in_new) there;
-          in_cur = ap (λ (m : Maildir). m.in_cur) there;
-          extra_is = whole_extra refused done is;
-        }
-      ]) refused.file refused.lines
+      let short = short_unmarked (opened.gained ++ under.gained) (simp (under.drew.got, opened.got, append_assoc)) refused.file refused.lines in
+      elim refused.refuses [
+        | inl missing ↦ short [] (rw (missing.2, append-nil)) (rw missing.2) (inl refl)
+        | inr (is, inl same) ↦ short [] (rw (same, append-nil)) (rw same) (inl refl)
+        | inr (is, inr (done, there)) ↦ short (mail_file account refused.uid refused.text ∷ []) (rw there) (rw there) (whole_extra refused done is)
+      ]
 
--- the record wasn't saved: why, and which record its file stands for
-pub record Unsaved (old : Stored) (was now : Held) (fault : Fault) (new : Stored) : Type 0 where
-  pub why : (fault ≡ SeenRefused) ⊎ (fault ≡ NoMemory)
-  pub content : Steady old.content was → Keeps new.content was ⊎ Keeps new.content now
+  short_not_saved : FileNotSaved account fell.next fell.mid new cut → CutShort account tasks old cut.fault new
+  short_not_saved refused =
+      elim (unsaved_keeps fell.mid.file (none_open fell.mid.rows) (none_open (marked fell.mid.rows refused.uid)) cut.fault new.file refused.saves (fell.went.saved stood)) [
+        | inl was ↦ with_marks (ids_of fell.dones) (inr (why, (refused.uid, flat_map-append (λ (d : Done). ids_in d.task) fell.dones (last ∷ [])))) (rw fell.went.rows at was)
+        | inr is ↦ with_marks (ids_of (fell.dones ++ last ∷ [])) (inl refl) (simp (flat_map-append, marked_on) (rw fell.went.rows at is))
+      ]
+    where
+      last : Done
+      last = record { task = stores refused.number refused.uid; replies = refused.reply ∷ [] }
 
-unsaved : (old : Stored) (was now : Held) (fault : Fault) (new : Stored) → Saves old was now (Err fault) new → Unsaved old was now fault new
-unsaved old was now SeenRefused new is = record { why = inl refl; content = is.1 }
-unsaved old was now NoMemory new is = record { why = inr refl; content = λ stood. inl (keeps_at old new old.content was (ap (λ (s : Stored). s.content) is) (steady_keeps old.content was stood)) }
-unsaved old was now _ new never = absurd never
+      why : (cut.fault ≡ SeenRefused) ⊎ (cut.fault ≡ NoMemory)
+      why = unsaved_why fell.mid.file (none_open fell.mid.rows) (none_open (marked fell.mid.rows refused.uid)) cut.fault new.file refused.saves
 
-pub unsaved_keeps : (old : Stored) (was now : Held) (fault : Fault) (new : Stored) → Saves old was now (Err fault) new → Steady old.content was → Keeps new.content was ⊎ Keeps new.content now
-unsaved_keeps old was now fault new saves = (unsaved old was now fault new saves).content
+      talked : Talked (turns_of (fell.dones ++ last ∷ [])) (replies_of (fell.dones ++ last ∷ [])) old.place new.place
+      talked = simp flat_map-append (talked_on (turns_of fell.dones) (retr refused.number ∷ []) (replies_of fell.dones) (refused.reply ∷ []) old.place fell.mid.place new.place fell.went.talked refused.talked)
 
-short_not_saved : (account : List ℕ) (tasks : List Task) (old new : Scene) (cut : Cut) (fell : Fell (AsFiles account) tasks old cut new) → old.place.waiting ≡ [] → Steady old.file.content (none_open old.rows)
-    → FileNotSaved account fell.next fell.mid new cut → CutShort account tasks old cut.fault new
-short_not_saved account tasks old new cut fell none stood refused =
-    elim (missed.content (fell.went.saved stood)) [
-      | inl was ↦ with_marks (ids_of fell.dones) (inr (missed.why, (refused.uid, ids))) (subst (λ (r : List Row). Keeps new.file.content (none_open r)) fell.went.rows was)
-      | inr is ↦ with_marks (ids_of taken) (inl refl) (subst (λ (r : List Row). Keeps new.file.content (none_open r)) rows is)
-    ]
-  where
-    last : Done
-    last = record { task = stores refused.number refused.uid; replies = refused.reply ∷ [] }
+      with_marks : (marks : List (List ℕ)) → MarksAre (ids_of (fell.dones ++ last ∷ [])) cut.fault marks → Keeps new.file.content (none_open (marked_all old.rows marks))
+          → CutShort account tasks old cut.fault new
+      with_marks marks are stands = record {
+        taken = fell.dones ++ last ∷ [];
+        next = fell.later;
+        extra = [];
+        marks = marks;
+        split = simp (fell.split, refused.is, map-append, append_assoc);
+        good = talked.good;
+        got = stand (turns_of (fell.dones ++ last ∷ [])) (replies_of (fell.dones ++ last ∷ [])) old new new [] none talked (sym (append-nil new.place.link.got));
+        told = simp (refused.lines, fell.went.lines, flat_map-append, append_assoc);
+        files = simp (refused.stored.in_new, fell.went.stored.in_new, flat_map-append, append-nil, append_assoc);
+        others = refused.stored.in_cur ∙ fell.went.stored.in_cur;
+        extra_is = inl refl;
+        marks_are = are;
+        record_is = stands;
+      }
 
-    taken : List Done
-    taken = fell.dones ++ last ∷ []
-
-    missed : Unsaved fell.mid.file (none_open fell.mid.rows) (none_open (marked fell.mid.rows refused.uid)) cut.fault new.file
-    missed = unsaved fell.mid.file (none_open fell.mid.rows) (none_open (marked fell.mid.rows refused.uid)) cut.fault new.file refused.saves
-
-    ids : ids_of (fell.dones ++ last ∷ []) ≡ ids_of fell.dones ++ refused.uid ∷ []
-    ids = flat_map-append (λ (d : Done). ids_in d.task) fell.dones (last ∷ [])
-
-    rows : marked fell.mid.rows refused.uid ≡ marked_all old.rows (ids_of (fell.dones ++ last ∷ []))
-    rows = ap (λ (r : List Row). marked r refused.uid) fell.went.rows ∙ sym (marked_on old.rows (ids_of fell.dones) (refused.uid ∷ []))
-        ∙ ap (λ (l : List (List ℕ)). marked_all old.rows l) (sym ids)
-
-    replies : replies_of (fell.dones ++ last ∷ []) ≡ replies_of fell.dones ++ refused.reply ∷ []
-    replies = flat_map-append (λ (d : Done). d.replies) fell.dones (last ∷ [])
-
-    turns : turns_of (fell.dones ++ last ∷ []) ≡ turns_of fell.dones ++ retr refused.number ∷ []
-    turns = flat_map-append (λ (d : Done). turns_in d.task) fell.dones (last ∷ [])
-
-    talked : Talked (turns_of (fell.dones ++ last ∷ [])) (replies_of (fell.dones ++ last ∷ [])) old.place new.place
-    talked = subst (λ (ts : List Turn). Talked ts (replies_of (fell.dones ++ last ∷ [])) old.place new.place) (sym turns)
-        (subst (λ (rs : List WholeReply). Talked (turns_of fell.dones ++ retr refused.number ∷ []) rs old.place new.place) (sym replies)
-        (talked_on (turns_of fell.dones) (retr refused.number ∷ []) (replies_of fell.dones) (refused.reply ∷ []) old.place fell.mid.place new.place fell.went.talked refused.talked))
-
-    with_marks : (marks : List (List ℕ)) → MarksAre (ids_of (fell.dones ++ last ∷ [])) cut.fault marks → Keeps new.file.content (none_open (marked_all old.rows marks))
-        → CutShort account tasks old cut.fault new
-    with_marks marks are stands = record {
-      taken = fell.dones ++ last ∷ [];
-      next = fell.later;
-      extra = [];
-      marks = marks;
-      split = fell.split ∙ ap (λ (t : Task). tasks_of fell.dones ++ t ∷ fell.later) refused.is
-          ∙ sym (append_assoc (tasks_of fell.dones) (stores refused.number refused.uid ∷ []) fell.later)
-          ∙ ap (λ (l : List Task). l ++ fell.later) (sym (map-append task_in fell.dones (last ∷ [])));
-      good = talked.good;
-      got = stand (turns_of (fell.dones ++ last ∷ [])) (replies_of (fell.dones ++ last ∷ [])) old new new [] none talked (sym (append-nil new.place.link.got));
-      told = refused.lines ∙ ap (λ (l : List ReportLine). l ++ delivered refused.number refused.reply ∷ []) fell.went.lines
-          ∙ append_assoc old.lines (lines_of fell.dones) (delivered refused.number refused.reply ∷ [])
-          ∙ ap (λ (l : List ReportLine). old.lines ++ l) (sym (flat_map-append (λ (d : Done). lines_in d.task d.replies) fell.dones (last ∷ [])));
-      files = refused.stored.in_new ∙ ap (λ (l : List File). l ++ file_from account refused.uid refused.reply ∷ []) fell.went.stored.in_new
-          ∙ append_assoc old.store.maildir.in_new (files_of account fell.dones) (file_from account refused.uid refused.reply ∷ [])
-          ∙ ap (λ (l : List File). old.store.maildir.in_new ++ l)
-          (sym (flat_map-append (λ (d : Done). files_in account d.task d.replies) fell.dones (last ∷ [])) ∙ sym (append-nil (files_of account (fell.dones ++ last ∷ []))));
-      others = refused.stored.in_cur ∙ fell.went.stored.in_cur;
-      extra_is = inl refl;
-      marks_are = are;
-      record_is = stands;
-    }
-
-pub stopping_cuts_short : (account : List ℕ) (tasks : List Task) (old new : Scene) (cut : Cut) → Fell (AsFiles account) tasks old cut new → old.place.waiting ≡ [] → Steady old.file.content (none_open old.rows) → CutShort account tasks old cut.fault new
-stopping_cuts_short account tasks old new cut fell none stood =
+pub stopping_cuts_short : ConversationsArePaced → StoppingCutsShort
+stopping_cuts_short paced account tasks old new cut fell none stood =
     elim fell.stops [
-      | inl broken ↦ short_broken account tasks old new cut fell none stood broken
+      | inl broken ↦ short_broken account tasks old new cut fell none stood paced broken
       | inr (inl refused) ↦ short_not_stored account tasks old new cut fell none stood refused
       | inr (inr refused) ↦ short_not_saved account tasks old new cut fell none stood refused
     ]

@@ -14,30 +14,10 @@ use Rattle.pop3_client.specs.Turns.{retr}
 use Rattle.fetch_session.specs.Store.{Gained, Grows, begun_with, Starts, Puts, Ends, RefusesText, StopsStoring, StoresText, StopsReading}
 
 pub gained_file : (old new : Maildir) (f : File) → new ≡ with_file old f → Gained old new (f ∷ [])
-gained_file old new f is =
-    let same : new.failures ≡ old.failures = ap (λ (m : Maildir). m.failures) is in
-    record {
-      in_new = ap (λ (m : Maildir). m.in_new) is;
-      in_cur = ap (λ (m : Maildir). m.in_cur) is;
-      there = ap (λ (m : Maildir). m.there) is;
-      calm = λ calm. ap (λ (m : Maildir). m.begun) is;
-      failures = omega arith;
-    }
-
-grown : (old new mid : Maildir) (stem content : List ℕ) → new ≡ mid → mid.begun ≡ None → mid.in_cur ≡ old.in_cur
-    → mid.in_new ≡ old.in_new ++ sized_file stem content ∷ [] → Grows stem old new
-grown old new mid stem content is calm cur more = record {
-  calm = ap (λ (m : Maildir). m.begun) is ∙ calm;
-  in_cur = ap (λ (m : Maildir). m.in_cur) is ∙ cur;
-  in_new = inr (content, ap (λ (m : Maildir). m.in_new) is ∙ more);
-}
+gained_file old new f is = rw is (record { in_new = refl; in_cur = refl; there = refl; calm = λ calm. refl; failures = omega arith })
 
 pub not_grown : (old new : Maildir) (name : List ℕ) → old.begun ≡ None → new ≡ old → Grows name old new
-not_grown old new name calm is = record {
-  calm = ap (λ (m : Maildir). m.begun) is ∙ calm;
-  in_cur = ap (λ (m : Maildir). m.in_cur) is;
-  in_new = inl (ap (λ (m : Maildir). m.in_new) is);
-}
+not_grown old new name calm is = rw is (record { calm = calm; in_cur = refl; in_new = inl refl })
 
 -- ---- a text, piece by piece
 
@@ -51,11 +31,11 @@ refused_start old new name rest fault calm (inr same) = inr (same.0, inl (same.1
 pub stopped_store : (old now new : Maildir) (name text : List ℕ) (cut : Cut) (fault : Fault) → old.begun ≡ None → now ≡ begun_with old (file name text) → new ≡ dropped now → cut ≡ cut_of fault None
     → StopsStoring name old text cut.fault cut.rest new
 stopped_store old now new name text cut fault calm was is plain =
-    subst (λ (c : Cut). StopsStoring name old text c.fault c.rest new) (sym plain) (is ∙ ap dropped was ∙ dropped_calm old calm)
+    rw plain (is ∙ ap dropped was ∙ dropped_calm old calm)
 
 pub stopped_read : (n : ℕ) (start new : Place) (text : List ℕ) (cut : Cut) (fault : Fault) → cut ≡ cut_of fault None → Broke (retr n) start new fault
     → StopsReading n start text cut.fault cut.rest new
-stopped_read n start new text cut fault plain broke = subst (λ (c : Cut). StopsReading n start text c.fault c.rest new) (sym plain) broke
+stopped_read n start new text cut fault plain broke = rw plain broke
 
 pub refused_piece : (old now new : Maildir) (name text bytes more : List ℕ) (rest : Rest) (fault : Fault) → now ≡ begun_with old (file name text) → Puts now bytes (Err fault) new → RefusesText old name rest more fault new
 refused_piece old now new name text bytes more rest fault was puts =
@@ -89,12 +69,11 @@ refused_end old now new stem text octets rest fault was counts done ends =
 stops_grows : (old new : Maildir) (name text : List ℕ) (fault : Fault) (rest : Option Rest) → old.begun ≡ None → StopsStoring name old text fault rest new → Grows name old new
 stops_grows old new name text fault None calm is = not_grown old new name calm is
 stops_grows old new name text fault (Some rest) calm (inl missing) = not_grown old new name calm missing.2
-stops_grows old new name text fault (Some rest) calm (inr (why, inl is)) =
-    record { calm = ap (λ (m : Maildir). m.begun) is; in_cur = ap (λ (m : Maildir). m.in_cur) is; in_new = inl (ap (λ (m : Maildir). m.in_new) is) }
-stops_grows old new name text fault (Some rest) calm (inr (why, inr there)) = grown old new (counted (with_file old (sized_file name text))) name text there.1 refl refl refl
+stops_grows old new name text fault (Some rest) calm (inr (why, inl is)) = rw is (record { calm = refl; in_cur = refl; in_new = inl refl })
+stops_grows old new name text fault (Some rest) calm (inr (why, inr there)) = rw there.1 (record { calm = refl; in_cur = refl; in_new = inr (text, refl) })
 
 pub stores_grows : (old new : Maildir) (name text : List ℕ) (r : Result ℕ Cut) → old.begun ≡ None → StoresText name old text r new → Grows name old new
-stores_grows old new name text (Ok octets) calm is = grown old new (with_file old (sized_file name text)) name text is.0 refl refl refl
+stores_grows old new name text (Ok octets) calm is = rw is.0 (record { calm = refl; in_cur = refl; in_new = inr (text, refl) })
 stores_grows old new name text (Err cut) calm is = stops_grows old new name text cut.fault cut.rest calm is
 
 -- a text that grew by the first of some bytes is so much longer

@@ -29,16 +29,7 @@ use Rattle.fetch_session.proofs.StoreLemmas.{gained_file}
 pub text_broken : (target : Target) (task : Task) (turn : Turn) (a b : Place) (store : Stores) (file : Stored) (rows : List Row) (lines : List ReportLine) (fault : Fault) (cut : Cut)
     → turns_in task ≡ turn ∷ [] → cut ≡ cut_of fault None → Broke turn a b fault → Stops target task (scene a store file rows lines) cut (scene b store file rows lines)
 text_broken target task turn a b store file rows lines fault cut takes plain broke =
-    inl (record {
-      none = ap (λ (c : Cut). c.rest) plain;
-      turn = turn;
-      takes = takes;
-      broke = subst (λ (c : Cut). Broke turn a b c.fault) (sym plain) broke;
-      store = refl;
-      file = refl;
-      rows = refl;
-      lines = refl;
-    })
+    rw plain (inl (record { none = refl; turn = turn; takes = takes; broke = broke; store = refl; file = refl; rows = refl; lines = refl }))
 
 -- a line couldn't be made
 pub text_wanting : (account : List ℕ) (n : ℕ) (uid : List ℕ) (a : Place) (maildir : Maildir) (file : Stored) (rows : List Row) (lines : List ReportLine) (cut : Cut) → cut ≡ cut_of NoMemory None
@@ -66,18 +57,11 @@ text_stops {account} {n} {uid} {a} {b} {maildir} {maildir'} {file} {rows} {lines
           under_way = refl;
           fetching = reads.0;
           whole = reads.1;
-          refuses = subst (λ (k : List ℕ). RefusesText maildir k rest text fault maildir') named refuses;
+          refuses = rw named at refuses;
           file = refl;
           rows = refl;
           lines = refl;
         }))
-
--- the line of a text is its reply's
-same_line : (n octets : ℕ) (text : List ℕ) (reply : WholeReply) → octets ≡ length text → text ≡ body_text reply.body → Delivered n octets ≡ delivered n reply
-same_line n octets text reply counted is = ap (λ (k : ℕ). Delivered n k) (counted ∙ ap (λ (t : List ℕ). length t) is)
-
-same_file : (account uid stem text : List ℕ) (reply : WholeReply) → stem ≡ stem_of account uid → text ≡ body_text reply.body → sized_file stem text ≡ file_from account uid reply
-same_file account uid stem text reply named is = ap (λ (k : List ℕ). sized_file k text) named ∙ ap (λ (t : List ℕ). mail_file account uid t) is
 
 -- it was stored, and marked
 module _ {account : List ℕ} {n : ℕ} {uid : List ℕ} {a b : Place} {maildir maildir' : Maildir} {file file' : Stored} {rows rows' : List Row} {lines lines' : List ReportLine} where
@@ -89,11 +73,11 @@ module _ {account : List ℕ} {n : ℕ} {uid : List ℕ} {a b : Place} {maildir 
     record {
       talked = reads.1;
       each = (reads.1.good, tt);
-      stored = gained_file maildir maildir' (file_from account uid reads.0) (stored.0 ∙ ap (λ (f : File). with_file maildir f) (same_file account uid stem text reads.0 named reads.2));
+      stored = gained_file maildir maildir' (file_from account uid reads.0) (simp (stored.0, named, reads.2));
       rows = mark;
-      saved = λ stood. subst (λ (r : List Row). Steady file'.content (none_open r)) (sym mark) (saves.1 stood);
-      file_count = let same : file'.failures ≡ file.failures = saves.0 in omega arith;
-      lines = told ∙ ap (λ (l : ReportLine). lines ++ l ∷ []) (same_line n octets text reads.0 stored.1 reads.2);
+      saved = λ stood. rw mark (saves.1 stood);
+      file_count = omega (arith, saves.0);
+      lines = simp (told, stored.1, reads.2);
     },
   )
 
@@ -109,9 +93,9 @@ module _ {account : List ℕ} {n : ℕ} {uid : List ℕ} {a b : Place} {maildir 
         reply = reads.0;
         is = refl;
         talked = reads.1;
-        stored = gained_file maildir maildir' (file_from account uid reads.0) (stored.0 ∙ ap (λ (f : File). with_file maildir f) (same_file account uid stem text reads.0 named reads.2));
-        saves = subst (λ (c : Cut). Saves file (none_open rows) (none_open (marked rows uid)) (Err c.fault) file') (sym plain) saves;
-        lines = told ∙ ap (λ (l : ReportLine). lines ++ l ∷ []) (same_line n octets text reads.0 stored.1 reads.2);
+        stored = gained_file maildir maildir' (file_from account uid reads.0) (simp (stored.0, named, reads.2));
+        saves = rw plain saves;
+        lines = simp (told, stored.1, reads.2);
       }))
 
 -- ---- the other tasks
@@ -139,15 +123,3 @@ pub reread_taken : (target : Target) (number octets : ℕ) (uid : List ℕ) (a b
     → TakesTask target (rereads number uid) (scene a store file rows lines) (Ok tt) (scene b store file rows lines')
 reread_taken target number octets uid a b store file rows lines lines' passes told =
     (passes.0 ∷ [], record { talked = passes.1; each = (passes.1.good, tt); stored = brings_same target (record { task = rereads number uid; replies = passes.0 ∷ [] }) store (λ account. refl) refl; rows = refl; saved = λ stands. stands; file_count = omega arith; lines = told ∙ ap (λ (k : ℕ). lines ++ Held number k ∷ []) passes.2 })
-
-pub no_deletes : (wanted : Bool) (number : ℕ) → wanted ≡ false → deleting wanted number ≡ []
-no_deletes wanted number is = ap (λ (w : Bool). deleting w number) is
-
-pub one_delete : (wanted : Bool) (number : ℕ) → wanted ≡ true → deleting wanted number ≡ deletes number ∷ []
-one_delete wanted number is = ap (λ (w : Bool). deleting w number) is
-
-pub no_fetch : (retrieve held : Bool) (number : ℕ) (uid : List ℕ) (size : ℕ) → retrieve ≡ false → fetching retrieve held number uid size ≡ skips number size ∷ []
-no_fetch retrieve held number uid size is = ap (λ (r : Bool). fetching r held number uid size) is
-
-pub one_fetch : (retrieve held known : Bool) (number : ℕ) (uid : List ℕ) (size : ℕ) → retrieve ≡ true → held ≡ known → fetching retrieve held number uid size ≡ fetching true known number uid size
-one_fetch retrieve held known number uid size is same = ap (λ (r : Bool). fetching r held number uid size) is ∙ ap (λ (h : Bool). fetching true h number uid size) same

@@ -3,7 +3,8 @@ use Rattle.std.specs.Prelude.{◌≡◌, ◌≤◌, ◌+◌, ◌*◌, ℕ, List,
 use Rattle.pop3_wire.specs.Bodies.{Rest}
 use Rattle.pop3_wire.specs.Link.{Link}
 use Rattle.pop3_wire.specs.Place.{Place}
-use Rattle.pop3_client.specs.Turns.{line_limit, row_limit, text_limit, most, retr}
+use Rattle.mail_terms.specs.Listing.{message_limit}
+use Rattle.pop3_client.specs.Turns.{line_limit, text_limit, most, retr}
 use Rattle.pop3_client.specs.Conversation.{most_of}
 use Rattle.pop3_client.specs.Texts.{Fetching}
 use Rattle.fetch_session.specs.declared.fault.Cut.{Cut}
@@ -11,7 +12,7 @@ use Rattle.fetch_session.specs.Tail.{turns_in, tail}
 
 -- the most octets that a session of so many messages takes: first lines, two listings, and a text for each message
 abbrev pub session_limit : ℕ → ℕ
-session_limit messages = line_limit * (2 * messages + 10) + 2 * (line_limit * (row_limit + 1)) + messages * text_limit
+session_limit messages = line_limit * (2 * messages + 10) + 2 * (line_limit * (message_limit + 1)) + messages * text_limit
 
 -- between these two at most so many octets were got
 abbrev pub GotAtMost : ℕ → Link → Link → Type 0
@@ -25,7 +26,7 @@ step_limit = 2 * line_limit + text_limit
 
 -- for logging in, STAT and the two listings
 abbrev pub opening_limit : ℕ
-opening_limit = 6 * line_limit + 2 * (line_limit * (row_limit + 1))
+opening_limit = 6 * line_limit + 2 * (line_limit * (message_limit + 1))
 
 -- for the planned QUIT, or for what is said after a fault
 abbrev pub tail_limit : ℕ

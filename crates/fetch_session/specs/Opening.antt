@@ -1,7 +1,7 @@
 -- The beginning of a session: logging in, and what is there.
 use Rattle.std.specs.Prelude.{◌≡◌, ◌⊎◌, ℕ, List, [], ◌∷◌, ◌++◌, Result, Ok, Err}
 use Rattle.pop3_wire.specs.Place.{Place}
-use Rattle.pop3_wire.specs.Reading.{WholeReply, HasListing, IsUidLine, IsScanLine, TellsCount}
+use Rattle.pop3_wire.specs.Reading.{WholeReply, HasListing, IsUidLine, IsScanLine, GivesCount}
 use Rattle.mail_terms.specs.Listing.{Item, Agree, Joins}
 use Rattle.mail_terms.specs.declared.listing.UidRow.{UidRow}
 use Rattle.mail_terms.specs.declared.listing.ScanRow.{ScanRow}
@@ -21,7 +21,7 @@ pub record Opened (name password : List ℕ) (old new : Place) (count : ℕ) (ui
   pub named : WholeReply
   pub sized : WholeReply
   pub talked : Talked (opening name password) (welcome ++ counted ∷ named ∷ sized ∷ []) old new
-  pub tells : TellsCount counted count
+  pub tells : GivesCount counted count
   pub names : HasListing IsUidLine named uids
   pub octets : HasListing IsScanLine sized sizes
 

@@ -38,8 +38,8 @@ struct Counts {
     skipped: u32,
 }
 
-/// What a session tells that came out so.
-fn tell(outcome: Outcome, counts: Counts, lines: Vec<ReportLine>) -> Report
+/// The report of a session that came out so.
+fn reported(outcome: Outcome, counts: Counts, lines: Vec<ReportLine>) -> Report
     requires { vec_len lines ≤ most_lines }
     ensures { Reports outcome counts.total counts.skipped lines.items result }
 {
@@ -140,14 +140,14 @@ fn session_over<W: Wire, D: MaildirDisk, F: FlatFile, H: BuildHasher>(
             &mut account.work.ledger.lines,
             Vec::new(account.work.ledger.alloc),
         );
-        return tell(outcome, counts, lines);
+        return reported(outcome, counts, lines);
     }
     prove!(client.waiting().len() < PIECE_ROOM);
     let lines = mem::replace(
         &mut account.work.ledger.lines,
         Vec::new(account.work.ledger.alloc),
     );
-    tell(Outcome::Ended, counts, lines)
+    reported(Outcome::Ended, counts, lines)
 }
 
 /// Runs one session of an account over a link: it logs in, lists, stores what is wanted and isn't

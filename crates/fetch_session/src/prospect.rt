@@ -4,13 +4,10 @@ ghost use Rattle.fetch_rules.specs.Wanted.{is_within};
 ghost use Rattle.fetch_session.specs.Prospect.{due_of, due_second, fate_of, is_past_limit, known_of, prospect_of, prospects, reason, waits};
 
 use crate::terms::Terms;
-use fetch_rules::{Listing, Seen, Settings, Step};
+use fetch_rules::{Listing, SECONDS_PER_DAY, Seen, Settings, Step};
 use std::alloc::{AllocError, Global};
 use std::hash::BuildHasher;
 use std::vec::Vec;
-
-/// How many seconds a day has.
-pub(crate) const SECONDS_PER_DAY: u64 = 86_400;
 
 /// What a run would do with a message, or why it would do nothing with it.
 #[derive(Clone, Copy, Debug, PartialEq, Eq)]

@@ -7,7 +7,7 @@ ghost use Rattle.fetch_session.specs.Refusal.{RefusesNone, RefusesAtMostOne};
 ghost use Rattle.fetch_session.specs.Tail.{turns_in, tail, Drops, Left};
 
 use crate::fault::Cut;
-use pop3_client::{Asked, Client, Fault};
+use pop3_client::{Asked, Client, Fault, conversations_are_paced};
 use pop3_wire::{BodyReader, Wire};
 
 /// What is said after a fault.
@@ -71,6 +71,7 @@ pub fn leave<W: Wire>(client: &mut Client<'_, W>, cut: Cut)
     ensures leaves { WhereSound W.sound W.leads_to client.old.wire.now client.new.wire.now
         (Left cut (place_of W.Wire client.old) (place_of W.Wire client.new)) }
 {
+    conversations_are_paced();
     let Cut { fault, rest } = cut;
     if let Err(_) = drop_under_way(client, rest) {
         return;

@@ -6,9 +6,9 @@ ghost use Rattle.fetch_session.specs.Telling.{fetched_in, is_deletion, is_fetch,
 ghost use Rattle.fetch_session.specs.Telling.{prospect_text};
 
 use crate::preview::Preview;
-use crate::prospect::{Fate, Prospect, SECONDS_PER_DAY};
+use crate::prospect::{Fate, Prospect};
 use crate::text::heading;
-use fetch_rules::Settings;
+use fetch_rules::{SECONDS_PER_DAY, Settings};
 use std::alloc::{AllocError, Global};
 
 /// 9999-12-31, in days since 1970.

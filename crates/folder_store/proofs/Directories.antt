@@ -10,7 +10,7 @@ use Rattle.mail_store.specs.declared.maildir.disk.Folder.{Folder}
 use Rattle.mail_store.specs.Maildir.{Maildir, File, file, files_in, is_there, names_of, IsInNew, Lists, counted, dropped, with_file}
 use Rattle.folder_store.specs.FileFolder.{Directory, Entry, Blob, entry, names_in, making, names_flushed, ChangesMade, FlushesMade, LooksUp, secured, put_in}
 use Rattle.folder_store.proofs.Files.{none_of, placed_new, some_is, some_is_not_none}
-use Rattle.folder_store.specs.FolderMaildir.{files_at, file_at, content_made, maildir_in, Tells, PutsFlushed}
+use Rattle.folder_store.specs.FolderMaildir.{files_at, file_at, content_made, maildir_in, AnswersNames, PutsFlushed}
 
 -- the names of files are the names in the folder
 pub names_of-files_at : (es : List Entry) → names_of (files_at es) ≡ names_in es
@@ -89,7 +89,7 @@ module _ (at : Directory → ℕ → Maildir) (folder : Folder) (there : (d : Di
   same old new n (inr e) = ap (λ (d : Directory). at d n) e ∙ flushed old n
 
   pub lists_told : {A B : Type 0} (old new : Directory) (n m : ℕ) (r : Result (Vec (String A) B) StoreFault)
-      → Tells old r new → m ≡ (if refuses is_refusal r then n + 1 else n) → Lists (at old n) folder r (at new m)
+      → AnswersNames old r new → m ≡ (if refuses is_refusal r then n + 1 else n) → Lists (at old n) folder r (at new m)
   lists_told old new n m (Ok names) (t, e) up = (
     there old n ∙ t.0.0,
     subst (λ (xs : List (List ℕ)). IsPermutation xs (map string_bytes names.items)) (sym (ap names_of (files old n) ∙ names_of-files_at old.entries)) t.0.1,

@@ -10,7 +10,7 @@ use Rattle.mail_store.specs.Maildir.{names_of}
 use Rattle.mail_store.specs.Power.{ToldStay, KeepsMail, KeepsBytes, KeepsFront, LastsWhole}
 use Rattle.folder_store.specs.FileFolder.{Directory, Blob, find, appended, cut, flushed, doubted, secured, content_in, content_at, making, names_flushed, ChangesMade, FlushesFile, FlushesNames}
 use Rattle.folder_store.specs.HostFile.{Holds, Keeps, MayBeFlushed, IsSoFar, AppendsFlushed, CutsFlushed}
-use Rattle.folder_store.specs.FolderMaildir.{PutsFlushed, Tells, content_made, files_at}
+use Rattle.folder_store.specs.FolderMaildir.{PutsFlushed, AnswersNames, content_made, files_at}
 use Rattle.folder_store.specs.PowerLoss.{IsLeft, IsLeftOf, MayBe, IsFlushed, IsSure, IsOnDisk, IsKnown, StaysInEither, FileStands, LeavesNoMore, LeavesBut, IsFront, FrontStands, FrontsOutlivePower}
 use Rattle.folder_store.proofs.Files.{none_of, some_is, some_is_not_none, holds_changed}
 use Rattle.folder_store.proofs.Directories.{names_of-files_at}
@@ -221,7 +221,7 @@ flushed_leaves old new e name left may = elim (subst (λ (d : Directory). MayBe 
 is_same : (old new : Directory) → new ≡ old → LeavesNoMore old new
 is_same old new e name left may = subst (λ (d : Directory). MayBe d name left) e may
 
-pub tells_leaves : {A B : Type 0} (old new : Directory) (r : Result (Vec (String A) B) StoreFault) → Tells old r new → LeavesNoMore old new
+pub tells_leaves : {A B : Type 0} (old new : Directory) (r : Result (Vec (String A) B) StoreFault) → AnswersNames old r new → LeavesNoMore old new
 tells_leaves old new (Ok names) (t, e) = flushed_leaves old new e
 tells_leaves old new (Err Missing) (gone, e) = is_same old new e
 tells_leaves old new (Err Refused) (inl e) = is_same old new e
@@ -276,10 +276,10 @@ told_again r is_flushed flag old mid new name name' well same named on_disk know
     (asked r (IsOnDisk new name) well (on_disk (subst (λ (d : Directory). IsKnown is_flushed d name) (sym same) known))))
 
 -- the names told of `new`, and of `cur`, stay
-pub told_new : {A B : Type 0} (old new cur : Directory) (r : Result (Vec (String A) B) StoreFault) → Tells old r new → ToldStay r (StaysInEither new cur)
+pub told_new : {A B : Type 0} (old new cur : Directory) (r : Result (Vec (String A) B) StoreFault) → AnswersNames old r new → ToldStay r (StaysInEither new cur)
 told_new old new cur (Ok names) t = λ name inside. inl (told_stay old new (Ok names) t name inside)
 told_new old new cur (Err fault) t = tt
 
-pub told_cur : {A B : Type 0} (old new other : Directory) (r : Result (Vec (String A) B) StoreFault) → Tells old r new → ToldStay r (StaysInEither other new)
+pub told_cur : {A B : Type 0} (old new other : Directory) (r : Result (Vec (String A) B) StoreFault) → AnswersNames old r new → ToldStay r (StaysInEither other new)
 told_cur old new other (Ok names) t = λ name inside. inr (told_stay old new (Ok names) t name inside)
 told_cur old new other (Err fault) t = tt

@@ -11,7 +11,7 @@ use Rattle.mail_store.specs.declared.fault.StoreFault.{StoreFault}
 use Rattle.mail_store.specs.declared.fault.StoreFault.TheVariants.{Missing, Refused, NotMbox, NoMemory}
 use Rattle.folder_store.specs.FileFolder.{Directory, Entry, Blob, Older, entry, names_in, placed, find, appended, cut, flushed, doubted, secured, content_in, content_at, put_in, names_flushed, making, ChangesMade, Makes, FlushesFile, FlushesNames}
 use Rattle.folder_store.specs.HostFile.{Holds, MayBeFlushed, IsSoFar, IsPartAppended, AppendsFlushed, CutsFlushed, ReplacesFlushed}
-use Rattle.folder_store.specs.FolderMaildir.{PutsFlushed, Tells}
+use Rattle.folder_store.specs.FolderMaildir.{PutsFlushed, AnswersNames}
 use Rattle.folder_store.specs.PowerLoss.{IsZeroFrom, IsTorn, IsLeft, IsLeftOf, WasOnce, MayBe, IsFlushed, IsSure, IsOnDisk, Stands, DiskStands, DiskIsKnown, OutlivesPower, NamesOutlivePower, PowerCanBeLost, MakingLeaves, IsTornBehind, LeavesBehind, LeavesBut, AppendsForGood, CutsForGood, ReplacesForGood, SettlesForGood, TellsWhatStays}
 use Rattle.folder_store.proofs.Files.{some_is_not_none, content_is, find_here, find_later, find_placed, holds_changed, not_ahead}
 
@@ -444,7 +444,7 @@ none_left None left = refl
 none_left (Some b) left = absurd left
 
 -- the names told stay
-pub told_stay : {A B : Type 0} (old new : Directory) (r : Result (Vec (String A) B) StoreFault) → Tells old r new → TellsWhatStays new r
+pub told_stay : {A B : Type 0} (old new : Directory) (r : Result (Vec (String A) B) StoreFault) → AnswersNames old r new → TellsWhatStays new r
 told_stay old new (Ok names) (t, e) = λ name c may.
     let now = left_named (names_flushed old) name None refl (subst (λ (x : Directory). MayBe x name None) e may) in
     let there : Contains (names_in old.entries) name =

@@ -34,12 +34,12 @@ unknown_maildir = maildir_in unknown_directory unknown_directory None 0
 
 -- the names of a folder were told: they are those that it has, and they stay; or a call was refused, and
 -- the folder looks as it did
-abbrev pub Tells : {A B : Type 0} → Directory → Result (Vec (String A) B) StoreFault → Directory → Type 0
-Tells old (Ok names) new = ListsNames old (Ok names) old × (new ≡ names_flushed old)
-Tells old (Err Missing) new = (old.is_there ≡ false) × (new ≡ old)
-Tells old (Err Refused) new = (new ≡ old) ⊎ (new ≡ names_flushed old)
-Tells old (Err NotMbox) new = ⊥
-Tells old (Err NoMemory) new = ⊥
+abbrev pub AnswersNames : {A B : Type 0} → Directory → Result (Vec (String A) B) StoreFault → Directory → Type 0
+AnswersNames old (Ok names) new = ListsNames old (Ok names) old × (new ≡ names_flushed old)
+AnswersNames old (Err Missing) new = (old.is_there ≡ false) × (new ≡ old)
+AnswersNames old (Err Refused) new = (new ≡ old) ⊎ (new ≡ names_flushed old)
+AnswersNames old (Err NotMbox) new = ⊥
+AnswersNames old (Err NoMemory) new = ⊥
 
 -- the file made was flushed and stands under the name, and its name is on the disk or not
 abbrev pub StandsIn : Directory → List ℕ → Directory → Type 0

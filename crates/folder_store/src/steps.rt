@@ -2,7 +2,7 @@
 
 ghost use Rattle.std.specs.Prelude.{◌≡◌, Contains, IfErr, None, OnErr, OnOk, true};
 ghost use Rattle.mail_store.specs.Fault.{IsDeviceFault};
-ghost use Rattle.folder_store.specs.FolderMaildir.{Tells, PutsFlushed};
+ghost use Rattle.folder_store.specs.FolderMaildir.{AnswersNames, PutsFlushed};
 ghost use Rattle.folder_store.specs.FileFolder.{find, names_in};
 ghost use Rattle.folder_store.specs.HostFile.{AppendsPiece, AppendsFlushed, CutsFlushed, Flushes, ReplacesFlushed};
 ghost use Rattle.folder_store.specs.PowerLoss.{FrontStands, IsOnDisk, IsSure};
@@ -26,7 +26,7 @@ pub enum Appending {
 /// The names of a folder, once they are on the disk.
 pub fn told_names<F: FileFolder>(folder: &mut F) -> Result<Vec<String>, StoreFault>
     ensures tells { F.sound folder.new → F.sound folder.old
-        × Tells (F.directory folder.old) result (F.directory folder.new) }
+        × AnswersNames (F.directory folder.old) result (F.directory folder.new) }
     ensures fault { IfErr result IsDeviceFault }
 {
     let names = folder.list()?;

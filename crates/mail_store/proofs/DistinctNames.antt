@@ -1,5 +1,5 @@
 -- No two files of a folder have one name.
-use Rattle.std.proofs.Common.{◌≡◌, ℕ, zero, suc, ◌<◌, length, get_or, refl, List, [], ◌∷◌, ◌++◌, map, sym, ap, subst, ◌∙◌, arith, String, Vec, string_bytes}
+use Rattle.std.proofs.Common.{◌≡◌, ℕ, zero, suc, ◌<◌, length, refl, List, [], ◌∷◌, ◌++◌, map, sym, ap, subst, ◌∙◌, arith, String, Vec, string_bytes}
 use Rattle.std.specs.Prelude.{Contains, ◌≢◌, remove}
 use Rattle.std.proofs.lemmas.List.{get_or_default, length-map, map-append}
 use Rattle.std.proofs.lemmas.List.Quantifiers.{all_pairs_push, all_pairs_remove}

@@ -23,11 +23,7 @@ module _ {W : Type 0} (link : Ghosts W) where
   pub and_then_two : {a b c d : W} {P Q R S : Type 0} → ((u v w : W) → link.leads_to u v → link.leads_to v w → link.leads_to u w)
       → WhereSound link.sound link.leads_to a b P → WhereSound link.sound link.leads_to b c Q → WhereSound link.sound link.leads_to c d R → (P → Q → R → S)
       → WhereSound link.sound link.leads_to a d S
-  and_then_two on first second third all sound =
-      let last = third sound in
-      let then = second last.0 in
-      let start = first then.0 in
-      (start.0, on _ _ _ start.1 (on _ _ _ then.1 last.1), all start.2 then.2 last.2)
+  and_then_two {Q = Q} {R = R} on first second third all = and_then on first (and_then {R = Q × R} on second third (λ q r. (q, r))) (λ p both. all p both.0 both.1)
 
   -- what a call did, leaving out what the link leads to
   pub did_so : {a b : W} {P Q : Type 0} → WhereSound link.sound link.leads_to a b P → (P → Q) → link.sound b → link.sound a × Q
@@ -46,10 +42,3 @@ module _ {W : Type 0} (link : Ghosts W) where
       let then = second sound in
       let all = first then.0 in
       (all.0, both all.1 then.2)
-
-  -- a call, and then what is known after it
-  pub so_on : {a b c : W} {P Q R : Type 0} → WhereSound link.sound link.leads_to a b P → (link.sound c → link.sound b × Q) → (P → Q → R) → link.sound c → link.sound a × R
-  so_on first second both sound =
-      let then = second sound in
-      let all = first then.0 in
-      (all.0, both all.2 then.1)

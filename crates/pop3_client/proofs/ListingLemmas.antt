@@ -2,8 +2,9 @@
 use Rattle.std.proofs.Common.{◌≡◌, ◌≢◌, ◌⊎◌, inl, inr, ◌<◌, ◌≤◌, ◌+◌, ◌*◌, ℕ, suc, List, [], ◌∷◌, ◌++◌, length, take, drop, false, Some, Result, Ok, Err, IfOk, IfErr, refl, sym, ap, subst, ◌∙◌, arith, append_assoc, length-append}
 use Rattle.std.proofs.lemmas.List.{append-nil}
 use Rattle.std.proofs.lemmas.Grind.{flat_map-append}
+use Rattle.std.proofs.lemmas.Slice.Zip.{AllZip-long}
 use Rattle.std.specs.List.{flat_map, AllZip, AllByRecursion}
-use Rattle.mail_terms.specs.Listing.{Item, Agree, Joins}
+use Rattle.mail_terms.specs.Listing.{Item, Agree, Joins, message_limit}
 use Rattle.mail_terms.specs.declared.listing.UidRow.{UidRow}
 use Rattle.mail_terms.specs.declared.listing.ScanRow.{ScanRow}
 use Rattle.pop3_wire.specs.Line.{ended}
@@ -14,18 +15,18 @@ use Rattle.pop3_wire.specs.Bodies.{Drew}
 use Rattle.pop3_client.specs.declared.fault.Asked.{Asked}
 use Rattle.pop3_client.specs.declared.fault.Fault.{Fault}
 use Rattle.pop3_client.specs.declared.fault.Fault.TheVariants.{ConnectionEnded, ReadFailed, WriteFailed, ReplyTooLong, BadReply, Refused, BadListing, ListingsDisagree, TooMany, TextTooLong, StoreRefused, SeenRefused, NoMemory, BadSeen}
-use Rattle.pop3_client.specs.Turns.{Turn, uidl, list, IsRow, IsListing, IsShort, tells_count, LinesFit, line_limit, row_limit, most}
+use Rattle.pop3_client.specs.Turns.{Turn, uidl, list, IsRow, IsListing, IsShort, gives_count, LinesFit, line_limit, most}
 use Rattle.pop3_client.specs.Causes.{IsPartOfListing, IsPartOfBody, HasRows, NextLine, BeginsPositive, Cause}
 use Rattle.pop3_client.specs.Conversation.{Opened}
 use Rattle.pop3_wire.specs.Reading.{IsUidLine, IsScanLine}
 use Rattle.pop3_client.specs.Listing.{Listed, GetsListing, ListsRows, RowBehind, RowCause, RowsCause, NotTaken, TakesRows}
 use Rattle.pop3_client.proofs.MostLemmas.{lines_within}
-use Rattle.pop3_client.proofs.TalkLemmas.{drew_of, goes_on, line_short, line_waits, talked_on, talked_body, not_answered_behind, begins_of}
+use Rattle.pop3_client.proofs.TalkLemmas.{append_on, drew_of, goes_on, line_short, line_waits, talked_on, talked_body, not_answered_behind, begins_of}
 
--- a listing's lines are a body that fits
-lines_fit : (turn : Turn) (lines : List (List ℕ)) → IsListing turn → length lines ≤ row_limit → AllByRecursion IsShort lines → AllByRecursion (IsRow turn) lines → LinesFit turn lines
-lines_fit turn lines (inl is) few short rows = subst (λ (t : Turn). LinesFit t lines) (sym is) (few, short, subst (λ (t : Turn). AllByRecursion (IsRow t) lines) is rows)
-lines_fit turn lines (inr is) few short rows = subst (λ (t : Turn). LinesFit t lines) (sym is) (few, short, subst (λ (t : Turn). AllByRecursion (IsRow t) lines) is rows)
+-- what holds of both listings
+by_listing : (P : Turn → Type 0) → P uidl → P list → (turn : Turn) → IsListing turn → P turn
+by_listing P first second turn (inl is) = rw is first
+by_listing P first second turn (inr is) = rw is second
 
 -- some rows were taken: these lines, which stand for these rows, and the rest waits
 pub record TookRows {R : Type 0} (turn : Turn) (StandsFor : List ℕ → R → Type 0) (old new : Place) (rows : List R) : Type 0 where
@@ -59,15 +60,8 @@ all_push P (first ∷ lines) line all is = (all.0, all_push P lines line all.1 i
 zip_push : {R : Type 0} (P : List ℕ → R → Type 0) (lines : List (List ℕ)) (rows : List R) (line : List ℕ) (row : R) → AllZip P lines rows → P line row
     → AllZip P (lines ++ line ∷ []) (rows ++ row ∷ [])
 zip_push P [] [] line row all is = (is, tt)
-zip_push P [] (r ∷ rows) line row all is = absurd all
-zip_push P (l ∷ lines) [] line row all is = absurd all
 zip_push P (l ∷ lines) (r ∷ rows) line row all is = (all.0, zip_push P lines rows line row all.1 is)
-
-zip_length : {R : Type 0} (P : List ℕ → R → Type 0) (lines : List (List ℕ)) (rows : List R) → AllZip P lines rows → length lines ≡ length rows
-zip_length P [] [] all = refl
-zip_length P [] (r ∷ rows) all = absurd all
-zip_length P (l ∷ lines) [] all = absurd all
-zip_length P (l ∷ lines) (r ∷ rows) all = ap suc (zip_length P lines rows all.1)
+zip_push P _ _ line row all is = absurd all
 
 module _ {R : Type 0} (turn : Turn) (StandsFor : List ℕ → R → Type 0) (old here : Place) (rows : List R) (now : TookRows turn StandsFor old here rows) where
   -- more was got, and nothing taken yet
@@ -78,8 +72,7 @@ module _ {R : Type 0} (turn : Turn) (StandsFor : List ℕ → R → Type 0) (old
     short = now.has.short;
     rows = now.has.rows;
     few = now.has.few;
-    whole = sym (append_assoc old.waiting now.gained more) ∙ ap (λ (l : List ℕ). l ++ more) now.has.whole
-        ∙ append_assoc (flat_map ended now.lines) here.waiting more ∙ ap (λ (l : List ℕ). flat_map ended now.lines ++ l) (sym gains.waiting);
+    whole = append_on old.waiting now.gained (flat_map ended now.lines) here.waiting more now.has.whole ∙ ap (λ (l : List ℕ). flat_map ended now.lines ++ l) (sym gains.waiting);
   }
 
   pub took_on : (new : Place) (more : List ℕ) → Gains here new more → GoesOn here.link new.link → TookRows turn StandsFor old new rows
@@ -94,7 +87,7 @@ module _ {R : Type 0} (turn : Turn) (StandsFor : List ℕ → R → Type 0) (old
 
   -- one more row was taken
   pub took_row : (line after : List ℕ) (row : R) → here.waiting ≡ ended line ++ after → IsContent line → IsShort line → IsRow turn line → StandsFor line row
-      → length rows < row_limit → TookRows turn StandsFor old (at here.link after) (rows ++ row ∷ [])
+      → length rows < message_limit → TookRows turn StandsFor old (at here.link after) (rows ++ row ∷ [])
   took_row line after row whole content short good read few = record {
     lines = now.lines ++ line ∷ [];
     gained = now.gained;
@@ -103,24 +96,13 @@ module _ {R : Type 0} (turn : Turn) (StandsFor : List ℕ → R → Type 0) (old
       content = all_push IsContent now.lines line now.has.content content;
       short = all_push IsShort now.lines line now.has.short short;
       rows = all_push (IsRow turn) now.lines line now.has.rows good;
-      few = size;
-      whole = now.has.whole ∙ ap (λ (l : List ℕ). flat_map ended now.lines ++ l) whole ∙ more_whole;
+      few = omega (arith, length-append now.lines (line ∷ []), AllZip-long StandsFor now.lines rows now.read);
+      whole = now.has.whole ∙ simp (whole, flat_map-append, append-nil, append_assoc);
     };
     read = zip_push StandsFor now.lines rows line row now.read read;
     drew = now.drew;
     steady = now.steady;
   }
-    where
-      size : length (now.lines ++ line ∷ []) ≤ row_limit
-      size =
-          let all : length (now.lines ++ line ∷ []) ≡ length now.lines + 1 = length-append now.lines (line ∷ []) in
-          let same : length now.lines ≡ length rows = zip_length StandsFor now.lines rows now.read in
-          omega arith
-
-      more_whole : flat_map ended now.lines ++ (ended line ++ after) ≡ flat_map ended (now.lines ++ line ∷ []) ++ after
-      more_whole = sym (append_assoc (flat_map ended now.lines) (ended line) after)
-          ∙ ap (λ (l : List ℕ). (flat_map ended now.lines ++ l) ++ after) (sym (append-nil (ended line)))
-          ∙ ap (λ (l : List ℕ). l ++ after) (sym (flat_map-append ended now.lines (line ∷ [])))
 
   -- a row waits that wasn't taken
   pub row_behind : (n : ℕ) → HasLine line_limit here.waiting n → take n here.waiting ≢ dot → RowBehind turn (old.waiting ++ now.gained) (take n here.waiting) (length rows)
@@ -128,7 +110,7 @@ module _ {R : Type 0} (turn : Turn) (StandsFor : List ℕ → R → Type 0) (old
     behind = drop (n + 2) here.waiting;
     lines = now.lines;
     has = subst (λ (l : List ℕ). HasRows turn (old.waiting ++ now.gained) l now.lines) (line_waits line_limit n here.waiting has) now.has;
-    count = zip_length StandsFor now.lines rows now.read;
+    count = sym (AllZip-long StandsFor now.lines rows now.read);
     content = (has.line, other);
     short = line_short n here.waiting has;
   }
@@ -151,37 +133,22 @@ module _ {R : Type 0} (turn : Turn) (StandsFor : List ℕ → R → Type 0) (old
       has : HasRows turn (old.waiting ++ (now.gained ++ more)) new.waiting now.lines
       has = more_waits new more gains
 
-      full : row_limit ≤ n → length now.lines ≡ row_limit
-      full least =
-          let same : length now.lines ≡ length rows = zip_length StandsFor now.lines rows now.read in
-          let few : length now.lines ≤ row_limit = now.has.few in
-          omega arith
-
       by : (f : Fault) → RowCause f n here.link new.link new.waiting → RowsCause f turn old.link new.link (old.waiting ++ (now.gained ++ more))
       by ConnectionEnded w = (w.0, (new.waiting, now.lines, has, w.1))
       by ReadFailed w = (subst (λ (k : ℕ). k < new.link.failures) now.steady.failures w.0, (new.waiting, now.lines, has, w.1))
-      by WriteFailed w = absurd w
       by ReplyTooLong w = (new.waiting, now.lines, has, w)
-      by BadReply w = absurd w
-      by (Refused to) w = absurd w
-      by BadListing w = absurd w
-      by ListingsDisagree w = absurd w
       by TooMany w = (
         w.0,
         record {
           behind = w.1;
           lines = now.lines;
-          has = subst (λ (l : List ℕ). HasRows turn (old.waiting ++ (now.gained ++ more)) l now.lines) w.5 has;
-          count = full w.2;
+          has = rw w.5 at has;
+          count = omega (arith, w.2, now.has.few, AllZip-long StandsFor now.lines rows now.read);
           content = w.3;
           short = w.4;
         },
       )
-      by TextTooLong w = absurd w
-      by (StoreRefused why) w = absurd w
-      by SeenRefused w = absurd w
-      by NoMemory w = absurd w
-      by (BadSeen line) w = absurd w
+      by _ w = absurd w
 
   -- the end mark was taken
   pub rows_end : (new : Place) (more : List ℕ) → Drew here.link new.link more → GoesOn here.link new.link → here.waiting ++ more ≡ ended dot ++ new.waiting
@@ -193,25 +160,18 @@ module _ {R : Type 0} (turn : Turn) (StandsFor : List ℕ → R → Type 0) (old
       drew = drew_on old.link here.link new.link now.gained more now.drew drew;
       steady = goes_on old.link here.link new.link now.steady steady;
       content = now.has.content;
-      fit = lines_fit turn now.lines now.has.listing now.has.few now.has.short now.has.rows;
-      heard = sym (append_assoc old.waiting now.gained more) ∙ ap (λ (l : List ℕ). l ++ more) now.has.whole ∙ append_assoc (flat_map ended now.lines) here.waiting more
-          ∙ ap (λ (l : List ℕ). flat_map ended now.lines ++ l) heard ∙ sym (append_assoc (flat_map ended now.lines) (ended dot) new.waiting);
+      fit = by_listing (λ t. AllByRecursion (IsRow t) now.lines → LinesFit t now.lines) (λ rows. (now.has.few, now.has.short, rows)) (λ rows. (now.has.few, now.has.short, rows)) turn now.has.listing now.has.rows;
+      heard = append_on old.waiting now.gained (flat_map ended now.lines) here.waiting more now.has.whole ∙ simp (heard, append_assoc);
     },
     now.read,
   )
 
 -- a listing's first line doesn't have to give a count
-pub tells_no_count : (turn : Turn) → IsListing turn → tells_count turn ≡ false
-tells_no_count turn (inl is) = ap tells_count is
-tells_no_count turn (inr is) = ap tells_count is
+pub tells_no_count : (turn : Turn) → IsListing turn → gives_count turn ≡ false
+tells_no_count = by_listing (λ (turn : Turn). gives_count turn ≡ false) refl refl
 
-part_of_body : (turn : Turn) (bytes : List ℕ) → IsListing turn → IsPartOfListing turn bytes → IsPartOfBody turn bytes
-part_of_body turn bytes (inl is) part = subst (λ (t : Turn). IsPartOfBody t bytes) (sym is) (subst (λ (t : Turn). IsPartOfListing t bytes) is part)
-part_of_body turn bytes (inr is) part = subst (λ (t : Turn). IsPartOfBody t bytes) (sym is) (subst (λ (t : Turn). IsPartOfListing t bytes) is part)
-
-most_of_listing : (turn : Turn) → IsListing turn → most turn ≡ line_limit + line_limit * (row_limit + 1)
-most_of_listing turn (inl is) = ap most is
-most_of_listing turn (inr is) = ap most is
+part_of_body : (bytes : List ℕ) (turn : Turn) → IsListing turn → IsPartOfListing turn bytes → IsPartOfBody turn bytes
+part_of_body bytes = by_listing (λ (turn : Turn). IsPartOfListing turn bytes → IsPartOfBody turn bytes) (λ part. part) (λ part. part)
 
 -- the next row of a listing is the next line of its reply
 next_line_of : (turn : Turn) (bytes after row : List ℕ) (rows : ℕ) → BeginsPositive bytes after → RowBehind turn after row rows → NextLine turn bytes row rows
@@ -229,23 +189,16 @@ next_line_of turn bytes after row rows begins there = record {
 -- why a listing isn't good, as a cause of its whole reply
 cause_of_rows : (fault : Fault) (turn : Turn) (old new : Link) (bytes after : List ℕ) → BeginsPositive bytes after → IsListing turn
     → RowsCause fault turn old new after → Cause fault turn old new bytes × ((to : Asked) → fault ≡ Refused to → ⊥)
-cause_of_rows ConnectionEnded turn old new bytes after begins listing why = ((why.0, inr (after, begins, part_of_body turn after listing why.1)), λ to is. cc)
-cause_of_rows ReadFailed turn old new bytes after begins listing why = ((why.0, inr (after, begins, part_of_body turn after listing why.1)), λ to is. cc)
-cause_of_rows WriteFailed turn old new bytes after begins listing why = absurd why
+cause_of_rows ConnectionEnded turn old new bytes after begins listing why = ((why.0, inr (after, begins, part_of_body after turn listing why.1)), λ to is. cc)
+cause_of_rows ReadFailed turn old new bytes after begins listing why = ((why.0, inr (after, begins, part_of_body after turn listing why.1)), λ to is. cc)
 cause_of_rows ReplyTooLong turn old new bytes after begins listing why = (inr (after, why.0, why.1, begins, why.2, why.3), λ to is. cc)
-cause_of_rows BadReply turn old new bytes after begins listing why = absurd why
-cause_of_rows (Refused to) turn old new bytes after begins listing why = absurd why
 cause_of_rows BadListing turn old new bytes after begins listing why =
     ((why.0, why.1, next_line_of turn bytes after why.0 why.1 begins why.2, why.3, why.4), λ to is. cc)
-cause_of_rows ListingsDisagree turn old new bytes after begins listing why = absurd why
 cause_of_rows TooMany turn old new bytes after begins listing why =
-    (inr (why.0, next_line_of turn bytes after why.0 row_limit begins why.1), λ to is. cc)
-cause_of_rows TextTooLong turn old new bytes after begins listing why = absurd why
-cause_of_rows (StoreRefused reason) turn old new bytes after begins listing why = absurd why
-cause_of_rows SeenRefused turn old new bytes after begins listing why = absurd why
-cause_of_rows (BadSeen line) turn old new bytes after begins listing why = absurd why
+    (inr (why.0, next_line_of turn bytes after why.0 message_limit begins why.1), λ to is. cc)
 cause_of_rows NoMemory turn old new bytes after begins listing why =
     ((why.0, why.1, next_line_of turn bytes after why.0 why.1 begins why.2, why.3, why.4), λ to is. cc)
+cause_of_rows _ turn old new bytes after begins listing why = absurd why
 
 -- a listing was asked for, and its rows taken or not
 pub lists_of : {R : Type 0} (turn : Turn) (IsThisRow : List ℕ → R → Type 0) (line : List ℕ) (old mid new : Place) (result : Result (List R) Fault)
@@ -258,10 +211,8 @@ lists_of turn IsThisRow line old mid new (Ok rows) begun listing takes = (
 lists_of turn IsThisRow line old mid new (Err fault) begun listing takes =
     let cause = cause_of_rows fault turn mid.link new.link (ended line ++ (mid.waiting ++ takes.gained)) (mid.waiting ++ takes.gained)
     (begins_of turn line old mid (mid.waiting ++ takes.gained) begun) listing takes.cause in
-    let few : length takes.used ≤ row_limit = takes.has.few in
-    let size : length (flat_map ended takes.used) ≤ line_limit * length takes.used = lines_within takes.used takes.has.short in
-    let all : most turn ≡ line_limit + line_limit * (row_limit + 1) = most_of_listing turn listing in
-    inr (inl (not_answered_behind turn line old mid new takes.gained (flat_map ended takes.used) fault begun takes.drew cause.0 takes.has.whole (omega arith) cause.1))
+    inr (inl (not_answered_behind turn line old mid new takes.gained (flat_map ended takes.used) fault begun takes.drew cause.0 takes.has.whole
+    (omega (arith, takes.has.few, lines_within takes.used takes.has.short, by_listing (λ (t : Turn). most t ≡ line_limit + line_limit * (message_limit + 1)) refl refl turn listing)) cause.1))
 
 -- both listings were completed
 pub listed : (old mid new : Place) (uids : List UidRow) (sizes : List ScanRow) → ListsRows uidl IsUidLine old (Ok uids) mid → ListsRows list IsScanLine mid (Ok sizes) new → Listed old new uids sizes

@@ -1,10 +1,10 @@
 -- How the parts of a turn make a turn, and turns make a conversation.
-use Rattle.std.proofs.Common.{◌≡◌, inl, inr, ◌<◌, ◌≤◌, ◌+◌, ℕ, false, List, [], ◌∷◌, ◌++◌, length, take, drop, min, get_or, lit<, None, Some, Result, Ok, Err, refl, sym, ap, subst, ◌∙◌, arith, append_assoc, length-append, codes}
+use Rattle.std.proofs.Common.{◌≡◌, inl, inr, ◌<◌, ◌≤◌, ◌+◌, ℕ, false, List, [], ◌∷◌, ◌++◌, length, take, drop, min, None, Some, Result, Ok, Err, refl, sym, ap, subst, ◌∙◌, arith, append_assoc, length-append, codes}
 use Rattle.std.proofs.lemmas.Bool.{false≢true}
 use Rattle.std.proofs.lemmas.List.{append-nil, take_all, length-take}
 use Rattle.std.specs.List.{flat_map, AllZip}
 use Rattle.pop3_wire.specs.Line.{crlf, IsLine, ended}
-use Rattle.pop3_wire.specs.Reply.{IsFirstLine, without_space}
+use Rattle.pop3_wire.specs.Reply.{IsFirstLine}
 use Rattle.pop3_wire.specs.Reading.{WholeReply, reply_bytes, gives_body}
 use Rattle.pop3_wire.specs.Body.{body_of}
 use Rattle.pop3_wire.specs.Bodies.{Drew}
@@ -16,11 +16,15 @@ use Rattle.pop3_wire.specs.Link.{Link}
 use Rattle.pop3_wire.specs.Place.{Place, at, GoesOn, Gains, HasLine, HasNoLine}
 use Rattle.pop3_client.specs.declared.fault.Asked.{Asked}
 use Rattle.pop3_client.specs.declared.fault.Fault.{Fault}
-use Rattle.pop3_client.specs.declared.fault.Fault.TheVariants.{ConnectionEnded, ReadFailed, WriteFailed, ReplyTooLong, BadReply, Refused, BadListing, ListingsDisagree, TooMany, TextTooLong, NoMemory}
-use Rattle.pop3_client.specs.Turns.{Turn, turn_bytes, asking, Names, stat, uidl, list, rset, quit, tells_count, Fits, IsBody, IsGood, line_limit, IsShort, most}
+use Rattle.pop3_client.specs.declared.fault.Fault.TheVariants.{ConnectionEnded, ReadFailed, WriteFailed, ReplyTooLong, BadReply, Refused, ListingsDisagree, TooMany}
+use Rattle.pop3_client.specs.Turns.{Turn, turn_bytes, asking, Names, stat, uidl, list, rset, quit, gives_count, Fits, IsBody, IsGood, line_limit, IsShort, most}
 use Rattle.pop3_client.specs.Causes.{Cause, BeginsPositive, FirstLine}
-use Rattle.pop3_client.specs.Conversation.{Opened, Talked, NoLineCause, TakesRefusal, Heard, Broke, NotAnswered, Stopped, Sent, TellsFew, AsksTurn, Tells, Talks}
+use Rattle.pop3_client.specs.Conversation.{Opened, Talked, NoLineCause, TakesRefusal, Heard, Broke, NotAnswered, Stopped, Sent, GivesFew, AsksTurn, Completes, Talks}
 use Rattle.pop3_client.proofs.MostLemmas.{most_least}
+
+-- what follows both sides of an equation
+pub append_on : (a g l h more : List ℕ) → a ++ g ≡ l ++ h → a ++ (g ++ more) ≡ l ++ (h ++ more)
+append_on a g l h more e = sym (append_assoc a g more) ∙ ap (λ (s : List ℕ). s ++ more) e ∙ append_assoc l h more
 
 pub none_in_all : (limit : ℕ) (bytes : List ℕ) → HasNoLine limit bytes → length bytes < limit → IsLine bytes
 none_in_all limit bytes none short = subst IsLine (take_all limit bytes (omega arith)) none.none
@@ -44,10 +48,7 @@ pub line_waits : (limit n : ℕ) (bytes : List ℕ) → HasLine limit bytes n �
 line_waits limit n bytes has = has.whole ∙ sym (append_assoc (take n bytes) crlf (drop (n + 2) bytes))
 
 pub line_short : (n : ℕ) (bytes : List ℕ) → HasLine line_limit bytes n → IsShort (take n bytes)
-line_short n bytes has =
-    let small : n + 2 ≤ line_limit = has.within in
-    let part : length (take n bytes) ≡ min n (length bytes) = length-take n bytes in
-    omega arith
+line_short n bytes has = omega (arith, has.within, length-take n bytes)
 
 -- a turn was sent whole, and its first line taken
 pub opened : (turn : Turn) (old : Place) (said : Link) (mid : Place) (gained : List ℕ) (n : ℕ) (rest : List ℕ)
@@ -80,21 +81,19 @@ takes_other rest used other = tt
 pub drew_of : (old new : Place) (gained : List ℕ) → Gains old new gained → Drew old.link new.link gained
 drew_of old new gained gains = record { got = gains.got; sent = gains.sent }
 
+-- nothing was used
+heard_unused : {fault : Fault} {turn : Turn} {old new : Place} {gained : List ℕ} → Gains old new gained → Cause fault turn old.link new.link (old.waiting ++ gained)
+    → TakesRefusal fault [] → Heard turn old (Err fault) new
+heard_unused {gained = gained} gains cause takes =
+    record { gained = gained; used = []; sent = gains.sent; got = gains.got; heard = sym gains.waiting; within = omega arith; cause = cause; takes = takes }
+
 -- no line came
 pub heard_none : (fault : Fault) (turn : Turn) (old new : Place) (gained : List ℕ) → Gains old new gained
     → NoLineCause fault old.link new.link new.waiting → Heard turn old (Err fault) new
 heard_none fault turn old new gained gains why =
-    let here = subst (NoLineCause fault old.link new.link) gains.waiting why in
-    record {
-      gained = gained;
-      used = [];
-      sent = gains.sent;
-      got = gains.got;
-      heard = sym gains.waiting;
-      within = omega arith;
-      cause = no_line_no_reply fault turn old.link new.link (old.waiting ++ gained) here;
-      takes = takes_other fault [] (λ to is. subst (λ (f : Fault). NoLineCause f old.link new.link (old.waiting ++ gained)) is here);
-    }
+    let here = rw gains.waiting at why in
+    heard_unused gains (no_line_no_reply fault turn old.link new.link (old.waiting ++ gained) here)
+    (takes_other fault [] (λ to is. subst (λ (f : Fault). NoLineCause f old.link new.link (old.waiting ++ gained)) is here))
 
 -- a line came
 module _ (turn : Turn) (old mid : Place) (gained : List ℕ) (n : ℕ) (gains : Gains old mid gained) (has : HasLine line_limit mid.waiting n) where
@@ -107,62 +106,35 @@ module _ (turn : Turn) (old mid : Place) (gained : List ℕ) (n : ℕ) (gains : 
   pub heard_refused : (to : Asked) (rest : List ℕ) → Names to turn → IsFirstLine (take n mid.waiting) Negative rest
       → Heard turn old (Err (Refused to)) (at mid.link (drop (n + 2) mid.waiting))
   heard_refused to rest names first =
-      let short : length (take n mid.waiting) + 2 ≤ line_limit = line_short n mid.waiting has in
-      let size : length (ended (take n mid.waiting)) ≡ length (take n mid.waiting) + 2 = length-append (take n mid.waiting) crlf in
       record {
         gained = gained;
         used = ended (take n mid.waiting);
         sent = gains.sent;
         got = gains.got;
         heard = came;
-        within = omega arith;
+        within = omega (arith, length-append {A = ℕ}, line_short n mid.waiting has);
         cause = (names, (take n mid.waiting, rest, first_came, first));
         takes = (take n mid.waiting, has.line, refl);
       }
 
-  -- the line isn't good, and still waits
-  pub heard_unused : (fault : Fault) → Cause fault turn old.link mid.link (old.waiting ++ gained) → ((to : Asked) → fault ≡ Refused to → ⊥) → Heard turn old (Err fault) mid
-  heard_unused fault cause other = record {
-    gained = gained;
-    used = [];
-    sent = gains.sent;
-    got = gains.got;
-    heard = sym gains.waiting;
-    within = omega arith;
-    cause = cause;
-    takes = takes_other fault [] other;
-  }
-
   pub heard_bad : ((status : Status) (rest : List ℕ) → IsFirstLine (take n mid.waiting) status rest → ⊥) → Heard turn old (Err BadReply) mid
-  heard_bad none = record {
-    gained = gained;
-    used = [];
-    sent = gains.sent;
-    got = gains.got;
-    heard = sym gains.waiting;
-    within = omega arith;
-    cause = (take n mid.waiting, first_came, none Negative, λ rest first. absurd (none Positive rest first));
-    takes = tt;
-  }
+  heard_bad none = heard_unused gains (take n mid.waiting, first_came, none Negative, λ rest first. absurd (none Positive rest first)) tt
 
 -- a turn was sent whole, and its reply isn't good
 pub broke_there : (turn : Turn) (old : Place) (said : Link) (new : Place) (fault : Fault)
     → said ≡ record old.link { sent = old.link.sent ++ turn_bytes turn } → Heard turn (at said old.waiting) (Err fault) new → Broke turn old new fault
 broke_there turn old said new fault is heard =
-    let least : line_limit ≤ most turn = most_least turn in
-    let small : length heard.used ≤ line_limit = heard.within in
     inr (inl record {
       gained = heard.gained;
       used = heard.used;
       sent = heard.sent ∙ ap (λ (l : Link). l.sent) is;
       got = heard.got ∙ ap (λ (l : Link). l.got ++ heard.gained) is;
       heard = heard.heard;
-      within = omega arith;
+      within = omega (arith, most_least turn, heard.within);
       cause = cause_since fault turn old.link said new.link (old.waiting ++ heard.gained) (ap (λ (l : Link). l.failures) is) heard.cause;
       takes = heard.takes;
     })
 
--- the lines that are constants
 pub stat_bytes : codes "STAT" ++ crlf ≡ turn_bytes stat
 unfolding line_of
 stat_bytes = refl
@@ -172,22 +144,6 @@ pub sent_for : (turn : Turn) (old said : Link) (bytes : List ℕ) → said ≡ r
     → said ≡ record old { sent = old.sent ++ turn_bytes turn }
 sent_for turn old said bytes is same = is ∙ ap (λ (b : List ℕ). record old { sent = old.sent ++ b }) same
 
-pub uidl_bytes : codes "UIDL" ++ crlf ≡ turn_bytes uidl
-unfolding line_of
-uidl_bytes = refl
-
-pub list_bytes : codes "LIST" ++ crlf ≡ turn_bytes list
-unfolding line_of
-list_bytes = refl
-
-pub rset_bytes : codes "RSET" ++ crlf ≡ turn_bytes rset
-unfolding line_of
-rset_bytes = refl
-
-pub quit_bytes : codes "QUIT" ++ crlf ≡ turn_bytes quit
-unfolding line_of
-quit_bytes = refl
-
 -- nothing is sent for the greeting
 pub nothing_said : (link : Link) → link ≡ record link { sent = link.sent ++ [] }
 nothing_said link = ap (λ (s : List ℕ). record link { sent = s }) (sym (append-nil link.sent))
@@ -196,7 +152,6 @@ nothing_said link = ap (λ (s : List ℕ). record link { sent = s }) (sym (appen
 pub broke_saying : (turn : Turn) (old new : Place) (fault : Fault) → Sent (turn_bytes turn) old.link (Err fault) new.link → new.waiting ≡ old.waiting → Broke turn old new fault
 broke_saying turn old new fault said waits =
     let is = said.1.3 in
-    let risen : new.link.failures ≡ old.link.failures + 1 = ap (λ (l : Link). l.failures) is in
     inl (
       said.0,
       record {
@@ -206,22 +161,22 @@ broke_saying turn old new fault said waits =
         sent = ap (λ (l : Link). l.sent) is;
         got = ap (λ (l : Link). l.got) is;
         waiting = waits;
-        risen = omega arith;
+        risen = omega (arith, ap (λ (l : Link). l.failures) is);
       },
     )
 
 -- why STAT's line isn't good
 pub few_cause : (fault : Fault) (old new : Link) (line bytes : List ℕ) → FirstLine bytes line
-    → TellsFew line (Err fault) → Cause fault stat old new bytes × ((to : Asked) → fault ≡ Refused to → ⊥)
+    → GivesFew line (Err fault) → Cause fault stat old new bytes × ((to : Asked) → fault ≡ Refused to → ⊥)
 few_cause BadReply old new line bytes first why = ((line, first, why.0, λ rest read. (refl, why.1 rest read)), λ to is. cc)
 few_cause TooMany old new line bytes first why = (inl (refl, (line, why.0, why.1, why.2, first, why.3, why.4, why.5)), λ to is. cc)
 few_cause other old new line bytes first why = absurd why
 
 pub few_heard : (fault : Fault) (said mid : Place) (gained : List ℕ) (n : ℕ) → Gains said mid gained → HasLine line_limit mid.waiting n
-    → TellsFew (take n mid.waiting) (Err fault) → Heard stat said (Err fault) mid
+    → GivesFew (take n mid.waiting) (Err fault) → Heard stat said (Err fault) mid
 few_heard fault said mid gained n gains has why =
     let cause = few_cause fault said.link mid.link (take n mid.waiting) (said.waiting ++ gained) (first_came stat said mid gained n gains has) why in
-    heard_unused stat said mid gained n gains has fault cause.0 cause.1
+    heard_unused gains cause.0 (takes_other fault [] cause.1)
 
 -- ---- turns in a row
 
@@ -240,20 +195,15 @@ talked_none place = record {
 
 good_on : (xs ys : List Turn) (ls ms : List WholeReply) → AllZip IsGood xs ls → AllZip IsGood ys ms → AllZip IsGood (xs ++ ys) (ls ++ ms)
 good_on [] ys [] ms first then = then
-good_on [] ys (l ∷ ls) ms first then = absurd first
-good_on (x ∷ xs) ys [] ms first then = absurd first
 good_on (x ∷ xs) ys (l ∷ ls) ms first then = (first.0, good_on xs ys ls ms first.1 then)
+good_on _ ys _ ms first then = absurd first
 
 pub talked_on : (xs ys : List Turn) (ls ms : List WholeReply) (a b c : Place) → Talked xs ls a b → Talked ys ms b c → Talked (xs ++ ys) (ls ++ ms) a c
 talked_on xs ys ls ms a b c first then = record {
   gained = first.gained ++ then.gained;
-  sent = then.sent ∙ ap (λ (s : List ℕ). s ++ asking ys) first.sent ∙ append_assoc a.link.sent (asking xs) (asking ys)
-      ∙ ap (λ (s : List ℕ). a.link.sent ++ s) (sym (flat_map-append turn_bytes xs ys));
-  got = then.got ∙ ap (λ (s : List ℕ). s ++ then.gained) first.got ∙ append_assoc a.link.got first.gained then.gained;
-  heard = sym (append_assoc a.waiting first.gained then.gained) ∙ ap (λ (s : List ℕ). s ++ then.gained) first.heard
-      ∙ append_assoc (flat_map reply_bytes ls) b.waiting then.gained ∙ ap (λ (s : List ℕ). flat_map reply_bytes ls ++ s) then.heard
-      ∙ sym (append_assoc (flat_map reply_bytes ls) (flat_map reply_bytes ms) c.waiting)
-      ∙ ap (λ (s : List ℕ). s ++ c.waiting) (sym (flat_map-append reply_bytes ls ms));
+  sent = simp (then.sent, first.sent, flat_map-append, append_assoc);
+  got = simp (then.got, first.got, append_assoc);
+  heard = append_on a.waiting first.gained (flat_map reply_bytes ls) b.waiting then.gained first.heard ∙ simp (then.heard, flat_map-append, append_assoc);
   good = good_on xs ys ls ms first.good then.good;
   steady = goes_on a.link b.link c.link first.steady then.steady;
 }
@@ -277,41 +227,28 @@ pub talked_body : (turn : Turn) (line : List ℕ) (old mid new : Place) (lines :
 talked_body turn line old mid new lines gained begun drew steady heard is = record {
   gained = begun.gained ++ gained;
   sent = drew.sent ∙ begun.sent ∙ ap (λ (s : List ℕ). old.link.sent ++ s) (sym (append-nil (turn_bytes turn)));
-  got = drew.got ∙ ap (λ (s : List ℕ). s ++ gained) begun.got ∙ append_assoc old.link.got begun.gained gained;
-  heard = heard_behind line old mid gained begun.gained begun.heard ∙ ap (λ (s : List ℕ). ended line ++ s) heard
-      ∙ sym (append_assoc (ended line) (body_of lines) new.waiting)
-      ∙ ap (λ (s : List ℕ). s ++ new.waiting) (sym (append-nil (ended line ++ body_of lines)));
+  got = simp (drew.got, begun.got, append_assoc);
+  heard = append_on old.waiting begun.gained (ended line) mid.waiting gained begun.heard ∙ simp (heard, append-nil, append_assoc);
   good = (record { rest = begun.rest; line = begun.is; short = begun.short; positive = begun.positive; fits = begun.fits; body = is }, tt);
   steady = goes_on old.link mid.link new.link begun.steady steady;
 }
-  where
-    heard_behind : (line : List ℕ) (old mid : Place) (gained first : List ℕ) → old.waiting ++ first ≡ ended line ++ mid.waiting
-        → old.waiting ++ (first ++ gained) ≡ ended line ++ (mid.waiting ++ gained)
-    heard_behind line old mid gained first e =
-        sym (append_assoc old.waiting first gained) ∙ ap (λ (s : List ℕ). s ++ gained) e ∙ append_assoc (ended line) mid.waiting gained
 
 -- a turn broke after its good first line
 pub not_answered_behind : (turn : Turn) (line : List ℕ) (old mid new : Place) (gained used : List ℕ) (fault : Fault) → Opened turn line old mid
     → Drew mid.link new.link gained → Cause fault turn mid.link new.link (ended line ++ (mid.waiting ++ gained))
     → mid.waiting ++ gained ≡ used ++ new.waiting → line_limit + length used ≤ most turn → ((to : Asked) → fault ≡ Refused to → ⊥) → NotAnswered turn old new fault
 not_answered_behind turn line old mid new gained used fault begun drew why rest small other =
-    let short : length line + 2 ≤ line_limit = begun.short in
-    let size : length (ended line) ≡ length line + 2 = length-append line crlf in
-    let all : length (ended line ++ used) ≡ length (ended line) + length used = length-append (ended line) used in
+    let heard = append_on old.waiting begun.gained (ended line) mid.waiting gained begun.heard in
     record {
       gained = begun.gained ++ gained;
       used = ended line ++ used;
       sent = drew.sent ∙ begun.sent;
-      got = drew.got ∙ ap (λ (s : List ℕ). s ++ gained) begun.got ∙ append_assoc old.link.got begun.gained gained;
-      heard = heard ∙ ap (λ (s : List ℕ). ended line ++ s) rest ∙ sym (append_assoc (ended line) used new.waiting);
-      within = omega arith;
-      cause = cause_since fault turn old.link mid.link new.link (old.waiting ++ (begun.gained ++ gained)) begun.steady.failures
-          (subst (Cause fault turn mid.link new.link) (sym heard) why);
+      got = simp (drew.got, begun.got, append_assoc);
+      heard = heard ∙ simp (rest, append_assoc);
+      within = omega (arith, length-append {A = ℕ}, begun.short);
+      cause = cause_since fault turn old.link mid.link new.link (old.waiting ++ (begun.gained ++ gained)) begun.steady.failures (rw heard why);
       takes = takes_other fault (ended line ++ used) other;
     }
-  where
-    heard : old.waiting ++ (begun.gained ++ gained) ≡ ended line ++ (mid.waiting ++ gained)
-    heard = sym (append_assoc old.waiting begun.gained gained) ∙ ap (λ (s : List ℕ). s ++ gained) begun.heard ∙ append_assoc (ended line) mid.waiting gained
 
 pub stopped_first : (turn : Turn) (turns : List Turn) (old new : Place) (fault : Fault) → Broke turn old new fault → Stopped (turn ∷ turns) old new fault
 stopped_first turn turns old new fault broke =
@@ -331,7 +268,7 @@ stopped_behind xs ys rs a b new fault first then = record {
 }
 
 -- the rest of a first line has to give something only for STAT
-pub fits_other : (turn : Turn) (rest : List ℕ) → tells_count turn ≡ false → Fits turn rest
+pub fits_other : (turn : Turn) (rest : List ℕ) → gives_count turn ≡ false → Fits turn rest
 fits_other turn rest other is = absurd (false≢true (sym other ∙ is))
 
 -- a turn whose first line was taken has a reply that begins well
@@ -339,12 +276,12 @@ pub begins_of : (turn : Turn) (line : List ℕ) (old mid : Place) (after : List 
 begins_of turn line old mid after begun = record { line = line; rest = begun.rest; is = begun.is; short = begun.short; whole = refl; positive = begun.positive }
 
 -- a turn with a reply of one line was completed, or it broke
-pub asks_tells : (turn : Turn) (old new : Place) (result : Result (Unit {0}) Fault) → gives_body turn ≡ false → AsksTurn turn old result new → Tells turn old result new
+pub asks_tells : (turn : Turn) (old new : Place) (result : Result (Unit {0}) Fault) → gives_body turn ≡ false → AsksTurn turn old result new → Completes turn old result new
 asks_tells turn old new (Ok done) none asks = (record { first = asks.0; body = None }, talked_line turn asks.0 old new asks.1 none)
 asks_tells turn old new (Err fault) none asks = asks
 
 -- one turn is a conversation
-pub tells_talks : (turn : Turn) (old new : Place) (result : Result (Unit {0}) Fault) → Tells turn old result new → Talks (turn ∷ []) old result new
+pub tells_talks : (turn : Turn) (old new : Place) (result : Result (Unit {0}) Fault) → Completes turn old result new → Talks (turn ∷ []) old result new
 tells_talks turn old new (Ok done) tells = (tells.0 ∷ [], tells.1)
 tells_talks turn old new (Err fault) tells = stopped_first turn [] old new fault tells
 

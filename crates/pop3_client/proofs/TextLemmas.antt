@@ -21,13 +21,10 @@ use Rattle.pop3_client.proofs.TalkLemmas.{talked_body, not_answered_behind, begi
 -- a text that has ended was taken whole
 pub fetched : (number : ℕ) (old new : Place) (body : Rest) (text : List ℕ) → Fetching (retr number) old new body text → body.spot ≡ Done → Fetched (retr number) old text new
 fetched number old new body text now done =
-    let is : Body now.under.used text = subst (λ (s : Spot). Reaches s now.under.used text) done now.under.reached in
-    let sizes : length now.under.used + body.left ≡ text_limit = now.under.sizes in
-    let whole : now.under.used ≡ body_of is.lines = is.whole in
-    let same : length now.under.used ≡ length (body_of is.lines) = ap length whole in (
+    let is : Body now.under.used text = subst (λ (s : Spot). Reaches s now.under.used text) done now.under.reached in (
       record { first = now.line; body = Some is.lines },
       talked_body (retr number) now.line old now.mid new is.lines now.under.gained now.opened now.under.drew now.under.steady
-          (now.under.heard ∙ ap (λ (b : List ℕ). b ++ new.waiting) whole) (is.content, omega arith),
+          (now.under.heard ∙ ap (λ (b : List ℕ). b ++ new.waiting) is.whole) (is.content, omega (arith, now.under.sizes, ap length is.whole)),
       is.read,
     )
 
@@ -39,18 +36,15 @@ module _ (number : ℕ) (start mid new : Place) (line : List ℕ) (begun : Opene
     (drew : Drew mid.link new.link gained) where
   there : (fault : Fault) → Cause fault (retr number) mid.link new.link (ended line ++ (mid.waiting ++ gained)) → ((to : Asked) → fault ≡ Refused to → ⊥) → NotAnswered (retr number) start new fault
   there fault cause other =
-      let within : length leaves.used ≤ text_limit = leaves.within in
       let same : leaves.gained ≡ gained = append_cancel_left mid.link.got leaves.gained gained (sym leaves.got ∙ drew.got) in
-      not_answered_behind (retr number) line start mid new gained leaves.used fault begun drew cause (subst (λ (g : List ℕ). mid.waiting ++ g ≡ leaves.used ++ new.waiting) same leaves.heard) (omega arith) other
+      not_answered_behind (retr number) line start mid new gained leaves.used fault begun drew cause (subst (λ (g : List ℕ). mid.waiting ++ g ≡ leaves.used ++ new.waiting) same leaves.heard) (omega (arith, leaves.within)) other
 
   pub broke_ended : BodyCause text_limit Ended mid.link new.link (mid.waiting ++ gained) → NotAnswered (retr number) start new ConnectionEnded
   broke_ended why = there ConnectionEnded (why.2, inr (mid.waiting ++ gained, begins_of (retr number) line start mid (mid.waiting ++ gained) begun, (why.0, why.1))) (λ to is. cc)
 
   pub broke_failed : BodyCause text_limit Failed mid.link new.link (mid.waiting ++ gained) → NotAnswered (retr number) start new ReadFailed
   broke_failed why =
-      let risen : new.link.failures ≡ mid.link.failures + 1 = why.3 in
-      let more : mid.link.failures < new.link.failures = omega arith in
-      there ReadFailed (more, inr (mid.waiting ++ gained, begins_of (retr number) line start mid (mid.waiting ++ gained) begun, (why.0, why.1))) (λ to is. cc)
+      there ReadFailed (omega (arith, why.3), inr (mid.waiting ++ gained, begins_of (retr number) line start mid (mid.waiting ++ gained) begun, (why.0, why.1))) (λ to is. cc)
 
   pub broke_too_long : BodyCause text_limit TooLong mid.link new.link (mid.waiting ++ gained) → NotAnswered (retr number) start new TextTooLong
   broke_too_long why =

@@ -13,7 +13,8 @@ use Rattle.pop3_client.specs.declared.fault.Fault.{Fault}
 use Rattle.pop3_client.specs.declared.fault.Fault.TheVariants.{ConnectionEnded, ReadFailed, WriteFailed, ReplyTooLong}
 use Rattle.pop3_client.specs.declared.fault.Fault.TheVariants.{BadReply, Refused, BadListing, ListingsDisagree}
 use Rattle.pop3_client.specs.declared.fault.Fault.TheVariants.{TooMany, TextTooLong, StoreRefused, SeenRefused, NoMemory, BadSeen}
-use Rattle.pop3_client.specs.Turns.{Turn, Names, tells_count, retr, line_limit, text_limit, row_limit, IsShort, IsListing, IsRow}
+use Rattle.mail_terms.specs.Listing.{message_limit}
+use Rattle.pop3_client.specs.Turns.{Turn, Names, gives_count, retr, line_limit, text_limit, IsShort, IsListing, IsRow}
 
 -- the octets begin with a positive first line, and these follow it
 pub record BeginsPositive (bytes after : List ℕ) : Type 0 where
@@ -30,7 +31,7 @@ pub record HasRows (turn : Turn) (bytes after : List ℕ) (lines : List (List �
   pub content : AllByRecursion IsContent lines
   pub short : AllByRecursion IsShort lines
   pub rows : AllByRecursion (IsRow turn) lines
-  pub few : length lines ≤ row_limit
+  pub few : length lines ≤ message_limit
   pub whole : bytes ≡ flat_map ended lines ++ after
 
 -- a line isn't whole yet, and may still end within the limit
@@ -83,17 +84,19 @@ Cause ReplyTooLong turn old new bytes = IsOverlong bytes
     ⊎ ((after behind : List ℕ) × (lines : List (List ℕ)) × BeginsPositive bytes after × HasRows turn after behind lines × IsOverlong behind)
 Cause BadReply turn old new bytes = (line : List ℕ) × FirstLine bytes line
     × ((rest : List ℕ) → IsFirstLine line Negative rest → ⊥)
-    × ((rest : List ℕ) → IsFirstLine line Positive rest → (tells_count turn ≡ true) × (IsOk (number_and_size rest) → ⊥))
+    × ((rest : List ℕ) → IsFirstLine line Positive rest → (gives_count turn ≡ true) × (IsOk (number_and_size rest) → ⊥))
 Cause (Refused to) turn old new bytes = Names to turn × ((line rest : List ℕ) × FirstLine bytes line × IsFirstLine line Negative rest)
-Cause BadListing turn old new bytes = (row : List ℕ) × (rows : ℕ) × NextLine turn bytes row rows × (rows < row_limit) × (IsRow turn row → ⊥)
+Cause BadListing turn old new bytes = (row : List ℕ) × (rows : ℕ) × NextLine turn bytes row rows
+    × (rows < message_limit) × (IsRow turn row → ⊥)
 Cause ListingsDisagree turn old new bytes = ⊥
 Cause TooMany turn old new bytes =
-    ((tells_count turn ≡ true) × ((line rest : List ℕ) × (count size : ℕ) × FirstLine bytes line
-    × IsFirstLine line Positive rest × (number_and_size rest ≡ Ok (count, size)) × (row_limit < count)))
-    ⊎ ((row : List ℕ) × NextLine turn bytes row row_limit)
+    ((gives_count turn ≡ true) × ((line rest : List ℕ) × (count size : ℕ) × FirstLine bytes line
+    × IsFirstLine line Positive rest × (number_and_size rest ≡ Ok (count, size)) × (message_limit < count)))
+    ⊎ ((row : List ℕ) × NextLine turn bytes row message_limit)
 Cause TextTooLong turn old new bytes = ((number : ℕ) × (turn ≡ retr number)) × ((after : List ℕ) × BeginsPositive bytes after
     × HasNoBody (take text_limit after) × (text_limit ≤ length after))
 Cause (StoreRefused why) turn old new bytes = ⊥
 Cause SeenRefused turn old new bytes = ⊥
-Cause NoMemory turn old new bytes = (row : List ℕ) × (rows : ℕ) × NextLine turn bytes row rows × (rows < row_limit) × IsRow turn row
+Cause NoMemory turn old new bytes = (row : List ℕ) × (rows : ℕ) × NextLine turn bytes row rows
+    × (rows < message_limit) × IsRow turn row
 Cause (BadSeen line) turn old new bytes = ⊥

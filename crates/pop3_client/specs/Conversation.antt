@@ -5,7 +5,7 @@ use Rattle.std.specs.Prelude.{Some, Result, Ok, Err, IsOk}
 use Rattle.std.specs.List.{flat_map, AllZip}
 use Rattle.pop3_wire.specs.Line.{IsLine, ended}
 use Rattle.pop3_wire.specs.Reply.{IsFirstLine}
-use Rattle.pop3_wire.specs.Reading.{WholeReply, TellsCount, reply_bytes}
+use Rattle.pop3_wire.specs.Reading.{WholeReply, GivesCount, reply_bytes}
 use Rattle.pop3_wire.specs.declared.reply.Status.TheVariants.{Positive, Negative}
 use Rattle.pop3_wire.specs.declared.command.Command.TheVariants.{Retr, Dele}
 use Rattle.pop3_wire.specs.Fields.{number_and_size}
@@ -16,7 +16,8 @@ use Rattle.pop3_client.specs.declared.fault.Asked.TheVariants.{Quit as ByQuit}
 use Rattle.pop3_client.specs.declared.fault.Fault.TheVariants.{ConnectionEnded, ReadFailed, WriteFailed, ReplyTooLong}
 use Rattle.pop3_client.specs.declared.fault.Fault.TheVariants.{BadReply, Refused, TooMany, NoMemory}
 use Rattle.pop3_client.specs.Turns.{Turn, turn_bytes, asking, greeting, user, pass, stat, rset, quit, line_limit}
-use Rattle.pop3_client.specs.Turns.{row_limit, IsShort, most, Fits, IsGood}
+use Rattle.mail_terms.specs.Listing.{message_limit}
+use Rattle.pop3_client.specs.Turns.{IsShort, most, Fits, IsGood}
 use Rattle.pop3_client.specs.Causes.{IsPartOfLine, IsOverlong, Cause}
 
 -- these turns were sent, and each was answered by its reply, whole and good, in order; that no turn is sent
@@ -107,13 +108,13 @@ AsksTurn turn old (Ok done) new = (line : List ℕ) × Opened turn line old new
 AsksTurn turn old (Err fault) new = Broke turn old new fault
 
 -- a turn was completed, or it broke
-abbrev pub Tells : Turn → Place → Result (Unit {0}) Fault → Place → Type 0
-Tells turn old (Ok done) new = (reply : WholeReply) × Talked (turn ∷ []) (reply ∷ []) old new
-Tells turn old (Err fault) new = Broke turn old new fault
+abbrev pub Completes : Turn → Place → Result (Unit {0}) Fault → Place → Type 0
+Completes turn old (Ok done) new = (reply : WholeReply) × Talked (turn ∷ []) (reply ∷ []) old new
+Completes turn old (Err fault) new = Broke turn old new fault
 
 -- STAT was completed, and its reply gives this count; or it broke
 abbrev pub CountsMessages : Place → Result ℕ Fault → Place → Type 0
-CountsMessages old (Ok count) new = (reply : WholeReply) × Talked (stat ∷ []) (reply ∷ []) old new × TellsCount reply count
+CountsMessages old (Ok count) new = (reply : WholeReply) × Talked (stat ∷ []) (reply ∷ []) old new × GivesCount reply count
 CountsMessages old (Err fault) new = Broke stat old new fault
 
 -- logging in
@@ -201,14 +202,14 @@ Sent bytes old (Err fault) new = (fault ≡ WriteFailed)
     × ((front rest : List ℕ) × (bytes ≡ front ++ rest) × (new ≡ record old { sent = old.sent ++ front; failures = old.failures + 1 }))
 
 -- a positive first line gives a count of at most 100,000 messages, or why it doesn't
-abbrev pub TellsFew : List ℕ → Result ℕ Fault → Type 0
-TellsFew line (Ok count) = (rest : List ℕ) × (size : ℕ) × IsFirstLine line Positive rest
-    × (number_and_size rest ≡ Ok (count, size)) × (count ≤ row_limit)
-TellsFew line (Err BadReply) = ((rest : List ℕ) → IsFirstLine line Negative rest → ⊥)
+abbrev pub GivesFew : List ℕ → Result ℕ Fault → Type 0
+GivesFew line (Ok count) = (rest : List ℕ) × (size : ℕ) × IsFirstLine line Positive rest
+    × (number_and_size rest ≡ Ok (count, size)) × (count ≤ message_limit)
+GivesFew line (Err BadReply) = ((rest : List ℕ) → IsFirstLine line Negative rest → ⊥)
     × ((rest : List ℕ) → IsFirstLine line Positive rest → IsOk (number_and_size rest) → ⊥)
-TellsFew line (Err TooMany) = (rest : List ℕ) × (count size : ℕ) × IsFirstLine line Positive rest
-    × (number_and_size rest ≡ Ok (count, size)) × (row_limit < count)
-TellsFew line (Err _) = ⊥
+GivesFew line (Err TooMany) = (rest : List ℕ) × (count size : ℕ) × IsFirstLine line Positive rest
+    × (number_and_size rest ≡ Ok (count, size)) × (message_limit < count)
+GivesFew line (Err _) = ⊥
 
 -- whether a fault is a refused call of the link
 abbrev pub is_refusal : Fault → Bool

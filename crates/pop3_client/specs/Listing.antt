@@ -7,13 +7,13 @@ use Rattle.pop3_wire.specs.Reading.{WholeReply, IsUidLine, IsScanLine, HasListin
 use Rattle.pop3_wire.specs.Link.{Link}
 use Rattle.pop3_wire.specs.Place.{Place, GoesOn, Gains, HasLine}
 use Rattle.pop3_wire.specs.Bodies.{Drew}
-use Rattle.mail_terms.specs.Listing.{Item, Agree, Joins}
+use Rattle.mail_terms.specs.Listing.{Item, Agree, Joins, message_limit}
 use Rattle.mail_terms.specs.declared.listing.UidRow.{UidRow}
 use Rattle.mail_terms.specs.declared.listing.ScanRow.{ScanRow}
 use Rattle.pop3_client.specs.declared.fault.Fault.{Fault}
 use Rattle.pop3_client.specs.declared.fault.Fault.TheVariants.{ConnectionEnded, ReadFailed, ReplyTooLong, BadListing}
 use Rattle.pop3_client.specs.declared.fault.Fault.TheVariants.{ListingsDisagree, TooMany, NoMemory}
-use Rattle.pop3_client.specs.Turns.{Turn, uidl, list, line_limit, row_limit, IsShort, IsRow, LinesFit}
+use Rattle.pop3_client.specs.Turns.{Turn, uidl, list, line_limit, IsShort, IsRow, LinesFit}
 use Rattle.pop3_client.specs.Causes.{IsPartOfListing, HasRows, IsOverlong}
 use Rattle.pop3_client.specs.Conversation.{NoLineCause, Talked, Stopped, Broke}
 
@@ -42,7 +42,7 @@ abbrev pub RowCause : Fault → ℕ → Link → Link → List ℕ → Type 0
 RowCause ConnectionEnded rows old new bytes = NoLineCause ConnectionEnded old new bytes
 RowCause ReadFailed rows old new bytes = NoLineCause ReadFailed old new bytes
 RowCause ReplyTooLong rows old new bytes = IsOverlong bytes
-RowCause TooMany rows old new bytes = (row behind : List ℕ) × (row_limit ≤ rows) × IsContent row × IsShort row
+RowCause TooMany rows old new bytes = (row behind : List ℕ) × (message_limit ≤ rows) × IsContent row × IsShort row
     × (bytes ≡ ended row ++ behind)
 RowCause _ rows old new bytes = ⊥
 
@@ -70,9 +70,10 @@ RowsCause ReadFailed turn old new after = (old.failures < new.failures) × IsPar
 RowsCause ReplyTooLong turn old new after = (behind : List ℕ) × (lines : List (List ℕ))
     × HasRows turn after behind lines × IsOverlong behind
 RowsCause BadListing turn old new after = (row : List ℕ) × (rows : ℕ) × RowBehind turn after row rows
-    × (rows < row_limit) × (IsRow turn row → ⊥)
-RowsCause TooMany turn old new after = (row : List ℕ) × RowBehind turn after row row_limit
-RowsCause NoMemory turn old new after = (row : List ℕ) × (rows : ℕ) × RowBehind turn after row rows × (rows < row_limit) × IsRow turn row
+    × (rows < message_limit) × (IsRow turn row → ⊥)
+RowsCause TooMany turn old new after = (row : List ℕ) × RowBehind turn after row message_limit
+RowsCause NoMemory turn old new after = (row : List ℕ) × (rows : ℕ) × RowBehind turn after row rows
+    × (rows < message_limit) × IsRow turn row
 RowsCause _ turn old new after = ⊥
 
 -- the lines of a listing were taken, its end mark included

@@ -1,4 +1,5 @@
 -- The turns of a conversation, and the replies that let it go on (RFC 1939, section 3).
+use Rattle.mail_terms.specs.Listing.{message_limit}
 use Rattle.std.specs.Prelude.{◌≡◌, ◌⊎◌, ◌+◌, ◌*◌, ◌≤◌, ℕ, Bool, true, false, List, [], length, Option, None, Some, Ok, IsOk}
 use Rattle.std.specs.List.{flat_map, AllByRecursion}
 use Rattle.pop3_wire.specs.Line.{IsLine, ended}
@@ -80,31 +81,27 @@ line_limit = 2048
 abbrev pub text_limit : ℕ
 text_limit = 268435456
 
--- how many rows a listing may have
-abbrev pub row_limit : ℕ
-row_limit = 100000
-
 -- a line that is within the limit, its CR LF included
 abbrev pub IsShort : List ℕ → Type 0
 IsShort line = length line + 2 ≤ line_limit
 
 -- how many octets are taken at most for a turn's reply; a listing's rows and its end mark are lines
 abbrev pub most : Turn → ℕ
-most (Some UidlAll) = line_limit + line_limit * (row_limit + 1)
-most (Some ListAll) = line_limit + line_limit * (row_limit + 1)
+most (Some UidlAll) = line_limit + line_limit * (message_limit + 1)
+most (Some ListAll) = line_limit + line_limit * (message_limit + 1)
 most (Some (Retr number)) = line_limit + text_limit
 most _ = line_limit
 
 -- ---- replies that let the session go on
 
 -- whether the rest of a positive first line has to give the number of messages
-abbrev pub tells_count : Turn → Bool
-tells_count (Some Stat) = true
-tells_count _ = false
+abbrev pub gives_count : Turn → Bool
+gives_count (Some Stat) = true
+gives_count _ = false
 
 -- what that rest has to be: it gives a count of at most 100,000 messages
 abbrev pub Fits : Turn → List ℕ → Type 0
-Fits turn rest = tells_count turn ≡ true → (count size : ℕ) × (number_and_size rest ≡ Ok (count, size)) × (count ≤ row_limit)
+Fits turn rest = gives_count turn ≡ true → (count size : ℕ) × (number_and_size rest ≡ Ok (count, size)) × (count ≤ message_limit)
 
 -- a listing is asked for
 abbrev pub IsListing : Turn → Type 0
@@ -118,8 +115,8 @@ IsRow _ line = ⊥
 
 -- what the lines of a body have to be
 abbrev pub LinesFit : Turn → List (List ℕ) → Type 0
-LinesFit (Some UidlAll) lines = (length lines ≤ row_limit) × AllByRecursion IsShort lines × AllByRecursion (IsRow uidl) lines
-LinesFit (Some ListAll) lines = (length lines ≤ row_limit) × AllByRecursion IsShort lines × AllByRecursion (IsRow list) lines
+LinesFit (Some UidlAll) lines = (length lines ≤ message_limit) × AllByRecursion IsShort lines × AllByRecursion (IsRow uidl) lines
+LinesFit (Some ListAll) lines = (length lines ≤ message_limit) × AllByRecursion IsShort lines × AllByRecursion (IsRow list) lines
 LinesFit (Some (Retr number)) lines = length (body_of lines) ≤ text_limit
 LinesFit _ lines = ⊥
 

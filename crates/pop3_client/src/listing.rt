@@ -1,13 +1,13 @@
 //! The listings of unique-ids and of sizes (RFC 1939, sections 5 and 7).
 ghost use Rattle.std.specs.Prelude.{◌≡◌, ◌≤◌, ◌<◌, ◌⊎◌, ℕ, List, All, IfOk, IfErr, IfSome};
-ghost use Rattle.mail_terms.specs.Listing.{Agree, Joins};
+ghost use Rattle.mail_terms.specs.Listing.{Agree, Joins, message_limit};
 ghost use Rattle.mail_terms.specs.UniqueId.{IsLegalId};
 ghost use Rattle.pop3_wire.specs.Bodies.{items_of};
 ghost use Rattle.pop3_wire.specs.Place.{HasLine};
 ghost use Rattle.pop3_wire.specs.Reading.{IsUidLine, IsScanLine};
 ghost use Rattle.pop3_client.specs.Client.{HasSameLink, CountsRefusals, WhereLinkSound};
 ghost use Rattle.pop3_client.specs.Fault.{IsOfConversation};
-ghost use Rattle.pop3_client.specs.Turns.{line_limit, row_limit};
+ghost use Rattle.pop3_client.specs.Turns.{line_limit};
 ghost use Rattle.pop3_client.specs.Listing.{NextRow, TakesRows, ListsRows, GetsListing};
 
 use crate::client::Client;
@@ -20,7 +20,7 @@ use std::vec::Vec;
 
 /// The messages of both listings, which have to agree with the count and with each other.
 fn joined(alloc: Global, count: u32, uids: &[UidRow], sizes: &[ScanRow]) -> Result<Listing, Fault>
-    requires few { count ≤ row_limit }
+    requires few { count ≤ message_limit }
     requires legal { All (λ row. IsLegalId row.uid.items) uids.now }
     ensures legal { IfOk result (λ listing. All (λ item. IsLegalId item.uid) listing) }
     ensures ok { IfOk result (Joins count uids.now sizes.now) }
@@ -44,7 +44,7 @@ impl<'a, W: Wire> Client<'a, W> {
         ensures counted { CountsRefusals W.Wire self.old result self.new }
         ensures own { IfErr result IsOfConversation }
         ensures line { IfOk result (λ found. IfSome found (HasLine line_limit self.new.reader)) }
-        ensures few { IfOk result (λ found. IfSome found (λ n. rows < row_limit)) }
+        ensures few { IfOk result (λ found. IfSome found (λ n. rows < message_limit)) }
         ensures next { WhereLinkSound W.Wire self.old self.new (λ old new. NextRow rows old result new) }
     {
         let length = match self.next_line() {
@@ -106,7 +106,7 @@ impl<'a, W: Wire> Client<'a, W> {
     /// Asks for the unique-ids and the sizes (UIDL, LIST) of `count` messages. Each row is
     /// checked when it is whole; both listings have to agree with the count and with each other.
     pub fn list(&mut self, alloc: Global, count: u32) -> Result<Listing, Fault>
-        requires { count ≤ row_limit }
+        requires { count ≤ message_limit }
         ensures link { HasSameLink self.old self.new }
         ensures counted { CountsRefusals W.Wire self.old result self.new }
         ensures own { IfErr result IsOfConversation }

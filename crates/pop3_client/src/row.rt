@@ -56,6 +56,7 @@ impl ListedRow for UidRow {
         Asked::Uidl
     }
 
+    #[tactic(auto, unfolding(pop3_wire::specs::Commands::line_of))]
     fn command() -> &'static [u8] {
         b"UIDL\r\n"
     }
@@ -90,6 +91,7 @@ impl ListedRow for ScanRow {
         Asked::List
     }
 
+    #[tactic(auto, unfolding(pop3_wire::specs::Commands::line_of))]
     fn command() -> &'static [u8] {
         b"LIST\r\n"
     }

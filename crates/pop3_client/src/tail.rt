@@ -3,7 +3,7 @@ ghost use Rattle.std.specs.Prelude.{◌≡◌, ◌∷◌, [], if◌then◌else�
 ghost use Rattle.pop3_client.specs.Client.{HasSameLink, CountsRefusals, WhereLinkSound};
 ghost use Rattle.pop3_client.specs.Fault.{IsOfConversation};
 ghost use Rattle.pop3_client.specs.Turns.{rset, quit as quit_turn};
-ghost use Rattle.pop3_client.specs.Conversation.{Tells, Talks, tail_of, undoing};
+ghost use Rattle.pop3_client.specs.Conversation.{Completes, Talks, tail_of, undoing};
 
 use crate::client::Client;
 use crate::fault::{Asked, Fault};
@@ -26,7 +26,7 @@ impl<'a, W: Wire> Client<'a, W> {
         ensures link { HasSameLink self.old self.new }
         ensures counted { CountsRefusals W.Wire self.old result self.new }
         ensures own { IfErr result IsOfConversation }
-        ensures tells { WhereLinkSound W.Wire self.old self.new (λ old new. Tells rset old result new) }
+        ensures tells { WhereLinkSound W.Wire self.old self.new (λ old new. Completes rset old result new) }
     {
         self.ask(Asked::Quit, b"RSET\r\n")
     }

@@ -5,8 +5,9 @@ ghost use Rattle.pop3_wire.specs.Place.{Gains, HasLine};
 ghost use Rattle.pop3_wire.specs.Reply.{IsFirstLine};
 ghost use Rattle.pop3_client.specs.Client.{HasSameLink, CountsRefusals, WhereLinkSound};
 ghost use Rattle.pop3_client.specs.Fault.{IsOfConversation};
-ghost use Rattle.pop3_client.specs.Turns.{Turn, Names, turn_bytes, tells_count, greeting, dele, quit, line_limit, row_limit};
-ghost use Rattle.pop3_client.specs.Conversation.{Waits, Heard, Sent, AsksTurn, CountsMessages, Tells, TellsFew};
+ghost use Rattle.mail_terms.specs.Listing.{message_limit};
+ghost use Rattle.pop3_client.specs.Turns.{Turn, Names, turn_bytes, gives_count, greeting, dele, quit, line_limit};
+ghost use Rattle.pop3_client.specs.Conversation.{Waits, Heard, Sent, AsksTurn, CountsMessages, Completes, GivesFew};
 
 use crate::client::Client;
 use crate::fault::{Asked, Fault};
@@ -21,7 +22,7 @@ const LINE_LIMIT: usize = 2_048;
 /// it is above 100,000.
 fn count_of(line: &[u8]) -> Result<u32, Fault>
     requires { (rest : List ℕ) × IsFirstLine line.now Status.Positive rest }
-    ensures { TellsFew line.now result }
+    ensures { GivesFew line.now result }
 {
     let rest = match read_status(line) {
         Ok((_, rest)) => rest,
@@ -117,7 +118,7 @@ impl<'a, W: Wire> Client<'a, W> {
         ensures counted { CountsRefusals W.Wire self.old result self.new }
         ensures own { IfErr result IsOfConversation }
         ensures asks { WhereLinkSound W.Wire self.old self.new
-            (λ old new. (turn : Turn) → Names asked turn → tells_count turn ≡ false → bytes.now ≡ turn_bytes turn
+            (λ old new. (turn : Turn) → Names asked turn → gives_count turn ≡ false → bytes.now ≡ turn_bytes turn
             → AsksTurn turn old result new) }
     {
         if let Err(fault) = self.say(bytes) {
@@ -136,7 +137,7 @@ impl<'a, W: Wire> Client<'a, W> {
         ensures link { HasSameLink self.old self.new }
         ensures counted { CountsRefusals W.Wire self.old result self.new }
         ensures own { IfErr result IsOfConversation }
-        ensures few { IfOk result (λ n. n ≤ row_limit) }
+        ensures few { IfOk result (λ n. n ≤ message_limit) }
         ensures counts { WhereLinkSound W.Wire self.old self.new (λ old new. CountsMessages old result new) }
     {
         if let Err(fault) = self.say(b"STAT\r\n") {
@@ -161,7 +162,7 @@ impl<'a, W: Wire> Client<'a, W> {
         ensures link { HasSameLink self.old self.new }
         ensures counted { CountsRefusals W.Wire self.old result self.new }
         ensures own { IfErr result IsOfConversation }
-        ensures tells { WhereLinkSound W.Wire self.old self.new (λ old new. Tells (dele number) old result new) }
+        ensures tells { WhereLinkSound W.Wire self.old self.new (λ old new. Completes (dele number) old result new) }
     {
         let Ok(line) = command_bytes(alloc, &Command::Dele(number)) else {
             return Err(Fault::NoMemory);
@@ -174,7 +175,7 @@ impl<'a, W: Wire> Client<'a, W> {
         ensures link { HasSameLink self.old self.new }
         ensures counted { CountsRefusals W.Wire self.old result self.new }
         ensures own { IfErr result IsOfConversation }
-        ensures tells { WhereLinkSound W.Wire self.old self.new (λ old new. Tells quit old result new) }
+        ensures tells { WhereLinkSound W.Wire self.old self.new (λ old new. Completes quit old result new) }
     {
         self.ask(Asked::Quit, b"QUIT\r\n")
     }

@@ -1,6 +1,5 @@
 -- Removals in a row.
-use Rattle.std.proofs.Common.{◌≡◌, ◌&&◌, ℕ, zero, suc, ◌+◌, ◌<◌, Bool, true, false, List, [], ◌∷◌, length, drop, get_or, Option, Some, None, slice_get, slice_set, refl, sym, ◌∙◌, ap, inl, inr, arith, add-one, drop-cons, if◌then◌else◌}
-use Rattle.pop3_wire.specs.World.{Message}
+use Rattle.std.proofs.Common.{◌≡◌, ℕ, suc, ◌+◌, ◌<◌, Bool, true, false, List, ◌∷◌, length, drop, get_or, sym, ◌∙◌, ap, arith, add-one, drop-cons, if◌then◌else◌}
 use Rattle.pop3_server.specs.declared.rows.MessageRow.{MessageRow}
 use Rattle.mail_terms.specs.FailureCount.{counted_up}
 use Rattle.pop3_server.specs.Maildrop.{Mail, HasPlace}

@@ -75,5 +75,5 @@ abbrev pub HasListing : {R : Type 0} → (List ℕ → R → Type 0) → WholeRe
 HasListing IsThisRow reply rows = (lines : List (List ℕ)) × (reply.body ≡ Some lines) × AllZip IsThisRow lines rows
 
 -- a reply to STAT gives this count
-abbrev pub TellsCount : WholeReply → ℕ → Type 0
-TellsCount reply count = (rest : List ℕ) × (size : ℕ) × IsFirstLine reply.first Positive rest × (number_and_size rest ≡ Ok (count, size))
+abbrev pub GivesCount : WholeReply → ℕ → Type 0
+GivesCount reply count = (rest : List ℕ) × (size : ℕ) × IsFirstLine reply.first Positive rest × (number_and_size rest ≡ Ok (count, size))

@@ -1,10 +1,11 @@
 -- If a prefix of the selected messages is done, a session fetches the next of them. Stores don't come in here.
-use Rattle.std.proofs.Common.{◌≡◌, ◌≤◌, ◌⊎◌, inl, inr, ℕ, List, [], ◌∷◌, ◌++◌, Bool, true, false, not, cond, ◌&&◌, ◌||◌, ◌==◌, length, take, drop, map, refl, sym, ◌∙◌, ap, subst, append_assoc, take-append-drop, arith}
+use Rattle.std.proofs.Common.{◌≡◌, ◌≤◌, ◌⊎◌, ℕ, List, [], ◌∷◌, ◌++◌, Bool, true, false, not, cond, ◌&&◌, ◌||◌, ◌==◌, length, take, drop, map, refl, sym, ◌∙◌, ap, subst, append_assoc, take-append-drop, arith}
 use Rattle.std.specs.Prelude.{zip}
 use Rattle.std.specs.List.{filter, AllByRecursion}
-use Rattle.std.proofs.lemmas.Bool.{both_ways, or_cases, or_left, or_right, and_from, cases_Bool, cond_both, false_from_ne_true}
-use Rattle.std.proofs.lemmas.List.{take-map, take_all, take_at, length-map}
+use Rattle.std.proofs.lemmas.Bool.{both_ways, or_left, or_right, cond_both, false_from_ne_true}
+use Rattle.std.proofs.lemmas.List.{take-map, take_all, length-map}
 use Rattle.std.proofs.lemmas.List.Elements.{filter-append}
+use Rattle.mail_terms.specs.Listing.{Item}
 use Rattle.mail_terms.specs.UniqueId.{is_legal_id, has_id}
 use Rattle.pop3_wire.specs.World.{Message, IsMessage, IsWorld, maildrop_of}
 use Rattle.rc_file.specs.declared.settings.Settings.{Settings}
@@ -13,10 +14,10 @@ use Rattle.fetch_rules.specs.Wanted.{DistinctAreFiltered, at_most, wanted, candi
 use Rattle.run_law.specs.Mails.{ids_of, listing_of, is_selected, selected}
 use Rattle.run_law.specs.Steps.{AreTexts, ids_wanted}
 use Rattle.run_law.specs.Runs.{past_limit}
-use Rattle.run_law.proofs.Lists.{filter-filter, filter_all, all_map, all_both, all_filter, all_passing, all_take, all_front}
+use Rattle.run_law.proofs.Lists.{front_is, filter-filter, filter_all, all_map, all_both, all_filter, all_passing, all_take, all_front}
 use Rattle.run_law.proofs.Ids.{Distinct, distinct_is, distinct_take, distinct_filter, ids_filtered, ids_both, all_at, all_ids_at, bytes_self, HasTextsOf, through, whole_take, whole_filter}
 use Rattle.run_law.proofs.Wants.{num_item, all_at_most, with_text, asked, offered, wants, offered_by_number, wants_by_number, wanted_are, candidates_are, wants_snd, offered_snd, wants_placed, zipped, ids_are, begins, both_parts, past-map, snd}
-use Rattle.run_law.proofs.Bridge.{IsLeft, BeginsWith, bridge, left_is}
+use Rattle.run_law.proofs.Bridge.{IsLeft, BeginsWith, nexts, bridge, left_is}
 
 -- a message that passes a test keeps its id in the filtered list
 pub passing_in : (p : Message → Bool) (ms : List Message) → AllByRecursion (λ (m : Message). p m ≡ true → has_id (ids_of (filter p ms)) m.uid ≡ true) ms
@@ -104,9 +105,11 @@ module _ (s : Scene) (is : IsScene s) where
   pub legal_fetched : AllByRecursion IsLegal ws
   legal_fetched = all_at_most IsLegal s.settings.max_count os (all_filter IsLegal (asked s.settings s.rows) (here s) legal_here)
 
+  offered_here : AllByRecursion (λ (m : Message). has_id (ids_of (here s)) m.uid ≡ true) os
+  offered_here = all_filter (λ (m : Message). has_id (ids_of (here s)) m.uid ≡ true) (asked s.settings s.rows) (here s) (members (here s))
+
   pub fetched_here : AllByRecursion (λ (m : Message). has_id (ids_of (here s)) m.uid ≡ true) ws
-  fetched_here = all_at_most (λ (m : Message). has_id (ids_of (here s)) m.uid ≡ true) s.settings.max_count os
-      (all_filter (λ (m : Message). has_id (ids_of (here s)) m.uid ≡ true) (asked s.settings s.rows) (here s) (members (here s)))
+  fetched_here = all_at_most (λ (m : Message). has_id (ids_of (here s)) m.uid ≡ true) s.settings.max_count os offered_here
 
   distinct_here : Distinct (ids_of (here s))
   distinct_here = distinct_filter (λ (m : Message). not (is_gone m.uid)) come (distinct_take s.come s.all distinct_all)
@@ -129,8 +132,8 @@ module _ (s : Scene) (is : IsScene s) where
   pub wanted_length : length (map num_item qs) ≡ length ws
   wanted_length = length-map qs num_item ∙ sym (length-map qs snd) ∙ ap length (wants_snd s.settings s.rows (here s))
 
-  pub past_ids : DistinctAreFiltered → ids_wanted (past_limit s.settings.max_count (candidates s.settings s.rows (listing_of (here s)))) ≡ ids_of (past_limit s.settings.max_count os)
-  past_ids filtered = ap (λ l. ids_wanted (past_limit s.settings.max_count l)) (candidates_are filtered s.settings s.rows (here s) distinct_here)
+  pub past_ids : DistinctAreFiltered → (listing : List Item) → listing ≡ listing_of (here s) → ids_wanted (past_limit s.settings.max_count (candidates s.settings s.rows listing)) ≡ ids_of (past_limit s.settings.max_count os)
+  past_ids filtered listing is = ap (λ l. ids_wanted (past_limit s.settings.max_count l)) (ap (candidates s.settings s.rows) is ∙ candidates_are filtered s.settings s.rows (here s) distinct_here)
       ∙ ap ids_wanted (past-map num_item s.settings.max_count (offered_by_number s.settings s.rows (here s)))
       ∙ ids_are (past_limit s.settings.max_count (offered_by_number s.settings s.rows (here s)))
       ∙ ap ids_of (sym (past-map snd s.settings.max_count (offered_by_number s.settings s.rows (here s))) ∙ ap (past_limit s.settings.max_count) (offered_snd s.settings s.rows (here s)))
@@ -174,21 +177,30 @@ module _ (s : Scene) (is : IsScene s) where
   pub prefix_after : (n : ℕ) → selected s.settings.max_size s.all ≡ (s.done ++ added s n) ++ (added_begins n).0
   prefix_after n = is.prefix ∙ ap (λ l. s.done ++ l) (added_begins n).1 ∙ sym (append_assoc s.done (added s n) (added_begins n).0)
 
-  -- if only what is new is read, no wanted message is recorded
-  pub none_recorded : s.settings.read_all ≡ false → AllByRecursion (λ (m : Message). is_delivered s.rows m.uid ≡ false) ws
-  none_recorded only_new = all_at_most (λ (m : Message). is_delivered s.rows m.uid ≡ false) s.settings.max_count os
-      (all_map (λ (m : Message). asked s.settings s.rows m ≡ true) (λ (m : Message). is_delivered s.rows m.uid ≡ false)
-      (λ m a. new (fit m) s.settings.read_all (is_delivered s.rows m.uid) only_new a) os (all_passing (asked s.settings s.rows) (here s)))
+  -- if only what is new is read, no message that is offered or wanted is recorded
+  new_offered : s.settings.read_all ≡ false → AllByRecursion (λ (m : Message). is_delivered s.rows m.uid ≡ false) os
+  new_offered only_new = all_map (λ (m : Message). asked s.settings s.rows m ≡ true) (λ (m : Message). is_delivered s.rows m.uid ≡ false)
+      (λ m a. new (fit m) s.settings.read_all (is_delivered s.rows m.uid) only_new a) os (all_passing (asked s.settings s.rows) (here s))
     where
       new : (f r k : Bool) → r ≡ false → (f && (r || not k)) ≡ true → k ≡ false
       new f r k e a = grind arith
 
-  -- and if all that is done is recorded, no wanted message is done
-  pub all_added : ((id : List ℕ) → is_done s id ≡ true → is_delivered s.rows id ≡ true) → s.settings.read_all ≡ false → (n : ℕ) → added s n ≡ take n ws
-  all_added exact only_new n = filter_all undone (take n ws) (all_take (λ (m : Message). undone m ≡ true) n ws
-      (all_map (λ (m : Message). is_delivered s.rows m.uid ≡ false) (λ (m : Message). undone m ≡ true)
-      (λ m k. ap not (false_from_ne_true (is_done s m.uid) (λ d. both_ways (is_delivered s.rows m.uid) k (exact m.uid d))))
-      ws (none_recorded only_new)))
+  pub none_recorded : s.settings.read_all ≡ false → AllByRecursion (λ (m : Message). is_delivered s.rows m.uid ≡ false) ws
+  none_recorded only_new = all_at_most (λ (m : Message). is_delivered s.rows m.uid ≡ false) s.settings.max_count os (new_offered only_new)
+
+  -- and if all that is done and here is recorded, no such message is done: those offered are the next
+  module _ (exact : (id : List ℕ) → is_legal_id id ≡ true → has_id (ids_of (here s)) id ≡ true → is_done s id ≡ true → is_delivered s.rows id ≡ true) (only_new : s.settings.read_all ≡ false) where
+    undone_offered : AllByRecursion (λ (m : Message). undone m ≡ true) os
+    undone_offered = all_both (λ (m : Message). is_delivered s.rows m.uid ≡ false) (λ (m : Message). has_id (ids_of (here s)) m.uid ≡ true) (λ (m : Message). undone m ≡ true)
+        (λ m k h. ap not (false_from_ne_true (is_done s m.uid) (λ d. both_ways (is_delivered s.rows m.uid) k (exact m.uid (all_at (λ x. is_legal_id x ≡ true) (here s) m.uid legal_here h) h d))))
+        os (new_offered only_new) offered_here
+
+    pub all_added : (n : ℕ) → added s n ≡ take n ws
+    all_added n = filter_all undone (take n ws) (all_take (λ (m : Message). undone m ≡ true) n ws (all_at_most (λ (m : Message). undone m ≡ true) s.settings.max_count os undone_offered))
+
+    pub offered_next : os ≡ drop (length s.done) (filter fit come)
+    offered_next = sym (left_filters ∙ filter_all undone os undone_offered)
+        ∙ nexts fit is_left s.done come (filter fit (drop s.come s.all)) s.rest (distinct_take s.come s.all distinct_all) selected_parts each_left
 
   -- ---- what is done afterwards
 
@@ -196,10 +208,7 @@ module _ (s : Scene) (is : IsScene s) where
   done_more n id e = ids_both s.done (added s n) id ∙ or_left _ _ e
 
   pub fetched_done : (n : ℕ) (id : List ℕ) → has_id (ids_of (take n ws)) id ≡ true → is_done_after s n id ≡ true
-  fetched_done n id e = elim (cases_Bool (is_done s id)) [
-    | inl h ↦ done_more n id h
-    | inr h ↦ ids_both s.done (added s n) id ∙ or_right _ _ (ids_filtered (λ x. not (is_done s x)) (take n ws) id ∙ and_from _ _ e (ap not h))
-  ]
+  fetched_done n id e = grind (arith, e, ids_both s.done (added s n) id, ids_filtered (λ x. not (is_done s x)) (take n ws) id)
 
   pub legal_after : (n : ℕ) (id : List ℕ) → is_done_after s n id ≡ true → is_legal_id id ≡ true
   legal_after n id e = all_at (λ x. is_legal_id x ≡ true) (s.done ++ added s n) id
@@ -225,12 +234,9 @@ module _ (s : Scene) (is : IsScene s) where
   -- and so are those of an id that is done
   pub texts_done : (id : List ℕ) → HasTextsOf s.done s.all id
   texts_done id = through s.done (selected s.settings.max_size s.all) s.all id
-      (subst (λ (l : List Message). HasTextsOf l (selected s.settings.max_size s.all) id) front
+      (subst (λ (l : List Message). HasTextsOf l (selected s.settings.max_size s.all) id) (front_is s.done s.rest is.prefix)
       (whole_take (length s.done) (selected s.settings.max_size s.all) id (distinct_filter fit s.all distinct_all)))
       (whole_filter fit s.all id distinct_all)
-    where
-      front : take (length s.done) (selected s.settings.max_size s.all) ≡ s.done
-      front = ap (take (length s.done)) is.prefix ∙ take_at s.done s.rest (length s.done) refl
 
   -- ---- what an uncut session leaves out
 
@@ -239,24 +245,15 @@ module _ (s : Scene) (is : IsScene s) where
 
   offered_out : (n : ℕ) → length ws ≤ n → (m : Message) → has_id (ids_of os) m.uid ≡ true → IsOut n m
   offered_out n l m e =
-      elim (or_cases _ _
-      (sym (ids_both ws (past_limit s.settings.max_count os) m.uid) ∙ ap (λ l. has_id (ids_of l) m.uid) (both_parts s.settings.max_count os) ∙ e)) [
-        | inl in' ↦ inl (fetched_done n m.uid (ap (λ l. has_id (ids_of l) m.uid) (take_all n ws l) ∙ in'))
-        | inr past ↦ inr (inr past)
-      ]
+      let done = fetched_done n m.uid in
+      grind (arith, e, ids_both ws (past_limit s.settings.max_count os) m.uid, both_parts s.settings.max_count os, take_all n ws l, done)
 
   out : (n : ℕ) → length ws ≤ n → (m : Message) → (is_legal_id m.uid ≡ true) × (has_id (ids_of (here s)) m.uid ≡ true)
       → (asked s.settings s.rows m ≡ true → has_id (ids_of os) m.uid ≡ true) → IsOut n m
-  out n l m g h = elim (cases_Bool (fit m)) [
-    | inr not_fit ↦ inr (inl not_fit)
-    | inl fits ↦ elim (cases_Bool (s.settings.read_all || not (is_delivered s.rows m.uid))) [
-      | inl new ↦ offered_out n l m (h (and_from _ _ fits new))
-      | inr old ↦ inl (done_more n m.uid (is.known m.uid g.0 g.1 (both_no s.settings.read_all (is_delivered s.rows m.uid) old)))
-    ]
-  ]
-    where
-      both_no : (a b : Bool) → (a || not b) ≡ false → b ≡ true
-      both_no a b e = grind arith
+  out n l m g h =
+      let new = λ (a : asked s.settings s.rows m ≡ true). offered_out n l m (h a) in
+      let old = λ (d : is_delivered s.rows m.uid ≡ true). done_more n m.uid (is.known m.uid g.0 g.1 d) in
+      grind (arith, new, old)
 
   pub left_out : (n : ℕ) → length ws ≤ n → AllByRecursion (IsOut n) (here s)
   left_out n l = all_both (λ (m : Message). (is_legal_id m.uid ≡ true) × (has_id (ids_of (here s)) m.uid ≡ true)) (λ (m : Message). asked s.settings s.rows m ≡ true → has_id (ids_of os) m.uid ≡ true) (IsOut n)

@@ -2,7 +2,7 @@
 use Rattle.std.proofs.Common.{◌≡◌, ◌≤◌, ◌⊎◌, inl, inr, ℕ, List, [], Bool, true, false, length, refl, sym, ◌∙◌, ap, subst, arith}
 use Rattle.std.specs.Prelude.{bytes_eq}
 use Rattle.std.specs.List.{AllByRecursion}
-use Rattle.std.proofs.lemmas.Bool.{both_ways, or_left, or_right, cases_Bool}
+use Rattle.std.proofs.lemmas.Bool.{both_ways}
 use Rattle.mail_terms.specs.UniqueId.{has_id}
 use Rattle.pop3_wire.specs.World.{Message}
 use Rattle.mail_store.specs.FileName.{is_held, stem_of}
@@ -43,10 +43,7 @@ between_kept frame before after kept same = record {
   done = kept.done;
   rest = kept.rest;
   prefix = kept.prefix;
-  holds = λ id l. elim (kept.holds id l) [
-    | inl e ↦ inl (same.same id l ∙ e)
-    | inr taken ↦ inr (taken.0, same.same id l ∙ taken.1)
-  ];
+  holds = λ id l. let was = kept.holds id l in let now = same.same id l in grind (arith, was, now);
   recorded = λ id e. kept.recorded id (ap (λ r. is_delivered r id) (sym same.rows) ∙ e);
   gone = kept.gone;
   taken = kept.taken;
@@ -62,10 +59,10 @@ expired_kept frame before ids kept all = record {
   recorded = kept.recorded;
   gone = all_append (λ id. has_id (ids_of kept.done) id ≡ true) before.gone ids kept.gone
       (all_map (IsHeldOrTaken frame.account before) (λ id. has_id (ids_of kept.done) id ≡ true)
-      (λ id h. elim h.1 [
-        | inl held' ↦ held_is_done frame before kept.done id (kept.holds id h.0) held'
-        | inr taken ↦ all_ids_at (λ x. has_id (ids_of kept.done) x ≡ true) before.taken id kept.taken taken
-      ]) ids all);
+      (λ id h.
+      let held = held_is_done frame before kept.done id (kept.holds id h.0) in
+      let taken = all_ids_at (λ x. has_id (ids_of kept.done) x ≡ true) before.taken id kept.taken in
+      grind (arith, h.1, held, taken)) ids all);
   taken = kept.taken;
 }
 
@@ -75,13 +72,11 @@ taken_kept frame before id after kept takes = record {
   done = kept.done;
   rest = kept.rest;
   prefix = kept.prefix;
-  holds = λ other l. elim (cases_Bool (bytes_eq other id)) [
-    | inl same ↦ inr (or_left _ _ same, ap (λ (x : List ℕ). copies (files after) (stem_of frame.account x)) (bytes_same other id same) ∙ takes.none)
-    | inr apart ↦ elim (kept.holds other l) [
-      | inl e ↦ inl (takes.others other l apart ∙ e)
-      | inr taken ↦ inr (or_right _ _ taken.0, takes.others other l apart ∙ taken.1)
-    ]
-  ];
+  holds = λ other l.
+      let same = λ (e : bytes_eq other id ≡ true). ap (λ (x : List ℕ). copies (files after) (stem_of frame.account x)) (bytes_same other id e) ∙ takes.none in
+      let others = takes.others other l in
+      let was = kept.holds other l in
+      grind (arith, same, others, was);
   recorded = λ other e. kept.recorded other (ap (λ r. is_delivered r other) (sym takes.rows) ∙ e);
   gone = kept.gone;
   taken = (held_is_done frame before kept.done id (kept.holds id takes.legal) takes.held, kept.taken);

@@ -2,7 +2,7 @@
 use Rattle.std.proofs.Common.{◌≡◌, ◌≤◌, inl, inr, ℕ, zero, suc, List, [], ◌∷◌, ◌++◌, Bool, true, false, cond, ◌&&◌, ◌||◌, length, take, map, refl, sym, ◌∙◌, ap, subst, arith}
 use Rattle.std.specs.Prelude.{bytes_eq, Contains}
 use Rattle.std.specs.List.{filter, AllByRecursion}
-use Rattle.std.proofs.lemmas.Bool.{both_ways, or_parts, or_cases, or_from, or_left, or_right, false_from_ne_true}
+use Rattle.std.proofs.lemmas.Bool.{both_ways, or_parts, or_cases, or_from, false_from_ne_true}
 use Rattle.std.proofs.lemmas.Bool.Decides.{same_from_decides, Decides-like}
 use Rattle.std.proofs.lemmas.Slice.Eq.{bytes_eq-Decides}
 use Rattle.std.proofs.lemmas.List.{map-append}
@@ -59,10 +59,9 @@ pub taken_more : {X : Type 0} (f : X → List ℕ) (m n : ℕ) (xs : List X) (id
 taken_more f zero n xs id l e = absurd (both_ways false refl e)
 taken_more f (suc m) zero xs id l e = absurd (omega (arith, l))
 taken_more f (suc m) (suc n) [] id l e = e
-taken_more f (suc m) (suc n) (x ∷ xs) id l e = elim (or_cases (bytes_eq id (f x)) (has_id (map f (take m xs)) id) e) [
-  | inl same ↦ or_left (bytes_eq id (f x)) (has_id (map f (take n xs)) id) same
-  | inr more ↦ or_right (bytes_eq id (f x)) (has_id (map f (take n xs)) id) (taken_more f m n xs id (omega (arith, l)) more)
-]
+taken_more f (suc m) (suc n) (x ∷ xs) id l e =
+    let more = λ (h : has_id (map f (take m xs)) id ≡ true). taken_more f m n xs id (omega (arith, l)) h in
+    grind (arith, e, more)
 
 -- what is gone after a session is done, if all that was gone is, and each id for which a DELE was begun
 pub gone_is_done : (was is : List ℕ → Bool) (begun gone vanished : List (List ℕ)) → ((id : List ℕ) → was id ≡ true → is id ≡ true) → AllByRecursion (λ id. is id ≡ true) begun

@@ -1,9 +1,9 @@
 -- The law over runs, by induction over the events.
-use Rattle.std.proofs.Common.{◌≡◌, ◌≤◌, ◌⊎◌, inl, inr, ℕ, List, [], ◌∷◌, ◌++◌, true, false, length, take, refl, sym, ◌∙◌, ap, subst, arith, length-append}
+use Rattle.std.proofs.Common.{◌≡◌, ◌≤◌, ◌⊎◌, inl, inr, ℕ, List, [], ◌∷◌, ◌++◌, true, length, take, sym, ◌∙◌, ap, subst, arith, length-append}
 use Rattle.std.specs.List.{AllByRecursion}
-use Rattle.std.proofs.lemmas.Bool.{both_ways, cases_Bool}
+use Rattle.std.proofs.lemmas.Bool.{both_ways}
 use Rattle.std.specs.Prelude.{bytes_eq}
-use Rattle.std.proofs.lemmas.List.{append-nil, take_at}
+use Rattle.std.proofs.lemmas.List.{append-nil}
 use Rattle.mail_terms.specs.UniqueId.{is_legal_id, has_id}
 use Rattle.pop3_wire.specs.World.{Message}
 use Rattle.fetch_rules.specs.Record.{is_delivered}
@@ -13,6 +13,7 @@ use Rattle.run_law.specs.Accounts.{Account, files, copies, count_files}
 use Rattle.run_law.specs.Steps.{Effect, Leaves}
 use Rattle.run_law.specs.Runs.{Frame, IsFrame, Situation, Visit, Event, Visited, Moved, Between, Expired, TakenAway, Happens, Visits, Run, HoldsOf, Kept, LeavesMail, after_event, Promises, ReadOnlyNew, KeptStaysKept, KeptHoldsWhatIsLeft, NothingTakenHoldsExactly, TakenStaysAway, MovesLeaveMail}
 use Rattle.run_law.proofs.Below.{Below, Marks}
+use Rattle.run_law.proofs.Lists.{front_is}
 use Rattle.run_law.proofs.Holds.{held_is_done, one_file, between_kept, expired_kept, taken_kept}
 use Rattle.run_law.proofs.Ids.{Distinct, distinct_is, distinct_take, distinct_filter, bytes_same, none_vanish}
 use Rattle.run_law.proofs.Files.{held_done, one_moves, OneMoves, copies_after, moves_keep}
@@ -45,7 +46,7 @@ left_promises frame before v h = (
 
 done_distinct : (frame : Frame) → IsFrame frame → (done rest : List Message) → selected frame.max_size frame.all ≡ done ++ rest → Distinct (ids_of done)
 done_distinct frame is done rest e =
-    subst (λ (l : List Message). Distinct (ids_of l)) (ap (take (length done)) e ∙ take_at done rest (length done) refl)
+    subst (λ (l : List Message). Distinct (ids_of l)) (front_is done rest e)
     (distinct_take (length done) (selected frame.max_size frame.all) (distinct_filter (is_selected frame.max_size) frame.all (distinct_is frame.all is.world.distinct)))
 
 one_copy : (frame : Frame) (state : Situation) → IsFrame frame → (kept : Kept frame state) → (id : List ℕ) → is_legal_id id ≡ true → length (copies (files state.account) (stem_of frame.account id)) ≤ 1
@@ -103,13 +104,10 @@ pub holds_what_is_left : KeptHoldsWhatIsLeft
 holds_what_is_left frame state is kept = record {
   j = length kept.done;
   below = let e = ap length kept.prefix in omega (arith, e, length-append kept.done kept.rest);
-  contents = λ id l. subst (λ (ms : List Message). HoldsOf frame state ms id) (sym front) (kept.holds id l);
-  ids = λ id l h. ap (λ (ms : List Message). has_id (ids_of ms) id) front ∙ held_is_done frame state kept.done id (kept.holds id l) h;
+  contents = λ id l. subst (λ (ms : List Message). HoldsOf frame state ms id) (sym (front_is kept.done kept.rest kept.prefix)) (kept.holds id l);
+  ids = λ id l h. ap (λ (ms : List Message). has_id (ids_of ms) id) (front_is kept.done kept.rest kept.prefix) ∙ held_is_done frame state kept.done id (kept.holds id l) h;
   once = λ id l. one_copy frame state is kept id l;
 }
-  where
-    front : take (length kept.done) (selected frame.max_size frame.all) ≡ kept.done
-    front = ap (take (length kept.done)) kept.prefix ∙ take_at kept.done kept.rest (length kept.done) refl
 
 pub holds_exactly : NothingTakenHoldsExactly
 holds_exactly frame state holds none = record {
@@ -121,10 +119,7 @@ holds_exactly frame state holds none = record {
 }
   where
     texts : (id : List ℕ) → is_legal_id id ≡ true → copies (files state.account) (stem_of frame.account id) ≡ texts_of (take holds.j (selected frame.max_size frame.all)) id
-    texts id l = elim (holds.contents id l) [
-      | inl e ↦ e
-      | inr taken ↦ absurd (both_ways false refl (sym (ap (λ ids. has_id ids id) none) ∙ taken.0))
-    ]
+    texts id l = grind (arith, holds.contents id l, ap (λ ids. has_id ids id) none)
 
 -- ---- what was taken away stays away
 
@@ -142,10 +137,9 @@ still_away laws frame before (Between after) id is kept h new l recorded none = 
 still_away laws frame before (Expired ids) id is kept h new l recorded none = (recorded, none)
 still_away laws frame before (TakenAway other after) id is kept h new l recorded none = (
   ap (λ r. is_delivered r id) h.rows ∙ recorded,
-  elim (cases_Bool (bytes_eq id other)) [
-    | inl same ↦ ap (λ (x : List ℕ). copies (files after) (stem_of frame.account x)) (bytes_same id other same) ∙ h.none
-    | inr apart ↦ h.others id l apart ∙ none
-  ],
+  let same = λ (e : bytes_eq id other ≡ true). ap (λ (x : List ℕ). copies (files after) (stem_of frame.account x)) (bytes_same id other e) ∙ h.none in
+      let others = h.others id l in
+      grind (arith, same, others, none),
 )
 
 one_new : (event : Event) (events : List Event) → ReadOnlyNew (event ∷ events) → ReadOnlyNew (event ∷ []) × ReadOnlyNew events

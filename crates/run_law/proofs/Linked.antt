@@ -1,21 +1,21 @@
 -- A session over an honest link is a visit of the law over runs.
-use Rattle.std.proofs.Common.{◌≡◌, ◌⊎◌, inl, inr, ◌-◌, ℕ, zero, suc, List, [], ◌∷◌, ◌++◌, Bool, true, false, length, map, take, refl, sym, ◌∙◌, ap, subst, Some, slice_get, slice_set}
+use Rattle.std.proofs.Common.{◌≡◌, ◌⊎◌, inl, inr, ◌-◌, ℕ, zero, suc, List, [], ◌∷◌, ◌++◌, Bool, true, false, length, map, take, refl, sym, ◌∙◌, ap, subst, Some, slice_get, slice_set, arith}
 use Rattle.std.specs.List.{AllByRecursion}
 use Rattle.std.proofs.lemmas.Bool.{both_ways}
 use Rattle.std.specs.Option.{option_map}
 use Rattle.std.proofs.lemmas.Option.{same_Some, slice_get-map}
 use Rattle.pop3_wire.specs.declared.command.Command.{Command}
-use Rattle.pop3_wire.specs.declared.command.Command.TheVariants.{User, Pass, Stat, UidlAll, UidlOne, ListAll, ListOne, Dele, Rset, Top}
+use Rattle.pop3_wire.specs.declared.command.Command.TheVariants.{User, Pass, Stat, UidlAll, ListAll, Dele, Rset}
 use Rattle.pop3_wire.specs.World.{Message, IsWorld, maildrop_of}
 use Rattle.pop3_wire.specs.Honest.{Asked, Grants, Replies, no_marks, OneListOfCommands}
 use Rattle.mail_terms.specs.Listing.{Item}
 use Rattle.mail_terms.specs.UniqueId.{has_id}
 use Rattle.run_law.specs.Mails.{item_of, listing_of}
-use Rattle.run_law.specs.Steps.{Effect, IsHonest, AreTexts, wanted_at}
+use Rattle.run_law.specs.Steps.{Effect, Leaves, Stores, IsHonest, AreTexts, wanted_at}
 use Rattle.run_law.specs.Readings.{AreGranted, IsNumbered, HonestIsGranted, ListingIsMaildrop, MarksAreAsked, TextsAreMessages}
 use Rattle.run_law.specs.Runs.{Frame, IsFrame, Situation, Visit, Event, Visited, Moved, Run, Kept, after_event, Promises, KeptStaysKept}
 use Rattle.mail_store.specs.Settling.{FrontsAreSettled}
-use Rattle.run_law.specs.Mboxes.{mbox_wanted, entries, MboxStores}
+use Rattle.run_law.specs.Mboxes.{mbox_wanted, entries, MboxLeaves, MboxStores}
 use Rattle.run_law.specs.MboxRuns.{MboxFrame, MboxSituation, MboxKept, MboxVisited, MboxKeptStaysKept}
 use Rattle.run_law.specs.MboxSessions.{MboxLink, MboxLinks, mbox_visit_of, after_mbox_link, SettlesFirst, MboxLinksAreVisits, MboxLinksKeep}
 use Rattle.run_law.proofs.Below.{RowLaws}
@@ -28,13 +28,8 @@ use Rattle.run_law.specs.Sessions.{IsBegun, Reads, IsMarked, Served, Link, Linke
 
 set_marks : (marks : List Bool) (i place : ℕ) → slice_get (slice_set marks i true) place ≡ Some true → (slice_get marks place ≡ Some true) ⊎ (i ≡ place)
 set_marks [] i place e = inl e
-set_marks (b ∷ marks) zero zero e = inr refl
-set_marks (b ∷ marks) zero (suc place) e = inl e
-set_marks (b ∷ marks) (suc i) zero e = inl e
-set_marks (b ∷ marks) (suc i) (suc place) e = elim (set_marks marks i place e) [
-  | inl old ↦ inl old
-  | inr same ↦ inr (ap suc same)
-]
+set_marks (b ∷ marks) (suc i) (suc place) e = grind (arith, set_marks marks i place e)
+set_marks (b ∷ marks) i place e = grind arith
 
 none_true : {X : Type 0} (xs : List X) (place : ℕ) → slice_get (map (λ _. false) xs) place ≡ Some true → ⊥
 none_true [] place e = absurd cc
@@ -52,10 +47,7 @@ one_mark drop marks (Dele n) commands bytes next place g e = elim (set_marks mar
   | inr same ↦ inr ([], commands, n, refl, same)
 ]
 one_mark drop marks Rset commands bytes next place g e = absurd (none_true marks place (ap (λ (m : List Bool). slice_get m place) (sym g.1) ∙ e))
-one_mark drop marks (UidlOne n) commands bytes next place g e = absurd g
-one_mark drop marks (ListOne n) commands bytes next place g e = absurd g
-one_mark drop marks (Top n k) commands bytes next place g e = absurd g
-one_mark drop marks other commands bytes next place g e = inl (cc)
+one_mark drop marks other commands bytes next place g e = grind arith
 
 marks_from : (drop : List Message) (marks last : List Bool) (commands : List Command) (bytes : List ℕ) (place : ℕ) → Replies drop marks commands bytes last → slice_get last place ≡ Some true
     → (slice_get marks place ≡ Some true) ⊎ IsAsked commands place
@@ -90,6 +82,10 @@ pub record Readings : Type 0 where
   pub granted : HonestIsGranted
   pub texts : TextsAreMessages
   pub listing : ListingIsMaildrop
+
+-- a step that the law over runs takes, and what its QUIT removed
+abbrev pub Honestly : Type 0 → Type 0 → List (ℕ × Item) → List Message → Effect → List (List ℕ) → Type 0
+Honestly A B wanted drop effect vanished = (A ⊎ (B × IsHonest wanted drop effect)) × AllByRecursion (λ id. has_id effect.begun id ≡ true) vanished
 
 module _ (laws : Readings) (sent got : List ℕ) (effect : Effect) (drop : List Message) (vanished : List (List ℕ)) (commands : List Command) (sent_are : Asked commands sent)
     (begun_are : AllByRecursion (IsBegun effect.listing effect.begun) commands) (served : Served drop sent got vanished) where
@@ -131,43 +127,30 @@ module _ (laws : Readings) (sent got : List ℕ) (effect : Effect) (drop : List 
           let head : f.0 ≡ w.0 = cc in
           ((h.0.0, ap (λ n. slice_get drop (n - 1)) (sym head) ∙ h.0.1, h.0.2), texts found wanted (let tail : map (λ (p : ℕ × List ℕ). p.0) found ≡ map (λ (p : ℕ × Item). p.0) (take (length found) wanted) = cc in tail) h.1)
 
+  -- so a step that was read is an honest one
+  pub one_visit : {A B C : Type 0} (wanted : List (ℕ × Item)) → (A → B) → (A → effect.begun ≡ []) → A ⊎ (C × Reads wanted commands sent got effect)
+      → Honestly B C wanted drop effect vanished
+  one_visit wanted leaves none (inl left) = (inl (leaves left), vanished_begun (inl (none left)))
+  one_visit wanted leaves none (inr (stores, reads)) = let honest = session_honest wanted reads in (inr (stores, honest), vanished_begun (inr honest.listing))
+
 abbrev pub visit_of : Link → Effect → Visit
 visit_of link effect = record { settings = link.settings; come = link.come; effect = effect; vanished = link.vanished; after = link.after }
 
 pub visits : Readings → LinksAreVisits
-visits laws frame before link l =
-    let drop : List Message = maildrop_of frame.all link.come before.gone in
-    let wanted : List (ℕ × Item) = wanted_at link.settings frame.account before.account l.effect in
-    let honest = session_honest laws link.sent link.got l.effect drop link.vanished l.session.commands l.session.asked l.session.begun l.served wanted in
-    record {
-      same = l.same;
-      step = elim l.session.step [
-        | inl left ↦ inl left
-        | inr (stores, reads) ↦ inr (stores, honest reads)
-      ];
-      vanished = vanished_begun laws link.sent link.got l.effect drop link.vanished l.session.commands l.session.asked l.session.begun l.served (elim l.session.step [
-        | inl left ↦ inl left.begun
-        | inr (stores, reads) ↦ inr (honest reads).listing
-      ]);
-    }
+visits laws frame before link l = record { same = l.same; step = visit.0; vanished = visit.1 }
+  where
+    visit : Honestly (Leaves before.account l.effect link.after) (Stores link.settings frame.account before.account l.effect link.after) (wanted_at link.settings frame.account before.account l.effect)
+        (maildrop_of frame.all link.come before.gone) l.effect link.vanished
+    visit = one_visit laws link.sent link.got l.effect (maildrop_of frame.all link.come before.gone) link.vanished l.session.commands l.session.asked l.session.begun l.served
+        (wanted_at link.settings frame.account before.account l.effect) (λ left. left) (λ left. left.begun) l.session.step
 
 pub mbox_visits : Readings → MboxLinksAreVisits
-mbox_visits laws frame before link l =
-    let drop : List Message = maildrop_of frame.all link.come before.gone in
-    let wanted : List (ℕ × Item) = mbox_wanted link.settings before.account l.effect in
-    let honest = session_honest laws link.sent link.got l.effect drop link.vanished l.session.commands l.session.asked l.session.begun l.served wanted in
-    record {
-      same = l.same;
-      only_new = l.only_new;
-      step = elim l.session.step [
-        | inl (left, none) ↦ inl left
-        | inr (stores, reads) ↦ inr (stores, honest reads)
-      ];
-      vanished = vanished_begun laws link.sent link.got l.effect drop link.vanished l.session.commands l.session.asked l.session.begun l.served (elim l.session.step [
-        | inl (left, none) ↦ inl left.begun
-        | inr (stores, reads) ↦ inr (honest reads).listing
-      ]);
-    }
+mbox_visits laws frame before link l = record { same = l.same; only_new = l.only_new; step = visit.0; vanished = visit.1 }
+  where
+    visit : Honestly (MboxLeaves before.account l.effect link.after) (MboxStores link.settings before.account l.effect link.after) (mbox_wanted link.settings before.account l.effect)
+        (maildrop_of frame.all link.come before.gone) l.effect link.vanished
+    visit = one_visit laws link.sent link.got l.effect (maildrop_of frame.all link.come before.gone) link.vanished l.session.commands l.session.asked l.session.begun l.served
+        (mbox_wanted link.settings before.account l.effect) (λ left. left.0) (λ left. left.0.begun) l.session.step
 
 -- one event, by the law over lists of them
 pub happened : KeptStaysKept → (frame : Frame) (before : Situation) (event : Event) → IsFrame frame → Kept frame before → Run frame before (event ∷ [])

@@ -1,5 +1,5 @@
 -- What the replies to STAT, UIDL, LIST and RETR say of an honest server's maildrop.
-use Rattle.std.proofs.Common.{◌≡◌, ◌-◌, ◌+◌, ◌<◌, ℕ, zero, suc, List, [], ◌∷◌, ◌++◌, Bool, not, length, map, get_or, refl, sym, ◌∙◌, ap, subst, arith, Some, Ok, Result, Contains, true, false}
+use Rattle.std.proofs.Common.{◌≡◌, ◌-◌, ◌+◌, ◌<◌, ℕ, zero, suc, List, [], ◌∷◌, ◌++◌, Bool, not, rules, length, map, get_or, refl, sym, ◌∙◌, ap, subst, arith, Some, Ok, Result, Contains, true, false}
 use Rattle.std.specs.List.{AllByRecursion, AllZip, enumerate_from, count_by}
 use Rattle.std.specs.List.Sorted.{IsPermutation}
 use Rattle.std.proofs.lemmas.List.{ext_get_or, length-map, get_or-map, get_or_default, append-nil, append_cancel_left}
@@ -21,7 +21,7 @@ use Rattle.mail_terms.specs.Listing.{Item}
 use Rattle.mail_terms.specs.declared.listing.UidRow.{UidRow}
 use Rattle.mail_terms.specs.declared.listing.ScanRow.{ScanRow}
 use Rattle.run_law.specs.Mails.{item_of, listing_of}
-use Rattle.pop3_wire.specs.Reading.{WholeReply, body_bytes, reply_bytes, has_body, IsBodyIf, IsUidLine, IsScanLine, OneListOfLines, TellsCount}
+use Rattle.pop3_wire.specs.Reading.{WholeReply, body_bytes, reply_bytes, has_body, IsBodyIf, IsUidLine, IsScanLine, OneListOfLines, GivesCount}
 use Rattle.run_law.specs.Readings.{IsGood, IsNumbered, TextsAreMessages, ListingIsMaildrop}
 use Rattle.run_law.proofs.Lists.{filter_all}
 
@@ -69,20 +69,17 @@ same_row : {V : Type 0} (n m : ℕ) (x y : V) → read (n, x) ≡ read (m, y) �
 same_row {V} n m x y e = let both : pair_of n x ≡ pair_of m y = cc in (ap (λ (p : ℕ × V). p.0) both, ap (λ (p : ℕ × V). p.1) both)
 
 -- a row has its message's number, and what a listing says of it
-abbrev Tells : {R V : Type 0} → (R → ℕ) → (R → V) → (Message → V) → ℕ × Message → R → Type 0
-Tells number value of q row = (number row ≡ q.0) × (value row ≡ of q.1)
+abbrev Shows : {R V : Type 0} → (R → ℕ) → (R → V) → (Message → V) → ℕ × Message → R → Type 0
+Shows number value of q row = (number row ≡ q.0) × (value row ≡ of q.1)
 
 -- rows as the session reads them, and as the server wrote them, over the same lines
 both_read : {R V : Type 0} (IsLineOf : List ℕ → R → Type 0) (IsRowOf : ℕ × Message → List ℕ → Type 0) (number : R → ℕ) (value : R → V) (of : Message → V)
-    → ((q : ℕ × Message) (line : List ℕ) (row : R) → IsRowOf q (unstuffed line) → IsLineOf line row → Tells number value of q row)
+    → ((q : ℕ × Message) (line : List ℕ) (row : R) → IsRowOf q (unstuffed line) → IsLineOf line row → Shows number value of q row)
     → (numbered : List (ℕ × Message)) (lines : List (List ℕ)) (rows : List R) → AllZip IsRowOf numbered (map unstuffed lines) → AllZip IsLineOf lines rows
-    → AllZip (Tells number value of) numbered rows
+    → AllZip (Shows number value of) numbered rows
 both_read IsLineOf IsRowOf number value of f [] [] [] h k = tt
-both_read IsLineOf IsRowOf number value of f [] [] (row ∷ rows) h k = absurd k
-both_read IsLineOf IsRowOf number value of f [] (line ∷ lines) rows h k = absurd h
-both_read IsLineOf IsRowOf number value of f (q ∷ qs) [] rows h k = absurd h
-both_read IsLineOf IsRowOf number value of f (q ∷ qs) (line ∷ lines) [] h k = absurd k
 both_read IsLineOf IsRowOf number value of f (q ∷ qs) (line ∷ lines) (row ∷ rows) h k = (f q line row h.0 k.0, both_read IsLineOf IsRowOf number value of f qs lines rows h.1 k.1)
+both_read IsLineOf IsRowOf number value of f qs lines rows h k = search rules
 
 zip_at : {X R : Type 0} (P : X → R → Type 0) (xs : List X) (rows : List R) → AllZip P xs rows → (j : ℕ) (d : X) → j < length xs
     → (row : R) × (j < length rows) × (get_or rows j row ≡ row) × P (get_or xs j d) row
@@ -94,13 +91,13 @@ zip_at P (x ∷ xs) (row ∷ rows) h (suc j) d l =
 
 -- each message has a row, whatever its place
 row_of_place : {R V : Type 0} (number : R → ℕ) (value : R → V) (of : Message → V) (drop : List Message) (numbered : List (ℕ × Message)) (rows : List R)
-    → IsPermutation (enumerate_from 1 drop) numbered → AllZip (Tells number value of) numbered rows → (k : ℕ) (d : Message) → k < length drop
+    → IsPermutation (enumerate_from 1 drop) numbered → AllZip (Shows number value of) numbered rows → (k : ℕ) (d : Message) → k < length drop
     → (j : ℕ) × (row : R) × (j < length rows) × (get_or rows j row ≡ row) × (number row ≡ 1 + k) × (value row ≡ of (get_or drop k d))
 row_of_place number value of drop numbered rows same zip k d inside =
     let q : ℕ × Message = (1 + k, get_or drop k d) in
     let there : Contains (enumerate_from 1 drop) q = (k, (omega (arith, inside, length-enumerate_from 1 drop)), get_or-enumerate_from 1 drop k q inside ∙ placed q.1) in
     let c = Contains-permutation (enumerate_from 1 drop) numbered q same there in
-    let r = zip_at (Tells number value of) numbered rows zip c.0 q c.1 in
+    let r = zip_at (Shows number value of) numbered rows zip c.0 q c.1 in
     (c.0, r.0, r.1, r.2, r.3.0 ∙ ap (λ (p : ℕ × Message). p.0) c.2, r.3.1 ∙ ap (λ (p : ℕ × Message). of p.1) c.2)
   where
     placed : (e : Message) → pair_of (1 + k) (get_or drop k e) ≡ pair_of (1 + k) (get_or drop k d)
@@ -132,7 +129,7 @@ listed_lines one lists IsRow command drop marks reply first body lines good whol
 rest_same : (line rest other : List ℕ) → IsFirstLine line Positive rest → IsFirstLine line Positive other → rest ≡ other
 rest_same line rest other p q = p.2 ∙ ap without_space (append_cancel_left (indicator Positive) p.0 q.0 (sym p.1 ∙ q.1)) ∙ sym q.2
 
-count_same : OneLine → (drop : List Message) (marks next : List Bool) (stat : WholeReply) (count : ℕ) → IsGood Stat stat → Grants drop marks Stat (reply_bytes stat) next → TellsCount stat count
+count_same : OneLine → (drop : List Message) (marks next : List Bool) (stat : WholeReply) (count : ℕ) → IsGood Stat stat → Grants drop marks Stat (reply_bytes stat) next → GivesCount stat count
     → count ≡ count_by not marks
 count_same one drop marks next stat count good g tells =
     let line : g.2.line ≡ stat.first = (one g.2.line stat.first [] (body_bytes stat.body) g.2.is_line good.line (append-nil (ended g.2.line) ∙ sym g.2.whole)).0 in
@@ -166,7 +163,7 @@ listing_is_maildrop one lists drop name word commands user pass stat uidl list r
 
     -- what the rows of a listing say of each message
     row_at : {R V : Type 0} (IsLineOf : List ℕ → R → Type 0) (IsRowOf : ℕ × Message → List ℕ → Type 0) (number : R → ℕ) (value : R → V) (of : Message → V)
-        → ((q : ℕ × Message) (line : List ℕ) (row : R) → IsRowOf q (unstuffed line) → IsLineOf line row → Tells number value of q row)
+        → ((q : ℕ × Message) (line : List ℕ) (row : R) → IsRowOf q (unstuffed line) → IsLineOf line row → Shows number value of q row)
         → (marks : List Bool) (numbered : List (ℕ × Message)) (lines : List (List ℕ)) (rows : List R) → marks ≡ no_marks drop
         → IsPermutation (unmarked_from 1 drop marks) numbered → AllZip IsRowOf numbered (map unstuffed lines) → AllZip IsLineOf lines rows
         → (k : ℕ) → k < length drop

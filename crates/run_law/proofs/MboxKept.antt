@@ -72,14 +72,7 @@ settled_is bytes uid text account o = (
 
 pub settle : FrontsAreSettled → RowLaws → (frame : MboxFrame) (state : MboxSituation) → IsWorld frame.all → (kept : MboxKept frame state) → IsSettled frame state.account kept.done
 settle fronts laws frame state world kept = elim kept.stands [
-  | inl closed ↦ record {
-    done = kept.done;
-    rest = kept.rest;
-    prefix = kept.prefix;
-    recorded = λ id. ap (λ i. is_delivered (closed_rows (is_stored i state.account.file) state.account.rows i) id) closed.intent ∙ kept.recorded id;
-    more = λ id e. e;
-    file = ap (λ i. closed_file i state.account.file) closed.intent ∙ closed.file;
-  }
+  | inl closed ↦ no_more (ap (λ i. closed_rows (is_stored i state.account.file) state.account.rows i) closed.intent) (ap (λ i. closed_file i state.account.file) closed.intent ∙ closed.file)
   | inr o ↦
       let bytes : List ℕ = frame.start ++ entries_of kept.done in
       let is = settled_is bytes o.next.uid o.next.text state.account o.opened in
@@ -99,16 +92,12 @@ settle fronts laws frame state world kept = elim kept.stands [
               ∙ append_assoc frame.start (entries_of kept.done) (entries_of (o.next ∷ []))
               ∙ ap (λ l. frame.start ++ l) (sym (entries-append kept.done (o.next ∷ [])));
         }
-        | inr part ↦ record {
-          done = kept.done;
-          rest = kept.rest;
-          prefix = kept.prefix;
-          recorded = λ id. ap (λ r. is_delivered r id) (is.0 ∙ ap rows part.0) ∙ kept.recorded id;
-          more = λ id e. e;
-          file = is.1 ∙ part.1;
-        }
+        | inr part ↦ no_more (is.0 ∙ ap rows part.0) (is.1 ∙ part.1)
       ]
 ]
+  where
+    no_more : (settled state.account).rows ≡ state.account.rows → (settled state.account).file ≡ frame.start ++ entries_of kept.done → IsSettled frame state.account kept.done
+    no_more rows file = record { done = kept.done; rest = kept.rest; prefix = kept.prefix; recorded = λ id. ap (λ r. is_delivered r id) rows ∙ kept.recorded id; more = λ id e. e; file = file }
 
 -- ---- an account that is left, its file perhaps cut back
 
@@ -133,10 +122,7 @@ left_kept fronts frame before v world kept h vanished = record {
   stands = elim kept.stands [
     | inl closed ↦ inl (record {
       intent = h.intent ∙ closed.intent;
-      file = elim h.file [
-        | inl same ↦ same ∙ closed.file
-        | inr cut ↦ cut ∙ ap (λ i. closed_file i before.account.file) closed.intent ∙ closed.file
-      ];
+      file = grind (arith, h.file, closed.file, ap (λ i. closed_file i before.account.file) closed.intent);
     })
     | inr o ↦ inr (record {
       next = o.next;
@@ -254,7 +240,7 @@ module _ (fronts : FrontsAreSettled) (laws : RowLaws) (filtered : DistinctAreFil
   -- the first of the wanted messages are the next of the selected ones
   prefix_of : (n : ℕ) → selected frame.max_size frame.all ≡ (frame.had ++ (origin.done ++ take n ws)) ++ (core.added_begins scene is_scene n).0
   prefix_of n = ap (λ k. selected k frame.all) (sym same) ∙ core.prefix_after scene is_scene n
-      ∙ ap (λ l. ((frame.had ++ origin.done) ++ l) ++ (core.added_begins scene is_scene n).0) (core.all_added scene is_scene (λ id d. known id ∙ d) only_new n)
+      ∙ ap (λ l. ((frame.had ++ origin.done) ++ l) ++ (core.added_begins scene is_scene n).0) (core.all_added scene is_scene (λ id l h d. known id ∙ d) only_new n)
       ∙ ap (λ l. l ++ (core.added_begins scene is_scene n).0) (append_assoc frame.had origin.done (take n ws))
 
   ids_after : (id : List ℕ) → has_id (ids_of (frame.had ++ (origin.done ++ take s.stored ws))) id ≡ (core.is_done scene id || has_id (ids_of (take s.stored ws)) id)
@@ -274,9 +260,7 @@ module _ (fronts : FrontsAreSettled) (laws : RowLaws) (filtered : DistinctAreFil
 
   recorded_after : (id : List ℕ) → is_delivered v.after.rows id ≡ has_id (ids_of (frame.had ++ (origin.done ++ take s.stored ws))) id
   recorded_after id = ap (λ r. is_delivered r id) rows_are
-      ∙ delivered_all laws rows (ids_of (take s.stored ws)) id (all_mapped (λ id. has_row rows id ≡ true) (λ (m : Message). m.uid) (take s.stored ws) (has_rows s.stored))
-      ∙ ap (λ b. b || has_id (ids_of (take s.stored ws)) id) (known id)
-      ∙ sym (ids_after id)
+      ∙ delivered_all laws rows (ids_of (take s.stored ws)) id (all_mapped (λ id. has_row rows id ≡ true) (λ (m : Message). m.uid) (take s.stored ws) (has_rows s.stored)) ∙ rw (known id, ids_after id)
 
   -- ---- the file
 
@@ -285,9 +269,7 @@ module _ (fronts : FrontsAreSettled) (laws : RowLaws) (filtered : DistinctAreFil
       ∙ ap (map (λ (m : Message). m.text)) (core.taken_is scene is_scene s.stored))
 
   bytes_are : (settled before.account).file ++ entries (take s.stored v.effect.texts) ≡ frame.start ++ entries_of (origin.done ++ take s.stored ws)
-  bytes_are = ap (λ l. l ++ entries (take s.stored v.effect.texts)) origin.file ∙ ap (λ l. (frame.start ++ entries_of origin.done) ++ l) appended
-      ∙ append_assoc frame.start (entries_of origin.done) (entries_of (take s.stored ws))
-      ∙ ap (λ l. frame.start ++ l) (sym (entries-append origin.done (take s.stored ws)))
+  bytes_are = rw (origin.file, appended, entries-append origin.done (take s.stored ws)) (append_assoc frame.start (entries_of origin.done) (entries_of (take s.stored ws)))
 
   -- ---- the next state
 
@@ -356,16 +338,13 @@ module _ (fronts : FrontsAreSettled) (laws : RowLaws) (filtered : DistinctAreFil
     closed = (s.ended ended).1;
     leaves_out = all_map (core.IsOut scene is_scene s.stored) (λ (m : Message). (is_delivered v.after.rows m.uid ≡ true) ⊎ (is_selected frame.max_size m ≡ false)
         ⊎ (has_id (ids_wanted (past_limit v.settings.max_count (candidates v.settings rows v.effect.listing))) m.uid ≡ true))
-        (λ m o. elim o [
-          | inl done ↦ inl (recorded_after m.uid ∙ ids_after m.uid ∙ ap (λ l. core.is_done scene m.uid || has_id (ids_of l) m.uid) (sym (core.all_added scene is_scene (λ id d. known id ∙ d) only_new s.stored))
-              ∙ sym (ids_both (frame.had ++ origin.done) (core.added scene s.stored) m.uid) ∙ done)
-          | inr (inl unfit) ↦ inr (inl (ap (λ k. is_selected k m) (sym same) ∙ unfit))
-          | inr (inr past) ↦ inr (inr (ap (λ l. has_id l m.uid) past_ids ∙ past))
-        ]) here (core.left_out scene is_scene s.stored (let l = (s.ended ended).0 in omega (arith, l, ap length wanted_is, core.wanted_length scene is_scene)));
+        (λ m o.
+        let whole = core.all_added scene is_scene (λ id l h d. known id ∙ d) only_new s.stored in
+        let large = ap (λ k. is_selected k m) same in
+        let past = ap (λ l. has_id l m.uid) (core.past_ids scene is_scene filtered v.effect.listing honest.listing) in
+        grind (arith, o, recorded_after m.uid, append_assoc frame.had origin.done (take s.stored ws), whole, large, past)
+        ) here (core.left_out scene is_scene s.stored (let l = (s.ended ended).0 in omega (arith, l, ap length wanted_is, core.wanted_length scene is_scene)));
   }
-    where
-      past_ids : ids_wanted (past_limit v.settings.max_count (candidates v.settings rows v.effect.listing)) ≡ ids_of (past_limit v.settings.max_count (core.os scene is_scene))
-      past_ids = ap (λ l. ids_wanted (past_limit v.settings.max_count (candidates v.settings rows l))) honest.listing ∙ core.past_ids scene is_scene filtered
 
 -- ---- one session
 

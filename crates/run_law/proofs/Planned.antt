@@ -1,18 +1,17 @@
 -- The numbers of the texts that a session retrieves, against its plan.
-use Rattle.std.proofs.Common.{◌≡◌, inl, inr, ℕ, List, [], ◌∷◌, ◌++◌, Bool, true, false, cond, length, map, take, zip, refl, sym, ◌∙◌, ap, append_assoc, arith}
+use Rattle.std.proofs.Common.{◌≡◌, ℕ, List, [], ◌∷◌, ◌++◌, length, map, take, zip, refl, sym, ◌∙◌, ap, append_assoc, arith}
 use Rattle.std.specs.List.{flat_map, filter}
 use Rattle.std.proofs.lemmas.List.{append-nil, take_at, take-map, length-map}
 use Rattle.std.proofs.lemmas.List.Concat.{flat_map-append}
 use Rattle.pop3_wire.specs.declared.command.Command.{Command}
-use Rattle.pop3_wire.specs.declared.command.Command.TheVariants.{Retr, Dele, Quit}
-use Rattle.mail_terms.specs.Listing.{Item}
-use Rattle.mail_terms.specs.Listing.{numbered}
+use Rattle.pop3_wire.specs.declared.command.Command.TheVariants.{Retr, Quit}
+use Rattle.mail_terms.specs.Listing.{Item, numbered}
 use Rattle.fetch_rules.specs.Wanted.{wanted}
 use Rattle.fetch_rules.specs.Plan.{step_of, retrieved}
 use Rattle.fetch_rules.specs.declared.steps.Step.{Step}
 use Rattle.pop3_wire.specs.Reading.{WholeReply}
 use Rattle.run_law.specs.Readings.{AreGood, Retrieves}
-use Rattle.run_law.specs.Plans.{asked_if, step_commands, plan_commands, IsTail, PlanGivesNumbers}
+use Rattle.run_law.specs.Plans.{step_commands, plan_commands, IsTail, PlanGivesNumbers}
 
 abbrev number_in : Command → List ℕ
 number_in (Retr n) = n ∷ []
@@ -40,26 +39,14 @@ found_first (Retr n ∷ commands) (reply ∷ replies) found good is =
 found_first (other ∷ commands) (reply ∷ replies) found good is = found_first commands replies found good.1 is
 
 none_in_tail : (tail : List Command) → IsTail tail → numbers_in tail ≡ []
-none_in_tail tail (inl e) = ap numbers_in e
-none_in_tail tail (inr (inl e)) = ap numbers_in e
-none_in_tail tail (inr (inr (inl e))) = ap numbers_in e
-none_in_tail tail (inr (inr (inr e))) = ap numbers_in e
+none_in_tail tail is = grind arith
 
 abbrev step_number : Step → ℕ
 step_number step = step.number
 
 steps_numbers : (steps : List Step) → numbers_in (flat_map step_commands steps) ≡ map step_number (filter (λ (s : Step). s.retrieve) steps)
 steps_numbers [] = refl
-steps_numbers (s ∷ steps) =
-    flat_map-append number_in (step_commands s) (flat_map step_commands steps)
-    ∙ ap (λ l. numbers_in (step_commands s) ++ l) (steps_numbers steps)
-    ∙ by s.retrieve s.delete (filter (λ (t : Step). t.retrieve) steps)
-  where
-    by : (r d : Bool) (rest : List Step) → numbers_in (asked_if r (Retr s.number) ++ asked_if d (Dele s.number)) ++ map step_number rest ≡ map step_number (cond r (s ∷ rest) rest)
-    by true true rest = refl
-    by true false rest = refl
-    by false true rest = refl
-    by false false rest = refl
+steps_numbers (s ∷ steps) = grind (arith, flat_map-append number_in (step_commands s) (flat_map step_commands steps), steps_numbers steps)
 
 plan_numbers : (name word : List ℕ) (steps : List Step) → numbers_in (plan_commands name word steps) ≡ map step_number (filter (λ (s : Step). s.retrieve) steps)
 plan_numbers name word steps = flat_map-append number_in (flat_map step_commands steps) (Quit ∷ []) ∙ append-nil (numbers_in (flat_map step_commands steps)) ∙ steps_numbers steps

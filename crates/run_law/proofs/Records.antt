@@ -1,9 +1,9 @@
 -- What a record says of an id after it was merged and marked.
-use Rattle.std.proofs.Common.{◌≡◌, ◌⊎◌, inl, inr, ℕ, List, [], ◌∷◌, true, false, ◌&&◌, ◌||◌, refl, sym, ◌∙◌, ap}
+use Rattle.std.proofs.Common.{◌≡◌, ◌⊎◌, inl, ℕ, List, [], ◌∷◌, true, false, ◌&&◌, ◌||◌, refl, sym, ◌∙◌, ap, arith}
 use Rattle.std.specs.Prelude.{bytes_eq}
 use Rattle.std.specs.List.{AllByRecursion}
-use Rattle.std.proofs.lemmas.Bool.{cases_Bool, or_cases, or_left, or_right, and_parts, and_from, and_right}
-use Rattle.std.proofs.Math.Bool.{or-false, or_assoc}
+use Rattle.std.proofs.lemmas.Bool.{or_left}
+use Rattle.std.proofs.Math.Bool.{or-false}
 use Rattle.mail_terms.specs.Listing.{Item, has_item, is_flagged}
 use Rattle.mail_terms.specs.UniqueId.{has_id}
 use Rattle.fetch_rules.specs.Record.{Row, has_row, is_delivered, marked, merged, marked_all}
@@ -19,13 +19,7 @@ use Rattle.run_law.proofs.Ids.{bytes_same, bytes_swap}
 pub delivered_marked : MarkedIsDelivered → (rows : List Row) (uids : List (List ℕ)) (id : List ℕ) → is_delivered (marked_all rows uids) id ≡ true
     → (is_delivered rows id ≡ true) ⊎ (has_id uids id ≡ true)
 delivered_marked marks rows [] id e = inl e
-delivered_marked marks rows (uid ∷ uids) id e = elim (delivered_marked marks (marked rows uid) uids id e) [
-  | inl old ↦ elim (or_cases _ _ (sym (marks rows uid id) ∙ old)) [
-    | inl before ↦ inl before
-    | inr now ↦ inr (or_left _ _ (bytes_swap id uid ∙ (and_parts _ _ now).1))
-  ]
-  | inr more ↦ inr (or_right _ _ more)
-]
+delivered_marked marks rows (uid ∷ uids) id e = grind (arith, delivered_marked marks (marked rows uid) uids id e, marks rows uid id, bytes_swap id uid)
 
 -- what is recorded stays so after others were marked
 pub marks_stay : MarkedIsDelivered → (rows : List Row) (uids : List (List ℕ)) (id : List ℕ) → is_delivered rows id ≡ true → is_delivered (marked_all rows uids) id ≡ true
@@ -52,10 +46,9 @@ delivered_unheld laws rows listing now id = laws.held rows listing (none_held li
 
 -- after a mark an id is recorded exactly if it was before, or is the one that was marked
 pub delivered_one : RowLaws → (rows : List Row) (uid id : List ℕ) → has_row rows uid ≡ true → is_delivered (marked rows uid) id ≡ (is_delivered rows id || bytes_eq id uid)
-delivered_one laws rows uid id has = laws.marks rows uid id ∙ ap (λ b. is_delivered rows id || b) (elim (cases_Bool (bytes_eq id uid)) [
-  | inl same ↦ and_from _ _ (ap (has_row rows) (bytes_same id uid same) ∙ has) (bytes_swap uid id ∙ same) ∙ sym same
-  | inr other ↦ and_right _ _ (bytes_swap uid id ∙ other) ∙ sym other
-])
+delivered_one laws rows uid id has =
+    let there = λ (e : bytes_eq id uid ≡ true). ap (has_row rows) (bytes_same id uid e) ∙ has in
+    grind (arith, laws.marks rows uid id, bytes_swap uid id, there)
 
 pub rows_marked : RowLaws → (rows : List Row) (uids : List (List ℕ)) (id : List ℕ) → has_row (marked_all rows uids) id ≡ has_row rows id
 rows_marked laws rows [] id = refl
@@ -66,6 +59,5 @@ pub delivered_all : RowLaws → (rows : List Row) (uids : List (List ℕ)) (id :
     → is_delivered (marked_all rows uids) id ≡ (is_delivered rows id || has_id uids id)
 delivered_all laws rows [] id h = sym (or-false (is_delivered rows id))
 delivered_all laws rows (uid ∷ uids) id h =
-    delivered_all laws (marked rows uid) uids id (all_map (λ u. has_row rows u ≡ true) (λ u. has_row (marked rows uid) u ≡ true) (λ u k. laws.keeps rows uid u ∙ k) uids h.1)
-    ∙ ap (λ b. b || has_id uids id) (delivered_one laws rows uid id h.0)
-    ∙ or_assoc (is_delivered rows id) (bytes_eq id uid) (has_id uids id)
+    let later = delivered_all laws (marked rows uid) uids id (all_map (λ u. has_row rows u ≡ true) (λ u. has_row (marked rows uid) u ≡ true) (λ u k. laws.keeps rows uid u ∙ k) uids h.1) in
+    grind (arith, later, delivered_one laws rows uid id h.0)

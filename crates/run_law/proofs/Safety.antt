@@ -2,7 +2,7 @@
 use Rattle.std.proofs.Common.{◌≡◌, inl, inr, ◌≤◌, ◌<◌, ◌-◌, ℕ, zero, suc, Bool, true, false, cond, not, ◌&&◌, List, [], ◌∷◌, ◌++◌, map, take, zip, length, refl, sym, ap, subst, ◌∙◌, arith, append_assoc}
 use Rattle.std.specs.Prelude.{bytes_eq, ◌⊎◌, Some, slice_get}
 use Rattle.std.specs.List.{filter, AllByRecursion}
-use Rattle.std.proofs.lemmas.Bool.{or_cases, or_left, or_right, and_parts, cases_Bool, cases_lt, true≢false}
+use Rattle.std.proofs.lemmas.Bool.{or_cases, or_left, or_right, and_parts, cases_Bool, true≢false}
 use Rattle.std.proofs.lemmas.List.{append-nil, length-take}
 use Rattle.mail_terms.specs.Listing.{Item, has_item, numbered, is_first, is_last}
 use Rattle.fetch_rules.specs.Wanted.{is_candidate, candidates, wanted}
@@ -45,13 +45,10 @@ not_before listing m n (counted, at, first) (counted', at', first') same less =
     true≢false (sym (ap not (sym (ap (has_item (take (n.0 - 1) listing)) (sym same) ∙ has_before listing (m.0 - 1) (n.0 - 1) m.1 at (omega (arith, less, counted)))) ∙ first'))
 
 pub one_number : (listing : List Item) (m n : ℕ × Item) → IsFirstAt listing m → IsFirstAt listing n → m.1.uid ≡ n.1.uid → m.0 ≡ n.0
-one_number listing m n at at' same = elim (cases_lt m.0 n.0) [
-  | inl less ↦ absurd (not_before listing m n at at' same less)
-  | inr more ↦ elim (cases_lt n.0 m.0) [
-    | inl less ↦ absurd (not_before listing n m at' at (sym same) less)
-    | inr equal ↦ omega (arith, more, equal)
-  ]
-]
+one_number listing m n at at' same =
+    let below = not_before listing m n at at' same in
+    let above = not_before listing n m at' at (sym same) in
+    grind (arith, below, above)
 
 -- ---- a wanted message is at its number
 
@@ -125,8 +122,7 @@ found account maildir (suc n) (q ∷ qs) (t ∷ ts) id less is free = elim (or_c
     later = filter (is_unheld account maildir) (zip (take n qs) ts)
 
     first : id ≡ q.1.uid → brought account maildir (zip (take (suc n) (q ∷ qs)) (t ∷ ts)) ≡ mail_file account id t ∷ map (file_for account) later
-    first same = ap (λ b. map (file_for account) (cond (not b) ((q, t) ∷ later) later)) (ap (is_held account maildir) (sym same) ∙ free)
-        ∙ ap (λ (i : List ℕ). mail_file account i t ∷ map (file_for account) later) (sym same)
+    first same = grind (arith, same, free)
 
     next : (b : Bool) (text : List ℕ) → IsAmong (mail_file account id text) (map (file_for account) later) → IsAmong (mail_file account id text) (map (file_for account) (cond b ((q, t) ∷ later) later))
     next true text there = behind_one (mail_file account id text) (file_for account (q, t)) (map (file_for account) later) there

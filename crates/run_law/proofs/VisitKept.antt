@@ -2,10 +2,10 @@
 use Rattle.std.proofs.Common.{◌≡◌, ◌⊎◌, inl, inr, ℕ, List, [], ◌++◌, Bool, true, false, not, cond, ◌&&◌, ◌||◌, length, take, map, refl, sym, ◌∙◌, ap, subst, arith, append_assoc}
 use Rattle.std.specs.Prelude.{zip}
 use Rattle.std.specs.List.{filter, AllByRecursion}
-use Rattle.std.proofs.lemmas.Bool.{both_ways, or_cases, or_left, and_parts, cases_Bool, false_from_ne_true, cond_both}
+use Rattle.std.proofs.lemmas.Bool.{both_ways, or_left, cases_Bool, false_from_ne_true, cond_both}
 use Rattle.std.proofs.lemmas.List.{append-nil}
 use Rattle.mail_terms.specs.UniqueId.{is_legal_id, has_id}
-use Rattle.pop3_wire.specs.World.{Message, IsMessage}
+use Rattle.pop3_wire.specs.World.{Message}
 use Rattle.fetch_rules.specs.Record.{Row, is_delivered}
 use Rattle.fetch_rules.specs.Wanted.{wanted, candidates}
 use Rattle.mail_terms.specs.Listing.{has_item}
@@ -15,14 +15,15 @@ use Rattle.run_law.specs.Accounts.{files, copies, KeepsOthers}
 use Rattle.run_law.specs.Steps.{Stores, IsHonest, AreTexts, wanted_at, merged_rows, ids_wanted, file_for, is_unheld}
 use Rattle.run_law.specs.Runs.{Frame, IsFrame, Situation, Visit, Visited, HoldsOf, Kept, after_event, shown, LeavesOut, DeletesHeld, StoresOnlyNew, past_limit}
 use Rattle.run_law.proofs.Core as core
+use Rattle.run_law.proofs.Next as plan
 use Rattle.run_law.proofs.Core.{Scene, IsScene, IsLegal, fetched, added}
 use Rattle.run_law.proofs.Lists.{all_map, all_filter, all_take}
 use Rattle.run_law.proofs.Ids.{texts-append, texts_filtered, no_texts, taken_more, all_at, all_ids_at, gone_is_done}
 use Rattle.run_law.proofs.Below.{Below}
-use Rattle.run_law.proofs.Records.{delivered_merged, delivered_marked, marks_stay}
+use Rattle.run_law.proofs.Records.{delivered_marked, marks_stay}
 use Rattle.run_law.proofs.Files.{held_done, copies-append, copies_messages, message_file, deliveries_keep}
-use Rattle.run_law.proofs.Wants.{num_item, has_listed, wants_by_number, stored_files}
-use Rattle.run_law.proofs.Holds.{held_is_done, done_is_held, unheld_if}
+use Rattle.run_law.proofs.Wants.{num_item, wants_by_number, stored_files}
+use Rattle.run_law.proofs.Holds.{done_is_held, unheld_if}
 
 module _ (laws : Below) (frame : Frame) (is : IsFrame frame) (before : Situation) (v : Visit) (kept : Kept frame before) (same : v.settings.max_size ≡ frame.max_size)
     (s : Stores v.settings frame.account before.account v.effect v.after) (honest : IsHonest (wanted_at v.settings frame.account before.account v.effect) (shown frame before v) v.effect) where
@@ -40,33 +41,15 @@ module _ (laws : Below) (frame : Frame) (is : IsFrame frame) (before : Situation
 
   -- ---- held, known, done
 
-  held_done' : (id : List ℕ) → is_legal_id id ≡ true → held id ≡ true → core.is_done scene id ≡ true
-  held_done' id l h = held_is_done frame before kept.done id (kept.holds id l) h
-
-  listed_is : (id : List ℕ) → has_item v.effect.listing id ≡ has_id (ids_of here) id
-  listed_is id = ap (λ l. has_item l id) honest.listing ∙ has_listed here id
+  pub is_scene : IsScene scene
+  is_scene = plan.is_scene laws.records frame is before kept v.settings v.come v.effect.now v.effect.listing honest.listing same
 
   known_parts : (id : List ℕ) → is_delivered rows id ≡ (is_delivered before.account.rows id || (has_item v.effect.listing id && held id))
-  known_parts id = delivered_merged laws.records frame.account before.account.maildir before.account.rows v.effect.listing v.effect.now id
-
-  legal_listed : (id : List ℕ) → has_id (ids_of here) id ≡ true → is_legal_id id ≡ true
-  legal_listed id e = all_at (λ x. is_legal_id x ≡ true) here id
-      (all_filter IsLegal (λ (m : Message). not (has_id before.gone m.uid)) (take v.come frame.all)
-      (all_take IsLegal v.come frame.all (all_map IsMessage IsLegal (λ m h. h.legal) frame.all is.world.messages))) e
+  known_parts id = plan.known_parts laws.records frame is before kept v.settings v.come v.effect.now v.effect.listing honest.listing same id
 
   known_done : (id : List ℕ) → is_delivered rows id ≡ true → core.is_done scene id ≡ true
-  known_done id e = elim (or_cases _ _ (sym (known_parts id) ∙ e)) [
-    | inl old ↦ kept.recorded id old
-    | inr now ↦ let parts = and_parts _ _ now in held_done' id (legal_listed id (sym (listed_is id) ∙ parts.0)) parts.1
-  ]
-
-  pub is_scene : IsScene scene
-  is_scene = record {
-    world = is.world;
-    prefix = ap (λ k. selected k frame.all) same ∙ kept.prefix;
-    gone = kept.gone;
-    known = λ id l e d. known_done id d;
-  }
+  known_done id e = plan.known_done laws.records frame is before kept v.settings v.come v.effect.now v.effect.listing honest.listing same id
+      (all_at (λ x. is_legal_id x ≡ true) here id (core.legal_here scene is_scene)) e
 
   -- ---- what came into the Maildir
 
@@ -191,10 +174,6 @@ module _ (laws : Below) (frame : Frame) (is : IsFrame frame) (before : Situation
       nothing : cond (not (held id)) (texts_of got id) [] ≡ []
       nothing = cond_both (not (held id)) (texts_of got id) [] (λ (l : List (List ℕ)). l ≡ []) (λ t. no_texts got id unasked) (λ f. refl)
 
-  past_ids : ids_wanted (past_limit v.settings.max_count (candidates v.settings rows v.effect.listing))
-      ≡ ids_of (past_limit v.settings.max_count (core.os scene is_scene))
-  past_ids = ap (λ l. ids_wanted (past_limit v.settings.max_count (candidates v.settings rows l))) honest.listing ∙ core.past_ids scene is_scene laws.filtered
-
   pub leaves_out : LeavesOut frame before v
   leaves_out ended = all_map (core.IsOut scene is_scene s.stored) (λ (m : Message). (is_held frame.account v.after.maildir m.uid ≡ true) ⊎ (has_id before.taken m.uid ≡ true) ⊎ (is_selected frame.max_size m ≡ false)
       ⊎ (has_id (ids_wanted (past_limit v.settings.max_count (candidates v.settings rows v.effect.listing))) m.uid ≡ true))
@@ -204,5 +183,5 @@ module _ (laws : Below) (frame : Frame) (is : IsFrame frame) (before : Situation
           | inr taken ↦ inr (inl taken)
         ]
         | inr (inl unfit) ↦ inr (inr (inl (ap (λ k. is_selected k m) (sym same) ∙ unfit)))
-        | inr (inr past) ↦ inr (inr (inr (ap (λ l. has_id l m.uid) past_ids ∙ past)))
+        | inr (inr past) ↦ inr (inr (inr (ap (λ l. has_id l m.uid) (core.past_ids scene is_scene laws.filtered v.effect.listing honest.listing) ∙ past)))
       ]) here (core.left_out scene is_scene s.stored (let l = s.ended ended in omega (arith, l, ap length wanted_is, core.wanted_length scene is_scene)))

@@ -1,5 +1,5 @@
 -- Which messages of a maildrop are wanted, and which texts belong to them.
-use Rattle.std.proofs.Common.{◌≡◌, ◌≤◌, ◌≢◌, ◌<◌, ◌+◌, ◌-◌, ℕ, zero, suc, List, [], ◌∷◌, ◌++◌, Bool, true, false, not, cond, ◌&&◌, ◌||◌, ◌==◌, length, take, drop, map, refl, sym, ◌∙◌, ap, arith, append_assoc, take-append-drop, Some, slice_get}
+use Rattle.std.proofs.Common.{◌≡◌, ◌≤◌, ◌≢◌, ◌<◌, ◌+◌, ◌-◌, ℕ, zero, suc, List, [], ◌∷◌, ◌++◌, Bool, false, not, cond, ◌&&◌, ◌||◌, ◌==◌, length, take, drop, map, refl, sym, ◌∙◌, ap, arith, append_assoc, take-append-drop, Some, slice_get}
 use Rattle.std.specs.Prelude.{bytes_eq, zip}
 use Rattle.std.specs.List.{filter, enumerate_from, AllByRecursion}
 use Rattle.std.proofs.lemmas.Bool.{both_ways, or_parts, cond_both}
@@ -131,22 +131,14 @@ zipped drop' [] texts (suc n) h t l = refl
 zipped drop' (q ∷ qs) [] (suc n) h t l = absurd (omega arith)
 zipped drop' (q ∷ qs) (text ∷ texts) (suc n) h t l =
     let same : t.0.0 ≡ q.1 = same_Some _ _ (sym t.0.1 ∙ h.0) in
-    let is : text ≡ q.1.text = t.0.2 ∙ ap (λ (m : Message). m.text) same in
-    ap (λ x. (num_item q, x) ∷ zip (take n (map num_item qs)) texts) is
-    ∙ ap (λ l. with_text q ∷ l) (zipped drop' qs texts n h.1 t.1 (omega (arith, l)))
+    grind (arith, same, t.0.2, zipped drop' qs texts n h.1 t.1 (omega (arith, l)))
 
 -- what is stored of numbered messages is a filter of the messages
 pub stored_files : (account : List ℕ) (maildir : Maildir) (qs : List (ℕ × Message))
     → map (file_for account) (filter (is_unheld account maildir) (map with_text qs))
     ≡ map (message_file account) (filter (λ (m : Message). not (is_held account maildir m.uid)) (map snd qs))
-stored_files account maildir qs =
-    ap (map (file_for account)) (filter-map (is_unheld account maildir) with_text qs)
-    ∙ map-map (file_for account) with_text kept
-    ∙ sym (map-map (message_file account) snd kept)
-    ∙ ap (map (message_file account)) (sym (filter-map (λ (m : Message). not (is_held account maildir m.uid)) snd qs))
-  where
-    kept : List (ℕ × Message)
-    kept = filter (λ (q : ℕ × Message). not (is_held account maildir q.1.uid)) qs
+stored_files account maildir [] = refl
+stored_files account maildir (q ∷ qs) = grind (arith, stored_files account maildir qs)
 
 -- the ids of numbered messages
 pub ids_are : (qs : List (ℕ × Message)) → ids_wanted (map num_item qs) ≡ ids_of (map snd qs)
@@ -155,17 +147,11 @@ ids_are qs = map-map (λ (p : ℕ × Item). p.1.uid) num_item qs ∙ sym (map-ma
 -- ---- prefixes
 
 pub both_parts : {X : Type 0} (limit : ℕ) (xs : List X) → at_most limit xs ++ past_limit limit xs ≡ xs
-both_parts limit xs = by (limit == 0)
-  where
-    by : (b : Bool) → cond b xs (take limit xs) ++ cond b [] (drop limit xs) ≡ xs
-    by true = append-nil xs
-    by false = take-append-drop limit xs
+both_parts limit xs = grind (arith, append-nil xs, take-append-drop limit xs)
 
 pub begins : {X : Type 0} (n limit : ℕ) (xs : List X) → take n (at_most limit xs) ++ (drop n (at_most limit xs) ++ past_limit limit xs) ≡ xs
 begins n limit xs =
-    sym (append_assoc (take n (at_most limit xs)) (drop n (at_most limit xs)) (past_limit limit xs))
-    ∙ ap (λ l. l ++ past_limit limit xs) (take-append-drop n (at_most limit xs))
-    ∙ both_parts limit xs
+    rw (← append_assoc (take n (at_most limit xs)) (drop n (at_most limit xs)) (past_limit limit xs), take-append-drop n (at_most limit xs)) (both_parts limit xs)
 
 pub past-map : {X Y : Type 0} (f : X → Y) (n : ℕ) (xs : List X) → past_limit n (map f xs) ≡ map f (past_limit n xs)
 past-map f n xs = ap (cond (n == 0) []) (drop-map f n xs) ∙ sym (push_cond (map f) (n == 0) [] (drop n xs))

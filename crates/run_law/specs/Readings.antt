@@ -7,7 +7,7 @@ use Rattle.pop3_wire.specs.declared.reply.Status.TheVariants.{Positive}
 use Rattle.pop3_wire.specs.Line.{IsLine, ended}
 use Rattle.pop3_wire.specs.Body.{Body}
 use Rattle.pop3_wire.specs.Reply.{IsFirstLine}
-use Rattle.pop3_wire.specs.Reading.{WholeReply, body_bytes, reply_bytes, has_body, IsBodyIf, IsUidLine, IsScanLine, HasListing, TellsCount}
+use Rattle.pop3_wire.specs.Reading.{WholeReply, body_bytes, reply_bytes, has_body, IsBodyIf, IsUidLine, IsScanLine, HasListing, GivesCount}
 use Rattle.pop3_wire.specs.Honest.{Grants, Asked, Honest, no_marks}
 use Rattle.pop3_wire.specs.World.{Message}
 use Rattle.mail_terms.specs.Listing.{Item, Joins}
@@ -74,7 +74,7 @@ pub record IsListed (stat uidl list : WholeReply) (items : List Item) : Type 0 w
   pub count : ℕ
   pub uids : List UidRow
   pub sizes : List ScanRow
-  pub counts : TellsCount stat count
+  pub counts : GivesCount stat count
   pub named : HasListing IsUidLine uidl uids
   pub sized : HasListing IsScanLine list sizes
   pub joined : Joins count uids sizes items

@@ -58,6 +58,7 @@ pub fn holds_exactly()
 
 /// If each session reads only what is new, a message that is recorded as delivered and isn't held
 /// is never stored again.
+#[tactic(auto, using(crate::proofs::Laws::taken_stays_away))]
 pub fn taken_stays_away()
     ensures { TakenStaysAway }
 {
@@ -117,6 +118,7 @@ pub fn marks_are_asked()
 {}
 
 /// Over honest links every list of sessions and moves leads from a kept state through kept states.
+#[tactic(auto, using(crate::proofs::Linked::links_keep))]
 pub fn links_keep()
     ensures { LinksKeep }
 {
@@ -209,6 +211,7 @@ pub fn mbox_states_are_kept()
 /// With an mboxrd: a kept state's file is the one before the first session, followed by the
 /// entries of the first of the selected messages that weren't recorded before, each once, and by
 /// at most a prefix of the next entry.
+#[tactic(auto, using(crate::proofs::MboxKept::mbox_holds))]
 pub fn mbox_holds_exactly()
     ensures { MboxKeptHolds }
 {
@@ -226,6 +229,7 @@ pub fn mbox_starts_kept()
 /// With an mboxrd: over honest links every list of sessions that read only what is new leads from
 /// a kept state through kept states, and a session that asks for a message has first cut off what
 /// was left of an entry, or counted it.
+#[tactic(auto, using(crate::proofs::Linked::mbox_links_keep))]
 pub fn mbox_links_keep()
     ensures { MboxLinksKeep }
 {

@@ -1,6 +1,5 @@
-use Rattle.std.proofs.Common.{rules}
 use Rattle.run_law.proofs.HonestSession as laws
 use Rattle.run_law.proofs.honest_sessions_bring_messages.Goals as goal
 
 pub returns : goal.returns
-returns c = search (rules, laws.honest_session)
+returns c = search laws.honest_session

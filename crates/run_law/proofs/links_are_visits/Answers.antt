@@ -1,6 +1,5 @@
-use Rattle.std.proofs.Common.{rules}
 use Rattle.run_law.proofs.Linked as laws
 use Rattle.run_law.proofs.links_are_visits.Goals as goal
 
 pub returns : goal.returns
-returns c = search (rules, laws.visits)
+returns c = search laws.visits

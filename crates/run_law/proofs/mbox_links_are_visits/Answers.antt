@@ -1,6 +1,5 @@
-use Rattle.std.proofs.Common.{rules}
 use Rattle.run_law.proofs.Linked as laws
 use Rattle.run_law.proofs.mbox_links_are_visits.Goals as goal
 
 pub returns : goal.returns
-returns c = search (rules, laws.mbox_visits)
+returns c = search laws.mbox_visits

@@ -1,6 +1,5 @@
-use Rattle.std.proofs.Common.{rules}
 use Rattle.run_law.proofs.Safety as laws
 use Rattle.run_law.proofs.mbox_sessions_are_safe.Goals as goal
 
 pub returns : goal.returns
-returns c = search (rules, laws.mbox_sessions_are_safe)
+returns c = search laws.mbox_sessions_are_safe

@@ -1,4 +1,4 @@
-use Rattle.std.proofs.Common.{◌≡◌, ◌<◌, ◌+◌, ◌++◌, ◌∷◌, [], ℕ, List, if◌then◌else◌, get_or, take, set, length, refl, sym, ap, subst, ◌∙◌, arith, length-append}
+use Rattle.std.proofs.Common.{◌≡◌, ◌<◌, ◌+◌, ◌++◌, ◌∷◌, [], ℕ, List, if◌then◌else◌, get_or, length, refl, sym, ap, subst, ◌∙◌, arith, length-append}
 use Rattle.std.specs.Result.{is_ok}
 use Rattle.std.proofs.lemmas.List.{length-set}
 use Rattle.rc_file.specs.Settings.{IsValid}
@@ -6,11 +6,11 @@ use Rattle.rc_file.specs.declared.settings.Settings.{Settings}
 use Rattle.fetch_session.specs.Account.{digits_of}
 use Rattle.fetch_session.specs.declared.report.Report.{Report}
 use Rattle.fetch_session.specs.Session.{kept, mbox_kept, MboxSession, Session}
-use Rattle.fetch_session.specs.Target.{IsSoundMaildir, IsSoundMbox, maildir_of, mbox_of}
-use Rattle.fetch_runs.specs.MboxRuns.{WasMadeInMbox, mbox_state}
-use Rattle.fetch_runs.specs.Runs.{WasMade, world_of, state_of}
+use Rattle.fetch_session.specs.Target.{maildir_of, mbox_of}
+use Rattle.fetch_runs.specs.MboxRuns.{mbox_state}
+use Rattle.fetch_runs.specs.Runs.{world_of, state_of}
 use Rattle.fetch_runs.specs.declared.run.Visit.{Visit}
-use Rattle.fetch_runs.proofs.RunLemmas.{Ran, ran_next, others_stay, made_all, runs_promised, mbox_runs_promised}
+use Rattle.fetch_runs.proofs.RunLemmas.{ran_next, others_stay, made_all, runs_promised, mbox_runs_promised}
 use Rattle.fetch_runs.proofs.run.run_sessions.Goals as goal
 
 pub loop-i-preserved : goal.loop-i-preserved
@@ -27,41 +27,25 @@ loop-i-preserved g c =
     let same_length : length c.loop-i.visits ≡ length c.args.visits.now = inv.3 in
     let within : i < length c.loop-i.visits = omega (arith, inside, same_length) in
     let here : get_or c.args.visits.now i old ≡ old = sym (inv.4 i old (omega arith)) ∙ ap (λ (d : Visit (g.row.W).Denot). get_or c.loop-i.visits i d) (sym c.index-visits-i.is) in
-    let start = kept (maildir_of g.D.MaildirDisk c.args.account.now.store) (g.F.FlatFile.stored c.args.account.now.file) in
-    let ran = ran_next g.W.Wire.sound (WasMade g.W.Wire.history c.args.account.now.settings (digits_of c.args.account.now.settings)) c.args.visits.now c.loop-i.visits i start
-    (IsSoundMaildir g.D.MaildirDisk c.args.account.now.store × g.F.FlatFile.sound c.args.account.now.file) c.loop-i.reports.items before
-    (IsSoundMaildir g.D.MaildirDisk c.loop-i.account.store × g.F.FlatFile.sound c.loop-i.account.file) old new c.session-report.result after
-    (IsSoundMaildir g.D.MaildirDisk c.session-report.new.account.store × g.F.FlatFile.sound c.session-report.new.account.file) inv.5 inside within here
-    (λ sound held.
-    let met = c.session-report.ensures.session sound held.0 held.1 in (
-      met.0,
-      (met.1, met.2),
-      (subst (λ (s : Settings). Session s (digits_of s) old.now (g.W.Wire.history old.wire) before c.session-report.result (g.W.Wire.history c.session-report.new.wire) after) inv.0 met.4, refl),
-    )) in
-    let mbox_start = mbox_kept (mbox_of g.F.FlatFile c.args.account.now.store) (g.F.FlatFile.stored c.args.account.now.file) in
     let mbox_before = mbox_kept (mbox_of g.F.FlatFile c.loop-i.account.store) (g.F.FlatFile.stored c.loop-i.account.file) in
-    let mbox_after = mbox_kept (mbox_of g.F.FlatFile c.session-report.new.account.store) (g.F.FlatFile.stored c.session-report.new.account.file) in
-    let ran_mbox = ran_next g.W.Wire.sound (WasMadeInMbox g.W.Wire.history c.args.account.now.settings) c.args.visits.now c.loop-i.visits i mbox_start
-    (IsSoundMbox g.F.FlatFile c.args.account.now.store × g.F.FlatFile.sound c.args.account.now.file) c.loop-i.reports.items mbox_before
-    (IsSoundMbox g.F.FlatFile c.loop-i.account.store × g.F.FlatFile.sound c.loop-i.account.file) old new c.session-report.result mbox_after
-    (IsSoundMbox g.F.FlatFile c.session-report.new.account.store × g.F.FlatFile.sound c.session-report.new.account.file) inv.6 inside within here
-    (λ sound held.
-    let met = c.session-report.ensures.mbox_session sound held.0 held.1 in (
-      met.0,
-      (met.1, met.2),
-      (subst (λ (s : Settings). MboxSession s old.now (g.W.Wire.history old.wire) mbox_before c.session-report.result (g.W.Wire.history c.session-report.new.wire) mbox_after) inv.0 met.4, refl),
-    )) in (
+    let mbox_after = mbox_kept (mbox_of g.F.FlatFile c.session-report.new.account.store) (g.F.FlatFile.stored c.session-report.new.account.file) in (
       c.session-report.ensures.settings ∙ inv.0,
       ap (λ (l : List Report). length l) pushed ∙ length-append c.loop-i.reports.items (c.session-report.result ∷ []) ∙ ap (λ (k : ℕ). k + 1) inv.1,
       omega (arith, inv.2, c.push.ensures.capacity),
       length-set c.loop-i.visits i new ∙ inv.3,
       others_stay c.loop-i.visits c.args.visits.now i new inv.4,
-      subst (λ (rs : List Report). Ran g.W.Wire.sound (WasMade g.W.Wire.history c.args.account.now.settings (digits_of c.args.account.now.settings)) (take (i + 1) c.args.visits.now) start
-          (IsSoundMaildir g.D.MaildirDisk c.args.account.now.store × g.F.FlatFile.sound c.args.account.now.file) rs (take (i + 1) (set c.loop-i.visits i new)) after
-          (IsSoundMaildir g.D.MaildirDisk c.session-report.new.account.store × g.F.FlatFile.sound c.session-report.new.account.file)) (sym pushed) ran,
-      subst (λ (rs : List Report). Ran g.W.Wire.sound (WasMadeInMbox g.W.Wire.history c.args.account.now.settings) (take (i + 1) c.args.visits.now) mbox_start
-          (IsSoundMbox g.F.FlatFile c.args.account.now.store × g.F.FlatFile.sound c.args.account.now.file) rs (take (i + 1) (set c.loop-i.visits i new)) mbox_after
-          (IsSoundMbox g.F.FlatFile c.session-report.new.account.store × g.F.FlatFile.sound c.session-report.new.account.file)) (sym pushed) ran_mbox,
+      ran_next c.args.visits.now c.loop-i.visits i old new inv.5 pushed inside within here (λ sound held.
+          let met = c.session-report.ensures.session sound held.0 held.1 in (
+            met.0,
+            (met.1, met.2),
+            (subst (λ (s : Settings). Session s (digits_of s) old.now (g.W.Wire.history old.wire) before c.session-report.result (g.W.Wire.history c.session-report.new.wire) after) inv.0 met.4, refl),
+          )),
+      ran_next c.args.visits.now c.loop-i.visits i old new inv.6 pushed inside within here (λ sound held.
+          let met = c.session-report.ensures.mbox_session sound held.0 held.1 in (
+            met.0,
+            (met.1, met.2),
+            (subst (λ (s : Settings). MboxSession s old.now (g.W.Wire.history old.wire) mbox_before c.session-report.result (g.W.Wire.history c.session-report.new.wire) mbox_after) inv.0 met.4, refl),
+          )),
     )
 
 pub returns-clause-promised : goal.returns-clause-promised

@@ -40,14 +40,7 @@ returns-in-Ok-append_entry-clause-appends g c = λ m f.
           c.in_default.ensures.opened saves.1 appends.1,
     )
 
-pub returns-in-Ok-append_entry-clause-opened : goal.returns-in-Ok-append_entry-clause-opened
-returns-in-Ok-append_entry-clause-opened g c = subst (λ (i : Option Intent). IsNoneOrOf c.args.uid.now i) (sym c.in_default.ensures.opened) refl
-
 pub returns-in-Ok-append_entry-clause-steady : goal.returns-in-Ok-append_entry-clause-steady
 returns-in-Ok-append_entry-clause-steady g c = λ f.
     let steady = c.in_default.ensures.steady f in
-    let intent = intent_at c.args.uid.now c.in-Ok.edges.size c.entry_len-len.result in (
-      steady.0,
-      subst (λ (r : List Row). Steady (g.F.FlatFile.stored c.intend.new.file).content (with_held r c.intend.new.seen.intent)) (sym c.intend.ensures.rows)
-          (subst (λ (i : Option Intent). Steady (g.F.FlatFile.stored c.intend.new.file).content (with_held c.args.ledger.now.seen.rows i)) (sym c.in_default.ensures.opened) steady.1),
-    )
+    (steady.0, rw (c.intend.ensures.rows, c.in_default.ensures.opened) steady.1)

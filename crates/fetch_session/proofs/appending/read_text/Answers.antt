@@ -34,9 +34,3 @@ pub returns-in-Err-clause-counted : goal.returns-in-Err-clause-counted
 returns-in-Err-clause-counted g c =
     before_cut (g.W.Wire.history c.args.client.now.wire.now) (g.W.Wire.history c.pieces.client.wire.now) (g.W.Wire.history c.next_piece.new.self.wire.now) c.plain.result c.pieces.invariant.2
     (cut_by c.in-Err.fault c.plain.result (g.W.Wire.history c.pieces.client.wire.now) (g.W.Wire.history c.next_piece.new.self.wire.now) c.plain.ensures c.in-Err.ensures.counted)
-
-pub returns-in-Err-extend_from_slice-clause-counted : goal.returns-in-Err-extend_from_slice-clause-counted
-returns-in-Err-extend_from_slice-clause-counted g c = inl (c.in-Ok.ensures.counted ∙ c.pieces.invariant.2)
-
-pub returns-then-piece-clause-counted : goal.returns-then-piece-clause-counted
-returns-then-piece-clause-counted g c = c.in-Ok.ensures.counted ∙ c.pieces.invariant.2

@@ -1,8 +1,11 @@
-use Rattle.std.proofs.Common.{◌≡◌, List, [], ◌∷◌, ◌++◌, Vec, length, arith, sym, ap, subst, ◌∙◌, inl, refl}
+use Rattle.std.proofs.Common.{◌≡◌, List, [], ◌∷◌, ◌++◌, ◌+◌, Vec, length, arith, sym, ap, subst, ◌∙◌, inl, refl}
 use Rattle.std.proofs.lemmas.Bool.{true≢false}
 use Rattle.mail_terms.specs.Text.{IsWhole}
 use Rattle.fetch_rules.specs.Record.{Row, has_row}
+use Rattle.pop3_wire.specs.Link.{WhereSound}
 use Rattle.pop3_client.specs.Client.{place_of}
+use Rattle.pop3_client.specs.Texts.{Fetched}
+use Rattle.pop3_client.specs.Turns.{line_limit, text_limit, retr}
 use Rattle.fetch_session.specs.Target.{AsEntries, in_mbox}
 use Rattle.fetch_session.specs.Intake.{Took}
 use Rattle.fetch_session.specs.Task.{stores}
@@ -10,9 +13,9 @@ use Rattle.fetch_session.specs.declared.report.ReportLine.{ReportLine}
 use Rattle.fetch_session.specs.declared.report.ReportLine.TheVariants.{Delivered}
 use Rattle.fetch_session.proofs.TakeLemmas.{text_broken}
 use Rattle.fetch_session.proofs.MboxLemmas.{body_whole, entry_not_saved, entry_stored, not_held, text_refused}
-use Rattle.fetch_session.proofs.IntakeLemmas.{takes_plain, took_retr, takes_text, takes_held}
+use Rattle.fetch_session.proofs.IntakeLemmas.{takes_plain, took_broke, takes_text, takes_held}
 use Rattle.fetch_session.proofs.RefusalLemmas.{before_cut, cut_by}
-use Rattle.pop3_client.proofs.ClientLemmas.{did_so}
+use Rattle.pop3_client.proofs.ClientLemmas.{and_then, did_so}
 use Rattle.fetch_session.proofs.appending.take_into_mbox.Given.{Over}
 use Rattle.fetch_session.proofs.appending.take_into_mbox.Goals.{After-note, In-Ok-read_text}
 use Rattle.fetch_session.proofs.appending.take_into_mbox.Goals as goal
@@ -44,30 +47,28 @@ returns-in-Err-read_text-clause-takes g c = λ w m f.
       not_held (held.2 c.args.number old opened.2),
     )
 
+-- the text was read
+read : (g : Over) (c : In-Ok-read_text g) → WhereSound g.W.Wire.sound g.W.Wire.leads_to c.args.client.now.wire.now c.read_text.new.client.wire.now
+    (Fetched (retr c.args.number) (place_of g.W.Wire c.args.client.now) c.in-Ok-read_text.text.items (place_of g.W.Wire c.read_text.new.client))
+read g c = and_then g.W.Wire g.met.W.Wire.leads_on c.in-Ok.ensures.opens c.in-Ok-read_text.ensures.holds (λ opened held. held c.args.number _ opened)
+
 pub returns-then-not-is_whole-clause-takes : goal.returns-then-not-is_whole-clause-takes
 returns-then-not-is_whole-clause-takes g c = λ w m f.
-    let held = c.in-Ok-read_text.ensures.holds w in
-    let opened = c.in-Ok.ensures.opens held.0 in
-    let fetched = held.2 c.args.number (place_of g.W.Wire c.args.client.now) opened.2 in
-    absurd (true≢false (sym (c.is_whole.ensures.1 (subst IsWhole (sym (c.deref.ensures.value ∙ fetched.2)) (body_whole fetched.0.body))) ∙ c.if-not-is_whole.true))
+    let fetched = (read g (goal.at.returns-then-not-is_whole-clause-takes g c).In-Ok-read_text w).2 in
+    absurd (true≢false (sym (c.is_whole.ensures.1 (rw (c.deref.ensures.value, fetched.2) (body_whole fetched.0.body))) ∙ c.if-not-is_whole.true))
 
 pub append_text-requires-clause-whole : goal.append_text-requires-clause-whole
 append_text-requires-clause-whole g c = subst IsWhole (c.deref.ensures.value ∙ sym c.deref-2.ensures.value) (c.is_whole.ensures.0 c.if-not-is_whole.false)
 
-pub remember-requires-clause-steady : goal.remember-requires-clause-steady
-remember-requires-clause-steady g c = λ f. (c.in_default.ensures.steady f).1
-
 pub returns-in-Err-append_text-clause-takes : goal.returns-in-Err-append_text-clause-takes
 returns-in-Err-append_text-clause-takes g c = λ w m f.
     let appends = c.in-Err-append_text.ensures.appends m f in
-    let held = c.in-Ok-read_text.ensures.holds w in
-    let opened = c.in-Ok.ensures.opens held.0 in
-    let old = place_of g.W.Wire c.args.client.now in (
-      opened.0,
+    let text = read g (goal.at.returns-in-Err-append_text-clause-takes g c).In-Ok-read_text w in (
+      text.0,
       appends.0,
       appends.1,
-      g.met.W.Wire.leads_on _ _ _ opened.1 held.1,
-      text_refused c.in-Ok-read_text.text.items c.deref-2.result.now c.in-Err-append_text.fault (held.2 c.args.number old opened.2) c.deref-2.ensures.value c.plain-in-Err-append_text.ensures appends.2
+      text.1,
+      text_refused c.in-Ok-read_text.text.items c.deref-2.result.now c.in-Err-append_text.fault text.2 c.deref-2.ensures.value c.plain-in-Err-append_text.ensures appends.2
           c.append_text.ensures.rows (ap (λ (v : Vec ReportLine _). v.items) c.append_text.ensures.lines),
     )
 
@@ -75,14 +76,12 @@ pub returns-in-Ok-remember-clause-takes : goal.returns-in-Ok-remember-clause-tak
 returns-in-Ok-remember-clause-takes g c = λ w m f.
     let saved = c.in-Ok-remember.ensures.saves f in
     let appends = c.in_default.ensures.appends m saved.0 in
-    let held = c.in-Ok-read_text.ensures.holds w in
-    let opened = c.in-Ok.ensures.opens held.0 in
-    let old = place_of g.W.Wire c.args.client.now in (
-      opened.0,
+    let text = read g (goal.at.returns-in-Ok-remember-clause-takes g c).In-Ok-read_text w in (
+      text.0,
       appends.0,
       appends.1,
-      g.met.W.Wire.leads_on _ _ _ opened.1 held.1,
-      entry_stored c.len-length.result c.in-Ok-read_text.text.items c.deref-2.result.now (g.F.FlatFile.stored c.append_text.new.ledger.file) c.args.ledger.now.seen c.append_text.new.ledger.seen (held.2 c.args.number old opened.2)
+      text.1,
+      entry_stored c.len-length.result c.in-Ok-read_text.text.items c.deref-2.result.now (g.F.FlatFile.stored c.append_text.new.ledger.file) c.args.ledger.now.seen c.append_text.new.ledger.seen text.2
           c.deref-2.ensures.value (omega (arith, c.len-length.ensures, c.deref-2.ensures.len, ap length c.deref-2.ensures.value)) appends.2 c.append_text.ensures.rows c.in-Ok-remember.ensures.rows saved.1 (told g (goal.at.returns-in-Ok-remember-clause-takes g c).After-note),
     )
 
@@ -90,14 +89,12 @@ pub returns-clause-takes : goal.returns-clause-takes
 returns-clause-takes g c = λ w m f.
     let saved = c.in-Err-remember.ensures.saves f in
     let appends = c.in_default.ensures.appends m saved.0 in
-    let held = c.in-Ok-read_text.ensures.holds w in
-    let opened = c.in-Ok.ensures.opens held.0 in
-    let old = place_of g.W.Wire c.args.client.now in (
-      opened.0,
+    let text = read g (goal.at.returns-clause-takes g c).In-Ok-read_text w in (
+      text.0,
       appends.0,
       appends.1,
-      g.met.W.Wire.leads_on _ _ _ opened.1 held.1,
-      entry_not_saved c.len-length.result c.in-Ok-read_text.text.items c.deref-2.result.now (g.F.FlatFile.stored c.append_text.new.ledger.file) c.args.ledger.now.seen c.append_text.new.ledger.seen c.in-Err-remember.fault (held.2 c.args.number old opened.2)
+      text.1,
+      entry_not_saved c.len-length.result c.in-Ok-read_text.text.items c.deref-2.result.now (g.F.FlatFile.stored c.append_text.new.ledger.file) c.args.ledger.now.seen c.append_text.new.ledger.seen c.in-Err-remember.fault text.2
           c.deref-2.ensures.value (omega (arith, c.len-length.ensures, c.deref-2.ensures.len, ap length c.deref-2.ensures.value)) c.plain-in-Err-remember.ensures appends.2 c.append_text.ensures.rows saved.1 (told g (goal.at.returns-clause-takes g c).After-note),
     )
 
@@ -118,7 +115,7 @@ returns-in-Ok-remember-clause-rows g c = λ other has.
 
 pub returns-in-Err-clause-took : goal.returns-in-Err-clause-took
 returns-in-Err-clause-took g c = did_so g.W.Wire c.in-Err.ensures.opens (λ opened.
-    takes_plain c.plain.ensures (took_retr c.conversations_are_paced.ensures c.args.number _ _ c.in-Err.fault opened))
+    takes_plain c.plain.ensures (took_broke c.conversations_are_paced.ensures (retr c.args.number) _ _ c.in-Err.fault opened))
 
 pub returns-in-Err-read_text-clause-took : goal.returns-in-Err-read_text-clause-took
 returns-in-Err-read_text-clause-took g c = λ w.
@@ -129,12 +126,8 @@ returns-in-Err-read_text-clause-took g c = λ w.
 
 -- the text was read
 took_read : (g : Over) (c : In-Ok-read_text g) → g.W.Wire.sound c.read_text.new.client.wire.now
-    → g.W.Wire.sound c.args.client.now.wire.now × Took 268437504 (place_of g.W.Wire c.args.client.now) (place_of g.W.Wire c.read_text.new.client)
-took_read g c w =
-    let held = c.in-Ok-read_text.ensures.holds w in
-    let opened = c.in-Ok.ensures.opens held.0 in
-    let old = place_of g.W.Wire c.args.client.now in
-    (opened.0, takes_text c.conversations_are_paced.ensures c.args.number old c.in-Ok-read_text.text.items 0 (place_of g.W.Wire c.read_text.new.client) (held.2 c.args.number old opened.2))
+    → g.W.Wire.sound c.args.client.now.wire.now × Took (line_limit + text_limit) (place_of g.W.Wire c.args.client.now) (place_of g.W.Wire c.read_text.new.client)
+took_read g c = did_so g.W.Wire (read g c) (takes_text c.conversations_are_paced.ensures c.args.number _ c.in-Ok-read_text.text.items 0 _)
 
 pub returns-then-not-is_whole-clause-took : goal.returns-then-not-is_whole-clause-took
 returns-then-not-is_whole-clause-took g c = λ w.
@@ -159,18 +152,3 @@ returns-clause-took g c = λ w.
 pub returns-in-Err-clause-counted : goal.returns-in-Err-clause-counted
 returns-in-Err-clause-counted g c =
     cut_by c.in-Err.fault c.plain.result (g.W.Wire.history c.args.client.now.wire.now) (g.W.Wire.history c.open.new.self.wire.now) c.plain.ensures c.in-Err.ensures.counted
-
-pub returns-in-Err-read_text-clause-counted : goal.returns-in-Err-read_text-clause-counted
-returns-in-Err-read_text-clause-counted g c = before_cut (g.W.Wire.history c.args.client.now.wire.now) (g.W.Wire.history c.open.new.self.wire.now) (g.W.Wire.history c.read_text.new.client.wire.now) c.in-Err-read_text.cut c.in-Ok.ensures.counted c.in-Err-read_text.ensures.counted
-
-pub returns-then-not-is_whole-clause-counted : goal.returns-then-not-is_whole-clause-counted
-returns-then-not-is_whole-clause-counted g c = inl (c.in-Ok-read_text.ensures.counted ∙ c.in-Ok.ensures.counted)
-
-pub returns-in-Err-append_text-clause-counted : goal.returns-in-Err-append_text-clause-counted
-returns-in-Err-append_text-clause-counted g c = inl (c.in-Ok-read_text.ensures.counted ∙ c.in-Ok.ensures.counted)
-
-pub returns-in-Ok-remember-clause-counted : goal.returns-in-Ok-remember-clause-counted
-returns-in-Ok-remember-clause-counted g c = c.in-Ok-read_text.ensures.counted ∙ c.in-Ok.ensures.counted
-
-pub returns-clause-counted : goal.returns-clause-counted
-returns-clause-counted g c = inl (c.in-Ok-read_text.ensures.counted ∙ c.in-Ok.ensures.counted)

@@ -1,9 +1,10 @@
 use Rattle.std.proofs.Common.{◌+◌, ◌*◌, length, Ok, Err, arith, ◌∙◌, inl}
 use Rattle.pop3_client.specs.Client.{place_of}
+use Rattle.fetch_session.specs.Intake.{opening_limit, step_limit, tail_limit}
 use Rattle.fetch_session.specs.Session.{keeping, noted}
 use Rattle.fetch_session.specs.Target.{stores_of, target_of}
 use Rattle.fetch_session.proofs.SessionLemmas.{dealt}
-use Rattle.fetch_session.proofs.IntakeLemmas.{takes_plain, took_entering, with_any_tail, with_tail_on, with_tail_less}
+use Rattle.fetch_session.proofs.IntakeLemmas.{took_entering, with_plain_tail, with_tail_on}
 use Rattle.fetch_session.proofs.RefusalLemmas.{cut_by, till_cut}
 use Rattle.fetch_session.specs.Lasting.{is_sure}
 use Rattle.fetch_session.proofs.one_session.proceed.Goals as goal
@@ -27,24 +28,12 @@ returns-clause-proceeds g c = λ w d f.
 pub returns-in-Err-clause-took : goal.returns-in-Err-clause-took
 returns-in-Err-clause-took g c = λ w.
     let entered = c.in-Err.ensures.enters w in
-    let old = place_of g.W.Wire c.args.client.now in
-    let new = place_of g.W.Wire c.enter.new.client in
-    let cut = c.plain.result in (
-      entered.0,
-      with_tail_less (409616384 + 4096) (409616384 + (c.args.counts.now.total * 268439552 + 4096)) old new (Err cut) (omega arith)
-          (with_any_tail 409616384 old new cut (takes_plain c.plain.ensures (took_entering c.conversations_are_paced.ensures _ _ old new (Err c.in-Err.fault) entered.2))),
-    )
+    (entered.0, with_plain_tail c.plain.ensures (took_entering c.conversations_are_paced.ensures _ _ _ _ (Err c.in-Err.fault) entered.2) (omega arith))
 
 pub returns-in-Err-reserve-clause-took : goal.returns-in-Err-reserve-clause-took
 returns-in-Err-reserve-clause-took g c = λ w.
     let entered = c.in-Ok.ensures.enters w in
-    let old = place_of g.W.Wire c.args.client.now in
-    let new = place_of g.W.Wire c.enter.new.client in
-    let cut = c.plain-in-Err-reserve.result in (
-      entered.0,
-      with_tail_less (409616384 + 4096) (409616384 + (c.len-counts.result * 268439552 + 4096)) old new (Err cut) (omega arith)
-          (with_any_tail 409616384 old new cut (takes_plain c.plain-in-Err-reserve.ensures (took_entering c.conversations_are_paced.ensures _ _ old new (Ok c.in-Ok.listing) entered.2))),
-    )
+    (entered.0, with_plain_tail c.plain-in-Err-reserve.ensures (took_entering c.conversations_are_paced.ensures _ _ _ _ (Ok c.in-Ok.listing) entered.2) (omega arith))
 
 pub returns-clause-took : goal.returns-clause-took
 returns-clause-took g c = λ w.
@@ -55,15 +44,6 @@ returns-clause-took g c = λ w.
     let new = place_of g.W.Wire c.carry_out.new.client in
     let n = length c.in-Ok.listing in (
       entered.0,
-      with_tail_less (409616384 + (n * 268439552 + 4096)) (409616384 + (c.len-counts.result * 268439552 + 4096)) old new c.carry_out.result (omega (arith, c.len-counts.ensures.count))
-          (with_tail_on 409616384 (n * 268439552 + 4096) old mid new c.carry_out.result (took_entering c.conversations_are_paced.ensures _ _ old mid (Ok c.in-Ok.listing) entered.2) does.1),
+      with_tail_on (opening_limit + (c.len-counts.result * step_limit + tail_limit)) opening_limit (n * step_limit + tail_limit) old mid new c.carry_out.result
+          (omega (arith, c.len-counts.ensures.count)) (took_entering c.conversations_are_paced.ensures _ _ old mid (Ok c.in-Ok.listing) entered.2) does.1,
     )
-
-pub returns-in-Err-clause-counted : goal.returns-in-Err-clause-counted
-returns-in-Err-clause-counted g c = cut_by c.in-Err.fault c.plain.result (g.W.Wire.history c.args.client.now.wire.now) (g.W.Wire.history c.enter.new.client.wire.now) c.plain.ensures c.in-Err.ensures.counted
-
-pub returns-in-Err-reserve-clause-counted : goal.returns-in-Err-reserve-clause-counted
-returns-in-Err-reserve-clause-counted g c = inl c.in-Ok.ensures.counted
-
-pub returns-clause-counted : goal.returns-clause-counted
-returns-clause-counted g c = till_cut (g.W.Wire.history c.args.client.now.wire.now) (g.W.Wire.history c.enter.new.client.wire.now) (g.W.Wire.history c.carry_out.new.client.wire.now) c.carry_out.result c.in-Ok.ensures.counted c.carry_out.ensures.counted

@@ -20,15 +20,13 @@ returns-in-Err-clause-session g c = λ w d f.
     let done = c.proceed.new in
     let inside = c.account.inside in
     let after = keeping (stores_of g.D.MaildirDisk g.F.FlatFile done.work.store) (g.F.FlatFile.stored done.work.ledger.file) in
-    subst (λ h. g.W.Wire.sound c.args.client.now.wire.now × is_sound g.D.MaildirDisk g.F.FlatFile h.store × g.F.FlatFile.sound h.file × g.W.Wire.leads_to c.args.client.now.wire.now c.leave.new.client.wire.now
-    × SessionForGood g.D.MaildirDisk g.F.FlatFile (is_sure g.F.FlatFile h.store × g.F.FlatFile.is_sure h.file) h.settings (target_of h.store (digits_of h.settings)) c.args.now (g.W.Wire.history c.args.client.now.wire.now)
-    (keeping (stores_of g.D.MaildirDisk g.F.FlatFile h.store) (g.F.FlatFile.stored h.file)) c.tell.result (place_of g.W.Wire c.leave.new.client).link after done.work.store done.work.ledger.file) c.account.view_is (
+    rw (← c.account.view_is) (
       went.0,
       went.1,
       went.2,
       g.met.W.Wire.leads_on _ _ _ went.3 says.1,
       left_session (target_of inside.work.store inside.id) c.args.client.now.reader (Err c.in-Err.cut) (place_of g.W.Wire done.client) (noted done.counts.total done.counts.skipped done.work.ledger.lines.items)
-          (ap (λ (digits : List ℕ). target_of inside.work.store digits) c.account.invariant.1) c.requires went.4 (place_of g.W.Wire c.leave.new.client, says.2, refl) (rw c.replace-lines.ensures.value at c.tell.ensures),
+          (ap (λ (digits : List ℕ). target_of inside.work.store digits) c.account.invariant.1) c.requires went.4 (place_of g.W.Wire c.leave.new.client, says.2, refl) (rw c.replace-lines.ensures.value at c.reported.ensures),
     )
 
 pub returns-clause-session : goal.returns-clause-session
@@ -37,48 +35,31 @@ returns-clause-session g c = λ w d f.
     let done = c.proceed.new in
     let inside = c.account.inside in
     let after = keeping (stores_of g.D.MaildirDisk g.F.FlatFile done.work.store) (g.F.FlatFile.stored done.work.ledger.file) in
-    subst (λ h. g.W.Wire.sound c.args.client.now.wire.now × is_sound g.D.MaildirDisk g.F.FlatFile h.store × g.F.FlatFile.sound h.file × g.W.Wire.leads_to c.args.client.now.wire.now done.client.wire.now
-    × SessionForGood g.D.MaildirDisk g.F.FlatFile (is_sure g.F.FlatFile h.store × g.F.FlatFile.is_sure h.file) h.settings (target_of h.store (digits_of h.settings)) c.args.now (g.W.Wire.history c.args.client.now.wire.now)
-    (keeping (stores_of g.D.MaildirDisk g.F.FlatFile h.store) (g.F.FlatFile.stored h.file)) c.tell-2.result (place_of g.W.Wire done.client).link after done.work.store done.work.ledger.file) c.account.view_is (
+    rw (← c.account.view_is) (
       went.0,
       went.1,
       went.2,
       went.3,
       left_session (target_of inside.work.store inside.id) c.args.client.now.reader (Ok tt) (place_of g.W.Wire done.client) (noted done.counts.total done.counts.skipped done.work.ledger.lines.items)
-          (ap (λ (digits : List ℕ). target_of inside.work.store digits) c.account.invariant.1) c.requires went.4 refl (rw c.replace-lines-2.ensures.value at c.tell-2.ensures),
+          (ap (λ (digits : List ℕ). target_of inside.work.store digits) c.account.invariant.1) c.requires went.4 refl (rw c.replace-lines-2.ensures.value at c.reported-2.ensures),
     )
 
 pub returns-in-Err-clause-bounded : goal.returns-in-Err-clause-bounded
 returns-in-Err-clause-bounded g c = λ w.
     let says = c.leave.ensures.leaves w in
     let took = c.in-Err.ensures.took says.0 in
-    let done = c.proceed.new in
-    let link = g.W.Wire.history c.args.client.now.wire.now in
-    let mid = place_of g.W.Wire done.client in
-    let last = place_of g.W.Wire c.leave.new.client in
-    let n = done.counts.total in
-    subst (λ (n : ℕ). GotAtMost (session_limit n) link last.link) (sym c.tell.ensures.total_is)
-    (cut_within c.conversations_are_paced.ensures n link c.in-Err.cut mid last
-    (subst (λ (r : List ℕ). TookWithTail (opening_limit + (n * step_limit + tail_limit)) (at link r) (Err c.in-Err.cut) mid) c.requires took.1) says.2
-    (subst (λ (r : List ℕ). length r ≤ most_waiting) c.waiting.ensures.value c.waiting.ensures.short))
+    rw c.reported.ensures.total_is (cut_within c.conversations_are_paced.ensures c.proceed.new.counts.total (g.W.Wire.history c.args.client.now.wire.now) c.in-Err.cut
+    (place_of g.W.Wire c.proceed.new.client) (place_of g.W.Wire c.leave.new.client) (rw c.requires at took.1) says.2 (rw c.waiting.ensures.value at c.waiting.ensures.short))
 
 pub returns-clause-bounded : goal.returns-clause-bounded
 returns-clause-bounded g c = λ w.
     let took = c.in_default.ensures.took w in
-    let done = c.proceed.new in
-    let link = g.W.Wire.history c.args.client.now.wire.now in
-    let mid = place_of g.W.Wire done.client in
-    let n = done.counts.total in
-    subst (λ (n : ℕ). GotAtMost (session_limit n) link mid.link) (sym c.tell-2.ensures.total_is)
-    (ended_within n link mid (subst (λ (r : List ℕ). Took (opening_limit + (n * step_limit + tail_limit)) (at link r) mid) c.requires took.1)
-    (subst (λ (r : List ℕ). length r ≤ most_waiting) c.waiting-2.ensures.value c.waiting-2.ensures.short))
+    rw c.reported-2.ensures.total_is (ended_within c.proceed.new.counts.total (g.W.Wire.history c.args.client.now.wire.now) (place_of g.W.Wire c.proceed.new.client)
+    (rw c.requires at took.1) (rw c.waiting-2.ensures.value at c.waiting-2.ensures.short))
 
 pub returns-in-Err-clause-counted : goal.returns-in-Err-clause-counted
 returns-in-Err-clause-counted g c =
-    left_alone c.in-Err.cut (g.W.Wire.history c.args.client.now.wire.now) (g.W.Wire.history c.proceed.new.client.wire.now) (g.W.Wire.history c.leave.new.client.wire.now) c.tell.result.outcome c.tell.ensures.outcome_is c.in-Err.ensures.counted c.leave.ensures.counted c.leave.ensures.silent
-
-pub returns-clause-counted : goal.returns-clause-counted
-returns-clause-counted g c = subst (λ (o : Outcome). RefusesByOutcome (g.W.Wire.history c.args.client.now.wire.now) o (g.W.Wire.history c.proceed.new.client.wire.now)) (sym c.tell-2.ensures.outcome_is) c.in_default.ensures.counted
+    left_alone c.in-Err.cut (g.W.Wire.history c.args.client.now.wire.now) (g.W.Wire.history c.proceed.new.client.wire.now) (g.W.Wire.history c.leave.new.client.wire.now) c.reported.result.outcome c.reported.ensures.outcome_is c.in-Err.ensures.counted c.leave.ensures.counted c.leave.ensures.silent
 
 pub returns-in-Err-clause-kind : goal.returns-in-Err-clause-kind
 returns-in-Err-clause-kind g c = c.proceed.ensures.kind ∙ ap (λ h. kind_of h.store) c.account.view_is
@@ -91,7 +72,7 @@ returns-in-Err-clause-files g c = λ w d f.
     let old = c.args.account.now in
     let new = c.proceed.new.work in
     files_session g.D.MaildirDisk g.F.FlatFile old.store new.store (digits_of old.settings)
-    (λ t s s'. SessionIn old.settings t c.args.now (g.W.Wire.history c.args.client.now.wire.now) (keeping s (g.F.FlatFile.stored old.file)) c.tell.result (g.W.Wire.history c.leave.new.client.wire.now) (keeping s' (g.F.FlatFile.stored new.ledger.file)))
+    (λ t s s'. SessionIn old.settings t c.args.now (g.W.Wire.history c.args.client.now.wire.now) (keeping s (g.F.FlatFile.stored old.file)) c.reported.result (g.W.Wire.history c.leave.new.client.wire.now) (keeping s' (g.F.FlatFile.stored new.ledger.file)))
     _ _ _ (returns-in-Err-clause-kind g c) (λ sound. let s = returns-in-Err-clause-session g c w sound f in (s.0, s.1, s.2, s.3, session_in s.4)) d
 
 pub returns-in-Err-clause-entries : goal.returns-in-Err-clause-entries
@@ -99,7 +80,7 @@ returns-in-Err-clause-entries g c = λ w d f.
     let old = c.args.account.now in
     let new = c.proceed.new.work in
     entries_session g.D.MaildirDisk g.F.FlatFile old.store new.store (digits_of old.settings)
-    (λ t s s'. SessionIn old.settings t c.args.now (g.W.Wire.history c.args.client.now.wire.now) (keeping s (g.F.FlatFile.stored old.file)) c.tell.result (g.W.Wire.history c.leave.new.client.wire.now) (keeping s' (g.F.FlatFile.stored new.ledger.file)))
+    (λ t s s'. SessionIn old.settings t c.args.now (g.W.Wire.history c.args.client.now.wire.now) (keeping s (g.F.FlatFile.stored old.file)) c.reported.result (g.W.Wire.history c.leave.new.client.wire.now) (keeping s' (g.F.FlatFile.stored new.ledger.file)))
     _ _ _ (returns-in-Err-clause-kind g c) (λ sound. let s = returns-in-Err-clause-session g c w sound f in (s.0, s.1, s.2, s.3, session_in s.4)) d
 
 pub returns-clause-files : goal.returns-clause-files
@@ -107,7 +88,7 @@ returns-clause-files g c = λ w d f.
     let old = c.args.account.now in
     let new = c.proceed.new.work in
     files_session g.D.MaildirDisk g.F.FlatFile old.store new.store (digits_of old.settings)
-    (λ t s s'. SessionIn old.settings t c.args.now (g.W.Wire.history c.args.client.now.wire.now) (keeping s (g.F.FlatFile.stored old.file)) c.tell-2.result (g.W.Wire.history c.proceed.new.client.wire.now) (keeping s' (g.F.FlatFile.stored new.ledger.file)))
+    (λ t s s'. SessionIn old.settings t c.args.now (g.W.Wire.history c.args.client.now.wire.now) (keeping s (g.F.FlatFile.stored old.file)) c.reported-2.result (g.W.Wire.history c.proceed.new.client.wire.now) (keeping s' (g.F.FlatFile.stored new.ledger.file)))
     _ _ _ (returns-clause-kind g c) (λ sound. let s = returns-clause-session g c w sound f in (s.0, s.1, s.2, s.3, session_in s.4)) d
 
 pub returns-clause-entries : goal.returns-clause-entries
@@ -115,7 +96,7 @@ returns-clause-entries g c = λ w d f.
     let old = c.args.account.now in
     let new = c.proceed.new.work in
     entries_session g.D.MaildirDisk g.F.FlatFile old.store new.store (digits_of old.settings)
-    (λ t s s'. SessionIn old.settings t c.args.now (g.W.Wire.history c.args.client.now.wire.now) (keeping s (g.F.FlatFile.stored old.file)) c.tell-2.result (g.W.Wire.history c.proceed.new.client.wire.now) (keeping s' (g.F.FlatFile.stored new.ledger.file)))
+    (λ t s s'. SessionIn old.settings t c.args.now (g.W.Wire.history c.args.client.now.wire.now) (keeping s (g.F.FlatFile.stored old.file)) c.reported-2.result (g.W.Wire.history c.proceed.new.client.wire.now) (keeping s' (g.F.FlatFile.stored new.ledger.file)))
     _ _ _ (returns-clause-kind g c) (λ sound. let s = returns-clause-session g c w sound f in (s.0, s.1, s.2, s.3, session_in s.4)) d
 
 pub returns-in-Err-clause-power : goal.returns-in-Err-clause-power

@@ -1,15 +1,16 @@
-use Rattle.std.proofs.Common.{◌+◌, ◌*◌, List, [], ◌∷◌, Bool, inl, inr, arith, length, Err, sym, ap, subst, ◌∙◌, refl}
+use Rattle.std.proofs.Common.{◌+◌, ◌*◌, List, [], ◌∷◌, Bool, inl, inr, arith, length, Ok, Err, sym, ap, subst, ◌∙◌, refl}
 use Rattle.pop3_client.specs.Client.{place_of}
 use Rattle.fetch_rules.specs.Plan.{planned}
-use Rattle.pop3_client.specs.Turns.{quit}
+use Rattle.pop3_client.specs.Turns.{line_limit, quit}
 use Rattle.fetch_rules.specs.declared.steps.Step.{Step}
 use Rattle.mail_store.specs.Held.{flags_of}
 use Rattle.fetch_session.specs.Target.{Kind, flags_in, stores_of, target as target_at}
 use Rattle.fetch_session.specs.Task.{tasks_planned, ids_ahead, says, AreFresh}
 use Rattle.fetch_session.specs.Report.{skipped_in}
+use Rattle.fetch_session.specs.Intake.{step_limit, tail_limit}
 use Rattle.fetch_session.proofs.PlanLemmas.{flags_same, fresh_firsts}
 use Rattle.fetch_session.proofs.CarryLemmas.{carried, good_broke, good_quit, unprepared}
-use Rattle.fetch_session.proofs.IntakeLemmas.{takes_plain, took_nothing, took_less, took_on, with_any_tail, with_tail_on, with_tail_less, quit_told, quit_broke}
+use Rattle.fetch_session.proofs.IntakeLemmas.{took_nothing, took_less, took_on, with_any_tail, with_plain_tail, with_tail_on, took_completing, quit_broke}
 use Rattle.fetch_session.proofs.RefusalLemmas.{before_cut, cut_by}
 use Rattle.fetch_session.proofs.LastLemmas.{good_before, in_kind}
 use Rattle.fetch_session.proofs.plan.carry_out.Goals as goal
@@ -18,9 +19,6 @@ pub returns-in-Err-clause-carries : goal.returns-in-Err-clause-carries
 returns-in-Err-clause-carries g c = λ w d f.
     let ready = c.in-Err.ensures.readies d f in
     (w, ready.0, ready.1, g.met.W.Wire.leads_same c.args.client.now.wire.now, ([], inl (c.requires.none_skipped, unprepared c.plain.ensures ready.2)))
-
-pub skipped_in-requires : goal.skipped_in-requires
-skipped_in-requires g c = omega (arith, ap length c.deref.ensures.value, c.in-Ok.ensures.lengths.0, c.requires.few)
 
 pub do_steps-requires-clause-ready : goal.do_steps-requires-clause-ready
 do_steps-requires-clause-ready g c = record {
@@ -33,11 +31,10 @@ do_steps-requires-clause-free g c = λ kept.
     let stays = c.in-Ok.ensures.stays kept in
     let account = c.args.terms.account.now in
     let items = c.args.listing.now in
-    let maildir = (stores_of g.D.MaildirDisk g.F.FlatFile c.prepare.new.store).maildir in
     let rows = c.prepare.new.seen.rows in
-    subst (λ (held : List Bool). AreFresh account maildir (ids_ahead (tasks_planned c.deref-2.result.now items held))) (sym (c.deref-3.ensures.value ∙ stays.2 ∙ ap (λ (k : Kind). flags_in (target_at k account) (stores_of g.D.MaildirDisk g.F.FlatFile c.prepare.new.store) items) (sym c.prepare.ensures.kind) ∙ flags_same g.D.MaildirDisk g.F.FlatFile c.prepare.new.store account items))
-    (subst (λ (steps : List Step). AreFresh account maildir (ids_ahead (tasks_planned steps items (flags_of account maildir items)))) (sym (c.deref-2.ensures.value ∙ c.in-Ok.ensures.plans))
-    (fresh_firsts account maildir [] (planned c.args.terms.settings.now rows items c.args.terms.now) items (c.firsts_are_fetched.ensures c.args.terms.settings.now rows items c.args.terms.now) c.requires.legal))
+    rw (c.deref-2.ensures.value, c.in-Ok.ensures.plans, c.deref-3.ensures.value, stays.2, ← c.prepare.ensures.kind, flags_same g.D.MaildirDisk g.F.FlatFile c.prepare.new.store account items)
+    (fresh_firsts account (stores_of g.D.MaildirDisk g.F.FlatFile c.prepare.new.store).maildir [] (planned c.args.terms.settings.now rows items c.args.terms.now) items
+    (c.firsts_are_fetched.ensures c.args.terms.settings.now rows items c.args.terms.now) c.requires.legal)
 
 pub returns-in-Err-do_steps-clause-carries : goal.returns-in-Err-do_steps-clause-carries
 returns-in-Err-do_steps-clause-carries g c = λ w d f.
@@ -96,56 +93,35 @@ returns-clause-carries g c = λ w d f.
 -- ---- what was taken of the link
 
 pub returns-in-Err-clause-took : goal.returns-in-Err-clause-took
-returns-in-Err-clause-took g c = λ w.
-    let here = place_of g.W.Wire c.args.client.now in (
-      w,
-      with_tail_less (0 + 4096) (length c.args.listing.now * 268439552 + 4096) here here (Err c.plain.result) (omega arith)
-          (with_any_tail 0 here here c.plain.result (takes_plain c.plain.ensures took_nothing)),
-    )
+returns-in-Err-clause-took g c = λ w. (w, with_plain_tail c.plain.ensures took_nothing (omega arith))
 
 pub returns-in-Err-do_steps-clause-took : goal.returns-in-Err-do_steps-clause-took
 returns-in-Err-do_steps-clause-took g c = λ w.
     let done = c.in-Err-do_steps.ensures.took w in
-    (done.0, with_any_tail (length c.args.listing.now * 268439552) (place_of g.W.Wire c.args.client.now) (place_of g.W.Wire c.do_steps.new.client) c.in-Err-do_steps.cut done.1)
+    (done.0, with_any_tail (length c.args.listing.now * step_limit) (place_of g.W.Wire c.args.client.now) (place_of g.W.Wire c.do_steps.new.client) c.in-Err-do_steps.cut done.1)
 
 pub returns-in-Ok-quit-clause-took : goal.returns-in-Ok-quit-clause-took
 returns-in-Ok-quit-clause-took g c = λ w.
     let tells = c.in-Ok-quit.ensures.tells w in
     let done = c.in_default.ensures.took tells.0 in
-    (done.0, took_less (took_on done.1 (quit_told c.conversations_are_paced.ensures _ _ tells.2)) (omega arith))
+    (done.0, took_less (took_on done.1 (took_completing c.conversations_are_paced.ensures quit _ _ (Ok tt) tells.2)) (omega arith))
 
 pub returns-clause-took : goal.returns-clause-took
 returns-clause-took g c = λ w.
     let tells = c.in-Err-quit.ensures.tells w in
     let done = c.in_default.ensures.took tells.0 in
-    let most = length c.args.listing.now * 268439552 in
-    let old = place_of g.W.Wire c.args.client.now in
+    let most = length c.args.listing.now * step_limit in
     let mid = place_of g.W.Wire c.do_steps.new.client in
     let new = place_of g.W.Wire c.quit.new.self in
     let cut = c.plain-in-Err-quit.result in (
       done.0,
-      with_tail_less (most + 2048) (most + 4096) old new (Err cut) (omega arith) (with_tail_on most 2048 old mid new (Err cut) done.1
-          (quit_broke c.conversations_are_paced.ensures mid new c.in-Err-quit.fault cut tells.2 c.plain-in-Err-quit.ensures)),
+      with_tail_on (most + tail_limit) most line_limit (place_of g.W.Wire c.args.client.now) mid new (Err cut) (omega arith) done.1
+          (quit_broke c.conversations_are_paced.ensures mid new c.in-Err-quit.fault cut tells.2 c.plain-in-Err-quit.ensures),
     )
 
 -- ---- refused calls of the link
-
-pub returns-in-Err-clause-counted : goal.returns-in-Err-clause-counted
-returns-in-Err-clause-counted g c = inl refl
-
-pub returns-in-Ok-quit-clause-counted : goal.returns-in-Ok-quit-clause-counted
-returns-in-Ok-quit-clause-counted g c = c.in-Ok-quit.ensures.counted ∙ c.in_default.ensures.counted
 
 pub returns-clause-counted : goal.returns-clause-counted
 returns-clause-counted g c =
     before_cut (g.W.Wire.history c.args.client.now.wire.now) (g.W.Wire.history c.do_steps.new.client.wire.now) (g.W.Wire.history c.quit.new.self.wire.now) c.plain-in-Err-quit.result c.in_default.ensures.counted
     (cut_by c.in-Err-quit.fault c.plain-in-Err-quit.result (g.W.Wire.history c.do_steps.new.client.wire.now) (g.W.Wire.history c.quit.new.self.wire.now) c.plain-in-Err-quit.ensures c.in-Err-quit.ensures.counted)
-
-pub returns-clause-kind : goal.returns-clause-kind
-returns-clause-kind g c = c.do_steps.ensures.kind ∙ c.prepare.ensures.kind
-
-pub returns-in-Ok-quit-clause-kind : goal.returns-in-Ok-quit-clause-kind
-returns-in-Ok-quit-clause-kind g c = c.do_steps.ensures.kind ∙ c.prepare.ensures.kind
-
-pub returns-in-Err-do_steps-clause-kind : goal.returns-in-Err-do_steps-clause-kind
-returns-in-Err-do_steps-clause-kind g c = c.do_steps.ensures.kind ∙ c.prepare.ensures.kind

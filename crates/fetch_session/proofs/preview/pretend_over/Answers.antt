@@ -18,8 +18,7 @@ returns-in-Err-clause-pretends g c = λ w d f.
     let after = keeping (stores_of g.D.MaildirDisk g.F.FlatFile done.work.store) (g.F.FlatFile.stored done.work.ledger.file) in
     let new = place_of g.W.Wire c.leave.new.client in
     let preview : Preview = record { outcome = WasCut c.in-Err.cut.fault; total = done.preview.total; unsettled = done.preview.unsettled; prospects = done.preview.prospects } in
-    subst (λ h. g.W.Wire.sound c.args.client.now.wire.now × is_sound g.D.MaildirDisk g.F.FlatFile h.store × g.F.FlatFile.sound h.file × g.W.Wire.leads_to c.args.client.now.wire.now c.leave.new.client.wire.now
-    × Pretends h.settings (target_of h.store (digits_of h.settings)) c.args.now (g.W.Wire.history c.args.client.now.wire.now) (keeping (stores_of g.D.MaildirDisk g.F.FlatFile h.store) (g.F.FlatFile.stored h.file)) preview new.link after) c.account.view_is (
+    rw (← c.account.view_is) (
       went.0,
       went.1,
       went.2,
@@ -35,8 +34,7 @@ returns-clause-pretends g c = λ w d f.
     let inside = c.account.inside in
     let after = keeping (stores_of g.D.MaildirDisk g.F.FlatFile done.work.store) (g.F.FlatFile.stored done.work.ledger.file) in
     let mid = place_of g.W.Wire done.client in
-    subst (λ h. g.W.Wire.sound c.args.client.now.wire.now × is_sound g.D.MaildirDisk g.F.FlatFile h.store × g.F.FlatFile.sound h.file × g.W.Wire.leads_to c.args.client.now.wire.now done.client.wire.now
-    × Pretends h.settings (target_of h.store (digits_of h.settings)) c.args.now (g.W.Wire.history c.args.client.now.wire.now) (keeping (stores_of g.D.MaildirDisk g.F.FlatFile h.store) (g.F.FlatFile.stored h.file)) done.preview mid.link after) c.account.view_is (
+    rw (← c.account.view_is) (
       went.0,
       went.1,
       went.2,

@@ -19,11 +19,8 @@ returns-clause-merges g c = λ kept.
     let steady = read_steady old.content c.args.seen.now (c.requires.stands saves.0) fresh in
     let is_was : closed ≡ was = ap (closed_rows c.args.found.now.stored was) steady.1 in
     let updates : Updates was None c.deref-2.result.now rows None =
-    subst (λ (bytes : List ℕ). Updates was None bytes rows None) (sym c.deref-2.ensures.value)
-    (subst (λ (w : List Row). Updates w None c.in-Ok.group.items rows None) is_was
-    (subst (λ (w : List Row). Updates w None c.in-Ok.group.items (merged w c.args.listing.now held c.args.now) None) c.close.ensures.rows
-    (subst (λ (h : List Bool). Updates c.close.new.self.rows None c.in-Ok.group.items (merged c.close.new.self.rows c.args.listing.now h c.args.now) None) c.deref.ensures.value
-    (subst (λ (r : List Row). Updates c.close.new.self.rows None c.in-Ok.group.items r None) c.in-Ok.ensures.rows c.in-Ok.ensures.updates)))) in (
+    rw c.deref-2.ensures.value (subst (λ (w : List Row). Updates w None c.in-Ok.group.items rows None) is_was
+    (rw (c.in-Ok.ensures.rows, c.deref.ensures.value, c.close.ensures.rows) at c.in-Ok.ensures.updates)) in (
       saves.0,
       subst (λ (h : Held). Merges old h (none_open rows) c.grow.result new) (held_is c.args.seen.now steady.1)
           (saves_merges old new (none_open was) (none_open rows) c.grow.result steady.0 (saves.1 (none_open was) (none_open rows) (inl updates))),
@@ -37,8 +34,7 @@ returns-then-needs_rewrite-clause-merges g c = λ kept.
     let held = c.args.found.now.held.items in
     let closed : c.merge_rows.new.self.intent ≡ None = c.merge_rows.ensures.intent ∙ c.close.ensures.intent in
     let rows : c.merge_rows.new.self.rows ≡ merged (closed_rows c.args.found.now.stored c.args.seen.now.rows c.args.seen.now.intent) c.args.listing.now held c.args.now =
-    c.in-Ok.ensures.rows ∙ ap (λ (h : List Bool). merged c.close.new.self.rows c.args.listing.now h c.args.now) c.deref.ensures.value
-    ∙ ap (λ (r : List Row). merged r c.args.listing.now held c.args.now) c.close.ensures.rows in (
+    rw (c.in-Ok.ensures.rows, c.deref.ensures.value, c.close.ensures.rows) in (
       writes.0,
       subst (λ (h : Held). Merges old (held_in c.args.seen.now) h c.save.result new) (sym (held_is c.merge_rows.new.self closed) ∙ ap (λ (r : List Row). none_open r) rows)
           (writes_merges old new (held_in c.args.seen.now) (held_in c.merge_rows.new.self) c.save.result (read_keeps old.content c.args.seen.now (c.requires.stands writes.0)) c.save.ensures.stands writes.1),

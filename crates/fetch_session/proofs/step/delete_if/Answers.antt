@@ -5,8 +5,8 @@ use Rattle.pop3_client.proofs.ClientLemmas.{in_words, no_call, did_so}
 use Rattle.fetch_session.specs.Task.{Task, deletes}
 use Rattle.fetch_session.specs.Scene.{scene, AllWent, Fell}
 use Rattle.fetch_session.proofs.SceneLemmas.{all_none, fell_first}
-use Rattle.fetch_session.proofs.TakeLemmas.{deleted, no_deletes, one_delete, text_broken}
-use Rattle.fetch_session.proofs.IntakeLemmas.{takes_plain, took_nothing, took_less, took_deleting}
+use Rattle.fetch_session.proofs.TakeLemmas.{deleted, text_broken}
+use Rattle.fetch_session.proofs.IntakeLemmas.{takes_plain, took_nothing, took_less, took_completing}
 use Rattle.fetch_session.proofs.RefusalLemmas.{cut_by}
 use Rattle.fetch_session.proofs.step.delete_if.Goals as goal
 
@@ -14,37 +14,29 @@ pub returns-then-not-wanted-clause-deletes : goal.returns-then-not-wanted-clause
 returns-then-not-wanted-clause-deletes g c = λ account maildir file rows.
     let here = scene (place_of g.W.Wire c.args.client.now) maildir file rows c.args.lines.now.items in
     no_call g.W.Wire g.met.W.Wire.leads_same
-    (subst (λ (ts : List Task). AllWent account ts here here) (sym (no_deletes c.args.wanted c.args.number c.if-not-wanted.true)) (all_none account here))
+    (rw c.if-not-wanted.true (all_none account here))
 
 pub returns-in-Ok-clause-deletes : goal.returns-in-Ok-clause-deletes
 returns-in-Ok-clause-deletes g c = λ account maildir file rows.
     let old = scene (place_of g.W.Wire c.args.client.now) maildir file rows c.args.lines.now.items in
     let new = scene (place_of g.W.Wire c.delete.new.self) maildir file rows c.note.new.lines.items in
     in_words g.W.Wire c.in-Ok.ensures.tells (λ tells.
-    subst (λ (ts : List Task). AllWent account ts old new) (sym (one_delete c.args.wanted c.args.number c.if-not-wanted.false))
-    (deleted account c.args.number tells.0 old.place new.place maildir file rows old.lines new.lines tells.1 c.note.ensures.items))
+    rw c.if-not-wanted.false (deleted account c.args.number tells.0 old.place new.place maildir file rows old.lines new.lines tells.1 c.note.ensures.items))
 
 pub returns-in-Err-clause-deletes : goal.returns-in-Err-clause-deletes
 returns-in-Err-clause-deletes g c = λ account maildir file rows.
     let old = scene (place_of g.W.Wire c.args.client.now) maildir file rows c.args.lines.now.items in
     let new = scene (place_of g.W.Wire c.delete.new.self) maildir file rows c.args.lines.now.items in
     in_words g.W.Wire c.in-Err.ensures.tells (λ tells.
-    subst (λ (ts : List Task). Fell account ts old c.plain.result new) (sym (one_delete c.args.wanted c.args.number c.if-not-wanted.false))
-    (fell_first account (deletes c.args.number) [] old new c.plain.result
+    rw c.if-not-wanted.false (fell_first account (deletes c.args.number) [] old new c.plain.result
     (text_broken account (deletes c.args.number) (dele c.args.number) old.place new.place maildir file rows old.lines c.in-Err.fault c.plain.result refl c.plain.ensures tells)))
 
-pub returns-then-not-wanted-clause-took : goal.returns-then-not-wanted-clause-took
-returns-then-not-wanted-clause-took g c = λ w. (w, took_less took_nothing (omega arith))
-
 pub returns-in-Ok-clause-took : goal.returns-in-Ok-clause-took
-returns-in-Ok-clause-took g c = did_so g.W.Wire c.in-Ok.ensures.tells (λ tells. took_deleting c.conversations_are_paced.ensures c.args.number _ _ (Ok tt) tells)
+returns-in-Ok-clause-took g c = did_so g.W.Wire c.in-Ok.ensures.tells (λ tells. took_completing c.conversations_are_paced.ensures (dele c.args.number) _ _ (Ok tt) tells)
 
 pub returns-in-Err-clause-took : goal.returns-in-Err-clause-took
 returns-in-Err-clause-took g c =
     let old = place_of g.W.Wire c.args.client.now in
     let new = place_of g.W.Wire c.delete.new.self in
     did_so g.W.Wire c.in-Err.ensures.tells (λ tells.
-    takes_plain c.plain.ensures (took_deleting c.conversations_are_paced.ensures c.args.number old new (Err c.in-Err.fault) tells))
-
-pub returns-in-Err-clause-counted : goal.returns-in-Err-clause-counted
-returns-in-Err-clause-counted g c = cut_by c.in-Err.fault c.plain.result (g.W.Wire.history c.args.client.now.wire.now) (g.W.Wire.history c.delete.new.self.wire.now) c.plain.ensures c.in-Err.ensures.counted
+    takes_plain c.plain.ensures (took_completing c.conversations_are_paced.ensures (dele c.args.number) old new (Err c.in-Err.fault) tells))

@@ -1,11 +1,13 @@
-use Rattle.std.proofs.Common.{Err, arith}
+use Rattle.std.proofs.Common.{◌+◌, Err, arith}
 use Rattle.pop3_client.specs.Client.{place_of}
+use Rattle.pop3_client.specs.Turns.{line_limit, text_limit}
+use Rattle.fetch_session.specs.Intake.{step_limit}
 use Rattle.fetch_session.specs.Lasting.{IsSafeWork}
 use Rattle.fetch_session.specs.Task.{deleting}
 use Rattle.fetch_session.specs.Target.{target_of}
 use Rattle.fetch_session.specs.Work.{scene_of}
 use Rattle.fetch_session.proofs.SceneLemmas.{on_any}
-use Rattle.fetch_session.proofs.IntakeLemmas.{takes_on, takes_less}
+use Rattle.fetch_session.proofs.IntakeLemmas.{takes_on, took_nothing}
 use Rattle.fetch_session.proofs.RefusalLemmas.{till_cut}
 use Rattle.fetch_session.proofs.LastLemmas.{good_deleted, good_more, keeps_same, none_lasts, not_fetched, texts_ok}
 use Rattle.fetch_session.proofs.step.do_step.Goals as goal
@@ -50,21 +52,12 @@ returns-clause-ready g c =
 pub returns-in-Err-clause-took : goal.returns-in-Err-clause-took
 returns-in-Err-clause-took g c = λ w.
     let fetches = c.in-Err.ensures.took w in
-    (fetches.0, takes_less 268437504 268439552 (place_of g.W.Wire c.args.client.now) (place_of g.W.Wire c.fetch_if.new.client) (Err c.in-Err.cut) (omega arith) fetches.1)
+    (fetches.0, takes_on step_limit 0 (line_limit + text_limit) (place_of g.W.Wire c.args.client.now) (place_of g.W.Wire c.args.client.now) (place_of g.W.Wire c.fetch_if.new.client) (Err c.in-Err.cut) (omega arith) took_nothing fetches.1)
 
 pub returns-clause-took : goal.returns-clause-took
 returns-clause-took g c = λ w.
     let deletes = c.delete_if.ensures.took w in
     let fetches = c.in_default.ensures.took deletes.0 in
-    (fetches.0, takes_on 268437504 2048 (place_of g.W.Wire c.args.client.now) (place_of g.W.Wire c.fetch_if.new.client) (place_of g.W.Wire c.delete_if.new.client) c.delete_if.result fetches.1 deletes.1)
-
-pub returns-clause-counted : goal.returns-clause-counted
-returns-clause-counted g c = till_cut (g.W.Wire.history c.args.client.now.wire.now) (g.W.Wire.history c.fetch_if.new.client.wire.now) (g.W.Wire.history c.delete_if.new.client.wire.now) c.delete_if.result c.in_default.ensures.counted c.delete_if.ensures.counted
-
-pub returns-clause-rows : goal.returns-clause-rows
-returns-clause-rows g c = on_any c.delete_if.result c.in_default.ensures.rows
+    (fetches.0, takes_on step_limit (line_limit + text_limit) line_limit (place_of g.W.Wire c.args.client.now) (place_of g.W.Wire c.fetch_if.new.client) (place_of g.W.Wire c.delete_if.new.client) c.delete_if.result (omega arith) fetches.1 deletes.1)
 
 -- ---- what outlives a loss of power
-
-pub returns-clause-lasts : goal.returns-clause-lasts
-returns-clause-lasts g c = λ d f safe. on_any c.delete_if.result (c.in_default.ensures.lasts d f safe).0

@@ -5,11 +5,12 @@ use Rattle.pop3_client.specs.Client.{place_of}
 use Rattle.mail_terms.specs.Listing.{Item}
 use Rattle.fetch_rules.specs.declared.steps.Step.{Step}
 use Rattle.fetch_session.specs.Target.{stores_of, target_of}
+use Rattle.fetch_session.specs.Intake.{step_limit}
 use Rattle.fetch_session.specs.Lasting.{IsSafeWork}
 use Rattle.fetch_session.specs.Task.{Task, tasks_in, tasks_planned, fetching, ids_ahead, AreFresh}
 use Rattle.fetch_session.proofs.FreshLemmas.{fresh_step, fresh_later, grows_calm, step_at, later_at, tasks_left, no_item, row_at}
 use Rattle.fetch_session.proofs.ReportLemmas.{adds_on}
-use Rattle.fetch_session.proofs.IntakeLemmas.{took_on, took_less, took_nothing, takes_on, takes_less}
+use Rattle.fetch_session.proofs.IntakeLemmas.{took_on, took_less, took_nothing, takes_on}
 use Rattle.fetch_session.proofs.RefusalLemmas.{before_cut}
 use Rattle.fetch_session.proofs.LastLemmas.{in_kind, keeps_same, leads_end, leads_fell, leads_on, mail_on, none_lasts}
 use Rattle.fetch_session.proofs.step.do_steps.Goals as goal
@@ -121,12 +122,10 @@ returns-in-Err-clause-took g c = λ w.
     let i = c.loop-i.i in
     let in_items : i < length c.args.listing.now = omega (arith, c.loop-i-test.true, c.len-i-end.ensures.count) in
     let done = c.in-Err.ensures.took w in
-    let inv = c.loop-i.invariant.4 done.0 in
-    let old = place_of g.W.Wire c.args.client.now in
-    let new = place_of g.W.Wire c.do_step.new.client in (
+    let inv = c.loop-i.invariant.4 done.0 in (
       inv.0,
-      takes_less (i * 268439552 + 268439552) (length c.args.listing.now * 268439552) old new (Err c.in-Err.cut) (omega (arith, in_items))
-          (takes_on (i * 268439552) 268439552 old (place_of g.W.Wire c.loop-i.client) new (Err c.in-Err.cut) inv.1 done.1),
+      takes_on (length c.args.listing.now * step_limit) (i * step_limit) step_limit (place_of g.W.Wire c.args.client.now) (place_of g.W.Wire c.loop-i.client) (place_of g.W.Wire c.do_step.new.client)
+          (Err c.in-Err.cut) (omega (arith, in_items)) inv.1 done.1,
     )
 
 pub returns-clause-took : goal.returns-clause-took
@@ -134,12 +133,6 @@ returns-clause-took g c = λ w.
     let i = c.loop-i.i in
     let inv = c.loop-i.invariant.4 w in
     (inv.0, took_less inv.1 (omega arith))
-
-pub returns-in-Err-clause-counted : goal.returns-in-Err-clause-counted
-returns-in-Err-clause-counted g c = before_cut (g.W.Wire.history c.args.client.now.wire.now) (g.W.Wire.history c.loop-i.client.wire.now) (g.W.Wire.history c.do_step.new.client.wire.now) c.in-Err.cut c.loop-i.invariant.5 c.in-Err.ensures.counted
-
-pub returns-clause-calm : goal.returns-clause-calm
-returns-clause-calm g c = λ d. ((c.loop-i.invariant.2 d).0, c.loop-i.invariant.1.calm d)
 
 pub returns-in-Err-clause-calm : goal.returns-in-Err-clause-calm
 returns-in-Err-clause-calm g c = λ d.
@@ -158,9 +151,6 @@ do_step-requires-clause-row g c =
     c.loop-i.invariant.8 c.uid.result.now (subst (λ (uid : List ℕ). has_row c.args.work.now.ledger.seen.rows uid ≡ true) (sym (c.uid.ensures.value no_item)) (row_at c.args.work.now.ledger.seen.rows c.args.listing.now i in_items c.requires.rows))
 
 -- ---- what outlives a loss of power
-
-pub returns-clause-keeps : goal.returns-clause-keeps
-returns-clause-keeps g c = λ w d f. (c.loop-i.invariant.3 w d f).4.0
 
 pub returns-in-Err-clause-keeps : goal.returns-in-Err-clause-keeps
 returns-in-Err-clause-keeps g c = λ w d f.

@@ -6,7 +6,7 @@ use Rattle.fetch_session.specs.Target.{target_of}
 use Rattle.fetch_session.specs.Work.{scene_of}
 use Rattle.fetch_session.specs.Scene.{scene, AllWent, Does}
 use Rattle.fetch_session.proofs.SceneLemmas.{takes_does, on_any}
-use Rattle.fetch_session.proofs.TakeLemmas.{skipped, no_fetch, one_fetch}
+use Rattle.fetch_session.proofs.TakeLemmas.{skipped}
 use Rattle.fetch_session.proofs.IntakeLemmas.{took_nothing, took_less}
 use Rattle.fetch_session.proofs.LastLemmas.{keeps_same, none_came}
 use Rattle.fetch_session.proofs.step.fetch_if.Goals as goal
@@ -21,9 +21,7 @@ returns-then-not-step-clause-does g c = λ w d f.
       d,
       f,
       g.met.W.Wire.leads_same c.args.client.now.wire.now,
-      subst (λ (ts : List Task). AllWent target ts here (record here { lines = lines' }))
-          (sym (no_fetch message.step.retrieve message.held message.step.number message.uid.now message.size (not-true message.step.retrieve c.if-not-step.true)))
-          (skipped target message.step.number message.size here.place here.store here.file here.rows here.lines lines' c.note.ensures.items),
+      rw (not-true message.step.retrieve c.if-not-step.true) (skipped target message.step.number message.size here.place here.store here.file here.rows here.lines lines' c.note.ensures.items),
     )
 
 pub returns-then-held-clause-does : goal.returns-then-held-clause-does
@@ -37,9 +35,7 @@ returns-then-held-clause-does g c = λ w d f.
       d,
       f,
       took.1,
-      subst (λ (ts : List Task). Does target ts old c.reread.result new)
-          (sym (one_fetch message.step.retrieve message.held true message.step.number message.uid.now message.size (not-false message.step.retrieve c.if-not-step.false) c.if-held.true))
-          (takes_does target (rereads message.step.number message.uid.now) old new c.reread.result took.2),
+      rw (not-false message.step.retrieve c.if-not-step.false, c.if-held.true) (takes_does target (rereads message.step.number message.uid.now) old new c.reread.result took.2),
     )
 
 pub returns-clause-does : goal.returns-clause-does
@@ -53,34 +49,10 @@ returns-clause-does g c = λ w d f.
       took.1,
       took.2,
       took.3,
-      subst (λ (ts : List Task). Does target ts old c.take.result new)
-          (sym (one_fetch message.step.retrieve message.held false message.step.number message.uid.now message.size (not-false message.step.retrieve c.if-not-step.false) c.if-held.false))
-          (takes_does target (stores message.step.number message.uid.now) old new c.take.result took.4),
+      rw (not-false message.step.retrieve c.if-not-step.false, c.if-held.false) (takes_does target (stores message.step.number message.uid.now) old new c.take.result took.4),
     )
 
--- the store and the record have no part in it
-pub returns-then-not-step-clause-ready : goal.returns-then-not-step-clause-ready
-returns-then-not-step-clause-ready g c = record { calm = c.requires.ready.calm; written = record { closed = c.requires.ready.written.closed; steady = c.requires.ready.written.steady } }
-
-pub returns-then-held-clause-ready : goal.returns-then-held-clause-ready
-returns-then-held-clause-ready g c = on_any c.reread.result (record { calm = c.requires.ready.calm; written = record { closed = c.requires.ready.written.closed; steady = c.requires.ready.written.steady } })
-
-pub returns-then-not-step-clause-took : goal.returns-then-not-step-clause-took
-returns-then-not-step-clause-took g c = λ w. (w, took_less took_nothing (omega arith))
-
-pub returns-then-not-step-clause-rows : goal.returns-then-not-step-clause-rows
-returns-then-not-step-clause-rows g c = λ uid has. has
-
-pub returns-then-held-clause-rows : goal.returns-then-held-clause-rows
-returns-then-held-clause-rows g c = on_any c.reread.result (λ uid has. has)
-
 -- ---- what outlives a loss of power
-
-pub returns-then-not-step-clause-keeps : goal.returns-then-not-step-clause-keeps
-returns-then-not-step-clause-keeps g c = λ d f. keeps_same g.D.MaildirDisk g.F.FlatFile c.args.work.now
-
-pub returns-then-held-clause-keeps : goal.returns-then-held-clause-keeps
-returns-then-held-clause-keeps g c = λ d f. keeps_same g.D.MaildirDisk g.F.FlatFile c.args.work.now
 
 pub returns-then-not-step-clause-lasts : goal.returns-then-not-step-clause-lasts
 returns-then-not-step-clause-lasts g c = λ d f safe. (safe, none_came g.D.MaildirDisk g.F.FlatFile c.args.work.now.store)

@@ -4,7 +4,7 @@ use Rattle.pop3_client.specs.Turns.{retr}
 use Rattle.pop3_client.proofs.ClientLemmas.{and_then, did_so, did_both}
 use Rattle.fetch_session.specs.Task.{rereads}
 use Rattle.fetch_session.proofs.TakeLemmas.{reread_taken, text_broken}
-use Rattle.fetch_session.proofs.IntakeLemmas.{takes_plain, took_retr, took_passing}
+use Rattle.fetch_session.proofs.IntakeLemmas.{takes_plain, took_broke, took_passing}
 use Rattle.fetch_session.proofs.RefusalLemmas.{before_cut, cut_by}
 use Rattle.fetch_session.proofs.step.reread.Goals as goal
 
@@ -24,7 +24,7 @@ returns-in-Err-pass_text-clause-rereads g c = λ account uid maildir file rows.
 
 pub returns-in-Err-clause-took : goal.returns-in-Err-clause-took
 returns-in-Err-clause-took g c = did_so g.W.Wire c.in-Err.ensures.opens (λ opened.
-    takes_plain c.plain.ensures (took_retr c.conversations_are_paced.ensures c.args.number _ _ c.in-Err.fault opened))
+    takes_plain c.plain.ensures (took_broke c.conversations_are_paced.ensures (retr c.args.number) _ _ c.in-Err.fault opened))
 
 pub returns-in-Ok-pass_text-clause-took : goal.returns-in-Ok-pass_text-clause-took
 returns-in-Ok-pass_text-clause-took g c =
@@ -39,12 +39,6 @@ returns-in-Err-pass_text-clause-took g c =
     did_both g.W.Wire c.in-Ok.ensures.opens c.in-Err-pass_text.ensures.passes (λ opened passed.
     takes_plain c.plain-in-Err-pass_text.ensures
     (took_passing c.conversations_are_paced.ensures c.args.number old (Err c.in-Err-pass_text.fault) new (passed c.args.number old opened)))
-
-pub returns-in-Err-clause-counted : goal.returns-in-Err-clause-counted
-returns-in-Err-clause-counted g c = cut_by c.in-Err.fault c.plain.result (g.W.Wire.history c.args.client.now.wire.now) (g.W.Wire.history c.open.new.self.wire.now) c.plain.ensures c.in-Err.ensures.counted
-
-pub returns-in-Ok-pass_text-clause-counted : goal.returns-in-Ok-pass_text-clause-counted
-returns-in-Ok-pass_text-clause-counted g c = c.in-Ok-pass_text.ensures.counted ∙ c.in-Ok.ensures.counted
 
 pub returns-in-Err-pass_text-clause-counted : goal.returns-in-Err-pass_text-clause-counted
 returns-in-Err-pass_text-clause-counted g c =

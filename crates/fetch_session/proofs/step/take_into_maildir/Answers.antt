@@ -11,7 +11,7 @@ use Rattle.fetch_session.specs.Target.{AsFiles, in_maildir}
 use Rattle.fetch_session.specs.Task.{stores}
 use Rattle.fetch_session.proofs.StoreLemmas.{stores_grows}
 use Rattle.fetch_session.proofs.TakeLemmas.{text_broken, text_wanting, text_stops, text_stored, text_not_saved}
-use Rattle.fetch_session.proofs.IntakeLemmas.{takes_plain, took_retr, took_nothing, took_less, takes_text, takes_stopped}
+use Rattle.fetch_session.proofs.IntakeLemmas.{takes_plain, took_broke, took_nothing, took_less, takes_text, takes_stopped}
 use Rattle.fetch_session.proofs.SceneLemmas.{all_sound}
 use Rattle.fetch_session.proofs.RefusalLemmas.{before_cut, cut_by}
 use Rattle.pop3_client.proofs.ClientLemmas.{and_then, did_both, did_so}
@@ -77,9 +77,6 @@ pub remember-requires-clause-steady : goal.remember-requires-clause-steady
 remember-requires-clause-steady g c = λ f.
     subst (λ (h : Held). Steady (g.F.FlatFile.stored c.args.ledger.now.file).content h) (held_is c.args.ledger.now.seen c.requires.ready.closed) (c.requires.ready.steady f)
 
-pub remember-requires-clause-own : goal.remember-requires-clause-own
-remember-requires-clause-own g c = none_or_of c.args.uid.now c.args.ledger.now.seen.intent c.requires.ready.closed
-
 pub returns-in-Ok-remember-clause-ready : goal.returns-in-Ok-remember-clause-ready
 returns-in-Ok-remember-clause-ready g c = record {
   closed = c.in-Ok-remember.ensures.closed;
@@ -87,9 +84,6 @@ returns-in-Ok-remember-clause-ready g c = record {
 }
 
 -- ---- what was taken of the link
-
-pub returns-in-Err-clause-took : goal.returns-in-Err-clause-took
-returns-in-Err-clause-took g c = λ w. (w, takes_plain c.plain.ensures (took_less took_nothing (omega arith)))
 
 pub returns-in-Err-open-clause-takes : goal.returns-in-Err-open-clause-takes
 returns-in-Err-open-clause-takes g c = λ w m f.
@@ -104,7 +98,7 @@ returns-in-Err-open-clause-takes g c = λ w m f.
 
 pub returns-in-Err-open-clause-took : goal.returns-in-Err-open-clause-took
 returns-in-Err-open-clause-took g c = did_so g.W.Wire c.in-Err-open.ensures.opens (λ opened.
-    takes_plain c.plain-in-Err-open.ensures (took_retr c.conversations_are_paced.ensures c.args.number _ _ c.in-Err-open.fault opened))
+    takes_plain c.plain-in-Err-open.ensures (took_broke c.conversations_are_paced.ensures (retr c.args.number) _ _ c.in-Err-open.fault opened))
 
 pub returns-in-Err-store_text-clause-took : goal.returns-in-Err-store_text-clause-took
 returns-in-Err-store_text-clause-took g c =
@@ -127,15 +121,6 @@ returns-in-Err-remember-clause-took g c =
 pub returns-in-Err-open-clause-counted : goal.returns-in-Err-open-clause-counted
 returns-in-Err-open-clause-counted g c =
     cut_by c.in-Err-open.fault c.plain-in-Err-open.result (g.W.Wire.history c.args.client.now.wire.now) (g.W.Wire.history c.open.new.self.wire.now) c.plain-in-Err-open.ensures c.in-Err-open.ensures.counted
-
-pub returns-in-Err-store_text-clause-counted : goal.returns-in-Err-store_text-clause-counted
-returns-in-Err-store_text-clause-counted g c = before_cut (g.W.Wire.history c.args.client.now.wire.now) (g.W.Wire.history c.open.new.self.wire.now) (g.W.Wire.history c.store_text.new.client.wire.now) c.in-Err-store_text.cut c.in-Ok-open.ensures.counted c.in-Err-store_text.ensures.counted
-
-pub returns-in-Ok-remember-clause-counted : goal.returns-in-Ok-remember-clause-counted
-returns-in-Ok-remember-clause-counted g c = c.in-Ok-store_text.ensures.counted ∙ c.in-Ok-open.ensures.counted
-
-pub returns-in-Err-remember-clause-counted : goal.returns-in-Err-remember-clause-counted
-returns-in-Err-remember-clause-counted g c = inl (c.in-Ok-store_text.ensures.counted ∙ c.in-Ok-open.ensures.counted)
 
 -- ---- ids that have a row keep one
 

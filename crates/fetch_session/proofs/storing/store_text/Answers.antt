@@ -138,30 +138,12 @@ pieces-preserved g c =
       λ d. keeps_mail_on (c.pieces.invariant.5 (c.put_piece.ensures.puts d).0) (c.put_piece.ensures.keeps d),
     )
 
-pub returns-in-Err-clause-counted : goal.returns-in-Err-clause-counted
-returns-in-Err-clause-counted g c = inl refl
-
 pub returns-in-Err-next_piece-clause-counted : goal.returns-in-Err-next_piece-clause-counted
 returns-in-Err-next_piece-clause-counted g c =
     before_cut (g.W.Wire.history c.args.client.now.wire.now) (g.W.Wire.history c.pieces.client.wire.now) (g.W.Wire.history c.next_piece.new.self.wire.now) c.plain.result c.pieces.invariant.3
     (cut_by c.in-Err-next_piece.fault c.plain.result (g.W.Wire.history c.pieces.client.wire.now) (g.W.Wire.history c.next_piece.new.self.wire.now) c.plain.ensures c.in-Err-next_piece.ensures.counted)
 
-pub returns-in-Err-put_piece-clause-counted : goal.returns-in-Err-put_piece-clause-counted
-returns-in-Err-put_piece-clause-counted g c = inl (c.in-Ok.ensures.counted ∙ c.pieces.invariant.3)
-
-pub returns-in-Ok-settle_file-clause-counted : goal.returns-in-Ok-settle_file-clause-counted
-returns-in-Ok-settle_file-clause-counted g c = c.in-Ok.ensures.counted ∙ c.pieces.invariant.3
-
-pub returns-in-Err-settle_file-clause-counted : goal.returns-in-Err-settle_file-clause-counted
-returns-in-Err-settle_file-clause-counted g c = inl (c.in-Ok.ensures.counted ∙ c.pieces.invariant.3)
-
 -- ---- what outlives a loss of power
-
-pub returns-in-Err-next_piece-clause-keeps : goal.returns-in-Err-next_piece-clause-keeps
-returns-in-Err-next_piece-clause-keeps g c = λ d. keeps_mail_on (c.pieces.invariant.5 (c.abandon.ensures.drops d).0) (c.abandon.ensures.lasts d)
-
-pub returns-in-Err-put_piece-clause-keeps : goal.returns-in-Err-put_piece-clause-keeps
-returns-in-Err-put_piece-clause-keeps g c = λ d. keeps_mail_on (c.pieces.invariant.5 (c.put_piece.ensures.puts d).0) (c.put_piece.ensures.keeps d)
 
 pub returns-in-Ok-settle_file-clause-keeps : goal.returns-in-Ok-settle_file-clause-keeps
 returns-in-Ok-settle_file-clause-keeps g c = λ d.

@@ -6,35 +6,24 @@ use Rattle.pop3_client.specs.Conversation.{is_refusal}
 use Rattle.pop3_client.specs.declared.fault.Fault.{Fault}
 use Rattle.fetch_session.specs.Tail.{turns_in}
 use Rattle.fetch_session.specs.declared.tail.Tail.{Tail}
-use Rattle.fetch_session.proofs.TailLemmas.{left_dropped, left_broken, failed}
+use Rattle.fetch_session.proofs.TailLemmas.{left_dropped, left_broken}
 use Rattle.fetch_session.proofs.RefusalLemmas.{at_most_one, then_at_most_one}
 use Rattle.fetch_session.proofs.tail.leave.Goals as goal
 
 pub returns-in-Err-clause-leaves : goal.returns-in-Err-clause-leaves
 returns-in-Err-clause-leaves g c = λ w.
     let drops = c.in-Err.ensures.drops w in
-    (drops.0, drops.1, left_broken c.args.cut.fault c.args.cut.rest (place_of g.W.Wire c.args.client.now) (place_of g.W.Wire c.drop_under_way.new.client) c.in-Err.field-0 drops.2)
+    (drops.0, drops.1, left_broken c.conversations_are_paced.ensures c.args.cut.fault c.args.cut.rest (place_of g.W.Wire c.args.client.now) (place_of g.W.Wire c.drop_under_way.new.client) c.in-Err.field-0 drops.2)
 
 pub returns-clause-leaves : goal.returns-clause-leaves
 returns-clause-leaves g c = λ w.
     let says = c.say_tail.ensures.talks w in
-    let drops = c.in_default.ensures.drops says.0 in
-    let mid = place_of g.W.Wire c.drop_under_way.new.client in
-    let new = place_of g.W.Wire c.say_tail.new.client in (
+    let drops = c.in_default.ensures.drops says.0 in (
       drops.0,
       g.met.W.Wire.leads_on _ _ _ drops.1 says.1,
-      left_dropped c.args.cut.fault c.args.cut.rest (place_of g.W.Wire c.args.client.now) mid new c.say_tail.result drops.2
-          (subst (λ (k : Tail). Talks (turns_in k) mid c.say_tail.result new) c.tail_of.ensures says.2),
+      left_dropped c.conversations_are_paced.ensures c.args.cut.fault c.args.cut.rest (place_of g.W.Wire c.args.client.now)
+          (place_of g.W.Wire c.drop_under_way.new.client) _ c.say_tail.result drops.2 (rw c.tail_of.ensures at says.2),
     )
-
-pub returns-in-Err-clause-counted : goal.returns-in-Err-clause-counted
-returns-in-Err-clause-counted g c = at_most_one _ (g.W.Wire.history c.args.client.now.wire.now) (g.W.Wire.history c.drop_under_way.new.client.wire.now) c.in-Err.ensures.counted
-
-pub returns-in-Err-clause-silent : goal.returns-in-Err-clause-silent
-returns-in-Err-clause-silent g c = λ none nothing. absurd (failed c.in-Err.field-0 (c.in-Err.ensures.nothing none))
-
-pub returns-clause-counted : goal.returns-clause-counted
-returns-clause-counted g c = then_at_most_one (g.W.Wire.history c.args.client.now.wire.now) (g.W.Wire.history c.drop_under_way.new.client.wire.now) (g.W.Wire.history c.say_tail.new.client.wire.now) c.in_default.ensures.counted (at_most_one _ (g.W.Wire.history c.drop_under_way.new.client.wire.now) (g.W.Wire.history c.say_tail.new.client.wire.now) c.say_tail.ensures.counted)
 
 pub returns-clause-silent : goal.returns-clause-silent
 returns-clause-silent g c =

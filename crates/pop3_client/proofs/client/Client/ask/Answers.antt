@@ -11,7 +11,7 @@ returns-in-Err-clause-asks g c =
     let old = place_of g.W.Wire c.args.self.now in
     let new = place_of g.W.Wire c.say.new.self in
     in_words g.W.Wire c.in-Err.ensures.sent (λ said turn names other is.
-    broke_saying turn old new c.in-Err.fault (subst (λ (b : List ℕ). Sent b old.link (Err c.in-Err.fault) new.link) is said) c.in-Err.ensures.silent)
+    broke_saying turn old new c.in-Err.fault (rw is at said) c.in-Err.ensures.silent)
 
 pub returns-in-Err-hear-clause-asks : goal.returns-in-Err-hear-clause-asks
 returns-in-Err-hear-clause-asks g c =
@@ -29,4 +29,4 @@ returns-clause-asks g c =
     let waits = rw c.in_default.ensures.silent at (heard turn names) in
     let begun = opened turn old (g.W.Wire.history c.say.new.self.wire.now) here waits.0 n waits.4.0
     (sent_for turn old.link _ c.args.bytes.now said is) waits.1 waits.2 waits.3 waits.4.1 (fits_other turn waits.4.0 other) in
-    (take n here.waiting, subst (λ (rest : List ℕ). Opened turn (take n here.waiting) old (at here.link rest)) (sym c.skip.ensures) begun))
+    (take n here.waiting, rw c.skip.ensures begun))

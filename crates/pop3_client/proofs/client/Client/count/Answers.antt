@@ -4,21 +4,20 @@ use Rattle.pop3_wire.specs.declared.reply.Status.TheVariants.{Positive}
 use Rattle.pop3_wire.specs.Place.{at}
 use Rattle.pop3_client.specs.Client.{place_of}
 use Rattle.pop3_client.specs.Turns.{stat}
-use Rattle.pop3_client.specs.Conversation.{Opened, Sent, TellsFew}
+use Rattle.pop3_client.specs.Conversation.{Opened, Sent, GivesFew}
 use Rattle.pop3_client.proofs.ClientLemmas.{in_words, and_then}
 use Rattle.pop3_client.proofs.TalkLemmas.{stat_bytes, sent_for, opened, broke_saying, broke_there, few_heard, talked_line}
 use Rattle.pop3_client.proofs.client.Client.count.Goals as goal
 
 pub count_of-requires : goal.count_of-requires
-count_of-requires g c =
-    subst (λ (w : List ℕ). (rest : List ℕ) × IsFirstLine (take c.in-Ok.length w) Positive rest) (sym c.waiting.ensures.value) c.in-Ok.ensures.positive
+count_of-requires g c = rw c.waiting.ensures.value c.in-Ok.ensures.positive
 
 pub returns-in-Err-clause-counts : goal.returns-in-Err-clause-counts
 returns-in-Err-clause-counts g c =
     let old = place_of g.W.Wire c.args.self.now in
     let new = place_of g.W.Wire c.say.new.self in
     in_words g.W.Wire c.in-Err.ensures.sent (λ said.
-    broke_saying stat old new c.in-Err.fault (subst (λ (b : List ℕ). Sent b old.link (Err c.in-Err.fault) new.link) stat_bytes said) c.in-Err.ensures.silent)
+    broke_saying stat old new c.in-Err.fault (rw stat_bytes at said) c.in-Err.ensures.silent)
 
 pub returns-in-Err-hear-clause-counts : goal.returns-in-Err-hear-clause-counts
 returns-in-Err-hear-clause-counts g c =
@@ -31,12 +30,12 @@ returns-in-Ok-count_of-clause-counts g c =
     let n = c.in-Ok.length in
     let old = place_of g.W.Wire c.args.self.now in
     let here = place_of g.W.Wire c.hear.new.self in
-    let tells = subst (λ (w : List ℕ). TellsFew (take n w) (Ok c.in-Ok-count_of.count)) c.waiting.ensures.value c.in-Ok-count_of.ensures in
+    let tells = rw c.waiting.ensures.value at c.in-Ok-count_of.ensures in
     and_then g.W.Wire g.met.W.Wire.leads_on c.in_default.ensures.sent c.in-Ok.ensures.heard (λ said hears.
     let heard = rw c.in_default.ensures.silent at (hears stat refl) in
     let begun = opened stat old (g.W.Wire.history c.say.new.self.wire.now) here heard.0 n tells.0
     (sent_for stat old.link _ _ said stat_bytes) heard.1 heard.2 heard.3 tells.2 (λ is. (c.in-Ok-count_of.count, tells.1, tells.3, tells.4)) in
-    let there = subst (λ (rest : List ℕ). Opened stat (take n here.waiting) old (at here.link rest)) (sym c.skip.ensures) begun in (
+    let there = rw (← c.skip.ensures) at begun in (
       record { first = take n here.waiting; body = None },
       talked_line stat (take n here.waiting) old (at here.link c.skip.new.self) there refl,
       (tells.0, tells.1, tells.2, tells.3),
@@ -48,7 +47,7 @@ returns-in-Err-count_of-clause-counts g c =
     let old = place_of g.W.Wire c.args.self.now in
     let said_link = g.W.Wire.history c.say.new.self.wire.now in
     let here = place_of g.W.Wire c.hear.new.self in
-    let why = subst (λ (l : List ℕ). TellsFew (take n l) (Err c.in-Err-count_of.fault)) c.waiting.ensures.value c.in-Err-count_of.ensures in
+    let why = subst (λ (l : List ℕ). GivesFew (take n l) (Err c.in-Err-count_of.fault)) c.waiting.ensures.value c.in-Err-count_of.ensures in
     and_then g.W.Wire g.met.W.Wire.leads_on c.in_default.ensures.sent c.in-Ok.ensures.heard (λ said hears.
     let heard = rw c.in_default.ensures.silent at (hears stat refl) in
     broke_there stat old said_link here c.in-Err-count_of.fault (sent_for stat old.link _ _ said stat_bytes)

@@ -20,4 +20,4 @@ returns-clause-asks g c =
     in_words g.W.Wire c.in-Ok.ensures.heard (λ hears.
     let heard = hears greeting refl in
     let begun = opened greeting old old.link here heard.0 n heard.4.0 (nothing_said old.link) heard.1 heard.2 heard.3 heard.4.1 (fits_other greeting heard.4.0 refl) in
-    (take n here.waiting, subst (λ (rest : List ℕ). Opened greeting (take n here.waiting) old (at here.link rest)) (sym c.skip.ensures) begun))
+    (take n here.waiting, rw c.skip.ensures begun))

@@ -16,34 +16,20 @@ returns-in-Err-clause-heard g c = in_words g.W.Wire c.in-Err.ensures.waits (λ w
 
 pub returns-in-Ok-Positive-default-clause-heard : goal.returns-in-Ok-Positive-default-clause-heard
 returns-in-Ok-Positive-default-clause-heard g c =
-    let rest = c.in-Ok-Positive-default.field-0-1.now in
-    let first : IsFirstLine (take c.in-Ok.length c.next_line.new.self.reader) Positive rest =
-    subst (λ (w : List ℕ). IsFirstLine (take c.in-Ok.length w) Positive rest) c.waiting.ensures.value
-    (rw c.in-Ok-Positive-default.field-0-0-is at c.in-Ok-Positive-default.ensures.ok) in
-    in_words g.W.Wire c.in-Ok.ensures.waits (λ waits turn names. (waits.0.0, waits.0.1, waits.1.0, waits.1.1, (rest, first)))
+    let first = rw c.waiting.ensures.value at (rw c.in-Ok-Positive-default.field-0-0-is at c.in-Ok-Positive-default.ensures.ok) in
+    in_words g.W.Wire c.in-Ok.ensures.waits (λ waits turn names. (waits.0.0, waits.0.1, waits.1.0, waits.1.1, (c.in-Ok-Positive-default.field-0-1.now, first)))
 
 pub returns-in-Ok-Positive-default-clause-positive : goal.returns-in-Ok-Positive-default-clause-positive
-returns-in-Ok-Positive-default-clause-positive g c = (
-  c.in-Ok-Positive-default.field-0-1.now,
-  subst (λ (w : List ℕ). IsFirstLine (take c.in-Ok.length w) Positive c.in-Ok-Positive-default.field-0-1.now) c.waiting.ensures.value
-      (rw c.in-Ok-Positive-default.field-0-0-is at c.in-Ok-Positive-default.ensures.ok),
-)
+returns-in-Ok-Positive-default-clause-positive g c =
+    (c.in-Ok-Positive-default.field-0-1.now, rw c.waiting.ensures.value at (rw c.in-Ok-Positive-default.field-0-0-is at c.in-Ok-Positive-default.ensures.ok))
 
 pub returns-in-Ok-Negative-default-clause-heard : goal.returns-in-Ok-Negative-default-clause-heard
 returns-in-Ok-Negative-default-clause-heard g c =
-    let n = c.in-Ok.length in
-    let here = place_of g.W.Wire c.next_line.new.self in
-    let rest = c.in-Ok-Negative-default.field-0-1.now in
-    let first : IsFirstLine (take n here.waiting) Negative rest = subst (λ (l : List ℕ). IsFirstLine (take n l) Negative rest) c.waiting.ensures.value
-    (rw c.in-Ok-Negative-default.field-0-0-is at c.in-Ok-Negative-default.ensures.ok) in
-    in_words g.W.Wire c.in-Ok.ensures.waits (λ waits turn names.
-    subst (λ (l : List ℕ). Heard turn (place_of g.W.Wire c.args.self.now) (Err (Refused c.args.asked)) (at here.link l)) (sym c.skip.ensures)
-    (heard_refused turn _ here waits.0.0 n waits.0.1 waits.1.0 c.args.asked rest names first))
+    let first = rw c.waiting.ensures.value at (rw c.in-Ok-Negative-default.field-0-0-is at c.in-Ok-Negative-default.ensures.ok) in
+    in_words g.W.Wire c.in-Ok.ensures.waits (λ waits turn names. rw c.skip.ensures
+    (heard_refused turn _ (place_of g.W.Wire c.next_line.new.self) waits.0.0 c.in-Ok.length waits.0.1 waits.1.0 c.args.asked c.in-Ok-Negative-default.field-0-1.now names first))
 
 pub returns-in-Err-read_status-clause-heard : goal.returns-in-Err-read_status-clause-heard
 returns-in-Err-read_status-clause-heard g c =
-    let n = c.in-Ok.length in
-    let here = place_of g.W.Wire c.next_line.new.self in
-    let none : (status : Status) (rest : List ℕ) → IsFirstLine (take n here.waiting) status rest → ⊥ =
-    subst (λ (l : List ℕ). (status : Status) (rest : List ℕ) → IsFirstLine (take n l) status rest → ⊥) c.waiting.ensures.value c.in-Err-read_status.ensures.err.1 in
-    in_words g.W.Wire c.in-Ok.ensures.waits (λ waits turn names. heard_bad turn _ here waits.0.0 n waits.0.1 waits.1.0 none)
+    let none = rw c.waiting.ensures.value at c.in-Err-read_status.ensures.err.1 in
+    in_words g.W.Wire c.in-Ok.ensures.waits (λ waits turn names. heard_bad turn _ (place_of g.W.Wire c.next_line.new.self) waits.0.0 c.in-Ok.length waits.0.1 waits.1.0 none)

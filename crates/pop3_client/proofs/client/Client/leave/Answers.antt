@@ -8,7 +8,4 @@ use Rattle.pop3_client.proofs.client.Client.leave.Goals as goal
 
 pub returns-then-says_quit-clause-talks : goal.returns-then-says_quit-clause-talks
 returns-then-says_quit-clause-talks g c =
-    let old = place_of g.W.Wire c.args.self.now in
-    let new = place_of g.W.Wire c.quit.new.self in
-    in_words g.W.Wire c.quit.ensures.tells (λ tells.
-    subst (λ (turns : List Turn). Talks turns old c.quit.result new) (sym c.if-says_quit.ensures) (tells_talks quit old new c.quit.result tells))
+    in_words g.W.Wire c.quit.ensures.tells (λ tells. rw c.if-says_quit.ensures (tells_talks quit _ (place_of g.W.Wire c.quit.new.self) c.quit.result tells))

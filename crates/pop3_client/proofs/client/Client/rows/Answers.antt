@@ -4,7 +4,8 @@ use Rattle.std.proofs.lemmas.List.Elements.{All-nil, All-push}
 use Rattle.pop3_client.specs.declared.fault.Fault.{Fault}
 use Rattle.pop3_client.specs.declared.fault.Fault.TheVariants.{NoMemory}
 use Rattle.pop3_client.specs.Client.{place_of}
-use Rattle.pop3_client.specs.Turns.{IsRow, row_limit}
+use Rattle.mail_terms.specs.Listing.{message_limit}
+use Rattle.pop3_client.specs.Turns.{IsRow}
 use Rattle.pop3_client.specs.Listing.{RowsCause}
 use Rattle.pop3_client.proofs.ClientLemmas.{no_call, and_then}
 use Rattle.pop3_client.proofs.TalkLemmas.{line_short, line_waits}
@@ -29,7 +30,7 @@ returns-in-Err-clause-takes g c =
 
 pub returns-in-Err-read-clause-takes : goal.returns-in-Err-read-clause-takes
 returns-in-Err-read-clause-takes g c =
-    let few : c.len.result < row_limit = rw c.in-Ok-Some.field-0-is at c.in-Ok-Some.ensures.few in
+    let few : c.len.result < message_limit = rw c.in-Ok-Some.field-0-is at c.in-Ok-Some.ensures.few in
     let size : c.len.result ≡ length c.rows.rows.items = omega arith in
     let n = c.in-Ok-Some.length in
     and_then g.W.Wire g.met.W.Wire.leads_on c.rows.invariant.3 (rw c.in-Ok-Some.field-0-is at c.in-Ok-Some.ensures.next) (λ before next.
@@ -46,7 +47,7 @@ returns-in-Err-read-clause-takes g c =
 -- out of memory after a good row
 pub returns-in-Err-push-clause-takes : goal.returns-in-Err-push-clause-takes
 returns-in-Err-push-clause-takes g c =
-    let few : c.len.result < row_limit = rw c.in-Ok-Some.field-0-is at c.in-Ok-Some.ensures.few in
+    let few : c.len.result < message_limit = rw c.in-Ok-Some.field-0-is at c.in-Ok-Some.ensures.few in
     let size : c.len.result ≡ length c.rows.rows.items = omega arith in
     let n = c.in-Ok-Some.length in
     and_then g.W.Wire g.met.W.Wire.leads_on c.rows.invariant.3 (rw c.in-Ok-Some.field-0-is at c.in-Ok-Some.ensures.next) (λ before next.
@@ -58,7 +59,7 @@ returns-in-Err-push-clause-takes g c =
 
 pub rows-preserved : goal.rows-preserved
 rows-preserved g c =
-    let few : c.len.result < row_limit = rw c.in-Ok-Some.field-0-is at c.in-Ok-Some.ensures.few in
+    let few : c.len.result < message_limit = rw c.in-Ok-Some.field-0-is at c.in-Ok-Some.ensures.few in
     let size : c.len.result ≡ length c.rows.rows.items = omega arith in
     let n = c.in-Ok-Some.length in
     let here = place_of g.W.Wire c.next_row.new.self in (

@@ -1,7 +1,7 @@
 use Rattle.std.proofs.Common.{◌≡◌, ◌-◌, length}
 use Rattle.std.specs.Prelude.{All}
 use Rattle.pop3_client.specs.Client.{HasSameLink, WhereLinkSound}
-use Rattle.pop3_client.specs.Turns.{row_limit}
+use Rattle.mail_terms.specs.Listing.{message_limit}
 use Rattle.pop3_client.proofs.ListingLemmas.{TookRows}
 use Rattle.pop3_client.proofs.client.Client.rows.Given as goal
 
@@ -13,4 +13,4 @@ invariant-rows g l =
     × WhereLinkSound g.W.Wire l.fn.self l.self (λ old new. TookRows g.R.ListedRow.turn g.R.ListedRow.stands_for old new l.rows.items)
 
 abbrev pub decreases-rows : goal.decreases-rows
-decreases-rows g l = row_limit - length l.rows.items
+decreases-rows g l = message_limit - length l.rows.items
