@@ -6,7 +6,7 @@
    Its monotonic clock goes 60 times as fast, here; a poll, and a read or a write of a socket whose waits it has bounded,
    last the 60th part. Each bound adds a line to the file `note`: `poll`, `read` or `write` and the milliseconds that
    were asked for. `nodelay 1` says that what is written to a socket is to go out at once. With HURRY_REFUSED=read, or
-   =write, that bound of a socket answers -1 with EINVAL. */
+   =write, that bound of a socket answers -1 with EINVAL; with =idle, each bound of ten minutes or more. */
 
 #define _GNU_SOURCE
 #include <dlfcn.h>
@@ -79,11 +79,11 @@ int setsockopt(int socket, int level, int name, const void *value, socklen_t siz
         write_down("nodelay", *(const int *)value);
     if (level != SOL_SOCKET || (name != SO_RCVTIMEO && name != SO_SNDTIMEO) || size != sizeof wait)
         return next_setsockopt(socket, level, name, value, size);
-    if (refused && strcmp(refused, word) == 0) {
+    memcpy(&wait, value, sizeof wait);
+    if (refused && (strcmp(refused, word) == 0 || (strcmp(refused, "idle") == 0 && wait.tv_sec >= 600))) {
         errno = EINVAL;
         return -1;
     }
-    memcpy(&wait, value, sizeof wait);
     write_down(word, wait.tv_sec * 1000 + wait.tv_usec / 1000);
     wait.tv_usec = (wait.tv_sec % speed * 1000000 + wait.tv_usec) / speed;
     wait.tv_sec /= speed;

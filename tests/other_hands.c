@@ -13,6 +13,8 @@
    Before each fsync of the file of OTHER_SHRUNK that is longer than OTHER_LENGTH octets, it is cut to nothing, and the fsync
    answers -1 with EIO.
 
+   Just before the file of OTHER_GONE is opened so that octets can be put behind its own, it is removed.
+
    Of the calls for octets of random that of the number OTHER_RANDOM, from 1, answers -1 with ENOSYS. */
 
 #define _GNU_SOURCE
@@ -21,6 +23,7 @@
 #include <errno.h>
 #include <fcntl.h>
 #include <limits.h>
+#include <stdarg.h>
 #include <stdio.h>
 #include <stdlib.h>
 #include <string.h>
@@ -85,6 +88,20 @@ ssize_t getdents64(int folder, void *names, size_t size)
     answer = next(folder, names, size);
     change_briefly(folder);
     return answer;
+}
+
+int open(const char *path, int flags, ...)
+{
+    int (*next)(const char *, int, ...) = dlsym(RTLD_NEXT, "open");
+    va_list more;
+    mode_t mode;
+
+    va_start(more, flags);
+    mode = va_arg(more, mode_t);
+    va_end(more);
+    if (flags & O_APPEND && is_named(path, "OTHER_GONE") && unlink(path) && errno != ENOENT)
+        abort();
+    return next(path, flags, mode);
 }
 
 int fsync(int file)

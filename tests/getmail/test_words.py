@@ -24,6 +24,22 @@ message_log = ~/.getmail/log
 received = true
 """
 
+HELP = b"""
+Options:
+  -r, --rcfile <FILE>     Read the settings from FILE, in DIR unless it begins with / or ~/ [getmailrc]
+  -g, --getmaildir <DIR>  Keep the rc file and the record in DIR [~/.getmail]
+  -v, --verbose...        Report more, each time by one, up to 2
+  -q, --quiet...          Write no report
+      --trace...          Show the conversation and refused calls of the system on standard error
+  -a, --all...            Fetch all messages, also those that were delivered before
+  -n, --new...            Fetch only messages that were not delivered before
+  -d, --delete...         Delete from the server what was delivered, held or not
+  -l, --dont-delete...    Take delete as false; delete_after still deletes
+      --pretend...        Say what would be fetched and deleted, and do nothing
+      --rehearse...       Hold a session with standard input as the server, and store nothing
+  -h, --help              Print help
+"""
+
 
 class Words(unittest.TestCase):
     def test_other_words_are_mistakes(self):
@@ -37,14 +53,12 @@ class Words(unittest.TestCase):
                 self.assertEqual((run.status, run.out), (2, b""))
                 self.assertTrue(run.err.startswith(b"error: "), run.err)
 
-    def test_help_names_each_option(self):
+    def test_help_explains_each_option(self):
         for word in ("--help", "-h"):
             run = programs.run("getmail", word)
             self.assertEqual((run.status, run.err), (0, b""))
             self.assertTrue(run.out.startswith(b"Fetches mail from a POP3 server into a Maildir or an mboxrd file;"), run.out)
-            for option in (b"--rcfile <FILE>", b"--getmaildir <DIR>", b"--verbose", b"--quiet", b"--all", b"--new",
-                           b"--delete", b"--dont-delete", b"--pretend", b"--rehearse"):
-                self.assertIn(option, run.out)
+            self.assertIn(HELP, run.out)
 
     def test_help_that_cannot_be_shown_is_a_failure(self):
         with open("/dev/full", "wb") as full:

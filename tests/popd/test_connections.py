@@ -223,6 +223,14 @@ class Waits(OverLoopback):
                 self.assertEqual(client.ask(b"QUIT"), b"+OK bye\r\n")
             self.check_next_client(service, b"")
 
+    def test_a_client_that_cannot_be_given_its_time(self):
+        """The bound of a login is lifted only once that of ten minutes stands: it has three minutes then, and no more."""
+        with self.service(HURRY_REFUSED="idle") as service:
+            took = self.keep_talking(service, b"USER u\r\nPASS p\r\nDELE 1\r\n")
+            self.assertGreater(took, 0.8)
+            self.assertLess(took, programs.SECONDS / 2)
+            self.check_next_client(service, b"popd: read failed\n", b"popd: write failed\n")
+
     def test_waits_that_cannot_be_bounded(self):
         """A connection that might wait for ever is not served."""
         for word, got in (("read", READY), ("write", b"")):

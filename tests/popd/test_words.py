@@ -12,6 +12,20 @@ from popd.service import Maildir
 
 WRONG_COUNT = programs.Run(2, b"", b"popd: wrong number of arguments\n")
 READY = b"+OK popd ready\r\n"
+HELP = b"""
+Arguments:
+  [USER]      The name of the user who may log in
+  [PASSFILE]  The file whose first line is the password
+  [MAILDIR]   The Maildir to serve
+
+Options:
+      --listen <ADDRESS>  Serve TCP connections to ADDRESS, HOST:PORT, one after the other [standard input and output]
+      --connections <N>   End after N connections [4294967295]
+      --rehearse...       Serve two small messages to user u with password p on standard input and output
+      --verbose...        Report logins, refused logins and removals on standard error
+      --trace...          Show conversations and refused calls of the system on standard error
+  -h, --help              Print help
+"""
 
 
 def told(line):
@@ -33,10 +47,7 @@ class Words(unittest.TestCase):
                 run = self.run_popd(*words)
                 self.assertEqual((run.status, run.err), (0, b""))
                 self.assertIn(b"\nUsage: popd [OPTIONS] USER PASSFILE MAILDIR\n       popd --rehearse\n", run.out)
-                for word in (b"--listen", b"--connections", b"--rehearse", b"--verbose", b"USER]", b"PASSFILE]", b"MAILDIR]"):
-                    lines = [line for line in run.out.splitlines() if line.strip(b" []<").startswith(word)]
-                    self.assertEqual(len(lines), 1, run.out)
-                    self.assertGreater(len(lines[0].split(b"  ")[-1].split()), 3, "it has no line of help")
+                self.assertIn(HELP, run.out)
 
     def test_help_that_cannot_be_written(self):
         with open("/dev/full", "wb") as full:

@@ -1,4 +1,5 @@
-"""A file that another program cuts to nothing while an entry is appended to it: it isn't made longer again."""
+"""A file that another program cuts to nothing, or takes away, while something is appended to it: it isn't made longer
+again, nor made anew."""
 
 import unittest
 
@@ -27,3 +28,17 @@ class ShrunkFiles(unittest.TestCase):
         self.assertEqual(run.status, 1)
         self.assertIn(b"destination refused", run.err)
         self.assertEqual(file.read_bytes(), b"")
+
+    def test_an_append_makes_no_file(self):
+        """One that is gone by then stays so: another one in its place would hold what is appended and nothing else."""
+        for how, count in (("append", 1), ("pages", 100)):
+            with self.subTest(how):
+                work = folder_for(self)
+                file = work / "mbox"
+                file.write_bytes(OLD)
+                (work / "mbox.text").write_bytes(b"a text\n")
+                run = programs.run("store_bench", how, str(file), str(count), LD_PRELOAD=str(self.library),
+                                   OTHER_GONE=str(file))
+                self.assertEqual((run.status, run.out), (1, b""))
+                self.assertIn(b"destination refused", run.err)
+                self.assertEqual(sorted(path.name for path in work.iterdir()), ["mbox.text"])
