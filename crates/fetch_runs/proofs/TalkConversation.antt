@@ -331,7 +331,7 @@ module _ (joining : TurnsJoin) (paced : ConversationsArePaced) (law : FrontsAreA
       replies = opened.welcome ++ opened.counted ∷ opened.named ∷ opened.sized ∷ []
 
       few : length is.items ≤ 100000
-      few = few_items opened.counted is.enters.0 is.enters.1 is.enters.2 is.items (replied name word opened.welcome opened.counted opened.named opened.sized opened.talked.good).good.1.1.1.0 opened.tells is.enters.4
+      few = few_items opened.counted is.enters.0 is.enters.1 is.enters.2 is.items (replied name word opened.welcome opened.counted opened.named opened.sized opened.talked.good).good.1.1.1.0 opened.gives is.enters.4
 
       by : Dealing settings target is.items now before.store before.file [] notes.lines c is.mid result link'
       by = dealing joining paced settings target is.items now is.mid before.store before.file [] few result new after.store after.file notes.lines notes.skipped link' is.carries leaves

@@ -70,9 +70,9 @@ rest_same line rest other p q = p.2 ∙ ap without_space (append_cancel_left (in
 
 pub few_items : (counted : WholeReply) (count : ℕ) (uids : List UidRow) (sizes : List ScanRow) (items : List Item) → IsGood stat counted → GivesCount counted count → Joins count uids sizes items
     → length items ≤ 100000
-few_items counted count uids sizes items good tells joins =
+few_items counted count uids sizes items good gives joins =
     let fits = good.fits refl in
-    let both = sym fits.2 ∙ ap number_and_size (rest_same counted.first good.rest tells.0 good.positive tells.2) ∙ tells.3 in
+    let both = sym fits.2 ∙ ap number_and_size (rest_same counted.first good.rest gives.0 good.positive gives.2) ∙ gives.3 in
     let same : fits.0 ≡ count = grind (arith, both) in
     let all : length items ≡ count = joins.count in
     let within : fits.0 ≤ 100000 = fits.3 in
@@ -82,7 +82,7 @@ few_items counted count uids sizes items good tells joins =
 pub listed : (name word : List ℕ) (old new : Place) (count : ℕ) (uids : List UidRow) (sizes : List ScanRow) (items : List Item) → (opened : Opened name word old new count uids sizes)
     → Joins count uids sizes items → IsListed opened.counted opened.named opened.sized items
 listed name word old new count uids sizes items opened joins =
-    record { count = count; uids = uids; sizes = sizes; counts = opened.tells; named = opened.names; sized = opened.octets; joined = joins }
+    record { count = count; uids = uids; sizes = sizes; counts = opened.gives; named = opened.names; sized = opened.octets; joined = joins }
 
 -- ---- What a session with a joined listing sent and read, as the law over runs takes it.
 

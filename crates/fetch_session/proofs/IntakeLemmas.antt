@@ -128,7 +128,7 @@ module _ (paced : ConversationsArePaced) where
   took_broke turn old new why broke = took_talks (turn ∷ []) old new (Err why) (stopped_first turn [] old new why broke)
 
   pub took_completing : (turn : Turn) (old new : Place) (result : Result (Unit {0}) Fault) → Completes turn old result new → Took (most_of (turn ∷ [])) old new
-  took_completing turn old new (Ok done) tells = took_talked (turn ∷ []) _ old new tells.1
+  took_completing turn old new (Ok done) completes = took_talked (turn ∷ []) _ old new completes.1
   took_completing turn old new (Err why) broke = took_broke turn old new why broke
 
   pub took_entering : (name password : List ℕ) (old new : Place) (result : Result (List Item) Fault) → Enters name password old result new → Took opening_limit old new

@@ -19,26 +19,26 @@ module _ (name password : List ℕ) (a b c d : Place) (welcome : List WholeReply
 
   all_opened : (counted : WholeReply) (count : ℕ) (uids : List UidRow) (sizes : List ScanRow) → Talked (stat ∷ []) (counted ∷ []) b c → GivesCount counted count → Listed c d uids sizes
       → Opened name password a d count uids sizes
-  all_opened counted count uids sizes talked tells listed = record {
+  all_opened counted count uids sizes talked gives listed = record {
     welcome = welcome;
     counted = counted;
     named = listed.first;
     sized = listed.second;
     talked = talked_on (login name password) (stat ∷ uidl ∷ list ∷ []) welcome (counted ∷ listed.first ∷ listed.second ∷ []) a b d entered
         (talked_on (stat ∷ []) (uidl ∷ list ∷ []) (counted ∷ []) (listed.first ∷ listed.second ∷ []) b c d talked listed.talked);
-    tells = tells;
+    gives = gives;
     names = listed.names;
     octets = listed.octets;
   }
 
   pub listed_too : (counted : WholeReply) (count : ℕ) (result : Result (List Item) Fault) → Talked (stat ∷ []) (counted ∷ []) b c → GivesCount counted count → GetsListing count c result d
       → Enters name password a result d
-  listed_too counted count (Ok items) talked tells (uids, sizes, listed, joins) = (count, uids, sizes, all_opened counted count uids sizes talked tells listed, joins)
-  listed_too counted count (Err fault) talked tells (inl stopped) =
+  listed_too counted count (Ok items) talked gives (uids, sizes, listed, joins) = (count, uids, sizes, all_opened counted count uids sizes talked gives listed, joins)
+  listed_too counted count (Err fault) talked gives (inl stopped) =
       inl (stopped_behind (login name password) (stat ∷ uidl ∷ list ∷ []) welcome a b d fault entered
       (stopped_behind (stat ∷ []) (uidl ∷ list ∷ []) (counted ∷ []) b c d fault talked stopped))
-  listed_too counted count (Err fault) talked tells (inr (inl (is, (uids, sizes, listed, never)))) = inr (inl (is, (count, uids, sizes, all_opened counted count uids sizes talked tells listed, never)))
-  listed_too counted count (Err fault) talked tells (inr (inr (is, (uids, sizes, listed)))) = inr (inr (is, (count, uids, sizes, all_opened counted count uids sizes talked tells listed)))
+  listed_too counted count (Err fault) talked gives (inr (inl (is, (uids, sizes, listed, never)))) = inr (inl (is, (count, uids, sizes, all_opened counted count uids sizes talked gives listed, never)))
+  listed_too counted count (Err fault) talked gives (inr (inr (is, (uids, sizes, listed)))) = inr (inr (is, (count, uids, sizes, all_opened counted count uids sizes talked gives listed)))
 
 -- logging in stopped
 pub not_entered : (name password : List ℕ) (a b : Place) (fault : Fault) → Stopped (login name password) a b fault → Enters name password a (Err fault) b

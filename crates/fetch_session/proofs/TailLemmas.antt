@@ -9,7 +9,7 @@ use Rattle.pop3_client.specs.Texts.{Fetching, TakesRest}
 use Rattle.pop3_client.specs.Conversation.{Talks, ConversationsArePaced}
 use Rattle.pop3_client.specs.declared.fault.Fault.{Fault}
 use Rattle.fetch_session.specs.Tail.{turns_in, tail, Drops, LeftBy}
-use Rattle.pop3_client.proofs.TalkLemmas.{tells_then, stopped_first}
+use Rattle.pop3_client.proofs.TalkLemmas.{completes_then, stopped_first}
 
 -- ---- what was said and got goes on from a reply under way
 
@@ -75,7 +75,7 @@ module _ (paced : ConversationsArePaced) where
         let got = got_under number start old mid rest text (Ok tt) drops now in
         let p = paced (turns_in (tail fault)) mid new r talks in (
           r,
-          tells_then (retr number) (turns_in (tail fault)) start mid new told.0 r told.1 talks,
+          completes_then (retr number) (turns_in (tail fault)) start mid new told.0 r told.1 talks,
           record {
             said = asking p.done ++ p.part;
             gained = got.0 ++ p.gained;

@@ -21,7 +21,7 @@ pub record Opened (name password : List ℕ) (old new : Place) (count : ℕ) (ui
   pub named : WholeReply
   pub sized : WholeReply
   pub talked : Talked (opening name password) (welcome ++ counted ∷ named ∷ sized ∷ []) old new
-  pub tells : GivesCount counted count
+  pub gives : GivesCount counted count
   pub names : HasListing IsUidLine named uids
   pub octets : HasListing IsScanLine sized sizes
 

@@ -276,17 +276,17 @@ pub begins_of : (turn : Turn) (line : List ℕ) (old mid : Place) (after : List 
 begins_of turn line old mid after begun = record { line = line; rest = begun.rest; is = begun.is; short = begun.short; whole = refl; positive = begun.positive }
 
 -- a turn with a reply of one line was completed, or it broke
-pub asks_tells : (turn : Turn) (old new : Place) (result : Result (Unit {0}) Fault) → gives_body turn ≡ false → AsksTurn turn old result new → Completes turn old result new
-asks_tells turn old new (Ok done) none asks = (record { first = asks.0; body = None }, talked_line turn asks.0 old new asks.1 none)
-asks_tells turn old new (Err fault) none asks = asks
+pub asks_completes : (turn : Turn) (old new : Place) (result : Result (Unit {0}) Fault) → gives_body turn ≡ false → AsksTurn turn old result new → Completes turn old result new
+asks_completes turn old new (Ok done) none asks = (record { first = asks.0; body = None }, talked_line turn asks.0 old new asks.1 none)
+asks_completes turn old new (Err fault) none asks = asks
 
 -- one turn is a conversation
-pub tells_talks : (turn : Turn) (old new : Place) (result : Result (Unit {0}) Fault) → Completes turn old result new → Talks (turn ∷ []) old result new
-tells_talks turn old new (Ok done) tells = (tells.0 ∷ [], tells.1)
-tells_talks turn old new (Err fault) tells = stopped_first turn [] old new fault tells
+pub completes_talks : (turn : Turn) (old new : Place) (result : Result (Unit {0}) Fault) → Completes turn old result new → Talks (turn ∷ []) old result new
+completes_talks turn old new (Ok done) completes = (completes.0 ∷ [], completes.1)
+completes_talks turn old new (Err fault) completes = stopped_first turn [] old new fault completes
 
 -- a turn before a conversation
-pub tells_then : (turn : Turn) (turns : List Turn) (old mid new : Place) (reply : WholeReply) (result : Result (Unit {0}) Fault)
+pub completes_then : (turn : Turn) (turns : List Turn) (old mid new : Place) (reply : WholeReply) (result : Result (Unit {0}) Fault)
     → Talked (turn ∷ []) (reply ∷ []) old mid → Talks turns mid result new → Talks (turn ∷ turns) old result new
-tells_then turn turns old mid new reply (Ok done) first then = (reply ∷ then.0, talked_on (turn ∷ []) turns (reply ∷ []) then.0 old mid new first then.1)
-tells_then turn turns old mid new reply (Err fault) first then = stopped_behind (turn ∷ []) turns (reply ∷ []) old mid new fault first then
+completes_then turn turns old mid new reply (Ok done) first then = (reply ∷ then.0, talked_on (turn ∷ []) turns (reply ∷ []) then.0 old mid new first then.1)
+completes_then turn turns old mid new reply (Err fault) first then = stopped_behind (turn ∷ []) turns (reply ∷ []) old mid new fault first then

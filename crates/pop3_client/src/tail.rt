@@ -26,7 +26,7 @@ impl<'a, W: Wire> Client<'a, W> {
         ensures link { HasSameLink self.old self.new }
         ensures counted { CountsRefusals W.Wire self.old result self.new }
         ensures own { IfErr result IsOfConversation }
-        ensures tells { WhereLinkSound W.Wire self.old self.new (λ old new. Completes rset old result new) }
+        ensures completes { WhereLinkSound W.Wire self.old self.new (λ old new. Completes rset old result new) }
     {
         self.ask(Asked::Quit, b"RSET\r\n")
     }

@@ -162,7 +162,7 @@ impl<'a, W: Wire> Client<'a, W> {
         ensures link { HasSameLink self.old self.new }
         ensures counted { CountsRefusals W.Wire self.old result self.new }
         ensures own { IfErr result IsOfConversation }
-        ensures tells { WhereLinkSound W.Wire self.old self.new (λ old new. Completes (dele number) old result new) }
+        ensures completes { WhereLinkSound W.Wire self.old self.new (λ old new. Completes (dele number) old result new) }
     {
         let Ok(line) = command_bytes(alloc, &Command::Dele(number)) else {
             return Err(Fault::NoMemory);
@@ -175,7 +175,7 @@ impl<'a, W: Wire> Client<'a, W> {
         ensures link { HasSameLink self.old self.new }
         ensures counted { CountsRefusals W.Wire self.old result self.new }
         ensures own { IfErr result IsOfConversation }
-        ensures tells { WhereLinkSound W.Wire self.old self.new (λ old new. Completes quit old result new) }
+        ensures completes { WhereLinkSound W.Wire self.old self.new (λ old new. Completes quit old result new) }
     {
         self.ask(Asked::Quit, b"QUIT\r\n")
     }

@@ -131,10 +131,10 @@ rest_same line rest other p q = p.2 ∙ ap without_space (append_cancel_left (in
 
 count_same : OneLine → (drop : List Message) (marks next : List Bool) (stat : WholeReply) (count : ℕ) → IsGood Stat stat → Grants drop marks Stat (reply_bytes stat) next → GivesCount stat count
     → count ≡ count_by not marks
-count_same one drop marks next stat count good g tells =
+count_same one drop marks next stat count good g gives =
     let line : g.2.line ≡ stat.first = (one g.2.line stat.first [] (body_bytes stat.body) g.2.is_line good.line (append-nil (ended g.2.line) ∙ sym g.2.whole)).0 in
-    let rest : tells.0 ≡ g.0 = rest_same stat.first tells.0 g.0 tells.2 (subst (λ l. IsFirstLine l Positive g.0) line g.2.first) in
-    (same_row count (count_by not marks) tells.1 g.1 (sym tells.3 ∙ ap number_and_size rest ∙ g.3)).0
+    let rest : gives.0 ≡ g.0 = rest_same stat.first gives.0 g.0 gives.2 (subst (λ l. IsFirstLine l Positive g.0) line g.2.first) in
+    (same_row count (count_by not marks) gives.1 g.1 (sym gives.3 ∙ ap number_and_size rest ∙ g.3)).0
 
 nobody : Message
 nobody = record { uid = []; size = 0; text = [] }

@@ -55,38 +55,38 @@ returns-in-Err-do_steps-clause-carries g c = λ w d f.
 
 pub returns-in-Ok-quit-clause-carries : goal.returns-in-Ok-quit-clause-carries
 returns-in-Ok-quit-clause-carries g c = λ w d f.
-    let tells = c.in-Ok-quit.ensures.tells w in
-    let done = c.in_default.ensures.does tells.0 d f in
+    let completes = c.in-Ok-quit.ensures.completes w in
+    let done = c.in_default.ensures.does completes.0 d f in
     let ready = c.in-Ok.ensures.readies done.1 done.2 in (
       done.0,
       ready.0,
       ready.1,
-      g.met.W.Wire.leads_on _ _ _ done.3 tells.1,
+      g.met.W.Wire.leads_on _ _ _ done.3 completes.1,
       (
         c.do_steps.new.work.ledger.seen.rows,
         (carried g.D.MaildirDisk g.F.FlatFile c.prepare.new.store c.deref-2.result.now c.deref-3.result.now ready.2 c.deref-2.ensures.value c.deref-3.ensures.value
-            (c.skipped_in.ensures ∙ ap skipped_in c.deref.ensures.value) (λ sure. (c.in-Ok.ensures.lasts done.1 sure.0).1) (c.do_steps.ensures.keeps tells.0 d f)
-            (good_quit tells.2.0 (place_of g.W.Wire c.quit.new.self) (in_kind c.prepare.new.store c.args.work.now.store c.args.terms.account.now c.prepare.ensures.kind done.4
-            (λ sure. (c.in-Ok.ensures.file_lasts done.2 sure.1, (c.in-Ok.ensures.lasts done.1 sure.0).0))) tells.2.1)),
+            (c.skipped_in.ensures ∙ ap skipped_in c.deref.ensures.value) (λ sure. (c.in-Ok.ensures.lasts done.1 sure.0).1) (c.do_steps.ensures.keeps completes.0 d f)
+            (good_quit completes.2.0 (place_of g.W.Wire c.quit.new.self) (in_kind c.prepare.new.store c.args.work.now.store c.args.terms.account.now c.prepare.ensures.kind done.4
+            (λ sure. (c.in-Ok.ensures.file_lasts done.2 sure.1, (c.in-Ok.ensures.lasts done.1 sure.0).0))) completes.2.1)),
       ),
     )
 
 pub returns-clause-carries : goal.returns-clause-carries
 returns-clause-carries g c = λ w d f.
-    let tells = c.in-Err-quit.ensures.tells w in
-    let done = c.in_default.ensures.does tells.0 d f in
+    let completes = c.in-Err-quit.ensures.completes w in
+    let done = c.in_default.ensures.does completes.0 d f in
     let ready = c.in-Ok.ensures.readies done.1 done.2 in (
       done.0,
       ready.0,
       ready.1,
-      g.met.W.Wire.leads_on _ _ _ done.3 tells.1,
+      g.met.W.Wire.leads_on _ _ _ done.3 completes.1,
       (
         c.do_steps.new.work.ledger.seen.rows,
         inr (carried g.D.MaildirDisk g.F.FlatFile c.prepare.new.store c.deref-2.result.now c.deref-3.result.now ready.2 c.deref-2.ensures.value c.deref-3.ensures.value
-            (c.skipped_in.ensures ∙ ap skipped_in c.deref.ensures.value) (λ sure. (c.in-Ok.ensures.lasts done.1 sure.0).1) (c.do_steps.ensures.keeps tells.0 d f)
+            (c.skipped_in.ensures ∙ ap skipped_in c.deref.ensures.value) (λ sure. (c.in-Ok.ensures.lasts done.1 sure.0).1) (c.do_steps.ensures.keeps completes.0 d f)
             (good_broke (place_of g.W.Wire c.quit.new.self) c.in-Err-quit.fault c.plain-in-Err-quit.result
             (in_kind c.prepare.new.store c.args.work.now.store c.args.terms.account.now c.prepare.ensures.kind done.4
-            (λ sure. (c.in-Ok.ensures.file_lasts done.2 sure.1, (c.in-Ok.ensures.lasts done.1 sure.0).0))) c.plain-in-Err-quit.ensures tells.2)),
+            (λ sure. (c.in-Ok.ensures.file_lasts done.2 sure.1, (c.in-Ok.ensures.lasts done.1 sure.0).0))) c.plain-in-Err-quit.ensures completes.2)),
       ),
     )
 
@@ -102,21 +102,21 @@ returns-in-Err-do_steps-clause-took g c = λ w.
 
 pub returns-in-Ok-quit-clause-took : goal.returns-in-Ok-quit-clause-took
 returns-in-Ok-quit-clause-took g c = λ w.
-    let tells = c.in-Ok-quit.ensures.tells w in
-    let done = c.in_default.ensures.took tells.0 in
-    (done.0, took_less (took_on done.1 (took_completing c.conversations_are_paced.ensures quit _ _ (Ok tt) tells.2)) (omega arith))
+    let completes = c.in-Ok-quit.ensures.completes w in
+    let done = c.in_default.ensures.took completes.0 in
+    (done.0, took_less (took_on done.1 (took_completing c.conversations_are_paced.ensures quit _ _ (Ok tt) completes.2)) (omega arith))
 
 pub returns-clause-took : goal.returns-clause-took
 returns-clause-took g c = λ w.
-    let tells = c.in-Err-quit.ensures.tells w in
-    let done = c.in_default.ensures.took tells.0 in
+    let completes = c.in-Err-quit.ensures.completes w in
+    let done = c.in_default.ensures.took completes.0 in
     let most = length c.args.listing.now * step_limit in
     let mid = place_of g.W.Wire c.do_steps.new.client in
     let new = place_of g.W.Wire c.quit.new.self in
     let cut = c.plain-in-Err-quit.result in (
       done.0,
       with_tail_on (most + tail_limit) most line_limit (place_of g.W.Wire c.args.client.now) mid new (Err cut) (omega arith) done.1
-          (quit_broke c.conversations_are_paced.ensures mid new c.in-Err-quit.fault cut tells.2 c.plain-in-Err-quit.ensures),
+          (quit_broke c.conversations_are_paced.ensures mid new c.in-Err-quit.fault cut completes.2 c.plain-in-Err-quit.ensures),
     )
 
 -- ---- refused calls of the link

@@ -1,7 +1,7 @@
 use Rattle.std.proofs.Common.{Err}
 use Rattle.pop3_client.specs.Client.{place_of}
 use Rattle.pop3_client.specs.Turns.{quit}
-use Rattle.pop3_client.proofs.TalkLemmas.{tells_talks}
+use Rattle.pop3_client.proofs.TalkLemmas.{completes_talks}
 use Rattle.fetch_session.specs.Session.{keeping}
 use Rattle.fetch_session.specs.Target.{stores_of, target_of}
 use Rattle.fetch_session.proofs.PretendLemmas.{not_ended}
@@ -9,17 +9,17 @@ use Rattle.fetch_session.proofs.preview.survey.Goals as goal
 
 pub returns-clause-surveys : goal.returns-clause-surveys
 returns-clause-surveys g c = λ w d f.
-    let tells = c.in-Err-quit.ensures.tells w in
-    let entered = c.in-Ok.ensures.enters tells.0 in
+    let completes = c.in-Err-quit.ensures.completes w in
+    let entered = c.in-Ok.ensures.enters completes.0 in
     let ahead = c.in-Ok-foresee.ensures.foresees d f in
     let mid = place_of g.W.Wire c.enter.new.client in
     let new = place_of g.W.Wire c.quit.new.self in (
       entered.0,
       ahead.0,
       ahead.1,
-      g.met.W.Wire.leads_on _ _ _ entered.1 tells.1,
+      g.met.W.Wire.leads_on _ _ _ entered.1 completes.1,
       not_ended c.args.terms.settings.now (target_of c.args.work.now.store c.args.terms.account.now) c.args.terms.now (place_of g.W.Wire c.args.client.now)
           (keeping (stores_of g.D.MaildirDisk g.F.FlatFile c.args.work.now.store) (g.F.FlatFile.stored c.args.work.now.ledger.file)) c.in-Ok.listing mid new
           (keeping (stores_of g.D.MaildirDisk g.F.FlatFile c.foresee.new.store) (g.F.FlatFile.stored c.foresee.new.file)) c.in-Ok-foresee.foreseen c.len-preview.result c.in-Err-quit.fault c.plain-in-Err-quit.result
-          entered.2 ahead.2 c.len-preview.ensures.count (tells_talks quit mid new (Err c.in-Err-quit.fault) tells.2) c.plain-in-Err-quit.ensures,
+          entered.2 ahead.2 c.len-preview.ensures.count (completes_talks quit mid new (Err c.in-Err-quit.fault) completes.2) c.plain-in-Err-quit.ensures,
     )

@@ -30,15 +30,15 @@ returns-in-Ok-count_of-clause-counts g c =
     let n = c.in-Ok.length in
     let old = place_of g.W.Wire c.args.self.now in
     let here = place_of g.W.Wire c.hear.new.self in
-    let tells = rw c.waiting.ensures.value at c.in-Ok-count_of.ensures in
+    let gives = rw c.waiting.ensures.value at c.in-Ok-count_of.ensures in
     and_then g.W.Wire g.met.W.Wire.leads_on c.in_default.ensures.sent c.in-Ok.ensures.heard (λ said hears.
     let heard = rw c.in_default.ensures.silent at (hears stat refl) in
-    let begun = opened stat old (g.W.Wire.history c.say.new.self.wire.now) here heard.0 n tells.0
-    (sent_for stat old.link _ _ said stat_bytes) heard.1 heard.2 heard.3 tells.2 (λ is. (c.in-Ok-count_of.count, tells.1, tells.3, tells.4)) in
+    let begun = opened stat old (g.W.Wire.history c.say.new.self.wire.now) here heard.0 n gives.0
+    (sent_for stat old.link _ _ said stat_bytes) heard.1 heard.2 heard.3 gives.2 (λ is. (c.in-Ok-count_of.count, gives.1, gives.3, gives.4)) in
     let there = rw (← c.skip.ensures) at begun in (
       record { first = take n here.waiting; body = None },
       talked_line stat (take n here.waiting) old (at here.link c.skip.new.self) there refl,
-      (tells.0, tells.1, tells.2, tells.3),
+      (gives.0, gives.1, gives.2, gives.3),
     ))
 
 pub returns-in-Err-count_of-clause-counts : goal.returns-in-Err-count_of-clause-counts

@@ -5,12 +5,12 @@ use Rattle.pop3_client.proofs.ClientLemmas.{no_call, and_then}
 use Rattle.pop3_client.proofs.TextLemmas.{dropped}
 use Rattle.pop3_client.proofs.client.Client.drop_rest.Goals as goal
 
-pub returns-then-has_ended-clause-tells : goal.returns-then-has_ended-clause-tells
-returns-then-has_ended-clause-tells g c = no_call g.W.Wire g.met.W.Wire.leads_same
+pub returns-then-has_ended-clause-completes : goal.returns-then-has_ended-clause-completes
+returns-then-has_ended-clause-completes g c = no_call g.W.Wire g.met.W.Wire.leads_same
     (λ number start text now. dropped number start _ c.args.body.now text now (c.if-has_ended.ensures.0 refl))
 
-pub returns-in-Err-clause-tells : goal.returns-in-Err-clause-tells
-returns-in-Err-clause-tells g c = and_then g.W.Wire g.met.W.Wire.leads_on c.pieces.invariant.3 c.in-Err.ensures.takes (λ before took number start text now.
+pub returns-in-Err-clause-completes : goal.returns-in-Err-clause-completes
+returns-in-Err-clause-completes g c = and_then g.W.Wire g.met.W.Wire.leads_on c.pieces.invariant.3 c.in-Err.ensures.takes (λ before took number start text now.
     let mid = before number start text now in took number start mid.0 mid.1)
 
 pub pieces-preserved : goal.pieces-preserved
@@ -22,7 +22,7 @@ pieces-preserved g c = (
       let mid = before number start text now in (_, (took number start mid.0 mid.1).0)),
 )
 
-pub returns-then-piece-clause-tells : goal.returns-then-piece-clause-tells
-returns-then-piece-clause-tells g c = and_then g.W.Wire g.met.W.Wire.leads_on c.pieces.invariant.3 c.in-Ok.ensures.takes (λ before took number start text now.
+pub returns-then-piece-clause-completes : goal.returns-then-piece-clause-completes
+returns-then-piece-clause-completes g c = and_then g.W.Wire g.met.W.Wire.leads_on c.pieces.invariant.3 c.in-Ok.ensures.takes (λ before took number start text now.
     let mid = before number start text now in
     dropped number start (place_of g.W.Wire c.next_piece.new.self) c.next_piece.new.body _ (took number start mid.0 mid.1).0 (c.in-Ok.ensures.ended.0 c.if-piece.true))

@@ -2,12 +2,12 @@ use Rattle.std.proofs.Common.{◌∷◌, []}
 use Rattle.pop3_client.specs.Client.{place_of}
 use Rattle.pop3_client.specs.Turns.{rset, quit}
 use Rattle.pop3_client.proofs.ClientLemmas.{in_words, and_then}
-use Rattle.pop3_client.proofs.TalkLemmas.{stopped_first, tells_talks, tells_then}
+use Rattle.pop3_client.proofs.TalkLemmas.{stopped_first, completes_talks, completes_then}
 use Rattle.pop3_client.proofs.client.Client.reset_and_quit.Goals as goal
 
 pub returns-in-Err-clause-talks : goal.returns-in-Err-clause-talks
-returns-in-Err-clause-talks g c = in_words g.W.Wire c.in-Err.ensures.tells (λ tells. stopped_first rset (quit ∷ []) _ _ c.in-Err.fault tells)
+returns-in-Err-clause-talks g c = in_words g.W.Wire c.in-Err.ensures.completes (λ completes. stopped_first rset (quit ∷ []) _ _ c.in-Err.fault completes)
 
 pub returns-clause-talks : goal.returns-clause-talks
-returns-clause-talks g c = and_then g.W.Wire g.met.W.Wire.leads_on c.in_default.ensures.tells c.quit.ensures.tells (λ first second.
-    tells_then rset (quit ∷ []) _ (place_of g.W.Wire c.reset.new.self) _ first.0 c.quit.result first.1 (tells_talks quit _ _ c.quit.result second))
+returns-clause-talks g c = and_then g.W.Wire g.met.W.Wire.leads_on c.in_default.ensures.completes c.quit.ensures.completes (λ first second.
+    completes_then rset (quit ∷ []) _ (place_of g.W.Wire c.reset.new.self) _ first.0 c.quit.result first.1 (completes_talks quit _ _ c.quit.result second))
