@@ -9,17 +9,18 @@ from getmail.account import Account
 from harness import programs
 from harness.kernel import LOOPBACK
 
-FEW, MANY = 10_000, 50_000
+FEW, MANY = 5_000, 100_000
 
-# The work for five times as many rows: about five times as much, or 25 times if each row costs as much as there are rows.
-MOST_TIMES = 10
+# The work for twenty times as many rows: about twenty times as much, or 400 times if each row costs as much as there are
+# rows. A busy machine, and the processor's caches, may add to it.
+MOST_TIMES = 100
 
 # Less work than this isn't compared: it is that of starting the program.
-LEAST_SECONDS = 0.02
+LEAST_SECONDS = 0.01
 
 # The octets of a text, and the lines of an rc file that is as long as one may be.
-SHORT, LONG = 4_000_000, 20_000_000
-FEW_LINES, MANY_LINES = 2_000, 10_000
+SHORT, LONG = 2_000_000, 40_000_000
+FEW_LINES, MANY_LINES = 500, 10_000
 
 
 def listings(count):

@@ -6,10 +6,11 @@ import unittest
 
 from harness import programs
 
-FEW, MANY = 20_000, 100_000
+FEW, MANY = 5_000, 100_000
 
-# Five times as many messages cost about five times as much, or 25 times if each costs as much as there are messages.
-MOST_TIMES = 12
+# Twenty times as many messages cost twenty times as much, some more than that once they fill the processor's caches, or
+# 400 times if each costs as much as there are messages.
+MOST_TIMES = 100
 
 # Fewer microseconds than this aren't compared.
 LEAST = 2_000
