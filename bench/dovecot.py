@@ -1,4 +1,4 @@
-"""Dovecot as a POP3 server of one Maildir, to be measured beside `popd`, where it is installed and this is root."""
+"""Dovecot as a POP3 server of one Maildir, to be measured beside `popd`, if it is installed and this runs as root."""
 
 import os
 import subprocess
@@ -29,7 +29,7 @@ class Dovecot:
         return self
 
     def __exit__(self, *_):
-        """Ends dovecot and all its processes, and tells what processor time they took, in seconds."""
+        """Ends dovecot and all its processes, and answers what processor time they took, in seconds."""
         self.process.terminate()
         _, _, usage = os.wait4(self.process.pid, 0)
         self.process.returncode = 0

@@ -5,8 +5,8 @@
 
    STORE is a Maildir, or an mboxrd file if it is no folder: a text is then read whole, and before its
    entry is appended, in one write, a line with the file's size is appended to the record. Names are as
-   long as getmail's. Replies are read in pieces of 4,096 octets, or of so many as the
-   last word says. Nothing is checked of them but their first octet. */
+   long as getmail's. Replies are read in pieces of 4,096 octets, or of as many as the last word
+   says. Only their first octet is checked. */
 #include <arpa/inet.h>
 #include <fcntl.h>
 #include <netinet/in.h>

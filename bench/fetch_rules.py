@@ -6,8 +6,8 @@ knows half of the messages: microseconds of the processor, the least of some run
 each grows at most 13 times, as n log n does, and all of them together take less than half a second at 100,000. Then
 `read` of a record of 1,000,000 rows, whose time a row is to be at most twice that of 100,000.
 
-The C library is told to keep memory (`KEEPING`): else it has a few rows' from what was freed before, but asks the system
-for that of many rows anew, page by page, and the pages' cost is measured in place of the calls'.
+The C library is set to keep freed memory (`KEEPING`): otherwise a few rows fit into what was freed before, but for many
+rows it asks the system again, page by page, and the pages' cost is measured in place of the calls'.
 """
 
 import os

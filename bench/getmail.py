@@ -4,11 +4,11 @@
 `popd` serves 2,000 messages of 2 KB, 20 of 5 MB and one of 100 MB; `getmail` fetches them, and so does a plain program
 in C (fetch.c) that sends the same commands and makes the same reads, writes, flushes and renames. For both: messages and
 octets a second, processor time, and the peak of memory, each the best of some turns taken one after the other. To be
-reached: at most 1.5 of the plain program's processor time, and 8 MiB of memory for messages of any size; into an mboxrd file
-2.2 times the largest message beside that.
+reached: at most 1.5 of the plain program's processor time, and 8 MiB of memory for messages of any size; into an mboxrd
+file 2.2 times the largest message in addition.
 
-Then a poll, where 20,000 messages are known and nothing is new: those that the record alone knows, and those that
-stand in the Maildir too. To be reached: 30 ms of processor time, and no faster growth than n log n from 5,000 on.
+Then polls of 20,000 known messages, none of them new: known by the record alone, or also held in the Maildir. To be
+reached: 30 ms of processor time, and no faster growth than n log n from 5,000 on.
 """
 
 import filecmp
@@ -45,13 +45,13 @@ SHAPES = (("2,000 of 2 KB", 2000, 2_000), ("20 of 5 MB", 20, 5_000_000), ("one o
 
 
 def fresh_maildir(path):
-    """An empty Maildir in place of what stands there."""
+    """An empty Maildir in place of what is there."""
     shutil.rmtree(path, ignore_errors=True)
     return make_maildir(path)
 
 
 def make_served(folder, count, octets):
-    """A Maildir of `count` messages of about so many octets each, and a password beside it."""
+    """A Maildir of `count` messages of about `octets` octets each, and a password beside it."""
     maildir = fresh_maildir(folder / "served")
     (folder / "password").write_bytes(b"p\n")
     for number in range(count):
@@ -139,7 +139,7 @@ def fetch_with_plain(folder, port, plain, store):
 
 
 def measure_shape(folder, plain, store, name, count, octets):
-    """Fetches so many messages of a size by both programs, in turns, and answers whether the marks were reached."""
+    """Fetches `count` messages of a size by both programs, in turns, and answers whether the marks were reached."""
     make_served(folder, count, octets)
     ours, theirs = [], []
     with Service(folder) as service:
@@ -158,7 +158,7 @@ def measure_shape(folder, plain, store, name, count, octets):
 
 
 def speed_of(costs, count, octets):
-    """The speed of the fastest turn: of many messages how many a second, else how many octets."""
+    """The speed of the fastest turn: messages a second if there are many, else octets a second."""
     seconds = min(cost.seconds for cost in costs)
     return f"{count / seconds:,.0f} a second" if count >= MANY_MESSAGES else f"{octets / seconds / 1e6:,.0f} MB/s"
 
@@ -168,7 +168,7 @@ def uid_of(number):
 
 
 class Listings:
-    """A server that lists `count` messages, with replies made before, to one client after the other."""
+    """A server that lists `count` messages, with prepared replies, to one client after the other."""
 
     def __init__(self, count):
         numbers = range(1, count + 1)
@@ -192,7 +192,7 @@ class Listings:
 
 
 def account_knowing(folder, server, count, is_held):
-    """An account that knows so many messages of the server, by its record or by its Maildir too; the words of a run."""
+    """An account that knows `count` messages of the server, by its record or by its Maildir too; the words of a run."""
     words = account_at(folder, server.port)
     digest = hashlib.sha256(f"{LOOPBACK}\0{server.port}\0u".encode()).hexdigest()
     rows = b"".join(b"%s 1700000000 1\n" % uid_of(number) for number in range(1, count + 1))
@@ -203,7 +203,7 @@ def account_knowing(folder, server, count, is_held):
 
 
 def poll(folder, count, is_held):
-    """The least processor time and the greatest peak of a poll with so many messages known."""
+    """The least processor time and the greatest peak of a poll with `count` messages known."""
     words = account_knowing(folder, Listings(count), count, is_held)
     costs = [measure.cost_of(words, wait=measure.watch) for _ in range(TURNS)]
     return min(cost.processor for cost in costs), max(cost.memory for cost in costs)

@@ -1,7 +1,7 @@
 #!/usr/bin/env python3
 """Measures `held` and `deliver` of mail_store on Maildirs of the file system.
 
-`held` is asked over 2,000 files and 2,000 items and over 20,000 of each; its time must grow no
+`held` is called over 2,000 files and 2,000 items and over 20,000 of each; its time must grow no
 faster than n log n. `deliver` puts 2,000 texts of 2 KB beside a plain loop in C (deliver.c).
 Each figure is the least of several runs.
 

@@ -1,8 +1,8 @@
 #!/usr/bin/env python3
 """Measures quoting and reading of mboxrd files of 64 MiB beside `sed` over the same octets.
 
-`sed` puts a `>` in front of the lines that quoting marks, and takes it away and drops the lines `From ` where entries are
-read. It writes what comes of it; the program keeps it in memory. Prints ratios of the time of the processor and of memory.
+`sed` puts a `>` before the lines that quoting marks; for reading it removes it and drops the `From ` lines. It writes
+the result; the program keeps it in memory. Prints ratios of processor time and of memory.
 
 Usage: bench/mboxrd.py [FOLDER]; the files are made in FOLDER.
 """
@@ -20,7 +20,7 @@ SIZE = 64 * MEBIBYTE
 RUNS = 5
 # The peaks of all runs.
 memory = []
-# The lines of a text and how often they stand in it, and the same as they stand in an entry.
+# A part that is repeated to make a text, and the same part as it is in an entry.
 LONG = b"x" * 69 + b"\n"
 LINES = {
     "lines of 70 octets": (LONG, LONG),
@@ -31,13 +31,13 @@ LINES = {
 
 
 def least(words, given):
-    """The least time of the processor of several runs, and the greatest peak of memory."""
+    """The least processor time of several runs, and the greatest peak of memory."""
     costs = [cost_of(words, given) for _ in range(RUNS)]
     return min(cost.processor for cost in costs), max(cost.memory for cost in costs)
 
 
 def cells_of(ours, theirs):
-    """The cells of a row for one of the two: the time, and of `sed`'s. The greatest memory is told at the end."""
+    """The cells of a row for one of the two: the time, and its ratio to `sed`'s. Keeps the memory peak for the end."""
     memory.append(ours[1])
     return f"{ours[0] * 1000:.0f} ms", f"{ours[0] / theirs[0]:.2f}"
 

@@ -28,7 +28,7 @@ class Cost:
 
 
 def built(path, target):
-    """The file of a program; the benchmark ends where it isn't there."""
+    """The file of a program; the benchmark ends if it isn't there."""
     if not path.is_file():
         sys.exit(f"{path} is not there: run `{target}`")
     return str(path)
@@ -48,7 +48,7 @@ def wait_for(child):
     """Waits for the end of a child: its status, what it used, and the peak of its memory in octets.
 
     The peak is the kernel's for the child alone. It is never below this process's own size, which the child has until
-    the program stands in its place; so what is measured has to be larger than that.
+    it executes the program; so what is measured has to be larger than that.
     """
     _, status, usage = os.wait4(child, 0)
     return status, usage, usage.ru_maxrss * 1024
@@ -79,7 +79,7 @@ def cost_of(words, given=os.devnull, wait=wait_for):
 
 
 def print_row(*cells):
-    """Prints a row of a table, as it stands in bench/README.md."""
+    """Prints a row of a table, as in bench/README.md."""
     print("| " + " | ".join(map(str, cells)) + " |", flush=True)
 
 

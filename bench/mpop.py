@@ -1,9 +1,9 @@
 #!/usr/bin/env python3
-"""Benchmark of `getmail` beside mpop, where that is installed, in one run and in turns, mpop with pipelining off.
+"""Benchmark of `getmail` beside mpop, if that is installed, in one run and in turns, mpop with pipelining off.
 
-Polls where 20,000 and 100,000 messages are known and nothing is new: those that the record alone knows, and those that
-stand in the Maildir too (mpop looks into no Maildir). To be reached: at most mpop's processor time and 1.3 of its memory, and
-a growth from 20,000 to 100,000 that is linear within a tenth.
+Polls of 20,000 and 100,000 known messages, none of them new: known by the record alone, or also held in the Maildir
+(mpop looks into no Maildir). To be reached: at most mpop's processor time and 1.3 of its memory, and a growth from
+20,000 to 100,000 that is linear within a tenth.
 
 Then what both remember of 20,000 messages with ids of 16 octets, once `getmail` has fetched them and looked once more. To be
 reached: at most 36 octets a message.

@@ -1,11 +1,12 @@
 #!/usr/bin/env python3
-"""What fetchers do when a session breaks off: `getmail` of this repository, and getmail6, mpop and fetchmail where installed.
+"""What fetchers do when a session breaks off: `getmail`, and getmail6, mpop and fetchmail if they are installed.
 
-Each fetches three messages over loopback from a server that breaks off behind one octet of its replies, and then once more
-from the same server, uncut; so for every STEP-th octet (7, or the first word) and each full stop,
-keeping the mail on the server and deleting it. In other rounds the server doesn't end the connection there, but the program is
-killed. Told is in how many rounds a message was missing for good afterwards, stood there more than once or in part, or had gone
-from the server before it was held, and in how many the program didn't end by itself within SECONDS. More words name the fetchers.
+Each fetches three messages over loopback from a server that breaks off after one octet of its replies, and then once
+more from the same server, uncut; so for every STEP-th octet (7, or the first word) and each full stop, keeping the mail
+on the server and deleting it. In other rounds the server doesn't end the connection there, but the program is killed.
+Prints in how many rounds a message was missing for good afterwards, was there more than once or in part, or had gone
+from the server before it was held, and in how many the program didn't end by itself within SECONDS. More words name the
+fetchers.
 """
 
 import os
@@ -38,7 +39,7 @@ MPOP = ["mpop", "--file=/dev/null", "--user=u", "--passwordeval=echo p", "--tls=
 
 
 class Server(servers.Server):
-    """The server of the tests, with refusals of what it doesn't know, the rows of single messages, and a place to stop at."""
+    """The server of the tests, which also refuses unknown commands, gives single messages' rows, and can be stopped."""
 
     def __init__(self):
         super().__init__([(uid.encode(), text) for uid, text in TEXTS.items()])
@@ -69,7 +70,7 @@ class Server(servers.Server):
 
 
 class Fetcher:
-    """One program in a home folder of its own, which is a plain user's."""
+    """One program in a home folder of its own, which a plain user owns."""
 
     def __init__(self, name, port, delete):
         self.home = home = Path(tempfile.mkdtemp())
@@ -112,7 +113,7 @@ class Fetcher:
             return stopped is not None
 
     def held(self):
-        """How often each text stands whole in the Maildir, and how many files hold none of them whole."""
+        """How often each text is whole in the Maildir, and how many files hold none of them whole."""
         whole, torn = Counter(), 0
         for path in [*(self.home / "Maildir/new").iterdir(), *(self.home / "Maildir/cur").iterdir()]:
             content = path.read_bytes().replace(b"\r\n", b"\n")
@@ -123,7 +124,7 @@ class Fetcher:
 
 
 def round_of(name, delete, octets, killed):
-    """What stands after a session that broke off behind so many octets, and one that didn't."""
+    """What went wrong in a session that broke off after `octets` octets, and one that didn't."""
     server = Server()
     server.stops = killed
     fetcher = Fetcher(name, server.port, delete)
@@ -144,7 +145,7 @@ def round_of(name, delete, octets, killed):
 
 
 def places_of(name, delete, step):
-    """Every step-th octet of an uncut session's replies, and each full stop; none where it doesn't fetch the messages."""
+    """Every step-th octet of an uncut session's replies, and each full stop; none if it doesn't fetch the messages."""
     server = Server()
     fetcher = Fetcher(name, server.port, delete)
     thread = server.begin_session()

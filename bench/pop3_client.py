@@ -4,7 +4,7 @@
 A text of 64 MiB taken piece by piece, in three shapes, beside `tr -d '\\r'` over the same bytes: octets a second of both
 and their ratio, the best of some turns taken one after the other, the ratio of their processor times, and the peak of
 memory. To be reached: half the speed of `tr`, and memory that doesn't grow with the text. Then listings of 20,000 and of
-80,000 rows: the time of each, and by how much a row of the longer one costs more; to be reached: at most twice.
+80,000 rows: the time of each, and how much more a row of the longer one costs; to be reached: at most twice.
 """
 
 import tempfile
@@ -41,7 +41,7 @@ def measure_text(name, piece, folder):
 
 
 def measure_listing(rows, folder):
-    """Measures the listings of so many empty messages, without their texts' time, and answers the seconds."""
+    """Measures the listings of `rows` empty messages, without their texts' time, and answers the seconds."""
     conversation = Path(folder) / "conversation"
     numbers = range(1, rows + 1)
     with open(conversation, "wb") as server:

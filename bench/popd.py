@@ -6,8 +6,8 @@ write replies made before. For both: messages and octets a second and their rati
 after the other; for `popd` the peak of memory too. To be reached: faster than that server on small messages, and
 at most 8 MiB of memory for messages of any size.
 
-Beside dovecot, where that is installed: logins, listings, TOP and RETR over the same files. With valgrind, where that is
-installed: how many instructions refused passwords take that differ from the right one in other places.
+Beside dovecot, if that is installed: logins, listings, TOP and RETR over the same files. With valgrind, if that is
+installed: how many instructions refused passwords take that differ from the right one in different places.
 """
 
 import os
@@ -46,7 +46,7 @@ class Fetch:
 
 
 class Client:
-    """A POP3 client that takes a reply as it comes and looks for nothing but its end."""
+    """A POP3 client that takes a reply as it comes and looks only for its end."""
 
     def __init__(self, port):
         self.socket = socket.create_connection((LOOPBACK, port), timeout=SECONDS)
@@ -64,7 +64,7 @@ class Client:
         return count
 
     def ask(self, command, end=b"\r\n"):
-        """Sends a command and reads its reply, which is refused by none of these servers."""
+        """Sends a command, which none of these servers refuses, and reads its reply."""
         self.socket.sendall(command)
         return self.reply(end)
 
@@ -127,7 +127,7 @@ def wait_until(holds):
 
 
 def make_maildir(folder, count, octets):
-    """A Maildir of `count` messages of about so many octets each."""
+    """A Maildir of `count` messages of about `octets` octets each."""
     maildir = Path(folder) / f"Maildir-{count}"
     for part in ("tmp", "new", "cur"):
         (maildir / part).mkdir(parents=True)
@@ -240,7 +240,7 @@ def print_visits(name, server, first, later, processor, count):
 def measure_beside_dovecot(folder, name, count, octets):
     """The same visits to `popd` and to dovecot, over the same files; their ratios."""
     maildir = make_maildir(folder, count, octets)
-    # Both servers look through a folder again that was changed just now.
+    # Both servers look again through a folder that was changed just now.
     time.sleep(SETTLED_SECONDS)
     with Popd(maildir) as ours:
         our_visits = [visit(ours.port, count) for _ in range(VISITS)]

@@ -5,7 +5,7 @@ One message of 64 MiB: many short lines, one long line, lines that all begin wit
 of 5 MB. For each, in one run: octets a second of both programs and their ratio, the best of some turns taken one after the
 other, the ratio of their processor times, which other work on the machine moves less, and the peak of memory as a multiple
 of the texts, which the Maildir in memory keeps. To be reached: half the speed of `tr`, and memory of four times the texts, or
-32 MiB where that is more.
+32 MiB if that is more.
 """
 
 import tempfile
@@ -26,7 +26,7 @@ SESSIONS = (("2,000 of 2 KB", 2000, 2_000), ("20 of 5 MB", 20, 5_000_000))
 
 
 def write_conversation(path, piece):
-    """Writes what a server says that gives one message made of `piece`, and answers the message's length there."""
+    """Writes what a server says to give one message made of `piece`, and answers the message's length there."""
     block = piece * (measure.MEBIBYTE // len(piece))
     blocks = MESSAGE // len(block)
     with open(path, "wb") as conversation:
@@ -39,7 +39,7 @@ def write_conversation(path, piece):
 
 
 def write_messages(path, messages, length):
-    """Writes what a server says that gives so many messages of short lines, and answers how many octets that is."""
+    """Writes what a server says to give `messages` messages of short lines, and answers how many octets that is."""
     line = SHAPES[0][1]
     text = line * (length // len(line))
     numbers = range(1, messages + 1)

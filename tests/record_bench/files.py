@@ -27,7 +27,7 @@ class Builder:
         self.lines.append(b"%b %b %b" % (uid, second, state))
 
     def may_name(self):
-        """The ids that a group's row may name; now and then those too that it may not name again in version 1."""
+        """The ids that a group's row may name; now and then also those that it may not name again in version 1."""
         if self.version == 2 or self.source.randrange(8) == 0:
             return IDS
         return [uid for uid in IDS if self.rows.get(uid, (b"", b"0"))[1] == b"0"]
@@ -67,7 +67,7 @@ def odd_word(source):
 
 
 def with_changed_line(source, lines):
-    """The lines with one left out, doubled, moved, or put there from another file; or one field changed."""
+    """The lines with one left out, doubled, moved, or inserted from another file; or one field changed."""
     place = source.randrange(len(lines))
     line = lines[place]
     kind = source.randrange(6)
@@ -88,7 +88,7 @@ def with_changed_line(source, lines):
 
 
 def with_changed_octet(source, data):
-    """The file with an octet put in, left out or changed, seldom one of its header."""
+    """The file with an octet inserted, left out or changed, seldom one of its header."""
     place = source.randrange(min(len(data), source.choice((0, 15, 15, 15))), len(data) + 1)
     octet = bytes([source.choice(OCTETS) if source.randrange(4) else source.randrange(255)])
     return data[:place] + source.choice((b"", octet)) + data[place + source.randrange(2):]
@@ -113,12 +113,12 @@ def random_file(source):
 
 
 def row_of(number, octets=20):
-    """A row of so many octets, whose id is this number with zeros before it."""
+    """A row of `octets` octets, whose id is this number with leading zeros."""
     return b"%0*d 5 0\n" % (octets - len(b" 5 0\n"), number)
 
 
 def large_file(size, appended):
-    """A good file of so many octets, at least 24 of them in groups and intents after its first rows."""
+    """A good file of `size` octets, `appended` of them, at least 24, in groups and intents after its first rows."""
     header = b"getmail-seen 2\n"
     count, more = divmod(size - len(header) - appended, 20)
     first_rows = [row_of(number) for number in range(count)]

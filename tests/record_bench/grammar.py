@@ -2,14 +2,14 @@
 
     file    = header *row *(group / intent)
     header  = "getmail-seen " version LF        version is 1 or 2
-    row     = id SP second SP ("0" / "1") LF    1 where the message was delivered
+    row     = id SP second SP ("0" / "1") LF    1 if the message was delivered
     group   = "+ " N LF, and then N rows        N is 1 to 100000
     intent  = "! " id SP start SP length LF     in version 2
 
 An id has 1 to 70 octets from `!` to `~`, and numbers are decimals of 64 bits without leading zeros. The first rows have
 distinct ids. A row of a group has a new id, or repeats one with the same second, now delivered; in version 1 only one
 that wasn't delivered before. The id of an intent has a row. A whole group ends the intent, and only then may another
-one be opened. What an append that was cut can leave counts for nothing: a last line without its LF, and a last group
+one be opened. What an append cut short can leave counts for nothing: a last line without its LF, and a last group
 that lacks rows, whose rows have to be good nevertheless. No bytes at all are the empty record.
 
 A file is to be written anew before anything is appended to it if it is of version 1, has such an end or an open intent,
@@ -115,7 +115,7 @@ def grown(version, rows, group, number):
 
 
 def record_of(data):
-    """The record that these bytes stand for; a Fault is raised where they stand for none."""
+    """The record that these bytes stand for; raises a Fault if they stand for none."""
     if not data:
         return Record({}, None, False)
     header = data[:data.find(b"\n") + 1]

@@ -1,4 +1,4 @@
-"""Files of records, read by the program of the record's benchmark and by a model in Python: both have to say the same.
+"""Files of records, read by the program of the record's benchmark and by a model in Python: both must agree.
 
 `RECORD_FILES=100000 python3 tests/run.py -k random_records` reads more of the random ones than the gate does.
 """
@@ -18,7 +18,7 @@ END = b"\xff"
 
 
 def told(data):
-    """What the program has to say of these bytes."""
+    """What the program must answer for these bytes."""
     try:
         record = grammar.record_of(data)
     except grammar.Fault as fault:
@@ -27,7 +27,7 @@ def told(data):
 
 
 def answers(records):
-    """What the program says of each of these files."""
+    """What the program answers for each of these files."""
     with tempfile.NamedTemporaryFile() as file:
         file.write(END.join(records))
         file.flush()
@@ -38,7 +38,7 @@ def answers(records):
 
 class Records(unittest.TestCase):
     def check(self, records):
-        """Compares the two, and answers how often each first line was said."""
+        """Compares the two, and answers how often each first line occurred."""
         found = answers(records)
         self.assertEqual(len(found), len(records))
         kinds = collections.Counter()

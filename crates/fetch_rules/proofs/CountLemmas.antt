@@ -37,7 +37,7 @@ without_short uid (id ∷ ids) there = elim (cases_Bool (bytes_eq uid id)) [
     behind true miss e = absurd (true≢false miss)
     behind false miss e = e
 
--- ids that are apart and stand among others are no more than those
+-- ids that are apart and occur among others are no more than those
 pub no_more : (ids others : List (List ℕ)) → AreApart ids → ((uid : List ℕ) → has_id ids uid ≡ true → has_id others uid ≡ true) → length ids ≤ length others
 no_more [] others apart among = omega arith
 no_more (id ∷ ids) others apart among =

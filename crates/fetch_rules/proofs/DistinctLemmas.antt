@@ -1,4 +1,4 @@
--- In a listing in which no id stands twice each message is the first with its id, and the last.
+-- If no id occurs twice in a listing, each message is the first with its id, and the last.
 use Rattle.std.proofs.Common.{◌≡◌, ◌≢◌, ℕ, suc, ◌<◌, ◌+◌, ◌-◌, List, [], ◌∷◌, Bool, true, false, ◌&&◌, length, get_or, take, drop, map, replicate, refl, sym, ◌∙◌, ap, subst, arith}
 use Rattle.std.specs.Prelude.{bytes_eq, filter, All}
 use Rattle.std.proofs.lemmas.Bool.{not_from_false}

@@ -74,7 +74,7 @@ ended version n (Stands progress) rest rows intent e = elim (cases_Bool (has_lin
       (sym same.0, record { progress = progress; is = refl; rows_are = sym same.1; intent_is = sym same.2; free = none.0; nothing = none.1 })
 ]
 
--- more lines and a torn piece behind a file with no torn end
+-- more lines and a torn piece after a file with no torn end
 by_lines_of : (bytes : List ℕ) (rows : List Row) (intent : Option Intent) → bytes ≢ [] → Means bytes (Rows Two rows intent false) → ByLines bytes (Rows Two rows intent false)
 by_lines_of bytes rows intent some (inl none) = absurd (some none.0)
 by_lines_of bytes rows intent some (inr (inl wrong)) = absurd (rows_no_fault wrong.2)
@@ -177,7 +177,7 @@ appended_counts bytes added old new before after some means (inr opens) =
     (subst (λ (i : Option Intent). Means (bytes ++ intent_line opens.intent) (Rows Two old i false)) (sym opens.opened)
     (intent_counts bytes old opens.intent (has_ended bytes old None some (subst (λ (i : Option Intent). Means bytes (Rows Two old i false)) opens.closed means)) opens.is_one opens.row)))
 
--- a front of bytes up to a first LF and behind it
+-- a front of bytes that ends before the first LF, or after it
 split_at_feed : (body tail front behind : List ℕ) → HasNo 10 body → front ++ behind ≡ body ++ 10 ∷ tail
     → HasNo 10 front ⊎ ((more : List ℕ) × (front ≡ body ++ 10 ∷ more) × (more ++ behind ≡ tail))
 split_at_feed body tail [] behind plain e = inl tt

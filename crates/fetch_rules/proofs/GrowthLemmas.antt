@@ -18,13 +18,13 @@ use Rattle.fetch_rules.proofs.BaseLemmas.{fresh}
 use Rattle.fetch_rules.proofs.CountLemmas.{merge_is_short}
 use Rattle.fetch_rules.proofs.RowLemmas.{unmarked, apart, no_row}
 
--- a record's first rows are those of an older one, where some were delivered since
+-- a record's first rows are those of an older one, some of them delivered since
 abbrev pub GrewFrom : List Row → List Row → Type 0
 GrewFrom [] new = Unit {0}
 GrewFrom (row ∷ old) [] = ⊥
 GrewFrom (row ∷ old) (next ∷ new) = (next.uid ≡ row.uid) × (next.first_seen ≡ row.first_seen) × (row.delivered ≡ true → next.delivered ≡ true) × GrewFrom old new
 
--- rows where some are delivered now
+-- rows, some of them delivered now
 abbrev pub delivered_by : (Row → Bool) → List Row → List Row
 delivered_by f rows = map (λ row. with_delivered (f row) row) rows
 
@@ -53,7 +53,7 @@ leads_new rows (row ∷ new) is =
     (subst (Leads (rows ++ row ∷ []) new) (append_assoc rows (row ∷ []) new)
     (leads_new (rows ++ row ∷ []) new (subst IsRecord (sym (append_assoc rows (row ∷ []) new)) is)))
 
--- the rows behind others
+-- the rows after others
 behind_rows : (front rows : List Row) → IsRecord (front ++ rows) → IsRecord rows
 behind_rows [] rows is = is
 behind_rows (row ∷ front) rows is = behind_rows front rows (rest_of row (front ++ rows) is)
@@ -143,7 +143,7 @@ updates old new is grew short = by (changed old new) short (leads [] old new is 
     by [] short' leads' each = inl (refl, sym leads'.ends, refl)
     by (row ∷ rows) short' leads' each = inr (row ∷ rows, record { each = All-from_recursion IsRow (row ∷ rows) each; count = (omega arith, short'); follows = leads'.follows }, refl, sym leads'.ends, refl)
 
--- one row more, as a loop goes over the rows
+-- one more row, as a loop goes over the rows
 changed-nil : (rows : List Row) → changed rows [] ≡ []
 changed-nil [] = refl
 changed-nil (row ∷ rows) = refl
@@ -177,7 +177,7 @@ changed-adds (suc count) f (first ∷ front) row either =
     by true xs = refl
     by false xs = refl
 
--- the lines of one row more
+-- the lines with one more row
 pub lines_more : (before : List ℕ) (rows : List Row) (i : ℕ) (row : Row) → i < length rows → get_or rows i row ≡ row
     → (before ++ flat_map line_of (take i rows)) ++ line_of row ≡ before ++ flat_map line_of (take (i + 1) rows)
 lines_more before rows i row inside at =

@@ -1,4 +1,4 @@
--- An open intent is one, and its id has a row.
+-- An open intent has a legal id and numbers of 64 bits, and its id has a row.
 use Rattle.std.proofs.Common.{◌≡◌, ℕ, zero, suc, ◌+◌, ◌-◌, List, [], ◌∷◌, ◌++◌, Bool, true, false, ◌||◌, cond, length, refl, sym, ◌∙◌, ap, subst, inl, inr}
 use Rattle.std.specs.Prelude.{Option, Some, None}
 use Rattle.std.specs.List.{AllByRecursion}
@@ -87,7 +87,7 @@ legal_of (row ∷ rows) uid each has = elim (or_cases (is_of uid row) (has_row r
   | inr later ↦ legal_of rows uid each.1 later
 ]
 
--- where the id has no row, its intent isn't open
+-- if the id has no row, its intent isn't open
 pub none_without_row : (rows : List Row) (uid : List ℕ) (intent : Option Intent) → IntentHasRow rows intent → IsNoneOrOf uid intent → has_row rows uid ≡ false → intent ≡ None
 none_without_row rows uid None held one none = refl
 none_without_row rows uid (Some intent) held one none = absurd (true≢false (sym held.1 ∙ ap (has_row rows) one ∙ none))

@@ -1,4 +1,4 @@
--- Lines behind lines, and what tells meanings and steps of a reader apart.
+-- Lines after lines, and what tells meanings and steps of a reader apart.
 use Rattle.std.proofs.Common.{◌≡◌, ℕ, ◌+◌, List, [], ◌∷◌, ◌++◌, length, refl, sym, ◌∙◌, ap, arith, Bool, Option}
 use Rattle.fetch_rules.specs.RecordFile.{Version, Line}
 use Rattle.fetch_rules.specs.RecordMeaning.{Judged, judged, after_line, Stands, Fails, Progress, Rows, Fault}

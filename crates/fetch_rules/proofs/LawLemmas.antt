@@ -1,4 +1,4 @@
--- What a merge and a mark record as delivered, and of which ids there are rows afterwards.
+-- What a merge and a mark record as delivered, and which ids have rows afterwards.
 use Rattle.std.proofs.Common.{◌≡◌, ℕ, List, [], ◌∷◌, Bool, true, false, not, ◌&&◌, ◌||◌, map, refl, sym, ◌∙◌, ap}
 use Rattle.std.specs.Prelude.{bytes_eq}
 use Rattle.std.specs.List.{list_any, filter}
@@ -16,7 +16,7 @@ any-map : {X Y : Type 0} (p : Y → Bool) (f : X → Y) (xs : List X) → list_a
 any-map p f [] = refl
 any-map p f (x ∷ xs) = ap (λ (b : Bool). p (f x) || b) (any-map p f xs)
 
--- ---- rows of which some are marked
+-- ---- rows, some of them marked
 
 mark_one : (d t D R X : Bool) → X ≡ (D || (R && t)) → ((d || t) || X) ≡ ((d || D) || t)
 mark_one true t D R X p = refl

@@ -14,7 +14,7 @@ use Rattle.fetch_rules.specs.RecordFile.{state_of, line_of, group_line, intent_l
 use Rattle.fetch_rules.proofs.IdLemmas.{id_characters}
 use Rattle.fetch_rules.proofs.NumeralLemmas.{none_below-decimal}
 
--- the byte stands nowhere
+-- the byte doesn't occur
 abbrev pub HasNo : ℕ → List ℕ → Type 0
 HasNo byte bytes = AllByRecursion (λ other. other ≢ byte) bytes
 

@@ -23,7 +23,7 @@ nobody = record { uid = []; size = 0 }
 abbrev pub stands_for : List ℕ → Item × Bool → Bool
 stands_for uid flagged = flagged.1 && bytes_eq flagged.0.uid uid
 
--- the rows, with delivered set for the ids of these items where they are held
+-- the rows, with delivered set for the ids of those of these items that are held
 abbrev pub with_flagged : List (Item × Bool) → List Row → List Row
 with_flagged flagged rows = map (λ row. with_delivered (list_any (stands_for row.uid) flagged) row) rows
 

@@ -26,7 +26,7 @@ has_id-distinct_ids uid (id ∷ ids) = elim (cases_id uid id) [
       ∙ has_id-distinct_ids uid ids)
 ]
 
--- one more id, which stood there before or didn't
+-- one more id, which was there before or wasn't
 pub distinct_ids-push_new : (ids : List (List ℕ)) (uid : List ℕ) → has_id ids uid ≡ false → distinct_ids (ids ++ uid ∷ []) ≡ distinct_ids ids ++ uid ∷ []
 distinct_ids-push_new [] uid new = refl
 distinct_ids-push_new (id ∷ ids) uid new =
@@ -103,7 +103,7 @@ pub AreNew-row : (rows : List Row) (listing : List Item) (now i : ℕ) (added : 
 AreNew-row rows listing now i added uid are at inside has =
     are ∙ ap (map (undelivered now)) (sym (ap (new_of rows) (ids_more listing i uid at inside) ∙ new_of-push_row rows _ uid has))
 
--- what was added has the id exactly where an earlier item does
+-- what was added has the id exactly if an earlier item does
 has_row-added : (rows : List Row) (listing : List Item) (now i : ℕ) (added : List Row) (uid : List ℕ) → AreNew rows listing now i added → has_row rows uid ≡ false → has_id (map (λ (item : Item). item.uid) (take i listing)) uid ≡ has_row added uid
 has_row-added rows listing now i added uid are none =
     sym (has_id-new_of rows _ uid none) ∙ sym (has_row-undelivered now _ uid) ∙ ap (λ (xs : List Row). has_row xs uid) (sym are)
@@ -118,7 +118,7 @@ AreNew-new rows listing now i added uid are at inside none none_added =
     ∙ sym (map-append (undelivered now) (new_of rows (map (λ (item : Item). item.uid) (take i listing))) (uid ∷ []))
     ∙ ap (map (undelivered now)) (sym (ap (new_of rows) (ids_more listing i uid at inside) ∙ new_of-push_new rows _ uid none (has_row-added rows listing now i added uid are none ∙ none_added)))
 
--- ids that are apart: no id stands among those behind it
+-- ids that are apart: no id occurs among those after it
 abbrev pub AreApart : List (List ℕ) → Type 0
 AreApart [] = Unit {0}
 AreApart (id ∷ ids) = (has_id ids id ≡ false) × AreApart ids

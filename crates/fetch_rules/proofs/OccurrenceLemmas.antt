@@ -13,7 +13,7 @@ use Rattle.fetch_rules.proofs.PlanLemmas.{message_at}
 abbrev pub nobody : Item
 nobody = record { uid = []; size = 0 }
 
--- the ids of the first i messages, and which of these are the first with theirs
+-- the ids of the first i messages, and which of these are the first with their id
 pub record HasFirsts (listing : List Item) (i : ℕ) (ids : List (List ℕ)) (flags : List Bool) : Type 0 where
   pub same : (uid : List ℕ) → has_id ids uid ≡ has_item (take i listing) uid
   pub flags_are : flags ≡ map (is_first listing) (take i (numbered listing))
@@ -48,7 +48,7 @@ pub HasFirsts-all : (listing : List Item) (i : ℕ) (ids : List (List ℕ)) (fla
 HasFirsts-all listing i ids flags was past =
     was.flags_are ∙ ap (map (is_first listing)) (take_all i (numbered listing) (omega (arith, past, length-enumerate_from 1 listing)))
 
--- the ids of the messages from place i on, and which of these are the last with theirs
+-- the ids of the messages from place i on, and which of these are the last with their id
 pub record HasLasts (listing : List Item) (i : ℕ) (ids : List (List ℕ)) (flags : List Bool) : Type 0 where
   pub same : (uid : List ℕ) → has_id ids uid ≡ has_item (drop i listing) uid
   pub count : length flags ≡ length listing
@@ -98,7 +98,7 @@ flag_at test listing flags i flag are inside is item =
     ∙ get_or-map test (numbered listing) i (0, item) flag (omega (arith, inside, length-enumerate_from 1 listing))
     ∙ ap test (message_at listing i item inside)
 
--- a test that is only made where another one passed
+-- a test that is only made if another one passed
 pub both-true : (x y both : Bool) → x ≡ true → both ≡ y → both ≡ (x && y)
 both-true true y both hit is = is
 both-true false y both hit is = absurd (true≢false (sym hit))

@@ -1,4 +1,4 @@
--- A file of version 1 behind the header of version 2.
+-- The lines of a file of version 1 after the header of version 2.
 use Rattle.std.proofs.Common.{◌≡◌, ℕ, zero, suc, ◌+◌, List, [], ◌∷◌, ◌++◌, Bool, true, false, ◌&&◌, ◌||◌, not, cond, length, refl, sym, ◌∙◌, ap, subst, inl, inr}
 use Rattle.std.specs.Prelude.{flat_map, ◌==◌, Option, None}
 use Rattle.std.specs.List.{list_any}
@@ -34,7 +34,7 @@ may_take_more rows row e = elim (or_cases (not (has_row rows row.uid)) (delivers
 abbrev Stays : ℕ → Progress → Line → Progress → Type 0
 Stays n p line q = (after_line Two n p line ≡ Stands q) × (left_open q ≡ None)
 
--- a line that stands in version 1 stands in version 2
+-- a line that is allowed in version 1 is allowed in version 2
 step : (n : ℕ) (p : Progress) (line : Line) (q : Progress) → left_open p ≡ None → after_line One n p line ≡ Stands q → Stays n p line q
 step n (InBase rows) (RowLine row) q none e = by (has_row rows row.uid) refl
   where

@@ -50,7 +50,7 @@ apart-row part next lines rest appended row behind were is line next_is = subst 
     by (Within zero) none = record { begins = were.begins; follows = none }
     by (Within (suc more)) none = record { begins = were.begins; follows = none }
 
--- behind a line that is no row's
+-- after a line that is no row's
 no_row : (part : Part) (rest appended : List ℕ) (line : Line) (behind : List ℕ) → Follows part appended rest → IsLine line → rest ≡ text_of line ++ behind → ((row : Row) → RowLine row ≢ line) → BeginsWithNoRow appended
 no_row Base rest appended line behind at is line_is other = λ row after is_row here. other row (text_unique (RowLine row) line after behind is_row is (sym here ∙ at ∙ line_is)).0
 no_row Between rest appended line behind none is line_is other = none

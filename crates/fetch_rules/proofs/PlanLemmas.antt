@@ -41,7 +41,7 @@ lt_step c m c' is = elim (cases_lt c m) [
 count_by-cons : (p : Message → Bool) (x : Message) (xs : List Message) (b : Bool) → p x ≡ b → count_by p (x ∷ xs) ≡ cond b 1 0 + count_by p xs
 count_by-cons p x xs b is = sum_by-cons (λ (m : Message). cond (p m) 1 0) x xs ∙ ap (λ (t : Bool). cond t 1 0 + count_by p xs) is
 
--- of the first m that pass, the one at i is one exactly if it passes and fewer than m before it do
+-- the one at i is among the first m that pass exactly if it passes and fewer than m before it do
 pub has_number-take : (p : Message → Bool) (n m i k : ℕ) (items : List Item) (d : Message) → i < length items → k ≡ n + i
     → has_number (take m (filter p (enumerate_from n items))) k ≡ p (get_or (enumerate_from n items) i d) && nat_lt (count_by p (take i (enumerate_from n items))) m
 has_number-take p n m i k [] d inside is = absurd (omega arith)
@@ -106,7 +106,7 @@ filter_among p n (suc m) (item ∷ items) = elim (cases_Bool (p (n, item))) [
       ∙ filter_among p (n + 1) (suc m) items)
 ]
 
--- the same for a limit, where 0 sets none
+-- the same for a limit; 0 sets none
 at_most_is : (limit n : ℕ) (messages : List Message) → length messages ≤ n → at_most limit messages ≡ take (cond (limit == 0) n limit) messages
 at_most_is limit n messages few = elim (cases_Bool (limit == 0)) [
   | inl none ↦ cond-true (limit == 0) messages (take limit messages) none ∙ sym (take_all n messages few) ∙ ap (λ (m : ℕ). take m messages) (sym (cond-true (limit == 0) n limit none))
@@ -206,7 +206,7 @@ pub HasPlanned-all : (settings : Settings) (rows : List Row) (listing : List Ite
 HasPlanned-all settings rows listing now i steps count has past =
     has.steps_are ∙ take_all i (planned settings rows listing now) (omega (arith, length-map (numbered listing) (step_of settings rows listing now), length-enumerate_from 1 listing))
 
--- what the test for a fetch answers on its three ways
+-- what the test for a fetch answers in its three cases
 pub fetched-no_limit : (candidate fetched below : Bool) (limit : ℕ) → candidate ≡ true → limit ≡ 0 → fetched ≡ true → fetched ≡ candidate && (limit == 0 || below)
 fetched-no_limit candidate fetched below limit is none yes_is =
     yes_is ∙ sym (ap (λ (b : Bool). b && (limit == 0 || below)) is ∙ or_left _ _ (eq-eqb limit 0 none))
@@ -218,7 +218,7 @@ fetched-limit candidate fetched below limit is some below_is =
 pub fetched-other : (candidate fetched below : Bool) (limit : ℕ) → candidate ≡ false → fetched ≡ false → fetched ≡ candidate && (limit == 0 || below)
 fetched-other candidate fetched below limit is none = none ∙ sym (ap (λ (b : Bool). b && (limit == 0 || below)) is)
 
--- nothing is due where the settings let nothing be deleted
+-- nothing is due if the settings let nothing be deleted
 pub never_due : (settings : Settings) (now since : ℕ) → may_delete settings ≡ false → is_due settings now since ≡ false
 never_due settings now since never = by settings.delete (settings.delete_after == 0) never
   where

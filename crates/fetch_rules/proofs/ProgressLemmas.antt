@@ -43,7 +43,7 @@ Reads-none older bytes rest is rows none good = record {
 next_number : (n number : ℕ) → number ≡ line_after n → min (number + 1) 4294967295 ≡ line_after (n + 1)
 next_number n number is = omega (arith, is)
 
--- a row doesn't lead into a group, nor back behind the header
+-- a row doesn't lead into a group, nor back to the rows after the header
 stays_out : (version : Version) (part next : Part) (n : ℕ) (intent after : Option Intent) (before rows new : List Row) (row : Row)
     → after_line version n (progress_of part intent before rows) (RowLine row) ≡ Stands (progress_of next after before new) → is_within next ≡ true → is_within part ≡ true
 stays_out version (Within more) next n intent after before rows new row leads within = refl
@@ -96,7 +96,7 @@ Reads-row bytes older part next intent rows rest number front row behind new wer
   good = good;
 }
 
--- what stands before a group
+-- what comes before a group
 front_means : (bytes : List ℕ) (older : Bool) (n : ℕ) (progress : Progress) (rest : List ℕ) → IsBehind (version_of older) bytes n progress rest → is_open progress ≡ false
     → (length rest ≤ length bytes) × Means (take (length bytes - length rest) bytes) (Rows (version_of older) (counted progress) (left_open progress) false)
 front_means bytes older n progress rest was free = (
@@ -203,7 +203,7 @@ shorter rest line behind is line_is =
     let b = body_of line is in
     omega (arith, ap length (line_is ∙ b.text_is behind), length-append b.body (10 ∷ behind))
 
--- where a group lacks rows, what stands before it is read again
+-- if a group lacks rows, what comes before it is read again
 pub record StoodOpen (bytes : List ℕ) (older : Bool) (front : ℕ) (intent : Option Intent) : Type 0 where
   pub before : List Row
   pub torn : Means bytes (Rows (version_of older) before intent true)

@@ -1,4 +1,4 @@
--- Line after line of a record's file, as `read` goes, and what a mark appends.
+-- The lines of a record's file, one by one as `read` takes them, and what a mark appends.
 use Rattle.std.proofs.Common.{◌≡◌, ℕ, ◌+◌, ◌<◌, ◌^◌, List, [], ◌∷◌, ◌++◌, Some, Bool, true, false, ◌&&◌, cond, length, refl, sym, ◌∙◌, ap, subst, append_assoc, inr, arith, length-append}
 use Rattle.std.specs.Prelude.{flat_map, ◌==◌, find, option_map}
 use Rattle.std.specs.List.{AllByRecursion, list_any}
@@ -17,7 +17,7 @@ use Rattle.fetch_rules.specs.declared.seen.row_map.State.{State}
 use Rattle.fetch_rules.specs.declared.seen.SeenFault.{SeenFault}
 use Rattle.fetch_rules.proofs.JudgedLemmas.{judged_append}
 
--- a reader stands behind n lines that stood
+-- a reader has taken n lines, and none failed
 pub record IsBehind (version : Version) (bytes : List ℕ) (n : ℕ) (progress : Progress) (rest : List ℕ) : Type 0 where
   pub lines : List Line
   pub cut : IsCut version bytes lines rest
@@ -87,7 +87,7 @@ is_there uid (row ∷ rows) state legal each found = by (is_of uid row) refl fou
         let there = rest at in
         record { has = or_right _ _ there.has; there = or_right _ _ there.there; row = there.row }
 
--- what a mark writes is a group, and the rows behind it are the marked ones
+-- what a mark writes is a group, and the rows after it are the marked ones
 pub IsGroup-mark : (uid : List ℕ) (rows : List Row) (state : State) → IsLegalId uid → IsRecord rows → state_in rows uid ≡ Some state
     → IsGroup rows (now_delivered uid state ∷ []) × (taken_all rows (now_delivered uid state ∷ []) ≡ marked rows uid)
 IsGroup-mark uid rows state legal is found =

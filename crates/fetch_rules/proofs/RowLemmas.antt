@@ -28,7 +28,7 @@ lookup_state uid (e ∷ es) = by (bytes_eq uid (string_bytes e.0)) (lookup_state
     by true rest = refl
     by false rest = rest
 
--- no row behind that of an id is of it
+-- no row after an id's row has this id
 pub apart : (uid : List ℕ) (row : Row) (rows : List Row) → IsRecord (row ∷ rows) → is_of uid row ≡ true → AllByRecursion (λ other. is_of uid other ≡ false) rows
 apart uid row rows is here = recursion_from_All (λ other. is_of uid other ≡ false) rows (All-from_get_or (λ other. is_of uid other ≡ false) rows row (λ i inside.
     test_from_other uid (get_or rows i row).uid (λ same. rows_differ (row ∷ rows) is 0 (suc i) row (omega arith) (omega (arith, inside)) (sym (same_from_test uid row.uid here) ∙ same))))
@@ -106,7 +106,7 @@ none_kept : (uid : List ℕ) (rows : List Row) → AllByRecursion (λ other. is_
 none_kept uid [] none = refl
 none_kept uid (row ∷ rows) none = ap (λ (b : Bool). cond b (row ∷ filter (is_of uid) rows) (filter (is_of uid) rows)) none.0 ∙ none_kept uid rows none.1
 
--- the one row of an id behind a mark
+-- the one row of an id after a mark
 pub filter-marked : (uid : List ℕ) (rows : List Row) (state : State) → IsRecord rows → state_in rows uid ≡ Some state
     → filter (is_of uid) (marked rows uid) ≡ record { uid = uid; first_seen = state.first_seen; delivered = true } ∷ []
 filter-marked uid [] state is found = absurd (none-some state found)
@@ -137,7 +137,7 @@ mark_is_written (Some intent) uid rows state is found why = filter-marked uid ro
 pub none_written : (intent : Option Intent) (uid : List ℕ) (rows : List Row) → intent ≡ None → written (marking intent uid rows rows) ≡ []
 none_written intent uid rows none = ap (λ (i : Option Intent). written (marking i uid rows rows)) none ∙ ap written (changed-same rows)
 
--- where a mark changes nothing
+-- when a mark changes nothing
 pub marked_parts : (delivered : Bool) (intent : Option Intent) (result : Bool) → result ≡ (delivered && not (has_intent intent)) → result ≡ true → (delivered ≡ true) × (intent ≡ None)
 marked_parts true None result is here = (refl, refl)
 marked_parts true (Some intent) result is here = absurd (true≢false (sym here ∙ is))

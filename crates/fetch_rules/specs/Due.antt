@@ -5,8 +5,8 @@ use Rattle.rc_file.specs.declared.settings.Settings.{Settings}
 abbrev pub seconds_per_day : ℕ
 seconds_per_day = 86400
 
--- all are to be deleted, or those first seen so many days ago, where 0 sets no age; a clock that
--- went back makes no message older
+-- all are to be deleted, or those first seen `delete_after` days ago or more; a 0 sets no age; a
+-- clock that went back makes no message older
 abbrev pub is_due : Settings → ℕ → ℕ → Bool
 is_due settings now since = settings.delete
     || (not (settings.delete_after == 0) && nat_le (seconds_per_day * settings.delete_after) (now - since))

@@ -20,7 +20,7 @@ abbrev pub is_older : Version → Bool
 is_older One = true
 is_older Two = false
 
--- the record that bytes stand for was read; its file must be written anew where it is of version 1, torn, has an
+-- the record that bytes stand for was read; its file must be written anew if it is of version 1, torn, has an
 -- open intent, or is outgrown
 pub record ReadAs (bytes : List ℕ) (loaded : Loaded) : Type 0 where
   pub version : Version

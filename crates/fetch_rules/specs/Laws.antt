@@ -3,7 +3,7 @@ use Rattle.std.specs.Prelude.{◌≡◌, true, false, List, [], ◌∷◌, ◌++
 use Rattle.mail_terms.specs.Listing.{Item, has_item}
 use Rattle.fetch_rules.specs.declared.steps.Step.{Step}
 
--- each of these steps fetches its message only where no message before it has the same id; `front` are the messages before
+-- each of these steps fetches its message only if no message before it has the same id; `front` are the messages before
 -- the first step's
 abbrev pub FetchesFirsts : List Item → List Step → List Item → Type 0
 FetchesFirsts front [] items = Unit {0}

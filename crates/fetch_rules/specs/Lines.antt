@@ -28,13 +28,13 @@ line_seen (TheRow row) = RowLine (row_from row.uid.now row.state)
 line_seen (TheGroup count) = GroupLine count
 line_seen (TheIntent intent) = IntentLine (intent_seen intent)
 
--- how far the lines have come in a part of the file, with the open intent and the rows before the group that it may be
+-- how far the lines have come in a part of the file, with the open intent, and the rows before the part if it is a group
 abbrev pub progress_of : Part → Option Intent → List Row → List Row → Progress
 progress_of Base intent before rows = InBase rows
 progress_of Between intent before rows = BetweenGroups rows intent
 progress_of (Within more) intent before rows = InGroup before intent rows more
 
--- no intent is open among the rows behind the header
+-- no intent is open among the rows after the header
 abbrev pub IsPlaced : Part → Option Intent → Type 0
 IsPlaced Base intent = intent ≡ None
 IsPlaced _ intent = Unit {0}
@@ -44,37 +44,37 @@ is_within Base = false
 is_within Between = false
 is_within (Within more) = true
 
--- the part behind a row
+-- the part after a row
 abbrev pub after_row : Part → Part
 after_row Base = Base
 after_row Between = Between
 after_row (Within zero) = Between
 after_row (Within (suc more)) = Within more
 
--- what follows the rows after the header, so far: all of the rest while the next line is among them
+-- what follows the rows after the header, so far: all of the rest while the next line may be one of them
 abbrev pub behind_base : Part → List ℕ → List ℕ → List ℕ
 behind_base Base before rest = rest
 behind_base _ before rest = before
 
--- the intent that is open behind a row that leads into this part
+-- the intent that is open after a row that leads into this part
 abbrev pub open_behind : {X : Type 0} → Part → Option X → Option X
 open_behind Between intent = None
 open_behind _ intent = intent
 
--- a row may stand there, behind whatever number of lines; the part and the rows behind it
+-- a row is allowed there, after any number of lines; the part and the rows after it
 abbrev pub TakesRow : Bool → Part → List Row → Row → Part → List Row → Type 0
 TakesRow older part rows row next new =
     (n : ℕ) (before : List Row) (intent : Option Intent)
     → after_line (version_of older) n (progress_of part intent before rows) (RowLine row)
     ≡ Stands (progress_of next (open_behind next intent) before new)
 
--- a row may not stand there, on the line of this number
+-- a row is not allowed there, on the line of this number
 abbrev pub RefusesRow : Bool → Part → List Row → Row → ℕ → SeenFault → Type 0
 RefusesRow older part rows row number fault =
     (n : ℕ) (before : List Row) (intent : Option Intent) → number ≡ line_after n
     → after_line (version_of older) n (progress_of part intent before rows) (RowLine row) ≡ Fails fault
 
--- an intent's line may stand there
+-- an intent's line is allowed there
 abbrev pub TakesIntent : Bool → Part → Option Intent → List Row → Intent → Type 0
 TakesIntent older part open' rows intent =
     (n : ℕ) (before : List Row)

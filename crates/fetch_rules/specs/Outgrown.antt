@@ -3,7 +3,7 @@ use Rattle.std.specs.Prelude.{◌≡◌, ◌≢◌, ◌⊎◌, ℕ, ◌≤◌, �
 use Rattle.fetch_rules.specs.Record.{Row, IsRow}
 use Rattle.fetch_rules.specs.RecordFile.{Version, header, line_of}
 
--- no row's line stands at the front of the bytes
+-- the bytes begin with no row's line
 abbrev pub BeginsWithNoRow : List ℕ → Type 0
 BeginsWithNoRow rest = (row : Row) (behind : List ℕ) → IsRow row → rest ≢ line_of row ++ behind
 
@@ -20,7 +20,7 @@ pub record IsBase (bytes : List ℕ) (rows : List Row) (appended : List ℕ) : T
   pub whole : bytes ≡ header version ++ lines
   pub parts : RowsThen lines rows appended
 
--- a file of at most so many octets is never written anew for what was appended to it
+-- a file of at most this many octets is never written anew for what was appended to it
 abbrev pub small_file : ℕ
 small_file = 65536
 

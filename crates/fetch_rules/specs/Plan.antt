@@ -12,7 +12,7 @@ use Rattle.fetch_rules.specs.declared.steps.Step.{Step}
 abbrev pub has_number : List (ℕ × Item) → ℕ → Bool
 has_number messages number = list_any (λ message. message.0 == number) messages
 
--- when the id was first seen: now, where it has no row
+-- when the id was first seen: now, if it has no row
 abbrev pub seen_since : List Row → List ℕ → ℕ → ℕ
 seen_since rows uid now = unwrap_or (first_seen_of rows uid) now
 

@@ -24,7 +24,7 @@ pub record IsRecord (rows : List Row) : Type 0 where
   pub each : All IsRow rows
   pub distinct : AreDistinct (map (λ row. row.uid) rows)
 
--- of which message an entry is to be appended to an mboxrd file, at which size of the file, and how long the entry is
+-- an entry that is to be appended to an mboxrd file: its message's id, the file's size before it, and its length
 pub record Intent : Type 0 where
   pub uid : List ℕ
   pub start : ℕ
@@ -70,7 +70,7 @@ is_delivered rows uid = list_any (λ row. is_of uid row && row.delivered) rows
 abbrev pub first_seen_of : List Row → List ℕ → Option ℕ
 first_seen_of rows uid = option_map (λ row. row.first_seen) (find (is_of uid) rows)
 
--- the row, delivered from now on where `also` says so
+-- the row, with delivered set if `also` is true
 abbrev pub with_delivered : Bool → Row → Row
 with_delivered also row = record row { delivered = row.delivered || also }
 
@@ -107,7 +107,7 @@ merged rows listing held now =
     with_held listing held rows
     ++ map (λ uid. record { uid = uid; first_seen = now; delivered = is_flagged listing held uid }) (new_ids rows listing)
 
--- an intent that is open is one, and its id has a row
+-- an open intent has a legal id and numbers of 64 bits, and its id has a row
 abbrev pub IntentHasRow : List Row → Option Intent → Type 0
 IntentHasRow rows None = Unit {0}
 IntentHasRow rows (Some intent) = IsIntent intent × IsTrue (has_row rows intent.uid)

@@ -1,7 +1,7 @@
 -- The file of the record as text: the header's line, a line for each row, then groups. A row's line has
--- the id, the second at which it was first seen, and 1 where it was delivered, else 0. A group is the
--- line `+ N` and N rows, which have come into the record, or were delivered, since. In version 2 an
--- intent's line may stand behind the rows and between groups: `!`, the id, and two numbers.
+-- the id, the second at which it was first seen, and 1 if it was delivered, else 0. A group is the
+-- line `+ N` and N rows, which were added to the record, or delivered, since. In version 2 an intent's
+-- line may follow the rows or a group: `!`, the id, and two numbers.
 use Rattle.std.specs.Prelude.{ℕ, ◌≤◌, List, [], ◌∷◌, ◌++◌, Bool, true, false, not, ◌&&◌}
 use Rattle.std.specs.Prelude.{if◌then◌else◌, length, filter, flat_map, codes, Option, Some, None}
 use Rattle.std.specs.Fmt.{decimal}
@@ -20,11 +20,11 @@ abbrev pub state_of : Bool → List ℕ
 state_of true = codes "1\n"
 state_of false = codes "0\n"
 
--- the line of a row, its LF included; the second stands in decimal, without leading zeros
+-- the line of a row, its LF included; the second is in decimal, without leading zeros
 abbrev pub line_of : Row → List ℕ
 line_of row = row.uid ++ (codes " " ++ (decimal row.first_seen ++ (codes " " ++ state_of row.delivered)))
 
--- the line that begins a group of so many rows
+-- the line that begins a group of this many rows
 abbrev pub group_line : ℕ → List ℕ
 group_line count = codes "+ " ++ (decimal count ++ codes "\n")
 
@@ -51,17 +51,17 @@ changed [] new = new
 changed (row ∷ old) [] = []
 changed (row ∷ old) (next ∷ new) = if next.delivered && not row.delivered then (next ∷ changed old new) else changed old new
 
--- the group of these rows, or nothing where there are none
+-- the group of these rows; empty if there are none
 abbrev pub written : List Row → List ℕ
 written [] = []
 written (row ∷ rows) = group_of (row ∷ rows)
 
--- the rows that a mark of an id writes: where an intent is open the id's row, else the row that it changed, if any
+-- the rows that a mark of an id writes: if an intent is open the id's row, else the row that it changed, if any
 abbrev pub marking : Option Intent → List ℕ → List Row → List Row → List Row
 marking None uid old new = changed old new
 marking (Some intent) uid old new = filter (is_of uid) new
 
--- a line that may stand behind the header: a row's, one that begins a group, or an intent's
+-- a line after the header: a row's, one that begins a group, or an intent's
 pub data Line : Type 0 where
   RowLine : (row : Row) → Line
   GroupLine : (count : ℕ) → Line

@@ -1,4 +1,4 @@
--- How a record's file grows by appended groups, and what is kept where an append is cut.
+-- How a record's file grows by appended groups and intents, and what is kept if an append is cut short.
 use Rattle.std.specs.Prelude.{◌≡◌, ◌≢◌, ◌⊎◌, ℕ, ◌≤◌, List, [], ◌∷◌, ◌++◌, false, Bool, Option, Some, None, length, All, IsTrue}
 use Rattle.mail_terms.specs.Listing.{message_limit}
 use Rattle.fetch_rules.specs.Record.{Row, Intent, IsRow, IsIntent, IsRecord, IntentHasRow, has_row}
@@ -10,7 +10,7 @@ abbrev pub taken_all : List Row → List Row → List Row
 taken_all rows [] = rows
 taken_all rows (row ∷ more) = taken_all (taken rows row) more
 
--- each row of a group may stand behind those before it
+-- each row of a group may follow those before it
 abbrev pub MayFollow : List Row → List Row → Type 0
 MayFollow rows [] = Unit {0}
 MayFollow rows (row ∷ more) = IsTrue (may_take Two rows row) × MayFollow (taken rows row) more
@@ -21,13 +21,13 @@ pub record IsGroup (rows group : List Row) : Type 0 where
   pub count : (1 ≤ length group) × (length group ≤ message_limit)
   pub follows : MayFollow rows group
 
--- what is appended to a file where its rows become others: nothing where they stay, else one group, which ends an open intent
+-- what an update of the rows appends to a file: nothing if rows and intent stay, else one group, which ends an open intent
 abbrev pub Updates : List Row → Option Intent → List ℕ → List Row → Option Intent → Type 0
 Updates old before bytes new after =
     ((bytes ≡ []) × (new ≡ old) × (after ≡ before))
     ⊎ ((group : List Row) × IsGroup old group × (bytes ≡ group_of group) × (new ≡ taken_all old group) × (after ≡ None))
 
--- what is appended where an intent is opened: its line
+-- what is appended when an intent is opened: its line
 pub record Opens (old : List Row) (before : Option Intent) (bytes : List ℕ) (new : List Row) (after : Option Intent) : Type 0 where
   pub intent : Intent
   pub is_one : IsIntent intent
@@ -54,25 +54,25 @@ abbrev pub BytesStand : Type 0
 BytesStand = (rows : List Row) (intent : Option Intent) → IsRecord rows → IntentHasRow rows intent
     → Means (file_of rows intent) (Rows Two rows intent false)
 
--- a law: behind a file that isn't empty and isn't torn, what was appended whole counts
+-- a law: what was appended whole to a file that is neither empty nor torn counts
 abbrev pub AppendedCounts : Type 0
 AppendedCounts = (bytes added : List ℕ) (old new : List Row) (before after : Option Intent) → bytes ≢ []
     → Means bytes (Rows Two old before false) → Grows old before added new after
     → Means (bytes ++ added) (Rows Two new after false)
 
--- a law: there, a front of what was to be appended counts for nothing, and is a torn end
+-- a law: only a front of it, appended there, counts for nothing, and is a torn end
 abbrev pub CutIsIgnored : Type 0
 CutIsIgnored = (bytes added front behind : List ℕ) (old new : List Row) (before after : Option Intent)
     → bytes ≢ [] → Means bytes (Rows Two old before false) → Grows old before added new after
     → added ≡ front ++ behind → behind ≢ [] → Means (bytes ++ front) (Rows Two old before (has_bytes front))
 
--- a law: a file of version 1 has no open intent, and its lines stand for the same rows behind the header of version 2
+-- a law: a file of version 1 has no open intent, and its lines stand for the same rows after the header of version 2
 abbrev pub OneIsRead : Type 0
 OneIsRead = (rest : List ℕ) (version : Version) (rows : List Row) (intent : Option Intent) (torn : Bool)
     → Means (header One ++ rest) (Rows version rows intent torn)
     → (version ≡ One) × (intent ≡ None) × Means (header Two ++ rest) (Rows Two rows None torn)
 
--- a law: an open intent is one, and its id has a row
+-- a law: an open intent has a legal id and numbers of 64 bits, and its id has a row
 abbrev pub OpenHasRow : Type 0
 OpenHasRow = (bytes : List ℕ) (version : Version) (rows : List Row) (intent : Option Intent) (torn : Bool)
     → Means bytes (Rows version rows intent torn) → IntentHasRow rows intent

@@ -1,8 +1,8 @@
--- What the bytes of a record's file stand for. Its lines are judged one by one: the rows behind the
+-- What the bytes of a record's file stand for. Its lines are judged one by one: the rows after the
 -- header have distinct ids, and each row of a group names a new id, or one that wasn't delivered and
--- now is; in version 2 also one that was. There an intent's line, whose id has a row, opens an intent
--- where none is open, and a whole group ends it. A torn end counts for nothing: a last piece without
--- LF, and a last group that lacks rows, though its rows are judged.
+-- now is; in version 2 also one that was. In version 2 an intent's line, whose id has a row, opens an
+-- intent if none is open, and a whole group ends it. A torn end counts for nothing: a last piece
+-- without LF, and a last group that lacks rows, though its rows are judged.
 use Rattle.std.specs.Prelude.{◌≡◌, ◌≢◌, ◌⊎◌, ℕ, zero, suc, ◌+◌, ◌-◌, ◌==◌, List, [], ◌∷◌, ◌++◌, Bool, true, false}
 use Rattle.std.specs.Prelude.{not, ◌&&◌, ◌||◌, if◌then◌else◌, Option, Some, None, length, min, flat_map, All}
 use Rattle.std.specs.List.{list_any}
@@ -11,7 +11,7 @@ use Rattle.fetch_rules.specs.RecordFile.{Version, One, Two, header, Line, RowLin
 use Rattle.fetch_rules.specs.declared.seen.SeenFault.{SeenFault}
 use Rattle.fetch_rules.specs.declared.seen.SeenFault.TheVariants.{BadHeader, BadRow, RepeatedId}
 
--- whether a group's row may say again of a row with the same second that it is delivered
+-- whether a group's row may mark this row as delivered: in version 1 only if it wasn't before
 abbrev pub may_repeat : Version → Row → Bool
 may_repeat One old = not old.delivered
 may_repeat Two old = true
@@ -21,7 +21,7 @@ abbrev pub delivers : Version → List Row → Row → Bool
 delivers version rows row = row.delivered
     && list_any (λ old. is_of row.uid old && (may_repeat version old && (old.first_seen == row.first_seen))) rows
 
--- whether a group may hold the row behind these rows
+-- whether a group may hold the row after these rows
 abbrev pub may_take : Version → List Row → Row → Bool
 may_take version rows row = not (has_row rows row.uid) || delivers version rows row
 
@@ -31,12 +31,12 @@ taken rows row = if has_row rows row.uid then marked rows row.uid else (rows ++ 
 
 -- how far the lines have come
 pub data Progress : Type 0 where
-  -- behind the header and these rows
+  -- after the header and these rows
   InBase : (rows : List Row) → Progress
-  -- behind a whole group or an intent's line; these are the rows with all groups so far, and the open intent
+  -- after a whole group or an intent's line; these are the rows with all groups so far, and the open intent
   BetweenGroups : (rows : List Row) (intent : Option Intent) → Progress
   -- within a group: the rows before it and the intent that is open there, the rows with its rows so far, and how many
-  -- rows are to come behind the next one
+  -- rows are to come after the next one
   InGroup : (before : List Row) (intent : Option Intent) (rows : List Row) (more : ℕ) → Progress
 
 pub data Judged : Type 0 where
@@ -47,19 +47,19 @@ pub data Judged : Type 0 where
 abbrev pub greatest_line : ℕ
 greatest_line = 4294967295
 
--- the number of the line behind the header and n lines: lines are counted from 1, and all from the
+-- the number of the line after the header and n lines: lines are counted from 1, and all from the
 -- greatest number on have that number
 abbrev pub line_after : ℕ → ℕ
 line_after n = min (n + 2) greatest_line
 
--- an intent's line may stand there: only in version 2, where none is open, and where its id has a row
+-- an intent's line is allowed only in version 2, if no intent is open, and if its id has a row
 abbrev pub after_intent : Version → ℕ → List Row → Option Intent → Intent → Judged
 after_intent One n rows before intent = Fails (BadRow (line_after n))
 after_intent Two n rows (Some other) intent = Fails (BadRow (line_after n))
 after_intent Two n rows None intent = if has_row rows intent.uid
     then Stands (BetweenGroups rows (Some intent)) else Fails (BadRow (line_after n))
 
--- one line more, behind n lines
+-- one more line, after n lines
 abbrev pub after_line : Version → ℕ → Progress → Line → Judged
 after_line version n (InBase rows) (RowLine row) = if has_row rows row.uid
     then Fails (RepeatedId (line_after n)) else Stands (InBase (rows ++ row ∷ []))
@@ -75,7 +75,7 @@ after_line version n (InGroup old before rows (suc more)) (RowLine row) = if may
 after_line version n (InGroup old before rows more) (GroupLine count) = Fails (BadRow (line_after n))
 after_line version n (InGroup old before rows more) (IntentLine intent) = Fails (BadRow (line_after n))
 
--- line after line, up to the first that fails; n lines went before
+-- line by line, up to the first that fails; n lines came before
 abbrev pub judged : Version → ℕ → Judged → List Line → Judged
 judged version n so_far [] = so_far
 judged version n (Fails fault) (line ∷ lines) = Fails fault
@@ -111,17 +111,17 @@ pub data Meaning : Type 0 where
   Rows : (version : Version) (rows : List Row) (intent : Option Intent) (torn : Bool) → Meaning
   Fault : (fault : SeenFault) → Meaning
 
--- no line stands at the front of the bytes
+-- the bytes begin with no line
 abbrev pub BeginsWithNoLine : List ℕ → Type 0
 BeginsWithNoLine rest = (line : Line) (behind : List ℕ) → IsLine line → rest ≢ text_of line ++ behind
 
--- the end behind n lines: it holds a line that is no kind, or it counts for nothing
+-- the end after n lines: it has a line that is of no kind, or it counts for nothing
 abbrev pub at_end : Version → ℕ → Progress → List ℕ → Meaning
 at_end version n progress rest =
     if has_line_feed rest then Fault (BadRow (line_after n))
     else Rows version (counted progress) (left_open progress) (is_open progress || has_bytes rest)
 
--- what n lines and the rest mean: the first line that fails decides; where none does, the rest
+-- what n lines and the rest mean: the first line that fails decides; if none does, the rest
 -- begins with no line
 abbrev pub Ends : Version → ℕ → Judged → List ℕ → Meaning → Type 0
 Ends version n (Fails fault) rest meaning = meaning ≡ Fault fault
@@ -139,7 +139,7 @@ pub record ByLines (bytes : List ℕ) (meaning : Meaning) : Type 0 where
   pub cut : IsCut version bytes lines rest
   pub ends : Ends version (length lines) (judged version 0 (Stands (InBase [])) lines) rest meaning
 
--- what bytes stand for: none at all for the empty record; else they begin with a header's line
+-- what bytes stand for: if there are none, the empty record; else they begin with a header's line, or are no record
 abbrev pub Means : List ℕ → Meaning → Type 0
 Means bytes meaning =
     ((bytes ≡ []) × (meaning ≡ Rows Two [] None false))
@@ -150,7 +150,7 @@ Means bytes meaning =
 abbrev pub StandsFor : List ℕ → List Row → Option Intent → Type 0
 StandsFor bytes rows intent = (version : Version) × (torn : Bool) × Means bytes (Rows version rows intent torn)
 
--- a file stands for this record: one that isn't there, like an empty one, for the empty record
+-- a file stands for this record: a missing file, like an empty one, for the empty record
 abbrev pub FileStandsFor : Option (List ℕ) → List Row → Option Intent → Type 0
 FileStandsFor None rows intent = (rows ≡ []) × (intent ≡ None)
 FileStandsFor (Some bytes) rows intent = StandsFor bytes rows intent

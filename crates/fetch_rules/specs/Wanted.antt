@@ -4,7 +4,7 @@ use Rattle.mail_terms.specs.Listing.{Item, HasDistinctIds, numbered, is_first}
 use Rattle.fetch_rules.specs.Record.{Row, is_delivered}
 use Rattle.rc_file.specs.declared.settings.Settings.{Settings}
 
--- whether a size is within the limit, where 0 sets none
+-- whether a size is within the limit; 0 sets none
 abbrev pub is_within : ℕ → ℕ → Bool
 is_within limit size = limit == 0 || nat_le size limit
 
@@ -21,12 +21,12 @@ is_candidate settings rows listing message = is_first listing message && is_aske
 abbrev pub candidates : Settings → List Row → List Item → List (ℕ × Item)
 candidates settings rows listing = filter (is_candidate settings rows listing) (numbered listing)
 
--- a law: where no id stands twice, what may be fetched is a plain filter of the listing
+-- a law: if no id occurs twice, what may be fetched is a plain filter of the listing
 abbrev pub DistinctAreFiltered : Type 0
 DistinctAreFiltered = (settings : Settings) (rows : List Row) (listing : List Item) → HasDistinctIds listing
     → candidates settings rows listing ≡ filter (is_asked_for settings rows) (numbered listing)
 
--- the first of a list, as many as the limit says, where 0 sets none
+-- the first elements of a list, as many as the limit says; 0 sets none
 abbrev pub at_most : {X : Type 0} → ℕ → List X → List X
 at_most limit xs = if limit == 0 then xs else take limit xs
 

@@ -8,7 +8,7 @@ use std::alloc::{AllocError, Global};
 use std::collections::BTreeSet;
 use std::marker::Model;
 
-/// Ids that stand in a listing.
+/// Ids from a listing.
 #[derive(Drop)]
 pub(crate) struct IdSet<'a> {
     ids: BTreeSet<&'a str>,
@@ -31,7 +31,7 @@ impl<'a> IdSet<'a> {
         }
     }
 
-    /// Adds an id. Says whether it was new.
+    /// Adds an id. Returns whether it was new.
     pub(crate) fn insert(&mut self, uid: &'a [u8]) -> Result<bool, AllocError>
         requires { IsLegalId uid.now }
         ensures added { IfOk result (λ added. added ≡ not (has_id self.old uid.now)) }

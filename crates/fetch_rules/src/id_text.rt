@@ -5,7 +5,7 @@ ghost use Rattle.mail_terms.specs.UniqueId.{IsLegalId};
 
 use std::str;
 
-/// The id as a text. No legal id is none.
+/// The id as a text, or None if it isn't UTF-8, which every legal id is.
 pub(crate) fn text_of(uid: &[u8]) -> Option<&str>
     ensures text { IfSome result (λ text. text.now ≡ uid.now) }
     ensures none { IfNone result (IsLegalId uid.now → ⊥) }

@@ -23,20 +23,20 @@ pub fn plans_fetch_wanted()
         → retrieved (planned settings rows listing now) listing ≡ wanted settings rows listing }
 {}
 
-/// After a merge an id is recorded as delivered where it was before, or is held.
+/// After a merge an id is recorded as delivered if it was before, or is held.
 pub fn held_is_delivered()
     ensures { (rows : List Row) (listing : List Item) (held : List Bool) (now : ℕ) (uid : List ℕ)
         → is_delivered (merged rows listing held now) uid ≡ is_delivered rows uid || is_flagged listing held uid }
 {}
 
-/// After a merge an id has a row where it had one before, or is listed.
+/// After a merge an id has a row if it had one before, or is listed.
 pub fn listed_has_row()
     ensures { (rows : List Row) (listing : List Item) (held : List Bool) (now : ℕ) (uid : List ℕ)
         → has_row (merged rows listing held now) uid ≡ has_row rows uid || has_item listing uid }
 {}
 
-/// After a mark an id is recorded as delivered where it was before, or has a row and is the one
-/// that was marked.
+/// After a mark an id is recorded as delivered if it was before, or has a row and is the one that
+/// was marked.
 pub fn marked_is_delivered()
     ensures { (rows : List Row) (uid other : List ℕ)
         → is_delivered (marked rows uid) other ≡ is_delivered rows other || (has_row rows other && bytes_eq uid other) }

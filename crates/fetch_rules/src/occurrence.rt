@@ -1,5 +1,5 @@
 //! Which messages of a listing are the first, and which the last, with their ids. Each call takes
-//! n log n comparisons of ids, or n where the ids ascend, as most servers' do.
+//! n log n comparisons of ids, or n if the ids ascend, as most servers' do.
 
 ghost use Rattle.std.specs.Prelude.{◌≡◌, map, IfOk};
 ghost use Rattle.std.specs.Bool.{OnTrue};
@@ -24,7 +24,7 @@ fn comes_before(first: &[u8], second: &[u8]) -> bool
     }
 }
 
-/// Whether each id comes after the one before it, so that none is there twice.
+/// Whether each id comes after the one before it, so that no id occurs twice.
 fn do_ascend(listing: &Listing) -> bool
     ensures { OnTrue result (HasDistinctIds listing.now) }
 {

@@ -26,16 +26,16 @@ use std::hash::BuildHasher;
 use std::marker::Model;
 use thiserror::Error;
 
-/// Why bytes are no record. Lines are counted from 1, and those past 4,294,967,295 give that number.
+/// Why bytes are no record. Lines are counted from 1; one past 4,294,967,295 is reported as that.
 #[derive(Clone, Copy, Debug, PartialEq, Eq, Error)]
 pub enum SeenFault {
     /// The header's line is missing or another.
     #[error("not a record of this version")]
     BadHeader,
-    /// This line isn't what should stand there: a row, the line that begins a group, or an intent.
+    /// This line isn't what belongs there: a row, the line that begins a group, or an intent.
     #[error("line {0} is no row")]
     BadRow(u32),
-    /// The row of this line repeats an id that may not stand there again.
+    /// The row of this line repeats an id that may not occur there again.
     #[error("line {0} repeats an id")]
     RepeatedId(u32),
     #[error("out of memory")]
@@ -52,9 +52,9 @@ impl From<AllocError> for SeenFault {
     }
 }
 
-/// The messages that were seen, each id once, in order of first appearance. Rows are kept for good.
-/// A look-up goes by the hash of the id; the ids are a server's, so a program hands in a hasher of
-/// random seed.
+/// The messages that were seen, each id once, in order of first appearance. Rows are never removed.
+/// A look-up goes by the id's hash; a server chooses the ids, so a program passes in a hasher with
+/// a random seed.
 #[derive(Drop)]
 pub struct Seen<H: BuildHasher> {
     alloc: Global,
@@ -141,8 +141,8 @@ impl<H: BuildHasher> Seen<H> {
     /// The record that a file's bytes stand for. They are what `bytes` wrote, and groups and intents that
     /// were appended since. No bytes at all stand for the empty record. A file of version 1 is read
     /// too. A torn end counts for nothing: a last piece without LF, and a last group that lacks rows,
-    /// as an append that was cut leaves them. Anything else is refused with its first faulty line:
-    /// BadHeader if the bytes don't begin with the header's line, BadRow and RepeatedId as they say.
+    /// as an append that was cut short leaves them. Anything else is refused with its first faulty
+    /// line: BadHeader if the bytes don't begin with the header's line, else BadRow or RepeatedId.
     pub fn read(alloc: Global, bytes: &[u8], hasher: H) -> Result<Seen<H>, SeenFault>
     where
         H: Drop,
@@ -155,8 +155,8 @@ impl<H: BuildHasher> Seen<H> {
         Ok(seen)
     }
 
-    /// Takes the record that a file's bytes stand for in place of this one, as `read` does. After a
-    /// fault, want of memory too, there is no row.
+    /// Replaces this record by the one that a file's bytes stand for, as `read` does. After a
+    /// fault, NoMemory too, the record is empty.
     pub fn reread(&mut self, bytes: &[u8]) -> Result<(), SeenFault>
         ensures rows { OnOk result (ReadAs bytes.now self.new) }
         ensures fault { IfErr result (λ fault. fault ≢ SeenFault.NoMemory → Means bytes.now (Fault fault)) }
@@ -239,8 +239,8 @@ impl<H: BuildHasher> Seen<H> {
         }
     }
 
-    /// Ends the open intent, if any, and records its id as delivered if the entry is whole. The file is
-    /// to be written anew as before: `needs_rewrite` doesn't change.
+    /// Ends the open intent, if any, and records its id as delivered if the entry is whole.
+    /// `needs_rewrite` doesn't change.
     pub fn close(&mut self, whole: bool)
         ensures rows { self.new.rows ≡ closed_rows whole self.old.rows self.old.intent }
         ensures intent { self.new.intent ≡ None }
@@ -280,7 +280,7 @@ impl<H: BuildHasher> Seen<H> {
         }
     }
 
-    /// Records the id as delivered, if it has a row. Says whether this changed the row.
+    /// Records the id as delivered, if it has a row. Returns whether this changed the row.
     pub fn mark(&mut self, uid: &[u8]) -> bool
         requires { self.old.intent ≡ None }
         ensures rows { self.new.rows ≡ marked self.old.rows uid.now }
@@ -294,8 +294,9 @@ impl<H: BuildHasher> Seen<H> {
     }
 
     /// Records the id as delivered, if it has a row, and gives the group of the changed row, to be
-    /// appended to the record's file: nothing if none changed. An open intent, which must be this id's,
-    /// is ended, and the group then always has the id's row. If memory runs out nothing has changed.
+    /// appended to the record's file: empty if none changed. An open intent, which must be this
+    /// id's, is ended, and the group then always has the id's row. If memory runs out nothing has
+    /// changed.
     pub fn mark_rows(&mut self, uid: &[u8]) -> Result<Vec<u8>, AllocError>
         requires { IsNoneOrOf uid.now self.old.intent }
         ensures rows { OnOk result (self.new.rows ≡ marked self.old.rows uid.now) }
@@ -325,8 +326,8 @@ impl<H: BuildHasher> Seen<H> {
     }
 
     /// Takes in a listing: sets delivered for each id that the flags, one for each item, call held,
-    /// and adds a row, first seen at `now` seconds since 1970, for each id that has none. Says
-    /// whether a row was added or changed. After want of memory nothing has changed.
+    /// and adds a row, first seen at `now` seconds since 1970, for each id that has none. Returns
+    /// whether a row was added or changed. If memory runs out nothing has changed.
     pub fn merge(&mut self, listing: &Listing, held: &[bool], now: u64) -> Result<bool, AllocError>
         requires lengths { length held.now ≡ length listing.now }
         requires closed { self.old.intent ≡ None }
@@ -345,8 +346,8 @@ impl<H: BuildHasher> Seen<H> {
         Ok(added || marked)
     }
 
-    /// As `merge`, and gives the group of the rows that were added or changed, in the record's
-    /// order, to be appended to the record's file: nothing where none was. After want of memory
+    /// As `merge`, but gives the group of the rows that were added or changed, in the record's
+    /// order, to be appended to the record's file: empty if there are none. If memory runs out
     /// nothing has changed.
     pub fn merge_rows(
         &mut self,
@@ -384,7 +385,7 @@ pub fn bytes_have_one_meaning()
     ensures { OneMeaning }
 {}
 
-/// A law: a file stands for one record at most, where one that is missing stands for the empty one.
+/// A law: a file stands for one record at most; a missing file stands for the empty record.
 pub fn files_stand_for_one_record()
     ensures { OneRecord }
 {}
@@ -394,13 +395,13 @@ pub fn bytes_stand()
     ensures { BytesStand }
 {}
 
-/// A law: what `merge_rows`, `mark_rows` or `intend` gave, appended whole to a file that isn't torn,
-/// makes it stand for the new record.
+/// A law: what `merge_rows`, `mark_rows` or `intend` gave, appended whole to a file of version 2
+/// that is neither empty nor torn, makes it stand for the new record.
 pub fn appended_counts()
     ensures { AppendedCounts }
 {}
 
-/// A law: appended in part it counts for nothing, and is a torn end.
+/// A law: appended there only in part, it counts for nothing and is a torn end.
 pub fn cut_is_ignored()
     ensures { CutIsIgnored }
 {}

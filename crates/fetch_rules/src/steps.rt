@@ -28,7 +28,7 @@ pub struct Step {
     pub delete: bool,
 }
 
-/// Whether what was first seen at a second is to be deleted now. A difference is 0 where the clock
+/// Whether what was first seen at a second is to be deleted now. The difference is 0 if the clock
 /// went back.
 fn is_due(settings: &Settings, now: u64, since: u64) -> bool
     ensures { result ≡ is_due settings.now now since }
@@ -44,8 +44,8 @@ fn may_delete(settings: &Settings) -> bool
     settings.delete || settings.delete_after != 0
 }
 
-/// For each message, whether no later one has its id. Nobody asks where nothing is deleted: the flags
-/// mean nothing then.
+/// For each message, whether no later one has its id. If nothing may be deleted the flags aren't
+/// used, and mean nothing.
 fn lasts_where_asked(
     alloc: Global,
     settings: &Settings,
@@ -75,8 +75,8 @@ fn is_asked_for<H: BuildHasher>(
         && (settings.read_all || !seen.is_delivered(listing.uid(i)))
 }
 
-/// Whether the message of number `i + 1` is to be deleted, unless another one has its id, where it
-/// is told whether it is fetched.
+/// Whether the message of number `i + 1` is to be deleted, unless another one has its id; `fetched`
+/// says whether it is fetched.
 fn is_done_with<H: BuildHasher>(
     settings: &Settings,
     seen: &Seen<H>,
@@ -96,10 +96,10 @@ fn is_done_with<H: BuildHasher>(
 
 /// One step for each message of the listing, in order.
 ///
-/// A message is fetched where it is the first with its id, its size is at most `max_size`, and
+/// A message is fetched if it is the first with its id, its size is at most `max_size`, and
 /// `read_all` is true or it isn't recorded as delivered; of these the first `max_count`. A 0 sets no
-/// limit. A message is deleted where it is recorded as delivered or is fetched, no other message has
-/// its id, and `delete` is true or it was first seen `delete_after` days ago or more, where 0 sets no
+/// limit. A message is deleted if it is recorded as delivered or is fetched, no other message has
+/// its id, and `delete` is true or it was first seen `delete_after` days ago or more; a 0 sets no
 /// age. An id without a row is not delivered, and is first seen now. `now` is in seconds since 1970.
 /// Takes n log n comparisons of ids for n messages, and up to three look-ups in the record for each.
 pub fn plan<H: BuildHasher>(
@@ -134,7 +134,7 @@ pub fn plan<H: BuildHasher>(
     Ok(steps)
 }
 
-/// A law: where no id stands twice in a listing, what may be fetched is a plain filter of it, by each
+/// A law: if no id occurs twice in a listing, what may be fetched is a plain filter of it, by each
 /// message's size and what is recorded of its id.
 pub fn distinct_messages_are_filtered()
     ensures { DistinctAreFiltered }

@@ -6,11 +6,11 @@ use std::fs;
 use std::hash::RandomState;
 use std::io::Write;
 
-/// Stands between the records of the file that is read, and ends each answer. No record has this octet.
+/// Separates the records of the file that is read, and ends each answer. No record has this octet.
 const END: u8 = 0xff;
 
-/// Reads a record in place of the last one, and answers whether its file must be written anew, `true` or
-/// `false`, and the record as `bytes` writes it; or the fault.
+/// Reads a record in place of the last one. The answer is whether its file must be written anew,
+/// `true` or `false`, and the record as `bytes` writes it; or the fault.
 fn answer(seen: &mut Seen<RandomState>, record: &[u8], answers: &mut Vec<u8>) -> Result<()> {
     match seen.reread(record) {
         Ok(()) => {

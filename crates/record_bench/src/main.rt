@@ -1,5 +1,5 @@
 //! Times the calls of `fetch_rules` that a session makes over its record and its listing, for
-//! `bench/fetch_rules.py`, and answers what record files stand for, for the tests from outside.
+//! `bench/fetch_rules.py`, and prints what record files stand for, for the tests from outside.
 #![tactic(auto)]
 
 mod judging;

@@ -15,7 +15,7 @@ use std::alloc::{AllocError, Global};
 use std::hash::BuildHasher;
 
 impl<H: BuildHasher> RowMap<H> {
-    /// Sets delivered for the id, if it has a row. Says whether this changed the row.
+    /// Sets delivered for the id, if it has a row. Returns whether this changed the row.
     pub(crate) fn mark(&mut self, uid: &[u8]) -> bool
         ensures rows { self.new ≡ marked self.old uid.now }
         ensures changed { OnTrue result (self.new ≢ self.old) }
@@ -32,7 +32,7 @@ impl<H: BuildHasher> RowMap<H> {
         true
     }
 
-    /// Adds a row for each id of the listing that has none, until memory is wanting.
+    /// Adds a row for each id of the listing that has none, until memory runs out.
     fn add_until_refused(&mut self, listing: &Listing, now: u64) -> Result<(), AllocError>
         ensures rows { OnOk result (self.new ≡ self.old ++ map (undelivered now) (new_ids self.old listing.now)) }
         ensures limit { length listing.now ≤ message_limit }
@@ -55,8 +55,7 @@ impl<H: BuildHasher> RowMap<H> {
         Ok(())
     }
 
-    /// Adds a row for each id of the listing that has none. After want of memory nothing has
-    /// changed.
+    /// Adds a row for each id of the listing that has none. If memory runs out nothing has changed.
     pub(crate) fn add_listed(&mut self, listing: &Listing, now: u64) -> Result<(), AllocError>
         ensures rows { OnOk result (self.new ≡ self.old ++ map (undelivered now) (new_ids self.old listing.now)) }
         ensures limit { length listing.now ≤ message_limit }
@@ -84,7 +83,7 @@ impl<H: BuildHasher> RowMap<H> {
         true
     }
 
-    /// Sets delivered for the held items' ids. Says whether this changed a row.
+    /// Sets delivered for the held items' ids. Returns whether this changed a row.
     pub(crate) fn mark_held(&mut self, listing: &Listing, held: &[bool]) -> bool
         requires { length held.now ≡ length listing.now }
         ensures rows { self.new ≡ with_held listing.now held.now self.old }
@@ -127,7 +126,7 @@ impl<H: BuildHasher> RowMap<H> {
         Ok(ids)
     }
 
-    /// The group of the rows that change where the held items' ids are marked, and of all rows from
+    /// The group of the rows that change when the held items' ids are marked, and of all rows from
     /// place `count` on, which were added before.
     pub(crate) fn group_of_changes(
         &self,

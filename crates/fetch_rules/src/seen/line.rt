@@ -49,11 +49,11 @@ pub struct Intent<'a> {
     pub len: u64,
 }
 
-/// A line behind the header.
+/// A line after the header.
 #[derive(Clone, Copy)]
 pub(crate) enum Line<'a> {
     Row(ReadRow<'a>),
-    /// The line that begins a group of so many rows.
+    /// The line that begins a group of this many rows.
     Group(u64),
     /// The line of an intent.
     Opening(Intent<'a>),
@@ -173,7 +173,7 @@ pub(crate) fn write_intent(alloc: Global, intent: Intent<'_>) -> Result<Vec<u8>,
     Ok(bytes)
 }
 
-/// The group of so many lines, or nothing where there is none.
+/// The group of `count` lines; empty if there are none.
 pub(crate) fn group(alloc: Global, count: usize, lines: &[u8]) -> Result<Vec<u8>, AllocError>
     ensures { IfOk result (λ bytes. (rows : List Row) → length rows ≡ count
         → flat_map line_of rows ≡ lines.now → bytes.items ≡ written rows) }

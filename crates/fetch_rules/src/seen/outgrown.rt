@@ -5,7 +5,7 @@ ghost use Rattle.fetch_rules.specs.Record.{Row};
 ghost use Rattle.fetch_rules.specs.RecordFile.{Version, header};
 ghost use Rattle.fetch_rules.specs.Outgrown.{RowsThen, IsOutgrown};
 
-/// A file of at most so many octets is never written anew for what was appended to it.
+/// A file of at most this many octets is never written anew for what was appended to it.
 const SMALL: usize = 65_536;
 
 /// Whether a file of these lines has more than 65,536 octets, and more of them appended than in the

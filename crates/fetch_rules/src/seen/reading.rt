@@ -1,4 +1,4 @@
-//! Reads the record's file, line after line.
+//! Reads the record's file, line by line.
 
 ghost use Rattle.std.specs.Prelude.{◌≡◌, ◌≢◌, ◌≤◌, ◌-◌, ◌++◌, ◌==◌, ◌&&◌, not, true, false, ℕ, List, [], IfOk, IfErr, IfSome, IfNone, OnOk};
 ghost use Rattle.fetch_rules.specs.Record.{IsRow, IsIntent, IsRecord, has_row};
@@ -16,14 +16,14 @@ use crate::seen::outgrown::is_outgrown;
 use crate::seen::row_map::{RowMap, State};
 use std::hash::BuildHasher;
 
-/// The part of the file that the next line stands in.
+/// The part of the file that the next line is in.
 #[derive(Clone, Copy)]
 pub(crate) enum Part {
-    /// The rows behind the header.
+    /// The rows after the header.
     Base,
-    /// Behind a whole group.
+    /// After a whole group or an intent's line.
     Between,
-    /// A group, where so many rows are to come behind the next one.
+    /// A group; this many rows are to come after the next one.
     Within(u64),
 }
 
@@ -32,7 +32,7 @@ pub(crate) enum Part {
 pub(crate) enum End {
     /// All rows count, and perhaps a piece of a line follows them.
     Counted { torn: bool },
-    /// A group lacks rows. This many bytes stand before it.
+    /// A group lacks rows. This many bytes come before it.
     Open { front: usize },
 }
 
@@ -43,7 +43,7 @@ impl Part {
         matches!(self, Part::Within(_))
     }
 
-    /// The part behind a row.
+    /// The part after a row.
     fn after_row(self) -> Part
         ensures { result ≡ after_row self }
     {
@@ -54,7 +54,7 @@ impl Part {
         }
     }
 
-    /// The part behind the line of this number, which begins a group of so many rows. BadRow within
+    /// The part after the line of this number, which begins a group of `count` rows. BadRow within
     /// a group.
     fn after_group_line(self, count: u64, number: u32) -> Result<Part, SeenFault>
         requires { 1 ≤ count }
@@ -67,8 +67,8 @@ impl Part {
         }
     }
 
-    /// What follows the rows after the header, so far: all of the rest while the next line is among
-    /// them.
+    /// What follows the rows after the header, so far: all of the rest while the next line may be
+    /// one of them.
     fn behind_base<'a>(self, before: &'a [u8], rest: &'a [u8]) -> &'a [u8]
         ensures { result.now ≡ behind_base self before.now rest.now }
     {
@@ -78,7 +78,7 @@ impl Part {
         }
     }
 
-    /// The intent that is open behind a row that leads into this part.
+    /// The intent that is open after a row that leads into this part.
     fn open_behind(self, intent: Option<Intent<'_>>) -> Option<Intent<'_>>
         ensures { result ≡ open_behind self intent.entry }
     {
@@ -88,8 +88,7 @@ impl Part {
         }
     }
 
-    /// The end of the file, where the rest holds no LF and this many bytes stand before the last
-    /// group.
+    /// The end of the file, if the rest has no LF and `front` bytes come before the last group.
     fn end(self, front: usize, rest: &[u8]) -> End
         ensures within { is_within self ≡ true → result ≡ End.Open front }
         ensures between { is_within self ≡ false → result ≡ End.Counted (has_bytes rest.now) }
@@ -103,7 +102,7 @@ impl Part {
     }
 }
 
-/// What a file holds but for its rows.
+/// What a file holds besides its rows.
 #[derive(Clone, Copy)]
 pub(crate) struct Shape<'a> {
     /// Whether it is of version 1.
@@ -111,7 +110,7 @@ pub(crate) struct Shape<'a> {
     /// The intent that is open.
     pub(crate) intent: Option<Intent<'a>>,
     pub(crate) end: End,
-    /// Whether more was appended than its first rows have.
+    /// Whether it is outgrown, as `is_outgrown` says.
     pub(crate) outgrown: bool,
 }
 
@@ -128,15 +127,15 @@ fn end_without_header(bytes: &[u8]) -> Result<End, SeenFault>
     }
 }
 
-/// Whether a group's row may stand behind the row of its id: it delivers it, in version 1 only what
-/// wasn't delivered.
+/// Whether a group's row may repeat the id of an earlier row: it is delivered and has the same
+/// second; in version 1 the earlier one isn't delivered.
 fn delivers(older: bool, old: State, new: State) -> bool
     ensures { result ≡ (new.delivered && (not (older && old.delivered) && (old.first_seen == new.first_seen))) }
 {
     new.delivered && !(older && old.delivered) && old.first_seen == new.first_seen
 }
 
-/// Where a file's lines begin, and whether it is of version 1, if it begins with a header's line.
+/// Whether a file is of version 1, and its lines, if it begins with a header's line.
 fn behind_header(bytes: &[u8]) -> Option<(bool, &[u8])>
     ensures found { IfSome result (λ parts. bytes.now ≡ header (version_of parts.0) ++ parts.1.now) }
     ensures none { IfNone result ((version : Version) (rest : List ℕ) → bytes.now ≢ header version ++ rest) }
@@ -151,7 +150,7 @@ fn behind_header(bytes: &[u8]) -> Option<(bool, &[u8])>
 }
 
 impl<H: BuildHasher> RowMap<H> {
-    /// Takes a row that stands in this part of the file on the line of this number.
+    /// Takes a row in this part of the file, on the line of this number.
     fn take_row(
         &mut self,
         older: bool,
@@ -181,8 +180,8 @@ impl<H: BuildHasher> RowMap<H> {
         Ok(part.after_row())
     }
 
-    /// Takes an intent whose line stands in this part of the file on the line of this number. BadRow in
-    /// version 1, within a group, where one is open, and where its id has no row.
+    /// Takes an intent in this part of the file, on the line of this number. BadRow in version 1,
+    /// within a group, if an intent is open, and if its id has no row.
     fn take_intent(
         &self,
         older: bool,
@@ -202,7 +201,7 @@ impl<H: BuildHasher> RowMap<H> {
         Ok(())
     }
 
-    /// Takes the lines of a file into the rows, which are empty.
+    /// Reads the lines of a file into the rows, which must be empty.
     fn read_lines<'a>(&mut self, bytes: &'a [u8]) -> Result<Shape<'a>, SeenFault>
         requires empty { self.old ≡ [] }
         requires is_record { IsRecord self.old }
@@ -259,8 +258,8 @@ impl<H: BuildHasher> RowMap<H> {
         })
     }
 
-    /// Takes the record that a file's bytes stand for in place of the rows. Gives the file's shape, its end
-    /// always Counted. After a fault there are some rows or none.
+    /// Replaces the rows by those that a file's bytes stand for, and gives what else was read.
+    /// There may be some rows after a fault.
     pub(crate) fn read<'a>(&mut self, bytes: &'a [u8]) -> Result<Found<'a>, SeenFault>
         ensures ok { IfOk result (λ found. Means bytes.now (Rows (version_of found.older) self.new (open_seen found.intent) found.torn)) }
         ensures grown { IfOk result (λ found. IsOutgrown bytes.now found.outgrown) }
@@ -283,7 +282,7 @@ impl<H: BuildHasher> RowMap<H> {
                 outgrown,
             }),
             End::Open { front } => {
-                // The group's rows don't count: what stands before it is read again.
+                // The group's rows don't count: what comes before it is read again.
                 self.clear();
                 self.read_lines(&bytes[..front])?;
                 Ok(Found {
@@ -297,15 +296,15 @@ impl<H: BuildHasher> RowMap<H> {
     }
 }
 
-/// What was read of a file but its rows.
+/// What was read of a file besides its rows.
 #[derive(Clone, Copy)]
 pub(crate) struct Found<'a> {
     /// Whether it is of version 1.
     pub(crate) older: bool,
     /// The intent that is open.
     pub(crate) intent: Option<Intent<'a>>,
-    /// Whether something torn follows what counts.
+    /// Whether it has a torn end.
     pub(crate) torn: bool,
-    /// Whether more was appended than its first rows have.
+    /// Whether it is outgrown, as `is_outgrown` says.
     pub(crate) outgrown: bool,
 }

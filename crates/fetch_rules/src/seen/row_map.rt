@@ -124,7 +124,7 @@ impl<H: BuildHasher> RowMap<H> {
         Ok(())
     }
 
-    /// Keeps the first rows alone.
+    /// Keeps only the first `count` rows.
     pub(crate) fn keep_first(&mut self, count: usize)
         ensures rows { self.new ≡ take count self.old }
         ensures is_record { IsRecord self.new }
