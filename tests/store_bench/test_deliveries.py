@@ -1,7 +1,7 @@
 """The discipline of a delivery over a real Maildir: written whole, flushed, renamed, the folder flushed.
 
-The program delivers texts of 2,048 bytes. What it asks of the system is written down, each of its writes is cut in two,
-and one call of fsync or rename is refused in turn.
+The program delivers texts of 2,048 bytes. Its system calls are recorded, each of its writes is cut in two, and one call
+of fsync or rename is refused in turn.
 """
 
 import os
@@ -28,7 +28,7 @@ class Deliveries(unittest.TestCase):
         return self.watcher.run(self.work, "deliver", self.maildir, count, refused)
 
     def check_left(self, files):
-        """The first so many texts stand in `new`, whole; none in `cur`, and nothing in `tmp`."""
+        """The first `files` texts are in `new`, whole; nothing is in `cur` or `tmp`."""
         left = {file.name: file.read_bytes() for file in (self.maildir / "new").iterdir()}
         self.assertEqual(left, {name_of(number): TEXT for number in range(1, files + 1)})
         self.assertEqual([list((self.maildir / name).iterdir()) for name in ("tmp", "cur")], [[], []])
@@ -55,7 +55,7 @@ class Deliveries(unittest.TestCase):
     def test_each_refused_call(self):
         """The calls of two deliveries are fsync of the file, rename, fsync of the folder, and the same again.
 
-        A refused call ends the run. Its file stands in `new` only where it was renamed.
+        A refused call ends the run. Its file is in `new` only if it was renamed.
         """
         for refused, files in ((1, 0), (2, 0), (3, 1), (4, 1), (5, 1), (6, 2)):
             with self.subTest(refused=refused):
@@ -142,7 +142,7 @@ class Listings(unittest.TestCase):
         self.check_held(200, 200)
 
     def test_what_is_told_was_flushed(self):
-        """Each folder once. If that is refused, nothing is told of it."""
+        """Each folder once. If that is refused, nothing is printed."""
         (self.maildir / "new" / name_of(1)).touch()
         flushes = [("fsync", "done", "maildir/new"), ("fsync", "done", "maildir/cur")]
         run, calls = self.watcher.run(self.work, "held", self.maildir, 2)
@@ -165,7 +165,7 @@ class Listings(unittest.TestCase):
         self.assertEqual(int(run.out.split()[0]), 1)
 
     def test_a_folder_that_finds_no_rest_is_refused(self):
-        """It is listed again for 2 seconds, and nothing is told of it."""
+        """It is listed again for 2 seconds, and nothing is printed."""
         begun = time.monotonic()
         run = self.held_of_restless()
         self.assertEqual((run.status, run.out), (1, b""))

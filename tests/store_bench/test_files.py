@@ -1,7 +1,7 @@
-"""The discipline of a file over the file system: what `replace`, `append` and `cut_to` ask of the system, in order.
+"""The discipline of a file over the file system: the system calls of `replace`, `append` and `cut_to`, in order.
 
 The program replaces a file by 2,048 bytes, appends as many and cuts them off again. One call of fsync or rename is
-refused in turn: what stands afterwards is the old content or the new one.
+refused in turn: the file then has the old content or the new one.
 """
 
 import stat
@@ -52,7 +52,7 @@ class Files(unittest.TestCase):
                 self.assertEqual({file.name for file in self.work.iterdir()} - {"note"}, {"seen"})
 
     def test_readable_by_its_owner_alone(self):
-        """Also where the old file could be read by others."""
+        """Also if the old file could be read by others."""
         self.file.write_bytes(b"old")
         self.file.chmod(0o644)
         run, _ = self.rewrite(1)
@@ -64,7 +64,7 @@ class Files(unittest.TestCase):
         return self.watcher.run(self.work, "pages", self.file, count, refused)
 
     def test_an_append_by_pages_is_flushed_at_each_border(self):
-        """After the flush of what stands there and of its name, which the program asks about first."""
+        """After the flush of the file's content and of its name, as the program reads the file's ends first."""
         for held, count, parts in ((100, 10_000, [3_996, 4_096, 1_908]), (4_000, 96, [96]), (4_000, 97, [96, 1]),
                                    (4_096, 4_096, [4_096]), (0, 1, [1])):
             with self.subTest(held=held, count=count):

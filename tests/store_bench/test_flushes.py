@@ -1,4 +1,4 @@
-"""What a killed run appended to a file is flushed before another run tells of it or goes by it."""
+"""What a killed run appended to a file is flushed before another run reports it or relies on it."""
 
 import signal
 import unittest
@@ -9,7 +9,7 @@ from store_bench.watched import folder_for
 
 
 class Entries(unittest.TestCase):
-    """A file of entries, to which a run appended one; it was killed before it flushed it."""
+    """A file of entries, to which a run appended one; the run was killed before it flushed the entry."""
 
     @classmethod
     def setUpClass(cls):
@@ -28,7 +28,7 @@ class Entries(unittest.TestCase):
         self.assertTrue(self.file.read_bytes().startswith(b"From "))
 
     def watch(self, word, killed=None):
-        """The words of the run's rows, in order; flushes are those of the file."""
+        """The words of the run's rows, in order; of the flushes, only those of the file."""
         note = self.work / "note"
         changes = {"LD_PRELOAD": str(self.library), "CHANGES_NOTE": str(note)}
         if killed is not None:

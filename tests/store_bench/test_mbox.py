@@ -1,4 +1,4 @@
-"""The mboxrd file over the file system: what stands in it, how it is written, and what other programs read in it."""
+"""The mboxrd file over the file system: what it contains, how it is written, and what other programs read in it."""
 
 import mailbox
 import shutil
@@ -33,7 +33,7 @@ class Mbox(unittest.TestCase):
         return self.watcher.run(self.work, "append", self.file, count, refused)
 
     def flushes(self):
-        """What stands in the file, and its name, are flushed before the first look at its ends is told."""
+        """The file's content and its name are flushed before the first look at its ends returns."""
         return [("fsync", "done", "mbox"), ("fsync", "done", str(self.work))]
 
     def fill(self, front=b""):
@@ -86,8 +86,8 @@ class Mbox(unittest.TestCase):
         self.assertFalse(self.file.exists())
 
     def test_read_by_python(self):
-        """Python finds each message. It quotes by a rule of its own and takes no `>` away when it reads, so what it gives
-        are the quoted texts; without one `>` a line they are the texts, byte for byte."""
+        """Python finds each message. It quotes by a rule of its own and takes no `>` away when it reads, so what it
+        returns are the quoted texts; unquoted, they are the texts, byte for byte."""
         self.fill()
         box = mailbox.mbox(self.file, create=False)
         self.addCleanup(box.close)
@@ -97,7 +97,7 @@ class Mbox(unittest.TestCase):
 
     @unittest.skipIf(shutil.which("formail") is None, "formail is not installed")
     def test_read_by_formail(self):
-        """formail finds as many messages; it knows one by two fields behind its first line."""
+        """formail finds as many messages; it recognizes one by two fields after its first line."""
         self.fill(b"Subject: one\nTo: another\n\n")
         counted = subprocess.run(["formail", "-s", "echo", "message"], input=self.file.read_bytes(), check=True,
                                  capture_output=True)

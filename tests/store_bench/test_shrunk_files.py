@@ -1,5 +1,5 @@
-"""A file that another program cuts to nothing, or takes away, while something is appended to it: it isn't made longer
-again, nor made anew."""
+"""A file that another program empties or removes while something is appended to it: it is neither made longer again nor
+created again."""
 
 import unittest
 
@@ -18,7 +18,7 @@ class ShrunkFiles(unittest.TestCase):
         cls.addClassCleanup(library.__exit__, None, None, None)
 
     def test_a_cut_makes_no_file_longer(self):
-        """The append is refused, and what is taken back is more than is there: zeros would stand in the file."""
+        """The append is refused, and the size to cut back to is more than is there: the cut would add zeros."""
         work = folder_for(self)
         file = work / "mbox"
         file.write_bytes(OLD)
@@ -30,7 +30,7 @@ class ShrunkFiles(unittest.TestCase):
         self.assertEqual(file.read_bytes(), b"")
 
     def test_an_append_makes_no_file(self):
-        """One that is gone by then stays so: another one in its place would hold what is appended and nothing else."""
+        """A file that is gone by then stays gone: a new one would hold only what is appended."""
         for how, count in (("append", 1), ("pages", 100)):
             with self.subTest(how):
                 work = folder_for(self)

@@ -1,4 +1,4 @@
-"""The times that the program tells are no more than it took, by the clock and by the processor, and not nothing."""
+"""The times that the program prints are more than zero and no more than it took, by the clock and by the processor."""
 
 import resource
 import time
@@ -12,7 +12,7 @@ COUNT = 200
 
 
 def told(word, path):
-    """The microseconds of the clock and of the processor that a run tells, and those that it took."""
+    """The count and the microseconds of clock and processor time that a run prints, and those that it took."""
     before, begun = resource.getrusage(resource.RUSAGE_CHILDREN), time.monotonic()
     run = programs.run("store_bench", word, str(path), str(COUNT))
     passed = time.monotonic() - begun

@@ -1,4 +1,4 @@
-"""One run of the stores' small program in a folder of its own, and what it asked of the system."""
+"""One run of the stores' small program in a folder of its own, and its system calls."""
 
 import hashlib
 import os
@@ -15,36 +15,36 @@ ACCOUNT = hashlib.sha256(b"bench\x00110\x00bench").hexdigest()
 
 
 def stem_of(number):
-    """The name of the file of a message while it is in `tmp`."""
+    """The stem of the name of a message's file; in `tmp` the mark of a process follows it."""
     return ACCOUNT + "." + f"id-{number:05}".encode().hex()
 
 
 def name_of(number):
-    """The name of the file of a message, as the program delivers it."""
+    """The name of a message's file, as the program delivers it."""
     return f"{stem_of(number)},S={SIZE}"
 
 
 def is_own(path, front):
-    """Whether a path is the front and then the mark of a process: its id and octets of random."""
+    """Whether a path is the front and then the mark of a process: its id and random octets."""
     return re.fullmatch(re.escape(front) + r"\.P\d+R[0-9a-f]{16}", path) is not None
 
 
 def make_older(path, hours):
-    """Gives a file that was changed last so many hours ago."""
+    """Writes a file whose last change was this number of hours ago."""
     path.write_bytes(b"half a text")
     changed = time.time() - hours * 3_600
     os.utime(path, (changed, changed))
 
 
 def folder_for(test):
-    """An empty folder, by its whole path, which is there until the test is over."""
+    """The absolute path of an empty folder that is there until the test is over."""
     folder = tempfile.TemporaryDirectory()
     test.addCleanup(folder.cleanup)
     return Path(folder.name).resolve()
 
 
 class Watcher:
-    """Runs the program with its calls written down, each of its writes cut in two and one call refused."""
+    """Runs the program with its calls recorded, each of its writes cut in two and one call refused."""
 
     def __init__(self, library):
         self.library = library
@@ -70,7 +70,7 @@ def watcher_for(tests):
 
 
 def written(calls, path):
-    """How many bytes the writes at the front of the calls put into the file, and the calls behind them."""
+    """How many bytes the writes at the front of the calls put into the file, and the calls after them."""
     count, place = 0, 0
     while place < len(calls) and calls[place][0] == "write" and calls[place][2] == path:
         count += int(calls[place][1])

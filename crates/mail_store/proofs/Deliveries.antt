@@ -28,14 +28,14 @@ delivered old m new title name bytes (Err NoMemory) e fault s = absurd (no_memor
     no_memory_is_not_refused : NoMemory ≡ Refused → ⊥
     no_memory_is_not_refused h = cc
 
--- after a good `begin` and a good `add` of the bytes, they are those of the file begun
+-- after a good `begin` and a good `add` of the bytes, the file begun has these bytes
 pub written : (old m new : Maildir) (name bytes : List ℕ) → m ≡ record old { begun = Some (file name []) }
     → Adds {T = Unit {0}} m bytes (Ok tt) new → new ≡ record old { begun = Some (file name bytes) }
 written old m new name bytes e a =
     a (file name []) (ap (λ (d : Maildir). d.begun) e)
     ∙ ap (λ (d : Maildir). record d { begun = Some (file name bytes) }) e
 
--- no file has the name, where none had it before another was begun
+-- no file has the name, if none had it before another was begun
 pub still_free : (old m : Maildir) (f : File) (name text : List ℕ) → m ≡ record old { begun = Some f } → text ≡ name
     → (IsInNew old name → ⊥) → IsInNew m text → ⊥
 still_free old m f name text e same free h =

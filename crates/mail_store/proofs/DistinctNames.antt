@@ -1,4 +1,4 @@
--- No two files of a folder have one name.
+-- No two files of a folder have the same name.
 use Rattle.std.proofs.Common.{◌≡◌, ℕ, zero, suc, ◌<◌, length, refl, List, [], ◌∷◌, ◌++◌, map, sym, ap, subst, ◌∙◌, arith, String, Vec, string_bytes}
 use Rattle.std.specs.Prelude.{Contains, ◌≢◌, remove}
 use Rattle.std.proofs.lemmas.List.{get_or_default, length-map, map-append}
@@ -13,7 +13,7 @@ map_remove f (x ∷ xs) zero = refl
 map_remove f (x ∷ xs) (suc n) = ap (λ ys. f x ∷ ys) (map_remove f xs n)
 
 module _ {Z Y : Type 0} where
-  -- a file whose name isn't there came behind them
+  -- a file whose name isn't there was pushed
   pub HaveDistinctNames-push : (pairs : List (String Z × Vec ℕ Y)) (p : String Z × Vec ℕ Y) → HaveDistinctNames pairs
       → (Contains (names_of (map file_of pairs)) (string_bytes p.0) → ⊥) → HaveDistinctNames (pairs ++ p ∷ [])
   HaveDistinctNames-push pairs p h free =
@@ -24,7 +24,7 @@ module _ {Z Y : Type 0} where
       (all_pairs_push (λ a b. a ≢ b) names (string_bytes p.0) h
       (λ k d inside same. free (k, inside, get_or_default names k (string_bytes p.0) d inside ∙ same)))
 
-  -- a file was taken away
+  -- a file was removed
   pub HaveDistinctNames-remove : (pairs : List (String Z × Vec ℕ Y)) (n : ℕ) → n < length pairs → HaveDistinctNames pairs → HaveDistinctNames (remove pairs n)
   HaveDistinctNames-remove pairs n inside h =
       let names = names_of (map file_of pairs) in
@@ -32,7 +32,7 @@ module _ {Z Y : Type 0} where
       subst (λ (all : List (List ℕ)). AreDistinct all) (sym left)
       (all_pairs_remove (λ (a b : List ℕ). a ≢ b) names n (omega (arith, inside, length-map (map file_of pairs) name_in, length-map pairs file_of)) h)
 
--- a name that isn't in `new`, told of the device's state
+-- a name that isn't in `new`, as a fact about the device's state
 pub name_is_new : {Z Y : Type 0} (view now : Maildir) (pairs : List (String Z × Vec ℕ Y)) (name text : List ℕ)
     → view ≡ now → view.in_new ≡ map file_of pairs → text ≡ name → (IsInNew now name → ⊥)
     → Contains (names_of (map file_of pairs)) text → ⊥

@@ -1,11 +1,11 @@
--- What the calls that a fuse refuses leave behind it.
+-- What the calls that a fuse refuses do to the device.
 use Rattle.std.proofs.Common.{◌≡◌, ℕ, ◌+◌, List, ◌++◌, Option, Result, Ok, Err, ◌∙◌, ap, subst, sym, append_assoc}
 use Rattle.mail_store.specs.declared.fault.StoreFault.{StoreFault}
 use Rattle.mail_store.specs.declared.fault.StoreFault.TheVariants.{Refused}
 use Rattle.mail_store.specs.Maildir.{Maildir, File, Adds}
 use Rattle.mail_store.specs.FlatFile.{Stored, Appends}
 
--- a part of the bytes was appended, or a front of that part: a front of the bytes stands there
+-- a part of the bytes was appended, or a front of that part: a front of the bytes is there
 pub front_appended : {T : Type 0} (old new : Stored) (bytes part rest : List ℕ) (n : ℕ) (answer : Result T StoreFault)
     → bytes ≡ part ++ rest → Appends old part answer new
     → Appends {T = Unit {0}} (record old { failures = n }) bytes (Err Refused) (record new { failures = n + 1 })

@@ -1,4 +1,4 @@
--- What a set of stems says of the files whose names it came from.
+-- What a set of stems says about the files whose names it came from.
 use Rattle.std.proofs.Common.{◌≡◌, ℕ, ◌+◌, ◌<◌, Bool, true, false, cond, List, [], ◌∷◌, ◌++◌, length, take, get_or, map, refl, sym, ap, ◌∙◌, arith, subst, Ok, Vec, String, string_bytes}
 use Rattle.std.specs.Prelude.{◌||◌, ◌&&◌, bytes_eq, Contains, IsPermutation, HoldsAt}
 use Rattle.std.specs.List.{list_any}
@@ -42,7 +42,7 @@ name_added account text digits q new old is added =
     added ∙ cond_or (bytes_eq digits q) old
     ∙ ap (λ b. old || b) (nat_list_eq_equiv.symm digits q ∙ sym (same_digits account q digits) ∙ ap (bytes_eq (account ++ 46 ∷ q)) (sym is))
 
--- the names in front are one more
+-- one more of the names was added
 pub one_more : (new old first last more test : Bool) → new ≡ (old || test) → old ≡ (first || last) → more ≡ (last || test) → new ≡ (first || more)
 one_more new old first last more test n o m = n ∙ ap (λ b. b || test) o ∙ or_assoc first last test ∙ ap (λ b. first || b) (sym m)
 
@@ -71,7 +71,7 @@ map_same : {A B : Type 0} (f g : A → B) (xs : List A) → ((x : A) → f x ≡
 map_same f g [] same = refl
 map_same f g (x ∷ xs) same = ap (λ y. y ∷ map f xs) (same x) ∙ ap (λ ys. g x ∷ ys) (map_same f g xs same)
 
--- a test of the names that a device gave, and of the files
+-- a name that a device returned passes a test exactly if one of its files' names does
 names_tell : {Z : Type 0} (test : List ℕ → Bool) (files : List File) (names : List (String Z))
     → IsPermutation (names_of files) (map string_bytes names)
     → list_any (λ name. test (string_bytes name)) names ≡ list_any (λ (f : File). test f.name) files
@@ -79,7 +79,7 @@ names_tell test files names p =
     sym (any_map test string_bytes names) ∙ sym (list_any-IsPermutation test (names_of files) (map string_bytes names) p)
     ∙ any_map test name_in files
 
--- the digits in the stems of the names of both folders tell which items are held
+-- the digits in the stems of the names of both folders show which items are held
 pub flags_found : {Z : Type 0} (account : List ℕ) (maildir : Maildir) (items : List Item) (flags : List Bool) (found : List ℕ → Bool)
     (new cur : List (String Z)) → ((q : List ℕ) → found q ≡ (any_name account q new || any_name account q cur))
     → IsPermutation (names_of maildir.in_new) (map string_bytes new)
@@ -98,7 +98,7 @@ flags_found account maildir items flags found new cur texts in_new in_cur told =
 
 -- ---- names in `new`
 
--- an id is held where a file of `new` has its name
+-- an id is held if a file of `new` has its name
 pub held_where_in_new : (account uid : List ℕ) (size : ℕ) (maildir : Maildir) → IsAccountText account → IsInNew maildir (name_of account uid size)
     → is_held account maildir uid ≡ true
 held_where_in_new account uid size maildir a c =
@@ -138,7 +138,7 @@ held_with_file ranges account a b content maildir h la lb =
 
 -- ---- flags of a listing
 
--- the item of an id, in front of items of which it is known whether they have the id
+-- one item more, before items whose flags are known
 and_more : (flag same among held : Bool) → (same ≡ true → flag ≡ held) → ((same && flag) || (among && held)) ≡ ((same || among) && held)
 and_more flag false among held agree = refl
 and_more flag true among true agree = rw (agree refl) refl
@@ -156,7 +156,7 @@ flagged_where_held account maildir (item ∷ items) uid =
 
 -- ---- names that stay
 
--- the names of both folders were told, and what is told stays
+-- the names of both folders were returned, and each returned name stays
 pub all_stay : {A B : Type 0} (stays : List ℕ → Type 0) (before mid after : Maildir) (new cur : Vec (String A) B)
     → Lists before New (Ok new) mid → Lists mid Cur (Ok cur) after
     → ((name : List ℕ) → Contains (map string_bytes new.items) name → stays name)

@@ -61,7 +61,7 @@ tail_of front =
     let step : suc (suc (length front)) + 1 ≡ suc (suc (length front + 1)) = omega arith in
     rw (size, step, at_end front 10 (10 ∷ []), at_last front 10 10) refl
 
--- the ends of a file that isn't empty and begins with `From ` tell the rest
+-- if a file isn't empty and begins with `From `, its last two bytes decide whether an entry may follow
 pub ends_decide : (edges : Edges) (was : List ℕ) (test : Bool) → edges ≡ edges_of was → (edges.size ≡ 0 → ⊥) → edges.head ≡ from_words
     → test ≡ bytes_eq edges.tail (10 ∷ 10 ∷ []) → (IsTrue test → MayGoOn was) × (MayGoOn was → IsTrue test)
 ends_decide edges was test is some head e =
@@ -74,7 +74,7 @@ ends_decide edges was test is some head e =
       ],
     )
 
--- no entry may follow where the file isn't empty and doesn't begin with `From `
+-- no entry may follow a file that isn't empty and doesn't begin with `From `
 pub head_decides : (edges : Edges) (was : List ℕ) → edges ≡ edges_of was → (edges.size ≡ 0 → ⊥) → (edges.head ≡ from_words → ⊥) → MayGoOn was → ⊥
 head_decides edges was is some other goes = elim goes [
   | inl none ↦ some (ap (λ (g : Edges). g.size) is ∙ ap length none)
@@ -83,7 +83,7 @@ head_decides edges was is some other goes = elim goes [
 
 -- ---- appending
 
--- after an `append` that was refused the file has as many bytes as it had before
+-- after a refused `append` the file has at least as many bytes as before
 pub may_cut : (old mid new : Stored) (bytes : List ℕ) (edges : Edges) (fault : StoreFault) → Looks old (Ok edges) mid
     → Appends {T = Unit {0}} mid bytes (Err fault) new → HasBytes new edges.size
 may_cut old mid new bytes edges fault looks appends =
@@ -104,7 +104,7 @@ appended old mid new text entry edges looks is appends =
           ∙ ap (λ (s : Stored). holding s (was ++ entry)) looks.1 ∙ ap (λ (l : List ℕ). holding old (was ++ l)) is,
     )
 
--- the file was cut back after a refused `append`: what it is then
+-- the file after a refused `append` and the cut that follows
 abbrev RefusedEntry : Stored → List ℕ → Stored → Type 0
 RefusedEntry old text new = (new ≡ counted old)
     ⊎ ((was front rest : List ℕ) × ((old.content ≡ Some was) × MayGoOn was) × (entry_of text ≡ front ++ rest) × (new ≡ counted (counted (holding old (was ++ front)))))

@@ -1,4 +1,4 @@
--- Fronts of an entry behind a file.
+-- Fronts of an entry after a file.
 use Rattle.std.proofs.Common.{◌≡◌, ◌⊎◌, inl, inr, ℕ, ◌+◌, true, List, [], ◌∷◌, ◌++◌, length, map, refl, sym, ap, subst, ◌∙◌, arith, append_assoc, length-append}
 use Rattle.std.specs.List.{flat_map, AllByRecursion}
 use Rattle.std.proofs.lemmas.Bool.{true≢false}
@@ -15,7 +15,7 @@ all_back : (P : List ℕ → Type 0) (xs ys : List (List ℕ)) → AllByRecursio
 all_back P [] ys all = all
 all_back P (x ∷ xs) ys all = all_back P xs ys all.1
 
--- a front of a list that ends in one more is a front of that list, where more follows it
+-- a front of `zs ++ last ∷ []` that isn't all of it is a front of `zs`
 front_of : (xs ys zs : List (List ℕ)) (y last : List ℕ) → xs ++ (y ∷ ys) ≡ zs ++ last ∷ [] → (more : List (List ℕ)) × (zs ≡ xs ++ more)
 front_of [] ys zs y last e = (zs, refl)
 front_of (x ∷ []) ys [] y last e = let tail : y ∷ ys ≡ [] = cc in let no : ⊥ = cc in absurd no
@@ -36,7 +36,7 @@ opens_before : (groups : List Group) (line : List ℕ) (lines : List (List ℕ))
 opens_before [] line lines are begins = begins
 opens_before (group ∷ groups) line lines are begins = are.0.0.1
 
--- groups whose lines are those of some files' groups and then these lines: one group more, of these lines
+-- `groups` have the texts of `files` and of one group more, whose lines after its first are these
 record LastGroup (files groups : List Group) (lines : List (List ℕ)) : Type 0 where
   pub last : Group
   pub ends : last.lines ++ (10 ∷ []) ∷ [] ≡ lines
@@ -72,7 +72,7 @@ entry_lines text whole =
     ap lines_of (sym (entry_bytes text) ∙ sym (append-nil (group_bytes (entry_group text))))
     ∙ group_first (entry_group text) [] is.0.0 (inner_lines (entry_group text).lines is.1) ∙ append-nil (group_lines (entry_group text))
 
--- the texts of a file with these lines behind it, which are lines of an entry
+-- the texts of a file followed by these lines, which are lines of an entry
 by_lines : (file text front rest : List ℕ) (texts others lines : List (List ℕ)) (was : MboxFile file texts) → IsWhole text → (now : MboxFile (file ++ front) others)
     → lines_of front ≡ lines → lines ++ lines_of rest ≡ group_lines (entry_group text) → flat_map group_lines now.groups ≡ flat_map group_lines was.groups ++ lines
     → (others ≡ texts) ⊎ ((begun more : List ℕ) × (text ≡ begun ++ more) × (others ≡ texts ++ begun ∷ []))

@@ -13,7 +13,7 @@ use Rattle.mail_store.proofs.MboxQuoting.{begins_with, begins_entry_by, quoted_l
 
 -- ---- groups as lists of lines
 
--- the lines of a group, with the empty one behind them
+-- the lines of a group, with the empty one after them
 abbrev pub group_lines : Group → List (List ℕ)
 group_lines group = group.head ∷ (group.lines ++ (10 ∷ []) ∷ [])
 
@@ -43,7 +43,7 @@ groups_lines (group ∷ groups) are =
     group_first group (flat_map group_bytes groups) are.0.0.0 (inner_lines group.lines are.0.1)
     ∙ ap (λ (ls : List (List ℕ)). group_lines group ++ ls) (groups_lines groups are.1)
 
--- ---- lists of lines are grouped in one way
+-- ---- lists of lines are grouped in one way only
 
 pub inner_apart : (lines : List (List ℕ)) → AllByRecursion IsInner lines → AllByRecursion IsApart (lines ++ (10 ∷ []) ∷ [])
 inner_apart [] all = (refl, tt)

@@ -14,7 +14,7 @@ use Rattle.mail_store.proofs.MboxLines.{joined, line_first, first_cut, whole_lin
 drop_one_more : (n x : ℕ) (xs : List ℕ) → drop (1 + n) (x ∷ xs) ≡ drop n xs
 drop_one_more n x xs = let step : 1 + n ≡ suc n = omega arith in rw step refl
 
--- what follows the `>`s in front tells whether a line is marked
+-- a line is marked exactly if what follows its leading `>`s begins with `From `
 pub marked_behind : (line : List ℕ) → begins_entry (drop (prefix_len is_greater line) line) ≡ is_marked line
 marked_behind [] = refl
 marked_behind (byte ∷ rest) = elim (eqb_tells byte 62) [
@@ -101,7 +101,7 @@ unquotes_quoted text whole =
 
 -- ---- copying a text in runs
 
--- of a text whose lines are shown by `shows`, the first ones stand behind what was there, but for what is in front of `rest` in `run`
+-- `out` is what was there and then the lines of the text as `shows` gives them, up to `rest`, without the front of `run`
 pub record Copies (shows : List ℕ → List ℕ) (old out run rest text : List ℕ) : Type 0 where
   pub front : List ℕ
   pub split : run ≡ front ++ rest
@@ -127,7 +127,7 @@ copies_plain shows old out run rest text line after was lines cut same = record 
       ap (λ (l : List ℕ). out ++ l) (append_assoc was.front line (flat_map shows (lines_of after)) ∙ ap (λ (l : List ℕ). was.front ++ l) (sym tail)) ∙ was.shown;
 }
 
--- a line that is shown with other bytes in front: the run ends before it
+-- a line that is shown with other bytes at its front: the run ends before it
 pub copies_changed : (shows : List ℕ → List ℕ) (old out run rest text line after extra kept new later : List ℕ) → Copies shows old out run rest text
     → lines_of rest ≡ line ∷ lines_of after → shows line ≡ extra ++ kept → new ≡ (out ++ take (length run - length rest) run) ++ extra → later ≡ kept ++ after
     → Copies shows old new later after text
@@ -149,7 +149,7 @@ pub copies_all : (shows : List ℕ → List ℕ) (old out run rest text : List �
 copies_all shows old out run rest text was none =
     ap (λ (l : List ℕ). out ++ l) (was.split ∙ ap (λ (l : List ℕ). was.front ++ l) (none ∙ ap (λ (l : List ℕ). flat_map shows (lines_of l)) (sym none))) ∙ was.shown
 
--- ---- one line off a text
+-- ---- one line cut off a text
 
 pub cut_off : (rest line after : List ℕ) (n : ℕ) → 0 < length rest → IsLine (take n rest) ⊎ ((n ≡ length rest) × HasNoLf rest)
     → line ≡ take n rest → after ≡ drop n rest → (lines_of rest ≡ line ∷ lines_of after) × (rest ≡ line ++ after)
@@ -165,7 +165,7 @@ rest_within whole front rest e = let total = ap length e ∙ length-append front
 
 -- ---- the length of a quoted text
 
--- of a text so many lines before `rest` are marked
+-- of the lines of a text before `rest`, `marked` are marked
 pub record Counts (text rest : List ℕ) (marked : ℕ) : Type 0 where
   pub total : length (quoted_text text) + length rest ≡ length text + (marked + length (quoted_text rest))
   pub few : 5 * marked + length rest ≤ length text

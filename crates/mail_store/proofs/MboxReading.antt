@@ -12,7 +12,7 @@ use Rattle.mail_store.proofs.MboxGroups.{group_lines, inner_lines, group_first, 
 
 -- ---- one group cut off
 
--- the first line of the bytes, and lines that don't begin with `From `, stand in front of the rest
+-- the first line of the bytes, and lines that don't begin with `From `, come before the rest
 pub record Passes (bytes rest : List ℕ) : Type 0 where
   pub head : List ℕ
   pub inner : List (List ℕ)
@@ -84,7 +84,7 @@ held_parts group head rest text cut held =
 
 -- ---- the whole file
 
--- of the bytes the front stands for these texts; where the bytes stand for texts, the rest does
+-- the front of the bytes stands for these texts; if the bytes stand for texts, the rest does too
 pub record ReadsOn (bytes rest : List ℕ) (texts : List (List ℕ)) : Type 0 where
   pub front : List ℕ
   pub split : bytes ≡ front ++ rest
@@ -99,7 +99,7 @@ reads_none bytes = record {
   later = λ others file. (others, file);
 }
 
--- where the bytes stand for texts, the group that is cut off is their first
+-- if the bytes stand for texts, the group that is cut off is their first
 pub record Agrees (group after : List ℕ) : Type 0 where
   pub first : Group
   pub is : IsGroup first

@@ -7,7 +7,7 @@ use Rattle.std.proofs.Math.Seq.{split_at}
 use Rattle.mail_store.specs.Maildir.{Maildir, File, Folders, file, file_of, names_of, Takes}
 
 module _ {Z Y : Type 0} where
-  -- where no pair has the name, no file has it
+  -- if no pair has the name, no file has it
   pub not_named : (pairs : List (String Z × Vec ℕ Y)) (name : List ℕ) → All (λ p. string_bytes p.0 ≢ name) pairs
       → Contains (names_of (map file_of pairs)) name → ⊥
   not_named [] name none c = absurd (omega (arith, c.1))
@@ -18,7 +18,7 @@ module _ {Z Y : Type 0} where
       by later zero below is = none 0 p (omega arith) is
       by later (suc k) below is = later (k, omega arith, is)
 
-  -- where a pair has the name, a file has it
+  -- if a pair has the name, a file has it
   pub named : (pairs : List (String Z × Vec ℕ Y)) (name : List ℕ) (i : ℕ) → i < length pairs → HoldsAt (λ p. string_bytes p.0 ≡ name) pairs i
       → Contains (names_of (map file_of pairs)) name
   named [] name i below at = absurd (omega arith)
@@ -53,7 +53,7 @@ module _ {Z Y : Type 0} where
             ∙ ap (λ (bytes : List ℕ). map file_of cur ++ file (name ++ suffix) bytes ∷ []) same);
       }
 
--- a fact of the names in a folder, told of the device's state
+-- a fact about the names of some pairs, as a fact about the device's `cur`
 pub about_cur : {Z Y : Type 0} (view now : Maildir) (pairs items : List (String Z × Vec ℕ Y)) (text name : List ℕ) (P : List (List ℕ) → List ℕ → Type 0)
     → view ≡ now → view.in_cur ≡ map file_of items → pairs ≡ items → text ≡ name
     → P (names_of (map file_of pairs)) text → P (names_of now.in_cur) name
@@ -69,7 +69,7 @@ about_new view now pairs items name P seen is same h =
     subst (λ (m : Maildir). P (names_of m.in_new) name) seen
     (subst (λ (files : List File). P (names_of files) name) (ap (map file_of) same ∙ sym is) h)
 
--- a look-up that found a place or none tells whether a file has the name
+-- a look-up finds a place exactly if a file has the name
 pub found_iff : {Z Y : Type 0} (pairs : List (String Z × Vec ℕ Y)) (name : List ℕ) (place : Option ℕ) (b : Bool) → b ≡ is_some place
     → IfSome place (λ i. (i < length pairs) × HoldsAt (λ p. string_bytes p.0 ≡ name) pairs i)
     → IfNone place (Contains (names_of (map file_of pairs)) name → ⊥)

@@ -27,7 +27,7 @@ lower_digits_pass = AllPass-from_list_all is_lower_hex_digit lower_digits refl
 digit_passes : (k : ℕ) → k < 16 → is_lower_hex_digit (slice_index lower_digits k) ≡ true
 digit_passes k below = lower_digits_pass k 0 below
 
--- the hexadecimal text of bytes has lower-case digits alone
+-- the hexadecimal text of bytes has only lower-case digits
 pub digits_pass : (bytes : List ℕ) → IsBytes bytes → AllPass is_lower_hex_digit (encode_lower bytes)
 unfolding encode_with
 digits_pass [] h = All-nil (λ x. is_lower_hex_digit x ≡ true)
@@ -42,11 +42,11 @@ digits_pass (b ∷ rest) h =
 
 -- ---- no colons and no commas
 
--- no byte ends a base or a stem
+-- the byte ends neither a base nor a stem
 IsPlain : ℕ → Type 0
 IsPlain byte = (is_colon byte ≡ false) × (is_comma byte ≡ false)
 
--- a digit is none of them
+-- a digit is plain
 digit_is_plain : (byte : ℕ) → is_lower_hex_digit byte ≡ true → IsPlain byte
 unfolding IsPlain
 digit_is_plain byte h = (no_colon, no_comma)
@@ -57,7 +57,7 @@ digit_is_plain byte h = (no_colon, no_comma)
     no_comma : is_comma byte ≡ false
     no_comma = grind arith
 
--- what a table gives past its end isn't either
+-- a byte read from the table is plain, even past its end
 table_is_plain : (k : ℕ) → IsPlain (slice_index lower_digits k)
 unfolding IsPlain
 table_is_plain k =
@@ -75,7 +75,7 @@ digits_are_plain (b ∷ rest) =
     (All-cons IsPlain (slice_index lower_digits (b % 16)) (encode_lower rest)
     (table_is_plain (b % 16)) (digits_are_plain rest))
 
--- what holds no such byte is there whole before the first
+-- a name in which no byte passes is whole before the first that does
 all_before : (p : ℕ → Bool) (name : List ℕ) → All (λ byte. p byte ≡ false) name → before_first p name ≡ name
 all_before p name h =
     ap (λ n. take n name) (position_or_len_is p name (length name) 0 (omega arith) (λ k lt. h k 0 lt) (λ lt. absurd (omega arith)))
@@ -98,7 +98,7 @@ stem-stem_of account uid h =
     ap (before_first is_comma) (base-stem_of account uid h)
     ∙ all_before is_comma (stem_of account uid) (λ k d lt. (stem_is_plain account uid h k d lt).1)
 
--- a decimal holds digits alone
+-- a decimal has only digits
 glyph_is_no_colon : (d : ℕ) → d < 10 → is_colon (digit_glyph false d) ≡ false
 glyph_is_no_colon d small = by (nat_lt d 10)
   where
@@ -133,7 +133,7 @@ base-name_of account uid size h =
     (All-cons (λ byte. is_colon byte ≡ false) 61 [] refl (All-nil (λ byte. is_colon byte ≡ false))))))
     (decimal_has_no_colon size))
 
--- a byte in front that passes leaves nothing, another stays
+-- a first byte that passes leaves nothing, another stays
 before_first-cons : (p : ℕ → Bool) (x : ℕ) (xs : List ℕ) → before_first p (x ∷ xs) ≡ cond (p x) [] (x ∷ before_first p xs)
 before_first-cons p x xs = cut (p x) (position_or_len p xs)
   where
@@ -143,7 +143,7 @@ before_first-cons p x xs = cut (p x) (position_or_len p xs)
         let more : 1 + n ≡ suc n = omega arith in
         ap (λ (k : ℕ). take k (x ∷ xs)) more
 
--- what stands behind a byte that passes doesn't matter
+-- what follows a byte that passes doesn't matter
 before_first-cut : (p : ℕ → Bool) (front rest : List ℕ) (mark : ℕ) → p mark ≡ true → before_first p (front ++ mark ∷ rest) ≡ before_first p front
 before_first-cut p [] rest mark passes = before_first-cons p mark rest ∙ ap (λ b. cond b [] (mark ∷ before_first p rest)) passes
 before_first-cut p (x ∷ xs) rest mark passes =
@@ -157,7 +157,7 @@ stem-name_of account uid size h =
     ∙ before_first-cut is_comma (stem_of account uid) (83 ∷ 61 ∷ decimal size) 44 refl
     ∙ all_before is_comma (stem_of account uid) (λ k d lt. (stem_is_plain account uid h k d lt).1)
 
--- marks behind a name, from a colon on, are cut off with it
+-- marks after a name, from a colon on, are cut off with it
 pub base-marked : (name marks : List ℕ) → base (name ++ 58 ∷ marks) ≡ base name
 base-marked name marks = before_first-cut is_colon name marks 58 refl
 
@@ -203,7 +203,7 @@ IsAscii-account text h k =
     digit_is_ascii : (byte : ℕ) → is_lower_hex_digit byte ≡ true → byte < 128
     digit_is_ascii byte pass = grind arith
 
--- an answer that is Err only where a fact doesn't hold is Ok where it does
+-- an answer that is Err only if a fact doesn't hold is Ok if it does
 pub IsOk-from_cases : {T E : Type 0} (r : Result T E) (P : T → Type 0) (Q : Type 0) (R : E → Type 0)
     → MatchResult r P (λ e. (Q → ⊥) × R e) → Q → IsOk r
 IsOk-from_cases (Ok x) P Q R h q = refl
@@ -247,8 +247,8 @@ put_together name stem front text digits account code n f s a t =
     n ∙ ap (λ (xs : List ℕ). xs ++ text) (f ∙ ap (λ (xs : List ℕ). stem ++ xs) s ∙ ap (λ (xs : List ℕ). xs ++ 46 ∷ []) a)
     ∙ append_assoc account (46 ∷ []) text ∙ ap (λ (xs : List ℕ). account ++ 46 ∷ xs) t
 
--- a name that isn't the account's text and more is no file name of the account, and one that is
--- has the digits behind it
+-- a name in which no full stop follows the account's text is no file name of the account, and one
+-- in which it does has the digits after it
 pub digits_behind : (account name : List ℕ) (marked : List ℕ) (r : Option (Bor (List ℕ))) → name ≡ account ++ marked
     → MatchOption r ((rest : List ℕ) → marked ≢ 46 ∷ [] ++ rest) (λ rest. marked ≡ 46 ∷ [] ++ rest.now)
     → MatchOption r ((digits : List ℕ) → name ≢ account ++ 46 ∷ digits) (λ digits. name ≡ account ++ 46 ∷ digits.now)
@@ -262,7 +262,7 @@ pub text_behind_is : (text front : List ℕ) (r : Option (Bor (List ℕ)))
 text_behind_is text front None h = h
 text_behind_is text front (Some rest) h = h.1.1 ∙ ap (λ (xs : List ℕ). front ++ xs) (sym h.2)
 
--- where no id has this text, no id has the stem that ends in it
+-- if no id has this text, no id has the stem that ends in it
 pub none_named : {E : Type 0} {B : Type 0} (account name digits : List ℕ) (r : Result (Option (Vec ℕ B)) E) → name ≡ account ++ 46 ∷ digits
     → IfOk r (λ id. IfNone id ((uid : List ℕ) → IsLegalId uid → encode_lower uid ≢ digits))
     → IfOk r (λ id. IfNone id ((uid : List ℕ) → IsLegalId uid → stem_of account uid ≢ name))

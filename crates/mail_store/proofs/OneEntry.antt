@@ -1,4 +1,4 @@
--- Whether a line but the first begins with `From `, looked for window by window.
+-- Whether a line after the first begins with `From `, looked for window by window.
 use Rattle.std.proofs.Common.{◌≡◌, inl, inr, ℕ, zero, suc, ◌+◌, ◌≤◌, Bool, true, false, ◌||◌, ◌&&◌, List, [], ◌∷◌, ◌++◌, length, take, drop, refl, sym, ap, subst, ◌∙◌, arith, append_assoc, length-append}
 use Rattle.std.specs.Prelude.{not, ◌==◌}
 use Rattle.std.specs.List.{list_all, onto_first}
@@ -14,7 +14,7 @@ use Rattle.mail_store.specs.Settling.{is_one_entry}
 use Rattle.mail_store.proofs.MboxLines.{joined, lines_joined}
 use Rattle.mail_store.proofs.MboxQuoting.{begins_with, begins_entry_by}
 
--- an LF, and what a line begins with that begins an entry
+-- an LF, and the bytes that an entry begins with
 abbrev pub needle : List ℕ
 needle = 10 ∷ from_words
 
@@ -36,7 +36,7 @@ from_first rest line lines e = by (lines_of rest) e
     by [] f = ([], cc)
     by (part ∷ parts) f = (part, cc)
 
--- the first line begins as the bytes do
+-- the first line begins with `From ` exactly if the bytes do
 first_begins : (bytes line : List ℕ) (lines : List (List ℕ)) → lines_of bytes ≡ line ∷ lines → begins_entry line ≡ begins_entry bytes
 first_begins bytes line lines e = both_ways (begins_entry line) (begins_entry bytes) to from
   where
@@ -51,7 +51,7 @@ first_begins bytes line lines e = both_ways (begins_entry line) (begins_entry by
         let f = from_first (drop 5 bytes) line lines (ap lines_of (sym (begins_with bytes is)) ∙ e) in
         begins_entry_by line f.0 f.1
 
--- no line begins an entry where the first doesn't, and no other
+-- no line begins an entry exactly if the first doesn't, and no other does
 lines_apart : (bytes : List ℕ) → list_all (λ line. not (begins_entry line)) (lines_of bytes) ≡ (not (begins_entry bytes) && is_one_entry bytes)
 lines_apart bytes = by (lines_of bytes) refl
   where
@@ -76,7 +76,7 @@ one_entry_is (byte ∷ rest) = elim (eqb_tells byte 10) [
   | inr p ↦ rw p.0 (ap (list_all (λ line. not (begins_entry line))) (onto_others byte (lines_of rest)) ∙ one_entry_is rest)
 ]
 
--- ---- where the needle stands
+-- ---- where the needle is
 
 pub needle_split : (bytes : List ℕ) → holds_needle bytes ≡ true → (front : List ℕ) × (back : List ℕ) × (bytes ≡ front ++ (needle ++ back))
 needle_split [] e = absurd (true≢false (sym e))
@@ -112,7 +112,7 @@ needle_nowhere bytes none = elim (cases_Bool (holds_needle bytes)) [
   | inr free ↦ free
 ]
 
--- so few bytes don't hold it
+-- five bytes or fewer don't hold it
 pub needle_short : (bytes : List ℕ) → length bytes ≤ 5 → holds_needle bytes ≡ false
 needle_short bytes few = elim (cases_Bool (holds_needle bytes)) [
   | inl held ↦ let s = needle_split bytes held in let size = ap length s.2 ∙ length-append s.0 (needle ++ s.1) in absurd (omega (arith, size))
@@ -131,7 +131,7 @@ absorbed : (a b : Bool) → (a ≡ true → b ≡ true) → (a || b) ≡ b
 absorbed true b to = sym (to refl)
 absorbed false b to = refl
 
--- a window at the front of the bytes tells nothing that they don't
+-- a window at the front of the bytes holds the needle only if they do
 pub window_first : (n : ℕ) (bytes : List ℕ) → holds_needle bytes ≡ (holds_needle (take n bytes) || holds_needle bytes)
 window_first n bytes = sym (absorbed (holds_needle (take n bytes)) (holds_needle bytes) there)
   where
@@ -154,7 +154,7 @@ begins_by_five n bytes = both_ways (begins_entry (take (n + 5) bytes)) (begins_e
         ap (λ (k : ℕ). take k bytes) size ∙ ap (take (length from_words + n)) (begins_with bytes is) ∙ take-append-add from_words (drop 5 bytes) n
         )
 
--- the needle stands in a window, or in what begins five bytes before the window's end
+-- the needle is in a window, or in what begins five bytes before the window's end
 pub window_next : (n : ℕ) (bytes : List ℕ) → holds_needle bytes ≡ (holds_needle (take (n + 5) bytes) || holds_needle (drop n bytes))
 window_next zero bytes = window_first 5 bytes
 window_next (suc n) [] = window_first (suc n + 5) []

@@ -36,7 +36,7 @@ first_page room (byte ∷ next ∷ page) more some fits = elim (eqb_tells room 1
   ) refl
 ]
 
--- the next page is as much as stands up to the page's end, or up to the end of the bytes
+-- the next page is what there is up to the page's end, or up to the end of the bytes
 pub next_page : (place n : ℕ) (bytes : List ℕ) → 0 < n → n ≤ length bytes → (n ≡ page_size - place % page_size) ⊎ ((n ≤ page_size - place % page_size) × (n ≡ length bytes))
     → pages_from place bytes ≡ take n bytes ∷ pages_from (place + n) (drop n bytes)
 next_page place n bytes some within fits = elim fits [
@@ -65,7 +65,7 @@ pages_joined room (byte ∷ rest) = elim (eqb_tells room 1) [
 
 -- ---- words that pages begin with
 
--- the one begins with the other
+-- one of the two begins with the other
 abbrev pub Fronts : List ℕ → List ℕ → Type 0
 Fronts words bytes = ((more : List ℕ) × (words ≡ bytes ++ more)) ⊎ ((more : List ℕ) × (bytes ≡ words ++ more))
 
@@ -77,7 +77,7 @@ agree_right words bytes more e =
     ap (λ (b : Bool). starts_with nat_eq words bytes || b) ((starts_is Decides-eqb bytes words (starts_with nat_eq bytes words) refl).1 more e)
     ∙ or-true (starts_with nat_eq words bytes)
 
--- the front of a list, and that of words which begin it
+-- a page and words that both begin a list: one of the two begins with the other
 pub page_words : (page rest words more : List ℕ) → page ++ rest ≡ words ++ more
     → ((w : List ℕ) × (words ≡ page ++ w) × (rest ≡ w ++ more)) ⊎ ((p : List ℕ) × (page ≡ words ++ p) × (more ≡ p ++ rest))
 page_words [] rest words more e = inl (words, refl, e)

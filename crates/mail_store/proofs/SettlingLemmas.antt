@@ -1,4 +1,4 @@
--- What a look at the bytes that follow a place of a file tells, and what settling does to the file.
+-- What a look at the bytes that follow a place in a file shows, and what settling does to the file.
 use Rattle.std.proofs.Common.{◌≡◌, ◌⊎◌, inl, inr, ℕ, zero, suc, ◌+◌, ◌-◌, ◌<◌, ◌≤◌, ◌%◌, min, Bool, true, false, cond, ◌&&◌, ◌||◌, List, [], ◌∷◌, ◌++◌, length, take, drop, Option, Some, Result, Ok, Err, refl, sym, ap, subst, ◌∙◌, arith, length-append}
 use Rattle.std.specs.Prelude.{not, ◌==◌, nat_lt, nat_le, bytes_eq, slice_index}
 use Rattle.std.specs.List.{list_all, AllByRecursion}
@@ -39,7 +39,7 @@ one_entry_first n bytes =
 one_entry_short : (bytes : List ℕ) → length bytes ≤ 5 → is_one_entry bytes ≡ true
 one_entry_short bytes few = one_entry_is bytes ∙ ap not (needle_short bytes few)
 
--- ---- a look that has come so far
+-- ---- a look so far
 
 -- what was seen of the bytes' first `done`, and what is left to see
 pub record Seen (start : ℕ) (rest : List ℕ) (done : ℕ) (look : Look) : Type 0 where
@@ -169,7 +169,7 @@ window_read old new was buf start done behind front page count reads is size bef
           ∙ ap (λ (k : ℕ). take page (drop k rest)) (omega (arith, before)),
     )
 
--- what the slices of the buffer are, whose front was filled
+-- the slices of the buffer whose front was filled
 pub filled : (whole piece rest : List ℕ) (front page : ℕ) → length piece ≡ front + page → whole ≡ piece ++ rest
     → (take (front + page) whole ≡ piece) × (take (front + page - front) (drop front whole) ≡ drop front piece)
 filled whole piece rest front page wide e =
@@ -214,7 +214,7 @@ few_empty [] few = refl
 few_empty (a ∷ []) few = and-false (a == 10)
 few_empty (a ∷ b ∷ rest) few = absurd (omega (arith, few))
 
--- the ends of a file tell whether what follows a place ends with an empty line
+-- the ends of a file show whether what follows a place ends with an empty line
 pub ends_tell : (edges : Edges) (was : List ℕ) (start behind : ℕ) → edges ≡ edges_of was → length (drop start was) ≡ behind
     → ((behind < 2 → false ≡ ends_empty (drop start was)) × (2 ≤ behind → bytes_eq edges.tail (10 ∷ 10 ∷ []) ≡ ends_empty (drop start was)))
 ends_tell edges was start behind is size = (
@@ -312,7 +312,7 @@ entry_ends text whole = elim (texts_go_on (entry_of text) (text ∷ []) (entry_a
     none : MboxFile [] []
     none = record { groups = []; are = tt; whole = refl; read = refl }
 
--- a front that is ours, behind a file
+-- a front that is ours, after a file
 settles_behind : (file front : List ℕ) (len : ℕ) → 0 < length front → length front ≤ len → is_ours (length file) front ≡ true → stands_whole (length file) len (file ++ front) ≡ false
     → settled_file (length file) len (file ++ front) ≡ file
 settles_behind file front len some few ours isn't =

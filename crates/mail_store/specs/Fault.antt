@@ -3,7 +3,7 @@ use Rattle.std.specs.Prelude.{◌≡◌, Bool, true, false, ◌⊎◌}
 use Rattle.mail_store.specs.declared.fault.StoreFault.{StoreFault}
 use Rattle.mail_store.specs.declared.fault.StoreFault.TheVariants.{Missing, Refused, NotMbox, NoMemory}
 
--- whether the device refused the call: such an answer is counted
+-- whether the device refused the call; refusals are counted
 abbrev pub is_refusal : StoreFault → Bool
 is_refusal Missing = false
 is_refusal Refused = true

@@ -26,7 +26,7 @@ IsAccountText text = (length text ≡ 64) × AllPass is_lower_hex_digit text
 abbrev pub is_comma : ℕ → Bool
 is_comma byte = byte == 44
 
--- what stands before the first comma of a name's base: what follows it tells of the file, as `,S=` does (Maildir++)
+-- the part of a name's base before its first comma; what follows describes the file, as `,S=` does (Maildir++)
 abbrev pub stem : List ℕ → List ℕ
 stem name = before_first is_comma (base name)
 
@@ -38,11 +38,11 @@ stem_of account uid = account ++ 46 ∷ encode_lower uid
 abbrev pub sized : List ℕ → ℕ → List ℕ
 sized front size = front ++ codes ",S=" ++ decimal size
 
--- the name of a file of so many bytes that holds an id. Earlier versions named it by its stem alone
+-- the name of a file that holds an id and has `size` bytes. Earlier versions named it by its stem alone
 abbrev pub name_of : List ℕ → List ℕ → ℕ → List ℕ
 name_of account uid size = sized (stem_of account uid) size
 
--- a text in a file whose name has this stem and tells its length, and the file of an id's text
+-- a text in a file whose name is this stem and the text's length, and the file of an id's text
 abbrev pub sized_file : List ℕ → List ℕ → File
 sized_file front text = file (sized front (length text)) text
 
@@ -65,7 +65,7 @@ NamesHaveStems = (account uid : List ℕ) (size : ℕ) → IsAccountText account
 abbrev pub NamesAreBases : Type 0
 NamesAreBases = (account uid : List ℕ) (size : ℕ) → IsAccountText account → base (name_of account uid size) ≡ name_of account uid size
 
--- the bytes of the longest stem, 64 digits, a full stop, and two digits for each of 70 characters; and of the longest
+-- the length of the longest stem: 64 digits, a full stop, and two digits for each of 70 characters; and of the longest
 -- name: a stem, `,S=` and 20 digits
 abbrev pub longest_stem : ℕ
 longest_stem = 205
@@ -73,7 +73,7 @@ longest_stem = 205
 abbrev pub longest_name : ℕ
 longest_name = 228
 
--- `,S=` and any size fit behind it without more memory
+-- `,S=` and any size fit after it without more memory
 abbrev pub HasRoomForSize : {A : Type 0} → String A → Type 0
 HasRoomForSize text = string_len text + 23 ≤ string_capacity text
 

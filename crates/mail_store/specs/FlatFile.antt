@@ -6,12 +6,12 @@ use Rattle.mail_store.specs.declared.fault.StoreFault.{StoreFault}
 use Rattle.mail_store.specs.declared.fault.StoreFault.TheVariants.{Missing, Refused, NotMbox, NoMemory}
 use Rattle.mail_store.specs.declared.file.flat_file.Edges.{Edges}
 
--- what is known of a file: its bytes, None where there is no file, and how many calls were refused
+-- what is known of a file: its bytes, None if there is no file, and how many calls were refused
 pub record Stored : Type 0 where
   pub content : Option (List ℕ)
   pub failures : ℕ
 
--- these bytes are the file's
+-- the file with these bytes
 abbrev pub holding : Stored → List ℕ → Stored
 holding old bytes = record old { content = Some bytes }
 
@@ -28,7 +28,7 @@ edges_of bytes = record {
   tail = slice_index (0 ∷ 0 ∷ bytes) (length bytes) ∷ slice_index (0 ∷ 0 ∷ bytes) (length bytes + 1) ∷ [];
 }
 
--- a call that only reads answered a fault: there is no file, or the call was refused
+-- a call that only reads failed: there is no file, or the call was refused
 abbrev pub Denies : Stored → StoreFault → Stored → Type 0
 Denies old Missing new = (old.content ≡ None) × (new ≡ old)
 Denies old Refused new = new ≡ counted old
@@ -45,7 +45,7 @@ abbrev pub Measures : Stored → Result Edges StoreFault → Stored → Type 0
 Measures old (Ok edges) new = ((was : List ℕ) × (old.content ≡ Some was) × (edges ≡ edges_of was)) × (new ≡ old)
 Measures old (Err fault) new = Denies old fault new
 
--- the bytes from a place on, at most so many: none where the place is at or past the end
+-- the bytes from a place on, at most `len`: none if the place is at or past the end
 abbrev pub piece_at : ℕ → ℕ → List ℕ → List ℕ
 piece_at start len bytes = take len (drop start bytes)
 
@@ -57,7 +57,7 @@ ReadsAt old start (Ok count) buf new =
     × (new ≡ old)
 ReadsAt old start (Err fault) buf new = Denies old fault new
 
--- `append`: the bytes stand behind the old ones; a refused call put a front of them there
+-- `append`: the bytes follow the old ones; after a refused call a front of them does
 abbrev pub Appends : {T : Type 0} → Stored → List ℕ → Result T StoreFault → Stored → Type 0
 Appends old bytes (Ok done) new = (was : List ℕ) → old.content ≡ Some was → new ≡ holding old (was ++ bytes)
 Appends old bytes (Err fault) new =
@@ -71,7 +71,7 @@ Cuts old len (Err fault) new =
     (was : List ℕ) → old.content ≡ Some was
     → (new ≡ counted old) ⊎ (new ≡ counted (holding old (take len was)))
 
--- `replace`: the bytes are the file's; a refused call leaves the old file, or none where none was
+-- `replace`: the bytes are the file's; a refused call leaves the file as it was, or with these bytes
 abbrev pub Replaces : {T : Type 0} → Stored → List ℕ → Result T StoreFault → Stored → Type 0
 Replaces old bytes (Ok done) new = new ≡ holding old bytes
 Replaces old bytes (Err fault) new = (new ≡ counted old) ⊎ (new ≡ counted (holding old bytes))

@@ -32,12 +32,12 @@ fused_maildir maildir f = record (maildir f.device) { failures = f.failures }
 abbrev pub fused_file : {D : Type 0} → (D → Stored) → Fused D → Stored
 fused_file stored f = record (stored f.device) { failures = f.failures }
 
--- the device kept its word, and the fuse's count is below its greatest value
+-- the device is sound, and the fuse's count is below its greatest value
 abbrev pub FusedIsSound : {D : Type 0} → (D → Type 0) → Fused D → Type 0
 FusedIsSound sound f = sound f.device × (f.failures < greatest_count)
 
--- one call below the greatest count: it uses up a pass; where none is left it is refused, and no
--- later refusal takes effect; where one is left it is refused only where the device refused it
+-- one call below the greatest count: it uses up a pass; if none is left it is refused, and no later
+-- refusal takes effect; if one is left it is refused only if the device refused it
 pub record Burns {D T : Type 0} (count : D → ℕ) (old : Fused D) (result : Result T StoreFault) (new : Fused D) : Type 0 where
   pub used : new.passes_left ≡ old.passes_left - 1
   pub blown : old.passes_left ≡ 0 → result ≡ Err Refused

@@ -1,4 +1,4 @@
--- What `held` answers of a Maildir.
+-- What `held` answers for a Maildir.
 use Rattle.std.specs.Prelude.{◌≡◌, ℕ, List, map, Bool, true, false, Result, Ok, Err, Vec, ◌⊎◌}
 use Rattle.std.specs.Prelude.{◌∷◌, ◌++◌, bytes_eq, String, string_bytes}
 use Rattle.std.specs.List.{list_any}

@@ -43,7 +43,7 @@ file name content = record { name = name; content = content }
 abbrev pub file_of : {A B : Type 0} → String A × Vec ℕ B → File
 file_of pair = file (string_bytes pair.0) pair.1.items
 
--- no two files that a device in memory keeps have one name
+-- no two files that a device in memory keeps have the same name
 abbrev pub HaveDistinctNames : {A B : Type 0} → List (String A × Vec ℕ B) → Type 0
 HaveDistinctNames pairs = AreDistinct (names_of (map file_of pairs))
 
@@ -65,7 +65,7 @@ counted old = record old { failures = old.failures + 1 }
 abbrev pub dropped : Maildir → Maildir
 dropped old = record old { begun = None }
 
--- the file stands in `new`, behind the others, and none is being written
+-- the file is in `new`, after the others, and none is being written
 abbrev pub with_file : Maildir → File → Maildir
 with_file old f = record old { in_new = old.in_new ++ f ∷ []; begun = None }
 
@@ -94,8 +94,8 @@ Begins old name (Err Refused) new = new ≡ counted old
 Begins old name (Err NotMbox) new = ⊥
 Begins old name (Err NoMemory) new = ⊥
 
--- `add`: the bytes stand behind those of the file that is being written; a refused call leaves that
--- file begun, with any bytes
+-- `add`: the bytes follow those of the file that is being written; a refused call leaves that file
+-- begun, with any bytes
 abbrev pub Adds : {T : Type 0} → Maildir → List ℕ → Result T StoreFault → Maildir → Type 0
 Adds old bytes (Ok done) new =
     (f : File) → old.begun ≡ Some f → new ≡ record old { begun = Some (file f.name (f.content ++ bytes)) }
@@ -103,15 +103,15 @@ Adds old bytes (Err fault) new =
     (f : File) → old.begun ≡ Some f
     → (content : List ℕ) × (new ≡ counted (record old { begun = Some (file f.name content) }))
 
--- `settle`: what was written stands in `new` under this name; a refused call leaves it out of `new`,
--- or in it and whole
+-- `settle`: what was written is in `new` under this name; a refused call leaves it out of `new`, or
+-- in it and whole
 abbrev pub Settles : {T : Type 0} → Maildir → List ℕ → Result T StoreFault → Maildir → Type 0
 Settles old name (Ok done) new = (f : File) → old.begun ≡ Some f → new ≡ with_file old (file name f.content)
 Settles old name (Err fault) new =
     (f : File) → old.begun ≡ Some f
     → (new ≡ counted (dropped old)) ⊎ (new ≡ counted (with_file old (file name f.content)))
 
--- `deliver`: the file stands in `new`, or nothing changed, or, refused, one of the two
+-- `deliver`: the file is in `new`, or nothing changed, or, if refused, one of the two
 abbrev pub Delivers : {T : Type 0} → Maildir → File → Result T StoreFault → Maildir → Type 0
 Delivers old f (Ok done) new = new ≡ with_file old f
 Delivers old f (Err Missing) new = (old.there.tmp ≡ false) × (new ≡ old)
@@ -119,8 +119,8 @@ Delivers old f (Err Refused) new = (new ≡ counted (dropped old)) ⊎ (new ≡ 
 Delivers old f (Err NotMbox) new = ⊥
 Delivers old f (Err NoMemory) new = new ≡ old
 
--- a file of `new` stands in `cur` instead, behind the others, with a suffix behind its name, which
--- no file of `cur` had
+-- a file of `new` is in `cur` instead, after the others, with a suffix after its name; no file of
+-- `cur` had that name
 pub record Takes (old : Maildir) (name suffix : List ℕ) (new : Maildir) : Type 0 where
   pub front : List File
   pub back : List File
@@ -129,8 +129,8 @@ pub record Takes (old : Maildir) (name suffix : List ℕ) (new : Maildir) : Type
   pub free : Contains (names_of old.in_cur) (name ++ suffix) → ⊥
   pub is : new ≡ record old { in_new = front ++ back; in_cur = old.in_cur ++ file (name ++ suffix) content ∷ [] }
 
--- `move_to_cur`: the file was moved; `new` hasn't its name, or `cur` has the one that would result;
--- or memory ran out
+-- `move_to_cur`: the file was moved; no file of `new` has its name, or one of `cur` has the name that
+-- would result; or memory ran out
 abbrev pub Moves : {E : Type 0} → Maildir → List ℕ → List ℕ → Result Bool E → Maildir → Type 0
 Moves old name suffix (Ok true) new = Takes old name suffix new
 Moves old name suffix (Ok false) new =

@@ -32,9 +32,9 @@ abbrev pub Checks : {T : Type 0} → Stored → Result T StoreFault → Stored �
 Checks old (Ok done) new = ((was : List ℕ) × GoesOn old was) × (new ≡ old)
 Checks old (Err fault) new = RefusesLook old fault new
 
--- `append_entry`: the entry stands behind the file's bytes; there is no file; no entry may follow it;
--- memory ran out; or it was refused, once, and the file is as it was, or once more where it was cut
--- back, and a front of the entry may stand there
+-- `append_entry`: the entry follows the file's bytes; there is no file; no entry may follow it;
+-- memory ran out; or a call was refused and the file is as it was, or the cut that follows was refused
+-- too, and a front of the entry may be there
 abbrev pub AppendsEntry : {T : Type 0} → Stored → List ℕ → Result T StoreFault → Stored → Type 0
 AppendsEntry old text (Ok done) new = (was : List ℕ) × GoesOn old was × (new ≡ holding old (was ++ entry_of text))
 AppendsEntry old text (Err Missing) new = (old.content ≡ None) × (new ≡ old)
@@ -44,7 +44,7 @@ AppendsEntry old text (Err Refused) new = (new ≡ counted old)
 AppendsEntry old text (Err NotMbox) new = IsOther old × (new ≡ old)
 AppendsEntry old text (Err NoMemory) new = new ≡ old
 
--- the count rises where a call was refused, and once more where the cut that follows was refused too
+-- the count rises if a call was refused, and once more if the cut that follows was refused too
 abbrev pub TalliesEntry : {T : Type 0} → Result T StoreFault → ℕ → ℕ → Type 0
 TalliesEntry (Ok done) old new = new ≡ old
 TalliesEntry (Err Missing) old new = new ≡ old

@@ -12,7 +12,7 @@ abbrev pub OpensEntry : List (List ℕ) → Type 0
 OpensEntry [] = Unit {0}
 OpensEntry (line ∷ lines) = begins_entry line ≡ true
 
--- the first line of some bytes, and the lines behind it that don't begin with `From `, are cut off
+-- the first line of some bytes and the lines after it, up to the next that begins with `From `, are cut off
 pub record CutsGroup (bytes group rest : List ℕ) : Type 0 where
   pub head : List ℕ
   pub inner : List (List ℕ)

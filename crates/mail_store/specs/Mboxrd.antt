@@ -35,11 +35,11 @@ abbrev pub is_marked : List ℕ → Bool
 is_marked [] = false
 is_marked (byte ∷ rest) = if is_greater byte then is_marked rest else begins_entry (byte ∷ rest)
 
--- a line as it stands in an entry: with one more `>` where it is marked
+-- a line as it is in an entry: with one more `>` if it is marked
 abbrev pub quoted : List ℕ → List ℕ
 quoted line = if is_marked line then 62 ∷ line else line
 
--- a line of an entry as it was: with one `>` less where it begins with one or more and then `From `
+-- a line of an entry as it was: with one `>` less if it is `>` at least once and then `From `
 abbrev pub unquoted : List ℕ → List ℕ
 unquoted [] = []
 unquoted (byte ∷ rest) = if is_greater byte && is_marked rest then rest else byte ∷ rest
@@ -64,7 +64,7 @@ separator = codes "From MAILER-DAEMON Thu Jan  1 00:00:00 1970\n"
 abbrev pub entry_of : List ℕ → List ℕ
 entry_of text = separator ++ (quoted_text text ++ 10 ∷ [])
 
--- lines of a file that stand for a text, but for the empty line behind them
+-- lines of a file that stand for a text, without the empty line after them
 pub record Group : Type 0 where
   pub head : List ℕ
   pub lines : List (List ℕ)
@@ -80,7 +80,7 @@ IsInner line = IsLine line × (begins_entry line ≡ false)
 abbrev pub IsGroup : Group → Type 0
 IsGroup group = IsHead group.head × AllByRecursion IsInner group.lines
 
--- the lines of a group with the empty one behind them, as bytes
+-- the lines of a group and the empty one after them, as bytes
 abbrev pub group_bytes : Group → List ℕ
 group_bytes group = group.head ++ (flat_map (λ (line : List ℕ). line) group.lines ++ 10 ∷ [])
 
@@ -117,9 +117,9 @@ OneReading = (file : List ℕ) (texts others : List (List ℕ)) → MboxFile fil
 abbrev pub TextsMayGoOn : Type 0
 TextsMayGoOn = (file : List ℕ) (texts : List (List ℕ)) → MboxFile file texts → MayGoOn file
 
--- a front of a text's entry behind a file that stands for texts: cut to the file's old size it is the
--- file again; of no bytes, or as long as the entry, it is none of it or all; and where the file then
--- stands for any texts, they are the old ones, and perhaps a front of the text behind them
+-- a file that stands for texts, followed by a front of a text's entry: cut to its old size it is the
+-- file again; if the front is empty, or as long as the entry, it is none or all of it; and if the file
+-- then stands for any texts, they are the old ones, and perhaps a front of the text after them
 pub record LeavesFront (file text front : List ℕ) (texts : List (List ℕ)) : Type 0 where
   pub cut : take (length file) (file ++ front) ≡ file
   pub none : length front ≡ 0 → MboxFile (file ++ front) texts

@@ -1,4 +1,4 @@
--- What outlives a loss of power, as the devices tell it.
+-- What outlives a loss of power, as each device defines it.
 use Rattle.std.specs.Prelude.{◌≡◌, ◌≤◌, ℕ, List, length, Option, Some, Result, Ok, Err, Vec, String, string_bytes, map, Contains}
 use Rattle.mail_store.specs.declared.fault.StoreFault.{StoreFault}
 use Rattle.mail_store.specs.declared.fault.StoreFault.TheVariants.{Missing, Refused, NotMbox, NoMemory}
@@ -7,11 +7,11 @@ use Rattle.mail_store.specs.declared.maildir.disk.Folder.{Folder}
 
 -- ---- a Maildir: names that stay in `new` or `cur`, and whole files that outlive a loss of power
 
--- what a loss of power left, it still leaves
+-- what would outlive a loss of power before still does
 abbrev pub KeepsMail : (List ℕ → Type 0) → (File → Type 0) → (List ℕ → Type 0) → (File → Type 0) → Type 0
 KeepsMail stays outlives stays' outlives' = ((name : List ℕ) → stays name → stays' name) × ((f : File) → outlives f → outlives' f)
 
--- `names`: each name that is told stays
+-- `names`: each name that is returned stays
 abbrev pub ToldStay : {A B : Type 0} → Result (Vec (String A) B) StoreFault → (List ℕ → Type 0) → Type 0
 ToldStay (Ok names) stays = (name : List ℕ) → Contains (map string_bytes names.items) name → stays name
 ToldStay (Err fault) stays = Unit {0}
@@ -25,13 +25,13 @@ SettledOutlives old name (Err fault) outlives = Unit {0}
 abbrev pub AllStay : Maildir → (List ℕ → Type 0) → Type 0
 AllStay maildir stays = (folder : Folder) (name : List ℕ) → Contains (names_of (files_in maildir folder)) name → stays name
 
--- ---- a file: bytes with which begins whatever a loss of power leaves of it
+-- ---- a file: bytes that begin whatever a loss of power leaves of it
 
--- what a loss of power left, it still leaves
+-- what would outlive a loss of power before still does
 abbrev pub KeepsBytes : (List ℕ → Type 0) → (List ℕ → Type 0) → Type 0
 KeepsBytes outlives outlives' = (bytes : List ℕ) → outlives bytes → outlives' bytes
 
--- the same of the first bytes, so many at most
+-- the same, for at most `len` bytes
 abbrev pub KeepsFront : ℕ → (List ℕ → Type 0) → (List ℕ → Type 0) → Type 0
 KeepsFront len outlives outlives' = (bytes : List ℕ) → length bytes ≤ len → outlives bytes → outlives' bytes
 
@@ -39,7 +39,7 @@ KeepsFront len outlives outlives' = (bytes : List ℕ) → length bytes ≤ len 
 abbrev pub LastsWhole : Option (List ℕ) → (List ℕ → Type 0) → Type 0
 LastsWhole content outlives = (bytes : List ℕ) → content ≡ Some bytes → outlives bytes
 
--- all bytes that the file had still outlive one, if they did
+-- all bytes that the file had still outlive a loss of power, if they did before
 abbrev pub KeepsWhole : Option (List ℕ) → (List ℕ → Type 0) → (List ℕ → Type 0) → Type 0
 KeepsWhole content outlives outlives' = (bytes : List ℕ) → content ≡ Some bytes → outlives bytes → outlives' bytes
 

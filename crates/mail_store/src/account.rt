@@ -11,7 +11,7 @@ use sha2::{Digest, Sha256};
 use std::marker::Model;
 use std::str;
 
-/// The text by which an account is told from every other one: 64 hexadecimal digits in lower case.
+/// The text that tells an account apart from every other: 64 hexadecimal digits in lower case.
 #[derive(Clone, Copy, Debug, PartialEq, Eq)]
 pub struct AccountId {
     text: [u8; 64],

@@ -23,10 +23,10 @@ impl<D> Fused<D> {
     ghost use Rattle.mail_terms.specs.FailureCount.{Tallies, refuses, greatest_count};
     ghost use Rattle.mail_store.specs.Fuse.{device_of, passes_left, effect_is_due, refusals};
 
-    /// Passes `passes` calls that answer a `Result` on to the device, and refuses every later one.
-    /// Where `takes_effect` is true, the first call that it refuses itself takes effect
-    /// nevertheless: whole, if it is `settle` or `replace`, and on the first half of its bytes,
-    /// rounded down, if it is `append`.
+    /// Passes `passes` calls that return a `Result` on to the device, and refuses every later one.
+    /// If `takes_effect` is true, the first call that it refuses itself still takes effect: whole,
+    /// if it is `settle` or `replace`, and on the first half of its bytes, rounded down, if it is
+    /// `append`.
     pub fn new(device: D, passes: u64, takes_effect: bool) -> Fused<D>
         ensures device { device_of result ≡ device }
         ensures passes { passes_left result ≡ passes }
@@ -61,7 +61,7 @@ impl<D> Fused<D> {
         device
     }
 
-    // Uses up a pass, or refuses where none is left.
+    // Uses up a pass, or refuses if none is left.
     fn pass(&mut self) -> Result<(), StoreFault>
         requires { self.old.failures < greatest_count }
         ensures passed { OnOk result ((0 < self.old.passes_left)
@@ -77,7 +77,7 @@ impl<D> Fused<D> {
         Ok(())
     }
 
-    // Counts a refusal of the fuse's own, after which no other takes effect.
+    // Counts a refusal of the fuse's own; no later one takes effect.
     fn blow(&mut self) -> StoreFault
         requires { self.old.failures < greatest_count }
         ensures fault { result ≡ StoreFault.Refused }
@@ -87,7 +87,7 @@ impl<D> Fused<D> {
         refuse(&mut self.failures)
     }
 
-    // Counts what the device answered, where it refused.
+    // Counts the device's answer if it is a refusal.
     fn tally<T>(&mut self, answer: Result<T, StoreFault>) -> Result<T, StoreFault>
         requires { self.old.failures < greatest_count }
         ensures answer { result ≡ answer }

@@ -6,7 +6,7 @@ ghost use Rattle.mail_terms.specs.FailureCount.{greatest_count};
 use crate::fault::StoreFault;
 use mail_terms::FailureCount;
 
-/// Lets a call of a device begin. Refused where the count is at its greatest value.
+/// Lets a call of a device begin. Refused if the count is at its greatest value.
 pub fn admit(failures: &FailureCount) -> Result<(), StoreFault>
     ensures admitted { OnOk result (failures.now < greatest_count) }
     ensures refused { IfErr result (λ fault. (fault ≡ StoreFault.Refused) × (failures.now ≡ greatest_count)) }
@@ -17,7 +17,7 @@ pub fn admit(failures: &FailureCount) -> Result<(), StoreFault>
     Ok(())
 }
 
-/// Counts a refusal below the greatest count, which `admit` tells.
+/// Counts a refusal. The count must be below its greatest value (see `admit`).
 pub fn refuse(failures: &mut FailureCount) -> StoreFault
     requires { failures.old < greatest_count }
     ensures fault { result ≡ StoreFault.Refused }

@@ -1,6 +1,6 @@
 //! Times calls of `mail_store` on a Maildir in a folder, for `bench/mail_store.py`, and on an mboxrd
-//! file, for `bench/mboxrd.py`; appends to such a file, and rewrites a file. The tests from outside
-//! watch what it asks of the system.
+//! file, for `bench/mboxrd.py`; appends to such a file, and rewrites a file. The tests in
+//! `tests/store_bench` watch its system calls.
 #![tactic(auto)]
 
 ghost use Rattle.std.specs.Prelude.{◌≡◌, IfOk, length};
@@ -15,7 +15,7 @@ use std::alloc::Global;
 use std::env;
 use std::time::{CpuClock, Duration, Instant};
 
-/// The id of the message of a number, as the driver names its files.
+/// The id of message `number`, as the driver names its files.
 fn id_of(alloc: Global, number: u32) -> Result<String> {
     Ok(format!(in alloc; "id-{number:05}")?)
 }
@@ -40,7 +40,7 @@ fn listing_of(alloc: Global, count: u32) -> Result<Listing>
     Ok(Listing::join(alloc, count, &uids, &sizes)?)
 }
 
-/// The clock and the time of the processor when a measurement began.
+/// The clock and the processor time when a measurement began.
 #[derive(Clone, Copy)]
 struct Stopwatch {
     start: Instant,
@@ -54,7 +54,7 @@ impl Stopwatch {
         Ok(Stopwatch { start, used })
     }
 
-    /// Prints a count, and the microseconds of the clock and of the processor since the start.
+    /// Prints a count, and the microseconds of clock and processor time since the start.
     fn tell(&self, rt: &HostRuntime, count: usize) -> Result<()> {
         let used = rt.process_cpu_time()?.saturating_sub(self.used);
         let passed = self.start.elapsed(rt)?;
@@ -83,7 +83,7 @@ fn held_in<D: MaildirDisk>(alloc: Global, disk: &mut D, listing: &Listing) -> Re
     Ok(held(alloc, disk, &account_id("bench", 110, "bench"), listing)?)
 }
 
-/// Delivers the message of a number.
+/// Delivers message `number`.
 fn deliver_one(alloc: Global, disk: &mut HostMaildir<'_>, number: u32) -> Result<()> {
     let text = [b'x'; 2048];
     let id = id_of(alloc, number)?;
@@ -102,7 +102,7 @@ fn time_deliver(rt: &HostRuntime, path: &str, count: u32) -> Result<()> {
     watch.tell(rt, count as usize)
 }
 
-/// Replaces a file by a text of 2,048 bytes, puts another one behind it and cuts that off again.
+/// Replaces a file by a text of 2,048 bytes, appends another one and cuts that off again.
 fn rewrite_once(file: &mut RealFile<'_>) -> Result<()> {
     let text = [b'x'; 2048];
     file.replace(text.as_slice())?;
@@ -120,14 +120,14 @@ fn rewrite(rt: &HostRuntime, path: &str, count: u32) -> Result<()> {
     Ok(())
 }
 
-/// Puts a text of `count` bytes behind a file.
+/// Appends a text of `count` bytes to a file.
 fn append_once<F: FlatFile>(alloc: Global, file: &mut F, count: u32) -> Result<()> {
     let text = Vec::from_elem(alloc, b'x', count as usize)?;
     file.edges()?;
     Ok(file.append(&text)?)
 }
 
-/// Puts one text of `count` bytes behind a file, page by page as a record's.
+/// Appends one text of `count` bytes to a file, page by page as to a record.
 fn append_pages(rt: &HostRuntime, path: &str, count: u32) -> Result<()> {
     let mut file = HostFile::by_pages(rt, path, mark_of(rt)?);
     append_once(rt.alloc(), &mut file, count)?;

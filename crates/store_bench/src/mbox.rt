@@ -9,7 +9,7 @@ use mail_store::{FlatFile, append_entry, is_whole, quote, read_mbox};
 use std::alloc::Global;
 use std::fs;
 
-/// The text that a file has, whole.
+/// The text in a file, which must be whole.
 fn text_of(rt: &HostRuntime, path: &str) -> Result<Vec<u8>>
     ensures { IfOk result (λ text. IsWhole text.items) }
 {
@@ -18,7 +18,7 @@ fn text_of(rt: &HostRuntime, path: &str) -> Result<Vec<u8>>
     Ok(text)
 }
 
-/// Puts the entry of a text behind a file, `count` times.
+/// Appends the entry of a text to a file, `count` times.
 fn append_texts<F: FlatFile>(alloc: Global, file: &mut F, text: &[u8], count: u32) -> Result<()>
     requires { IsWhole text.now }
 {
@@ -28,8 +28,8 @@ fn append_texts<F: FlatFile>(alloc: Global, file: &mut F, text: &[u8], count: u3
     Ok(())
 }
 
-/// Puts the entry of a text behind the file, `count` times. The text stands in the file whose name
-/// has `.text` behind it.
+/// Appends the entry of a text to the file, `count` times. The text is in the file of that name
+/// with `.text` after it.
 pub fn append(rt: &HostRuntime, path: &str, count: u32) -> Result<()> {
     let beside = format!(in rt.alloc(); "{path}.text")?;
     let text = text_of(rt, beside.as_str())?;

@@ -7,9 +7,9 @@ use crate::fault::StoreFault;
 pub struct Edges {
     /// How many bytes the file has.
     pub size: u64,
-    /// Its first five bytes, with zeros behind them where it is shorter.
+    /// Its first five bytes, with zeros after them if it is shorter.
     pub head: [u8; 5],
-    /// Its last two bytes, with zeros in front of them where it is shorter.
+    /// Its last two bytes, with zeros before them if it is shorter.
     pub tail: [u8; 2],
 }
 
@@ -31,10 +31,10 @@ pub trait FlatFile {
     ghost is_sure: { Self → Type 0 };
 
     // The premise: so far the device did what this trait says, and its count is below its greatest
-    // value. Where it holds after a call it held before it.
+    // value. If it holds after a call, it held before it.
     ghost sound: { Self → Type 0 };
 
-    /// The bytes of the file. Missing where there is none, else Refused.
+    /// The bytes of the file. Missing if there is none, else Refused.
     fn load(&mut self) -> Result<Vec<u8>, StoreFault>
         ensures loads { sound self.new → sound self.old
             × Loads (stored self.old) result (stored self.new) }
@@ -44,8 +44,8 @@ pub trait FlatFile {
             → UnlessRefused result (is_sure self.new × LastsWhole (stored self.new).content (outlives self.new)) }
         ensures count { Tallies (refuses is_refusal result) (stored self.old).failures (stored self.new).failures };
 
-    /// The size of the file, its first five bytes and its last two. Missing where there is none,
-    /// else Refused.
+    /// The size of the file, its first five bytes and its last two. Missing if there is none, else
+    /// Refused.
     fn edges(&mut self) -> Result<Edges, StoreFault>
         ensures measures { sound self.new → sound self.old
             × Measures (stored self.old) result (stored self.new) }
@@ -55,9 +55,9 @@ pub trait FlatFile {
             → UnlessRefused result (is_sure self.new × LastsWhole (stored self.new).content (outlives self.new)) }
         ensures count { Tallies (refuses is_refusal result) (stored self.old).failures (stored self.new).failures };
 
-    /// Puts the bytes of the file from `start` on at the front of a buffer, and says how many: as many
-    /// as there are and fit, so none where `start` is at or past the end. Missing where there is no
-    /// file, else Refused: the buffer may then hold anything.
+    /// Reads the bytes of the file from `start` on into the front of a buffer, and returns how
+    /// many: as many as there are and fit, so none if `start` is at or past the end. Missing if
+    /// there is no file, else Refused. After a fault the buffer may hold anything.
     fn read_at(&mut self, start: u64, buf: &mut [u8]) -> Result<usize, StoreFault>
         ensures within { IfOk result (λ count. count ≤ length buf.new) }
         ensures reads { sound self.new → sound self.old
@@ -68,8 +68,8 @@ pub trait FlatFile {
             → UnlessRefused result (is_sure self.new × LastsWhole (stored self.new).content (outlives self.new)) }
         ensures count { Tallies (refuses is_refusal result) (stored self.old).failures (stored self.new).failures };
 
-    /// Puts bytes behind those of the file. The only fault is Refused: a front of the bytes may
-    /// then stand there. A good `load`, `edges` or `replace` tells that the file is there.
+    /// Appends bytes to the file, which must be there, as after a good `load`, `edges` or
+    /// `replace`. The only fault is Refused: a front of the bytes may then have been appended.
     fn append(&mut self, bytes: &[u8]) -> Result<(), StoreFault>
         requires { sound self.old → IsSome (stored self.old).content }
         ensures appends { sound self.new → sound self.old
@@ -80,8 +80,8 @@ pub trait FlatFile {
             → OnOk result (is_sure self.new × LastsWhole (stored self.new).content (outlives self.new)) }
         ensures count { Tallies (refuses is_refusal result) (stored self.old).failures (stored self.new).failures };
 
-    /// Cuts the file to its first `len` bytes. The only fault is Refused: the file is then as it
-    /// was, or cut. `edges` tells the file's size.
+    /// Cuts the file to its first `len` bytes; it must have that many (see `edges`). The only fault
+    /// is Refused: the file is then as it was, or cut.
     fn cut_to(&mut self, len: u64) -> Result<(), StoreFault>
         requires { sound self.old → HasBytes (stored self.old) len }
         ensures cuts { sound self.new → sound self.old
@@ -92,8 +92,8 @@ pub trait FlatFile {
             → OnOk result (is_sure self.new × LastsWhole (stored self.new).content (outlives self.new)) }
         ensures count { Tallies (refuses is_refusal result) (stored self.old).failures (stored self.new).failures };
 
-    /// Makes these bytes the file's, whether or not there is a file. The only fault is Refused:
-    /// the file is then as it was, or has these bytes.
+    /// Replaces the file's content by these bytes, whether or not there is a file. The only fault
+    /// is Refused: the file is then as it was, or has these bytes.
     fn replace(&mut self, bytes: &[u8]) -> Result<(), StoreFault>
         ensures replaces { sound self.new → sound self.old
             × Replaces (stored self.old) bytes.now result (stored self.new) }

@@ -11,7 +11,7 @@ use mail_terms::FailureCount;
 use std::alloc::Global;
 use std::marker::Model;
 
-/// A file in memory. Below the greatest count it refuses a call only where memory runs out.
+/// A file in memory. Below the greatest count it refuses a call only if memory runs out.
 #[derive(Drop)]
 pub struct MemoryFile {
     alloc: Global,
@@ -53,7 +53,7 @@ impl MemoryFile {
         }
     }
 
-    /// The bytes of the file, None where there is no file.
+    /// The bytes of the file, None if there is no file.
     pub fn content(&self) -> Option<&[u8]>
         ensures { option_map (λ bytes. bytes.now) result ≡ self.now.content }
     {
@@ -71,7 +71,7 @@ fn byte_at(bytes: &[u8], place: usize) -> u8
     bytes.get(place).copied().unwrap_or(0)
 }
 
-/// The last two bytes, with zeros in front of them where there are fewer.
+/// The last two bytes, with zeros before them if there are fewer.
 fn tail_of(bytes: &[u8]) -> [u8; 2]
     ensures { result ≡ (edges_of bytes.now).tail }
 {
@@ -99,7 +99,7 @@ fn edges_of(bytes: &[u8]) -> Edges
     }
 }
 
-/// The bytes from a place on: none where it is at or past the end.
+/// The bytes from a place on: none if it is at or past the end.
 pub fn bytes_from(bytes: &[u8], start: u64) -> &[u8]
     ensures { result.now ≡ drop start bytes.now }
 {
@@ -109,7 +109,7 @@ pub fn bytes_from(bytes: &[u8], start: u64) -> &[u8]
     &bytes[start as usize..]
 }
 
-/// Puts bytes at the front of a buffer, as many as fit, and says how many.
+/// Copies bytes to the front of a buffer, as many as fit, and returns how many.
 fn put_in_front(bytes: &[u8], buf: &mut [u8]) -> usize
     ensures within { result ≤ length buf.new }
     ensures count { result ≡ length (take (length buf.new) bytes.now) }
@@ -129,7 +129,7 @@ impl FlatFile for MemoryFile {
 
     ghost stored = { λ f. f };
 
-    // What is in memory is out of a loss of power's reach as long as the program runs.
+    // As long as the program runs, no loss of power reaches what is in memory.
     ghost outlives = { λ f bytes. Unit {0} };
 
     ghost is_sure = { λ f. Unit {0} };

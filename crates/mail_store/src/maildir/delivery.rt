@@ -11,13 +11,13 @@ use crate::maildir::disk::MaildirDisk;
 use crate::maildir::names::{SIZE_ROOM, add_size};
 use std::alloc::Global;
 
-/// Puts a text into `new`, under a name of this stem that tells its length. NoMemory, with nothing
-/// changed, where there is none for the name; Missing where `tmp` isn't there, else Refused: the file
-/// is then not in `new`, or in `new` and whole. No other file of `new` or `cur` changes, and none is
-/// begun afterwards.
+/// Puts a text into `new`, under a name made of this stem and the text's length. NoMemory, with
+/// nothing changed, if there is none for the name; Missing if `tmp` isn't there, else Refused: the
+/// file is then not in `new`, or in `new` and whole. No other file of `new` or `cur` changes, and
+/// none is begun afterwards.
 ///
-/// Before it none is begun, which `abandon` makes sure of, and the name isn't in `new`, which
-/// `names` tells, and `held` for the stem of an id.
+/// No file may be begun before (see `abandon`), and the name must not be in `new` (see `names`, and
+/// `held` for the stem of an id).
 pub fn deliver<D: MaildirDisk>(
     alloc: Global,
     disk: &mut D,

@@ -13,8 +13,8 @@ pub enum Folder {
 
 /// A device that keeps a Maildir, and that can refuse any call.
 ///
-/// A file is begun in `tmp`, written there by any number of `add`, and then settled: only then it
-/// stands in `new`, whole, under the name that `settle` takes. No other call changes `new` or `cur`.
+/// A file is begun in `tmp`, written there by any number of `add`, and then settled: only then is
+/// it in `new`, whole, under the name that `settle` takes. No other call changes `new` or `cur`.
 pub trait MaildirDisk {
     ghost use Rattle.std.specs.Prelude.{◌≡◌, ℕ, List, IfErr, IfOk, IsSome, OnErr, OnOk, Some, None, map, string_bytes};
     ghost use Rattle.mail_terms.specs.FailureCount.{Tallies, refuses};
@@ -24,7 +24,7 @@ pub trait MaildirDisk {
     ghost use Rattle.mail_store.specs.Power.{KeepsMail, SettledOutlives, ToldStay};
 
     // What is known of the Maildir. Whether a file is begun, its name and the count of refusals are
-    // known of every device, whatever else is.
+    // known even if the device isn't sound.
     ghost maildir: { Self → Maildir };
 
     // A loss of power leaves a file of this name in `new` or in `cur`.
@@ -34,10 +34,10 @@ pub trait MaildirDisk {
     ghost outlives: { Self → File → Type 0 };
 
     // The premise: so far the device did what this trait says, and its count is below its greatest
-    // value. Where it holds after a call it held before it.
+    // value. If it holds after a call, it held before it.
     ghost sound: { Self → Type 0 };
 
-    /// The names of the files of a folder, each once, in any order. Missing where the folder isn't
+    /// The names of the files of a folder, each once, in any order. Missing if the folder isn't
     /// there, else Refused.
     fn names(&mut self, folder: Folder) -> Result<Vec<String>, StoreFault>
         ensures lists { sound self.new → sound self.old
@@ -48,9 +48,9 @@ pub trait MaildirDisk {
             × ToldStay result (stays self.new) }
         ensures count { Tallies (refuses is_refusal result) (maildir self.old).failures (maildir self.new).failures };
 
-    /// Begins an empty file of this name in `tmp`; an older file of that name there is replaced.
-    /// Missing where `tmp` isn't there, else Refused; after a fault none is begun. `abandon` makes
-    /// sure that none is begun.
+    /// Begins an empty file of this name in `tmp`; an older file of that name there is replaced. No
+    /// file may be begun before (see `abandon`). Missing if `tmp` isn't there, else Refused; after
+    /// a fault none is begun.
     fn begin(&mut self, name: &str) -> Result<(), StoreFault>
         requires { sound self.old → (maildir self.old).begun ≡ None }
         ensures begins { sound self.new → sound self.old
@@ -61,8 +61,8 @@ pub trait MaildirDisk {
         ensures lasts { sound self.new → KeepsMail (stays self.old) (outlives self.old) (stays self.new) (outlives self.new) }
         ensures count { Tallies (refuses is_refusal result) (maildir self.old).failures (maildir self.new).failures };
 
-    /// Puts bytes behind those of the file begun. The only fault is Refused: the file is then still
-    /// begun, with any bytes. A good `begin` makes sure that one is begun.
+    /// Appends bytes to the file begun; there must be one, as after a good `begin`. The only fault
+    /// is Refused: the file is then still begun, with any bytes.
     fn add(&mut self, bytes: &[u8]) -> Result<(), StoreFault>
         requires { sound self.old → IsSome (maildir self.old).begun }
         ensures adds { sound self.new → sound self.old
@@ -72,9 +72,9 @@ pub trait MaildirDisk {
         ensures lasts { sound self.new → KeepsMail (stays self.old) (outlives self.old) (stays self.new) (outlives self.new) }
         ensures count { Tallies (refuses is_refusal result) (maildir self.old).failures (maildir self.new).failures };
 
-    /// Puts the file begun into `new` under this name. The only fault is Refused: the file is then
-    /// not in `new`, or in `new` and whole. Either way none is begun afterwards. `names` tells whether
-    /// a name is in `new`.
+    /// Puts the file begun into `new` under this name, which must not be there yet (see `names`).
+    /// The only fault is Refused: the file is then not in `new`, or in `new` and whole. Either way
+    /// none is begun afterwards.
     fn settle(&mut self, name: &str) -> Result<(), StoreFault>
         requires begun { sound self.old → IsSome (maildir self.old).begun }
         requires not_there { sound self.old → IsInNew (maildir self.old) name.now → ⊥ }

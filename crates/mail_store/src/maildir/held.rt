@@ -18,7 +18,7 @@ use mail_terms::Listing;
 use std::alloc::{AllocError, Global};
 use std::collections::BTreeSet;
 
-/// Adds the digits of an id that stand in the stem of a name of the account's, if it is one.
+/// Adds the digits of the id in the stem of a name, if it is one of the account's.
 fn add_name<'a>(
     found: &mut BTreeSet<&'a str>,
     account: &str,
@@ -34,7 +34,7 @@ fn add_name<'a>(
     Ok(())
 }
 
-/// Adds the digits of the ids that stand in the stems of the account's names among these.
+/// Adds the digits of the ids in the stems of the account's names among these.
 fn add_digits<'a>(
     found: &mut BTreeSet<&'a str>,
     account: &str,
@@ -49,7 +49,7 @@ fn add_digits<'a>(
     Ok(())
 }
 
-/// The digits of the ids that stand in the stems of the account's names in `new` and in `cur`.
+/// The digits of the ids in the stems of the account's names in `new` and in `cur`.
 fn digits_of<'a>(
     alloc: Global,
     account: &str,
@@ -81,19 +81,19 @@ fn flags_of(
     Ok(flags)
 }
 
-/// Of the flags that `held` answers, one of an id is set exactly where the id is listed and held.
+/// Of the flags that `held` returns, one of an id is set exactly if the id is listed and held.
 pub fn flags_tell_what_is_held()
     ensures { (account : List ℕ) (maildir : Maildir) (items : List Item) (uid : List ℕ)
         → is_flagged items (flags_of account maildir items) uid ≡ (has_item items uid && is_held account maildir uid) }
 {}
 
 /// Whether the id of each item of the listing is held: its stem is that of a name in `new` or `cur`,
-/// whatever follows the stem. The flags are in the listing's order. Missing where `new` or `cur` isn't there,
-/// Refused where the device refused, NoMemory where memory ran out. The Maildir stays as it was, and a
-/// loss of power takes back none of the names.
+/// whatever follows the stem. The flags are in the listing's order. Missing if `new` or `cur` isn't
+/// there, Refused if the device refused, NoMemory if memory runs out. The Maildir stays as it was,
+/// and if flags are returned, each of its names outlives a loss of power.
 ///
-/// `new` is asked before `cur`, so that a file which a reader moves from the one to the other in
-/// between is seen. With m files and n items the time grows as (m + n) log m.
+/// `new` is read before `cur`, so that a file which a reader moves from one to the other in between
+/// is seen. With m files and n items the time grows as (m + n) log m.
 pub fn held<D: MaildirDisk>(
     alloc: Global,
     disk: &mut D,

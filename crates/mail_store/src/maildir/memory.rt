@@ -11,7 +11,7 @@ use mail_terms::FailureCount;
 use std::alloc::{AllocError, Global};
 use std::marker::Model;
 
-/// A Maildir in memory. Below the greatest count it refuses a call only where memory runs out.
+/// A Maildir in memory. Below the greatest count it refuses a call only if memory runs out.
 #[derive(Drop)]
 pub struct MemoryMaildir {
     alloc: Global,
@@ -58,7 +58,7 @@ impl MemoryMaildir {
     }
 
     /// The files of a folder, each with its name and its bytes, in the order in which they came.
-    /// No two of them have one name.
+    /// No two of them have the same name.
     pub fn files(&self, folder: Folder) -> &[(String, Vec<u8>)]
         ensures files { map file_of result.now ≡ files_in self.now folder }
         ensures distinct { HaveDistinctNames result.now }
@@ -86,9 +86,9 @@ impl MemoryMaildir {
         self.begun.is_some()
     }
 
-    /// Moves a file from `new` to `cur` and puts a suffix, which begins with a colon, behind its
-    /// name, as a reader does that has seen the message. False, with nothing changed, where no file
-    /// of `new` has the name, or a file of `cur` has the name that would result.
+    /// Moves a file from `new` to `cur` and appends a suffix, which must begin with a colon, to its
+    /// name, as a reader does after it has seen the message. False, with nothing changed, if no
+    /// file of `new` has the name, or a file of `cur` has the name that would result.
     pub fn move_to_cur(&mut self, name: &str, suffix: &str) -> Result<bool, AllocError>
         requires { slice_index suffix.now 0 ≡ 58 }
         ensures { Moves self.old name.now suffix.now result self.new }
@@ -145,7 +145,7 @@ impl MaildirDisk for MemoryMaildir {
 
     ghost maildir = { λ d. d };
 
-    // What is in memory is out of a loss of power's reach as long as the program runs.
+    // As long as the program runs, no loss of power reaches what is in memory.
     ghost stays = { λ d name. Unit {0} };
 
     ghost outlives = { λ d f. Unit {0} };

@@ -16,14 +16,14 @@ use itoa::Buffer;
 use mail_terms::{base, is_legal_id, legal_ids_have_ranges};
 use std::alloc::{AllocError, Global};
 
-/// The bytes of the longest name of an account's file.
+/// The length of the longest name of an account's file, in bytes.
 const LONGEST_NAME: usize = 228;
 
-/// The bytes of `,S=` and of the longest size.
+/// The length of `,S=` and the longest size, in bytes.
 pub const SIZE_ROOM: usize = 23;
 
-/// The part of a name in `new` or `cur` before the first comma of its base. What follows tells of the
-/// file: its size after `,S=`, as Maildir++ has it.
+/// The part of a name in `new` or `cur` before the first comma of its base. What follows describes
+/// the file, such as its size after `,S=` (Maildir++).
 pub fn stem(name: &str) -> &str
     ensures { result.now ≡ stem name.now }
 {
@@ -35,9 +35,9 @@ pub fn stem(name: &str) -> &str
 }
 
 /// The stem of the files that hold an id: the account's 64 digits, a full stop, and the id in
-/// lower-case hexadecimal. It has at most 205 bytes, room for a size behind them, and holds no comma
-/// and no colon. Files of earlier versions have it for their whole name. `is_legal_id` tells whether
-/// an id is legal.
+/// lower-case hexadecimal. It has at most 205 bytes, room for a size after them, and no comma and
+/// no colon. Files of earlier versions have it as their whole name. The id must be legal (see
+/// `is_legal_id`).
 pub fn file_stem(alloc: Global, account: &AccountId, uid: &[u8]) -> Result<String, AllocError>
     requires { IsLegalId uid.now }
     ensures stem { IfOk result (λ text. string_bytes text ≡ stem_of account.now uid.now) }
@@ -53,7 +53,7 @@ pub fn file_stem(alloc: Global, account: &AccountId, uid: &[u8]) -> Result<Strin
     Ok(text)
 }
 
-/// Puts `,S=` and a size behind a stem. It takes no memory: `file_stem` leaves room for it.
+/// Appends `,S=` and a size to a stem. It takes no memory: `file_stem` leaves room for it.
 pub fn add_size(text: &mut String, size: u64)
     requires { HasRoomForSize text.old }
     ensures { string_bytes text.new ≡ sized (string_bytes text.old) size }
@@ -63,9 +63,9 @@ pub fn add_size(text: &mut String, size: u64)
     text.push_str(buffer.format(size)).unwrap();
 }
 
-/// The name of the file that holds an id and has so many bytes: its stem, `,S=`, and the size in
-/// decimal (Maildir++). It has at most 228 bytes, and is its own base. `is_legal_id` tells whether an
-/// id is legal.
+/// The name of the file that holds an id and has `size` bytes: its stem, `,S=`, and the size in
+/// decimal (Maildir++). It has at most 228 bytes, and is its own base. The id must be legal (see
+/// `is_legal_id`).
 pub fn file_name(
     alloc: Global,
     account: &AccountId,
@@ -103,13 +103,13 @@ pub fn names_are_bases()
     ensures { NamesAreBases }
 {}
 
-/// A mark behind a name, which begins with a colon, doesn't change its base; and a base is its own.
+/// Marks after a name, from a colon on, don't change its base; and a base is its own base.
 pub fn marks_keep_the_base()
     ensures kept { (name marks : List ℕ) → base (name ++ 58 ∷ marks) ≡ base name }
     ensures own { (name : List ℕ) → base (base name) ≡ base name }
 {}
 
-/// A file of a text that comes into `new` for an id makes that id held, and no other.
+/// A file that comes into `new` under an id's name makes that id held, and no other.
 pub fn one_more_is_held()
     ensures { (account a b content : List ℕ) (maildir : Maildir) → IsAccountText account → IsLegalId a → IsLegalId b
         → is_held account (with_file maildir (mail_file account a content)) b ≡ (is_held account maildir b || bytes_eq b a) }
@@ -123,14 +123,14 @@ pub fn unheld_ids_are_not_in_new()
         → IsInNew maildir (name_of account uid size) → ⊥ }
 {}
 
-/// What stands behind `front` in bytes that begin with it.
+/// What follows `front` in bytes that begin with it.
 fn behind<'a>(front: &[u8], bytes: &'a [u8]) -> Option<&'a [u8]>
     ensures { MatchOption result ((rest : List ℕ) → bytes.now ≢ front.now ++ rest) (λ rest. bytes.now ≡ front.now ++ rest.now) }
 {
     bytes.strip_prefix(front)
 }
 
-/// What stands in a name behind the account's digits and a full stop, if they are there.
+/// What follows the account's digits and a full stop in a name, if it begins with them.
 fn digits_in<'a>(account: &AccountId, name: &'a [u8]) -> Option<&'a [u8]>
     ensures { MatchOption result ((digits : List ℕ) → name.now ≢ account.now ++ 46 ∷ digits)
         (λ digits. name.now ≡ account.now ++ 46 ∷ digits.now) }
@@ -138,14 +138,14 @@ fn digits_in<'a>(account: &AccountId, name: &'a [u8]) -> Option<&'a [u8]>
     behind(b".", behind(account.as_str().as_bytes(), name)?)
 }
 
-/// What stands behind `front` in a text that begins with it.
+/// What follows `front` in a text that begins with it.
 fn text_behind<'a>(front: &str, text: &'a str) -> Option<&'a str>
     ensures { MatchOption result ((rest : List ℕ) → text.now ≢ front.now ++ rest) (λ rest. text.now ≡ front.now ++ rest.now) }
 {
     text.strip_prefix(front)
 }
 
-/// What stands in a stem behind an account's digits and a full stop, if they are there.
+/// What follows an account's digits and a full stop in a stem, if it begins with them.
 pub fn id_digits<'a>(account: &str, stem: &'a str) -> Option<&'a str>
     ensures { MatchOption result ((digits : List ℕ) → stem.now ≢ account.now ++ 46 ∷ digits)
         (λ digits. stem.now ≡ account.now ++ 46 ∷ digits.now) }
@@ -153,7 +153,7 @@ pub fn id_digits<'a>(account: &str, stem: &'a str) -> Option<&'a str>
     text_behind(".", text_behind(account, stem)?)
 }
 
-/// The legal id whose hexadecimal text, in lower case, is this.
+/// The legal id whose lower-case hexadecimal text is this, else None.
 fn decode_id(alloc: Global, digits: &[u8]) -> Result<Option<Vec<u8>>, AllocError>
     ensures some { IfOk result (λ id. IfSome id (λ uid. IsLegalId uid.items × (encode_lower uid.items ≡ digits.now))) }
     ensures none { IfOk result (λ id. IfNone id ((uid : List ℕ) → IsLegalId uid → encode_lower uid ≢ digits.now)) }

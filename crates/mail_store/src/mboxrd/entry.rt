@@ -41,9 +41,9 @@ fn look_at<F: FlatFile>(file: &mut F) -> Result<Edges, StoreFault>
     Ok(edges)
 }
 
-/// Tells whether an entry may follow a file: it is empty, or begins with `From ` and ends with LF LF.
-/// Missing where there is no file, Refused where the device refused, NotMbox where no entry may
-/// follow. The file stays as it was.
+/// Checks that an entry may follow a file: it is empty, or begins with `From ` and ends with LF LF.
+/// Missing if there is no file, Refused if the device refused, NotMbox if no entry may follow. The
+/// file stays as it was.
 pub fn check_mbox<F: FlatFile>(file: &mut F) -> Result<(), StoreFault>
     ensures checks { F.sound file.new → F.sound file.old
         × Checks (F.stored file.old) result (F.stored file.new) }
@@ -75,7 +75,7 @@ fn entry_of(alloc: Global, text: &[u8]) -> Result<Vec<u8>, AllocError>
     Ok(entry)
 }
 
-/// How many bytes the entry of a text takes. The text is whole, which `is_whole` tells.
+/// How many bytes the entry of a text takes. The text must be whole (see `is_whole`).
 pub fn entry_len(text: &[u8]) -> u64
     requires { IsWhole text.now }
     ensures { result ≡ length (entry_of text.now) }
@@ -83,11 +83,11 @@ pub fn entry_len(text: &[u8]) -> u64
     entry_size(text) as u64
 }
 
-/// Puts the entry of a text behind a file, by one `append`. The text is whole, which `is_whole`
-/// tells. Missing where there is no file, NotMbox where it isn't empty and doesn't both begin with
-/// `From ` and end with LF LF, NoMemory where the entry finds no room: the file is then as it was.
-/// Refused where the device refused; after a refused `append` the file is cut back to the size that
-/// it had, and only where that is refused too a front of the entry may stand there.
+/// Appends the entry of a text to a file, by one `append`. The text must be whole (see `is_whole`).
+/// Missing if there is no file, NotMbox if it isn't empty and doesn't both begin with `From ` and
+/// end with LF LF, NoMemory if memory runs out: the file is then as it was. Refused if the device
+/// refused; after a refused `append` the file is cut back to the size that it had, and only if that
+/// is refused too may a front of the entry be left there.
 pub fn append_entry<F: FlatFile>(alloc: Global, file: &mut F, text: &[u8]) -> Result<(), StoreFault>
     requires { IsWhole text.now }
     ensures appends { F.sound file.new → F.sound file.old
@@ -122,9 +122,10 @@ pub fn entries_may_follow_texts()
     ensures { TextsMayGoOn }
 {}
 
-/// A front of a text's entry behind a file that stands for texts: cut to the size that the file had it
-/// is that file again, and its length tells whether all of the entry is there. Where the file stands
-/// for texts with only a part of the entry, they are the old ones, and perhaps a front of the text.
+/// If a front of a text's entry follows a file that stands for texts, cutting the file to its old
+/// size restores it, and the front's length shows whether all of the entry is there. If the file
+/// stands for texts with only a part of the entry, they are the old ones, and perhaps a front of
+/// the text.
 pub fn fronts_of_entries_are_cut_off()
     ensures { FrontsOfEntries }
 {}

@@ -80,8 +80,8 @@ pub fn quoted_len(text: &[u8]) -> usize
     text.len() + marked
 }
 
-/// Puts the quoted text behind what stands there, in runs of lines. Where memory runs out a part of
-/// it may stand there.
+/// Appends the quoted text to `out`, in runs of lines. If memory runs out, a part of it may have
+/// been appended.
 pub fn put_quoted(out: &mut Vec<u8>, text: &[u8]) -> Result<(), AllocError>
     ensures { OnOk result (out.new.items ≡ out.old.items ++ quoted_text text.now) }
 {
@@ -99,8 +99,8 @@ pub fn put_quoted(out: &mut Vec<u8>, text: &[u8]) -> Result<(), AllocError>
     out.extend_from_slice(run)
 }
 
-/// A text as it stands in an entry: each line that is `>` any number of times and then `From ` gets
-/// one more `>`. The text is whole, which `is_whole` tells. Room is taken once.
+/// A text as it is in an entry: each line that is `>` any number of times and then `From ` gets one
+/// more `>`. The text must be whole (see `is_whole`). Allocates once.
 pub fn quote(alloc: Global, text: &[u8]) -> Result<Vec<u8>, AllocError>
     requires { IsWhole text.now }
     ensures { IfOk result (λ quoted. quoted.items ≡ quoted_text text.now) }
@@ -111,7 +111,7 @@ pub fn quote(alloc: Global, text: &[u8]) -> Result<Vec<u8>, AllocError>
 }
 
 /// The text that a quoted one stands for: each line that is `>` at least once and then `From ` loses
-/// one `>`. Room is taken once.
+/// one `>`. Allocates once.
 pub fn unquote(alloc: Global, text: &[u8]) -> Result<Vec<u8>, AllocError>
     ensures { IfOk result (λ unquoted. unquoted.items ≡ unquoted_text text.now) }
 {

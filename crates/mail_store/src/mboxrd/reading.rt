@@ -8,7 +8,7 @@ use crate::fault::StoreFault;
 use crate::mboxrd::quoting::{begins_entry, is_whole, line_len, unquote};
 use std::alloc::Global;
 
-/// Cuts off the first line and the lines behind it that don't begin with `From `.
+/// Cuts off the first line and the lines after it, up to the next that begins with `From `.
 fn cut_group(bytes: &[u8]) -> (&[u8], &[u8])
     requires { 0 < length bytes.now }
     ensures cuts { CutsGroup bytes.now result.0.now result.1.now }
@@ -26,8 +26,8 @@ fn cut_group(bytes: &[u8]) -> (&[u8], &[u8])
     (bytes, rest)
 }
 
-/// The quoted text of a group of lines: what stands between its first line, which begins with
-/// `From `, and its last one, which is empty. None where the group has another form.
+/// The quoted text of a group of lines: what is between its first line, which begins with `From `,
+/// and its last one, which is empty. None if the group has another form.
 fn quoted_part(group: &[u8]) -> Option<&[u8]>
     requires { 0 < length group.now }
     ensures found { IfSome result (λ text. HoldsText group.now text.now) }
@@ -45,8 +45,8 @@ fn quoted_part(group: &[u8]) -> Option<&[u8]>
 }
 
 /// The texts that an mboxrd file stands for, in order. An empty file has none. Each line that begins
-/// with `From ` starts an entry, whose last line is empty and no part of the text; the rest is
-/// unquoted. NotMbox for any other file, and NoMemory where memory ran out.
+/// with `From ` starts an entry, whose last line is empty and not part of the text; the rest is
+/// unquoted. NotMbox for any other file, NoMemory if memory runs out.
 pub fn read_mbox(alloc: Global, bytes: &[u8]) -> Result<Vec<Vec<u8>>, StoreFault>
     ensures { ReadsMbox bytes.now result }
 {

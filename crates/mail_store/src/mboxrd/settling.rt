@@ -15,32 +15,32 @@ use memchr::memmem;
 /// How many octets of a file the system writes to the disk at once.
 const PAGE: u64 = 4_096;
 
-/// What was seen of the octets that follow a place of a file.
+/// What was seen of the octets that follow a place in a file.
 #[derive(Clone, Copy)]
 struct Look {
-    /// They begin as an entry's first line does, as far as both go, but for pages that are holes.
+    /// They agree with an entry's first line, as far as both go, except in pages that are holes.
     begins: bool,
     /// None of their pages is a hole.
     is_unbroken: bool,
-    /// No line but the first begins with `From `.
+    /// No line after the first begins with `From `.
     is_one_entry: bool,
 }
 
-/// Whether the one begins as the other, as far as both go.
+/// Whether one of the two begins with the other.
 fn agree(words: &[u8], bytes: &[u8]) -> bool
     ensures { result ≡ agree words.now bytes.now }
 {
     words.starts_with(bytes) || bytes.starts_with(words)
 }
 
-/// Whether a page is nothing but zeros.
+/// Whether a page is all zeros.
 fn is_hole(page: &[u8]) -> bool
     ensures { result ≡ is_hole page.now }
 {
     page.iter().all(|byte| *byte == 0)
 }
 
-/// Whether no line but the first begins with `From `.
+/// Whether no line after the first begins with `From `.
 fn is_one_entry(bytes: &[u8]) -> bool
     ensures { result ≡ is_one_entry bytes.now }
 {
@@ -50,7 +50,7 @@ fn is_one_entry(bytes: &[u8]) -> bool
     }
 }
 
-/// Whether so many octets may be a part of an entry of this length, or all of it.
+/// Whether `behind` octets may be a part of an entry of this length, or all of it.
 fn may_be_part(behind: u64, len: u64) -> bool
     ensures { IsTrue result ↔ ((0 < behind) × (behind ≤ len)) }
 {
@@ -58,8 +58,8 @@ fn may_be_part(behind: u64, len: u64) -> bool
 }
 
 impl Look {
-    /// With one page more: what of the first line belongs there, the page, and it with up to five
-    /// octets in front of it, in which a line may begin.
+    /// Adds one page: `words` is the part of the first line that belongs there, `window` the page
+    /// with up to five octets before it, in which a line may begin.
     fn further(self, words: &[u8], page: &[u8], window: &[u8]) -> Look
         ensures begins { result.begins ≡ (self.begins && (agree words.now page.now || is_hole page.now)) }
         ensures unbroken { result.is_unbroken ≡ (self.is_unbroken && not (is_hole page.now)) }
@@ -73,14 +73,14 @@ impl Look {
         }
     }
 
-    /// Whether what was seen may be a front of an entry, and of nothing else.
+    /// Whether what was seen may be a front of an entry and nothing more.
     fn is_ours(self) -> bool
         ensures { result ≡ (self.begins && self.is_one_entry) }
     {
         self.begins && self.is_one_entry
     }
 
-    /// Whether what was seen, up to the end of a file of these ends, is an entry of this length.
+    /// Whether what was seen, up to the end of a file with these ends, is an entry of this length.
     fn is_entry(self, edges: &Edges, behind: u64, len: u64) -> bool
         ensures { result ≡ (behind == len && (self.begins && self.is_one_entry) && self.is_unbroken
             && nat_le 2 behind && bytes_eq edges.now.tail (10 ∷ 10 ∷ [])) }
@@ -90,7 +90,7 @@ impl Look {
 }
 
 /// Looks at the octets of a file from `start` on, page by page. If the file has become shorter since
-/// its size was asked for, they are told to be nothing of an entry.
+/// its size was read, `begins` is false.
 fn look_behind<F: FlatFile>(file: &mut F, start: u64, behind: u64) -> Result<Look, StoreFault>
     requires { start + behind < 2 ^ 64 }
     ensures looks { F.sound file.new → F.sound file.old
@@ -127,17 +127,15 @@ fn look_behind<F: FlatFile>(file: &mut F, start: u64, behind: u64) -> Result<Loo
 }
 
 /// Settles what follows `start` in a file, where an entry of `len` octets was about to be appended
-/// when a session was cut, and says whether it stands there whole.
+/// when a session was cut, and returns whether it is there whole.
 ///
-/// What follows is looked at first. It is ours only if it is no longer than the entry, begins as an
-/// entry's first line does, as far as both go, and no other line begins with `From `. Anything else
-/// isn't touched. It is whole only if it has the entry's length, its last line is empty, and none of
-/// the file's pages in it is nothing but zeros, as a loss of power can leave them; else the file is
-/// cut back to `start`. A page that is nothing but zeros is also allowed where the first line would
-/// stand.
+/// What follows is looked at first. It is ours only if it is no longer than the entry, agrees with
+/// an entry's first line, as far as both go, and no other line begins with `From `. A page of zeros
+/// in place of the first line also agrees. Anything else isn't touched. It is whole only if it has
+/// the entry's length, its last line is empty, and none of the file's pages in it is all zeros, as
+/// a loss of power can leave them; otherwise the file is cut back to `start`.
 ///
-/// Missing where there is no file. Refused where the device refused: the file is as it was, or
-/// settled.
+/// Missing if there is no file. Refused if the device refused: the file is as it was, or settled.
 pub fn settle_file<F: FlatFile>(file: &mut F, start: u64, len: u64) -> Result<bool, StoreFault>
     ensures settles { F.sound file.new → F.sound file.old
         × SettlesFile (F.stored file.old) start len result (F.stored file.new) }
@@ -164,8 +162,8 @@ pub fn settle_file<F: FlatFile>(file: &mut F, start: u64, len: u64) -> Result<bo
     Ok(false)
 }
 
-/// Behind a file stands a front of an entry: it is all of it, and counts as whole, or settling cuts
-/// the file back to what it was.
+/// If a front of an entry follows a file, it is all of the entry and counts as whole, or settling
+/// cuts the file back to what it was.
 pub fn fronts_of_entries_are_settled()
     ensures { FrontsAreSettled }
 {}
