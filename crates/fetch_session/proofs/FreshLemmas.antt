@@ -15,7 +15,7 @@ use Rattle.mail_store.specs.FileName.{mail_file, stem_of, names_id, is_held, IsA
 use Rattle.fetch_session.specs.Task.{Task, ids_in, ids_ahead, AreFresh, fetching, deleting, tasks_in, tasks_planned}
 use Rattle.fetch_session.specs.Store.{Grows, GrowsBy, Rests}
 
--- what is held goes by the names in `new` and `cur` alone
+-- which ids are held depends only on the names in `new` and `cur`
 held_by_files : (account uid : List ℕ) (a b : Maildir) → b.in_new ≡ a.in_new → b.in_cur ≡ a.in_cur → is_held account b uid ≡ is_held account a uid
 held_by_files account uid a b news curs =
     simp (news, curs)
@@ -92,7 +92,7 @@ fresh_later law account step item held later a b text grows fresh =
 pub no_item : Item
 no_item = record { uid = []; size = 0 }
 
--- the i-th message has a row, where all have one
+-- the i-th message has a row, if all have one
 pub row_at : (rows : List Row) (items : List Item) (i : ℕ) → i < length items → AllByRecursion (λ (item : Item). has_row rows item.uid ≡ true) items
     → has_row rows (get_or items i no_item).uid ≡ true
 row_at rows [] i within all = absurd (omega arith)

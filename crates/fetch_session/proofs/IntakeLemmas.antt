@@ -52,7 +52,7 @@ before_on limit m n a b c (Some rest) less first then = record {
   within = omega (arith, less, then.within);
 }
 
--- behind what went well
+-- after what went well
 pub takes_on : (limit m n : ℕ) (a b c : Place) (result : Result (Unit {0}) Cut) → m + n ≤ limit → Took m a b → TookTillCut n b result c → TookTillCut limit a result c
 takes_on limit m n a b c (Ok done) less first then = took_less (took_on first then) less
 takes_on limit m n a b c (Err cut) less first then = before_on limit m n a b c cut.rest less first then
@@ -90,7 +90,7 @@ quit_tail fault a b (inr (inr none)) = ap tail none.0
 
 -- ---- with what is said after a fault
 
--- whatever it is
+-- whatever the tail is
 pub with_any_tail : (limit : ℕ) (a b : Place) (cut : Cut) → TookTillCut limit a (Err cut) b → TookWithTail (limit + tail_limit) a (Err cut) b
 with_any_tail limit a b cut took = (limit, took, omega (arith, most_tail (tail cut.fault)))
 

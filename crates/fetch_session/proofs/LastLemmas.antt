@@ -1,4 +1,4 @@
--- How what single tasks leave for good makes what lists of tasks leave.
+-- What of lists of tasks outlives a loss of power, from what of single tasks does.
 use Rattle.std.proofs.Common.{◌≡◌, ℕ, List, [], ◌∷◌, ◌++◌, Option, None, Some, Result, Ok, Err, true, false, Bool, refl, sym, ap, subst, ◌∙◌, inl, inr, append_assoc, arith, length, length-append, ◌≤◌}
 use Rattle.std.proofs.lemmas.List.{append-nil, append_cancel_left}
 use Rattle.std.proofs.lemmas.Grind.{flat_map-append}
@@ -71,7 +71,7 @@ dones_on disk file target xs ys a b mid new f went first keeps then = record {
 pub mail_on : {D F : Type 0} (disk : DiskGhosts D) (a b c : Store D F) → KeepsMailIn disk a b → KeepsMailIn disk b c → KeepsMailIn disk a c
 mail_on disk a b c first then = keeps_mail_on first then
 
--- the same where another premise gives this one, and for another store of this kind
+-- the same if another premise gives this one, and for another store of this kind
 pub in_kind : {D F : Type 0} {disk : DiskGhosts D} {file : FileGhosts F} {here safe : Type 0} {tasks : List Task} {old new : Scene}
     {r : Result (Unit {0}) Cut} {store : Store D F} {f : F} (a b : Store D F) (account : List ℕ) → kind_of a ≡ kind_of b
     → DoesForGood disk file here (target_of a account) tasks old r new store f → (safe → here) → DoesForGood disk file safe (target_of b account) tasks old r new store f
@@ -141,7 +141,7 @@ rows_last file f rows safe steady = by (file.stored f).content refl steady
     by None is stands = ([], inl refl, stands)
     by (Some bytes) is stands = (bytes, inr (safe.1 bytes is), stands)
 
--- and still do after calls that took nothing back
+-- and they still do after calls that took nothing back
 pub rows_kept : {F : Type 0} (file : FileGhosts F) (f f' : F) (rows : List Row) → KeepsBytes (file.outlives f) (file.outlives f') → RowsLast file f rows
     → RowsLast file f' rows
 rows_kept file f f' rows keeps (bytes, inl none, stands) = (bytes, inl none, stands)
@@ -171,7 +171,7 @@ texts_ok disk file AsEntries dones old new brings outlive safe = λ was is.
 
 -- ---- one message
 
--- of one task that wasn't brought to its end nothing was done
+-- if at most one task was to be done, and it wasn't brought to its end, none was done
 none_done : (tasks : List Task) (dones : List Done) (next : Task) (later : List Task) → length tasks ≤ 1 → tasks ≡ tasks_of dones ++ (next ∷ later) → dones ≡ []
 none_done tasks [] next later few e = refl
 none_done tasks (d ∷ dones) next later few e = absurd (omega (arith, few, ap length e, length-append (tasks_of dones) (next ∷ later)))
@@ -217,7 +217,7 @@ module _ {D F : Type 0} {disk : DiskGhosts D} {file : FileGhosts F} {safe : Type
       → (safe → DonesLast disk file target [] old store f) → DoesForGood disk file safe target (fetching retrieve held number uid size ++ more) old (Err cut) new store f
   not_fetched retrieve held number uid size more fell last = good_before more (fell_few (few_fetched retrieve held number uid size) fell last)
 
--- ---- where nothing is done
+-- ---- if nothing is done
 
 -- no file came
 pub none_came : {D F : Type 0} (disk : DiskGhosts D) (file : FileGhosts F) (store : Store D F) → NewOutlive disk file store store

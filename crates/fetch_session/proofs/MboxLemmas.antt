@@ -51,7 +51,7 @@ content_of a b is = ap (λ (s : Stored). s.content) is
 
 -- ---- settling
 
--- an intent was ended, and there was no file, or it is settled
+-- an intent was ended: there was no file, or it is settled
 settled_is : (intent : Option Intent) (old mid : Stored) (stored : Bool) → SettlesIntent intent old (Ok stored) mid
     → ((old.content ≡ None) × (mid ≡ old)) ⊎ ((was : List ℕ) × (old.content ≡ Some was) × (stored ≡ is_stored intent was) × (mid ≡ holding old (closed_file intent was)))
 settled_is None old mid stored (whole, same) =
@@ -113,13 +113,13 @@ held_wanting number start new cut rest text plain fetching = rw plain (refl, inr
 
 -- ---- a text that is appended
 
--- the file was refused before the record told of the entry
+-- the file was refused before the intent was saved
 pub not_measured : (mbox mbox' file : Stored) (rows : List Row) (uid text : List ℕ) (why : StoreFault) (fault : Fault) → Measures mbox (Err why) mbox' → IsStoreFault why fault → RefusesEntry mbox file rows uid text fault mbox' file
 not_measured mbox mbox' file rows uid text refused.Missing fault is fault_is = rw fault_is (is.0, is.1, refl)
 not_measured mbox mbox' file rows uid text refused.Refused fault is fault_is = rw fault_is (inl (is, refl))
 not_measured mbox mbox' file rows uid text _ fault never fault_is = absurd never
 
--- the intent's line was refused, or memory was wanting for it
+-- the intent's line was refused, or memory ran out for it
 pub not_intended : (mbox mid file file' : Stored) (rows : List Row) (uid text : List ℕ) (edges : Edges) (len : ℕ) (fault : Fault) → Measures mbox (Ok edges) mid → len ≡ length (entry_of text)
     → Saves file (none_open rows) (with_open rows (intent_at uid edges.size len)) (Err fault) file' → RefusesEntry mbox file rows uid text fault mid file'
 not_intended mbox mid file file' rows uid text edges len SeenRefused ((was, some, edges_are), same) len_is saves = (same, (was, some, rw (edges_are, len_is) at saves))

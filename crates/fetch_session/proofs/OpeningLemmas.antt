@@ -13,7 +13,7 @@ use Rattle.fetch_session.specs.Opening.{Opened, Enters}
 use Rattle.pop3_client.proofs.TalkLemmas.{talked_on, stopped_first, stopped_behind}
 
 module _ (name password : List ℕ) (a b c d : Place) (welcome : List WholeReply) (entered : Talked (login name password) welcome a b) where
-  -- the count wasn't told
+  -- the count wasn't given
   pub not_counted : (fault : Fault) → Broke stat b c fault → Enters name password a (Err fault) c
   not_counted fault broke = inl (stopped_behind (login name password) (stat ∷ uidl ∷ list ∷ []) welcome a b c fault entered (stopped_first stat (uidl ∷ list ∷ []) b c fault broke))
 

@@ -1,4 +1,4 @@
--- What a session tells that changes nothing, and why it tells nothing.
+-- What a session that changes nothing tells, and why it tells nothing.
 use Rattle.std.proofs.Common.{◌≡◌, inr, ℕ, Bool, false, List, [], ◌∷◌, length, Option, None, Result, Ok, Err, ap, subst, ◌∙◌}
 use Rattle.pop3_wire.specs.Link.{Link}
 use Rattle.pop3_wire.specs.Place.{Place, at}
@@ -25,7 +25,7 @@ use Rattle.fetch_session.specs.Session.{Keeping, LeavesLink, Enters_with, keepin
 use Rattle.fetch_session.specs.Target.{Target, AsFiles, AsEntries, Stores, flags_in}
 use Rattle.fetch_session.proofs.RecordLemmas.{not_whole, read_keeps}
 
--- ---- what is told
+-- ---- what a preview says
 
 pub foretold_is : (settings : Settings) (rows rows' : List Row) (intent : Option Intent) (items : List Item) (held : List Bool) (now : ℕ) (steps : List Step)
     → rows' ≡ merged (closed_rows false rows intent) items held now → steps ≡ planned settings rows' items now

@@ -1,4 +1,4 @@
--- What is told of a listing, message by message.
+-- What a preview says of a listing, message by message.
 use Rattle.std.proofs.Common.{◌≡◌, ◌<◌, ◌≤◌, ◌+◌, ℕ, suc, Bool, true, false, List, [], ◌∷◌, ◌++◌, append_assoc, append-nil, drop, get_or, length, cond, add-one, refl, sym, ap, ◌∙◌, arith}
 use Rattle.std.proofs.lemmas.List.{drop_all}
 use Rattle.std.proofs.Math.Seq.{drop-cons}
@@ -21,7 +21,7 @@ byte_of true = refl
 byte_of false = refl
 
 module _ (settings : Settings) (rows : List Row) (now : ℕ) where
-  -- the first i messages are told of, and so many of them are fetched
+  -- the preview has the first i messages, and `fetched` of them are fetched
   pub record IsTold (steps : List Step) (items : List Item) (flags : List Bool) (i : ℕ) (told : List Prospect) (fetched : ℕ) : Type 0 where
     pub so_far : told ++ prospects settings rows now fetched (drop i steps) (drop i items) (drop i flags) ≡ prospects settings rows now 0 steps items flags
     pub few : fetched ≤ i

@@ -9,7 +9,7 @@ use Rattle.pop3_client.specs.declared.fault.Fault.{Fault}
 use Rattle.pop3_client.specs.declared.fault.Fault.TheVariants.{NoMemory, BadSeen}
 use Rattle.fetch_session.specs.Record.{bytes_in, LineOf, Reads, IsLineFault}
 
--- a fault with a line isn't want of memory
+-- a fault with a line isn't NoMemory
 has_line : (why : SeenFault) (line : ℕ) → LineOf why line → why ≢ WantsMemory
 has_line why line at same = subst (λ (w : SeenFault). LineOf w line) same at
 

@@ -1,4 +1,4 @@
--- What a session is ready with, or why it isn't.
+-- What a session has ready, or why it isn't ready.
 use Rattle.std.proofs.Common.{◌≡◌, ◌⊎◌, inl, inr, ◌<◌, ◌+◌, ℕ, Bool, true, List, [], ◌∷◌, ◌++◌, append_assoc, Option, Some, Ok, Err, refl, sym, ap, subst, ◌∙◌, arith}
 use Rattle.mail_terms.specs.Listing.{Item}
 use Rattle.std.specs.Prelude.{◌||◌}
@@ -27,7 +27,7 @@ use Rattle.fetch_session.proofs.RecordLemmas.{read_keeps, steady_keeps, not_whol
 
 -- ---- what was found
 
--- the rows that an intent leaves that was ended by it, which messages are held, and the store
+-- the rows once the open intent was ended by what was found, which messages are held, and the store
 found_is : (target : Target) (store store' : Stores) (items : List Item) (was : Held) (found : Found) → FindsIn target was.intent store items (Ok found) store'
     → (closed_rows found.stored was.rows was.intent ≡ rows_in target store was) × (found.held.items ≡ flags_in target store items) × Settles target was store store'
 found_is (AsFiles account) store store' items was found (held, stored, same) = (rw stored (not_whole was.rows was.intent), held, same)
@@ -119,7 +119,7 @@ module _ (settings : Settings) (target : Target) (items : List Item) (now : ℕ)
     settles = settles;
   }
 
-  -- saved, and memory was wanting for the plan
+  -- saved, and memory ran out for the plan
   pub no_plan : Merges read (held_in loaded) (none_open here) (Ok tt) new → Unready target items now store file NoMemory store' new
   no_plan merges = record {
     cause = wants_cause target settles;

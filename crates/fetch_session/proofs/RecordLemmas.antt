@@ -18,7 +18,7 @@ bytes_begin : (version : Version) (rest : List ℕ) → [] ≢ header version ++
 bytes_begin One rest is = true≢false (sym (ap has_bytes is))
 bytes_begin Two rest is = true≢false (sym (ap has_bytes is))
 
--- no bytes stand for no row and no intent
+-- an empty file stands for no row and no intent
 empty_means : (version : Version) (rows : List Row) (intent : Option Intent) (torn : Bool) → Means [] (Rows version rows intent torn) → (rows ≡ []) × (intent ≡ None)
 empty_means version rows intent torn (inl is) = (cc is.1, cc is.1)
 empty_means version rows intent torn (inr (inl other)) = absurd (other.0 refl)
@@ -37,7 +37,7 @@ read_keeps content loaded is = means_keeps content is.version (held_in loaded) i
 pub steady_keeps : (content : Option (List ℕ)) (held : Held) → Steady content held → Keeps content held
 steady_keeps content held steady = means_keeps content Two held false steady
 
--- what isn't stale is of version 2, isn't torn, and has no open intent
+-- a record that isn't stale is of version 2, isn't torn, and has no open intent
 not_older : (version : Version) → is_older version ≡ false → version ≡ Two
 not_older One is = absurd (true≢false is)
 not_older Two is = refl
@@ -123,7 +123,7 @@ still_some : (rows group : List Row) → rows ≢ [] → taken_all rows group �
 still_some rows [] some = some
 still_some rows (row ∷ group) some = still_some (taken rows row) group (taken_by (has_row rows row.uid) rows row some)
 
--- where an id's mark gives a group, the file has bytes
+-- if an id's mark gives a group, the file has bytes
 pub mark_begun : (content : Option (List ℕ)) (was now : List Row) (before after : Option Intent) (uid group : List ℕ) → Steady content (held was before) → now ≡ marked was uid → Updates was before group now after → group ≢ [] → bytes_in content ≢ []
 mark_begun content was now before after uid group steady marks (inl same) some none = some same.0
 mark_begun content was now before after uid group steady marks (inr (rows, is, bytes, grown', closed)) some none =
@@ -134,7 +134,7 @@ mark_begun content was now before after uid group steady marks (inr (rows, is, b
     by_rows [] count nothing no_row = absurd (omega (arith, count))
     by_rows (row ∷ more) count nothing no_row = still_some (row ∷ []) more (λ e. cc) (rw no_row at nothing)
 
--- where an id has a row, the file has bytes
+-- if an id has a row, the file has bytes
 pub row_begun : (content : Option (List ℕ)) (rows : List Row) (uid : List ℕ) → Steady content (none_open rows) → has_row rows uid ≡ true → bytes_in content ≢ []
 row_begun content rows uid steady has none =
     let no_row : rows ≡ [] = (empty_means Two rows None false (rw none at steady)).0 in

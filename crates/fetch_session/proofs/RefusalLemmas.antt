@@ -17,7 +17,7 @@ pub at_most_one : (refused : Bool) (old new : Link) → Tallies refused old.fail
 at_most_one true old new up = inr up
 at_most_one false old new same = inl same
 
--- behind what went well
+-- after what went well
 pub then_at_most_one : (a b c : Link) → RefusesNone a b → RefusesAtMostOne b c → RefusesAtMostOne a c
 then_at_most_one a b c first (inl same) = inl (same ∙ first)
 then_at_most_one a b c first (inr up) = inr (up ∙ ap counted_up first)
@@ -30,7 +30,7 @@ pub till_cut : (a b c : Link) (result : Result (Unit {0}) Cut) → RefusesNone a
 till_cut a b c (Ok done) first same = same ∙ first
 till_cut a b c (Err cut) first then = before_cut a b c cut first then
 
--- a fault of the conversation: behind a refused call nothing is said
+-- a fault of the conversation: after a refused call nothing is said
 by_fault : (why : Fault) (old new : Link) → Tallies (is_refusal why) old.failures new.failures → RefusesBefore old (cut_of why None) new
 by_fault ReadFailed old new up = inr (up, refl, refl)
 by_fault WriteFailed old new up = inr (up, refl, refl)

@@ -1,4 +1,4 @@
--- How many lines are told.
+-- How many lines a report has.
 use Rattle.std.proofs.Common.{◌+◌, ◌*◌, ℕ, arith}
 use Rattle.std.specs.Prelude.{Vec}
 use Rattle.fetch_session.specs.declared.report.ReportLine.{ReportLine}

@@ -138,7 +138,7 @@ pub on_any : {T E P : Type 0} (result : Result T E) → P → OnOk result P
 on_any (Ok done) p = p
 on_any (Err fault) p = tt
 
--- what is known where all are sound, by what the calls of each did
+-- what is known if all are sound, by what the calls of each did
 pub all_sound : {W W' L D D' F F' P Q R S : Type 0} → (W → W' × L × P) → (D → D' × Q) → (F → F' × R) → (P → Q → R → S) → W → D → F → W' × D' × F' × L × S
 all_sound link disk file did w d f =
     let l = link w in

@@ -1,4 +1,4 @@
--- Where a list of tasks stopped, it leaves what tasks that were cut short leave.
+-- A list of tasks that stopped leaves what tasks that were cut short leave.
 use Rattle.std.proofs.Common.{◌≡◌, inl, inr, ◌⊎◌, ℕ, List, [], ◌∷◌, ◌++◌, Err, refl, sym, ap, subst, ◌∙◌, append_assoc}
 use Rattle.std.proofs.lemmas.List.{append-nil, map-append}
 use Rattle.std.proofs.lemmas.Grind.{flat_map-append}

@@ -44,7 +44,7 @@ refused_piece old now new name text bytes more rest fault was puts =
 pub put_on : (old now new : Maildir) (name text bytes : List ℕ) → now ≡ begun_with old (file name text) → Puts now bytes (Ok tt) new → new ≡ begun_with old (file name (text ++ bytes))
 put_on old now new name text bytes was puts = puts (file name text) (ap (λ (m : Maildir). m.begun) was) ∙ ap (λ (m : Maildir). begun_with m (file name (text ++ bytes))) was
 
--- what was written is in a file whose name tells its length
+-- what was written is in a file whose name gives its length
 pub settled : (old now new : Maildir) (stem text : List ℕ) (octets : ℕ) → now ≡ begun_with old (file stem text) → octets ≡ length text
     → Ends now (sized stem octets) (Ok tt) new → new ≡ with_file old (sized_file stem text)
 settled old now new stem text octets was counted ends =
@@ -76,6 +76,6 @@ pub stores_grows : (old new : Maildir) (name text : List ℕ) (r : Result ℕ Cu
 stores_grows old new name text (Ok octets) calm is = rw is.0 (record { calm = refl; in_cur = refl; in_new = inr (text, refl) })
 stores_grows old new name text (Err cut) calm is = stops_grows old new name text cut.fault cut.rest calm is
 
--- a text that grew by the first of some bytes is so much longer
+-- a text that grew by the first `put` of some bytes is `put` longer
 pub longer : (n put : ℕ) (text out : List ℕ) → n ≡ length text → put ≤ length out → n + put ≡ length (text ++ take put out)
 longer n put text out is within = omega (arith, is, length-append text (take put out), length-take-le put out within)

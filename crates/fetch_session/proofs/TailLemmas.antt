@@ -25,7 +25,7 @@ silent_rest number start old new rest text (Ok done) now takes =
     takes.1.sent ∙ ap (λ (s : List ℕ). start.link.sent ++ s) (append-nil (turn_bytes (retr number))) ∙ sym (now.under.drew.sent ∙ now.opened.sent)
 silent_rest number start old new rest text (Err why) now bad = bad.sent ∙ sym (now.under.drew.sent ∙ now.opened.sent)
 
--- a place from which the same text would be under way, where all that came had come before it was asked for
+-- a place from which the same text would be under way, if all that came had come before it was asked for
 abbrev again : (number : ℕ) (start old : Place) (rest : Rest) (text : List ℕ) → Fetching (retr number) start old rest text → Place
 again number start old rest text now = at (record old.link { sent = start.link.sent }) (ended now.line ++ (now.under.used ++ old.waiting))
 
@@ -64,7 +64,7 @@ module _ (paced : ConversationsArePaced) where
       let p = paced (retr number ∷ []) here new r (rest_talks number here new r (drops.1 number here text (fetching_again number start old rest text now))) in
       (p.gained, p.got)
 
-  -- ---- a tail behind a reply under way
+  -- ---- a tail after a reply under way
 
   pub left_dropped : (fault : Fault) (rest : Option Rest) (old mid new : Place) (r : Result (Unit {0}) Fault) → Drops rest old (Ok tt) mid → Talks (turns_in (tail fault)) mid r new → LeftBy fault rest old new
   left_dropped fault None old mid new r same talks = (r, rw same at talks)

@@ -31,7 +31,7 @@ pub text_broken : (target : Target) (task : Task) (turn : Turn) (a b : Place) (s
 text_broken target task turn a b store file rows lines fault cut takes plain broke =
     rw plain (inl (record { none = refl; turn = turn; takes = takes; broke = broke; store = refl; file = refl; rows = refl; lines = refl }))
 
--- a line couldn't be made
+-- memory ran out before the text was asked for
 pub text_wanting : (account : List ℕ) (n : ℕ) (uid : List ℕ) (a : Place) (maildir : Maildir) (file : Stored) (rows : List Row) (lines : List ReportLine) (cut : Cut) → cut ≡ cut_of NoMemory None
     → Stops (AsFiles account) (stores n uid) (scene a (in_maildir maildir) file rows lines) cut (scene a (in_maildir maildir) file rows lines)
 text_wanting account n uid a maildir file rows lines cut plain =

@@ -11,6 +11,6 @@ pub record Holding (D F : Type 0) : Type 0 where
   pub store : Store D F
   pub file : F
 
--- the digits that stand in the names of the account's files
+-- the digits in the names of the account's files
 abbrev pub digits_of : Settings → List ℕ
 digits_of settings = account_text (string_bytes settings.server) settings.port (string_bytes settings.username)

@@ -10,11 +10,11 @@ use Rattle.pop3_client.specs.Texts.{Fetching}
 use Rattle.fetch_session.specs.declared.fault.Cut.{Cut}
 use Rattle.fetch_session.specs.Tail.{turns_in, tail}
 
--- the most octets that a session of so many messages takes: first lines, two listings, and a text for each message
+-- the most octets that a session of this many messages takes: first lines, two listings, and a text for each message
 abbrev pub session_limit : ℕ → ℕ
 session_limit messages = line_limit * (2 * messages + 10) + 2 * (line_limit * (message_limit + 1)) + messages * text_limit
 
--- between these two at most so many octets were got
+-- at most `most` octets were got between these two
 abbrev pub GotAtMost : ℕ → Link → Link → Type 0
 GotAtMost most old new = (gained : List ℕ) × (new.got ≡ old.got ++ gained) × (length gained ≤ most)
 
@@ -32,13 +32,13 @@ opening_limit = 6 * line_limit + 2 * (line_limit * (message_limit + 1))
 abbrev pub tail_limit : ℕ
 tail_limit = 2 * line_limit
 
--- of what waited and was got at most so many octets were used
+-- at most `limit` octets were used of what waited and was got
 pub record Took (limit : ℕ) (old new : Place) : Type 0 where
   pub gained : List ℕ
   pub got : new.link.got ≡ old.link.got ++ gained
   pub within : length old.waiting + length gained ≤ limit + length new.waiting
 
--- a text is under way, or at its end: it was asked for where at most so many were used that the most of its reply is within the limit too
+-- a text is under way, or at its end: what was used before it was asked for, and the most of its reply, are within the limit together
 pub record TookSoFar (limit : ℕ) (old new : Place) (rest : Rest) : Type 0 where
   pub before : ℕ
   pub number : ℕ
@@ -52,12 +52,12 @@ abbrev pub TookBefore : ℕ → Place → Option Rest → Place → Type 0
 TookBefore limit old None new = Took limit old new
 TookBefore limit old (Some rest) new = TookSoFar limit old new rest
 
--- a part of a session, well or cut: at most so many, and what is left of a reply under way stays within them
+-- a part of a session, well or cut: it takes at most `limit`, even with what is left of a reply under way
 abbrev pub TookTillCut : ℕ → Place → Result (Unit {0}) Cut → Place → Type 0
 TookTillCut limit old (Ok done) new = Took limit old new
 TookTillCut limit old (Err cut) new = TookBefore limit old cut.rest new
 
--- the same, where what is said after the fault stays within them too
+-- the same, even with the turns of the tail after the fault
 abbrev pub TookWithTail : ℕ → Place → Result (Unit {0}) Cut → Place → Type 0
 TookWithTail limit old (Ok done) new = Took limit old new
 TookWithTail limit old (Err cut) new = (before : ℕ) × TookBefore before old cut.rest new

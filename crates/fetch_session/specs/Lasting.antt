@@ -1,4 +1,4 @@
--- What of a session outlives a loss of power, as its devices tell it.
+-- What of a session outlives a loss of power, by what its devices say.
 use Rattle.std.specs.Prelude.{◌≡◌, ◌⊎◌, ℕ, List, [], ◌++◌, length, Some, Result, Ok, Err, Contains}
 use Rattle.std.specs.List.{flat_map, AllByRecursion}
 use Rattle.mail_store.specs.declared.maildir.disk.Folder.{Folder}
@@ -27,7 +27,7 @@ use Rattle.fetch_session.specs.Session.{Enters_with, Keeping, LeavesLink, NoRoom
 use Rattle.fetch_session.specs.Target.{Target, AsFiles, AsEntries, Stores, stores_of}
 use Rattle.fetch_session.specs.Task.{Task, Done, ids_of, files_of, texts_of}
 
--- ---- what the devices tell
+-- ---- what the devices say
 
 -- a loss of power leaves a file of this name in the Maildir; and this file, whole
 abbrev pub stays_in : {D F : Type 0} → DiskGhosts D → Store D F → List ℕ → Type 0
@@ -52,7 +52,7 @@ is_sure file (InMbox device) = file.is_sure device
 abbrev pub IsSafe : {F : Type 0} → FileGhosts F → F → Type 0
 IsSafe file f = file.is_sure f × LastsWhole (file.stored f).content (file.outlives f)
 
--- the same of an mboxrd file
+-- the same for an mboxrd file
 abbrev pub IsSafeStore : {D F : Type 0} → FileGhosts F → Store D F → Type 0
 IsSafeStore file (InMaildir device) = Unit {0}
 IsSafeStore file (InMbox device) = IsSafe file device
@@ -77,7 +77,7 @@ abbrev pub KeepsWork : {D F H Z : Type 0} → DiskGhosts D → FileGhosts F → 
 KeepsWork disk file old new = KeepsMailIn disk old.store new.store × KeepsMboxIn disk file old.store new.store
     × KeepsBytes (file.outlives old.ledger.file) (file.outlives new.ledger.file)
 
--- the files that came into a Maildir outlive a loss of power, whichever they are
+-- all files that came into a Maildir outlive a loss of power
 abbrev pub NewOutlive : {D F : Type 0} → DiskGhosts D → FileGhosts F → Store D F → Store D F → Type 0
 NewOutlive disk file old new = (files : List File)
     → (stores_of disk file new).maildir.in_new ≡ (stores_of disk file old).maildir.in_new ++ files
@@ -101,7 +101,7 @@ pub record DonesLast {D F : Type 0} (disk : DiskGhosts D) (file : FileGhosts F) 
   pub texts : TextsLast disk file target dones old.store store
   pub rows : RowsLast file f (marked_all old.rows (ids_of dones))
 
--- the same of the tasks that were done of a list of tasks
+-- the same for the tasks of a list that were done
 abbrev pub Lasts : {D F : Type 0} → DiskGhosts D → FileGhosts F → (target : Target) (tasks : List Task) (old : Scene)
     (result : Result (Unit {0}) Cut) (new : Scene) → Does target tasks old result new → Store D F → F → Type 0
 Lasts disk file target tasks old (Ok done) new does store f = DonesLast disk file target does.dones old store f
@@ -144,7 +144,7 @@ CarriesForGood disk files safe settings target items now place old file lines (E
     ⊎ CarriedForGood disk files safe settings target items now place old file lines (Err cut)
     (scene place' new file' rows lines') skipped store f)
 
--- as `Dealt`, for good
+-- as `Dealt`, with what outlives a loss of power
 pub record DealtForGood {D F : Type 0} (disk : DiskGhosts D) (files : FileGhosts F) (safe : Type 0) (settings : Settings)
     (target : Target) (now : ℕ) (old : Place)
     (before : Keeping) (result : Result (Unit {0}) Cut) (new : Place) (after : Keeping) (notes : Noted) (store : Store D F)
@@ -156,7 +156,7 @@ pub record DealtForGood {D F : Type 0} (disk : DiskGhosts D) (files : FileGhosts
   pub carries : CarriesForGood disk files safe settings target items now mid before.store before.file [] result new after.store
       after.file notes.lines notes.skipped store f
 
--- as `Proceeds`, for good
+-- as `Proceeds`, with what outlives a loss of power
 abbrev pub ProceedsForGood : {D F : Type 0} → DiskGhosts D → FileGhosts F → Type 0 → Settings → Target → ℕ → Place → Keeping
     → Result (Unit {0}) Cut → Place → Keeping → Noted → Store D F → F → Type 0
 ProceedsForGood disk files safe settings target now old before (Ok done) new after notes store f =
@@ -167,8 +167,8 @@ ProceedsForGood disk files safe settings target now old before
     ⊎ DealtForGood disk files safe settings target now old before (Err cut) new after notes store f)
 
 -- a whole session, as `SessionIn` says; and if this premise holds, what was stored and marked for each task that was done
--- outlives a loss of power. Tasks are done in order, and a deletion comes after its message's own, so a DELE is sent only for
--- a message whose text outlives one
+-- outlives a loss of power. Tasks are done in order, and a deletion comes after its message's other task, so a DELE is sent only
+-- for a message whose text outlives a loss of power
 pub record SessionForGood {D F : Type 0} (disk : DiskGhosts D) (files : FileGhosts F) (safe : Type 0) (settings : Settings)
     (target : Target) (now : ℕ)
     (link : Link) (before : Keeping) (report : Report) (link' : Link) (after : Keeping) (store : Store D F) (f : F) : Type 0 where

@@ -1,4 +1,4 @@
--- What a list of tasks that stopped leaves, told by the tasks that were brought to their end.
+-- What a list of tasks that stopped leaves, in terms of the tasks that were done.
 use Rattle.std.specs.Prelude.{◌≡◌, ◌⊎◌, ℕ, List, [], ◌∷◌, ◌++◌, Option, Err}
 use Rattle.std.specs.List.{flat_map, AllZip}
 use Rattle.fetch_rules.specs.Record.{Held, none_open, marked_all}
@@ -17,18 +17,18 @@ use Rattle.fetch_session.specs.Record.{Keeps, Steady, Saves}
 use Rattle.fetch_session.specs.Scene.{Scene, Fell}
 use Rattle.fetch_session.specs.Target.{AsFiles}
 
--- these replies stand whole at the front of what was got
+-- what was got begins with these replies, whole
 abbrev pub Stands : List WholeReply → Scene → Scene → Type 0
 Stands replies old new = (rest : List ℕ) × (new.place.link.got ≡ old.place.link.got ++ (flat_map reply_bytes replies ++ rest))
 
--- a file more, whose reply stands behind those taken, only where the store refused
+-- one more file, whose reply comes after those taken, only if the store refused
 abbrev pub ExtraIs : List ℕ → List Done → List Task → Scene → Fault → Scene → List File → Type 0
 ExtraIs account taken next old fault new extra = (extra ≡ [])
     ⊎ ((fault ≡ StoreRefused Refused) × ((number : ℕ) × (uid : List ℕ) × (later : List Task) × (reply : WholeReply)
     × (next ≡ stores number uid ∷ later)
     × (extra ≡ file_from account uid reply ∷ []) × Stands (replies_of taken ++ reply ∷ []) old new))
 
--- the last id that was to be marked isn't saved, only where the record wasn't
+-- the marks are those of all tasks; or the last is missing, only if the record wasn't saved
 abbrev pub MarksAre : List (List ℕ) → Fault → List (List ℕ) → Type 0
 MarksAre taken fault marks = (marks ≡ taken) ⊎ (((fault ≡ SeenRefused) ⊎ (fault ≡ NoMemory))
     × ((uid : List ℕ) × (taken ≡ marks ++ uid ∷ [])))
@@ -49,23 +49,23 @@ pub record CutShort (account : List ℕ) (tasks : List Task) (old : Scene) (faul
   pub marks_are : MarksAre (ids_of taken) fault marks
   pub record_is : Keeps new.file.content (none_open (marked_all old.rows marks))
 
--- where a list of tasks stopped, it leaves what tasks that were cut short leave
+-- a list of tasks that stopped leaves what tasks that were cut short leave
 abbrev pub StoppingCutsShort : Type 0
 StoppingCutsShort = (account : List ℕ) (tasks : List Task) (old new : Scene) (cut : Cut)
     → Fell (AsFiles account) tasks old cut new → old.place.waiting ≡ [] → Steady old.file.content (none_open old.rows)
     → CutShort account tasks old cut.fault new
 
--- a file that stands for a record without a torn end stands for it
+-- a file of version 2 that stands for a record and has no torn end stands for that record
 abbrev pub SteadyFilesKeep : Type 0
 SteadyFilesKeep = (content : Option (List ℕ)) (held : Held) → Steady content held → Keeps content held
 
--- a record that wasn't saved left its file standing for the one before or for this one
+-- the file of a record that wasn't saved stands for the old record or for the new one
 abbrev pub UnsavedFilesKeep : Type 0
 UnsavedFilesKeep = (old : Stored) (was now : Held) (fault : Fault) (new : Stored) → Saves old was now (Err fault) new
     → Steady old.content was
     → Keeps new.content was ⊎ Keeps new.content now
 
--- of no turns there is a conversation in which nothing happens, and turns behind turns make one conversation
+-- no turns make a conversation in which nothing happens, and turns after turns make one conversation
 pub record TurnsJoin : Type 0 where
   pub none : (place : Place) → Talked [] [] place place
   pub on : (turns others : List Turn) (replies more : List WholeReply) (old mid new : Place)

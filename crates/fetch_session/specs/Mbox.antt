@@ -1,4 +1,4 @@
--- What is done to an mboxrd file and to the record that tells of it.
+-- What is done to an mboxrd file and to its record.
 use Rattle.std.specs.Prelude.{◌≡◌, ◌⊎◌, ◌+◌, ℕ, Bool, false, List, ◌++◌, length, Option, None, Some, Result, Ok, Err}
 use Rattle.mail_terms.specs.Listing.{Item}
 use Rattle.fetch_rules.specs.Record.{Row, Intent, Loaded, none_open, marked}
@@ -21,7 +21,7 @@ use Rattle.fetch_session.specs.declared.readiness.Found.{Found}
 use Rattle.fetch_session.specs.Record.{Saves, intent_at, with_open}
 use Rattle.fetch_session.specs.Target.{is_stored, closed_file, none_held}
 
--- the fault of a session whose store refused so
+-- the fault of a session for a fault of its store
 abbrev pub IsStoreFault : StoreFault → Fault → Type 0
 IsStoreFault refused.Missing fault = fault ≡ StoreRefused Missing
 IsStoreFault refused.Refused fault = fault ≡ StoreRefused Refused
@@ -30,7 +30,7 @@ IsStoreFault refused.NoMemory fault = fault ≡ NoMemory
 
 -- ---- before the first text
 
--- the open intent, if there is one, was settled: whether its entry stands whole; there is no file; or a call was refused
+-- the open intent, if there is one, was settled: whether its entry is whole; there is no file; or a call was refused
 abbrev pub SettlesIntent : Option Intent → Stored → Result Bool Fault → Stored → Type 0
 SettlesIntent None old (Ok whole) new = (whole ≡ false) × (new ≡ old)
 SettlesIntent None old (Err fault) new = ⊥
@@ -46,7 +46,7 @@ abbrev pub IsSettledAtMost : Option Intent → Stored → Stored → Type 0
 IsSettledAtMost intent old new = (new.content ≡ old.content)
     ⊎ ((was : List ℕ) × (old.content ≡ Some was) × (new.content ≡ Some (closed_file intent was)))
 
--- the file was settled, and an entry may follow it; there is none; a call was refused; no entry may follow; or memory was wanting
+-- the file was settled, and an entry may follow it; there is none; a call was refused; no entry may follow; or memory ran out
 abbrev pub AsksMbox : Option Intent → Stored → List Item → Result Found Fault → Stored → Type 0
 AsksMbox intent old items (Ok found) new = (was : List ℕ) × (old.content ≡ Some was) × (found.stored ≡ is_stored intent was)
     × (new ≡ holding old (closed_file intent was)) × MayGoOn (closed_file intent was) × (found.held.items ≡ none_held items)
@@ -59,7 +59,7 @@ AsksMbox intent old items (Err _) new = ⊥
 
 -- ---- a text
 
--- a text was read whole; the conversation broke; or memory was wanting for it as it came
+-- a text was read whole; the conversation broke; or memory ran out for it as it came
 abbrev pub HoldsText : ℕ → Place → Result (List ℕ) Cut → Place → Type 0
 HoldsText number start (Ok text) new = Fetched (retr number) start text new
 HoldsText number start (Err cut) new = (cut.rest ≡ None)
@@ -70,14 +70,14 @@ HoldsText number start (Err cut) new = (cut.rest ≡ None)
 abbrev pub intent_of : List ℕ → List ℕ → List ℕ → Intent
 intent_of bytes uid text = intent_at uid (length bytes) (length (entry_of text))
 
--- the record tells that the entry of this text is about to be appended to the mboxrd file
+-- the record says that the entry of this text is about to be appended to the mboxrd file
 abbrev pub IsIntended : Stored → Stored → List Row → List ℕ → List ℕ → Stored → Type 0
 IsIntended mbox file rows uid text file' = (was : List ℕ) × (mbox.content ≡ Some was)
     × Saves file (none_open rows) (with_open rows (intent_of was uid text)) (Ok tt) file'
 
--- what a text that wasn't appended leaves of the mboxrd file and the record's: the file isn't there; a call was refused, before the record
--- told of the entry, or behind, where a front of the entry may stand there; no entry may follow; the record's file was refused; or memory
--- was wanting, before or behind
+-- the mboxrd file and the record's after a text wasn't appended: the file isn't there; a call was refused, before the intent was saved,
+-- or after it, and then a front of the entry may be there; no entry may follow; the record's file was refused; or memory ran out,
+-- before or after
 abbrev pub RefusesEntry : Stored → Stored → List Row → List ℕ → List ℕ → Fault → Stored → Stored → Type 0
 RefusesEntry mbox file rows uid text (StoreRefused Missing) mbox' file' = (mbox.content ≡ None) × (mbox' ≡ mbox) × (file' ≡ file)
 RefusesEntry mbox file rows uid text (StoreRefused Refused) mbox' file' = ((mbox' ≡ counted mbox) × (file' ≡ file))
@@ -91,14 +91,14 @@ RefusesEntry mbox file rows uid text SeenRefused mbox' file' = (mbox' ≡ mbox) 
 RefusesEntry mbox file rows uid text NoMemory mbox' file' = (mbox' ≡ mbox) × ((file' ≡ file) ⊎ IsIntended mbox file rows uid text file')
 RefusesEntry mbox file rows uid text _ mbox' file' = ⊥
 
--- the entry of a text stands behind the mboxrd file's bytes, and the record tells that it was about to; or it was refused
+-- the entry of a text was appended to the mboxrd file, and the record has its intent; or it was refused
 abbrev pub AppendsText : Stored → Stored → Loaded → List ℕ → List ℕ → Result (Unit {0}) Fault → Stored → Stored → Loaded → Type 0
 AppendsText mbox file seen uid text (Ok done) mbox' file' seen' = (was : List ℕ) × GoesOn mbox was
     × (mbox' ≡ holding mbox (was ++ entry_of text)) × (seen'.intent ≡ Some (intent_of was uid text))
     × Saves file (none_open seen.rows) (with_open seen.rows (intent_of was uid text)) (Ok tt) file'
 AppendsText mbox file seen uid text (Err fault) mbox' file' seen' = RefusesEntry mbox file seen.rows uid text fault mbox' file'
 
--- the record told of the entry, and the mark that ends its intent wasn't saved
+-- the intent of the entry was saved, and the mark that ends it wasn't
 abbrev pub MarksEntry : Stored → Stored → List Row → List ℕ → List ℕ → Fault → Stored → Type 0
 MarksEntry mbox file rows uid text fault file' = (was : List ℕ) × (mbox.content ≡ Some was) × (mid : Stored)
     × Saves file (none_open rows) (with_open rows (intent_of was uid text)) (Ok tt) mid

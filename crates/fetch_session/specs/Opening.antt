@@ -14,7 +14,7 @@ use Rattle.pop3_client.specs.Conversation.{Talked, Stopped, login}
 abbrev pub opening : List ℕ → List ℕ → List Turn
 opening name password = login name password ++ (stat ∷ uidl ∷ list ∷ [])
 
--- all of it was talked, and the replies tell this count and these rows
+-- all of it was talked, and the replies give this count and these rows
 pub record Opened (name password : List ℕ) (old new : Place) (count : ℕ) (uids : List UidRow) (sizes : List ScanRow) : Type 0 where
   pub welcome : List WholeReply
   pub counted : WholeReply
@@ -25,7 +25,7 @@ pub record Opened (name password : List ℕ) (old new : Place) (count : ℕ) (ui
   pub names : HasListing IsUidLine named uids
   pub octets : HasListing IsScanLine sized sizes
 
--- the listing is the rows, joined with the count; or the conversation stopped; or the rows don't join; or memory was wanting to join them
+-- the listing is the rows, joined with the count; or the conversation stopped; or the rows don't join; or memory ran out joining them
 abbrev pub Enters : List ℕ → List ℕ → Place → Result (List Item) Fault → Place → Type 0
 Enters name password old (Ok items) new = (count : ℕ) × (uids : List UidRow) × (sizes : List ScanRow)
     × Opened name password old new count uids sizes × Joins count uids sizes items

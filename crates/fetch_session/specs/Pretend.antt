@@ -37,7 +37,7 @@ abbrev pub HoldsTheSame : Target → Stores → Stores → Type 0
 HoldsTheSame (AsFiles account) old new = counted_as old.maildir.failures new.maildir ≡ old.maildir
 HoldsTheSame AsEntries old new = new.mbox.content ≡ old.mbox.content
 
--- the store and the record's file are as they were, but for how many of their calls were refused
+-- the store and the record's file are as they were, except for the counts of their refused calls
 abbrev pub IsUntouched : Target → Keeping → Keeping → Type 0
 IsUntouched target old new = HoldsTheSame target old.store new.store × (new.file.content ≡ old.file.content)
 
@@ -60,9 +60,9 @@ LooksIn (AsFiles account) intent old items (Ok looked) new = (looked.held.items 
 LooksIn (AsFiles account) intent old items (Err fault) new = FindsRefused old.maildir fault new.maildir
 LooksIn AsEntries intent old items result new = LooksAtMbox intent old.mbox items result new.mbox
 
--- ---- what is told
+-- ---- what a preview says
 
--- what is told of a listing once the record has these rows
+-- what a preview says of a listing once the record has these rows
 abbrev pub foretold : Settings → List Row → List Item → List Bool → ℕ → List Prospect
 foretold settings rows items flags now = prospects settings rows now 0 (planned settings rows items now) items flags
 
@@ -76,7 +76,7 @@ abbrev pub MayBeFollowed : Target → Option Intent → Stores → Type 0
 MayBeFollowed (AsFiles account) intent store = Unit {0}
 MayBeFollowed AsEntries intent store = intent ≡ None → (was : List ℕ) × GoesOn store.mbox was
 
--- the record's file stands for a record, and this is told of the listing by it and by what the store holds. An open intent counts as one
+-- the record's file stands for a record; with what the store holds it gives this preview of the listing. An open intent counts as one
 -- whose entry isn't whole
 pub record Foretells (settings : Settings) (target : Target) (items : List Item) (now : ℕ) (old : Keeping) (unsettled : Bool)
     (told : List Prospect) : Type 0 where
@@ -87,7 +87,7 @@ pub record Foretells (settings : Settings) (target : Target) (items : List Item)
   pub told_is : told ≡ foretold settings (merged was.rows items (flags_in target old.store items) now) items
       (flags_in target old.store items) now
 
--- this is told, or a session with this listing wouldn't be ready either, for this reason; and nothing changed
+-- this is the preview; or a session with this listing wouldn't be ready either, for this reason; and nothing changed
 abbrev pub Foresees : Settings → Target → List Item → ℕ → Keeping → Result Foreseen Fault → Keeping → Type 0
 Foresees settings target items now old (Ok foreseen) new =
     Foretells settings target items now old foreseen.unsettled foreseen.prospects.items × IsUntouched target old new
@@ -125,7 +125,7 @@ pub record NotReady (settings : Settings) (target : Target) (old : Place) (befor
   pub cause : CausesUnready target fault before.store before.file after.store after.file
   pub nothing : told ≡ told_nothing (length items)
 
--- what would be done with the listed messages is told, and QUIT was sent
+-- the preview says what would be done with the listed messages, and QUIT was sent
 pub record Listed (settings : Settings) (target : Target) (now : ℕ) (old : Place) (before : Keeping) (result : Result (Unit {0}) Fault)
     (new : Place) (told : Told) : Type 0 where
   pub items : List Item
@@ -146,8 +146,8 @@ abbrev pub Surveys : Settings → Target → ℕ → Place → Keeping → Resul
 Surveys settings target now old before result new after told =
     EndsOrStops settings target now old before result new after told × IsUntouched target before after
 
--- a whole session, from a link of which nothing waits to be used: what it sends is the beginning of a session, then QUIT, or after a fault
--- what a session says after it
+-- a whole session, from a link with nothing waiting to be used: it sends the beginning of a session, then QUIT, or after a fault what a
+-- session says after it
 pub record Pretends (settings : Settings) (target : Target) (now : ℕ) (link : Link) (before : Keeping) (preview : Preview) (link' : Link)
     (after : Keeping) : Type 0 where
   pub result : Result (Unit {0}) Cut

@@ -24,11 +24,11 @@ known_of rows now held item = record {
   since = seen_since rows item.uid now;
 }
 
--- whether a session fetches no more after so many messages
+-- whether a session that fetched this many messages fetches no more
 abbrev pub is_past_limit : Settings → ℕ → Bool
 is_past_limit settings fetched = not (settings.max_count == 0) && nat_le settings.max_count fetched
 
--- why a message is neither fetched nor deleted, if so many before it are fetched
+-- why a message is neither fetched nor deleted, if `fetched` before it are fetched
 abbrev pub reason : Settings → Known → ℕ → Fate
 reason settings known fetched =
     if not settings.read_all && known.held then Held
@@ -49,11 +49,11 @@ fate_of settings step known fetched =
 abbrev pub waits : Settings → Step → Known → Bool
 waits settings step known = not settings.delete && (not (settings.delete_after == 0) && (known.delivered || step.retrieve))
 
--- the last second of 64 bits, which is as great as the greatest size
+-- the last second of 64 bits: the greatest size
 abbrev pub greatest_second : ℕ
 greatest_second = greatest_size
 
--- from when on a message is deleted that was first seen then, as far as 64 bits go
+-- from when on a message first seen at `since` is deleted, as far as 64 bits go
 abbrev pub due_second : Settings → ℕ → ℕ
 due_second settings since = min (since + min (seconds_per_day * settings.delete_after) greatest_second) greatest_second
 
@@ -62,7 +62,7 @@ abbrev pub due_of : Settings → Step → Known → ℕ → Option ℕ
 due_of settings step known now =
     if waits settings step known && nat_lt now (due_second settings known.since) then Some (due_second settings known.since) else None
 
--- what is told of one message, if so many before it are fetched
+-- what a preview says of one message, if `fetched` before it are fetched
 abbrev pub prospect_of : Settings → ℕ → ℕ → Step → Known → Prospect
 prospect_of settings now fetched step known = record {
   number = step.number;
@@ -75,7 +75,7 @@ prospect_of settings now fetched step known = record {
 abbrev pub fetched_by : Step → ℕ
 fetched_by step = if step.retrieve then 1 else 0
 
--- what is told of each message, by its step, if so many before them are fetched
+-- what a preview says of each message, by its step, if `fetched` before them are fetched
 abbrev pub prospects : Settings → List Row → ℕ → ℕ → List Step → List Item → List Bool → List Prospect
 prospects settings rows now fetched [] items flags = []
 prospects settings rows now fetched (step ∷ steps) [] flags = []

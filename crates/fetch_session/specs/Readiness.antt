@@ -1,4 +1,4 @@
--- What a session is ready with before its first task, or why it isn't.
+-- What a session has ready before its first task, or why it isn't ready.
 use Rattle.std.specs.Prelude.{◌≡◌, ◌⊎◌, ◌<◌, ℕ, Bool, false, List, Option, None, Some, Result, Ok, Err, Vec}
 use Rattle.mail_terms.specs.Listing.{Item}
 use Rattle.fetch_rules.specs.Record.{Row, Intent, Held, none_open, merged}
@@ -17,7 +17,7 @@ use Rattle.fetch_session.specs.Mbox.{AsksMbox, IsSettledAtMost}
 use Rattle.fetch_session.specs.Record.{Keeps, Steady, Misread}
 use Rattle.fetch_session.specs.Target.{Target, AsFiles, AsEntries, Stores, flags_in, rows_in, closed_file}
 
--- a folder isn't there, or a call was refused, or memory was wanting
+-- a folder isn't there, or a call was refused, or memory ran out
 abbrev pub FindsRefused : Maildir → Fault → Maildir → Type 0
 FindsRefused old (StoreRefused Missing) new = ((old.there.new ≡ false) ⊎ (old.there.cur ≡ false)) × (new ≡ old)
 FindsRefused old (StoreRefused Refused) new = new ≡ Rattle.mail_store.specs.Maildir.counted old
@@ -36,7 +36,7 @@ FindsIn (AsFiles account) intent old items (Ok found) new = (found.held.items �
 FindsIn (AsFiles account) intent old items (Err fault) new = FindsRefused old.maildir fault new.maildir
 FindsIn AsEntries intent old items result new = AsksMbox intent old.mbox items result new.mbox
 
--- the store was asked, and of an mboxrd file what its open intent had left was cut off or counted
+-- the store was asked, and in an mboxrd file what the open intent had left was cut off or counted
 abbrev pub Settles : Target → Held → Stores → Stores → Type 0
 Settles (AsFiles account) was old new = new ≡ old
 Settles AsEntries was old new = (bytes : List ℕ) × (old.mbox.content ≡ Some bytes)

@@ -10,12 +10,12 @@ use Rattle.mail_store.specs.FlatFile.{Stored, holding, counted}
 use Rattle.pop3_client.specs.declared.fault.Fault.{Fault}
 use Rattle.pop3_client.specs.declared.fault.Fault.TheVariants.{SeenRefused, BadSeen, NoMemory}
 
--- the bytes of a file: one that isn't there has none
+-- the bytes of a file; none if it isn't there
 abbrev pub bytes_in : Option (List ℕ) → List ℕ
 bytes_in None = []
 bytes_in (Some bytes) = bytes
 
--- a file stands for a record, of whatever version, torn end or not
+-- a file stands for a record, of any version, with or without a torn end
 abbrev pub Keeps : Option (List ℕ) → Held → Type 0
 Keeps content held = FileStandsFor content held.rows held.intent
 
@@ -35,7 +35,7 @@ ReadAs content loaded = BytesReadAs (bytes_in content) loaded
 abbrev pub held_in : Loaded → Held
 held_in loaded = record { rows = loaded.rows; intent = loaded.intent }
 
--- the intent of appending so many octets for an id, at this size of the mboxrd file
+-- the intent of appending `len` octets for an id to an mboxrd file of size `start`
 abbrev pub intent_at : List ℕ → ℕ → ℕ → Intent
 intent_at uid start len = record { uid = uid; start = start; len = len }
 
@@ -43,14 +43,14 @@ intent_at uid start len = record { uid = uid; start = start; len = len }
 abbrev pub with_open : List Row → Intent → Held
 with_open rows intent = record { rows = rows; intent = Some intent }
 
--- the record was written whole; or, refused, the file is as it was or has the record; or memory was wanting
+-- the record was written whole; or, refused, the file is as it was or has the record; or memory ran out
 abbrev pub Writes : Stored → Held → Result (Unit {0}) Fault → Stored → Type 0
 Writes old held (Ok done) new = new ≡ holding old (file_of held.rows held.intent)
 Writes old held (Err SeenRefused) new = (new ≡ counted old) ⊎ (new ≡ counted (holding old (file_of held.rows held.intent)))
 Writes old held (Err NoMemory) new = new ≡ old
 Writes old held (Err _) new = ⊥
 
--- a changed record was saved; or, refused, the file stands for the one or the other; or nothing was done for want of memory
+-- a changed record was saved; or, refused, the file stands for the old or the new one; or memory ran out, and nothing was done
 abbrev pub Saves : Stored → Held → Held → Result (Unit {0}) Fault → Stored → Type 0
 Saves old was now (Ok done) new = (new.failures ≡ old.failures) × (Steady old.content was → Steady new.content now)
 Saves old was now (Err SeenRefused) new = (new.failures ≡ old.failures + 1)
@@ -58,8 +58,8 @@ Saves old was now (Err SeenRefused) new = (new.failures ≡ old.failures + 1)
 Saves old was now (Err NoMemory) new = new ≡ old
 Saves old was now (Err _) new = ⊥
 
--- a record read from the file was merged and saved; or, refused, the file stands for the one or the
--- other; or nothing was done for want of memory
+-- a record read from the file was merged and saved; or, refused, the file stands for the old or the
+-- new one; or memory ran out, and nothing was done
 abbrev pub Merges : Stored → Held → Held → Result (Unit {0}) Fault → Stored → Type 0
 Merges old was now (Ok done) new = (new.failures ≡ old.failures) × Steady new.content now
 Merges old was now (Err SeenRefused) new = (new.failures ≡ old.failures + 1) × (Keeps new.content was ⊎ Keeps new.content now)
@@ -92,7 +92,7 @@ Reads old loaded (Err (BadSeen line)) new = Misread old line new
 Reads old loaded (Err NoMemory) new = new ≡ old
 Reads old loaded (Err _) new = ⊥
 
--- the fault that tells of a line of the record's file, or of want of memory
+-- the fault of a session for a fault of the record's file: its line, or out of memory
 abbrev pub IsLineFault : SeenFault → Fault → Type 0
 IsLineFault why (BadSeen line) = LineOf why line
 IsLineFault why NoMemory = why ≡ WantsMemory

@@ -16,7 +16,7 @@ RefusesNone old new = new.failures ≡ old.failures
 abbrev pub RefusesAtMostOne : Link → Link → Type 0
 RefusesAtMostOne old new = RefusesNone old new ⊎ (new.failures ≡ counted_up old.failures)
 
--- one only where this cut leaves the link alone from then on
+-- none, or one if this cut leaves the link alone from then on
 abbrev pub RefusesBefore : Link → Cut → Link → Type 0
 RefusesBefore old cut new = RefusesNone old new ⊎ ((new.failures ≡ counted_up old.failures) × (cut.rest ≡ None)
     × (tail cut.fault ≡ Nothing))

@@ -1,4 +1,4 @@
--- What a report says of a session.
+-- What a report says about a session.
 use Rattle.std.specs.Prelude.{◌≡◌, ◌+◌, ◌*◌, ◌≤◌, ℕ, Bool, true, false, not, List, min, if◌then◌else◌, Vec}
 use Rattle.std.specs.Vec.{vec_len, vec_capacity}
 use Rattle.std.specs.List.{filter, count_by, sum_by}
@@ -12,27 +12,27 @@ use Rattle.fetch_session.specs.declared.report.Outcome.TheVariants.{Cut}
 use Rattle.fetch_session.specs.declared.report.ReportLine.{ReportLine}
 use Rattle.fetch_session.specs.declared.report.ReportLine.TheVariants.{Delivered, Held, Deleted}
 
--- so many lines more have room
+-- there is room for `n` more lines
 abbrev pub HasRoom : {Z : Type 0} → Vec ReportLine Z → ℕ → Type 0
 HasRoom lines n = vec_len lines + n ≤ vec_capacity lines
 
--- at most so many lines were added, and no room was given up
+-- at most `n` lines were added, and no room was given up
 abbrev pub Adds : {Z : Type 0} → Vec ReportLine Z → ℕ → Vec ReportLine Z → Type 0
 Adds old n new = (vec_len new ≤ vec_len old + n) × (vec_capacity old ≤ vec_capacity new)
 
--- whether a line tells of a text that was taken
+-- whether a line reports a text that was taken
 abbrev pub is_taken : ReportLine → Bool
 is_taken (Delivered number octets) = true
 is_taken (Held number octets) = true
 is_taken _ = false
 
--- the length of the text that a line tells of
+-- the length of the text that a line reports
 abbrev pub length_in : ReportLine → ℕ
 length_in (Delivered number octets) = octets
 length_in (Held number octets) = octets
 length_in _ = 0
 
--- whether a line tells of a message that was deleted
+-- whether a line reports a message that was deleted
 abbrev pub is_deletion : ReportLine → Bool
 is_deletion (Deleted number) = true
 is_deletion _ = false
@@ -46,7 +46,7 @@ length_of lines = sum_by length_in lines
 abbrev pub deleted_in : List ReportLine → ℕ
 deleted_in lines = count_by is_deletion lines
 
--- the lines without those of deletions, which a server that takes back its marks makes void
+-- the lines without those of deletions, which are void if the server takes back its marks
 abbrev pub without_deletions : List ReportLine → List ReportLine
 without_deletions lines = filter (λ line. not (is_deletion line)) lines
 
@@ -69,11 +69,11 @@ kept_lines outcome lines = if takes_back outcome then without_deletions lines el
 abbrev pub most_bytes : ℕ → ℕ
 most_bytes n = min n greatest_size
 
--- how many lines a session tells at most: two of each message
+-- the most lines that a session notes: two for each message
 abbrev pub most_lines : ℕ
 most_lines = 2 * message_limit
 
--- what a session tells that came out so: so many messages were listed, the plan passes over so many, and these lines were noted
+-- the report of a session with this outcome: `total` messages were listed, the plan passes over `skipped`, and these lines were noted
 pub record Reports (outcome : Outcome) (total skipped : ℕ) (lines : List ReportLine) (report : Report) : Type 0 where
   pub outcome_is : report.outcome ≡ outcome
   pub total_is : report.total ≡ total

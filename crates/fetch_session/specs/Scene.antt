@@ -21,7 +21,7 @@ use Rattle.fetch_session.specs.Mbox.{RefusesEntry, MarksEntry}
 use Rattle.pop3_client.specs.declared.fault.Fault.TheVariants.{NoMemory}
 use Rattle.fetch_session.specs.Record.{Steady, Saves}
 
--- the link and what waits, what the store holds, the record's file, the record, and what was told so far
+-- the link and what waits, what the store holds, the record's file, the record, and the lines noted so far
 pub record Scene : Type 0 where
   pub place : Place
   pub store : Stores
@@ -53,7 +53,7 @@ pub record Broken (next : Task) (old new : Scene) (cut : Cut) : Type 0 where
   pub rows : new.rows ≡ old.rows
   pub lines : new.lines ≡ old.lines
 
--- the text is under way, or was read, and the store refused it: only where it was read it may be there nevertheless
+-- the text is under way, or was read, and the store refused it: it may be there all the same, but only if it was read
 pub record NoFile (account : List ℕ) (next : Task) (old new : Scene) (cut : Cut) : Type 0 where
   pub number : ℕ
   pub uid : List ℕ
@@ -68,7 +68,7 @@ pub record NoFile (account : List ℕ) (next : Task) (old new : Scene) (cut : Cu
   pub rows : new.rows ≡ old.rows
   pub lines : new.lines ≡ old.lines
 
--- the text was stored, and the record wasn't saved: it may be there nevertheless
+-- the text was stored, and saving its mark failed: the record's file may have it all the same
 pub record FileNotSaved (account : List ℕ) (next : Task) (old new : Scene) (cut : Cut) : Type 0 where
   pub none : cut.rest ≡ None
   pub number : ℕ
@@ -80,7 +80,7 @@ pub record FileNotSaved (account : List ℕ) (next : Task) (old new : Scene) (cu
   pub saves : Saves old.file (none_open old.rows) (none_open (marked old.rows uid)) (Err cut.fault) new.file
   pub lines : new.lines ≡ old.lines ++ delivered number reply ∷ []
 
--- memory was wanting for a text as it came, and nothing of it was stored
+-- memory ran out for a text as it came, and nothing of it was stored
 pub record NoRoom (next : Task) (old new : Scene) (cut : Cut) : Type 0 where
   pub none : cut.rest ≡ None
   pub number : ℕ
@@ -95,7 +95,7 @@ pub record NoRoom (next : Task) (old new : Scene) (cut : Cut) : Type 0 where
   pub rows : new.rows ≡ old.rows
   pub lines : new.lines ≡ old.lines
 
--- the text was read, and it wasn't appended: its intent may be open, and behind the file's bytes there may be a front of its entry
+-- the text was read, and it wasn't appended: its intent may be open, and a front of its entry may follow the file's bytes
 pub record NoEntry (next : Task) (old new : Scene) (cut : Cut) : Type 0 where
   pub none : cut.rest ≡ None
   pub number : ℕ
@@ -107,7 +107,7 @@ pub record NoEntry (next : Task) (old new : Scene) (cut : Cut) : Type 0 where
   pub rows : new.rows ≡ old.rows
   pub lines : new.lines ≡ old.lines
 
--- its entry was appended, and the mark that ends its intent wasn't saved: it may be there nevertheless
+-- its entry was appended, and saving the mark that ends its intent failed: the record's file may have it all the same
 pub record EntryNotSaved (next : Task) (old new : Scene) (cut : Cut) : Type 0 where
   pub none : cut.rest ≡ None
   pub number : ℕ
@@ -160,7 +160,7 @@ abbrev pub Does : Target → List Task → Scene → Result (Unit {0}) Cut → S
 Does target tasks old (Ok done) new = AllWent target tasks old new
 Does target tasks old (Err cut) new = Fell target tasks old cut new
 
--- what is known of a call where the link, the store and the record's file are sound after it: they were sound
+-- what is known of a call if the link, the store and the record's file are sound after it: they were sound
 -- before, the link leads on from what it was, and the call did this
 abbrev pub WhereAllSound : {W D F : Type 0} → (W → Type 0) → (W → W → Type 0) → (D → Type 0) → (F → Type 0) → W → W
     → D → D → F → F → Type 0 → Type 0

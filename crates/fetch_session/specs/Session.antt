@@ -1,4 +1,4 @@
--- A whole session: how far it came, what it said at its end, and what it tells.
+-- A whole session: how far it got, what it said at its end, and what it reports.
 use Rattle.std.specs.Prelude.{◌≡◌, ◌⊎◌, ℕ, List, [], length, None, Result, Ok, Err}
 use Rattle.std.specs.String.{string_bytes}
 use Rattle.pop3_wire.specs.Link.{Link}
@@ -61,7 +61,7 @@ pub record NotEntered (settings : Settings) (old : Place) (before : Keeping) (cu
   pub same : after ≡ before
   pub nothing : notes ≡ noted 0 0 []
 
--- memory was wanting for the notes on what the listing names
+-- memory ran out for the notes on the listed messages
 pub record NoRoom (settings : Settings) (old : Place) (before : Keeping) (cut : Cut) (new : Place) (after : Keeping)
     (notes : Noted) : Type 0 where
   pub items : List Item
@@ -80,7 +80,7 @@ pub record Dealt (settings : Settings) (target : Target) (now : ℕ) (old : Plac
   pub carries : Carries settings target items now mid before.store before.file
       [] result new after.store after.file notes.lines notes.skipped
 
--- a session up to its QUIT, or to where it was cut
+-- a session up to its QUIT, or until it was cut
 abbrev pub Proceeds : Settings → Target → ℕ → Place → Keeping → Result (Unit {0}) Cut → Place → Keeping → Noted → Type 0
 Proceeds settings target now old before (Ok done) new after notes = Dealt settings target now old before (Ok done) new after notes
 Proceeds settings target now old before (Err cut) new after notes = NotEntered settings old before cut new after notes
@@ -96,7 +96,7 @@ abbrev pub LeavesLink : Result (Unit {0}) Cut → Place → Link → Type 0
 LeavesLink (Ok done) mid link = link ≡ mid.link
 LeavesLink (Err cut) mid link = (new : Place) × Left cut mid new × (link ≡ new.link)
 
--- a whole session, from a link of which nothing waits to be used
+-- a whole session, from a link with nothing waiting to be used
 pub record SessionIn (settings : Settings) (target : Target) (now : ℕ) (link : Link) (before : Keeping) (report : Report)
     (link' : Link) (after : Keeping) : Type 0 where
   pub result : Result (Unit {0}) Cut

@@ -19,7 +19,7 @@ use Rattle.pop3_client.specs.declared.fault.Fault.{Fault}
 use Rattle.pop3_client.specs.declared.fault.Fault.TheVariants.{StoreRefused}
 use Rattle.pop3_client.specs.declared.fault.Why.TheVariants.{Missing, Refused}
 
--- `new` gained these files behind the others, and nothing else changed
+-- `new` gained these files after the others, and no other file changed
 pub record Gained (old new : Maildir) (files : List File) : Type 0 where
   pub in_new : new.in_new ≡ old.in_new ++ files
   pub in_cur : new.in_cur ≡ old.in_cur
@@ -67,18 +67,18 @@ Starts old name (Ok done) new = new ≡ begun_with old (file name [])
 Starts old name (Err fault) new = ((fault ≡ StoreRefused Missing) × (old.there.tmp ≡ false) × (new ≡ old))
     ⊎ ((fault ≡ StoreRefused Refused) × (new ≡ counted old))
 
--- the bytes stand behind those of the file that is being written, or none is any more
+-- the bytes were appended to the file that is being written, or none is any more
 abbrev pub Puts : Maildir → List ℕ → Result (Unit {0}) Fault → Maildir → Type 0
 Puts old bytes (Ok done) new = (f : File) → old.begun ≡ Some f → new ≡ begun_with old (file f.name (f.content ++ bytes))
 Puts old bytes (Err fault) new = (fault ≡ StoreRefused Refused) × ((f : File) → old.begun ≡ Some f → new ≡ counted (dropped old))
 
--- what was written stands in `new` under this name, or, refused, it may
+-- what was written is in `new` under this name, or, refused, it may be
 abbrev pub Ends : Maildir → List ℕ → Result (Unit {0}) Fault → Maildir → Type 0
 Ends old name (Ok done) new = (f : File) → old.begun ≡ Some f → new ≡ with_file old (file name f.content)
 Ends old name (Err fault) new = (fault ≡ StoreRefused Refused) × ((f : File) → old.begun ≡ Some f
     → (new ≡ counted (dropped old)) ⊎ (new ≡ counted (with_file old (file name f.content))))
 
--- the store refused a text of which this much has come: nothing came into `new`, or, only where the text had come whole, the file
+-- the store refused a text of which this much has come: nothing came into `new`, or, only if the text had come whole, the file
 abbrev pub RefusesText : Maildir → List ℕ → Rest → List ℕ → Fault → Maildir → Type 0
 RefusesText old stem rest text fault new = ((fault ≡ StoreRefused Missing) × (old.there.tmp ≡ false) × (new ≡ old))
     ⊎ ((fault ≡ StoreRefused Refused) × ((new ≡ counted (dropped old))

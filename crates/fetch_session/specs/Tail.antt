@@ -18,8 +18,8 @@ turns_in Nothing = []
 turns_in Leave = quit ∷ []
 turns_in Undo = rset ∷ quit ∷ []
 
--- nothing after a refused QUIT, QUIT after any other refused command, and after a refused store or record RSET, and
--- QUIT once that is answered well
+-- after a refused command other than QUIT, QUIT; after a refused store or a refused or bad record, RSET, and QUIT once that
+-- is answered well; after any other fault, nothing
 abbrev pub tail : Fault → Tail
 tail (Refused Quit) = Nothing
 tail (Refused to) = Leave
@@ -28,15 +28,14 @@ tail SeenRefused = Undo
 tail (BadSeen line) = Undo
 tail _ = Nothing
 
--- the rest of the reply under way, if one is, was read and dropped, where nothing is left of a whole one; or its turn broke
+-- the rest of the reply under way, if one is, was read and dropped (a whole one has no rest); or its turn broke
 abbrev pub Drops : Option Rest → Place → Result (Unit {0}) Fault → Place → Type 0
 Drops None old (Ok done) new = new ≡ old
 Drops None old (Err fault) new = ⊥
 Drops (Some rest) old result new = (rest.spot ≡ Done → (result ≡ Ok tt) × (new ≡ old))
     × ((number : ℕ) (start : Place) (text : List ℕ) → Fetching (retr number) start old rest text → TakesRest (retr number) start result new)
 
--- what had been sent and what had come until then stand in front of all that was sent and that came, and what was
--- sent behind them begins these turns
+-- what was sent and what came went on from before, and what was sent since is a front of what these turns send
 pub record WentOn (turns : List Turn) (old new : Place) : Type 0 where
   pub said : List ℕ
   pub gained : List ℕ
@@ -44,9 +43,8 @@ pub record WentOn (turns : List Turn) (old new : Place) : Type 0 where
   pub got : new.link.got ≡ old.link.got ++ gained
   pub front : (later : List ℕ) × (asking turns ≡ said ++ later)
 
--- with no reply under way the tail was talked, or it stopped; else the turn of that reply and then the tail, from
--- where that turn began, where what is sent and what comes go on from what had been sent and had come; and behind a
--- whole reply the tail alone
+-- with no reply under way, or a whole one, the tail was talked, or it stopped; with a reply, its turn and then the tail
+-- were talked, or stopped, from where that turn began, and what was sent and what came went on from before
 abbrev pub LeftBy : Fault → Option Rest → Place → Place → Type 0
 LeftBy fault None old new = (result : Result (Unit {0}) Fault) × Talks (turns_in (tail fault)) old result new
 LeftBy fault (Some rest) old new = (rest.spot ≡ Done → (result : Result (Unit {0}) Fault)

@@ -22,7 +22,7 @@ pub data Target : Type 0 where
   AsFiles : List ℕ → Target
   AsEntries : Target
 
--- what a store holds: a Maildir or an mboxrd file. Of the one that it isn't nothing is ever there
+-- what a store holds: a Maildir or an mboxrd file; the other one is never there
 pub record Stores : Type 0 where
   pub maildir : Maildir
   pub mbox : Stored
@@ -86,7 +86,7 @@ IsCalm disk file store = is_sound disk file store → (stores_of disk file store
 
 -- ---- what is found in it
 
--- none of the messages is held but by the record
+-- no message is held, except by the record
 abbrev pub none_held : List Item → List Bool
 none_held items = map (λ (item : Item). false) items
 
@@ -95,7 +95,7 @@ abbrev pub flags_in : Target → Stores → List Item → List Bool
 flags_in (AsFiles account) store items = flags_of account store.maildir items
 flags_in AsEntries store items = none_held items
 
--- whether the entry of an open intent stands whole in a file
+-- whether the entry of an open intent is whole in a file
 abbrev pub is_stored : Option Intent → List ℕ → Bool
 is_stored None bytes = false
 is_stored (Some intent) bytes = stands_whole intent.start intent.len bytes
@@ -105,7 +105,7 @@ abbrev pub closed_file : Option Intent → List ℕ → List ℕ
 closed_file None bytes = bytes
 closed_file (Some intent) bytes = settled_file intent.start intent.len bytes
 
--- the bytes of an mboxrd file; one that isn't there has none
+-- the bytes of an mboxrd file; none if it isn't there
 abbrev pub mail_in : Option (List ℕ) → List ℕ
 mail_in None = []
 mail_in (Some bytes) = bytes

@@ -38,7 +38,7 @@ ids_in _ = []
 abbrev pub ids_ahead : List Task → List (List ℕ)
 ids_ahead tasks = flat_map ids_in tasks
 
--- each of these ids is legal, isn't held yet, and stands there once
+-- each of these ids is legal, isn't held yet, and occurs once
 abbrev pub AreFresh : List ℕ → Maildir → List (List ℕ) → Type 0
 AreFresh account maildir [] = Unit {0}
 AreFresh account maildir (uid ∷ uids) = IsLegalId uid × (is_held account maildir uid ≡ false)
@@ -116,7 +116,7 @@ delivered number reply = Delivered number (length (body_text reply.body))
 abbrev pub held : ℕ → WholeReply → ReportLine
 held number reply = Held number (length (body_text reply.body))
 
--- what a task tells
+-- the lines that a task notes
 abbrev pub lines_in : Task → List WholeReply → List ReportLine
 lines_in (skips number size) replies = Skipped number size ∷ []
 lines_in (stores number uid) replies = map (delivered number) replies

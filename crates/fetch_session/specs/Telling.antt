@@ -1,4 +1,4 @@
--- How a preview is told.
+-- The text of a preview.
 use Rattle.std.specs.Prelude.{ℕ, ◌+◌, ◌-◌, ◌*◌, ◌/◌, ◌%◌, min, nat_lt, Bool, true, false, List, [], ◌++◌, flat_map}
 use Rattle.std.specs.Prelude.{Option, Some, None, if◌then◌else◌, codes}
 use Rattle.std.specs.List.{count_by}
@@ -19,16 +19,16 @@ use Rattle.fetch_session.specs.Text.{heading, message_text}
 abbrev pub last_day : ℕ
 last_day = 2932896
 
--- the days since 1 March of the year 0 of a second since 1970, at most those of 9999-12-31
+-- the days from 1 March of year 0 to a second since 1970, at most to 9999-12-31
 abbrev pub days_of : ℕ → ℕ
 days_of second = min (second / seconds_per_day) last_day + 719468
 
--- the years that begin in March, of so many days of four centuries: 1,460 days have a leap day at their end, but not the 36,524th, but the
--- 146,096th
+-- the whole years, each from 1 March, in this many days of a 400-year cycle, by the days without leap days: one less for each 1,460 days,
+-- one more for each 36,524, one less for 146,096
 abbrev pub years_of : ℕ → ℕ
 years_of days = (days + days / 36524 - (days / 1460 + days / 146096)) / 365
 
--- the day in its year, of so many days of four centuries
+-- the day in its year, from 1 March, after this many days of a 400-year cycle
 abbrev pub day_within : ℕ → ℕ
 day_within days = days + years_of days / 100 - (365 * years_of days + years_of days / 4)
 

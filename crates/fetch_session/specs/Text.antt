@@ -1,4 +1,4 @@
--- How faults and reports are told.
+-- The texts of faults and reports.
 use Rattle.std.specs.Prelude.{ℕ, List, [], ◌++◌, ◌==◌, flat_map, if◌then◌else◌, codes}
 use Rattle.std.specs.Fmt.{decimal}
 use Rattle.std.specs.String.{string_bytes}
@@ -52,7 +52,7 @@ fault_text SeenRefused = codes "seen file refused"
 fault_text NoMemory = codes "out of memory"
 fault_text (BadSeen line) = codes "seen file not understood at line " ++ decimal line
 
--- how a session came out, as a number: 0 where it ended
+-- how a session came out, as a number: 0 if it ended
 abbrev pub outcome_number : Outcome → ℕ
 outcome_number Ended = 0
 outcome_number (Cut fault) = number_of fault
@@ -62,11 +62,11 @@ abbrev pub heading : Settings → List ℕ
 heading settings = codes "SimplePOP3Retriever:" ++ (string_bytes settings.username
     ++ (codes "@" ++ (string_bytes settings.server ++ (codes ":" ++ (decimal settings.port ++ codes ":\n")))))
 
--- so many messages are listed, and this one is spoken of
+-- what is said of message `number` of `total`
 abbrev pub message_text : ℕ → ℕ → List ℕ → List ℕ
 message_text total number said = codes "msg " ++ (decimal number ++ (codes "/" ++ (decimal total ++ (codes " " ++ said))))
 
--- one line; a message that was passed over is told with verbose 2 alone
+-- one line; a message that was passed over has one only with verbose 2
 abbrev pub line_text : ℕ → ℕ → ReportLine → List ℕ
 line_text verbose total (Delivered number octets) = message_text total number (codes "(" ++ (decimal octets ++ codes " bytes) delivered\n"))
 line_text verbose total (Held number octets) = message_text total number (codes "(" ++ (decimal octets ++ codes " bytes) already held\n"))

@@ -31,7 +31,7 @@ pub record IsReady {D F H Z : Type 0} (disk : DiskGhosts D) (file : FileGhosts F
 abbrev pub KeepsIds : List Row → List Row → Type 0
 KeepsIds old new = (uid : List ℕ) → has_row old uid ≡ true → has_row new uid ≡ true
 
--- what is known of a call where the link, the store and the record's file are sound after it
+-- what is known of a call if the link, the store and the record's file are sound after it
 abbrev pub WhereWorkSound : {W D F H Z : Type 0} → WireGhosts W → DiskGhosts D → FileGhosts F → Client W → Work D F H Z
     → Client W → Work D F H Z → (Scene → Scene → Type 0) → Type 0
 WhereWorkSound link disk file client work client' work' did =

@@ -16,7 +16,7 @@ use std::vec::Vec;
 pub enum Store<D, F> {
     /// A Maildir: each text is a file of its own.
     Maildir(D),
-    /// An mboxrd file: each text is an entry at its end. Nobody else writes it meanwhile.
+    /// An mboxrd file: each text is an entry appended to it. Nobody else writes it meanwhile.
     Mboxrd(F),
 }
 
@@ -48,8 +48,8 @@ impl<D: MaildirDisk, F: FlatFile, H: BuildHasher> Model for Account<D, F, H> {
 }
 
 impl<D: MaildirDisk, F: FlatFile, H: BuildHasher> Account<D, F, H> {
-    /// An account with these settings, over this store and this file of its record. The ids of the
-    /// record are a server's, so a program hands in a hasher of random seed.
+    /// An account with these settings, over this store and this file of its record. A server
+    /// chooses the ids of the record, so a program passes a hasher with a random seed.
     pub fn new(
         alloc: Global,
         settings: Settings,

@@ -1,5 +1,5 @@
-//! How a text goes to the end of an mboxrd file: it is read whole, what is about to be appended is
-//! written down, and then the entry is appended at once.
+//! How a text is appended to an mboxrd file: it is read whole, its intent is written to the record,
+//! and then the entry is appended at once.
 ghost use Rattle.std.specs.Prelude.{◌≡◌, ◌≢◌, ℕ, List, [], None, true, OnOk};
 ghost use Rattle.fetch_rules.specs.Intents.{IsNoneOrOf};
 ghost use Rattle.fetch_rules.specs.Record.{has_row, none_open};
@@ -78,7 +78,7 @@ fn read_text<W: Wire>(
     }
 }
 
-/// Appends the entry of a text to the file, after what is about to be appended was written down.
+/// Appends the entry of a text to the file, after its intent was written to the record.
 fn append_text<F: FlatFile, H: BuildHasher>(
     mbox: &mut F,
     ledger: &mut Ledger<F, H>,

@@ -5,8 +5,8 @@ ghost use Rattle.fetch_session.specs.Fault.{cut_of};
 use pop3_client::Fault;
 use pop3_wire::BodyReader;
 
-/// Why a session is cut, and the reply that is under way then, if one is. No call outside gives or takes
-/// one: it is public since the words on what a session did speak of it.
+/// Why a session is cut, and the reply that is under way then, if one is. No public call returns or
+/// takes a `Cut`: it is public because the definitions of what a session did use it.
 #[derive(Drop)]
 pub struct Cut {
     /// Why.

@@ -30,15 +30,14 @@ use std::hash::BuildHasher;
 use std::mem;
 use std::vec::Vec;
 
-/// What a session counts for its report: the messages that are listed, and those that its plan passes
-/// over.
+/// What a session counts for its report: the messages listed, and those that its plan passes over.
 #[derive(Drop)]
 struct Counts {
     total: u32,
     skipped: u32,
 }
 
-/// The report of a session that came out so.
+/// The report of a session with this outcome.
 fn reported(outcome: Outcome, counts: Counts, lines: Vec<ReportLine>) -> Report
     requires { vec_len lines ≤ most_lines }
     ensures { Reports outcome counts.total counts.skipped lines.items result }
@@ -47,7 +46,7 @@ fn reported(outcome: Outcome, counts: Counts, lines: Vec<ReportLine>) -> Report
     report_of(outcome, total, skipped, lines)
 }
 
-/// Logs in, deals with what is listed, and quits, or does as much as goes well.
+/// Logs in, deals with the listed messages, and quits, up to the first fault.
 fn proceed<W: Wire, D: MaildirDisk, F: FlatFile, H: BuildHasher>(
     client: &mut Client<'_, W>,
     work: &mut Work<D, F, H>,
@@ -86,7 +85,7 @@ fn proceed<W: Wire, D: MaildirDisk, F: FlatFile, H: BuildHasher>(
     carry_out(client, work, terms, &listing, &mut counts.skipped)
 }
 
-/// Runs one session of an account over a client for which nothing waits.
+/// Runs one session of an account over a client with nothing waiting.
 fn session_over<W: Wire, D: MaildirDisk, F: FlatFile, H: BuildHasher>(
     account: &mut Account<D, F, H>,
     client: &mut Client<'_, W>,
@@ -153,14 +152,15 @@ fn session_over<W: Wire, D: MaildirDisk, F: FlatFile, H: BuildHasher>(
 /// Runs one session of an account over a link: it logs in, lists, stores what is wanted and isn't
 /// held, deletes what is due, and quits. `now` is in seconds since 1970.
 ///
-/// A Maildir's text goes piece by piece into a file. A text for an mboxrd file is read whole, the record
-/// is told what is about to be appended, and then its entry is appended; an entry whose session was cut
-/// is cut off or counted by the next one, before it asks for a text.
+/// A text for a Maildir goes piece by piece into a file. A text for an mboxrd file is read whole,
+/// its intent is written to the record, and then its entry is appended; if the session is cut in
+/// between, the next one cuts the entry off or counts it, before it asks for a text.
 ///
-/// The first fault cuts it. Whatever the server sends and whichever call is refused, no text that is
-/// stored is lost or changed. Of the link it takes, with n messages, at most 2,048 octets for each of
-/// 2n + 10 lines, as many for each row of two listings of 100,000 rows and their ends, and 268,435,456
-/// octets for each message, also where the store and the record's file don't do what their traits say.
+/// The first fault cuts it. Whatever the server sends and whichever call is refused, no text that
+/// is stored is lost or changed. With n messages it takes from the link at most 2,048 octets for
+/// each of 2n + 10 lines, as many for each row of two listings of 100,000 rows and their ends, and
+/// 268,435,456 octets for each message, even if the store and the record's file don't do what their
+/// traits say.
 pub fn session<W: Wire, D: MaildirDisk, F: FlatFile, H: BuildHasher>(
     account: &mut Account<D, F, H>,
     wire: &mut W,

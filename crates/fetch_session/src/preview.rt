@@ -31,12 +31,13 @@ use std::vec::Vec;
 /// What a run would do.
 #[derive(Drop)]
 pub struct Preview {
-    /// How the session came out that asked.
+    /// How the session of the preview came out.
     pub outcome: Outcome,
-    /// How many messages the server listed, 0 where the listings weren't joined.
+    /// How many messages the server listed; 0 if the listings weren't joined.
     pub total: u32,
-    /// Whether a run would first look whether the last entry of its mboxrd file is whole. If it is, its
-    /// message isn't fetched again; the prospects are those of a run that finds that it isn't.
+    /// Whether a run would first check whether the last entry of its mboxrd file is whole. If it
+    /// is, its message isn't fetched again; the prospects are those of a run that finds that it
+    /// isn't.
     pub unsettled: bool,
     /// What would be done with each message, in order; none if that isn't known.
     pub prospects: Vec<Prospect>,
@@ -51,7 +52,7 @@ struct Looked {
     unsettled: bool,
 }
 
-/// None of the messages is held but by the record.
+/// No message is held, except by the record.
 fn none_held(alloc: Global, listing: &Listing, unsettled: bool) -> Result<Looked, Fault>
     ensures length { IfOk result (λ looked. length looked.held.items ≡ length listing.now) }
     ensures held { IfOk result (λ looked. looked.held.items ≡ none_held listing.now) }
@@ -64,8 +65,8 @@ fn none_held(alloc: Global, listing: &Listing, unsettled: bool) -> Result<Looked
     Ok(Looked { held, unsettled })
 }
 
-/// Sees whether an entry may follow an mboxrd file, unless an intent is open: a run settles the file
-/// first then, and nothing is asked here.
+/// Checks whether an entry may follow an mboxrd file, unless an intent is open: then a run settles
+/// the file first, and nothing is asked here.
 fn look_at_mbox<F: FlatFile, H: BuildHasher>(
     alloc: Global,
     mbox: &mut F,
@@ -113,8 +114,8 @@ fn look<D: MaildirDisk, F: FlatFile, H: BuildHasher>(
     }
 }
 
-/// What is told of a listing, once the record has taken it in, in memory alone. An open intent counts
-/// as one whose entry isn't whole.
+/// What a preview says of a listing, once it was merged into the record, only in memory. An open
+/// intent counts as one whose entry isn't whole.
 fn foretell<H: BuildHasher>(
     alloc: Global,
     terms: Terms<'_>,
@@ -133,7 +134,7 @@ fn foretell<H: BuildHasher>(
     prospects(alloc, terms, seen, listing, held, &steps)
 }
 
-/// What a run would go by.
+/// Whether a run would first settle its store, and what it would do with each message.
 #[derive(Drop)]
 struct Foreseen {
     unsettled: bool,
@@ -175,7 +176,7 @@ fn foresee<D: MaildirDisk, F: FlatFile, H: BuildHasher>(
     }
 }
 
-/// Logs in, tells what would be done with what is listed, and quits, or does as much as goes well.
+/// Logs in, tells what would be done with the listed messages, and quits, up to the first fault.
 fn survey<W: Wire, D: MaildirDisk, F: FlatFile, H: BuildHasher>(
     client: &mut Client<'_, W>,
     work: &mut Work<D, F, H>,
@@ -224,7 +225,7 @@ fn survey<W: Wire, D: MaildirDisk, F: FlatFile, H: BuildHasher>(
     }
 }
 
-/// Tells what a run would do, over a client for which nothing waits.
+/// Tells what a run would do, over a client with nothing waiting.
 fn pretend_over<W: Wire, D: MaildirDisk, F: FlatFile, H: BuildHasher>(
     account: &mut Account<D, F, H>,
     client: &mut Client<'_, W>,

@@ -56,7 +56,7 @@ struct Known {
     since: u64,
 }
 
-/// What is known of the message of number `i + 1`. One without a row is first seen now.
+/// What is known of message `i + 1`. One without a row is first seen now.
 fn known_of<H: BuildHasher>(
     seen: &Seen<H>,
     listing: &Listing,
@@ -83,14 +83,14 @@ fn is_within(limit: u64, size: u64) -> bool
     limit == 0 || size <= limit
 }
 
-/// Whether a session fetches no more after so many messages.
+/// Whether a session that fetched this many messages fetches no more.
 fn is_past_limit(settings: &Settings, fetched: u64) -> bool
     ensures { result ≡ is_past_limit settings.now fetched }
 {
     settings.max_count != 0 && settings.max_count <= fetched
 }
 
-/// Why a message is neither fetched nor deleted, if so many before it are fetched.
+/// Why a message is neither fetched nor deleted, if `fetched` before it are fetched.
 fn reason(settings: &Settings, known: Known, fetched: u64) -> Fate
     ensures { result ≡ reason settings.now known fetched }
 {
@@ -132,7 +132,7 @@ fn waits(settings: &Settings, step: Step, known: Known) -> bool
     !settings.delete && settings.delete_after != 0 && (known.delivered || step.retrieve)
 }
 
-/// From when on a message is deleted that was first seen then, as far as 64 bits go.
+/// From when on a message first seen at `since` is deleted, as far as 64 bits go.
 fn due_second(settings: &Settings, since: u64) -> u64
     ensures { result ≡ due_second settings.now since }
 {
@@ -150,7 +150,7 @@ fn due_of(settings: &Settings, step: Step, known: Known, now: u64) -> Option<u64
     if now < due { Some(due) } else { None }
 }
 
-/// What is told of one message, if so many before it are fetched.
+/// What a preview says of one message, if `fetched` before it are fetched.
 fn prospect_of(terms: Terms<'_>, step: Step, known: Known, fetched: u64) -> Prospect
     ensures { result ≡ prospect_of terms.entry.settings.now terms.entry.now fetched step known }
 {
@@ -162,7 +162,7 @@ fn prospect_of(terms: Terms<'_>, step: Step, known: Known, fetched: u64) -> Pros
     }
 }
 
-/// What is told of each message of a listing, by its step.
+/// What a preview says of each message of a listing, by its step.
 pub(crate) fn prospects<H: BuildHasher>(
     alloc: Global,
     terms: Terms<'_>,

@@ -23,10 +23,10 @@ use std::alloc::Global;
 use std::hash::BuildHasher;
 use std::vec::Vec;
 
-/// What a session goes by.
+/// The plan of a session, and what its store holds.
 #[derive(Drop)]
 pub struct Ready {
-    /// For each message, whether the store holds it. Of an mboxrd file that isn't known.
+    /// For each message, whether the store holds it; always `false` for an mboxrd file.
     pub held: Vec<bool>,
     /// What is done with each message.
     pub steps: Vec<Step>,
@@ -37,11 +37,11 @@ pub struct Ready {
 pub struct Found {
     /// For each message, whether the store holds it.
     pub held: Vec<bool>,
-    /// Whether the entry of the record's open intent stands whole in the mboxrd file.
+    /// Whether the entry of the record's open intent is whole in the mboxrd file.
     pub stored: bool,
 }
 
-/// The line of the record's file that a fault speaks of.
+/// The fault of a session for a fault of the record's file: its line, or out of memory.
 fn line_of(fault: SeenFault) -> Fault
     ensures { IsLineFault fault result }
 {
@@ -53,7 +53,7 @@ fn line_of(fault: SeenFault) -> Fault
     }
 }
 
-/// The bytes of the record's file, none where it isn't there.
+/// The bytes of the record's file; none if it isn't there.
 fn load<F: FlatFile>(alloc: Global, file: &mut F) -> Result<Vec<u8>, Fault>
     ensures gets { F.sound file.new → F.sound file.old
         × Gets (F.stored file.old) result (F.stored file.new) }
@@ -107,8 +107,8 @@ pub(crate) fn ask_held<D: MaildirDisk>(
     }
 }
 
-/// Settles the open intent of the record in the mboxrd file, and says whether its entry stands there
-/// whole. With no open intent the file isn't asked.
+/// Settles the open intent of the record in the mboxrd file, and returns whether its entry is
+/// whole. If no intent is open, the file isn't asked.
 fn settle<F: FlatFile, H: BuildHasher>(mbox: &mut F, seen: &Seen<H>) -> Result<bool, Fault>
     ensures settles { F.sound mbox.new → F.sound mbox.old
         × SettlesIntent seen.now.intent (F.stored mbox.old) result (F.stored mbox.new) }
@@ -123,7 +123,7 @@ fn settle<F: FlatFile, H: BuildHasher>(mbox: &mut F, seen: &Seen<H>) -> Result<b
     }
 }
 
-/// Settles the mboxrd file, and sees whether an entry may follow it. None of the messages is held but
+/// Settles the mboxrd file, and checks whether an entry may follow it. No message is held, except
 /// by the record.
 fn ask_mbox<F: FlatFile, H: BuildHasher>(
     alloc: Global,
@@ -149,8 +149,8 @@ fn ask_mbox<F: FlatFile, H: BuildHasher>(
     Ok(Found { held, stored })
 }
 
-/// Asks the store which messages it holds. An intent that is open in the record is settled in the
-/// mboxrd file; of a Maildir it can't be, and has no entry.
+/// Asks the store which messages it holds. An open intent of the record is settled in the mboxrd
+/// file; in a Maildir it can't be, and counts as one without an entry.
 fn ask_store<D: MaildirDisk, F: FlatFile, H: BuildHasher>(
     alloc: Global,
     store: &mut Store<D, F>,
@@ -182,9 +182,9 @@ fn ask_store<D: MaildirDisk, F: FlatFile, H: BuildHasher>(
     }
 }
 
-/// Takes in a listing and what was found of it in the store, and saves what that changed: the whole
-/// record if the file is missing, empty or must be written anew, else what is appended. An open intent
-/// is ended, by what was found of its entry.
+/// Merges a listing and what the store holds of it into the record, and saves what that changed:
+/// the whole record if the file is missing, empty or must be written anew, else the rows appended.
+/// An open intent is ended, by whether its entry was found whole.
 fn take_in<F: FlatFile, H: BuildHasher>(
     file: &mut F,
     seen: &mut Seen<H>,
@@ -220,8 +220,8 @@ fn take_in<F: FlatFile, H: BuildHasher>(
     grow(file, &group)
 }
 
-/// Reads the record, settles its open intent, takes in the listing and what the store holds of it,
-/// saves the record where that changed it, and makes the plan.
+/// Reads the record, settles its open intent, merges the listing and what the store holds of it,
+/// saves the record if that changed it, and makes the plan.
 pub fn prepare<D: MaildirDisk, F: FlatFile, H: BuildHasher>(
     alloc: Global,
     terms: Terms<'_>,

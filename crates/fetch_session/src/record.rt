@@ -15,7 +15,7 @@ use mail_store::FlatFile;
 use pop3_client::Fault;
 use std::hash::BuildHasher;
 
-/// Makes the whole record the file's. No intent is open.
+/// Writes the whole record to the file. No intent is open.
 pub(crate) fn save<F: FlatFile, H: BuildHasher>(file: &mut F, seen: &Seen<H>) -> Result<(), Fault>
     requires closed { seen.now.intent ≡ None }
     ensures stands { Means (file_of seen.now.rows seen.now.intent) (Rows Two seen.now.rows seen.now.intent false) }
@@ -33,7 +33,7 @@ pub(crate) fn save<F: FlatFile, H: BuildHasher>(file: &mut F, seen: &Seen<H>) ->
     }
 }
 
-/// Appends to the file what made another record of it, if there is anything.
+/// Appends to the file the lines that changed the record, if there are any.
 pub(crate) fn grow<F: FlatFile>(file: &mut F, group: &[u8]) -> Result<(), Fault>
     requires begun { F.sound file.old → group.now ≢ [] → bytes_in (F.stored file.old).content ≢ [] }
     ensures saves { F.sound file.new → F.sound file.old
@@ -82,7 +82,7 @@ pub(crate) fn intend<F: FlatFile, H: BuildHasher>(
     grow(file, &line)
 }
 
-/// Marks an id as delivered, and appends the row to the file where that changed it. That ends the
+/// Marks an id as delivered, and appends the row to the file if that changed it. That ends the
 /// intent of the id, if it is open.
 pub(crate) fn remember<F: FlatFile, H: BuildHasher>(
     file: &mut F,

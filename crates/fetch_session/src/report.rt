@@ -1,4 +1,4 @@
-//! What a session tells of itself.
+//! What a session reports.
 ghost use Rattle.std.specs.Prelude.{◌≡◌, ◌≤◌, ◌+◌, ◌++◌, ◌∷◌, [], vec_len, length, filter, not};
 ghost use Rattle.std.specs.Vec.{vec_capacity};
 ghost use Rattle.mail_terms.specs.Listing.{message_limit};
@@ -37,7 +37,7 @@ pub enum Outcome {
 pub struct Report {
     /// How the session came out.
     pub outcome: Outcome,
-    /// How many messages the server listed, 0 where the listings weren't joined.
+    /// How many messages the server listed; 0 if the listings weren't joined.
     pub total: u32,
     /// How many texts were fetched to their end, and stored or held already.
     pub retrieved: u32,
@@ -45,7 +45,7 @@ pub struct Report {
     pub bytes: u64,
     /// How many messages the plan passes over, whether or not the session came to them.
     pub skipped: u32,
-    /// How many messages were deleted: 0 where the server was asked to take back its marks.
+    /// How many messages were deleted; 0 if the server was asked to take back its marks.
     pub deleted: u32,
     /// What was done, in order.
     pub lines: Vec<ReportLine>,
@@ -62,14 +62,14 @@ pub(crate) fn note(lines: &mut Vec<ReportLine>, line: ReportLine)
 }
 
 impl ReportLine {
-    /// Whether it tells of a text that was fetched to its end.
+    /// Whether it reports a text that was fetched to its end.
     fn is_taken(&self) -> bool
         ensures { result ≡ is_taken self.now }
     {
         matches!(self, ReportLine::Delivered { .. } | ReportLine::Held { .. })
     }
 
-    /// The length of the text that it tells of, in bytes, 0 where it tells of none.
+    /// The length of the text that it reports, in bytes; 0 if it reports none.
     fn length(&self) -> u64
         ensures { result ≡ length_in self.now }
     {
@@ -81,7 +81,7 @@ impl ReportLine {
         }
     }
 
-    /// Whether it tells of a message that was deleted.
+    /// Whether it reports a message that was deleted.
     fn is_deletion(&self) -> bool
         ensures { result ≡ is_deletion self.now }
     {
@@ -129,7 +129,7 @@ fn deleted_in(lines: &[ReportLine]) -> u32
     count
 }
 
-/// The lengths of the texts that were fetched together, as far as 64 bits go.
+/// The total length of the texts that were fetched, as far as 64 bits go.
 fn length_of(lines: &[ReportLine]) -> u64
     ensures { result ≡ most_bytes (length_of lines.now) }
 {
@@ -154,8 +154,8 @@ pub(crate) fn skipped_in(steps: &[Step]) -> u32
     count
 }
 
-/// The lines that a report keeps: where the server is asked to take back its marks, not those of
-/// deletions.
+/// The lines that a report keeps: all, or all but those of deletions, if the server is asked to
+/// take back its marks.
 fn kept_lines(outcome: &Outcome, lines: Vec<ReportLine>) -> Vec<ReportLine>
     ensures kept { result.items ≡ kept_lines outcome.now lines.items }
     ensures fewer { length result.items ≤ length lines.items }
@@ -168,7 +168,7 @@ fn kept_lines(outcome: &Outcome, lines: Vec<ReportLine>) -> Vec<ReportLine>
     lines
 }
 
-/// What a session tells that came out so, of the lines that it noted.
+/// The report of a session with this outcome that noted these lines.
 pub(crate) fn report_of(
     outcome: Outcome,
     total: u32,

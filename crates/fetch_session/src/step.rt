@@ -180,7 +180,7 @@ fn reread<W: Wire>(
     }
 }
 
-/// Deletes a message, where that is planned.
+/// Deletes a message, if that is planned.
 fn delete_if<W: Wire>(
     alloc: Global,
     client: &mut Client<'_, W>,
@@ -213,7 +213,7 @@ fn delete_if<W: Wire>(
     }
 }
 
-/// Fetches a message, where that is planned, and stores it where it isn't held.
+/// Fetches a message, if that is planned, and stores it if it isn't held.
 fn fetch_if<W: Wire, D: MaildirDisk, F: FlatFile, H: BuildHasher>(
     client: &mut Client<'_, W>,
     work: &mut Work<D, F, H>,
@@ -318,7 +318,7 @@ fn do_step<W: Wire, D: MaildirDisk, F: FlatFile, H: BuildHasher>(
     )
 }
 
-/// Does the planned steps, as far as goes well.
+/// Does the planned steps, up to the first fault.
 pub fn do_steps<W: Wire, D: MaildirDisk, F: FlatFile, H: BuildHasher>(
     client: &mut Client<'_, W>,
     work: &mut Work<D, F, H>,

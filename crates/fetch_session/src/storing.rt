@@ -1,4 +1,4 @@
-//! How a text is taken: stored, or passed over where it is held already.
+//! How a text is taken: stored, or passed over if it is held already.
 ghost use Rattle.std.specs.Prelude.{◌≡◌, ◌≢◌, ◌≤◌, ℕ, List, [], None, Some, IsSome, OnOk, string_bytes};
 ghost use Rattle.pop3_client.specs.Client.{HasSameLink, CountsRefusals, place_of, link_of};
 ghost use Rattle.pop3_wire.specs.Link.{WhereSound};
@@ -31,8 +31,8 @@ fn begin_file<D: MaildirDisk>(disk: &mut D, name: &str) -> Result<(), Fault>
     }
 }
 
-/// Puts bytes, if there are any, behind those of the file begun. Where that is refused, none is
-/// begun any more.
+/// Appends bytes, if there are any, to the file begun. If that is refused, no file is begun any
+/// more.
 fn put_piece<D: MaildirDisk>(disk: &mut D, bytes: &[u8]) -> Result<(), Fault>
     requires { D.sound disk.old → IsSome (D.maildir disk.old).begun }
     ensures puts { D.sound disk.new → D.sound disk.old
@@ -70,9 +70,9 @@ fn settle_file<D: MaildirDisk>(disk: &mut D, stem: String, size: u64) -> Result<
     }
 }
 
-/// Takes a text that is under way, stores it piece by piece in a file with this stem, and says how
-/// long it is, in bytes, lines ended by LF. It goes through two arrays, and is never kept whole. The
-/// stem has room for that length, so that nothing can be wanting once the text has come.
+/// Takes a text that is under way, stores it piece by piece in a file with this stem, and returns
+/// its length, in bytes, lines ended by LF. It goes through two arrays, and is never kept whole.
+/// The stem has room for that length, so that memory can't run out once the text has come.
 pub(crate) fn store_text<W: Wire, D: MaildirDisk>(
     client: &mut Client<'_, W>,
     disk: &mut D,
@@ -132,7 +132,7 @@ pub(crate) fn store_text<W: Wire, D: MaildirDisk>(
     }
 }
 
-/// Takes a text that is under way, drops it, and says how long it was, in bytes, lines ended by LF.
+/// Takes a text that is under way, drops it, and returns its length, in bytes, lines ended by LF.
 pub(crate) fn pass_text<W: Wire>(client: &mut Client<'_, W>, body: BodyReader) -> Result<u64, Fault>
     requires open { body.spot ≢ Done }
     requires within { body.left ≤ text_limit }

@@ -62,8 +62,7 @@ fn drop_under_way<W: Wire>(
     }
 }
 
-/// Ends a session after a cut: the reply under way is dropped, and then what belongs behind the
-/// fault is said.
+/// Ends a session after a cut: drops the reply under way, and then says the tail of the fault.
 pub fn leave<W: Wire>(client: &mut Client<'_, W>, cut: Cut)
     ensures link { HasSameLink client.old client.new }
     ensures counted { RefusesAtMostOne (link_of W.Wire client.old) (link_of W.Wire client.new) }

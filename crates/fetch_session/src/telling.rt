@@ -1,4 +1,4 @@
-//! How a preview is told. Nothing of a password stands in it.
+//! The text of a preview. It contains nothing of a password.
 ghost use Rattle.std.specs.Prelude.{◌≡◌, ◌++◌, IfOk, codes, if◌then◌else◌};
 ghost use Rattle.std.specs.String.{string_bytes};
 ghost use Rattle.fetch_session.specs.Telling.{counts, date_of, date_text, due_text, deleted_in, fate_text};
@@ -22,8 +22,8 @@ struct Date {
     day: u64,
 }
 
-/// The date of a second since 1970, at most 9999-12-31. Years are counted from March on, so that a leap
-/// day is the last of its year, and in fours of centuries of 146,097 days.
+/// The date of a second since 1970, at most 9999-12-31. Years are counted from March, so that a
+/// leap day is the last of its year, and in cycles of 400 years, of 146,097 days.
 fn date_of(second: u64) -> Date
     ensures { result ≡ date_of second }
 {

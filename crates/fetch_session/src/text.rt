@@ -1,4 +1,4 @@
-//! How faults and reports are told. Nothing of a password stands in them.
+//! The texts of faults and reports. They contain nothing of a password.
 ghost use Rattle.std.specs.Prelude.{◌≡◌, ◌++◌, IfOk, codes};
 ghost use Rattle.std.specs.String.{string_bytes};
 ghost use Rattle.fetch_session.specs.Text.{asked_text, fault_text, heading, line_text, message_text};
@@ -9,7 +9,7 @@ use fetch_rules::Settings;
 use pop3_client::{Asked, Fault, Why};
 use std::alloc::{AllocError, Global};
 
-/// What a refused reply was asked for, behind `server refused `.
+/// What a refused reply was asked for, after `server refused `.
 fn refused_text(alloc: Global, asked: Asked) -> Result<String, AllocError>
     ensures { IfOk result (λ text. string_bytes text ≡ codes "server refused " ++ asked_text asked) }
 {
@@ -50,7 +50,7 @@ pub fn fault_text(alloc: Global, fault: &Fault) -> Result<String, AllocError>
     }
 }
 
-/// The number of an outcome: 0 where the session ended, else its fault's.
+/// The number of an outcome: 0 if the session ended, else its fault's.
 pub fn fault_number(outcome: &Outcome) -> u8
     ensures { result ≡ outcome_number outcome.now }
 {
@@ -113,7 +113,7 @@ fn summary(alloc: Global, report: &Report) -> Result<String, AllocError>
 }
 
 /// The report, each line ended by LF: whose mail it is, what was done in order, and the counts. With
-/// `verbose` 0 it is empty; a message that was passed over is told with 2 alone.
+/// `verbose` 0 it is empty; a message that was passed over has a line only with 2.
 pub fn report_text(
     alloc: Global,
     report: &Report,

@@ -20,7 +20,7 @@ most_on : (xs ys : List Turn) → most_of (xs ++ ys) ≡ most_of xs + most_of ys
 most_on [] ys = omega arith
 most_on (x ∷ xs) ys = omega (arith, most_on xs ys)
 
--- some of the turns were completed, these octets of the others were sent, and these came after them, of which those were used
+-- some of the turns were completed, `part` of the others' octets was sent, and `used` was used of what waited and came after that
 behind : {done : List Turn} {replies : List WholeReply} {old mid new : Place} (rest : List Turn) → Talked done replies old mid → (part later gained used : List ℕ)
     → IsFrontOfNext part rest → asking rest ≡ part ++ later → new.link.sent ≡ mid.link.sent ++ part → new.link.got ≡ mid.link.got ++ gained
     → mid.waiting ++ gained ≡ used ++ new.waiting → length used ≤ most_of rest → Paced (done ++ rest) old new

@@ -15,7 +15,7 @@ most_least (Some ListAll) = omega arith
 most_least (Some (Retr number)) = omega arith
 most_least other = omega arith
 
--- how many octets so many lines have at most
+-- how many octets these lines have at most
 pub lines_within : (lines : List (List ℕ)) → AllByRecursion IsShort lines → length (flat_map ended lines) ≤ line_limit * length lines
 lines_within [] short = omega arith
 lines_within (line ∷ lines) short = omega (arith, length-append {A = ℕ}, short.0, lines_within lines short.1)

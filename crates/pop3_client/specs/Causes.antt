@@ -53,11 +53,11 @@ IsPartOfBody _ bytes = ⊥
 abbrev pub NotWhole : Turn → List ℕ → Type 0
 NotWhole turn bytes = IsPartOfLine bytes ⊎ ((after : List ℕ) × BeginsPositive bytes after × IsPartOfBody turn after)
 
--- no line ends within the limit, and at least so many octets are there
+-- no line ends within the limit, and at least that many octets are there
 abbrev pub IsOverlong : List ℕ → Type 0
 IsOverlong bytes = HasNoLine line_limit bytes × (line_limit ≤ length bytes)
 
--- a line after so many good rows of a listing
+-- a line after this many good rows of a listing
 pub record NextLine (turn : Turn) (bytes row : List ℕ) (rows : ℕ) : Type 0 where
   pub after : List ℕ
   pub behind : List ℕ

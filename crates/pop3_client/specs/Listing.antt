@@ -37,7 +37,7 @@ GetsListing count old (Err fault) new = Stopped (uidl ∷ list ∷ []) old new f
 
 -- ---- the parts of a listing
 
--- why neither a row nor the end mark waits, after so many rows were taken
+-- why neither a row nor the end mark waits, after this many rows were taken
 abbrev pub RowCause : Fault → ℕ → Link → Link → List ℕ → Type 0
 RowCause ConnectionEnded rows old new bytes = NoLineCause ConnectionEnded old new bytes
 RowCause ReadFailed rows old new bytes = NoLineCause ReadFailed old new bytes
@@ -54,7 +54,7 @@ NextRow rows old (Ok (Some n)) new = (gained : List ℕ) × Gains old new gained
     × HasLine line_limit new.waiting n × (take n new.waiting ≢ dot)
 NextRow rows old (Err fault) new = (gained : List ℕ) × Gains old new gained × RowCause fault rows old.link new.link new.waiting
 
--- a row after so many others
+-- a row after this many others
 pub record RowBehind (turn : Turn) (after row : List ℕ) (rows : ℕ) : Type 0 where
   pub behind : List ℕ
   pub lines : List (List ℕ)

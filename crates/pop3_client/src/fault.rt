@@ -40,8 +40,8 @@ pub enum Why {
 
 /// Why a session is cut. Each has a number, which `cut N` shows.
 ///
-/// The calls of this crate answer only 1 to 10 and 13. The store and the record's file of a session give
-/// 11, 12 and 14.
+/// The calls of this crate return only 1 to 10 and 13. The store and the record's file of a session
+/// give 11, 12 and 14.
 #[derive(Clone, Copy, Debug, PartialEq, Eq)]
 pub enum Fault {
     /// 1: the link gave 0 octets before the reply was whole.

@@ -9,7 +9,7 @@ use crate::client::Client;
 use crate::fault::{Asked, Fault};
 use pop3_wire::Wire;
 
-/// Whether QUIT is sent after a fault: after each refused command but QUIT.
+/// Whether QUIT is sent after a fault: after each refused command other than QUIT.
 fn says_quit(fault: Fault) -> bool
     ensures { tail_of fault ≡ (if result then quit_turn ∷ [] else []) }
 {

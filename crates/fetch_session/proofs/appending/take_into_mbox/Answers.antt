@@ -20,7 +20,7 @@ use Rattle.fetch_session.proofs.appending.take_into_mbox.Given.{Over}
 use Rattle.fetch_session.proofs.appending.take_into_mbox.Goals.{After-note, In-Ok-read_text}
 use Rattle.fetch_session.proofs.appending.take_into_mbox.Goals as goal
 
--- the line of the text is told
+-- the line of the text is noted
 told : (g : Over) (c : After-note g) → c.note.new.lines.items ≡ c.args.ledger.now.lines.items ++ Delivered c.args.number c.len-length.result ∷ []
 told g c = c.note.ensures.items ∙ ap (λ (v : Vec ReportLine _). v.items ++ Delivered c.args.number c.len-length.result ∷ []) c.append_text.ensures.lines
 
@@ -111,7 +111,7 @@ returns-in-Ok-remember-clause-rows g c = λ other has.
     ap (λ (r : List Row). has_row r other) (c.in-Ok-remember.ensures.rows)
     ∙ c.marked_keeps_rows.ensures c.append_text.new.ledger.seen.rows c.args.uid.now other ∙ ap (λ (r : List Row). has_row r other) c.append_text.ensures.rows ∙ has
 
--- ---- what was taken of the link
+-- ---- what was taken from the link
 
 pub returns-in-Err-clause-took : goal.returns-in-Err-clause-took
 returns-in-Err-clause-took g c = did_so g.W.Wire c.in-Err.ensures.opens (λ opened.

@@ -90,7 +90,7 @@ returns-clause-carries g c = λ w d f.
       ),
     )
 
--- ---- what was taken of the link
+-- ---- what was taken from the link
 
 pub returns-in-Err-clause-took : goal.returns-in-Err-clause-took
 returns-in-Err-clause-took g c = λ w. (w, with_plain_tail c.plain.ensures took_nothing (omega arith))

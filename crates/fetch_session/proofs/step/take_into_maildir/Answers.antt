@@ -83,7 +83,7 @@ returns-in-Ok-remember-clause-ready g c = record {
   steady = λ f. (c.in-Ok-remember.ensures.steady f).1;
 }
 
--- ---- what was taken of the link
+-- ---- what was taken from the link
 
 pub returns-in-Err-open-clause-takes : goal.returns-in-Err-open-clause-takes
 returns-in-Err-open-clause-takes g c = λ w m f.

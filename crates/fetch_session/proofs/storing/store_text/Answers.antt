@@ -65,7 +65,7 @@ returns-in-Err-put_piece-clause-stores g c =
       and_then g.W.Wire g.met.W.Wire.leads_on inv.3 c.in-Ok.ensures.takes (λ before took number start now. let more = took number start inv.0 (before number start now) in (more.0, λ done. more.1 (c.in-Ok.ensures.ended.1 done))),
     )
 
--- the piece was put behind what was written before
+-- the piece was appended to what was written before
 put : (g : Over) (c : After-put_piece g) → g.D.MaildirDisk.sound c.pieces.disk × Puts (g.D.MaildirDisk.maildir c.pieces.disk) (take c.in-Ok.piece.put c.next_piece.new.out) (Ok tt) (g.D.MaildirDisk.maildir c.put_piece.new.disk)
     → g.D.MaildirDisk.sound c.args.disk.now × (g.D.MaildirDisk.maildir c.put_piece.new.disk ≡ begun_with (g.D.MaildirDisk.maildir c.args.disk.now) (file (string_bytes c.args.stem) (c.pieces.invariant.2.0 ++ take c.in-Ok.piece.put c.next_piece.new.out)))
 put g c puts =
