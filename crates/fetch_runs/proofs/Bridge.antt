@@ -286,7 +286,7 @@ mbox_session_is_a_step laws stores joining paced fronts settings now link before
     (way_of settings AsEntries now link (keeps_entries before) report link' (keeps_entries after) is) (way_leaves laws settings now (at link []) (keeps_entries before) is.result is.mid (keeps_entries after) is.notes held keeps is.proceeds)
     (talks joining paced fronts settings AsEntries now link (keeps_entries before) report link' (keeps_entries after) valid is)
 
--- ---- after a session that ended the mboxrd file stands for the texts that came too: these are whole
+-- ---- after a session that ended, the mboxrd file also stands for the texts that came: these are whole
 
 line_whole : (text line : List ℕ) → IsWhole text → IsWhole (kept line ++ text)
 line_whole text line (inl none) = inr (unstuffed line, ap (λ (t : List ℕ). kept line ++ t) none ∙ append-nil (kept line))

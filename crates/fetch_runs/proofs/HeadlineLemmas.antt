@@ -29,8 +29,6 @@ use Rattle.fetch_runs.specs.Headline.{World, IsSound, account_of, AreSettings, S
 use Rattle.fetch_runs.proofs.TalkCommands.{all_weaker, begins_of}
 use Rattle.fetch_session.specs.Session.{Kept as Holding}
 
--- ---- From a kept state every list of sessions, and of what happens between them, keeps what is promised.
-
 -- the laws that are used
 pub record Laws : Type 0 where
   pub steps : SessionIsAStep
@@ -69,7 +67,7 @@ held_in P (x ∷ ids) id all is = elim (or_cases (bytes_eq id x) (has_id ids id)
   | inr more ↦ held_in P ids id all.1 more
 ]
 
--- a message for which a DELE was begun, of what holds for each of their ids
+-- what holds for each id for which a DELE was begun holds for the id of the message at the DELE's number
 pub for_message : (P : List ℕ → Type 0) (drop : List Message) (effect : Effect) → (effect.listing ≡ listing_of drop) ⊎ ((effect.begun ≡ []) × (effect.ended ≡ false)) → AllByRecursion P effect.begun
     → (number : ℕ) → IsBegun effect.listing effect.begun (Dele number) → (0 < number) × (message : Message) × (slice_get drop (number - 1) ≡ Some message) × P message.uid
 for_message P drop effect (inl listed) all number begun =
@@ -301,7 +299,7 @@ headline_word_for_word law nothing world start (event ∷ events) sound is run n
     let one = event_kept law world start event sound is run.0 in
     (holds_exactly nothing world start none one.0, tt, headline_word_for_word law nothing world (after_event start event) events sound one.2 run.1 none takes_none)
 
--- ---- what is taken away stay_all away
+-- ---- what is taken away stays away
 
 -- what is recorded and not held
 abbrev IsAway : World → Holding → List ℕ → Type 0

@@ -51,7 +51,7 @@ each_text : (number : ℕ) (replies : List WholeReply)
 each_text number [] = refl
 each_text number (reply ∷ replies) = ap (λ (l : List (List ℕ)). body_text reply.body ∷ l) (each_text number replies)
 
--- no message is held but by the record, so each text that was retrieved was to be stored
+-- no message counts as held, so each text that was retrieved was to be stored
 texts_one : (items : List Item) (task : Task) (replies : List WholeReply) → IsRight [] no_maildir items task → texts_in task replies ≡ map text_found (found_in task replies)
 texts_one items (stores number uid) replies right = each_text number replies
 texts_one items (rereads number uid) replies right = absurd (true≢false (sym right.0))
@@ -77,7 +77,7 @@ key_at [] n pair e = absurd cc
 key_at (q ∷ qs) zero pair e = (q, refl, ap id_in e)
 key_at (q ∷ qs) (suc n) pair e = key_at qs n pair e
 
--- the message that the task behind these fetches is the next of the wanted ones
+-- the message that the task after these fetches is the next of the wanted ones
 pub next_wanted : (tasks later : List Task) (dones : List Done) (messages : List (ℕ × Item)) (number : ℕ) (uid : List ℕ) → fetched tasks ≡ map key messages
     → tasks ≡ tasks_of dones ++ (stores number uid ∷ later) → AllByRecursion IsAnswered dones
     → (q : ℕ × Item) × (slice_get messages (length (found_by dones)) ≡ Some q) × (q.1.uid ≡ uid)
@@ -116,7 +116,7 @@ opens_at {before = before} {effect = effect} dones text message are wanted inten
   intent = intent ∙ ap (λ (l : List (List ℕ)). Some (law_intent ((settled before).file ++ entries l) message.1.uid text)) (sym (front_texts effect.texts (text ∷ []) dones are));
 }
 
--- and a front of it follows
+-- and a prefix of it follows
 pub open_at : {settings : Settings} {before : MboxAccount} {effect : Effect} {after : MboxAccount} (dones : List Done) (text front behind : List ℕ) → effect.texts ≡ texts_by dones ++ text ∷ []
     → OpensAt settings before effect (length (found_by dones)) text after → entry_of text ≡ front ++ behind → after.file ≡ ((settled before).file ++ entries (texts_by dones)) ++ front
     → AllRecorded settings before effect (length (found_by dones)) after
@@ -128,7 +128,7 @@ open_at {before = before} {effect = effect} dones text front behind are opens en
   ending = inr (opens, entry);
 }
 
--- and it stands whole
+-- and it is whole
 pub unrecorded_at : {settings : Settings} {before : MboxAccount} {effect : Effect} {after : MboxAccount} (dones full : List Done) (text : List ℕ) → effect.texts ≡ texts_by full
     → length (found_by dones) + 1 ≡ length (found_by full) → OpensAt settings before effect (length (found_by dones)) text after → after.file ≡ (settled before).file ++ entries (texts_by full)
     → LastUnrecorded settings before effect (length (found_by full)) (length (found_by dones)) after
@@ -141,7 +141,7 @@ unrecorded_at {before = before} {effect = effect} dones full text are less opens
 
 -- ---- what a text that wasn't appended leaves
 
--- no intent is open, and the file is as it was; or the text's is, and a front of its entry follows
+-- no intent is open, and the file is as it was; or the text's is open, and a prefix of its entry follows
 abbrev LeavesEntry : Stored → List Row → List ℕ → List ℕ → Stored → Stored → Type 0
 LeavesEntry mbox rows uid text mbox' file' = ((mbox'.content ≡ mbox.content) × Keeps file'.content (none_open rows))
     ⊎ ((was front behind : List ℕ) × (mbox.content ≡ Some was) × (entry_of text ≡ front ++ behind) × (mbox'.content ≡ Some (was ++ front))
@@ -201,7 +201,7 @@ pub record MboxLeads (settings : Settings) (now : ℕ) (ended : Bool) (c : Cours
   pub counted : retrieved_in lines ≡ told.k
   pub one_less : told.j + 1 ≡ told.k → unsaved
 
--- the tasks are those of an account with an empty Maildir: no message is held but by the record
+-- the tasks are those of an account with an empty Maildir: no message counts as held
 abbrev pub ground : Settings → List Item → ℕ → Held → Stored → Ground
 ground settings items now held mbox = record { settings = settings; account = []; items = items; now = now; maildir = no_maildir; rows = rows_settled held mbox }
 
@@ -267,7 +267,7 @@ module _ (laws : Laws) (settings : Settings) (items : List Item) (now : ℕ) (he
       same_held : (content : Option (List ℕ)) (intent : Option Intent) → Keeps content (held_with fell.mid.rows intent) → Keeps content (held_after fell.dones intent)
       same_held content intent keeps = subst (λ (r : List Row). Keeps content (held_with r intent)) (mid_rows laws p starts fell.dones fell.mid fell.went) keeps
 
-      -- nothing came of the next task
+      -- the next task left the files and the report as they were
       bare : new.store.mbox.content ≡ fell.mid.store.mbox.content → new.file ≡ fell.mid.file → new.lines ≡ fell.mid.lines → Stopped (course items fell.dones [] (fell.next ∷ []))
       bare same file told =
           lead_closed (tally_bare laws p starts fell told) new.store.mbox new.file.content [] (sym (append-nil (texts_by fell.dones)))
@@ -297,7 +297,7 @@ module _ (laws : Laws) (settings : Settings) (items : List Item) (now : ℕ) (he
             (ap (λ (l : List ℕ). Some (intent_of l uid text)) (same_Some was (bytes_after fell.dones) (sym there ∙ mid_content))
             ∙ ap (λ (id : List ℕ). Some (intent_of (bytes_after fell.dones) id text)) (sym next_message.2))
 
-        -- its entry wasn't appended, or only a front of it
+        -- its entry wasn't appended, or only a prefix of it
         refused : LeavesEntry fell.mid.store.mbox fell.mid.rows uid text new.store.mbox new.file → new.lines ≡ fell.mid.lines → Stopped (course items fell.dones (reply ∷ []) (fell.next ∷ []))
         refused left told = by left
           where

@@ -170,7 +170,7 @@ module _ (laws : Laws) (p : Ground) where
         one_less = λ is. absurd (omega (arith, is));
       }
 
-      -- nothing came of it
+      -- the next task retrieved no text
       pub tally_bare : {refused unsaved : Type 0} → new.lines ≡ fell.mid.lines → Tally p false fell.dones [] (fell.next ∷ []) fell.dones fell.dones new.lines refused unsaved
       tally_bare = tally_next (ap (λ (l : List (ℕ × List ℕ)). found_by fell.dones ++ (l ++ [])) (nothing_found fell.next) ∙ append-nil (found_by fell.dones)) part_done (inl refl) (λ is. absurd (omega (arith, is)))
 

@@ -25,8 +25,6 @@ use Rattle.fetch_rules.specs.RecordGrowth.{OneRecord}
 use Rattle.fetch_rules.specs.Wanted.{wanted}
 use Rattle.fetch_session.specs.Laws.{SteadyFilesKeep, UnsavedFilesKeep}
 
--- ---- What tasks that were done retrieved and stored, compared with what was wanted.
-
 abbrev pub number_found : ℕ × List ℕ → ℕ
 number_found found = found.0
 

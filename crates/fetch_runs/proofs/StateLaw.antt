@@ -59,7 +59,7 @@ Leading p ended c maildir' content' lines refused unsaved = Leads p.settings p.a
 
 -- ---- of tasks that were done
 
--- it has the files of these tasks more, and no others
+-- only the files of these tasks were added
 abbrev AddsFiles : List ℕ → Maildir → List Done → Maildir → Type 0
 AddsFiles account maildir dones maildir' = (maildir'.in_new ≡ maildir.in_new ++ files_of account dones) × (maildir'.in_cur ≡ maildir.in_cur)
 
@@ -118,7 +118,7 @@ module _ (laws : Laws) (p : Ground) where
       abbrev Stopped : Course → Type 0
       Stopped c = Leading p false c new.store.maildir new.file.content new.lines (RefusedIn (Err cut)) (UnsavedIn (Err cut))
 
-      -- nothing came of the next task
+      -- the next task left the files and the report as they were
       bare : new.store.maildir.in_new ≡ fell.mid.store.maildir.in_new → new.store.maildir.in_cur ≡ fell.mid.store.maildir.in_cur → new.file ≡ fell.mid.file → new.lines ≡ fell.mid.lines
           → Stopped (course p.items fell.dones [] (fell.next ∷ []))
       bare in_new in_cur file told =

@@ -1,4 +1,4 @@
--- Each session is one conversation: by its plan if its listing was joined, and else of the opening alone.
+-- Each session is one conversation: by its plan if its listing was joined, otherwise of the opening alone.
 use Rattle.std.proofs.Common.{◌≡◌, ◌≤◌, ◌⊎◌, inl, inr, ℕ, List, [], ◌∷◌, ◌++◌, length, Result, Ok, Err, refl, sym, ap, subst, ◌∙◌, append_assoc, ◌+◌, Bool, true, false, cond, map, Some, arith}
 use Rattle.std.specs.List.{AllByRecursion, flat_map, count_by, AllZip, enumerate_from}
 use Rattle.std.proofs.lemmas.List.{append-nil, map-append}
@@ -247,7 +247,7 @@ taken_same (d ∷ dones) plain each =
     let later = taken_same dones plain.1 each.1 in
     omega (arith, first, later, count_on is_taken (lines_in d.task d.replies) (lines_of dones), count_on is_retrieval (turns_in d.task) (turns_of dones))
 
--- ---- What a session said: as a plan has it if its listing was joined, and else the opening alone.
+-- ---- What a session said: the turns of a plan if its listing was joined, otherwise the opening alone.
 
 abbrev pub name_of : Settings → List ℕ
 name_of settings = string_bytes settings.username
@@ -356,7 +356,7 @@ module _ (joining : TurnsJoin) (paced : ConversationsArePaced) (law : FrontsAreA
       whole = commanded_after law name word valid.valid_username valid.valid_password by.took.done by.took.begun (tail_for result) (replies ++ by.took.replies) all.0 all.1 (is_tail_for result)
           (subst (AllByRecursion CanBeSaid) by.took.all (said_tasks (begun_of c) plain)) all.5
 
-  -- ---- it wasn't, or nothing was done with it
+  -- ---- no listing was joined, or nothing was done with it
 
   opens : (cut : Cut) → NotEntered settings (at link []) before cut new after notes ⊎ NoRoom settings (at link []) before cut new after notes → LeavesLink (Err cut) new link'
       → OpensAlone name word (tail_turns (tail cut.fault)) link link'

@@ -27,8 +27,6 @@ use Rattle.fetch_session.specs.Laws.{TurnsJoin}
 use Rattle.fetch_runs.proofs.Courses.{Course, course, course_stopped, stored_done, spare_in, found_in, found_by, found_of, begun_of}
 use Rattle.fetch_runs.proofs.TalkCommands.{commands_in, all_append, all_front, all_back, IsPlain, commands_on, text_read, dones_read, nothing_found, turns_on}
 
--- ---- What a link gains after turns that were completed.
-
 pub cons_parts : {A : Type 0} (x y : A) (xs ys : List A) → x ∷ xs ≡ y ∷ ys → (x ≡ y) × (xs ≡ ys)
 cons_parts x y xs ys e = (cc, cc)
 
@@ -287,7 +285,7 @@ module _ (joining : TurnsJoin) (paced : ConversationsArePaced) (items : List Ite
           one : Done
           one = stored_done number uid reply
 
-      -- memory was wanting for a text as it came
+      -- memory ran out for a text as it came
       took_wanting : NoRoom next mid new cut → Took (course items dones [] (next ∷ [])) first (tail_turns (tail cut.fault)) last.link
       took_wanting wanting =
           let fetching = wanting.fetching in

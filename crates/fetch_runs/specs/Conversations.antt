@@ -35,8 +35,8 @@ abbrev pub SentBehind : List Turn → List Turn → List ℕ → Type 0
 SentBehind begun tail sent = ((later : List ℕ) × (asking begun ≡ sent ++ later))
     ⊎ ((part later : List ℕ) × (asking tail ≡ part ++ later) × (sent ≡ asking begun ++ part))
 
--- of what a link gained: these turns were sent, and each was answered by its reply, whole and good; what was
--- got begins with these replies; after them perhaps one turn was begun, and then the tail
+-- what a link gained: these turns were sent, and each was answered by its reply, whole and good; what was got
+-- begins with these replies; after them perhaps one turn was begun, and then the tail
 pub record Conversation (done : List Turn) (replies : List WholeReply) (begun tail : List Turn) (sent got : List ℕ) : Type 0 where
   pub good : AllZip IsGood done replies
   pub rest : List ℕ
@@ -95,7 +95,7 @@ pub record AreFound (account : List ℕ) (now : ℕ) (maildir : Maildir) (file :
   pub merged_is : rows ≡ merged was items (flags_of account maildir items) now
 
 -- a session whose listing was joined followed the plan for that listing, the record and the Maildir that it
--- found; or it didn't come to a plan, and began nothing but the tail after the opening
+-- found; or it didn't come to a plan, and began only the tail after the opening
 pub record SpeaksByPlan (settings : Settings) (account : List ℕ) (now : ℕ) (before : Kept) (report : Report)
     (sent got : List ℕ) : Type 0 where
   pub items : List Item

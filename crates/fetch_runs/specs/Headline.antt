@@ -1,4 +1,4 @@
--- Where a server's unique-ids are distinct and persistent and its mail unchanged, after any list of sessions,
+-- If a server's unique-ids are distinct and persistent and its mail unchanged, after any list of sessions,
 -- each cut at any reply or refused write, the Maildir holds exactly a prefix of the selected messages in
 -- maildrop order, each once, byte for byte with lines ended by LF; an uncut session leaves out only what its
 -- limits exclude; and DELE was sent only for messages held. What a reader took away counts as held here.
@@ -165,7 +165,7 @@ HoldsAPrefix world state = HoldsWhatIsLeft (frame_of world) (situation [] state)
 abbrev pub IsHeldAfter : World → State → Occasion → List ℕ → Type 0
 IsHeldAfter world state occasion id = (is_held (account_of world) occasion.after.maildir id ≡ true) ⊎ (has_id state.taken id ≡ true)
 
--- the message could be fetched, but comes after as many others that could be fetched as one session fetches
+-- the message could be fetched, but comes after the first `max_count` that could; 0 is no limit
 abbrev pub IsPastCount : World → State → Occasion → Message → Type 0
 IsPastCount world state occasion message =
     let listing = listing_of (maildrop_at world state occasion) in
@@ -176,7 +176,7 @@ IsPastCount world state occasion message =
     message.uid ≡ true)
 
 -- after an uncut session each message of the maildrop is held, or was taken away, or is larger than the
--- limit, or comes after as many as one session fetches
+-- limit, or is past the number that one session fetches
 abbrev pub LeavesOutOnlyBeyondLimits : World → State → Occasion → Type 0
 LeavesOutOnlyBeyondLimits world state occasion = occasion.report.outcome ≡ Ended → AllByRecursion (λ (message : Message).
     IsHeldAfter world state occasion message.uid
@@ -238,8 +238,8 @@ Promises world state (event ∷ events) = HoldsAPrefix world state × Promised w
 
 -- ---- the states in which it can begin and go on
 
--- the record's file stands for a record that names only messages that are held or were taken away; the ids
--- that are gone are also theirs
+-- the record's file stands for a record that shows as delivered only messages that are held or were taken
+-- away; the ids that are gone are of such messages too
 abbrev pub IsKept : World → State → Type 0
 IsKept world state = (rows : List Row) × KeepsRows state.kept.file.content rows × IsKeptIn (frame_of world) (situation rows state)
 
@@ -309,7 +309,7 @@ SayTheSentence world state [] = HoldsExactlyAPrefix world state
 SayTheSentence world state (event ∷ events) = HoldsExactlyAPrefix world state
     × SaysTheSentence world state event × SayTheSentence world (after_event state event) events
 
--- then it is the sentence, word for word
+-- then the sentence holds word for word
 abbrev pub HeadlineWordForWord : Type 0
 HeadlineWordForWord = (world : World) (start : State) (events : List Event) → IsSound world → IsKept world start → IsRun world start events
     → start.taken ≡ [] → TakesNoneAway events → SayTheSentence world start events
@@ -331,15 +331,14 @@ StaysAway = (world : World) (start : State) (events : List Event) (id : List ℕ
 
 -- ---- a program that starts anew, and one that is stopped
 
--- the same files of `new` and `cur`, and the same bytes of the record's file; all else that is known of them
--- may be another process's
+-- the same files of `new` and `cur`, and the same bytes of the record's file; all else may be another process's
 pub record HasTheSameFiles (before after : Kept) : Type 0 where
   pub in_new : after.maildir.in_new ≡ before.maildir.in_new
   pub in_cur : after.maildir.in_cur ≡ before.maildir.in_cur
   pub content : after.file.content ≡ before.file.content
 
--- what a new process finds, whose counts begin at 0 and which has begun no file, and folders that were made,
--- are changes between two sessions
+-- a new process, whose counts begin at 0 and which has begun no file, and folders that were made are changes
+-- between two sessions
 abbrev pub NewProcessesAreBetween : Type 0
 NewProcessesAreBetween = (world : World) (before after : Kept) → HasTheSameFiles before after → IsBetween world before after
 

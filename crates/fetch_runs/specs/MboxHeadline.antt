@@ -1,9 +1,9 @@
--- Where a server's unique-ids are distinct and persistent and its mail unchanged, after any list of sessions that
+-- If a server's unique-ids are distinct and persistent and its mail unchanged, after any list of sessions that
 -- read only what is new, each cut at any reply or refused write, an mboxrd file holds what it held before the
 -- first one, followed by the entries of exactly a prefix of the selected messages in maildrop order, each once,
--- and by at most a front of the next one's entry, whose intent is then open; after an uncut session nothing of a
+-- and by at most a prefix of the next one's entry, whose intent is then open; after an uncut session nothing of a
 -- next entry is left, and only what its limits exclude is left out; and DELE was sent only for messages whose
--- entry stands whole. What was recorded as delivered before the first session counts as entered here.
+-- entry is whole. What was recorded as delivered before the first session counts as entered here.
 use Rattle.std.specs.Prelude.{◌≡◌, ◌≢◌, ◌⊎◌, ◌<◌, ◌-◌, ℕ, true, false, List, [], ◌∷◌, ◌++◌, None, Some, slice_get}
 use Rattle.std.specs.List.{AllByRecursion}
 use Rattle.pop3_wire.specs.declared.command.Command.{Command}
@@ -110,7 +110,7 @@ abbrev pub situation : Held → MboxState → MboxSituation
 situation held state = record { account = mbox_holds held state.kept.mbox; gone = state.gone }
 
 -- the file is the one before the first session, followed by the entries of the first of the selected messages
--- that weren't recorded then, in order, each once, and by at most a front of the next one's entry, whose intent is
+-- that weren't recorded then, in order, each once, and by at most a prefix of the next one's entry, whose intent is
 -- then open. The recorded messages are exactly these and those before
 abbrev pub HoldsEntries : MboxFrame → MboxState → Type 0
 HoldsEntries frame state = (held : Held) × Keeps state.kept.file.content held × MboxHolds frame (mbox_holds held state.kept.mbox)
@@ -119,7 +119,7 @@ HoldsEntries frame state = (held : Held) × Keeps state.kept.file.content held �
 abbrev pub IsEntered : MboxFrame → MboxKept → List ℕ → Type 0
 IsEntered frame state id = (has_id (ids_of frame.had) id ≡ true) ⊎ HasEntry frame (mail_in state.mbox.content) id
 
--- the message could be fetched, but comes after as many others that could be fetched as one session fetches
+-- the message could be fetched, but comes after the first `max_count` that could; 0 is no limit
 abbrev pub IsPastCount : MboxFrame → MboxState → MboxOccasion → Message → Type 0
 IsPastCount frame state occasion message =
     let listing = listing_of (maildrop_at frame state occasion) in
@@ -130,7 +130,7 @@ IsPastCount frame state occasion message =
     message.uid ≡ true)
 
 -- after an uncut session no intent is open and nothing of a next entry is left, and each message of the maildrop
--- has its entry, or is larger than the limit, or comes after as many as one session fetches
+-- has its entry, or is larger than the limit, or is past the number that one session fetches
 pub record EndsWhole (frame : MboxFrame) (state : MboxState) (occasion : MboxOccasion) : Type 0 where
   pub held : Held
   pub stands_for : Keeps occasion.after.file.content held
@@ -142,8 +142,8 @@ pub record EndsWhole (frame : MboxFrame) (state : MboxState) (occasion : MboxOcc
       ⊎ IsPastCount frame state occasion message)
       (maildrop_at frame state occasion)
 
--- a DELE gives the number, counted from 1, of a message of the maildrop whose entry stands whole in the file when
--- the session returns, or that was recorded before the first session
+-- a DELE gives the number, counted from 1, of a message of the maildrop whose whole entry is in the file when the
+-- session returns, or that was recorded before the first session
 abbrev pub IsForEntered : MboxFrame → MboxState → MboxOccasion → Command → Type 0
 IsForEntered frame state occasion (Dele number) = (0 < number) × (message : Message)
     × (slice_get (maildrop_at frame state occasion) (number - 1) ≡ Some message)
@@ -165,7 +165,7 @@ MboxPromised frame state (Fetched occasion) =
     (occasion.report.outcome ≡ Ended → EndsWhole frame state occasion) × DeletesOnlyEntered frame state occasion
 MboxPromised frame state _ = Unit {0}
 
--- the file is so before and after each event, and each event keeps its promises
+-- the file holds these entries before and after each event, and each event keeps its promises
 abbrev pub MboxPromises : MboxFrame → MboxState → List MboxEvent → Type 0
 MboxPromises frame state [] = HoldsEntries frame state
 MboxPromises frame state (event ∷ events) = HoldsEntries frame state × MboxPromised frame state event
@@ -183,7 +183,7 @@ MboxHeadline = (frame : MboxFrame) (start : MboxState) (events : List MboxEvent)
     → MboxPromises frame start events × IsMboxKept frame (state_after start events)
 
 -- the record has no open intent, and what it shows as delivered is exactly a prefix of the selected messages, as it
--- is with an empty record; of these alone some may be gone. The mboxrd file may hold anything
+-- is with an empty record; only messages of this prefix may be gone. The mboxrd file may hold anything
 pub record IsMboxStart (frame : MboxFrame) (state : MboxState) : Type 0 where
   pub held : Held
   pub stands_for : Keeps state.kept.file.content held

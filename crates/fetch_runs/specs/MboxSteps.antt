@@ -16,7 +16,7 @@ use Rattle.run_law.specs.Mboxes.{MboxAccount, MboxLeaves}
 use Rattle.run_law.specs.MboxTold.{MboxTold}
 use Rattle.run_law.specs.MboxSessions.{MboxSession as Stepped}
 
--- an account with this record and this mboxrd file; one that isn't there has no bytes
+-- an account with this record and this mboxrd file; a missing file has no bytes
 abbrev pub mbox_holds : Held → Stored → MboxAccount
 mbox_holds held mbox = record { rows = held.rows; intent = held.intent; file = mail_in mbox.content }
 

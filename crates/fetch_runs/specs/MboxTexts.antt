@@ -13,13 +13,13 @@ use Rattle.run_law.specs.Mboxes.{MboxAccount, settled, mbox_wanted}
 use Rattle.run_law.specs.Steps.{Effect}
 use Rattle.fetch_runs.specs.MboxSteps.{mbox_holds, IsMboxStep}
 
--- a text came for each wanted message, and the file stands for the texts that it stood for once it was settled, and
--- then for these, in order
+-- a text came for each wanted message, and the file stands for the texts of the settled file, followed by these, in
+-- order
 pub record AddsTexts (settings : Settings) (before : MboxAccount) (effect : Effect) (after : MboxAccount) : Type 0 where
   pub all : length effect.texts ≡ length (mbox_wanted settings before effect)
   pub texts : (first : List (List ℕ)) → MboxFile (settled before).file first → MboxFile after.file (first ++ effect.texts)
 
--- a law: if the record's file stood for this record, a session is a step, and one that ended added these texts
+-- a law: if the record's file stood for this record, a session is a step, and if it ended, it added these texts
 abbrev pub MboxSessionsAddTexts : Type 0
 MboxSessionsAddTexts = (settings : Settings) (now : ℕ) (link : Link) (before : MboxKept) (held : Held)
     (report : Report) (link' : Link) (after : MboxKept)

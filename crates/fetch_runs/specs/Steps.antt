@@ -26,14 +26,13 @@ use Rattle.fetch_runs.specs.Conversations.{tail_behind}
 abbrev pub holds : List Row → Maildir → Account
 holds rows maildir = record { rows = rows; maildir = maildir }
 
--- of these turns no more was sent than these commands, which are their first ones, and a beginning of the
--- next one's line
+-- of these turns only the first were sent, which are these commands, and a prefix of the next one's line
 pub record SaysOnly (turns : List Turn) (commands : List Command) (part : List ℕ) : Type 0 where
   pub later : List Command
   pub split : turns ≡ map Some (commands ++ later)
   pub begins : BeginsNext later part
 
--- nothing was sent after LIST but the turns that follow the outcome
+-- after LIST only turns that follow the outcome were sent
 pub record StopsAtList (outcome : Outcome) (commands : List Command) (part : List ℕ) : Type 0 where
   pub name : List ℕ
   pub word : List ℕ

@@ -30,9 +30,9 @@ use run_law::{
 /// octets of the plan's first turns and a prefix of the next one's; each turn is begun only after
 /// the whole and good replies to all before it have come. After a fault, what was sent is these
 /// turns whole and a prefix of the turns that follow that fault. If no listing was joined, the
-/// plan is the opening alone. After the last of the texts that the report counts at most one more
-/// came whole, only if the store refused that text, and then nothing more of the plan was sent. A
-/// session that ended sent the whole plan.
+/// plan is the opening alone. After the texts that the report counts, at most one more came whole,
+/// only if the store refused that text, and then nothing more of the plan was sent. A session that
+/// ended sent the whole plan.
 pub fn sessions_are_conversations()
     ensures { SessionsAreConversations }
 {
@@ -64,7 +64,7 @@ pub fn session_is_a_step()
 
 /// If the record's file stood for a record, then, whatever its server says, a session loses and changes
 /// no file of `new` and `cur`, and each DELE that it sent is for a message whose unique-id was recorded
-/// as delivered before, or was held, or whose text it stored as it got it by the same number. What it
+/// as delivered before, or was held, or whose text it got by the same number and stored. What it
 /// sent of one more command begins the line of such a DELE or of another command.
 pub fn any_server()
     ensures { AnyServer }
@@ -83,7 +83,7 @@ pub fn honest_sessions()
     honest_sessions_bring_messages();
 }
 
-/// Where a server's unique-ids are distinct and persistent and its mail unchanged, after any list of
+/// If a server's unique-ids are distinct and persistent and its mail unchanged, after any list of
 /// sessions, each cut at any reply or refused write, the Maildir holds exactly a prefix of the selected
 /// messages in maildrop order, each once, byte for byte with lines ended by LF; an uncut session leaves
 /// out only what its limits exclude; and DELE was sent only for messages held.
@@ -103,7 +103,7 @@ pub fn headline()
     files_stand_for_one_record();
 }
 
-/// The headline for runs in which nothing is taken away, without the words on that.
+/// The headline for runs in which nothing is taken away, without its exceptions for that.
 #[tactic(auto, using(crate::proofs::HeadlineLemmas::headline_word_for_word))]
 pub fn headline_word_for_word()
     ensures { HeadlineWordForWord }
@@ -131,8 +131,8 @@ pub fn new_processes_are_between()
     ensures { NewProcessesAreBetween }
 {}
 
-/// A program that is stopped, and leaves what a session leaves if all its calls are refused from
-/// that moment on, is an event of a run, and the next process goes on from there.
+/// A stop of the program, which leaves what a session leaves if all its calls are refused from that
+/// moment on, is part of a run: a session that was cut, and then a new process.
 #[tactic(auto, using(crate::proofs::HeadlineLemmas::stops_are_runs))]
 pub fn stops_are_runs()
     ensures { StopsAreRuns }
@@ -187,9 +187,9 @@ pub fn mbox_session_is_a_step()
     fronts_are_asked();
 }
 
-/// With an mboxrd file: if the record's file stood for a record, after a session that ended a text
-/// came for each wanted message, and the file stands for the texts that it stood for once it was
-/// settled, and then for these, in order.
+/// With an mboxrd file: if the record's file stood for a record, a session that ended got a text
+/// for each wanted message, and left a file that stands for the texts of the settled file, followed
+/// by these, in order.
 pub fn mbox_sessions_add_texts()
     ensures { MboxSessionsAddTexts }
 {
@@ -199,8 +199,8 @@ pub fn mbox_sessions_add_texts()
 
 /// With an mboxrd file: if the record's file stood for a record, then, whatever its server says, a
 /// session keeps what the file holds, except for the rest of an entry that an open intent had begun,
-/// and each DELE that it sent is for a message that was recorded as delivered, or whose entry it
-/// appended as it got its text by the same number.
+/// and each DELE that it sent is for a message that was recorded as delivered, or whose text it got
+/// by the same number and appended as an entry.
 pub fn mbox_any_server()
     ensures { MboxAnyServer }
 {
@@ -208,12 +208,12 @@ pub fn mbox_any_server()
     mbox_sessions_are_safe();
 }
 
-/// Where a server's unique-ids are distinct and persistent and its mail unchanged, after any list of
+/// If a server's unique-ids are distinct and persistent and its mail unchanged, after any list of
 /// sessions that read only what is new, each cut at any reply or refused write, an mboxrd file holds
 /// what it held before the first one, followed by the entries of exactly a prefix of the selected
-/// messages in maildrop order, each once, and by at most a front of the next one's entry, whose intent
-/// is then open; after an uncut session nothing of a next entry is left, and only what its limits
-/// exclude is left out; and DELE was sent only for messages whose entry stands whole.
+/// messages in maildrop order, each once, and by at most a prefix of the next one's entry, whose
+/// intent is then open; after an uncut session nothing of a next entry is left, and only what its
+/// limits exclude is left out; and DELE was sent only for messages whose entry is whole.
 ///
 /// Each session has its own settings, except for `max_message_size` and for `read_all`, which is
 /// false. Between two of them a process may start anew, and messages that were recorded may be gone
@@ -246,8 +246,9 @@ pub fn mbox_headline_from_start()
     mbox_start_is_kept();
 }
 
-/// With an mboxrd file: a program that is stopped, and leaves what a session leaves if all its calls
-/// are refused from that moment on, is an event of a run, and the next process goes on from there.
+/// With an mboxrd file: a stop of the program, which leaves what a session leaves if all its calls
+/// are refused from that moment on, is part of a run: a session that was cut, and then a new
+/// process.
 #[tactic(auto, using(crate::proofs::MboxHeadlineLemmas::stops_are_runs))]
 pub fn mbox_stops_are_runs()
     ensures { MboxStopsAreRuns }

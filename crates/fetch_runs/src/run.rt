@@ -27,7 +27,7 @@ pub struct Visit<W> {
 }
 
 /// Runs one session for each visit, in order, and returns a report for each. Room for the reports
-/// is made first: if memory runs out for it, no session was begun.
+/// is made first: if memory runs out for it, no session is begun.
 ///
 /// From a kept account, over links to an honest server of one world, each session keeps what the
 /// headline promises, and a kept account is left: with a Maildir, and with an mboxrd file if the

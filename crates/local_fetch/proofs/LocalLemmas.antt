@@ -1,4 +1,4 @@
--- A session's commands are such as a server answers honestly.
+-- A session sends only commands that a server answers honestly.
 use Rattle.std.proofs.Common.{◌≡◌, inl, inr, ◌⊎◌, ℕ, suc, Option, Some, List, [], ◌∷◌, ◌++◌, Bool, true, false, refl, sym, ap, subst, ◌∙◌, ◌<◌, arith}
 use Rattle.std.specs.String.{string_bytes}
 use Rattle.std.specs.List.{flat_map, AllByRecursion}
@@ -163,7 +163,7 @@ module _ {M : Type 0} (sound : M → Type 0) (mail : M → Mail) (honesty : Give
         left = gone.left;
       }
 
-  -- the session is over the link that the server's is
+  -- the session is over the server's link
   over : (Made : Link → Type 0) (settings : Settings) (server new : Machine M) (start loop : Loop M) → start ≡ loop_to server → new ≡ loop.machine
       → (Made unused → Sends settings loop.link) → IsNew (loop_to server) → Serves sound mail start loop → Made start.link → sound new.drop
       → AllByRecursion IsMessage (there (mail server.drop).slots) → FetchesBy mail (Made unused) server new loop.link

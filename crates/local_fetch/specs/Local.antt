@@ -14,22 +14,22 @@ use Rattle.fetch_runs.specs.Headline.{World, State, AreSettings, IsSession}
 use Rattle.fetch_runs.specs.MboxHeadline.{MboxState, AreSettings as AreMboxSettings, IsMboxSession}
 use Rattle.run_law.specs.MboxRuns.{MboxFrame}
 
--- a link that was used for nothing yet
+-- a link that wasn't used yet
 abbrev pub unused : Link
 unused = record { sent = []; got = []; ended = false; failures = 0 }
 
--- a link to a server, which was used for nothing yet
+-- a link to a server, which wasn't used yet
 abbrev pub loop_to : {D : Type 0} → Machine D → Loop D
 loop_to machine = record { machine = machine; link = unused; answers = []; left = greeting; waiting = []; down = false }
 
--- these are the messages that were there before, in their order, without those whose ids vanished
+-- the messages that were there before, in their order, without those whose ids vanished
 abbrev pub AreWithout : List Message → List (List ℕ) → List Message → Type 0
 AreWithout [] vanished after = (vanished ≡ []) × (after ≡ [])
 AreWithout (m ∷ before) vanished after = ((rest : List Message) × (after ≡ m ∷ rest) × AreWithout before vanished rest)
     ⊎ ((more : List (List ℕ)) × (vanished ≡ m.uid ∷ more) × AreWithout before more after)
 
--- over a new server's link this session was run, and it was served as an honest server serves it whose maildrop this is: what
--- was got is honest, and what vanished was marked, and vanished with a QUIT
+-- the session was run over a new server's link, and was served as by an honest server with this maildrop: what was got is
+-- honest, and what vanished was marked, and vanished with a QUIT
 pub record FetchesBy {M : Type 0} (mail : M → Mail) (Made : Type 0) (old new : Machine M) (link : Link) : Type 0 where
   pub session : Made
   pub vanished : List (List ℕ)
@@ -46,7 +46,7 @@ abbrev pub MboxFetchesFrom : {M : Type 0} → (M → Mail) → Settings → ℕ 
 MboxFetchesFrom mail settings now old new link before report after =
     FetchesBy mail (MboxSession settings now unused before report link after) old new link
 
--- a law: over the maildrop of a world such a session is one of those that the headline speaks of
+-- a law: over the maildrop of a world, such a session is one that the headline is about
 abbrev pub AreSessions : {M : Type 0} → (M → Mail) → Type 0
 AreSessions {M} mail = (world : World) (state : State) (settings : Settings) (now come : ℕ)
     (old new : Machine M) (link : Link) (report : Report) (after : Kept)
@@ -64,7 +64,7 @@ AreSessions {M} mail = (world : World) (state : State) (settings : Settings) (no
       vanished = local.vanished;
     })
 
--- a law: with an mboxrd file, such a session is one of those that the second headline speaks of
+-- a law: with an mboxrd file, such a session is one that the second headline is about
 abbrev pub AreMboxSessions : {M : Type 0} → (M → Mail) → Type 0
 AreMboxSessions {M} mail = (frame : MboxFrame) (state : MboxState) (settings : Settings) (now come : ℕ)
     (old new : Machine M) (link : Link) (report : Report) (after : MboxKept)

@@ -16,10 +16,11 @@ use pop3_server::{LoopWire, Maildrop, Server, loops_are_honest};
 use std::alloc::Global;
 use std::hash::BuildHasher;
 
-/// Runs one session of an account over a link to this server, which is new, and gives the link, whose
-/// `into_inner` is the server as its answers left it. `now` is in seconds since 1970.
+/// Runs one session of an account over a link to this server, which is new, and returns the report
+/// and the link, whose `into_inner` is the server as its answers left it. `now` is in seconds since
+/// 1970.
 ///
-/// There is no premise on the server but its maildrop's: the conversation is honest over the
+/// The only premise on the server is its maildrop's: the conversation is honest over the
 /// maildrop's messages, and of these only marked ones are gone, none while the server is open.
 pub fn fetch_local<D: MaildirDisk, F: FlatFile, H: BuildHasher, M: Maildrop>(
     alloc: Global,

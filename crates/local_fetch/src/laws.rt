@@ -3,14 +3,14 @@ ghost use Rattle.local_fetch.specs.Local.{AreMboxSessions, AreSessions};
 
 use pop3_server::Maildrop;
 
-/// A law: over the maildrop of a world, what [`fetch_local`](crate::fetch_local) did is a session of
-/// those that the headline speaks of.
+/// A law: over the maildrop of a world, what [`fetch_local`](crate::fetch_local) did is one of the
+/// sessions that the headline is about.
 pub fn local_sessions_are_sessions<M: Maildrop>()
     ensures { AreSessions M.mail }
 {}
 
-/// A law: over the maildrop of a world, what [`fetch_local`](crate::fetch_local) did with an mboxrd file is
-/// a session of those that the second headline speaks of.
+/// A law: over the maildrop of a world, what [`fetch_local`](crate::fetch_local) did with an mboxrd
+/// file is one of the sessions that the second headline is about.
 pub fn local_mbox_sessions_are_sessions<M: Maildrop>()
     ensures { AreMboxSessions M.mail }
 {}

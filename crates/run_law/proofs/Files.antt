@@ -171,7 +171,7 @@ moves_keep account before after o name content other =
       count_same o.old o.new name content o.base_same o.content_same,
     )
 
--- the name of a message's file isn't another one
+-- a message's file has none of the other names
 not_other : NamesHaveStems → NamesAreBases → (account name uid : List ℕ) (size : ℕ) → IsAccountText account → IsOther account name
     → is_legal_id uid ≡ true → bytes_eq name (base (name_of account uid size)) ≡ false
 not_other stems bases account name uid size text other legal =

@@ -63,7 +63,7 @@ taken_more f (suc m) (suc n) (x ∷ xs) id l e =
     let more = λ (h : has_id (map f (take m xs)) id ≡ true). taken_more f m n xs id (omega (arith, l)) h in
     grind (arith, e, more)
 
--- what is gone after a session is done, if all that was gone is, and each id for which a DELE was begun
+-- what is gone after a session is done, if all that was gone before is, and each id for which a DELE was begun
 pub gone_is_done : (was is : List ℕ → Bool) (begun gone vanished : List (List ℕ)) → ((id : List ℕ) → was id ≡ true → is id ≡ true) → AllByRecursion (λ id. is id ≡ true) begun
     → AllByRecursion (λ id. was id ≡ true) gone → AllByRecursion (λ id. has_id begun id ≡ true) vanished → AllByRecursion (λ id. is id ≡ true) (gone ++ vanished)
 gone_is_done was is begun gone vanished stays b g v = all_append (λ id. is id ≡ true) gone vanished

@@ -158,7 +158,7 @@ abbrev pub MboxKeptHolds : Type 0
 MboxKeptHolds = (frame : MboxFrame) (state : MboxSituation) → IsWorld frame.all → MboxKept frame state → MboxHolds frame state.account
 
 -- an account without an open intent that records exactly a prefix of the selected messages as delivered is
--- kept with any file: so is one with an empty record, and one whose record is of version 1
+-- kept with any file. An empty record is such a record, and a record of version 1 has no open intent
 abbrev pub MboxStartsKept : Type 0
 MboxStartsKept = (frame : MboxFrame) (rows : List Row) (rest : List Message) (gone : List (List ℕ))
     → selected frame.max_size frame.all ≡ frame.had ++ rest

@@ -22,8 +22,8 @@ AsksForNoMessage _ = Unit {0}
 abbrev pub AsksForNone : List Command → List ℕ → Type 0
 AsksForNone commands part = AllByRecursion AsksForNoMessage commands × BeginsOne AsksForNoMessage part
 
--- a session by what its link gained: it asked for no message and left the account, or it settled the account,
--- read the replies and appended texts
+-- a session by what its link gained: it asked for no message and left the account as it was, or its file cut
+-- back; or it settled the account, read the replies and appended texts
 pub record MboxSession (settings : Settings) (before : MboxAccount) (sent got : List ℕ) (effect : Effect)
     (after : MboxAccount) : Type 0 where
   pub commands : List Command

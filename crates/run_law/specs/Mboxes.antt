@@ -84,7 +84,7 @@ pub record IsBroken (settings : Settings) (before : MboxAccount) (effect : Effec
   pub got : slice_get effect.texts stored ≡ Some text
   pub opened : IsOpen ((settled before).file ++ entries (take stored effect.texts)) message.1.uid text after
 
--- the account was settled, the listing merged, and so many of the wanted messages were appended and recorded
+-- the account was settled, the listing merged, and the first `stored` of the wanted messages appended and recorded
 pub record MboxStores (settings : Settings) (before : MboxAccount) (effect : Effect) (after : MboxAccount) : Type 0 where
   pub stored : ℕ
   pub fetched : stored ≤ length effect.texts

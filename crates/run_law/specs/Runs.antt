@@ -102,8 +102,8 @@ abbrev pub after_events : Situation → List Event → Situation
 after_events before [] = before
 after_events before (event ∷ events) = after_events (after_event before event) events
 
--- the files of the id's stem hold the texts of those of these messages that have the id; or such a message
--- was taken away, and there is no file
+-- the files of the id's stem hold the texts of these messages that have the id; or the id's message was taken
+-- away, and there is no file
 abbrev pub HoldsOf : Frame → Situation → List Message → List ℕ → Type 0
 HoldsOf frame state done id = (copies (files state.account) (stem_of frame.account id) ≡ texts_of done id)
     ⊎ ((has_id state.taken id ≡ true) × (copies (files state.account) (stem_of frame.account id) ≡ []))
@@ -119,10 +119,11 @@ pub record Kept (frame : Frame) (state : Situation) : Type 0 where
   pub gone : AllByRecursion (λ id. has_id (ids_of done) id ≡ true) state.gone
   pub taken : AllByRecursion (λ id. has_id (ids_of done) id ≡ true) state.taken
 
--- an uncut session leaves out only what its limits exclude
+-- what comes after the first `limit` of a list; 0 is no limit
 abbrev pub past_limit : {X : Type 0} → ℕ → List X → List X
 past_limit limit xs = if limit == 0 then [] else drop limit xs
 
+-- an uncut session leaves out only what its limits exclude
 abbrev pub LeavesOut : Frame → Situation → Visit → Type 0
 LeavesOut frame before visit = visit.effect.ended ≡ true → AllByRecursion (λ (m : Message).
     (is_held frame.account visit.after.maildir m.uid ≡ true) ⊎ (has_id before.taken m.uid ≡ true) ⊎ (is_selected frame.max_size m ≡ false)

@@ -62,7 +62,7 @@ abbrev pub IsMarked : List Message → List Bool → List ℕ → Type 0
 IsMarked drop marks id = (place : ℕ) × (message : Message) × (slice_get marks place ≡ Some true)
     × (slice_get drop place ≡ Some message) × (message.uid ≡ id)
 
--- the link was honest, and these of the messages that were marked were removed after QUIT
+-- the link was honest, and the messages with these ids were marked, and were removed after QUIT
 pub record Served (drop : List Message) (sent got : List ℕ) (vanished : List (List ℕ)) : Type 0 where
   pub marks : List Bool
   pub honest : Honest drop sent got marks

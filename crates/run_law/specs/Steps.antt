@@ -52,7 +52,7 @@ pub record Leaves (before : Account) (effect : Effect) (after : Account) : Type 
   pub begun : effect.begun ≡ []
   pub ended : effect.ended ≡ false
 
--- the listing was joined, and so many of the wanted messages were stored and recorded
+-- the listing was joined, and the first of the wanted messages were stored and recorded
 pub record Stores (settings : Settings) (account : List ℕ) (before : Account) (effect : Effect) (after : Account) : Type 0 where
   -- how many of the wanted messages are held, and how many of these are recorded
   pub stored : ℕ

@@ -219,8 +219,8 @@ pub fn mbox_holds_exactly()
 }
 
 /// With an mboxrd: an account without an open intent that records exactly a prefix of the
-/// selected messages as delivered is kept, whatever its file holds. So is one with an empty
-/// record, and one whose record an earlier version left.
+/// selected messages as delivered is kept, whatever its file holds. An empty record is such a
+/// record, and a record of version 1 has no open intent.
 #[tactic(auto, using(crate::proofs::MboxKept::mbox_starts))]
 pub fn mbox_starts_kept()
     ensures { MboxStartsKept }
