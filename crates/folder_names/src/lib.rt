@@ -30,7 +30,7 @@ pub struct ChangeTime {
 }
 
 impl ChangeTime {
-    /// The time of change that the system tells of a folder.
+    /// The time of change that the system reports for a folder.
     pub fn of(folder: &Metadata) -> ChangeTime {
         ChangeTime {
             seconds: folder.ctime(),
@@ -63,7 +63,7 @@ impl ChangeTime {
     }
 }
 
-/// The names of a folder, and what the system told of the folder just before they were listed.
+/// The names of a folder, and the folder's metadata just before they were listed.
 #[derive(Drop)]
 pub struct FolderNames {
     /// Each name once, in any order.
@@ -72,7 +72,7 @@ pub struct FolderNames {
     pub folder: Metadata,
 }
 
-/// What the system told of a folder, and when, by the clock that never goes back.
+/// A folder's metadata, and when it was read, by the clock that never goes back.
 #[derive(Drop)]
 struct Sighting {
     folder: Metadata,
@@ -80,7 +80,7 @@ struct Sighting {
 }
 
 impl Sighting {
-    /// What the system tells of a folder now.
+    /// A folder's metadata now.
     fn now<R: Files + Clock>(rt: &R, path: &str) -> io::Result<Sighting> {
         let folder = fs::metadata(rt, path)?;
         let at = rt.monotonic()?;
@@ -92,7 +92,7 @@ impl Sighting {
     }
 
     /// How long to wait until each later change gives the folder another time than the one seen: until
-    /// that time is older than a step, or was seen so long ago, whatever the clock of dates says.
+    /// that time is older than a step, or was seen a step ago, whatever the clock of dates says.
     fn wait<R: Clock>(&self, rt: &R) -> io::Result<Duration> {
         // A clock of dates before 1970 is an error: then nothing is known of the age.
         let age = match rt.since_1970() {
@@ -125,15 +125,15 @@ fn pass_through<R: Files + AllocGlobal + Clone + Drop>(
     Ok(names)
 }
 
-/// The names of a folder at one moment between the call and its end: none is left out and none is
-/// told twice, although others make, remove and rename files in it meanwhile. Names that begin with
-/// a full stop and names that aren't UTF-8 are skipped.
+/// The names of a folder at one moment between the call and its end: none is left out and none
+/// occurs twice, although others make, remove and rename files in it meanwhile. Names that begin
+/// with a full stop and names that aren't UTF-8 are skipped.
 ///
 /// The folder is listed only once its time of change is older than the step of the clock that stamps
-/// changes. If the time is another one after the listing, the folder is listed again. So a folder at
+/// changes. If the time is different after the listing, the folder is listed again. So a folder at
 /// rest costs one listing and no wait, and one that was changed just now a sleep of 20 ms at most.
-/// That holds of file systems of this machine; one of the network may stamp by another clock, or tell
-/// an old time.
+/// That holds for local file systems; one of the network may stamp by another clock, or report an
+/// old time.
 ///
 /// The error is TimedOut if the folder found no rest within 2 seconds, else that of the system.
 pub fn list_names<R: Files + Clock + AllocGlobal + Clone + Drop>(

@@ -42,7 +42,7 @@ refused_add old new cur (Some name) n m up (other, e) f h = (
       ∙ ap (λ (g : File). record (maildir_in old cur None (n + 1)) { begun = Some (file g.name (content_made other)) }) (begun_is old cur name n f h),
 )
 
--- the file put under a name that led to none stands behind the others
+-- the file put under a name that led to none comes after the others
 put_behind : (old cur : Directory) (b : Blob) (title name : List ℕ) (n : ℕ) (f : File) → old.made ≡ Some b
     → (maildir_in old cur (Some title) n).begun ≡ Some f → (IsInNew (maildir_in old cur (Some title) n) name → ⊥)
     → maildir_in (put_in old (secured b.content) name) cur None n ≡ with_file (maildir_in old cur (Some title) n) (file name f.content)
@@ -80,7 +80,7 @@ not_settled old d new cur (Some title) name n m fault up (inr (b, made, which)) 
     inr (ap (λ (x : Directory). maildir_in x cur None m) gone ∙ same ∙ ap (λ (k : ℕ). maildir_in (put_in old (secured b.content) name) cur None k) up
     ∙ ap (λ (x : Maildir). counted x) (put_behind old cur b title name n f made h free))
 
--- what `names` answers of a folder, where a Maildir shows the folder's files and whether it is there, and counts refusals
+-- what `names` answers of a folder, if a Maildir shows the folder's files and whether it is there, and counts refusals
 module _ (at : Directory → ℕ → Maildir) (folder : Folder) (there : (d : Directory) (n : ℕ) → is_there (at d n) folder ≡ d.is_there)
     (files : (d : Directory) (n : ℕ) → files_in (at d n) folder ≡ files_at d.entries)
     (flushed : (d : Directory) (n : ℕ) → at (names_flushed d) n ≡ at d n) (more : (d : Directory) (n : ℕ) → at d (n + 1) ≡ counted (at d n)) where

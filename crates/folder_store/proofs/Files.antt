@@ -48,7 +48,7 @@ pub not_ahead : (name first : List ℕ) (names : List (List ℕ)) → (Contains 
 not_ahead name first names free apart zero inside is = true≢false (sym ((bytes_eq-Decides name first).1 (sym is)) ∙ apart)
 not_ahead name first names free apart (suc k) inside is = free (k, omega (arith, inside), is)
 
--- a name that leads to no file stands behind the others
+-- a name that leads to no file is put after the others
 pub placed_new : (name : List ℕ) (b : Blob) (es : List Entry) → find name es ≡ None → placed name b es ≡ es ++ entry name b ∷ []
 placed_new name b [] none = refl
 placed_new name b (e ∷ es) none = elim (cases_Bool (bytes_eq name e.name)) [
@@ -128,7 +128,7 @@ appended_twice b xs ys = by b.content b.flushed b.uncut b.is_doubted
 appended_nothing : (b : Blob) → appended b [] ≡ b
 appended_nothing b = ap (λ (zs : List ℕ). record b { content = zs }) (append-nil b.content)
 
--- a piece was refused, of which the file has a front
+-- a piece was refused, and the file has a front of it
 pub first_refused : (old new : Directory) (name bytes piece more : List ℕ) (fault : StoreFault) → bytes ≡ piece ++ more
     → AppendsPiece {T = Unit {0}} old name piece (Err fault) new → AppendsFlushed {T = Unit {0}} old name bytes (Err fault) new
 first_refused old new name bytes piece more fault parts (inl same) = inl same
@@ -310,7 +310,7 @@ replaces old new name bytes n m (Err e) (inl h) up = inl (state_is old new name 
 replaces old new name bytes n m (Err e) (inr (inl h)) up = inr (state_is old new name n m (n + 1) (Some bytes) up (content_held new name _ _ h))
 replaces old new name bytes n m (Err e) (inr (inr h)) up = inr (state_is old new name n m (n + 1) (Some bytes) up (content_held new name _ _ h))
 
--- what was flushed alone looks as it did
+-- what was only flushed looks as it did
 module _ (old new : Directory) (name : List ℕ) where
   pub flushes_file : (r : Result (Unit {0}) StoreFault) → FlushesFile old name r new → Flushes old name new
   flushes_file (Ok done) (b, at, e) = content_held new name _ _ (holds_changed old new name (flushed b) e) ∙ sym (ap (option_map content_in) at)
@@ -343,7 +343,7 @@ module _ (old mid new : Directory) (name : List ℕ) (n m : ℕ) where
   pub read_refused : mid ≡ old → Flushes mid name new → m ≡ n + 1 → Denies (stored_in old name n) Refused (stored_in new name m)
   read_refused e same up = state_is old new name n m (n + 1) (content_at old name) up (same ∙ ap (λ (d : Directory). content_at d name) e)
 
--- what a call that reads answers where there is nothing, or it was refused
+-- what a call that reads answers if there is no file, or if it was refused
 pub lacks_file : (old new : Directory) (name : List ℕ) (n m : ℕ) (fault : StoreFault) → LacksFile old name fault new
     → m ≡ (if is_refusal fault then n + 1 else n) → Denies (stored_in old name n) fault (stored_in new name m)
 lacks_file old new name n m Missing (none, e) up = (none, state_is old new name n m n (content_at old name) up (ap (λ (d : Directory). content_at d name) e))

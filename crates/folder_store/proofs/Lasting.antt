@@ -146,7 +146,7 @@ now_flushed old new name b c sure e named h =
       flushed = subst (λ (o : Option Blob). IsFlushed o) (sym (h.leads_to ∙ ap (λ (x : Blob). Some x) s)) refl;
     }
 
--- bytes behind a file of which all outlived a loss of power
+-- bytes appended to a file all of which outlives a loss of power
 pub append_lasts : (is_flushed : Bool) (old new : Directory) (name bytes : List ℕ) (r : Result (Unit {0}) StoreFault) → AppendsFlushed old name bytes r new
     → IsKnown is_flushed old name → LastsWhole (content_at old name) (FrontStands old name)
     → OnOk r (IsKnown is_flushed new name × LastsWhole (content_at new name) (FrontStands new name))
@@ -192,7 +192,7 @@ fronts_outlive_power old new name bytes f loses =
     by None h = absurd h
     by (Some left) h = let b = begins left h in (b.0, ap (λ (xs : List ℕ). Some xs) b.1)
 
--- ---- names, and files that stand under them
+-- ---- names, and the files under them
 
 -- nothing more is left in either folder
 pub leaves_keep : (new cur new' cur' : Directory) → LeavesNoMore new new' → LeavesNoMore cur cur'
@@ -229,7 +229,7 @@ tells_leaves old new (Err Refused) (inr e) = flushed_leaves old new e
 tells_leaves old new (Err NotMbox) t = absurd t
 tells_leaves old new (Err NoMemory) t = absurd t
 
--- a file came under a name that was free
+-- a file was put under a name that was free
 but_keeps : (old new cur : Directory) (title bytes : List ℕ) → (Contains (names_of (files_at old.entries)) title → ⊥) → LeavesBut old title bytes new
     → KeepsMail (StaysInEither old cur) (FileStands old) (StaysInEither new cur) (FileStands new)
 but_keeps old new cur title bytes free leaves = (
@@ -258,7 +258,7 @@ puts_keep old new cur title r free puts =
     but_keeps old new cur title (content_made old.made) free
     (put_leaves_but old new title (content_made old.made) r (λ b made. sym (ap content_made made)) puts)
 
--- a refused one, and then the file was given up
+-- the same, refused, and then the file was given up
 pub not_put_keeps : (old mid new cur : Directory) (title : List ℕ) (fault : StoreFault) → (Contains (names_of (files_at old.entries)) title → ⊥)
     → PutsFlushed {T = Unit {0}} old title (Err fault) mid → new ≡ making mid None
     → KeepsMail (StaysInEither old cur) (FileStands old) (StaysInEither new cur) (FileStands new)
@@ -267,7 +267,7 @@ not_put_keeps old mid new cur title fault free puts gone =
     let then = making_keeps mid cur new (None, gone) in
     (λ name s. then.0 name (first.0 name s), λ f s. then.1 f (first.1 f s))
 
--- a call that only reads told of the file, once it was flushed
+-- a call that only reads answered, once the file was flushed
 pub told_again : {T : Type 0} (r : Result T StoreFault) (is_flushed flag : Bool) (old mid new : Directory) (name name' : List ℕ) → is_err r ≡ false
     → mid ≡ old → name' ≡ name → (IsKnown is_flushed mid name → OnOk r (IsOnDisk new name)) → IsKnown is_flushed old name
     → IsKnown flag new name' × LastsWhole (content_at new name') (FrontStands new name')
@@ -275,7 +275,7 @@ told_again r is_flushed flag old mid new name name' well same named on_disk know
     told_lasts flag new name' (subst (λ (n : List ℕ). IsOnDisk new n) (sym named)
     (asked r (IsOnDisk new name) well (on_disk (subst (λ (d : Directory). IsKnown is_flushed d name) (sym same) known))))
 
--- the names told of `new`, and of `cur`, stay
+-- the names returned of `new`, and of `cur`, stay
 pub told_new : {A B : Type 0} (old new cur : Directory) (r : Result (Vec (String A) B) StoreFault) → AnswersNames old r new → ToldStay r (StaysInEither new cur)
 told_new old new cur (Ok names) t = λ name inside. inl (told_stay old new (Ok names) t name inside)
 told_new old new cur (Err fault) t = tt

@@ -94,7 +94,7 @@ pub has_iff : {A : Type 0} (f : A → Blob) (o : Option A) (b : Bool) (name : Li
 has_iff f None b name es e is = (λ t. absurd (both_ways b e t), λ h. absurd (found name es (sym is) h))
 has_iff f (Some x) b name es e is = (λ _. found_name name es (f x) (sym is), λ _. e)
 
--- what `place` did where the name led to a file
+-- what `place` did if the name led to a file
 pub set_seen : (seen files : List Pair) (text name : List ℕ) (i : ℕ) → seen ≡ files → text ≡ name → i < length seen
     → HoldsAt (λ (f : Pair). string_bytes f.0 ≡ text) seen i → ((k : ℕ) (d : Pair) → k < i → string_bytes (get_or seen k d).0 ≡ text → ⊥)
     → (now : Pair) → now ≡ get_or files i now → (dest file : Kept) → dest ≡ file

@@ -98,7 +98,7 @@ all_is b (Err e) h = tt
 abbrev pub Before : Type 0
 Before = String Global × Option Kept
 
--- a change of the name stands at a place
+-- a change of the name is at a place
 pub was_once : (older : List Before) (name : List ℕ) (i : ℕ) → i < length older → HoldsAt (λ (o : Before). string_bytes o.0 ≡ name) older i
     → (d : Before) (left : Option (List ℕ)) → IsLeftOf (option_map blob_of (get_or older i d).1) left → WasOnce (map older_of older) name left
 was_once [] name i inside at d left h = absurd (omega (arith, inside))
@@ -163,7 +163,7 @@ survives_none older (e ∷ es) left name h none = elim (cases_Bool (bytes_eq nam
 secured_of : List ℕ → Blob
 secured_of bytes = secured bytes
 
--- what stands under a name
+-- what is left under a name
 abbrev Stays : List Older → List Entry → List Entry → List ℕ → Type 0
 Stays older es left name =
     (text : Option (List ℕ)) × (find name left ≡ option_map secured_of text) × (IsLeftOf (find name es) text ⊎ WasOnce older name text)
@@ -210,7 +210,7 @@ survives_find older (e ∷ es) left name distinct h = elim (cases_Bool (bytes_eq
     other text apart (inl now) = inl (subst (λ (o : Option Blob). IsLeftOf o text) (sym (find_later name e es apart)) now)
     other text apart (inr was) = inr was
 
--- no name is there that wasn't
+-- the names that are left are distinct
 survives_names : (older : List Older) (es left : List Entry) → Survive older es left → AreDistinct (names_in es) → AreDistinct (names_in left)
 survives_names older [] left is distinct = subst (λ (xs : List Entry). AreDistinct (names_in xs)) (sym is) distinct
 survives_names older (e ∷ es) left (inl (gone, rest)) distinct = survives_names older es left rest (distinct_tail e.name (names_in es) distinct)

@@ -47,7 +47,7 @@ pub left_named : (d : Directory) (name : List ℕ) (left : Option (List ℕ)) �
 left_named d name left named (inl h) = h
 left_named d name left named (inr was) = absurd (subst (λ (older : List Older). WasOnce older name left) named was)
 
--- what is left of a file that names lead to alike
+-- what is left of a file, if names lead to what they led to
 left_held : (old new : Directory) (name : List ℕ) (left : Option (List ℕ)) (b : Blob) → IsOnDisk old name
     → Holds new name (Some b) old.older → MayBe new name left → IsLeftOf (Some b) left
 left_held old new name left b is h may =
@@ -57,7 +57,7 @@ left_held old new name left b is h may =
 was_secured : (old : Directory) (name : List ℕ) (b : Blob) → find name old.entries ≡ Some b → IsOnDisk old name → b ≡ secured b.content
 was_secured old name b at is = subst (λ (o : Option Blob). IsFlushed o) at is.flushed
 
--- nothing changed of the file, so what was on the disk is left
+-- the file didn't change, so what was on the disk is left
 left_kept : (old new : Directory) (name : List ℕ) (left : Option (List ℕ)) → IsOnDisk old name
     → Holds new name (find name old.entries) old.older → MayBe new name left → left ≡ content_at old name
 left_kept old new name left is h may =
@@ -77,7 +77,7 @@ none_behind was bytes = record {
 all_behind : (was bytes : List ℕ) → IsTornBehind was bytes (was ++ bytes)
 all_behind was bytes = record { behind = bytes; parts = refl; most = omega arith; each = λ i from below. inl refl }
 
--- of bytes that weren't flushed some are left
+-- some of the bytes that weren't flushed are left
 some_behind : (was bytes left : List ℕ) → IsTorn (was ++ bytes) was (length was) left → IsTornBehind was bytes left
 some_behind was bytes left t = record {
   behind = t.behind;
@@ -98,11 +98,11 @@ some_behind was bytes left t = record {
     byte i from (inr (inl (in_flushed, e))) = absurd (omega (arith, from, in_flushed))
     byte i from (inr (inr (in_content, zeros))) = inr zeros
 
--- the byte at a place doesn't change by what comes behind
+-- the byte at a place doesn't depend on what comes after
 byte_before : (xs ys zs : List ℕ) (i : ℕ) → i < length xs → slice_index (xs ++ ys) i ≡ slice_index (xs ++ zs) i
 byte_before xs ys zs i below = get_or_append_left xs ys 0 i below ∙ sym (get_or_append_left xs zs 0 i below)
 
--- some of the bytes are some of more of them
+-- what an append of a front of some bytes may leave, an append of all may leave
 behind_more : (was front rest left : List ℕ) → IsTornBehind was front left → IsTornBehind was (front ++ rest) left
 behind_more was front rest left t = record {
   behind = t.behind;
@@ -121,7 +121,7 @@ behind_more was front rest left t = record {
     whole i before =
         sym (get_or_append_left (was ++ front) rest 0 i before) ∙ ap (λ (xs : List ℕ). slice_index xs i) (append_assoc was front rest)
 
--- behind bytes that are there too
+-- the same for an append to a front that is there whole
 behind_earlier : (was first more left : List ℕ) → IsTornBehind (was ++ first) more left → IsTornBehind was (first ++ more) left
 behind_earlier was first more left t = record {
   behind = first ++ t.behind;
@@ -148,7 +148,7 @@ loose_behind was bytes (Some left) (inr (inr t)) = (left, refl, some_behind was 
 tight_behind : (was bytes : List ℕ) (left : Option (List ℕ)) → left ≡ Some (was ++ bytes) → LeavesBehind was bytes left
 tight_behind was bytes left e = (was ++ bytes, e, all_behind was bytes)
 
--- what is left where the last bytes may be flushed
+-- what is left if the last bytes may be flushed
 part_behind : (was front : List ℕ) (b c : Blob) (left : Option (List ℕ)) → b ≡ secured was → MayBeFlushed (appended b front) c
     → IsLeftOf (Some c) left → LeavesBehind was front left
 part_behind was front b c left s (inl e) h =
@@ -318,7 +318,7 @@ replaces_for_good old new name bytes r t = record {
 pub flushed_sure : (b : Blob) → b.is_doubted ≡ false → flushed b ≡ secured b.content
 flushed_sure b sure = rw sure refl
 
--- once the file and then the names are flushed
+-- and its name too, once the file and then the names are flushed
 pub both_on_disk : (old mid new : Directory) (name : List ℕ) (r : Result (Unit {0}) StoreFault) → IsSure (find name old.entries)
     → FlushesFile {T = Unit {0}} old name (Ok tt) mid → FlushesNames mid r new → OnOk r (IsOnDisk new name)
 both_on_disk old mid new name (Ok done) sure (b, at, e) names =
@@ -329,7 +329,7 @@ both_on_disk old mid new name (Ok done) sure (b, at, e) names =
     }
 both_on_disk old mid new name (Err fault) sure flush names = tt
 
--- what is asked of an answer that isn't a refusal
+-- what `OnOk` says of an answer that isn't an error
 pub asked : {T E : Type 0} (r : Result T E) (P : Type 0) → is_err r ≡ false → OnOk r P → P
 asked (Ok done) P well h = h
 asked (Err e) P well h = absurd (true≢false well)
@@ -361,7 +361,7 @@ found name (e ∷ es) none c = elim (cases_Bool (bytes_eq name e.name)) [
   | inr apart ↦ not_ahead name e.name (names_in es) (found name es (sym (find_later name e es apart) ∙ none)) apart c.0 c.1 c.2
 ]
 
--- a file on the disk came under a name
+-- a flushed file was put under a name
 put_leaves : (old : Directory) (bytes title : List ℕ) → LeavesBut old title bytes (put_in old (secured bytes) title)
 put_leaves old bytes title name left (inr (inl (same, was))) =
     inl (inl (subst (λ (n : List ℕ). IsLeftOf (find n old.entries) left) same was))
@@ -379,12 +379,12 @@ put_leaves old bytes title name left (inl now) = by (bytes_eq name title) refl
         )
     by false apart = inl (inl (subst (λ (o : Option Blob). IsLeftOf o left) (find_other name title (secured bytes) old.entries apart) now))
 
--- the names alone came on the disk
+-- only the names were flushed
 names_leave : (old d : Directory) (title bytes : List ℕ) → LeavesBut old title bytes d → LeavesBut old title bytes (names_flushed d)
 names_leave old d title bytes leaves name left (inl now) = leaves name left (inl now)
 names_leave old d title bytes leaves name left (inr was) = absurd was
 
--- the file made has these bytes, and came under a name, which is on the disk or not
+-- the file made has these bytes, and was put under a name, which may be on the disk or not
 loosely_put : (old d : Directory) (b : Blob) (title bytes : List ℕ) → b.content ≡ bytes → d ≡ put_in old (secured b.content) title → LeavesBut old title bytes d
 loosely_put old d b title bytes same e =
     subst (λ (x : Directory). LeavesBut old title bytes x) (sym (e ∙ ap (λ (xs : List ℕ). put_in old (secured xs) title) same)) (put_leaves old bytes title)
@@ -428,7 +428,7 @@ settles_for_good old d title bytes r same t = record {
   outlives = put_stands old d title bytes r same t;
 }
 
--- a refused one, and then the file was given up
+-- a refused `settle`, and then the file was given up
 pub not_settled_for_good : (old d new : Directory) (title bytes : List ℕ) (fault other : StoreFault) → ((b : Blob) → old.made ≡ Some b → b.content ≡ bytes)
     → PutsFlushed {T = Unit {0}} old title (Err fault) d → new ≡ making d None → SettlesForGood {T = Unit {0}} old title bytes (Err other) new
 not_settled_for_good old d new title bytes fault other same t gone = record {
@@ -443,7 +443,7 @@ none_left : (o : Option Blob) → IsLeftOf o None → o ≡ None
 none_left None left = refl
 none_left (Some b) left = absurd left
 
--- the names told stay
+-- the names that are returned stay
 pub told_stay : {A B : Type 0} (old new : Directory) (r : Result (Vec (String A) B) StoreFault) → AnswersNames old r new → TellsWhatStays new r
 told_stay old new (Ok names) (t, e) = λ name c may.
     let now = left_named (names_flushed old) name None refl (subst (λ (x : Directory). MayBe x name None) e may) in
@@ -463,7 +463,7 @@ outlives_power old new name bytes stands loses = stands (content_at new name) (l
 pub names_outlive_power : NamesOutlivePower
 names_outlive_power old new name stays loses none = stays (subst (λ (o : Option (List ℕ)). MayBe old name o) none (loses.each name))
 
--- the folder once everything came on the disk
+-- the folder once everything is on the disk
 secured_entry : Entry → Entry
 secured_entry e = entry e.name (secured e.blob.content)
 

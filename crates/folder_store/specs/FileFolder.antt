@@ -10,7 +10,7 @@ use Rattle.mail_store.specs.declared.file.flat_file.Edges.{Edges}
 use Rattle.mail_store.specs.FlatFile.{edges_of, piece_at}
 
 -- a file: its bytes, those that it had when it was last flushed, how many of these weren't cut off since,
--- and whether a flush of it was refused, after which nothing more of it is known to come on the disk
+-- and whether a flush of it was refused, after which nothing more of it is known to reach the disk
 pub record Blob : Type 0 where
   pub content : List ℕ
   pub flushed : List ℕ
@@ -55,7 +55,7 @@ abbrev pub find : List ℕ → List Entry → Option Blob
 find name [] = None
 find name (e ∷ entries) = if bytes_eq name e.name then Some e.blob else find name entries
 
--- the name leads to this file: in the place of another, else behind all
+-- the name leads to this file: in the place of another, else after all
 abbrev pub placed : List ℕ → Blob → List Entry → List Entry
 placed name blob [] = entry name blob ∷ []
 placed name blob (e ∷ entries) = if bytes_eq name e.name then entry name blob ∷ entries else e ∷ placed name blob entries
@@ -68,7 +68,7 @@ content_at d name = option_map content_in (find name d.entries)
 abbrev pub empty_blob : Blob
 empty_blob = record { content = []; flushed = []; uncut = 0; is_doubted = false }
 
--- bytes behind those of a file
+-- a file with bytes appended
 abbrev pub appended : Blob → List ℕ → Blob
 appended b bytes = record b { content = b.content ++ bytes }
 
@@ -92,7 +92,7 @@ doubted b = record b { is_doubted = true }
 abbrev pub secured : List ℕ → Blob
 secured bytes = record { content = bytes; flushed = bytes; uncut = length bytes; is_doubted = false }
 
--- another file is made, or none
+-- the file made is another, or none
 abbrev pub making : Directory → Option Blob → Directory
 making d m = record d { made = m }
 
@@ -112,7 +112,7 @@ put_in d blob name = record d {
 abbrev pub names_flushed : Directory → Directory
 names_flushed d = record d { older = [] }
 
--- a call changed nothing but the file made
+-- a call changed only the file made
 abbrev pub ChangesMade : Directory → Directory → Type 0
 ChangesMade old new = (m : Option Blob) × (new ≡ making old m)
 
@@ -131,7 +131,7 @@ abbrev pub LooksUp : Directory → List ℕ → Result Bool StoreFault → Direc
 LooksUp old name (Ok found) new = (IsTrue found ↔ Contains (names_in old.entries) name) × (new ≡ old)
 LooksUp old name (Err fault) new = new ≡ old
 
--- `make`: a file without bytes and without a name here; none is made where it can't be
+-- `make`: a file without bytes and without a name here; Missing if none can be made
 abbrev pub Makes : {T : Type 0} → Directory → Result T StoreFault → Directory → Type 0
 Makes old (Ok done) new = (old.can_make ≡ true) × (new ≡ making old (Some empty_blob))
 Makes old (Err Missing) new = (old.can_make ≡ false) × (new ≡ old)
@@ -139,7 +139,7 @@ Makes old (Err Refused) new = ChangesMade old new
 Makes old (Err NotMbox) new = ⊥
 Makes old (Err NoMemory) new = ⊥
 
--- `write`: the bytes stand behind those of the file made
+-- `write`: the bytes are appended to the file made
 abbrev pub Writes : {T : Type 0} → Directory → List ℕ → Result T StoreFault → Directory → Type 0
 Writes old bytes (Ok done) new = (b : Blob) × (old.made ≡ Some b) × (new ≡ making old (Some (appended b bytes)))
 Writes old bytes (Err fault) new = ChangesMade old new
@@ -149,11 +149,11 @@ abbrev pub FlushesMade : {T : Type 0} → Directory → Result T StoreFault → 
 FlushesMade old (Ok done) new = (b : Blob) × (old.made ≡ Some b) × (new ≡ making old (Some (secured b.content)))
 FlushesMade old (Err fault) new = new ≡ making old None
 
--- the file made stands under the name
+-- the file made is put under the name
 abbrev pub PutsIn : Directory → List ℕ → Directory → Type 0
 PutsIn old name new = (b : Blob) × (old.made ≡ Some b) × (new ≡ put_in old b name)
 
--- `put`: it does; a refused call did it, or nothing
+-- `put`: so it is; a refused call did it, or changed only the file made
 abbrev pub Puts : {T : Type 0} → Directory → List ℕ → Result T StoreFault → Directory → Type 0
 Puts old name (Ok done) new = PutsIn old name new
 Puts old name (Err fault) new = ChangesMade old new ⊎ PutsIn old name new
@@ -189,7 +189,7 @@ abbrev pub TellsSize : Directory → List ℕ → Result ℕ StoreFault → Dire
 TellsSize old name (Ok size) new = ((was : List ℕ) × (content_at old name ≡ Some was) × (size ≡ length was)) × (new ≡ old)
 TellsSize old name (Err fault) new = new ≡ old
 
--- `append`: the bytes stand behind those of the file of this name; a refused call put a front of them there
+-- `append`: the bytes are appended to the file of this name; a refused call appended a front of them, or nothing
 abbrev pub AppendsTo : {T : Type 0} → Directory → List ℕ → List ℕ → Result T StoreFault → Directory → Type 0
 AppendsTo old name bytes (Ok done) new =
     (b : Blob) × (find name old.entries ≡ Some b) × (new ≡ changed old name (appended b bytes))
@@ -205,7 +205,7 @@ CutsTo old name len (Err fault) new =
     (new ≡ old) ⊎ ((b : Blob) × (find name old.entries ≡ Some b) × (new ≡ changed old name (cut b len)))
 
 -- `flush`: the bytes of the file of this name are on the disk; after a refused call they may be, or nothing
--- was done, or nothing more of the file is known to come there
+-- was done, or nothing more of the file is known to reach the disk
 abbrev pub FlushesFile : {T : Type 0} → Directory → List ℕ → Result T StoreFault → Directory → Type 0
 FlushesFile old name (Ok done) new = (b : Blob) × (find name old.entries ≡ Some b) × (new ≡ changed old name (flushed b))
 FlushesFile old name (Err fault) new =

@@ -28,11 +28,11 @@ maildir_in new cur begun failures = record {
   failures = failures;
 }
 
--- a Maildir of which nothing is known, where no file is being written and no call was refused
+-- a Maildir of which nothing is known; no file is being written and no call was refused
 abbrev pub unknown_maildir : Maildir
 unknown_maildir = maildir_in unknown_directory unknown_directory None 0
 
--- the names of a folder were told: they are those that it has, and they stay; or a call was refused, and
+-- the names of a folder were returned: they are those that it has, and they stay; or a call was refused, and
 -- the folder looks as it did
 abbrev pub AnswersNames : {A B : Type 0} → Directory → Result (Vec (String A) B) StoreFault → Directory → Type 0
 AnswersNames old (Ok names) new = ListsNames old (Ok names) old × (new ≡ names_flushed old)
@@ -41,7 +41,7 @@ AnswersNames old (Err Refused) new = (new ≡ old) ⊎ (new ≡ names_flushed ol
 AnswersNames old (Err NotMbox) new = ⊥
 AnswersNames old (Err NoMemory) new = ⊥
 
--- the file made was flushed and stands under the name, and its name is on the disk or not
+-- the file made was flushed and put under the name, which may be on the disk or not
 abbrev pub StandsIn : Directory → List ℕ → Directory → Type 0
 StandsIn old name new =
     (b : Blob) × (old.made ≡ Some b)

@@ -9,7 +9,7 @@ use Rattle.folder_store.specs.FileFolder.{content_at, unknown_directory}
 abbrev pub stored_in : Directory → List ℕ → ℕ → Stored
 stored_in d name failures = record { content = content_at d name; failures = failures }
 
--- a file of which nothing is known, where no call was refused
+-- a file of which nothing is known; no call was refused
 abbrev pub unknown_file : Stored
 unknown_file = stored_in unknown_directory [] 0
 
@@ -18,11 +18,11 @@ pub record Holds (d : Directory) (name : List ℕ) (blob : Option Blob) (older :
   pub leads_to : find name d.entries ≡ blob
   pub named : d.older ≡ older
 
--- nothing changed of the file
+-- the file didn't change
 abbrev pub Keeps : Directory → List ℕ → Directory → Type 0
 Keeps old name new = Holds new name (find name old.entries) old.older
 
--- the file that was there became one that stands in this relation to it
+-- the file that was there became one to which it has the relation `R`
 abbrev pub Becomes : (Blob → Blob → Type 0) → Directory → List ℕ → Directory → Type 0
 Becomes R old name new = (b : Blob) × (c : Blob) × (find name old.entries ≡ Some b) × R b c × Holds new name (Some c) old.older
 
@@ -30,21 +30,21 @@ Becomes R old name new = (b : Blob) × (c : Blob) × (find name old.entries ≡ 
 abbrev pub MayBeFlushed : Blob → Blob → Type 0
 MayBeFlushed b c = (c ≡ b) ⊎ ((c ≡ flushed b) ⊎ (c ≡ doubted b))
 
--- these bytes came behind those of the file, and all of it was flushed
+-- these bytes were appended to the file, and all of it was flushed
 abbrev pub IsAppended : List ℕ → Blob → Blob → Type 0
 IsAppended bytes b c = c ≡ flushed (appended b bytes)
 
--- the same of these bytes, if there are any
+-- the same if there are any bytes, else the file is as it was
 abbrev pub IsSoFar : List ℕ → Blob → Blob → Type 0
 IsSoFar bytes b c = ((bytes ≡ []) × (c ≡ b)) ⊎ IsAppended bytes b c
 
--- first some bytes came behind those of the file, and were flushed, and then others that may be
+-- first some bytes were appended to the file and flushed, and then others that may be flushed
 pub record IsPartAppended (first front : List ℕ) (b c : Blob) : Type 0 where
   pub so_far : Blob
   pub is_flushed : IsSoFar first b so_far
   pub is : MayBeFlushed (appended so_far front) c
 
--- bytes were put behind those of a file, and flushed
+-- bytes were appended to a file, and flushed
 abbrev pub AppendsPiece : {T : Type 0} → Directory → List ℕ → List ℕ → Result T StoreFault → Directory → Type 0
 AppendsPiece old name bytes (Ok done) new = Becomes (IsAppended bytes) old name new
 AppendsPiece old name bytes (Err fault) new =

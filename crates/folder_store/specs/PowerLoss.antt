@@ -9,19 +9,19 @@ use Rattle.mail_store.specs.Maildir.{File}
 use Rattle.mail_store.specs.Settling.{page_size}
 use Rattle.folder_store.specs.FileFolder.{Directory, Blob, Older, find, content_at, secured, ChangesMade}
 
--- the byte at a place and all behind it in its page of the file are zeros
+-- the byte at a place and all after it in its page of the file are zeros
 abbrev pub IsZeroFrom : List ℕ → ℕ → Type 0
 IsZeroFrom left i = (j : ℕ) → i ≤ j → j < length left → j / page_size ≡ i / page_size → slice_index left j ≡ 0
 
--- the byte at a place of what is left of a file: the one in memory, the one on the disk, or zero, as are then
--- all behind it in its page
+-- the byte at a place of what is left of a file: the one in memory, the one on the disk, or zero, and then all
+-- after it in its page are zeros too
 abbrev pub IsByteLeft : List ℕ → List ℕ → List ℕ → ℕ → Type 0
 IsByteLeft content flushed left i =
     ((i < length content) × (slice_index left i ≡ slice_index content i))
     ⊎ (((i < length flushed) × (slice_index left i ≡ slice_index flushed i)) ⊎ ((i < length content) × IsZeroFrom left i))
 
--- what is left of a file of which a part came on the disk: the bytes that were flushed and not cut off since, and
--- others behind them. It has at most the bytes that it has in memory, or as many as on the disk.
+-- what is left of a file that reached the disk in part: the bytes that were flushed and not cut off since, and
+-- others after them. It has at most as many bytes as in memory, or exactly as many as on the disk.
 pub record IsTorn (content flushed : List ℕ) (uncut : ℕ) (left : List ℕ) : Type 0 where
   pub behind : List ℕ
   pub kept : left ≡ take uncut content ++ behind
@@ -32,7 +32,7 @@ pub record IsTorn (content flushed : List ℕ) (uncut : ℕ) (left : List ℕ) :
 abbrev pub IsLeft : Blob → List ℕ → Type 0
 IsLeft b left = (left ≡ b.flushed) ⊎ ((left ≡ b.content) ⊎ IsTorn b.content b.flushed b.uncut left)
 
--- the same of a name: the file that it leads to, or none
+-- the same for a name: the file that it leads to, or none
 abbrev pub IsLeftOf : Option Blob → Option (List ℕ) → Type 0
 IsLeftOf (Some b) (Some left) = IsLeft b left
 IsLeftOf (Some b) None = ⊥
@@ -63,8 +63,8 @@ pub record IsOnDisk (d : Directory) (name : List ℕ) : Type 0 where
   pub named : d.older ≡ []
   pub flushed : IsFlushed (find name d.entries)
 
--- the folder after a loss of power: under each name stands what may, each name by itself, all of it is on the
--- disk, and no file is being made
+-- the folder after a loss of power: under each name is something that may be left there, whatever is under the
+-- others, all of it is on the disk, and no file is being made
 pub record Loses (old new : Directory) : Type 0 where
   pub is_there : new.is_there ≡ old.is_there
   pub can_make : new.can_make ≡ old.can_make
@@ -84,12 +84,12 @@ StaysNamed d name = MayBe d name None → ⊥
 abbrev pub DiskStands : Type 0
 DiskStands = (d : Directory) (name : List ℕ) → IsOnDisk d name → Stands d name (content_at d name)
 
--- what stands is there after a loss of power
+-- what `Stands` says is left under a name is there after a loss of power
 abbrev pub OutlivesPower : Type 0
 OutlivesPower =
     (old new : Directory) (name : List ℕ) (bytes : Option (List ℕ)) → Stands old name bytes → Loses old new → content_at new name ≡ bytes
 
--- a name that stays leads to a file after it
+-- a name that stays leads to a file after a loss of power
 abbrev pub NamesOutlivePower : Type 0
 NamesOutlivePower = (old new : Directory) (name : List ℕ) → StaysNamed old name → Loses old new → content_at new name ≡ None → ⊥
 
@@ -97,7 +97,7 @@ NamesOutlivePower = (old new : Directory) (name : List ℕ) → StaysNamed old n
 abbrev pub PowerCanBeLost : Type 0
 PowerCanBeLost = (old : Directory) → (new : Directory) × Loses old new
 
--- no flush of the file of this name was refused, as far as the device saw; and where it knows that the file is
+-- no flush of the file of this name was refused, as far as the device saw; and if it knows that the file is
 -- flushed, the file and the names are on the disk
 pub record IsKnown (is_flushed : Bool) (d : Directory) (name : List ℕ) : Type 0 where
   pub sure : IsSure (find name d.entries)
@@ -107,12 +107,12 @@ pub record IsKnown (is_flushed : Bool) (d : Directory) (name : List ℕ) : Type 
 abbrev pub DiskIsKnown : Type 0
 DiskIsKnown = (is_flushed : Bool) (d : Directory) (name : List ℕ) → IsOnDisk d name → IsKnown is_flushed d name
 
--- `load`, `edges` and `read_at`: what they tell of the file is on the disk
+-- `load`, `edges` and `read_at`: what they return of the file is on the disk
 abbrev pub IsTold : {T : Type 0} → Bool → Directory → List ℕ → Result T StoreFault → Directory → Type 0
 IsTold is_flushed old name r new = OnOk r (IsKnown is_flushed old name → IsOnDisk new name)
 
--- what is left of a file behind whose bytes others were put: the old ones, and of the new ones each as it is, or zero,
--- and then so are all behind it in its page of the file
+-- what is left of a file after an append: the old bytes, and new ones, perhaps not all, each as it is, or zero, and
+-- then all after it in its page of the file are zeros too
 pub record IsTornBehind (was bytes left : List ℕ) : Type 0 where
   pub behind : List ℕ
   pub parts : left ≡ was ++ behind
@@ -134,7 +134,7 @@ pub record CutsForGood {T : Type 0} (old : Directory) (name : List ℕ) (len : �
       → (left ≡ Some was) ⊎ (left ≡ Some (take len was))
   pub outlives : OnOk r (IsOnDisk old name → IsOnDisk new name)
 
--- `replace`: the old file, or none, is left, or the new bytes; after Ok only these, whatever was there before
+-- `replace`: what was there, a file or none, is left, or the new bytes; after Ok only these, whatever was there
 pub record ReplacesForGood {T : Type 0} (old : Directory) (name bytes : List ℕ) (r : Result T StoreFault) (new : Directory) : Type 0 where
   pub leaves : (left : Option (List ℕ)) → IsOnDisk old name → MayBe new name left → (left ≡ content_at old name) ⊎ (left ≡ Some bytes)
   pub outlives : OnOk r (IsOnDisk new name)
@@ -147,12 +147,12 @@ LeavesNoMore old new = (name : List ℕ) (left : Option (List ℕ)) → MayBe ne
 abbrev pub MakingLeaves : Type 0
 MakingLeaves = (old new : Directory) → ChangesMade old new → LeavesNoMore old new
 
--- the same, but that these bytes may stand under this name
+-- the same, except that these bytes may be left under this name
 abbrev pub LeavesBut : Directory → List ℕ → List ℕ → Directory → Type 0
 LeavesBut old title bytes new =
     (name : List ℕ) (left : Option (List ℕ)) → MayBe new name left → MayBe old name left ⊎ ((name ≡ title) × (left ≡ Some bytes))
 
--- `settle`: whatever it answers, all that is new is these bytes, whole, under this name, and after Ok they stand there
+-- `settle`: whatever it answers, all that may be newly left is these bytes, whole, under this name; after Ok they are
 pub record SettlesForGood {T : Type 0} (old : Directory) (name bytes : List ℕ) (r : Result T StoreFault) (new : Directory) : Type 0 where
   pub leaves : LeavesBut old name bytes new
   pub outlives : OnOk r (Stands new name (Some bytes))
@@ -162,7 +162,7 @@ abbrev pub of_folder : {D : Type 0} → D → D → Folder → D
 of_folder new cur New = new
 of_folder new cur Cur = cur
 
--- `names`: each name that is told stays
+-- `names`: each name that it returns stays
 abbrev pub TellsWhatStays : {A B : Type 0} → Directory → Result (Vec (String A) B) StoreFault → Type 0
 TellsWhatStays d (Ok names) = (name : List ℕ) → Contains (map string_bytes names.items) name → StaysNamed d name
 TellsWhatStays d (Err fault) = Unit {0}
@@ -184,7 +184,7 @@ pub record FrontStands (d : Directory) (name bytes : List ℕ) : Type 0 where
   pub named : d.older ≡ []
   pub front : IsFront bytes blob
 
--- a front that stands is there after a loss of power
+-- if `FrontStands` holds, the file begins with these bytes after a loss of power
 abbrev pub FrontsOutlivePower : Type 0
 FrontsOutlivePower = (old new : Directory) (name bytes : List ℕ) → FrontStands old name bytes → Loses old new
     → (rest : List ℕ) × (content_at new name ≡ Some (bytes ++ rest))
@@ -193,6 +193,6 @@ FrontsOutlivePower = (old new : Directory) (name bytes : List ℕ) → FrontStan
 abbrev pub StaysInEither : Directory → Directory → List ℕ → Type 0
 StaysInEither new cur name = StaysNamed new name ⊎ StaysNamed cur name
 
--- a file stands under its name, whole
+-- a loss of power leaves a file under its name, whole
 abbrev pub FileStands : Directory → File → Type 0
 FileStands new f = Stands new f.name (Some f.content)

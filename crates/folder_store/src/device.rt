@@ -16,11 +16,11 @@ pub trait FileFolder {
     // What calls see of the folder, and what is on the disk.
     ghost directory: { Self → Directory };
 
-    // The premise: so far the file system did what this trait says. Where it holds after a call it
-    // held before it.
+    // The premise: so far the file system did what this trait says. If it holds after a call, it
+    // held before.
     ghost sound: { Self → Type 0 };
 
-    /// The names of the files, each once, in any order. Missing where the folder isn't there.
+    /// The names of the files, each once, in any order. Missing if the folder isn't there.
     fn list(&mut self) -> Result<Vec<String>, StoreFault>
         ensures lists { sound self.new → sound self.old
             × ListsNames (directory self.old) result (directory self.new) }
@@ -32,18 +32,18 @@ pub trait FileFolder {
             × LooksUp (directory self.old) name.now result (directory self.new) };
 
     /// Makes a file, which its owner alone can read. The name tells it from others that were made.
-    /// Missing where the place for such files isn't there.
+    /// Missing if the place for such files isn't there.
     fn make(&mut self, name: &str) -> Result<(), StoreFault>
         ensures makes { sound self.new → sound self.old
             × Makes (directory self.old) result (directory self.new) }
         ensures fault { IfErr result IsDeviceFault };
 
-    /// Puts bytes behind those of the file made.
+    /// Appends bytes to the file made.
     fn write(&mut self, bytes: &[u8]) -> Result<(), StoreFault>
         ensures { sound self.new → sound self.old
             × Writes (directory self.old) bytes.now result (directory self.new) };
 
-    /// Flushes the bytes of the file made. Refused, it gives the file up.
+    /// Flushes the bytes of the file made. If refused, gives the file up.
     fn flush_made(&mut self) -> Result<(), StoreFault>
         ensures { sound self.new → sound self.old
             × FlushesMade (directory self.old) result (directory self.new) };
@@ -58,20 +58,21 @@ pub trait FileFolder {
         ensures { sound self.new → sound self.old
             × (directory self.new ≡ making (directory self.old) None) };
 
-    /// The bytes of a file. Missing where there is none.
+    /// The bytes of a file. Missing if there is none.
     fn read(&mut self, name: &str) -> Result<Vec<u8>, StoreFault>
         ensures reads { sound self.new → sound self.old
             × Reads (directory self.old) name.now result (directory self.new) }
         ensures fault { IfErr result IsDeviceFault };
 
-    /// The size of a file and its ends. Missing where there is none.
+    /// The size of a file and its ends. Missing if there is none.
     fn edges(&mut self, name: &str) -> Result<Edges, StoreFault>
         ensures measures { sound self.new → sound self.old
             × MeasuresFile (directory self.old) name.now result (directory self.new) }
         ensures fault { IfErr result IsDeviceFault };
 
-    /// Puts the bytes of a file from `start` on at the front of a buffer, and says how many: as many as
-    /// there are and fit. Missing where there is none, else Refused: the buffer may then hold anything.
+    /// Puts the bytes of a file from `start` on at the front of a buffer, and returns how many: as
+    /// many as there are and fit. Missing if there is no file, else Refused: the buffer may then
+    /// hold anything.
     fn read_at(&mut self, name: &str, start: u64, buf: &mut [u8]) -> Result<usize, StoreFault>
         ensures within { IfOk result (λ count. count ≤ length buf.new) }
         ensures reads { sound self.new → sound self.old
@@ -83,12 +84,12 @@ pub trait FileFolder {
         ensures { sound self.new → sound self.old
             × TellsSize (directory self.old) name.now result (directory self.new) };
 
-    /// Puts bytes behind those of a file.
+    /// Appends bytes to a file.
     fn append(&mut self, name: &str, bytes: &[u8]) -> Result<(), StoreFault>
         ensures { sound self.new → sound self.old
             × AppendsTo (directory self.old) name.now bytes.now result (directory self.new) };
 
-    /// Cuts a file to its first bytes. Refused where it has fewer.
+    /// Cuts a file to its first bytes. May be refused if it has fewer.
     fn cut_to(&mut self, name: &str, len: u64) -> Result<(), StoreFault>
         ensures { sound self.new → sound self.old
             × CutsTo (directory self.old) name.now len result (directory self.new) };

@@ -17,15 +17,16 @@ use std::time::Clock;
 
 /// A file in a folder of a file system.
 ///
-/// Each write is flushed before it is answered. `replace` writes a file of its own, flushes it, gives it
-/// the name and flushes that. Before the first `load`, `edges` or `read_at` tells of the file, it and
-/// its name are flushed, so that no loss of power takes back what an earlier run wrote and this one goes by.
+/// Each write is flushed before the call returns. `replace` writes a new file, flushes it, gives it
+/// the name and flushes that. Before the first `load`, `edges` or `read_at` returns Ok, the file
+/// and its name are flushed, so that no loss of power takes back what an earlier run wrote and this
+/// one relies on.
 #[derive(Drop)]
 pub struct HostFile<'a, F: FileFolder + Drop> {
     folder: F,
     name: &'a str,
     appending: Appending,
-    /// Whether what stands in the file, and its name, were flushed.
+    /// Whether the file's bytes and its name were flushed.
     is_flushed: bool,
     failures: FailureCount,
 }

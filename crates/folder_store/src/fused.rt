@@ -16,8 +16,8 @@ impl<F> FusedFolder<F> {
     ghost use Rattle.std.specs.Prelude.{◌≡◌};
 
     /// Passes `passes` calls that answer a `Result` on to the folder, and refuses every later one.
-    /// Where `takes_effect` is true, the first call that it refuses itself takes effect nevertheless, if
-    /// it is one that changes or flushes what has a name.
+    /// If `takes_effect` is true, the first call that it refuses itself takes effect nevertheless,
+    /// if it is one that changes or flushes what has a name.
     pub fn new(folder: F, passes: u64, takes_effect: bool) -> FusedFolder<F>
         ensures { result.folder ≡ folder }
     {

@@ -46,7 +46,7 @@ pub struct HostFolder<'a, R: Files + Clock + AllocGlobal + Clone + Drop> {
     folder: &'a str,
     /// The folder in which files are made, likewise.
     scratch: &'a str,
-    /// What stands after the name of a file that is made, before the mark.
+    /// What comes after the name of a file that is made, before the mark.
     suffix: &'a str,
     mark: ProcessMark,
     made: Option<Made<R::File>>,
@@ -93,15 +93,15 @@ impl<'a, R: Files + Clock + AllocGlobal + Clone + Drop> HostFolder<'a, R> {
         }
     }
 
-    /// Removes the files whose names begin so that killed runs made and left behind: those that weren't
-    /// changed for 36 hours. What can't be removed stays.
+    /// Removes the files whose names begin with `front` that killed runs left behind: those that
+    /// weren't changed for 36 hours. What can't be removed stays.
     pub fn sweep(&self, front: &str) {
         if let Ok(path) = self.folder_path(self.scratch) {
             let _ = sweep(self.rt, path.as_str(), front);
         }
     }
 
-    /// Where what is told of the folder is kept.
+    /// The allocator of what the folder returns.
     pub fn alloc(&self) -> Global {
         self.rt.alloc()
     }
@@ -133,7 +133,7 @@ impl<'a, R: Files + Clock + AllocGlobal + Clone + Drop> HostFolder<'a, R> {
     }
 
     // The names of the folder's files. A name that begins with a full stop or isn't UTF-8 is skipped,
-    // and so is a folder. The system is asked what each name stands for only where a folder may be
+    // and so is a folder. The system is asked what each name stands for only if a folder may be
     // among them, since that takes longer than all else.
     fn read_names(&self) -> io::Result<Vec<String>> {
         let found = list_names(self.rt, self.folder_path(self.folder)?.as_str())?;
@@ -238,8 +238,8 @@ impl<'a, R: Files + Clock + AllocGlobal + Clone + Drop> HostFolder<'a, R> {
         answer
     }
 
-    // A file that was changed last is flushed by the handle that changed it: the system may tell no
-    // other one of a fault.
+    // The file that was changed last is flushed by the handle that changed it: the system may
+    // report a fault to no other.
     fn sync(&mut self, name: &str) -> io::Result<()> {
         if let Some(changed) = self.changed.take() {
             if changed.name.as_str() == name {
@@ -254,9 +254,9 @@ impl<'a, R: Files + Clock + AllocGlobal + Clone + Drop> HostFolder<'a, R> {
     }
 }
 
-/// Whether a folder may hold others. Each of them links to it by its `..`, beside the folder's name
-/// and its own `.`. File systems that don't count so answer another number than 2, or always 2. The
-/// latter let a folder pass for a file, which does no harm: no folder has the name of an id's file.
+/// Whether a folder may hold others. Each of them links to it by its `..`, besides the folder's
+/// name and its own `.`. File systems that count otherwise never answer 2, or always. With the
+/// latter a folder passes for a file, which does no harm: no folder has the name of an id's file.
 fn may_hold_folders(folder: &Metadata) -> bool {
     folder.nlink() != 2
 }

@@ -9,22 +9,22 @@ pub fn power_can_be_lost()
     ensures { PowerCanBeLost }
 {}
 
-/// Of a name whose file is on the disk, a loss of power leaves what calls see.
+/// A loss of power leaves what calls see under a name whose file is on the disk.
 pub fn disk_stands()
     ensures { DiskStands }
 {}
 
-/// What alone a loss of power may leave under a name is there after one.
+/// If a loss of power may leave only one thing under a name, it is there after one.
 pub fn outlives_power()
     ensures { OutlivesPower }
 {}
 
-/// The bytes that whatever a loss of power leaves of a file begins with are there after one.
+/// If all that a loss of power may leave of a file begins with some bytes, the file does after one.
 pub fn fronts_outlive_power()
     ensures { FrontsOutlivePower }
 {}
 
-/// A name that a loss of power leaves leads to a file after one.
+/// A name that no loss of power takes away leads to a file after one.
 pub fn names_outlive_power()
     ensures { NamesOutlivePower }
 {}

@@ -17,8 +17,8 @@ use std::time::Clock;
 /// A Maildir in the folders `new` and `cur` of a file system; what is made for `new` is in `tmp`.
 ///
 /// A file is flushed before it is put into `new`, and then the names of `new` are flushed, so that a
-/// delivered text outlives a loss of power. The names of a folder are flushed before they are told, so
-/// that no loss of power takes back what was told.
+/// delivered text outlives a loss of power. The names of a folder are flushed before they are
+/// returned, so that no loss of power takes one back.
 #[derive(Drop)]
 pub struct FolderMaildir<F: FileFolder + Drop> {
     alloc: Global,

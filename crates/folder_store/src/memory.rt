@@ -28,8 +28,8 @@ pub enum Left {
     All,
     /// What was flushed last.
     Flushed,
-    /// The first so many octets of what calls see, if all that were flushed and not cut off since are
-    /// among them; else what calls see.
+    /// The first octets of what calls see, as many as this number, if all that were flushed and not
+    /// cut off since are among them; else what calls see.
     Front(usize),
     /// The same, and zeros in the place of the others.
     Zeros(usize),
@@ -38,7 +38,7 @@ pub enum Left {
     Older,
 }
 
-/// A folder in memory. It refuses a call only where memory runs out, or where no file was made.
+/// A folder in memory. It refuses a call only if memory runs out, or if no file was made.
 #[derive(Drop)]
 pub struct MemoryFolder {
     alloc: Global,
@@ -122,7 +122,7 @@ fn place(
     }
 }
 
-/// The place where what a name led to before it was changed last is kept.
+/// The place in `older` of what a name led to before it was changed last, if it was changed.
 fn place_before(older: &[(String, Option<Kept>)], name: &str) -> Option<usize>
     ensures inside { IfSome result (λ i. i < length older.now) }
     ensures named { IfSome result (λ i. HoldsAt (λ o. string_bytes o.0 ≡ name.now) older.now i) }
@@ -154,7 +154,7 @@ fn bytes_left(
     Ok(Some(file.1.left(left)?))
 }
 
-/// Puts what is left of a file behind others, on the disk, if it is still there.
+/// Appends a file with the bytes that are left of it, all on the disk, if it is still there.
 fn keep(
     left: &mut Vec<(String, Kept)>,
     file: &(String, Kept),
@@ -309,9 +309,9 @@ impl MemoryFolder {
         }
     }
 
-    /// Loses the power: of each file is left what its choice says, in the order in which the files
-    /// came, and of those without one what calls see. The file that was made is gone. Refused where
-    /// memory runs out: then nothing is lost.
+    /// Loses the power: what is left of each file is what its choice says, or what calls see if it
+    /// has none. The choices are in the order in which the files came. The file that was made is
+    /// gone. Refused if memory runs out: then nothing is lost.
     pub fn lose_power(&mut self, choices: &[Left]) -> Result<(), StoreFault>
         ensures ok { OnOk result (Loses self.old self.new) }
         ensures err { OnErr result (self.new ≡ self.old) }

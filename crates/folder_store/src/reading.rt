@@ -12,7 +12,7 @@ fn byte_at(bytes: &[u8], place: usize) -> u8
     bytes.get(place).copied().unwrap_or(0)
 }
 
-/// The last two bytes, with zeros in front of them where there are fewer.
+/// The last two bytes, with zeros in front of them if there are fewer.
 fn tail_of(bytes: &[u8]) -> [u8; 2]
     ensures { result ≡ (edges_of bytes.now).tail }
 {
@@ -40,7 +40,7 @@ pub fn edges_of(bytes: &[u8]) -> Edges
     }
 }
 
-/// The bytes from a place on: none where it is at or past the end.
+/// The bytes from a place on: none if it is at or past the end.
 pub fn bytes_from(bytes: &[u8], start: u64) -> &[u8]
     ensures { result.now ≡ drop start bytes.now }
 {
@@ -50,7 +50,7 @@ pub fn bytes_from(bytes: &[u8], start: u64) -> &[u8]
     &bytes[start as usize..]
 }
 
-/// Puts bytes at the front of a buffer, as many as fit, and says how many.
+/// Puts bytes at the front of a buffer, as many as fit, and returns how many.
 pub fn put_in_front(bytes: &[u8], buf: &mut [u8]) -> usize
     ensures within { result ≤ length buf.new }
     ensures count { result ≡ length (take (length buf.new) bytes.now) }

@@ -46,7 +46,7 @@ fn put_flushed<F: FileFolder>(folder: &mut F, name: &str) -> Result<(), StoreFau
     folder.flush_names()
 }
 
-/// The same, where no file has the name.
+/// The same, but refused if a file has the name.
 pub fn put_where_none<F: FileFolder>(folder: &mut F, name: &str) -> Result<(), StoreFault>
     ensures puts { F.sound folder.new → F.sound folder.old
         × PutsFlushed (F.directory folder.old) name.now result (F.directory folder.new) }
@@ -59,7 +59,7 @@ pub fn put_where_none<F: FileFolder>(folder: &mut F, name: &str) -> Result<(), S
     folder.flush_names()
 }
 
-/// Puts bytes behind those of a file, and flushes them.
+/// Appends bytes to a file, and flushes them.
 fn append_flushed<F: FileFolder>(folder: &mut F, name: &str, bytes: &[u8]) -> Result<(), StoreFault>
     ensures { F.sound folder.new → F.sound folder.old
         × AppendsPiece (F.directory folder.old) name.now bytes.now result (F.directory folder.new) }
@@ -68,7 +68,7 @@ fn append_flushed<F: FileFolder>(folder: &mut F, name: &str, bytes: &[u8]) -> Re
     folder.flush(name)
 }
 
-/// The same, at each border of 4,096 octets of the file before more is written.
+/// The same, but flushes at each border of 4,096 octets of the file before it writes more.
 fn append_pages<F: FileFolder>(folder: &mut F, name: &str, bytes: &[u8]) -> Result<(), StoreFault>
     ensures { F.sound folder.new → F.sound folder.old
         × AppendsFlushed (F.directory folder.old) name.now bytes.now result (F.directory folder.new) }
@@ -85,7 +85,7 @@ fn append_pages<F: FileFolder>(folder: &mut F, name: &str, bytes: &[u8]) -> Resu
     Ok(())
 }
 
-/// Puts bytes behind those of a file, and flushes them in one of the two ways.
+/// Appends bytes to a file, and flushes them in one of the two ways.
 pub fn append_in<F: FileFolder>(
     folder: &mut F,
     name: &str,
@@ -120,7 +120,7 @@ fn put_new<F: FileFolder>(folder: &mut F, name: &str, bytes: &[u8]) -> Result<()
     put_flushed(folder, name)
 }
 
-/// The same, and gives the file up where a call was refused.
+/// The same, and gives the file up if a call was refused.
 pub fn replace_flushed<F: FileFolder>(
     folder: &mut F,
     name: &str,

@@ -12,7 +12,7 @@ use std::{fs, io};
 /// behind: 36 hours, as the Maildir format says of `tmp`.
 const LEFT_BEHIND_SECONDS: u64 = 129_600;
 
-/// Makes an empty file where none is. Its owner alone can read and write it (mode 0600).
+/// Makes an empty file; fails if there is one. Its owner alone can read and write it (mode 0600).
 pub fn make_file<R: Files>(rt: &R, path: &str) -> io::Result<R::File> {
     OpenOptions::new()
         .write(true)
@@ -59,8 +59,8 @@ fn is_left_behind(file: &Metadata, now: SystemTime) -> bool {
     }
 }
 
-/// Removes the files of a folder whose names begin so and that were left behind. One that can't be
-/// looked at or removed stays.
+/// Removes the files of a folder whose names begin with `front` and that were left behind. One that
+/// can't be looked at or removed stays.
 pub fn sweep<R: Files + Clock + AllocGlobal + Clone + Drop>(
     rt: &R,
     folder: &str,

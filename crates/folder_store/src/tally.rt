@@ -7,7 +7,7 @@ ghost use Rattle.mail_store.specs.Fault.{IsDeviceFault, is_refusal};
 use mail_store::{StoreFault, refuse};
 use mail_terms::FailureCount;
 
-/// The answer, counted where it is a refusal.
+/// The answer, counted if it is a refusal.
 pub fn tally<T>(failures: &mut FailureCount, answer: Result<T, StoreFault>) -> Result<T, StoreFault>
     requires room { failures.old < greatest_count }
     requires fault { IfErr answer IsDeviceFault }

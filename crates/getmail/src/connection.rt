@@ -16,7 +16,7 @@ const CONNECT_SECONDS: u64 = 60;
 /// lasts for ever.
 const WAIT_SECONDS: u64 = 180;
 
-/// A connection, or one end of it, whose refused calls are told.
+/// A connection, or one end of it, whose refused calls are traced.
 type End<'a> = Traced<&'a TcpStream, Stderr>;
 
 /// The link over a connection.
@@ -32,7 +32,7 @@ fn connect_to(rt: &HostRuntime, address: SocketAddr) -> io::Result<TcpStream> {
     Ok(stream)
 }
 
-/// Tells that an address took no connection, if there is a trace. Without memory it isn't told.
+/// Writes that an address took no connection, if there is a trace. Without memory it is left out.
 fn tell_refused(host: &Host, address: SocketAddr, error: io::Error) {
     if host.err().is_none() {
         return;

@@ -27,7 +27,7 @@ fn draw(rt: &HostRuntime) -> io::Result<(RandomState, ProcessMark)> {
     Ok((hasher, mark))
 }
 
-/// Connects, runs one session or only tells what it would do, and returns the exit status.
+/// Connects, runs one session or only shows what it would do, and returns the exit status.
 fn fetch(host: &Host, setup: Setup) -> u8
     requires { IsValid setup.settings }
     ensures { result ≤ 2 }

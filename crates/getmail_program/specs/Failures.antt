@@ -3,7 +3,7 @@ use Rattle.std.specs.Prelude.{ℕ}
 use Rattle.getmail_program.specs.declared.failure.Failure.{Failure}
 use Rattle.getmail_program.specs.declared.failure.Failure.TheVariants.{CannotConnect}
 
--- 1 where no connection was made, 2 for all that is found before
+-- 1 if no connection was made, 2 for all that is found before
 abbrev pub status_of : Failure → ℕ
 status_of (CannotConnect server port) = 1
 status_of failure = 2

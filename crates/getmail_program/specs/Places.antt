@@ -18,7 +18,7 @@ use Rattle.getmail_program.specs.declared.words.Words.{Words}
 abbrev pub joined : List ℕ → List ℕ → List ℕ
 joined folder file = if ends_with nat_eq folder (codes "/") then folder ++ file else (folder ++ codes "/") ++ file
 
--- the path is no name in the program's folder
+-- the path isn't looked up in the program's folder
 abbrev pub stands_alone : List ℕ → Bool
 stands_alone path = starts_with nat_eq path (codes "/") || starts_with nat_eq path (codes "~/")
 
@@ -36,17 +36,17 @@ abbrev pub kind_in : Dest → Kind
 kind_in (Maildir path) = Files
 kind_in (Mboxrd path) = Entries
 
--- the folder of the rc file and the record, as given, or where none is given
+-- the folder of the rc file and the record: as given, or the default
 abbrev pub folder_given : Option (List ℕ) → List ℕ
 folder_given (Some path) = path
 folder_given None = codes "~/.getmail"
 
--- the rc file's path: a name in the folder, unless it begins with '/' or '~/'; 'getmailrc' where none is given
+-- the rc file's path: a name in the folder, unless it begins with '/' or '~/'; 'getmailrc' if none is given
 abbrev pub rc_path : List ℕ → List ℕ → Option (List ℕ) → List ℕ
 rc_path home folder None = joined folder (codes "getmailrc")
 rc_path home folder (Some path) = if stands_alone path then whole_path home path else joined folder path
 
--- the record stands in the folder, under the account's digits
+-- the record is in the folder, under a name with the account's digits
 abbrev pub record_path : List ℕ → Setup → List ℕ
 record_path folder setup = joined folder (codes "seen-" ++ digits_of setup.settings)
 
@@ -59,7 +59,7 @@ pub record AreAsked (flags : Flags) (settings : Settings) : Type 0 where
   pub agree : is_contradiction flags ≡ false
   pub changed : content_of settings ≡ overridden content flags
 
--- a run's destination is the one of its settings, and its record stands in the folder that the words name
+-- a run's destination is the one of its settings, and its record is in the folder that the words name
 pub record IsPlaced (words : Words) (setup : Setup) : Type 0 where
   pub home : List ℕ
   pub destination_is : string_bytes setup.destination ≡ whole_path home (path_in setup.settings.dest)

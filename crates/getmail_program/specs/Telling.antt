@@ -1,4 +1,4 @@
--- What is told of a session.
+-- What is reported of a session.
 use Rattle.std.specs.Prelude.{◌≡◌, ℕ, Bool, true, false, List, [], ◌++◌, Option, Result, Ok, Err, OnOk, codes}
 use Rattle.std.specs.Io.KnownBytes.{Appends}
 use Rattle.rc_file.specs.declared.settings.Settings.{Settings}
@@ -20,7 +20,7 @@ abbrev pub outcome_line : Outcome → List ℕ
 outcome_line Ended = []
 outcome_line (Cut fault) = fault_line fault
 
--- the exit status: 0 where the session ended and the report was written
+-- the exit status: 0 if the session ended and the report was written
 abbrev pub status_when : Outcome → {E : Type 0} → Result (Unit {0}) E → ℕ
 status_when Ended (Ok done) = 0
 status_when Ended (Err error) = 1
@@ -29,14 +29,14 @@ status_when (Cut fault) written = 1
 abbrev pub status_of : Fetched → ℕ
 status_of fetched = status_when fetched.outcome fetched.report
 
--- the report was written to the one, and the fault's line, if there is one, to the other, and nothing
--- else to either, unless a write was refused
+-- the report was written to `out`, and the fault's line, if there is one, to `err`, and nothing else to
+-- either, unless a write was refused
 pub record Tells (settings : Settings) (report : Report) (fetched : Fetched) (out out' err err' : Option (List ℕ)) : Type 0 where
   pub outcome : fetched.outcome ≡ report.outcome
   pub reported : OnOk fetched.report (Appends out out' (report_text report settings))
   pub faulted : OnOk fetched.fault (Appends err err' (outcome_line report.outcome))
 
--- the same of what a run would do
+-- the same for what a run would do
 pub record TellsAhead (settings : Settings) (preview : Preview) (fetched : Fetched) (out out' err err' : Option (List ℕ)) : Type 0 where
   pub outcome : fetched.outcome ≡ preview.outcome
   pub reported : OnOk fetched.report (Appends out out' (preview_text preview settings))

@@ -48,8 +48,8 @@ type HostMaildir<'a, R> = FolderMaildir<HostFolder<'a, R>>;
 /// The mboxrd file or the record of a run.
 type HostRecord<'a, R> = HostFile<'a, HostFolder<'a, R>>;
 
-/// The store at a destination's path. Of an mboxrd file an entry is flushed once: what a loss of power
-/// left of one is found and cut off by the next run.
+/// The store at a destination's path. An entry of an mboxrd file is flushed once: what a loss of
+/// power left of one is found and cut off by the next run.
 fn store_at<'a, R: Files + Clock + AllocGlobal + Clone + Drop>(
     host: &'a R,
     dest: &Dest,
@@ -86,8 +86,8 @@ fn account_at<'a, R: Files + Clock + AllocGlobal + Clone + Drop, H: BuildHasher>
     Account::new(host.alloc(), settings, store, record, hasher)
 }
 
-/// Closes the account of a run, and removes what killed runs of it left, unless the run only told what
-/// it would do.
+/// Closes the account of a run, and removes what killed runs of it left, unless the run only showed
+/// what it would do.
 fn close<R: Files + Clock + AllocGlobal + Clone + Drop, H: BuildHasher + Drop>(
     account: HostAccount<'_, R, H>,
     pretends: bool,
@@ -102,14 +102,14 @@ fn close<R: Files + Clock + AllocGlobal + Clone + Drop, H: BuildHasher + Drop>(
     record.sweep();
 }
 
-/// When a session is, and whether it only tells what it would do.
+/// When a session is, and whether it only shows what it would do.
 #[derive(Clone, Copy)]
 struct Manner {
     now: u64,
     pretends: bool,
 }
 
-/// Runs one session over a link, or only tells what it would do, and returns the exit status.
+/// Runs one session over a link, or only shows what it would do, and returns the exit status.
 fn hold<D: MaildirDisk, F: FlatFile, H: BuildHasher, W: Wire + Drop, O: Write, E: Write + Drop>(
     alloc: Global,
     account: &mut Account<D, F, H>,
@@ -128,7 +128,7 @@ fn hold<D: MaildirDisk, F: FlatFile, H: BuildHasher, W: Wire + Drop, O: Write, E
     }
 }
 
-/// Runs one session over a link, or only tells what it would do, and returns the exit status. The
+/// Runs one session over a link, or only shows what it would do, and returns the exit status. The
 /// caller has drawn the hasher's keys and the mark of the files. The report goes to `out`; the line of
 /// a fault and the line of progress go to `err`.
 pub fn fetch_over<

@@ -29,11 +29,11 @@ pub struct Setup {
     pub destination: String,
     /// The record's path.
     pub record: String,
-    /// Whether the run only tells what it would do.
+    /// Whether the run only shows what it would do.
     pub pretends: bool,
 }
 
-/// The octets of the rc file; of one that is too long, enough to notice it.
+/// The octets of the rc file; if it is too long, enough of them to notice it.
 fn read_file<R: Files + AllocGlobal>(host: &R, path: &str) -> io::Result<Vec<u8>> {
     let mut bytes = Vec::new(host.alloc());
     fs::open(host, path)?.take(RC_ROOM).read_to_end(&mut bytes)?;

@@ -23,9 +23,9 @@ pub struct Words {
     pub flags: Flags,
     /// Whether standard input is the server.
     pub rehearse: bool,
-    /// Whether it is only told what would be done.
+    /// Whether only to show what would be done.
     pub pretend: bool,
-    /// Whether the conversation and refused calls of the system are told.
+    /// Whether the conversation and refused calls of the system are traced.
     pub trace: bool,
 }
 
@@ -67,7 +67,7 @@ fn with_places<'a>(alloc: Global, command: Command<'a>) -> Result<Command<'a>, A
     )
 }
 
-/// With the flags that say how much is told.
+/// With the flags that say how much is reported.
 fn with_loudness<'a>(alloc: Global, command: Command<'a>) -> Result<Command<'a>, AllocError>
     ensures { IfOk result (λ added. app_of added ≡ with_loudness (app_of command.entry)) }
 {
@@ -138,8 +138,8 @@ pub fn read_words(alloc: Global, words: &[String]) -> Result<Words, Error>
     }
 }
 
-/// Says why there are no words, and returns the exit status: 0 for help that was written, 1 for help
-/// that wasn't, 2 for a mistake or if memory ran out.
+/// Shows why there are no words, and returns the exit status: 0 for help that was written, 1 for
+/// help that wasn't, 2 for a mistake or if memory ran out.
 pub fn explain<R: Print + Eprint + AllocGlobal>(rt: &R, error: &Error) -> u8
     ensures help { kind_of error.now ≡ ErrorKind.DisplayHelp → result ≤ 1 }
     ensures other { kind_of error.now ≢ ErrorKind.DisplayHelp → result ≡ 2 }

@@ -21,7 +21,7 @@ pub rows_are : (app : App) (words : List (List ℕ)) (matches : ArgMatches) → 
 rows_are app words matches same has =
     (has (ap is_simple same ∙ popd_is_simple)).0 ∙ ap (λ (a : App). matches_of a words) same
 
--- a number that was read of its text, or the greatest where there is no text
+-- a number that was read from its text, or the greatest if there is no text
 pub numbers : {E : Type 0} (G : List ℕ → Result ℕ E → Type 0) (text : Option (List ℕ)) (read : Option ℕ) (count : ℕ)
     → ((u : List ℕ) (x : Result ℕ E) → G u x → ParsesUnsigned 32 10 u x)
     → (text ≡ None → read ≡ None) → ((t : List ℕ) → text ≡ Some t → ReadsOne G t read) → count ≡ unwrap_or read 4294967295

@@ -9,7 +9,7 @@ use Rattle.clap.specs.declared.builder.value_parser.ValueParser.TheVariants.{Sig
 use Rattle.command_line.specs.Rules.{is_given, long_flag_rule, long_value_rule, word_rule}
 use Rattle.popd_program.specs.declared.words.Words.{Words}
 
--- the greatest number of 32 bits: so many connections are served if no number is given
+-- the greatest number of 32 bits: how many connections are served if no number is given
 abbrev pub most_connections : ℕ
 most_connections = 4294967295
 
@@ -43,7 +43,7 @@ with_words app =
 abbrev pub popd : App
 popd = with_rule (with_words (with_flags (with_connections (new_app (codes "popd"))))) more_rule
 
--- so many connections: the number after the option, or the greatest if there is none
+-- how many connections: the number after the option, or the greatest if there is none
 abbrev pub Numbers : Option (List ℕ) → ℕ → Type 0
 Numbers None count = count ≡ most_connections
 Numbers (Some text) count = IsNumeral 10 (without_leading_plus text) → digits_value 10 (without_leading_plus text) < 2 ^ 32
@@ -65,7 +65,7 @@ pub record AsksFor (rows : List Row) (words : Words) : Type 0 where
   pub maildir : option_map string_bytes words.maildir ≡ first_of (codes "maildir") rows
   pub more : map string_bytes words.more.items ≡ words_after rows
 
--- there are options alone
+-- there are only options
 abbrev pub is_bare : Words → Bool
 is_bare words =
     not (is_some words.user) && (not (is_some words.passfile) && (not (is_some words.maildir) && (length words.more.items == 0)))

@@ -23,13 +23,13 @@ has_right_count words = if words.rehearse then is_bare words else is_whole words
 abbrev pub serves_streams : Words → Bool
 serves_streams words = words.rehearse || not (is_some words.listen)
 
--- the words name PASSFILE so, and it is wanted
+-- `name` is PASSFILE in the words, and it is needed
 pub record NamesPassfile (words : Words) (name : List ℕ) : Type 0 where
   pub count : has_right_count words ≡ true
   pub wanted : words.rehearse ≡ false
   pub named : option_map string_bytes words.passfile ≡ Some name
 
--- the words name ADDRESS so, and it is listened on
+-- `address` is ADDRESS in the words, and it is to be listened on
 pub record NamesAddress (words : Words) (address : List ℕ) : Type 0 where
   pub count : has_right_count words ≡ true
   pub wanted : words.rehearse ≡ false
@@ -40,5 +40,5 @@ abbrev pub IsCause : Words → Failure → Type 0
 IsCause words WrongCount = has_right_count words ≡ false
 IsCause words (CannotRead name) = NamesPassfile words name.now
 IsCause words (CannotListen address) = NamesAddress words address.now
--- only the link of standard input and output ends the program; memory may be wanting anywhere
+-- only the link of standard input and output ends the program; memory may run out anywhere
 IsCause words (Fault fault) = (has_right_count words ≡ true) × (fault ≢ NoMemory → serves_streams words ≡ true)

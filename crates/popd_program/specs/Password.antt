@@ -4,6 +4,6 @@ use Rattle.std.specs.Io.BufRead.{strip_last}
 use Rattle.std.specs.List.{before_first}
 use Rattle.mail_terms.specs.Text.{is_line_feed}
 
--- what stands before the first LF, or all where there is none, without the CR at its end
+-- the bytes before the first LF, or all if there is none, without the CR at their end
 abbrev pub password_of : List ℕ → List ℕ
 password_of bytes = strip_last 13 (before_first is_line_feed bytes)

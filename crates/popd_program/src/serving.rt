@@ -28,8 +28,8 @@ const PAUSE_SECONDS: u64 = 1;
 /// A link over two streams, which shows what goes through it and which calls are refused.
 type Link<I, O, E> = TracedWire<StreamWire<Traced<I, E>, Traced<O, E>>, E>;
 
-/// A link over two streams, with the trace that the program's runtime has. Refused calls are told under
-/// the names of the streams.
+/// A link over two streams, with the trace that the program's runtime has. The lines of refused
+/// calls have the names of the streams.
 fn link_over<R: AllocGlobal, E: Write + Copy, I: Read, O: Write>(
     host: &Host<R, E>,
     input: (I, &str),

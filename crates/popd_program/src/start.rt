@@ -1,4 +1,4 @@
-//! What the command line asks for is done, from its words to the exit status.
+//! Doing what the command line asks for, from its words to the exit status.
 ghost use Rattle.std.specs.Prelude.{◌≡◌, ◌≢◌, ◌≤◌, ◌⊎◌, true, IfErr, MatchResult};
 ghost use Rattle.clap.specs.Values.{kind_of};
 ghost use Rattle.popd_program.specs.Failures.{IsCause, has_right_count};
@@ -63,8 +63,8 @@ where
     }
 }
 
-/// Says why there are no words, and returns the exit status: 0 for help that was written, 1 for help
-/// that wasn't or if memory ran out, 2 for a mistake.
+/// Shows why there are no words, and returns the exit status: 0 for help that was written, 1 for
+/// help that wasn't or if memory ran out, 2 for a mistake.
 fn explain<R: Print + Eprint>(rt: &R, error: &Error) -> u8
     ensures memory { kind_of error.now ≡ ErrorKind.OutOfMemory → result ≡ 1 }
     ensures help { kind_of error.now ≡ ErrorKind.DisplayHelp → result ≤ 1 }

@@ -13,11 +13,11 @@ use std::time::{Duration, Instant};
 /// How long one read or write may wait for a client that is logged in.
 const IDLE_SECONDS: u64 = 600;
 
-/// How long a client has to log in, all reads and writes together, so that one which sends an octet now
-/// and then keeps the next client out for no longer.
+/// How long a client has to log in, all reads and writes together, so that a client that sends an
+/// octet now and then can't keep the next one out for longer.
 const LOGIN_SECONDS: u64 = 180;
 
-/// How much of the time to log in is left after so long, if any.
+/// How much of the time to log in is left after this much has passed, if any.
 fn left_after(passed: Duration) -> Option<Duration>
     ensures some { IfSome result (λ left. as_nanos left + as_nanos passed ≡ 180 * 1_000_000_000) }
     ensures none { result ≡ None → 180 * 1_000_000_000 ≤ as_nanos passed }

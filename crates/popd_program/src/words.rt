@@ -20,7 +20,7 @@ pub struct Words {
     pub rehearse: bool,
     /// Whether logins and removals are reported.
     pub verbose: bool,
-    /// Whether conversations and refused calls of the system are told.
+    /// Whether conversations and refused calls of the system are traced.
     pub trace: bool,
     /// The name of the user who may log in.
     pub user: Option<String>,

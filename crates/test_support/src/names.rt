@@ -18,7 +18,7 @@ pub fn stem_of(alloc: Global, uid: &[u8]) -> Result<String, Fail> {
     Ok(file_stem(alloc, &fred(), uid)?)
 }
 
-/// The name of the file of an id that has so many bytes.
+/// The name of the file of an id, if the file has `size` bytes.
 pub fn name_of(alloc: Global, uid: &[u8], size: u64) -> Result<String, Fail> {
     if !is_legal_id(uid) {
         return Err(Fail::new("no legal id"));

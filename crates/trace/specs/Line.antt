@@ -14,7 +14,7 @@ IsShowable octets = (list_any (λ octet. octet == 0xC2) octets ≡ false) × IsU
 abbrev pub hex_digit : ℕ → ℕ
 hex_digit digit = if nat_lt digit 10 then 48 + digit else 87 + digit
 
--- printable ASCII but the backslash
+-- printable ASCII except the backslash
 abbrev pub is_plain : ℕ → Bool
 is_plain octet = nat_le 32 octet && (nat_lt octet 127 && not (octet == 92))
 

@@ -30,7 +30,7 @@ impl Body {
         }
     }
 
-    /// One more octet came; says whether the body has ended.
+    /// One more octet came; returns whether the body has ended.
     fn put(&mut self, octet: u8) -> bool {
         let mut text = [0u8; 2];
         let fed = self.reader.feed(&[octet], &mut text);
@@ -42,8 +42,8 @@ impl Body {
     }
 }
 
-/// What was said so far. Commands and answers are told in turns, whenever they come: what is early waits.
-/// A line that can't be written, or for which there is no memory, is left out.
+/// The conversation so far. Commands and answers are written in turns, whenever they come: what is
+/// early waits. A line that can't be written, or for which there is no memory, is left out.
 #[derive(Drop)]
 pub struct Conversation<E> {
     alloc: Global,
@@ -57,7 +57,7 @@ pub struct Conversation<E> {
     body: Option<Body>,
     /// Whether the last command was answered.
     is_answered: bool,
-    /// What came too early to be told.
+    /// What came too early to be written.
     waiting: Vec<u8>,
 }
 

@@ -38,7 +38,7 @@ impl Front {
         }
     }
 
-    /// One more octet came; says whether the line, which CR LF ends, is whole.
+    /// One more octet came; returns whether the line, which CR LF ends, is whole.
     pub fn put(&mut self, octet: u8) -> bool
         ensures whole { result ≡ (self.old.is_after_return && octet == 10) }
         ensures front { self.new ≡ record { octets = take ROOM (self.old.octets ++ octet ∷ []); is_after_return = octet == 13 } }

@@ -10,10 +10,10 @@ use std::random::RandomSource;
 use std::rt::{Clock, Files};
 use std::time::Duration;
 
-/// A runtime that passes each call on. If there is a writer, a line tells each refused call on a file or
-/// a folder: `trace: `, the name of the system's call, the path, and the system's reason. That lstat
-/// finds nothing is no refusal: the programs ask it whether a name is free. A line that can't be written
-/// changes nothing.
+/// A runtime that passes each call on. If there is a writer, it gets a line for each refused call
+/// on a file or a folder: `trace: `, the name of the system's call, the path, and the system's
+/// reason. An lstat that finds nothing isn't a refusal: the programs ask it whether a name is free.
+/// A line that can't be written changes nothing.
 #[derive(Clone, Copy, Drop)]
 pub struct TracedHost<R, E> {
     rt: R,
@@ -44,7 +44,7 @@ impl<R, E: Write + Copy> TracedHost<R, E> {
 }
 
 impl<R: AllocGlobal, E: Write + Copy> TracedHost<R, E> {
-    /// The answer of a call. If it is a refusal, it is told.
+    /// The answer of a call. If it is a refusal, its line is written.
     pub fn told<T>(&self, call: &str, path: &str, answer: io::Result<T>) -> io::Result<T>
         ensures { result ≡ answer }
     {

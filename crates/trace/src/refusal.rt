@@ -7,7 +7,7 @@ use crate::line::write_line;
 use std::alloc::{AllocError, Global};
 use std::io::{self, Write};
 
-/// What is said of a refused call: its name, what it was asked for, and the reason.
+/// The text about a refused call: its name, what it was asked for, and the reason.
 pub fn refusal_text(
     alloc: Global,
     call: &str,

@@ -6,7 +6,7 @@ use std::alloc::Global;
 use std::fs::{Metadata, OpenFile};
 use std::io::{self, Read, Seek, SeekFrom, Write};
 
-/// Where refused calls are told, and the name that they are told under.
+/// Where the lines of refused calls are written, and the name in them.
 #[derive(Drop)]
 struct Note<E> {
     alloc: Global,
@@ -14,8 +14,8 @@ struct Note<E> {
     path: String,
 }
 
-/// An open file, folder or connection that passes each call on. If it is traced, a line tells each
-/// refused one. A line that can't be written changes nothing.
+/// An open file, folder or connection that passes each call on. If it is traced, a line is written
+/// for each refused one. A line that can't be written changes nothing.
 #[derive(Drop)]
 pub struct Traced<F, E> {
     inner: F,
@@ -23,8 +23,8 @@ pub struct Traced<F, E> {
 }
 
 impl<F, E: Write + Copy> Traced<F, E> {
-    /// What is open at this path. Refused calls are told to the writer, if there is one; without memory
-    /// for the path, none is told.
+    /// What is open at this path. The writer, if there is one, gets the lines of refused calls;
+    /// without memory for the path, it gets none.
     pub fn new(alloc: Global, inner: F, path: &str, err: Option<E>) -> Traced<F, E>
         ensures { result.inner ≡ inner }
     {
@@ -38,7 +38,7 @@ impl<F, E: Write + Copy> Traced<F, E> {
         Traced { inner, note }
     }
 
-    // The answer of a call. If it is a refusal, it is told.
+    // The answer of a call. If it is a refusal, its line is written.
     fn told<T>(&self, call: &str, answer: io::Result<T>) -> io::Result<T>
         ensures { result ≡ answer }
     {

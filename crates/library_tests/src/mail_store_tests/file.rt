@@ -12,7 +12,7 @@ pub fn mark_of(rt: &HostRuntime) -> Result<ProcessMark, Fail> {
     Ok(ProcessMark::new(rt.process(), rt)?)
 }
 
-/// A text of so many letters.
+/// A text of `count` times the letter.
 pub fn text_of(alloc: Global, letter: u8, count: usize) -> Result<Vec<u8>, Fail> {
     let mut text = Vec::new(alloc);
     for _ in 0..count {
@@ -64,7 +64,7 @@ fn appends_by_pages(rt: HostRuntime) -> Result<(), Fail> {
     Ok(())
 }
 
-/// The edges of a file of these bytes, cut to so many of them.
+/// The edges of a file of these bytes, cut to `len` of them.
 fn edges_of(rt: &HostRuntime, bytes: &str, len: u64) -> Result<Edges, Fail> {
     let mut file = HostFile::at(rt, "edges", mark_of(rt)?);
     file.replace(bytes.as_bytes())?;
@@ -95,7 +95,8 @@ fn tells_the_edges_of_what_is_left_of_a_file(rt: HostRuntime) -> Result<(), Fail
     Ok(())
 }
 
-/// What a read of four octets from a place of a file of these bytes puts, and how many it says.
+/// How many octets a read of four, from a place of a file of these bytes, returns, and the buffer
+/// then.
 fn piece_of(rt: &HostRuntime, bytes: &str, start: u64) -> Result<(usize, [u8; 4]), Fail> {
     let mut file = HostFile::at(rt, "piece", mark_of(rt)?);
     file.replace(bytes.as_bytes())?;

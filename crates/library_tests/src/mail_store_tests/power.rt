@@ -15,8 +15,8 @@ const WAYS: [Left; 5] = [
     Left::Older,
 ];
 
-/// Delivers a text over folders of which every call after the first few is refused, and loses the
-/// power. Returns whether it was delivered, and what is there under its name.
+/// Delivers a text over folders that refuse every call after the first few, and loses the power.
+/// Returns whether it was delivered, and what is there under its name.
 fn delivered(
     alloc: Global,
     passes: u64,
@@ -53,8 +53,8 @@ fn a_delivery_is_whole_or_not_there(rt: HostRuntime) -> Result<(), Fail> {
     Ok(())
 }
 
-/// Puts a file of `abc` under a name, appends `def`, flushes as it is told, and loses the power.
-/// Returns what is there under the name.
+/// Puts a file of `abc` under a name, appends `def`, flushes what `flushes` says, and loses the
+/// power. Returns what is there under the name.
 fn appended(
     alloc: Global,
     flushes: (bool, bool, bool),

@@ -11,7 +11,7 @@ const ENTRY: &[u8] = b"From MAILER-DAEMON Thu Jan  1 00:00:00 1970\n>From x\n>>F
 
 const LINE: &[u8] = b"From MAILER-DAEMON Thu Jan  1 00:00:00 1970\n";
 
-/// So many octets of the entry, from its first on.
+/// The first `size` octets of the entry.
 fn front_of_entry(size: usize) -> &'static [u8] {
     if size < ENTRY.len() {
         &ENTRY[..size]
@@ -47,7 +47,7 @@ fn cuts_each_front_of_an_entry(rt: HostRuntime) -> Result<(), Fail> {
     Ok(())
 }
 
-/// What settling answers where these bytes follow an entry, and how many octets the file has then.
+/// What settling answers if these bytes follow an entry, and how many octets the file has then.
 fn settled_behind(
     alloc: Global,
     parts: [&[u8]; 2],
@@ -89,8 +89,8 @@ fn touches_no_other_mail(rt: HostRuntime) -> Result<(), Fail> {
     Ok(())
 }
 
-/// What settling answers of an entry of 12,288 octets behind 100 others, once so many of its octets are
-/// zeros.
+/// What settling answers for an entry of 12,288 octets after 100 others, once the octets of the
+/// file from `from` to `to` are zeros.
 fn with_a_hole(
     alloc: Global,
     from: usize,
@@ -129,7 +129,7 @@ fn counts_no_entry_with_a_hole(rt: HostRuntime) -> Result<(), Fail> {
     Ok(())
 }
 
-/// What settling a torn entry answers behind a fuse, and how many octets the file has then.
+/// What settling a torn entry answers with a fuse, and how many octets the file has then.
 fn settled_over(alloc: Global, passes: u64) -> Result<(Result<bool, StoreFault>, usize), Fail> {
     let mut file = MemoryFile::new(alloc);
     file.replace(front_of_entry(35))?;

@@ -8,7 +8,7 @@ use std::process::Abort;
 use std::test::Fail;
 use test_support::put;
 
-/// A maildrop that gives so many parts of texts, and refuses all else but its listing.
+/// A maildrop that gives a number of parts of texts, and refuses all else except its listing.
 #[derive(Drop)]
 struct StoppingDrop {
     maildrop: MemoryDrop,
@@ -60,8 +60,8 @@ impl Maildrop for StoppingDrop {
     }
 }
 
-/// What a server sends in a conversation over a message of 88,015 octets, of which so many parts
-/// are given, and how it ends.
+/// What a server sends in a conversation over a message of 88,015 octets, of which this number of
+/// parts is given, and how it ends.
 fn served(
     rt: &(impl Abort + AllocGlobal),
     command: &str,

@@ -22,7 +22,7 @@ fn rests_and_rows(rt: HostRuntime) {
     assert!(rt; read_uid(b"1 a ") == Ok((1, b"a".as_slice())));
 }
 
-/// Whether the bytes begin with a body of this text that takes so many octets.
+/// Whether the bytes begin with a body of this text that takes this number of octets.
 fn reads(alloc: Global, bytes: &[u8], text: &[u8], used: usize) -> Result<bool, Fail> {
     let Some((read, length)) = unstuff(alloc, bytes)? else {
         return Ok(false);

@@ -21,7 +21,7 @@ fn texts_are_stuffed(rt: HostRuntime) -> Result<(), Fail> {
     Ok(())
 }
 
-/// Whether the body of a line of so many octets is that line with its ends, and is read as the line.
+/// Whether the body of a line of this length is that line with its ends, and is read as the line.
 fn goes_and_comes(alloc: Global, octets: u32) -> Result<bool, Fail> {
     let length = octets as usize;
     let mut line = Vec::new(alloc);

@@ -50,7 +50,7 @@ fn read(alloc: Global, file: &[u8]) -> Result<String, Fail> {
     }
 }
 
-/// Compares what files give that begin with the front and have these ends with the text next to each.
+/// Compares what the file of the front and each end gives with the text next to that end.
 fn reads(rt: &(impl Abort + AllocGlobal), front: &str, rows: &[(&str, &str)]) -> Result<(), Fail> {
     for (end, text) in rows {
         let file = format!(in rt.alloc(); "{front}{end}")?;

@@ -7,7 +7,7 @@ use pop3_wire::{FusedWire, ScriptWire};
 use std::alloc::Global;
 use std::test::Fail;
 
-/// The links of so many sessions over an empty maildrop.
+/// The links of `count` sessions over an empty maildrop.
 fn visits(alloc: Global, count: u32) -> Result<Vec<Visit<FusedWire<ScriptWire>>>, Fail> {
     let empty = ["+OK|+OK|+OK|+OK 0 0|+OK|.|+OK|.|+OK|"];
     let session = visit::Visit::new(alloc, "", 0, &empty)?;

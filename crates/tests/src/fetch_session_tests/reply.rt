@@ -1,4 +1,4 @@
-//! Replies that no session goes on after.
+//! Replies after which no session goes on.
 
 use crate::fetch_session_tests::visit::{LISTED, ONE, Visit, expect};
 use std::alloc::{AllocError, Global};
@@ -118,7 +118,7 @@ fn ends_at_a_reply_that_is_not_understood(rt: HostRuntime) -> Result<(), Fail> {
     Ok(())
 }
 
-/// A line of so many times `x`, with something before and after.
+/// A line of `length` times `x`, with something before and after.
 fn filled(alloc: Global, before: &str, length: usize, behind: &str) -> Result<String, AllocError> {
     let mut text = String::from_str(alloc, before)?;
     for _ in 0..length {

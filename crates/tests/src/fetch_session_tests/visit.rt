@@ -192,7 +192,7 @@ pub fn sent(alloc: Global, wire: FusedWire<ScriptWire>) -> Result<String, AllocE
     }
 }
 
-/// The name of a file of so many bytes: its id if its size follows; else its id, what follows
+/// The name of a file of `size` bytes: its id if its size follows; else its id, what follows
 /// instead, and `?`; or the name of a file that isn't the account's.
 fn shown_name(alloc: Global, name: &str, size: usize) -> Result<String, AllocError> {
     let Some(uid) = uid_of(alloc, &fred(), name)? else {

@@ -27,7 +27,7 @@ const READING_ALL: &str = "read_all = true";
 
 const DELETING: &str = "delete = true";
 
-/// Runs a session in which calls are refused after so many of them, and returns whether it ended.
+/// Runs a session in which calls are refused after `passes` of them, and returns whether it ended.
 fn cut_after(
     rt: &(impl Abort + AllocGlobal),
     refusing: Refusing,
@@ -114,8 +114,8 @@ fn stores_each_message_once_whichever_call_is_refused(rt: HostRuntime) -> Result
     Ok(())
 }
 
-/// Runs a session over these replies without their last octets, of which one more is missing each
-/// time, until none is left, with a whole session after each.
+/// Runs a session over these replies without their last octet, without their last two, and so on
+/// until none is left, with a whole session after each.
 fn cut_at_each_octet(
     rt: &(impl Abort + AllocGlobal),
     options: &str,

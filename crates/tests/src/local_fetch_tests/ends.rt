@@ -24,7 +24,7 @@ pub struct Ends {
     pub maildrop: MemoryDrop,
 }
 
-/// A link to a new server over this maildrop, which passes so many calls.
+/// A link to a new server over this maildrop, which passes `passes` calls.
 pub fn link(
     alloc: Global,
     maildrop: MemoryDrop,

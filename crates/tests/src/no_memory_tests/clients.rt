@@ -12,7 +12,7 @@ fn link(alloc: Global, replies: &[u8]) -> Result<ScriptWire, AllocError> {
     Ok(ScriptWire::new(alloc, Vec::from_slice(alloc, replies)?, 4096))
 }
 
-/// Tells how a turn ended.
+/// Prints how a turn ended.
 fn tell_turn(rt: &HostRuntime, answer: Result<(), Fault>) {
     match answer {
         Ok(()) => tell(rt, "good"),

@@ -16,7 +16,7 @@ fn mark_of(rt: &HostRuntime) -> Result<ProcessMark, Fail> {
     Ok(ProcessMark::new(rt.process(), rt)?)
 }
 
-/// Tells what a file holds.
+/// Prints what a file holds.
 fn tell_file(rt: &HostRuntime, path: &str) {
     match fs::read(rt, path) {
         Ok(bytes) => tell_bytes(rt, &bytes),

@@ -13,7 +13,7 @@ const ROWS: &[u8] = b"getmail-seen 2\na 5 0\nb 6 1\n";
 
 const OPEN: &[u8] = b"getmail-seen 2\na 5 0\nb 6 1\n! a 7 8\n";
 
-/// Tells the rows of a record and its intent.
+/// Prints the rows of a record and its intent.
 fn tell_record(rt: &HostRuntime, record: &Record) {
     tell_answer(rt, record.bytes());
 }
@@ -95,7 +95,7 @@ fn bytes_row(rt: HostRuntime) -> Result<(), Fail> {
     Ok(())
 }
 
-/// Opens an intent; says whether it did.
+/// Opens an intent; returns whether it did.
 fn intend(rt: &HostRuntime, record: &mut Record) -> bool {
     if !record.has_row(b"a") || record.intent().is_some() {
         return true;
@@ -119,7 +119,7 @@ fn intend_row(rt: HostRuntime) -> Result<(), Fail> {
     Ok(())
 }
 
-/// Marks an id; says whether it did.
+/// Marks an id; returns whether it did.
 fn mark(rt: &HostRuntime, record: &mut Record) -> bool {
     if record.intent().is_some() {
         return true;
@@ -143,7 +143,7 @@ fn mark_rows_row(rt: HostRuntime) -> Result<(), Fail> {
     Ok(())
 }
 
-/// Merges three messages, the first and the last of which are held; says whether it did.
+/// Merges three messages, the first and the last of which are held; returns whether it did.
 fn merge(rt: &HostRuntime, record: &mut Record, listing: &Listing) -> bool {
     let held = [true, false, true];
     if record.intent().is_some() || listing.len() != 3 {
@@ -197,7 +197,7 @@ fn merge_rows_row(rt: HostRuntime) -> Result<(), Fail> {
     Ok(())
 }
 
-/// Tells how many messages are fetched.
+/// Prints how many messages are fetched.
 fn tell_steps(rt: &HostRuntime, steps: &[Step]) {
     for step in steps {
         tell(rt, if step.retrieve { "fetch" } else { "pass" });

@@ -39,7 +39,7 @@ fn server(alloc: Global) -> Result<Server<MemoryDrop>, Fail> {
     Ok(Server::new(alloc, maildrop_of(alloc, &messages)?, user, pass))
 }
 
-/// Tells a maildrop's fault.
+/// Prints a maildrop's fault.
 fn tell_drop_fault(rt: &HostRuntime, fault: DropFault) {
     match fault {
         DropFault::NoMemory => tell_no_memory(rt),
@@ -47,7 +47,7 @@ fn tell_drop_fault(rt: &HostRuntime, fault: DropFault) {
     }
 }
 
-/// Tells the ids that `entries` answered.
+/// Prints the ids that `entries` answered.
 fn tell_entries(rt: &HostRuntime, answer: Result<Vec<Entry>, DropFault>) {
     match answer {
         Ok(entries) => {
@@ -59,7 +59,7 @@ fn tell_entries(rt: &HostRuntime, answer: Result<Vec<Entry>, DropFault>) {
     }
 }
 
-/// Tells the text that `text` answered.
+/// Prints the text that `text` answered.
 fn tell_mail(rt: &HostRuntime, answer: Result<Vec<u8>, DropFault>) {
     match answer {
         Ok(text) => tell_bytes(rt, &text),
@@ -67,7 +67,7 @@ fn tell_mail(rt: &HostRuntime, answer: Result<Vec<u8>, DropFault>) {
     }
 }
 
-/// Puts a message into a maildrop; says whether it did.
+/// Puts a message into a maildrop; returns whether it did.
 fn push(rt: &HostRuntime, maildrop: &mut MemoryDrop) -> bool {
     if !is_legal_id(b"a") || maildrop.contains(b"a") {
         return true;
@@ -161,7 +161,7 @@ fn folder_text_row(rt: HostRuntime) -> Result<(), Fail> {
     Ok(fs::remove_dir_all(&rt, "mail")?)
 }
 
-/// Tells a server's fault.
+/// Prints a server's fault.
 fn tell_server_fault(rt: &HostRuntime, fault: ServerFault) {
     match fault {
         ServerFault::NoMemory => tell_no_memory(rt),
@@ -188,7 +188,7 @@ fn greeting_row(rt: HostRuntime) -> Result<(), Fail> {
     Ok(())
 }
 
-/// Asks a server; says whether it answered.
+/// Asks a server; returns whether it answered.
 fn ask(rt: &HostRuntime, server: &mut Server<MemoryDrop>, line: &[u8]) -> bool {
     if !server.is_open() {
         return true;
@@ -273,7 +273,7 @@ fn quit_row(rt: HostRuntime) -> Result<(), Fail> {
     ask_after(&rt, &["USER u", "PASS p", "DELE 1"], "QUIT")
 }
 
-/// Tells how a conversation ended.
+/// Prints how a conversation ended.
 fn tell_served(rt: &HostRuntime, answer: Result<(), ServerFault>) {
     match answer {
         Ok(()) => tell(rt, "served"),

@@ -28,7 +28,7 @@ fn run_one(rt: &HostRuntime, account: &mut Fred, wire: &mut Link) -> Report {
     report
 }
 
-/// Tells how a session ended.
+/// Prints how a session ended.
 fn tell_report(rt: &HostRuntime, report: &Report) {
     match counts(rt.alloc(), report) {
         Ok(told) => tell(rt, told.as_str()),
@@ -36,7 +36,7 @@ fn tell_report(rt: &HostRuntime, report: &Report) {
     }
 }
 
-/// Tells what an account with a Maildir keeps.
+/// Prints what an account with a Maildir keeps.
 fn tell_kept(rt: &HostRuntime, kept: &Kept) {
     match held(rt.alloc(), kept) {
         Ok(told) => tell(rt, told.as_str()),
@@ -44,7 +44,7 @@ fn tell_kept(rt: &HostRuntime, kept: &Kept) {
     }
 }
 
-/// Runs this visit's session, and tells how it ended and what it leaves.
+/// Runs this visit's session, and prints how it ended and what it leaves.
 fn visit_once(rt: &HostRuntime, kept: Kept, visit: &Visit) -> Result<Kept, Fail> {
     let alloc = rt.alloc();
     let mut wire = visit.link(alloc, 4096)?;
@@ -57,7 +57,8 @@ fn visit_once(rt: &HostRuntime, kept: Kept, visit: &Visit) -> Result<Kept, Fail>
     Ok(kept)
 }
 
-/// Runs a whole session over a server with the three messages, and tells how it ended and what it leaves.
+/// Runs a whole session over a server with the three messages, and prints how it ended and what it
+/// leaves.
 fn complete(rt: &HostRuntime, kept: Kept, options: &str) -> Result<(), Fail> {
     let maildrop = maildrop_of(rt.alloc(), &MESSAGES)?;
     let (ends, report) = fetch(rt.alloc(), options, Ends { kept, maildrop })?;
@@ -135,14 +136,14 @@ fn refused_pass_row(rt: HostRuntime) -> Result<(), Fail> {
     visit_twice(&rt, kept, "", &["+OK|+OK|-ERR no|+OK|"])
 }
 
-/// Tells what an account with an mboxrd file keeps.
+/// Prints what an account with an mboxrd file keeps.
 fn tell_files(rt: &HostRuntime, files: &Files) {
     tell_bytes(rt, files.mbox.content().unwrap_or(b"no file".as_slice()));
     tell_bytes(rt, files.record.content().unwrap_or(b"no file".as_slice()));
 }
 
 /// Runs a session to an mboxrd file over these replies, and then a whole one over a server with these
-/// messages. Tells how each ended and what it leaves.
+/// messages. Prints how each ended and what it leaves.
 fn append_twice(
     rt: &HostRuntime,
     files: Files,
@@ -217,7 +218,7 @@ fn mbox_quoting_cut_row(rt: HostRuntime) -> Result<(), Fail> {
     append_twice(&rt, files, &QUOTED_REPLIES, &QUOTED)
 }
 
-/// Tells what a session would do.
+/// Prints what a session would do.
 fn pretend_one(rt: &HostRuntime, account: &mut Fred, wire: &mut Link) {
     begin(rt);
     let preview = pretend(account, wire, 0);
@@ -228,7 +229,7 @@ fn pretend_one(rt: &HostRuntime, account: &mut Fred, wire: &mut Link) {
     }
 }
 
-/// Tells what a session over these replies would do, and what is kept then.
+/// Prints what a session over these replies would do, and what is kept then.
 fn pretend_kept(rt: &HostRuntime, kept: Kept, replies: &[&str]) -> Result<Kept, Fail> {
     let alloc = rt.alloc();
     let visit = Visit::new(alloc, "", 0, replies)?;
@@ -335,8 +336,8 @@ fn fetch_local_row(rt: HostRuntime) -> Result<(), Fail> {
     complete(&rt, kept, "")
 }
 
-/// Runs a whole session to an mboxrd file over a server with these messages, and tells how it ended and
-/// what it leaves.
+/// Runs a whole session to an mboxrd file over a server with these messages, and prints how it
+/// ended and what it leaves.
 fn append_all(rt: &HostRuntime, files: Files, messages: &[(&str, &str)]) -> Result<Files, Fail> {
     let alloc = rt.alloc();
     let maildrop = maildrop_of(alloc, messages)?;

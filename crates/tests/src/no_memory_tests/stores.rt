@@ -8,7 +8,7 @@ use mail_store::{
 use std::test::Fail;
 use test_support::{fred, listing_of, stem_of};
 
-/// Tells a fault.
+/// Prints a fault.
 pub fn tell_store_fault(rt: &HostRuntime, fault: StoreFault) {
     match fault {
         StoreFault::NoMemory => tell_no_memory(rt),
@@ -17,7 +17,7 @@ pub fn tell_store_fault(rt: &HostRuntime, fault: StoreFault) {
     }
 }
 
-/// Tells what a call answered that answers no value.
+/// Prints what a call answered that answers no value.
 pub fn tell_done(rt: &HostRuntime, answer: Result<(), StoreFault>) {
     match answer {
         Ok(()) => tell(rt, "done"),
@@ -25,7 +25,7 @@ pub fn tell_done(rt: &HostRuntime, answer: Result<(), StoreFault>) {
     }
 }
 
-/// Tells the flags that `held` answered.
+/// Prints the flags that `held` answered.
 pub fn tell_flags(rt: &HostRuntime, answer: Result<Vec<bool>, StoreFault>) {
     match answer {
         Ok(flags) => {
@@ -37,7 +37,7 @@ pub fn tell_flags(rt: &HostRuntime, answer: Result<Vec<bool>, StoreFault>) {
     }
 }
 
-/// Tells each file of `new`, and whether one is begun.
+/// Prints each file of `new`, and whether one is begun.
 fn tell_maildir(rt: &HostRuntime, disk: &MemoryMaildir) {
     for (name, content) in disk.files(Folder::New) {
         tell(rt, name.as_str());
@@ -88,7 +88,7 @@ fn held_row(rt: HostRuntime) -> Result<(), Fail> {
     Ok(())
 }
 
-/// Moves the file `one,S=2`; says whether it did.
+/// Moves the file `one,S=2`; returns whether it did.
 fn move_one(rt: &HostRuntime, disk: &mut MemoryMaildir) -> bool {
     begin(rt);
     let answer = disk.move_to_cur("one,S=2", ":2,S");
@@ -112,7 +112,7 @@ fn move_to_cur_row(rt: HostRuntime) -> Result<(), Fail> {
     Ok(())
 }
 
-/// Tells what a file holds.
+/// Prints what a file holds.
 fn tell_file(rt: &HostRuntime, file: &MemoryFile) {
     match file.content() {
         Some(bytes) => tell_bytes(rt, bytes),
@@ -120,7 +120,7 @@ fn tell_file(rt: &HostRuntime, file: &MemoryFile) {
     }
 }
 
-/// Appends a text to an mboxrd file; says whether it did.
+/// Appends a text to an mboxrd file; returns whether it did.
 fn append_one(rt: &HostRuntime, file: &mut MemoryFile) -> bool {
     if !is_whole(b"From x\n") {
         return true;
@@ -143,7 +143,7 @@ fn append_entry_row(rt: HostRuntime) {
     }
 }
 
-/// Replaces a file's content; says whether it did.
+/// Replaces a file's content; returns whether it did.
 fn replace(rt: &HostRuntime, file: &mut MemoryFile) -> bool {
     begin(rt);
     let answer = file.replace(b"abc\n");

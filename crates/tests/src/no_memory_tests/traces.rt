@@ -31,8 +31,8 @@ fn refusal_text_row(rt: HostRuntime) {
     tell_refusal(&rt);
 }
 
-/// Sends a command over a traced link, and tells what the link inside sent. A line of the trace for which
-/// there is no memory is left out.
+/// Sends a command over a traced link, and prints what the link inside sent. A line of the trace
+/// for which there is no memory is left out.
 fn send_traced(rt: &HostRuntime) -> Result<(), Fail> {
     let alloc = rt.alloc();
     let script = ScriptWire::new(alloc, Vec::from_slice(alloc, b"+OK\r\n")?, 4096);

@@ -1,4 +1,4 @@
-//! The lines that the test from outside goes by.
+//! The lines that the test from outside reads.
 
 use crate::fetch_session_tests::visit::shown;
 use std::alloc::AllocError;
@@ -13,7 +13,7 @@ pub fn end(rt: &HostRuntime) {
     let _ = rt.println("answered");
 }
 
-/// Tells what was answered, or what is left.
+/// Prints what was answered, or what is left.
 pub fn tell(rt: &HostRuntime, line: &str) {
     let _ = rt.println(line);
 }
@@ -23,7 +23,7 @@ pub fn tell_no_memory(rt: &HostRuntime) {
     tell(rt, "no memory");
 }
 
-/// Tells bytes in one line, with `|` for CR LF and `/` for LF.
+/// Prints bytes in one line, with `|` for CR LF and `/` for LF.
 pub fn tell_bytes(rt: &HostRuntime, bytes: &[u8]) {
     match shown(rt.alloc(), bytes) {
         Ok(text) => tell(rt, text.as_str()),
@@ -31,7 +31,7 @@ pub fn tell_bytes(rt: &HostRuntime, bytes: &[u8]) {
     }
 }
 
-/// Tells the bytes that a call answered.
+/// Prints the bytes that a call answered.
 pub fn tell_answer(rt: &HostRuntime, answer: Result<Vec<u8>, AllocError>) {
     match answer {
         Ok(bytes) => tell_bytes(rt, &bytes),
@@ -39,7 +39,7 @@ pub fn tell_answer(rt: &HostRuntime, answer: Result<Vec<u8>, AllocError>) {
     }
 }
 
-/// Tells the text that a call answered.
+/// Prints the text that a call answered.
 pub fn tell_text(rt: &HostRuntime, answer: Result<String, AllocError>) {
     match answer {
         Ok(text) => tell_bytes(rt, text.as_bytes()),

@@ -8,7 +8,7 @@ use pop3_wire::{
 use std::alloc::AllocError;
 use std::test::Fail;
 
-/// Tells what a call answered.
+/// Prints what a call answered.
 fn tell_wire(rt: &HostRuntime, answer: Result<Vec<u8>, WireFault>) {
     match answer {
         Ok(bytes) => tell_bytes(rt, &bytes),
@@ -88,7 +88,7 @@ fn append_line(rt: &HostRuntime) {
     tell_put(rt, answer, &body);
 }
 
-/// Tells a body to which something was appended.
+/// Prints a body to which something was appended.
 fn tell_put(rt: &HostRuntime, answer: Result<(), WireFault>, body: &[u8]) {
     match answer {
         Ok(()) => tell_bytes(rt, body),
