@@ -1,8 +1,9 @@
 #!/usr/bin/env python3
-"""Writes dist/getmail-VERSION-linux-ARCH.tar.gz and, where dpkg-deb is installed, dist/getmail_VERSION_ARCH.deb.
+"""Writes dist/getmail-VERSION-linux-ARCH.tar.gz and, if dpkg-deb is installed, dist/getmail_VERSION_ARCH.deb.
 
-Both hold the programs of bin/, which have to be there and need the C library alone. The archive installs itself by its own
-install.sh. The same files give the same octets: the time of each file is that of SOURCE_DATE_EPOCH, or of the last commit.
+Both hold the programs of bin/, which have to be there and need only the C library. The archive installs itself by its
+own install.sh. The same files give the same octets: the time of each file is that of SOURCE_DATE_EPOCH, or of the last
+commit.
 """
 
 import gzip

@@ -1,8 +1,8 @@
 #!/usr/bin/env python3
-"""Looks in a second at what the gate would tell of after many minutes, or not at all.
+"""Finds in a second what the gate would report after many minutes, or not at all.
 
 - Each wrong body, `crates/NAME/must-fail/*.edit`, can be applied: its file is there, and each text that it replaces
-  stands there exactly once, after the pairs before it. Its name is of small letters, digits and hyphens.
+  occurs there exactly once, after the replacements before it. Its name has only small letters, digits and hyphens.
 - No `#[test]` is outside the crates `library_tests` and `tests`: a crate with tests of its own is proved twice.
 """
 

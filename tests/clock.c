@@ -3,7 +3,7 @@
        cc -O1 -shared -fPIC -o clock.so clock.c -ldl
        CLOCK=clock LD_PRELOAD=./clock.so PROGRAM ..
 
-   It is so many seconds after 1970 as the file `clock` says. Other clocks go on as they are. */
+   It is as many seconds after 1970 as the file `clock` says. Other clocks go on as they are. */
 
 #define _GNU_SOURCE
 #include <dlfcn.h>

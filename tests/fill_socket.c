@@ -4,7 +4,7 @@
        FILL_BEFORE=3 LD_PRELOAD=./fill_socket.so PROGRAM ..
 
    Before the third send of the program its socket is filled, up to the last octet that the server's side and its own
-   take. Where the server reads nothing, that send waits as long as the program's bound on it lasts. */
+   take. If the server reads nothing, that send waits as long as the program's bound on it lasts. */
 
 #define _GNU_SOURCE
 #include <dlfcn.h>

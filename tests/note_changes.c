@@ -5,13 +5,13 @@
        CHANGES_NOTE=note CHANGES_KILLED=5 LD_PRELOAD=./note_changes.so PROGRAM ..
 
    Each call that did something adds a row to the file `note`: words and numbers with tabs between, the last of them a
-   count of bytes; then LF, and so many bytes. A file is named by the number of its inode, a folder by its path.
+   count of bytes; then LF, and that many bytes. A file is named by the number of its inode, a folder by its path.
 
        make INODE PATH 0       a file that was not there was made by open
        write INODE PLACE n     n bytes were written from that place on
        length INODE SIZE 0     the file got this length
        flush INODE 0           fsync or fdatasync of a file
-       flush-folder PATH 0     the same of a folder
+       flush-folder PATH 0     the same for a folder
        rename FROM TO 0        link FROM TO 0        unlink PATH 0
        send n                  n bytes were written to a socket or a pipe
 

@@ -8,14 +8,14 @@
    Each call but the first that reads names of a folder answers -1 with EIO if OTHER_BROKEN is the word `listing`.
 
    While names of a folder are read, the file of OTHER_BRIEF is made and removed again, and the folder gets back the times
-   that it had before, but for its time of change, which nobody can put back.
+   that it had before, except its time of change, which nobody can put back.
 
    Before each fsync of the file of OTHER_SHRUNK that is longer than OTHER_LENGTH octets, it is cut to nothing, and the fsync
    answers -1 with EIO.
 
-   Just before the file of OTHER_GONE is opened so that octets can be put behind its own, it is removed.
+   Just before the file of OTHER_GONE is opened to append to it, it is removed.
 
-   Of the calls for octets of random that of the number OTHER_RANDOM, from 1, answers -1 with ENOSYS. */
+   The call for random octets of the number OTHER_RANDOM, counted from 1, answers -1 with ENOSYS. */
 
 #define _GNU_SOURCE
 #include <dirent.h>

@@ -3,7 +3,7 @@
        cc -O1 -shared -fPIC -o refuse_call.so refuse_call.c -ldl
        REFUSED_CALL=read-timeout LD_PRELOAD=./refuse_call.so PROGRAM ..
 
-   The kinds: `read-timeout` and `write-timeout`, a bound on the waits of a socket; `random`, octets of random; `look`, a
+   The kinds: `read-timeout` and `write-timeout`, a bound on the waits of a socket; `random`, random octets; `look`, a
    look at a file of a folder `new`, which fails by a fault of the device. */
 
 #define _GNU_SOURCE

@@ -5,8 +5,8 @@
 
    The steps are open, openat, statx, lseek, read, write, fsync, ftruncate, rename and unlink of a file or a folder below
    that one, and connect, send and recv. Each adds a line to the file `note`: its word and what it is for. The seventh,
-   here, is answered -1 with EIO, and its line begins with `refused`. Its effect is `none`, or `whole`, or `half`, which
-   of a write or a send is the first half of the bytes and of any other step none. With STEP_LATER set all later steps
+   here, is answered -1 with EIO, and its line begins with `refused`. Its effect is `none`, `whole` or `half`: the first
+   half of the bytes for a write or a send, nothing for any other step. With STEP_LATER set all later steps
    are refused too, with no effect. Without STEP_REFUSED none is refused. */
 
 #include "note.h"

@@ -1,4 +1,4 @@
-/* Lets a program go on where it flushes a file to the disk, so that a test of many files takes less time.
+/* Lets a program go on when it flushes a file to the disk, so that a test of many files takes less time.
 
        cc -O1 -shared -fPIC -o skip_flushes.so skip_flushes.c
        LD_PRELOAD=./skip_flushes.so PROGRAM .. */

@@ -1,12 +1,12 @@
 #!/usr/bin/env python3
 """Looks for what the documents name: each file, each command of `make`, each function, definition and word of the code.
 
-What stands in backticks or on a line of code is looked at. A name with a slash or with a file's ending is a file, at the top
-or in any crate; `make WORD` is a target that the Makefile names behind .PHONY; any other name is one that a source, a definition,
-a test or a man page uses. Names in capitals stand for something else (`FILE`), and so do those in OTHERS, which are no names of
-ours.
+What is in backticks or on a line of code is looked at. A name with a slash or with a file's ending is a file, at the
+top or in any crate; `make WORD` is a target that the Makefile names after .PHONY; any other name is one that a source,
+a definition, a test or a man page uses. Names in capitals stand for something else (`FILE`), and those in OTHERS aren't
+names of this repository.
 
-And the man page lists each line that a fault of getmail is told by.
+And the man page lists the line of each fault of getmail.
 """
 
 import re
@@ -20,9 +20,9 @@ DOCUMENTS = ["README.md", "CONTRIBUTING.md", "CHANGELOG.md", "bench/README.md", 
 SOURCES = {".rt", ".antt", ".py", ".c", ".sh", ".1", ".5", ".8", ".sample", ".service", ".timer", ".fish", ".bash"}
 FILE = re.compile(r"[A-Za-z0-9_.~*{},-]*(?:/[A-Za-z0-9_.*{},-]*)+|[A-Za-z0-9_-]+\.(?:rt|antt|py|md|c|sh|txt|edit)")
 NAME = re.compile(r"[A-Za-z_][A-Za-z0-9_]*")
-# Names of other programs and of what users have: nothing here is called so.
+# Names of other programs and of what users have: nothing here has such a name.
 OTHERS = {"stunnel", "socat", "dovecot", "mutt", "fetchmail", "mpop", "Display", "BrokenUIDLPOP3Retriever"}
-# The sources of the lines that faults are told by.
+# The sources of the lines that report faults.
 TELLING = ("crates/getmail_program/src/failure.rt", "crates/fetch_session/src/text.rt", "crates/rc_file/src/text.rt")
 # Folders that a user or a build makes.
 MADE = ("~", "/", "bin/", "out/", "examples/demo/Maildir")
@@ -36,7 +36,7 @@ def tracked_files():
 
 
 def words_of(paths):
-    """Every word that stands in a source, a definition, a test, a man page or the files of the build."""
+    """Every word in a source, a definition, a test, a man page or the files of the build."""
     words = set()
     for path in paths:
         if Path(path).suffix in SOURCES or path in ("Makefile", "crates.txt", "HANDLES", "completions/_getmail", "completions/_popd"):
@@ -56,7 +56,7 @@ def pieces_of(text):
 
 
 def is_there(name, paths):
-    """Whether a file or a folder of this name stands at the top or in some crate; `*` stands for any letters."""
+    """Whether a file or a folder of this name is at the top or in some crate; `*` stands for any letters."""
     if name.startswith(MADE) or re.search("NAME|FOLDER|DIGEST", name):
         return True
     choice = re.sub(r"\\\{([^}]*)\\\}", lambda found: "(" + found[1].replace(",", "|") + ")", re.escape(name.strip("/")))

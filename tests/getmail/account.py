@@ -67,8 +67,8 @@ class Account:
         return f"{self.stem(uid)},S={len(text)}"
 
     def held(self):
-        """The unique-ids of the files in `new` and `cur` with their bytes, as often as they stand there. Bytes under a name
-        with another size are marked, so that they are nobody's message."""
+        """The unique-ids of the files in `new` and `cur` with their bytes, one pair for each file. Bytes under a
+        name with another size are marked, so that they match no message."""
         found = []
         for part in ("new", "cur"):
             for entry in sorted(os.listdir(self.maildir / part)):

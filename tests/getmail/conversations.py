@@ -2,10 +2,10 @@
 
 Every expected line is worked out by hand from the rules of the wire:
 
-- A line ends only at CR LF, and holds at most 2,048 octets with it where a first line or a listing row stands.
+- A line ends only at CR LF; a first line or a listing row has at most 2,048 octets with it.
 - A first line begins with `+OK` or `-ERR`. STAT's rest is `count total`, a row of UIDL `number id`, one of LIST
-  `number size`; the fields stand apart by spaces, and after `total` and `size` anything but a digit may follow.
-- The commands are sent in one order, each once the reply before it was positive and whole. The first fault ends the
+  `number size`; the fields are separated by spaces, and anything but a digit may follow `total` and `size`.
+- The commands are sent in one order, each once the previous reply was positive and complete. The first fault ends the
   conversation: after a refused command QUIT is sent and one reply line read (nothing after a refused QUIT); after
   any other fault nothing is sent.
 """
@@ -25,7 +25,7 @@ BODY_LIMIT = 268_435_456
 
 @dataclass(frozen=True)
 class Conversation:
-    """Standard input, and the standard output and the status that have to come of it."""
+    """Standard input, and the standard output and the status that must result from it."""
 
     name: str
     given: bytes
@@ -34,7 +34,7 @@ class Conversation:
 
 
 def wire(*lines):
-    """The lines as they stand on the wire, each ended by CR LF."""
+    """The lines as they are on the wire, each ended by CR LF."""
     return b"".join(as_bytes(line) + b"\r\n" for line in lines)
 
 
@@ -73,19 +73,19 @@ def up_to(place, instead):
 
 
 def ended(name, given, uid="a1", length=15):
-    """A conversation with one message that comes to its end."""
+    """A complete conversation with one message."""
     return Conversation(name, given, printed(COMMANDS, b"stored " + as_bytes(uid) + f" {length}".encode(), "ended"), 0)
 
 
 def empty(name, given):
-    """A conversation over an empty maildrop that comes to its end."""
+    """A complete conversation over an empty maildrop."""
     return Conversation(name, given, printed([*COMMANDS[:LIST], "QUIT"], "ended"), 0)
 
 
 def cut(name, given, place, fault):
     """A conversation that is cut by `fault` in the reply at `place`, with the tail that the fault asks for.
 
-    Where only QUIT's reply is wanting, the message is stored.
+    If only QUIT's reply is missing, the message is stored.
     """
     tail = ["QUIT"] if fault == REFUSED and place != QUIT else []
     stored = ["stored a1 15"] if place == QUIT else []
@@ -107,7 +107,7 @@ def whole_conversations():
 
 
 def several_conversations():
-    """Conversations with several messages: rows in any order, an id that stands twice, one of them refused."""
+    """Conversations with several messages: rows in any order, an id that occurs twice, one of them refused."""
     commands = [*COMMANDS[:LIST]]
     opening = up_to(STAT, wire("+OK 3 17", "+OK", "3 c", "1 a", "2 b", ".", "+OK", "2 5", "3 7", "1 5", "."))
     texts = [wire("+OK", text, ".") for text in ("one", "two", "three")]
@@ -125,7 +125,7 @@ def several_conversations():
 
 
 def messages():
-    """The body of RETR's reply as it stands on the wire, and the text's length."""
+    """The body of RETR's reply as it is on the wire, and the text's length."""
     return (
         ("no line", b"", 0),
         ("an empty line", b"\r\n", 1),
@@ -155,7 +155,7 @@ def messages():
 
 
 def message_conversations():
-    """Messages whose length tells how their lines were read."""
+    """Messages whose length shows how their lines were read."""
     for name, body, length in messages():
         yield ended(f"message: {name}", replies(RETR=wire("+OK") + body + wire(".")), length=length)
 
@@ -174,7 +174,7 @@ def refused_conversations():
 
 
 def misunderstood_conversations():
-    """Each first line in turn is none."""
+    """Each first line in turn is neither positive nor negative."""
     for place, name in enumerate(PLACES):
         for line in ("", "ok", "+ok", "+Ok hi", "-err no", "-Err", " +OK", "+O", "+ OK", "-ER", "+", "\0+OK",
                      "x" * 2046, "\n+OK", "\r+OK", ".", "..", "1 18"):
@@ -225,7 +225,7 @@ def list_row_conversations():
 
 
 def disagreeing_conversations():
-    """Listings of which each row is understood, and which do not fit STAT's count or one another."""
+    """Listings whose rows are all understood, but which do not fit STAT's count or one another."""
     one = {"UIDL": wire("+OK", "1 a", "."), "LIST": wire("+OK", "1 5", ".")}
     for name, uids, sizes in (
             ("no id", ["."], ["1 5", "."]), ("no size", ["1 a", "."], ["."]), ("neither", ["."], ["."]),
@@ -249,7 +249,7 @@ def disagreeing_conversations():
 
 
 def long_listing_conversations():
-    """Listings about the greatest number of rows: the row past it is a fault of its own, once it is whole."""
+    """Listings around the greatest number of rows: one row more is a fault of its own, once that row is whole."""
     for place, row in ((UIDL, "1 a"), (LIST, "1 5")):
         name = PLACES[place]
         full = wire("+OK") + wire(row) * ROW_LIMIT
@@ -266,7 +266,7 @@ def long_listing_conversations():
 
 
 def padded(line, octets):
-    """The line filled with letters so that it has so many octets with its CR LF."""
+    """The line filled with letters so that it has this many octets, CR LF included."""
     return wire(line + " " + "x" * (octets - len(line) - 3))
 
 

@@ -1,7 +1,7 @@
-"""What `getmail --rehearse` has to write for any standard input, said once more over the whole input.
+"""What `getmail --rehearse` must write for any standard input, computed from the whole input.
 
-The rules are those that `conversations.py` names. Here they are applied to bytes that nobody has looked at, so that a
-random conversation has its exact answer too.
+The rules are those that `conversations.py` names. Here they are applied to any bytes, so that a random conversation has
+its exact answer too.
 """
 
 import re
@@ -31,7 +31,7 @@ class Input:
         self.place = 0
 
     def line(self):
-        """The next line without its end; cut where it is too long or not there."""
+        """The next line without its end; cut if it is too long or not there."""
         end = self.given.find(b"\r\n", self.place, self.place + known.LINE_LIMIT)
         if end < 0:
             whole = len(self.given) - self.place >= known.LINE_LIMIT
@@ -61,7 +61,7 @@ class Input:
     def text(self):
         """The text of a message."""
         last = self.place + known.BODY_LIMIT
-        # A first line stands before the body, so that the CR LF before its mark is there for an empty one too.
+        # A first line comes before the body, so that the CR LF before its mark is there for an empty one too.
         mark = self.given.find(b"\r\n.\r\n", self.place - 2, last)
         if mark < 0:
             raise Cut(known.TEXT_TOO_LONG if len(self.given) >= last else known.ENDED_EARLY)

@@ -27,7 +27,7 @@ class MboxAccount(Account):
         return self.mbox.read_bytes()
 
     def stored(self, texts):
-        """How many of the texts have their entries in the file, in order and from its beginning on, and what follows them.
+        """How many of the texts have their entries in the file, in order from its beginning, and what follows them.
 
         What follows is a front of the next entry, or the file isn't what it should be.
         """

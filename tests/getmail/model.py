@@ -1,4 +1,4 @@
-"""What a whole session of an account does, by the formats alone: what is sent, stored, written down and told.
+"""What a whole session of an account does, by the formats alone: what is sent, stored, recorded and reported.
 
 It knows nothing of how `getmail` is made. `test_sessions.py` compares the two over random accounts.
 """
@@ -26,7 +26,7 @@ class Options:
         return "".join(f"{key} = {str(value).lower()}\n" for key, value in vars(self).items())
 
     def changed(self, flags):
-        """The options after these flags, of which no two are opposite."""
+        """The options after these flags, no two of which are opposite."""
         new = Options(**vars(self))
         if "-a" in flags or "-n" in flags:
             new.read_all = "-a" in flags
@@ -39,7 +39,7 @@ class Options:
 
 @dataclass
 class Told:
-    """What a session sends after its listings, and what is told of it."""
+    """What a session sends after its listings, and what it reports."""
 
     commands: list = field(default_factory=list)
     lines: list = field(default_factory=list)
@@ -48,7 +48,7 @@ class Told:
 
 @dataclass
 class Kept:
-    """What stands between sessions: the texts that are held, and of each id since when it was seen and whether it was
+    """What is kept between sessions: the texts that are held, and for each id when it was first seen and whether it was
     delivered."""
 
     held: dict = field(default_factory=dict)

@@ -1,4 +1,4 @@
-"""What the tests share that run one account against three messages, a session at a time."""
+"""What tests share that run one account against three messages, one session at a time."""
 
 import resource
 import unittest
@@ -30,7 +30,7 @@ class OneAccount(unittest.TestCase):
         if bound is not None:
             resource.setrlimit(resource.RLIMIT_FSIZE, (bound, resource.RLIM_INFINITY))
         try:
-            # Python ignores the signal that tells of the bound, and so does the program, which sees an error.
+            # Python ignores the signal for the bound, and so does the program, which sees an error instead.
             process = self.account.start("-q", *words, restore_signals=False, **changes)
         finally:
             resource.setrlimit(resource.RLIMIT_FSIZE, (resource.RLIM_INFINITY, resource.RLIM_INFINITY))

@@ -2,13 +2,13 @@
 
     python3 tests/getmail/power.py [--program FILE] [--most N] [--jobs N]
 
-A session is watched, the states are built one after the other, and over each of them one more session is run that
-nothing cuts, against the server as it was at that moment. Then each message has to be held once and whole, as a file of
-the Maildir or as an entry of the mboxrd file. By hand all states are run, or up to `most` for each front of the changes;
+A session is watched, the states are built one after the other, and over each of them one more session is run,
+uncut, against the server as it was at that moment. Then each message has to be held once and whole, as a file of the
+Maildir or as an entry of the mboxrd file. By hand all states are run, or up to `most` for each front of the changes;
 the gate runs some of them (test_power.py).
 
-Of a session into an mboxrd file no page is there up to its half if a later one is there: an entry that was written and not
-flushed passes for whole by its length and since none of its pages is all zeros.
+In a session into an mboxrd file no page is there up to its half if a later one is there: an entry that was written and
+not flushed counts as whole if it has the right length and none of its pages is all zeros.
 """
 
 import argparse
@@ -32,7 +32,7 @@ from getmail.shared_server import SharedServer  # noqa: E402
 from harness import power, preload, programs  # noqa: E402
 from harness.mboxrd import entries, entry  # noqa: E402
 
-# Flushes cost nothing where files are in memory.
+# Flushes cost nothing if files are in memory.
 MEMORY = Path("/dev/shm")
 
 WANTED = [(b"one".ljust(70, b"-"), b"one\n"), (b"two".ljust(70, b"-"), b"a line\n" * 700),
@@ -118,7 +118,7 @@ class Findings:
         return f"{self.scene.name}: {self.states} states, {self.bad} bad"
 
     def tell(self, changes, on_server, lost, faults):
-        """Keeps the words on a bad state, with its long names cut short."""
+        """Keeps a description of a bad state, with long names cut short."""
         last = str(changes[-1])[:200] if changes else "nothing"
         words = f"after {last}, {on_server} on the server, lost [{lost}]: {'; '.join(faults)}"
         self.told.append(f"{self.scene.name}, " + re.sub(r"[0-9a-f]{40,}|-{9,}", "..", words))
@@ -157,7 +157,7 @@ class Stage:
             raise AssertionError(f"a session that nothing cuts: {run}")
 
     def tree(self):
-        """What the account has, its settings apart."""
+        """The account's files except the rc file and the note."""
         tree = power.read_tree(self.account.home)
         return {path: content for path, content in tree.items() if path not in ("note", ".getmail/getmailrc")}
 
@@ -165,7 +165,7 @@ class Stage:
         power.build(self.account.home, {**image, ".getmail/getmailrc": self.account.rcfile.read_bytes()})
 
     def watch(self, *words, killed=None):
-        """The rows of a run's changes; with `killed` it is killed after so many."""
+        """The rows of a run's changes; with `killed` it is killed after that many."""
         run = self.run(*words, note=self.note, killed=killed)
         rows = self.note.read_bytes()
         self.note.unlink()
@@ -261,7 +261,7 @@ def play(scene, libraries, most, limit=None, without=None):
 
 
 def leave_out(changes, first, without):
-    """The changes without the flushes that `without` picks by themselves and the command sent before them."""
+    """The changes without the flushes that `without` picks, given each change and the command sent before it."""
     kept, before, command = [], first, b""
     for place, change in enumerate(changes):
         if isinstance(change, power.Sent):
@@ -274,7 +274,7 @@ def leave_out(changes, first, without):
 
 
 def sessions_of(stage, source, limit):
-    """The watched sessions of a scene: one, or one after each kill; with `limit` after so many of the kills."""
+    """The watched sessions of a scene: one, or one after each kill; with `limit` after that many of the kills."""
     if not stage.scene.is_killed:
         yield stage.watched_session()
         return
@@ -283,7 +283,7 @@ def sessions_of(stage, source, limit):
     rows = [words[0] for words, _ in power.rows_of(stage.watch(*stage.scene.words))]
     after = [number for number, word in enumerate(rows, 1) if word not in ("send", "flush", "flush-folder")]
     if limit is not None and limit < len(after):
-        # Each rename is among them: a file in `new` is what the next session goes by.
+        # Each rename is among them, since the next session relies on the files in `new`.
         sure = [number for number in after if rows[number - 1] == "rename"]
         rest = [number for number in after if number not in sure]
         after = sorted(sure + source.sample(rest, max(limit - len(sure), 0)))
@@ -296,7 +296,7 @@ def play_job(job):
 
 
 def play_all(jobs, workers=2):
-    """The findings of each job, which are the words of `play`; two are run at a time."""
+    """The findings of each job, a tuple of arguments for `play`; `workers` of them run at a time."""
     with multiprocessing.get_context("fork").Pool(workers) as pool:
         yield from pool.imap(play_job, jobs)
 

@@ -31,8 +31,8 @@ def size_of(text):
 class Server:
     """The messages, as pairs of a unique-id and a text whose lines end in LF, and one session after the other.
 
-    With `pause` each octet comes alone, so many seconds after the one before. With `deaf_after` it reads so many commands,
-    and nothing more while the connection stands; `deaf` is set once the last of them is answered.
+    With `pause` each octet comes alone, that many seconds after the one before. With `deaf_after` it reads that many
+    commands, and nothing more while the connection is open; `deaf` is set once the last of them is answered.
     """
 
     def __init__(self, messages, refuses=()):
@@ -55,7 +55,7 @@ class Server:
         self.socket.close()
 
     def begin_session(self, octets=None):
-        """Serves one connection in a thread of its own; with `octets` it breaks off after so many octets of replies."""
+        """Serves one connection in a thread of its own; with `octets` it breaks off after as many octets of replies."""
         self.commands = []
         self.room = octets
         self.deaf.clear()

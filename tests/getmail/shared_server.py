@@ -118,7 +118,7 @@ class SharedServer:
 
 
 def in_pieces(pieces, pause):
-    """A `give` that sends so many pieces, with a pause in seconds before each; the sessions' pauses are in turn."""
+    """A `give` that sends at most this many pieces, `pause(session)` seconds before each."""
     def give(session, say, octets):
         step = -(-len(octets) // pieces)
         for place in range(0, len(octets), step):

@@ -1,4 +1,4 @@
-"""Runs of `getmail` on a terminal, and what stands on it then."""
+"""Runs of `getmail` on a terminal, and what it shows then."""
 
 import contextlib
 import os
@@ -13,7 +13,7 @@ TEXT = re.compile(rb"message (\d+) of (\d+), (\d+) octets")
 
 
 def screen_of(octets):
-    """What stands on a terminal's lines after these octets."""
+    """What a terminal's lines show after these octets."""
     lines, column = [b""], 0
     for octet in octets:
         if octet == ord("\r"):
@@ -36,7 +36,7 @@ def run(account, *words, both=False, **changes):
                                    env=programs.environment(HOME=str(account.home), **changes))
         os.close(theirs)
         shown = b""
-        # Once nobody has the other end any more, reading is refused.
+        # Once the other end is closed, reading is refused.
         with contextlib.suppress(OSError):
             while piece := terminal.read(65536):
                 shown += piece

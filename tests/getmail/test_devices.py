@@ -1,4 +1,4 @@
-"""Real folders and files: disks that fill up, folders of many names, and files that others take away or put there.
+"""Real folders and files: disks that fill up, folders of many names, and files that others remove or create.
 
 Each run ends with its line and leaves nothing half done, and the next one, with nothing refused, completes it.
 """
@@ -52,7 +52,7 @@ class Devices(OneAccount):
 
 class FullDisk(Devices):
     def test_a_group_of_the_record_that_is_written_in_part(self):
-        """Nothing is deleted whose row isn't written, and what was written of it is no row."""
+        """No message is deleted whose row isn't written, and the part of it that was written is no row."""
         self.list_only()
         whole = self.account.record.read_bytes()
         for part in (0, 1, 5):
@@ -112,7 +112,7 @@ class OtherHands(Devices):
         self.check_completed()
 
     def test_a_file_that_is_put_there_meanwhile(self):
-        """A file of the message's own name isn't written over."""
+        """A file of the message's own name isn't overwritten."""
         def put(command):
             if command == "RETR 2":
                 (self.account.maildir / "new" / self.account.name(*THREE[1])).write_bytes(b"his\n")
@@ -144,7 +144,7 @@ class OtherHands(Devices):
         self.assertEqual(commands, ["RETR 1", "RETR 3", "QUIT"])
 
     def test_files_of_others(self):
-        """Names of other accounts and other forms, names that aren't text, and hidden files stand beside those of the
+        """Names of other accounts and other forms, names that aren't text, and hidden files are beside those of the
         account."""
         for part in ("new", "cur"):
             for name in (b"1700000000.1_2.host", b".hidden", b"\xff\xfe", b"x" * 64 + b".61", b"a:2,S",
@@ -159,7 +159,7 @@ class OtherHands(Devices):
 
 class ManyNames(Devices):
     def test_a_folder_of_many_names(self):
-        """Each of them is held, wherever in the folder it stands."""
+        """Each of them is held, whatever its place in the folder."""
         count = 30_000
         messages = [(b"%05d" % number, b"") for number in range(count)]
         with Server(messages) as self.server, Account(self.server.port) as self.account:

@@ -1,4 +1,4 @@
-"""Sessions over loopback with a server that breaks off wherever it likes, into a Maildir in a real folder."""
+"""Sessions over loopback with a server that breaks off anywhere, into a Maildir in a real folder."""
 
 import hashlib
 import itertools
@@ -191,15 +191,15 @@ class BrokenOff(Fetching):
 
 
 class Killed(Fetching):
-    """Runs that are killed within their session, behind each reply in turn; the server takes no further command then."""
+    """Runs that are killed within their session, after each reply in turn; the server then takes no further command."""
 
     letters = [(b"%d" % number, b"line %d\n" % number * 2000) for number in range(4)]
-    # A delivery takes some milliseconds, so that the kills fall into it and behind it.
+    # A delivery takes some milliseconds, so that the kills come during it and after it.
     pauses = (0, 0.0005, 0.002, 0.01)
 
     def kill_behind(self, commands, pause, *words):
-        """Kills a run so many seconds after the reply to the last of so many commands, with none after the greeting, and
-        answers its process id."""
+        """Kills a run `pause` seconds after the reply to command number `commands`, or after the greeting if that is 0,
+        and answers its process id."""
         self.server.deaf_after = commands
         thread = self.server.begin_session()
         process = self.account.start(*words)
@@ -217,8 +217,8 @@ class Killed(Fetching):
         return [command for command in self.server.commands if command.startswith("RETR")]
 
     def check_kill(self, commands, pause, *words):
-        """What was delivered before the kill is there whole, and one more run fetches the others alone. What the killed
-        run was writing stays in `tmp`, by a name that no other run takes."""
+        """What was delivered before the kill is there whole, and one more run fetches only the others. What the killed
+        run was writing stays in `tmp`, under a name that no other run takes."""
         self.server.messages = list(self.letters)
         killed = self.kill_behind(commands, pause, *words)
         held = self.account.held()
@@ -254,7 +254,7 @@ class Addresses(Fetching):
     name = "mail.example"
 
     def run_by_name(self, port):
-        """A run whose rc file has the server's name, and its line where it can't connect."""
+        """A run whose rc file has the server's name, and its line if it can't connect."""
         self.account.rcfile.write_text(self.account.rcfile.read_text().replace(LOOPBACK, self.name))
         self.account.digest = hashlib.sha256(f"{self.name}\0{port}\0u".encode()).hexdigest()
         with preload.library("two_addresses") as library:
@@ -273,7 +273,7 @@ class Addresses(Fetching):
 
 
 class Floods(unittest.TestCase):
-    """Servers that mean no good: whatever they send, the program ends, with its line."""
+    """Hostile servers: whatever they send, the program ends, with its line."""
 
     def check_flood(self, replies, line, *words, held=(), missing=()):
         with socket.create_server((LOOPBACK, 0)) as listener:

@@ -28,7 +28,7 @@ class GreatRecords(unittest.TestCase):
         return run, self.server.commands[5:]
 
     def rows(self):
-        """The ids of the record's rows with their states, its header and the lines that begin groups left out."""
+        """The ids of the record's rows with their states, without its header and the lines that begin groups."""
         lines = [line.split(b" ") for line in self.account.record.read_bytes().splitlines()[1:]]
         return [(line[0], line[2]) for line in lines if len(line) == 3]
 

@@ -1,4 +1,4 @@
-"""Want of memory: with each growth refused in turn, the answer is the right one, or that memory was wanting."""
+"""Out of memory: with each growth refused in turn, the answer is the right one, or that memory ran out."""
 
 import collections
 import unittest
@@ -8,7 +8,7 @@ from getmail.account import Account
 from getmail.server import Server
 from harness import growths, programs
 
-# Where the words can't be had, the program has not begun to rehearse.
+# If there is no memory for the command line's words, the program has not begun to rehearse.
 NO_WORDS = programs.Run(2, b"", b"getmail: out of memory\n")
 
 # The faults of a session whose store or record refused a call, since its own growth was refused.
@@ -16,10 +16,10 @@ STORE_REFUSED, RECORD_REFUSED = 11, 12
 
 
 def cut_answers(answer):
-    """The outputs of a conversation that is cut for want of memory: after any number of its commands, QUIT apart.
+    """The outputs of a conversation that is cut because memory ran out: after any number of its commands except QUIT.
 
-    QUIT needs no memory any more, planned or after a refusal. Where the store or the record wanted memory, RSET and QUIT
-    follow. What was stored by then is told.
+    QUIT needs no memory any more, planned or after a refusal. If memory ran out for the store or the record, RSET and
+    QUIT follow. What was stored by then is printed.
     """
     lines = answer.out.splitlines(keepends=True)
     commands = [line for line in lines if line.startswith(b"C: ") and line != b"C: QUIT\n"]
@@ -51,9 +51,9 @@ class RefusedGrowths(unittest.TestCase):
 
     @staticmethod
     def kind_of(run, answer):
-        """How a run ended: with its own answer, cut for want of memory, or given up; None for anything else.
+        """How a run ended: with its own answer, cut because memory ran out, or given up; None for anything else.
 
-        A run that is given up, since memory was wanting outside the conversation, wrote the first lines of what it
+        A run that is given up, since memory ran out outside the conversation, wrote the first lines of what it
         would have written otherwise, each of them whole.
         """
         if run == answer:
@@ -90,7 +90,7 @@ class FetchedTexts(unittest.TestCase):
     """A text goes from the link to its file through arrays of fixed length, so it takes no memory, however long it is."""
 
     def ends(self, text):
-        """How sessions with this one message ended, one for each growth that was refused, as often as each end came."""
+        """How sessions with this one message ended, one for each refused growth, and how often each end came."""
         ends = collections.Counter()
         with Server([(b"a", text)]) as server:
             thread = server.begin_session()

@@ -124,14 +124,14 @@ class Install(Copied):
         self.assertEqual(help_text.stdout, programs.run("getmail", "--help").out)
 
     def test_the_sample_installed_is_an_rc_file(self):
-        """It is understood whole: the run ends where it looks for the server, which it doesn't find here."""
+        """All of it is understood: the run ends when it looks for the server, which it doesn't find here."""
         self.make("install", f"PREFIX={self.place}")
         run = programs.run("getmail", "-r", str(self.place / "share/doc/getmail/getmailrc.sample"), HOME=str(self.place))
         self.assertEqual((run.status, run.err), (1, b"getmail: cannot connect to mail.example.org:110\n"))
 
 
 class EmptyRoot:
-    """A folder in which nothing is but the archive, as its install.sh leaves it, and the C library."""
+    """A folder with only the archive, as its install.sh leaves it, and the C library."""
 
     def __init__(self, folder):
         self.folder = folder
@@ -249,7 +249,7 @@ class Dist(Copied):
 
 
 class Demo(Copied):
-    """`make demo` with the programs there, and `make` where they aren't and proving them takes its time."""
+    """`make demo` with the programs built, and `make` if they aren't and proving them takes a while."""
 
     def path_without_rt(self):
         """A folder with the few programs that the demonstration calls, and no `rt`."""
@@ -313,7 +313,7 @@ class Pages(unittest.TestCase):
 
 
 class Readme(unittest.TestCase):
-    """The lines of the README that set up a real account, but for cron's, with a stand-in for the editor."""
+    """The lines of the README that set up a real account, except cron's, with a stand-in for the editor."""
 
     def test_the_lines_that_set_up_an_account(self):
         section = (programs.ROOT / "README.md").read_text().split("## A real account\n")[1].split("\n## ")[0]

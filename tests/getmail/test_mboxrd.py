@@ -1,4 +1,4 @@
-"""Whole sessions into an mboxrd file: what stands in it and in the record, byte for byte, and each refusal's line."""
+"""Whole sessions into an mboxrd file: what it and the record contain, byte for byte, and each refusal's line."""
 
 import os
 import resource
@@ -27,7 +27,7 @@ NO_MBOX = b"getmail: destination is no mbox\n"
 RECORD_REFUSED = b"getmail: seen file refused\n"
 GOOD = programs.Run(0, b"", b"")
 
-# A user who may write nothing but what is given to him; for the superuser no mode forbids anything.
+# A user who may write only what is given to him; for the superuser no mode forbids anything.
 NOBODY = 65534
 
 
@@ -46,7 +46,7 @@ class Mboxrd(unittest.TestCase):
         return run
 
     def check_session(self, commands, *words, run=GOOD):
-        """A session that says these commands after its login, and ends so."""
+        """A session that sends these commands after its listings, and ends as `run`."""
         self.assertEqual((self.session("-q", *words), self.server.commands), (run, LOGIN + commands))
 
     def check_refused(self, line, commands=(), content=None):
@@ -115,7 +115,7 @@ class Sessions(Mboxrd):
         self.assertEqual(self.account.content(), entries(texts))
 
     def test_all_again(self):
-        """With -a each text is appended again, since nothing tells whose entry is whose."""
+        """With -a each text is appended again, since nothing shows which message an entry is of."""
         self.session("-q")
         self.check_session(RETRS + ["QUIT"], "-a")
         self.assertEqual(self.account.content(), entries(TEXTS) * 2)
@@ -149,7 +149,7 @@ class Sessions(Mboxrd):
 
 
 class Records(Mboxrd):
-    """Records that stand there before the first session with an mboxrd file."""
+    """Records that are there before the first session with an mboxrd file."""
 
     def test_an_old_record(self):
         self.server.messages = THREE[:1]
@@ -215,7 +215,7 @@ class Files(Mboxrd):
         self.assertIn(b"\n! c %d 51\n" % (size + 98), self.account.record.read_bytes())
 
     def test_files_up_to_a_size(self):
-        """What a full disk does: a write is refused in the midst of an entry, and what came of it is cut off again."""
+        """As on a full disk: a write is refused in the middle of an entry, and what was written is cut off again."""
         self.server.messages[1] = (b"b", b"a longer text\n" * 1000)
         texts = [text for _, text in self.server.messages]
 
@@ -223,7 +223,7 @@ class Files(Mboxrd):
             resource.setrlimit(resource.RLIMIT_FSIZE, (10_000, 10_000))
 
         thread = self.server.begin_session()
-        # Python ignores the signal that stands for the refusal, and so does the program then, which sees an error.
+        # Python ignores the signal for the bound, and so does the program, which sees an error instead.
         done = subprocess.run([programs.path_of("getmail"), "-q"], capture_output=True, restore_signals=False, preexec_fn=bound,
                               env=programs.environment(HOME=str(self.account.home)), timeout=programs.SECONDS)
         thread.join(programs.SECONDS)

@@ -1,4 +1,4 @@
-"""Sessions into an mboxrd file that are cut anywhere: after one more session each text stands there once.
+"""Sessions into an mboxrd file that are cut anywhere: after one more session each text is there once.
 
 They are cut after each octet of the server's replies, at each call of the link, of the mboxrd file and of the record,
 with its effect, half of it or none, at each growth of memory, and by a kill after each change. TESTS_KILLS is the number of
@@ -19,7 +19,7 @@ from harness import growths, preload, programs
 from harness.mboxrd import entries
 
 THREE = [(b"a", b"one\n"), (b"b", b"two\nFrom x\n"), (b"c", b"three\n")]
-# The second entry goes over borders of the file's pages, so that it is looked at and flushed in parts.
+# The second entry crosses borders of the file's pages, so that it is looked at and flushed in parts.
 LONG = [(b"a", b"one\n"), (b"b", b"From me\n" + b"a line of the text\n" * 600), (b"c", b"three\n")]
 LOGIN = ["USER u", "PASS p", "STAT", "UIDL", "LIST"]
 GOOD = programs.Run(0, b"", b"")
@@ -135,7 +135,7 @@ class RefusedSteps(Shared):
         return run, lines
 
     def steps(self, *words):
-        """The steps of a session that isn't refused any."""
+        """The steps of a session in which none is refused."""
         with MboxAccount(self.server.port) as account:
             run, lines = self.refused_session(account, None, words=words)
             self.assertEqual(run, GOOD)
@@ -187,7 +187,7 @@ class RefusedSteps(Shared):
         self.check_each_step("whole", True, "-d", messages=LONG)
 
     def test_each_step_of_a_session_that_settles(self):
-        """A rest of the second entry is in the file; the session that settles it is refused a step, then one is not."""
+        """Part of the second entry is in the file; the session that settles it is refused a step, the next isn't."""
         rest = 70
         for effect in ("none", "half", "whole"):
             for number in range(1, MOST_STEPS):
@@ -206,7 +206,7 @@ class RefusedSteps(Shared):
     # ---- worked rows
 
     def number_of(self, word, file, which):
-        """The number of the step of this word on the file of that name that is its so many-th."""
+        """The number of the step that is the `which`-th with this word on a file whose name begins so."""
         with MboxAccount(self.server.port) as account:
             _, lines = self.refused_session(account, None)
         places = [number for number, line in enumerate(lines, 1)
@@ -304,7 +304,7 @@ class Killed(Shared):
         self.fail(f"more than {MOST_STEPS} changes")
 
     def play(self, account, moment=None):
-        """A session that is killed so many seconds after its start, or isn't; how long it took."""
+        """A session, killed `moment` seconds after its start unless that is None; how long it took."""
         self.server.give = in_pieces(4, lambda session: 0.002)
         begun = time.monotonic()
         process = account.start("-q", "-d")

@@ -26,7 +26,7 @@ GOOD = programs.Run(0, b"", b"")
 
 
 def foreign(length, first=b"From fred@example.org Sat Jan  3 01:05:34 1998\n"):
-    """Mail of another program with so many octets, none or at least 20; a short one has a short first line."""
+    """Mail of another program with this many octets, none or at least 20; a short one has a short first line."""
     if length == 0:
         return b""
     if length < len(first) + 3:
@@ -41,7 +41,7 @@ class Intents(unittest.TestCase):
     LENGTH = len(entry(TEXTS[1]))
 
     def session(self, content, fetched, left, path=None, start=START):
-        """A session over a file of this content fetches the messages of these numbers, and leaves that."""
+        """A session over a file of this content fetches the messages of these numbers, and leaves `left`."""
         with Server(THREE) as server, MboxAccount(server.port) as account:
             mbox = account.mbox
             if path is not None:
@@ -127,7 +127,7 @@ class Intents(unittest.TestCase):
 
 
 class Readers(unittest.TestCase):
-    """Programs that read the file find the texts, and what they append is gone on from."""
+    """Programs that read the file find the texts, and new entries come after what they append."""
 
     def setUp(self):
         self.server = Server(LETTERS)

@@ -1,5 +1,5 @@
-"""Random accounts with an mboxrd file over several sessions, some of which are cut: what is sent, appended, written down
-and told is what the formats say. Between them other programs append mail."""
+"""Random accounts with an mboxrd file over several sessions, some of which are cut: what is sent, appended, recorded
+and reported is what the formats say. Between them other programs append mail."""
 
 import unittest
 
@@ -16,15 +16,15 @@ STEPS = (20, 90)
 
 
 class MboxKept(Kept):
-    """What stands between sessions: the file's octets, the record's rows, and its open intent. No message is held but by
-    the record."""
+    """What is kept between sessions: the file's octets, the record's rows, and its open intent. Only the record says
+    which messages are held."""
 
     def __init__(self, content=b"", rows=None, intent=None):
         super().__init__({}, rows or {})
         self.content, self.intent = content, intent
 
     def settle(self):
-        """What a session does first: an entry that stands whole where the intent says counts, a front of it is cut off."""
+        """What a session does first: a whole entry at the intent's place counts, a front of one is cut off."""
         if self.intent is not None:
             uid, start, length = self.intent[0], int(self.intent[1]), int(self.intent[2])
             rest = self.content[start:]

@@ -1,5 +1,5 @@
-"""The names of stored files: they tell the size of a file, as servers and readers of a Maildir take it from there, and files
-that earlier versions stored without it are held all the same."""
+"""The names of stored files: they contain the file's size, since servers and readers of a Maildir take it from there,
+and files that earlier versions stored without it are held all the same."""
 
 import mailbox
 import os

@@ -1,6 +1,6 @@
-"""Whole sessions on folders and disks with which something happens just then: names that vanish between the listing and
-the look at them, folders that can't be read to their end, a record whose replacement is refused, and octets of random
-that can't be had."""
+"""Whole sessions during which something happens to a folder or a disk: names that vanish between the listing and the
+look at them, folders that can't be read to their end, a record whose replacement is refused, and random octets that
+can't be had."""
 
 import os
 
@@ -18,7 +18,7 @@ class OtherHands(OneAccount):
         cls.addClassCleanup(library.__exit__, None, None, None)
 
     def session(self, *words, bound=None, **others):
-        """The same, with what the other hands are to do."""
+        """One run against one session, with what the other hands are to do."""
         changes = {f"OTHER_{what}": str(value) for what, value in others.items()}
         return super().session(*words, bound=bound, LD_PRELOAD=str(self.library), **changes)
 
@@ -56,13 +56,13 @@ class OtherHands(OneAccount):
         self.assertEqual(self.account.held(), THREE)
 
     def test_a_folder_that_changes_and_has_its_times_put_back(self):
-        """It is listed again until it rests, and then nothing is told of it."""
+        """It is listed again until it rests, and then nothing is reported."""
         self.hold_in_cur(*THREE[0])
         run, commands = self.session("-d", BRIEF=self.account.maildir / "cur" / "brief")
         self.assertEqual((run, commands), (REFUSED, ["RSET", "QUIT"]))
 
     def test_a_record_whose_replacement_is_refused(self):
-        """The old record stays as it was, octet for octet, and beside it is nothing."""
+        """The old record stays as it was, octet for octet, and nothing is left beside it."""
         rows = b"old 5 1\nolder 6 0\n"
         for old in (b"getmail-seen 1\n" + rows, b"getmail-seen 2\n" + rows + b"+ 1\nne", b"getmail-seen 2\n" + rows + b"torn"):
             for bound in (0, 20, len(old) + 20):

@@ -88,7 +88,7 @@ class Together(unittest.TestCase):
             self.add(texts, source.choice(("new", "cur")))
             kept.update(texts)
             if source.randrange(3) == 0:
-                # The record is lost; what is held is seen by the files' names, wherever they are.
+                # The record is lost; the files' names show what is held, in either folder.
                 self.account.record.unlink(missing_ok=True)
             self.fetch("-q")
             self.check_held(kept)

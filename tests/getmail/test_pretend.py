@@ -1,4 +1,4 @@
-"""`--pretend`: what a run would do, message by message, and that nothing is sent but the listings, and nothing changes."""
+"""`--pretend`: what a run would do, message by message, and that it sends only the listings and changes nothing."""
 
 import time
 import unittest
@@ -51,7 +51,7 @@ class Pretends:
         return run
 
     def check_run(self, status, err, tail, *words, octets=None):
-        """A run that changes nothing, ends so, and sends this after its listings; and its lines."""
+        """A run that changes nothing, ends with `status` and `err`, and sends `tail` after the listings; its lines."""
         left = self.left()
         run = self.session("--pretend", *words, octets=octets)
         self.assertEqual((run.status, run.err), (status, err))
@@ -131,7 +131,7 @@ class IntoMaildir(Pretends, unittest.TestCase):
         self.check(["delivered before, not due before 9999-12-31"] * 3, (0, 0))
 
     def test_faults(self):
-        """They are told as a run tells them, and nothing changes."""
+        """They are reported as by a run, and nothing changes."""
         nothing = ["0 of 3 messages would be fetched, 0 deleted"]
         self.account.record.write_bytes(b"x\n")
         told = self.check_run(1, b"getmail: seen file not understood at line 1\n", ["RSET", "QUIT"])

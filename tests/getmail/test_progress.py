@@ -1,4 +1,4 @@
-"""The line that tells how far a fetch is: on a terminal alone, rewritten in place, and gone at the end."""
+"""The line that says how far a fetch is: on a terminal only, rewritten in place, and gone at the end."""
 
 import subprocess
 import unittest

@@ -1,6 +1,6 @@
 """Random conversations: each ends in time with the one answer that the rules give, whatever its bytes.
 
-The seeds are fixed, so that a failure names a conversation that can be had again.
+The seeds are fixed, so that a failure names a conversation that can be repeated.
 """
 
 import random

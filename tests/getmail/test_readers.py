@@ -25,7 +25,7 @@ def other_name(name):
 
 
 def burst(maildir, part, order):
-    """Marks each message of a folder as read, or as unread where it is read; a new one is moved to `cur`."""
+    """Marks each message of a folder as read, or as unread if it is read; a new one is moved to `cur`."""
     for name in order:
         os.rename(f"{maildir}/{part}/{name}", f"{maildir}/cur/{other_name(name)}")
 
@@ -65,7 +65,7 @@ class Reading(unittest.TestCase):
         return sum(len(os.listdir(self.account.maildir / part)) for part in ("new", "cur"))
 
     def check_run(self, run):
-        """It was a good run, or it says why not and the next one is; no file came to those that are held."""
+        """The run was good, or says why not and the next one is good; no file was added to those that are held."""
         if run.status != 0:
             self.assertEqual(run, programs.Run(1, b"", REFUSED))
             self.assertEqual(self.count_held(), COUNT, "files after a run that was refused")
@@ -74,7 +74,7 @@ class Reading(unittest.TestCase):
         self.assertEqual(self.count_held(), COUNT, "files of as many messages")
 
     def put_back(self, part):
-        """Makes each file one of that folder again, a new one or one with `:2,`; there are no second copies then."""
+        """Moves each file back to that folder, as a new one or with `:2,`; no second copies remain."""
         for folder in ("cur", "new"):
             for name in os.listdir(self.account.maildir / folder):
                 base = name.partition(":")[0]

@@ -24,7 +24,7 @@ def missing(data):
 
 
 class Records(unittest.TestCase):
-    """Sessions over a Maildir, from a record that stands there before the first."""
+    """Sessions over a Maildir, with a record that is there before the first."""
 
     def setUp(self):
         self.server = Server(THREE)
@@ -85,7 +85,7 @@ class Records(unittest.TestCase):
                 self.empty_maildir()
 
     def test_each_front_of_an_old_record(self):
-        """However far a record of version 1 reaches, each message is fetched that it doesn't have as delivered."""
+        """Wherever a record of version 1 ends, each message is fetched that it doesn't have as delivered."""
         whole = ONE + b"b 6 1\n+ 2\na 5 1\nc 7 0\n+ 1\nc 7 1\n"
         for count in range(len(ONE), len(whole) + 1):
             with self.subTest(count=count):

@@ -20,7 +20,7 @@ REFUSED = b"getmail: destination refused\n"
 MISSING = b"getmail: destination missing\n"
 RECORD_REFUSED = b"getmail: seen file refused\n"
 
-# A user who may write nothing but what is given to him; for the superuser no mode forbids anything.
+# A user who may write only what is given to him; for the superuser no mode forbids anything.
 NOBODY = 65534
 
 
@@ -45,7 +45,7 @@ class Refusals(unittest.TestCase):
                 self.give_away(os.path.join(folder, name))
 
     def give_away(self, path):
-        """Makes a file that this test made the user's own."""
+        """Gives the user a file that this test made."""
         if self.user:
             os.chown(path, NOBODY, NOBODY)
 
@@ -135,11 +135,11 @@ class Refusals(unittest.TestCase):
         self.check_completed()
 
     def test_files_up_to_a_size(self):
-        """What a full disk does: a write is refused in the midst of a message."""
+        """As on a full disk: a write is refused in the middle of a message."""
         def bound():
             resource.setrlimit(resource.RLIMIT_FSIZE, (10_000, 10_000))
 
-        # Python ignores the signal that stands for the refusal, and so does the program then, which sees an error.
+        # Python ignores the signal for the bound, and so does the program, which sees an error instead.
         self.check_refused(REFUSED, ["RETR 1", "DELE 1", "RETR 2"], THREE[:1], preexec_fn=bound, restore_signals=False)
         self.check_completed()
 

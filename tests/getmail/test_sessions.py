@@ -1,7 +1,7 @@
-"""Random accounts over several sessions: what is sent, stored, written down and told is what the formats say.
+"""Random accounts over several sessions: what is sent, stored, recorded and reported is what the formats say.
 
-The seeds are fixed, so that a failure names an account that can be had again; `tests/fuzz.py` tries as many others as one
-likes.
+The seeds are fixed, so that a failure names an account that can be tried again; `tests/fuzz.py` tries as many others as
+one likes.
 """
 
 import contextlib
@@ -22,8 +22,8 @@ SEEDS = 150
 
 
 def record_of(octets):
-    """What a record's file stands for: of each id since when it was seen and whether it was delivered. A last group that
-    isn't whole counts for nothing."""
+    """What a record's file stands for: for each id when it was first seen and whether it was delivered. A last group
+    that isn't whole counts for nothing."""
     rows = {}
     lines = iter(octets.decode().split("\n")[1:-1])
     for line in lines:
@@ -93,7 +93,7 @@ class Life:
         self.let_others_work()
 
     def let_others_work(self):
-        """A reader takes up or takes away files, and a record may be lost."""
+        """A reader moves or removes files, and a record may be lost."""
         source = self.source
         if source.random() < 0.3:
             self.account.read_all_new()
@@ -128,7 +128,7 @@ class Life:
         self.test.assertEqual(self.rows(), self.kept.rows)
 
     def check_session(self):
-        """A session that no end of the connection cuts."""
+        """A session whose connection isn't cut."""
         messages = list(self.server.messages)
         commands = [f"{word} {number}" for word in ("RETR", "DELE") for number in range(1, len(messages) + 1)]
         self.server.refuses = tuple(self.source.sample(commands, 1)) if commands and self.source.random() < 0.2 else ()

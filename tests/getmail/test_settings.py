@@ -1,4 +1,4 @@
-"""Each flag and each key of the rc file in a whole session: what it changes at the server, and what is told."""
+"""Each flag and each key of the rc file in a whole session: what it changes at the server, and what is reported."""
 
 import os
 import socket
@@ -98,7 +98,7 @@ class Flags(Sessions):
                 self.assertEqual(sum("skipped" in line for line in lines[:-1]), 3 if told == skipped else 0)
 
     def test_a_verbosity_that_is_not_written(self):
-        """It is 1, so that one flag is enough for all that is told."""
+        """It is 1, so that one -v is enough for the whole report."""
         self.check_commands([], ALL_FETCHED)
         for flag, lines in (([], 2), (["-v"], 5)):
             with self.subTest(flag):
@@ -110,7 +110,7 @@ class Days(Sessions):
     """The days of `delete_after` are counted from when a message was first seen."""
 
     def at(self, seconds):
-        """The environment of a run that takes place then."""
+        """The environment of a run at this time."""
         clock = self.account.home / "clock"
         clock.write_text(str(seconds))
         return {"LD_PRELOAD": str(self.clock), "CLOCK": str(clock)}
@@ -209,7 +209,7 @@ class RcFile(Sessions):
 
 
 class Home(Sessions):
-    """What is written with a `~/` stands in the home; if no path is, HOME isn't asked for."""
+    """A path that begins with `~/` is in the home; if none does, HOME isn't needed."""
 
     def without_home(self, *words):
         """The run of a user whose HOME isn't set."""
@@ -241,7 +241,7 @@ class Home(Sessions):
                 self.assertEqual(self.account.held(), THREE)
 
     def test_an_empty_home(self):
-        """It is set: a path that begins with `~/` is one of the root then."""
+        """It is set: a path that begins with `~/` is then in the root."""
         self.assertEqual(self.account.run("-q", HOME=""), UNREADABLE)
         self.name_maildir("~" + str(self.account.maildir))
         self.assertEqual(self.session("-q", "-g", "~" + str(self.account.folder), HOME=""),
@@ -274,7 +274,7 @@ class Connections(Sessions):
         self.assertEqual(len(list(Path(self.account.folder).glob("seen-*"))), 1)
 
     def test_a_bound_on_waits_that_is_refused(self):
-        """A connection that could wait for ever is none."""
+        """A connection that could wait for ever isn't used."""
         refused = f"getmail: cannot connect to {LOOPBACK}:{self.server.port}\n".encode()
         for call in ("read-timeout", "write-timeout"):
             with self.subTest(call):

@@ -1,7 +1,7 @@
-"""What comes past a size: a great maildrop fetched by one program from the other, with long credentials and a long rc
+"""Great sizes: a great maildrop fetched by one program from the other, with long credentials and a long rc
 file, and many messages in a rehearsal and on a terminal.
 
-A program that gives up, or is wrong, past some size has no place to hide in: each of its tables and buffers grows here.
+A program that gives up, or is wrong, past some size is found, since each of its tables and buffers grows here.
 TESTS_SIZE is the number of messages that one program fetches from the other.
 """
 
@@ -58,7 +58,7 @@ class LongAccount(Account):
         return text + "\n" * (RC_LIMIT - len(text) - len(tail)) + tail
 
     def warnings(self):
-        """What is told of the keys without effect."""
+        """The warnings about the keys without effect."""
         rows = [(number, line.split(" ")[0]) for number, line in enumerate(self.rcfile.read_text().splitlines(), 1)
                 if line.startswith(("key", "long"))]
         return "".join(f"getmail: warning: line {number}: options.{key} has no effect\n" for number, key in rows).encode()
@@ -105,7 +105,7 @@ class GreatMaildrop(unittest.TestCase):
         self.assertEqual(lines[-1], f"{COUNT} messages ({self.octets} bytes) retrieved, 0 skipped, {COUNT} deleted")
         self.assertEqual(self.served.names(), [])
         self.check_held()
-        # The same messages once more: the record and the files' names tell that they are held.
+        # The same messages once more: the record and the files' names show that they are held.
         for number in range(COUNT):
             (self.served.folder / "new" / uid_of(number).decode()).write_bytes(b"%d\n" % number)
         self.assertEqual(self.fetch("-d")[-1], f"0 messages (0 bytes) retrieved, {COUNT} skipped, {COUNT} deleted")
@@ -128,7 +128,7 @@ class GreatRehearsal(unittest.TestCase):
 
 class GreatProgress(unittest.TestCase):
     def test_many_messages_and_a_long_one_on_a_terminal(self):
-        """Each number is told, and no octet of the longest line is left."""
+        """Each number is shown, and no octet of the longest line is left."""
         count = 1200
         messages = [(uid_of(number), b"") for number in range(1, count)] + [(uid_of(count), b"x" * 79 + b"\n" * 5_000_000)]
         with Server(messages) as server, Account(server.port) as account, preload.library("skip_flushes") as skipping:

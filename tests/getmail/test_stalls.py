@@ -95,7 +95,7 @@ class Stalls(unittest.TestCase):
             listener.bind((LOOPBACK, 0))
             listener.listen(0)
             port = listener.getsockname()[1]
-            # These fill the queue of those that wait to be taken; nobody else's connection is answered then.
+            # These fill the queue of connections that wait to be accepted; no other connection is answered then.
             for _ in range(4):
                 waiting = others.enter_context(socket.socket())
                 waiting.setblocking(False)
@@ -141,7 +141,7 @@ class Stopped(unittest.TestCase):
 
 
 class Deaf(unittest.TestCase):
-    """A server that takes nothing more from one command on: what the program says then waits for its bound."""
+    """A server that takes nothing more from some command on: what the program sends then waits as long as its bound."""
 
     messages = [(b"a", b"one\n"), (b"b", b"two\n"), (b"c", b"three\n")]
 
@@ -153,7 +153,7 @@ class Deaf(unittest.TestCase):
         cls.addClassCleanup(library.__exit__, None, None, None)
 
     def run_deaf(self, server, account, commands):
-        """A run whose server reads so many commands, and the seconds that it took."""
+        """A run whose server reads this many commands, and the seconds that it took."""
         environment = self.hurry.environment()
         environment["LD_PRELOAD"] = f"{self.filler} {environment['LD_PRELOAD']}"
         server.deaf_after = commands

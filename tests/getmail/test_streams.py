@@ -37,7 +37,7 @@ def run_on_pieces(pieces):
 
 
 def octets(count, piece=b"x" * PIECE):
-    """So many octets, a piece at a time."""
+    """This many octets, a piece at a time."""
     for _ in range(count // len(piece)):
         yield piece
     yield piece[:count % len(piece)]
@@ -79,7 +79,7 @@ class Input(unittest.TestCase):
                 self.check_cut(self.run_from(place, (b"+OK\r\n", *[row * 1000] * 200)), place, known.TOO_MANY)
 
     def test_a_message_of_the_greatest_length(self):
-        """One line, whose body with its end mark has just as many octets as may be."""
+        """One line, whose body with its end mark has just as many octets as are allowed."""
         length = known.BODY_LIMIT - len(b"\r\n.\r\n")
         wanted = known.ended("", b"", length=length + 1)
         run = self.run_from(known.RETR, (b"+OK\r\n", *octets(length), b"\r\n.\r\n", known.REPLIES[known.QUIT]))

@@ -19,7 +19,7 @@ MESSAGES = [(b"1.one", b"Subject: one\n\n.x\n"), (b"2.two", b"two\n" * 1000)]
 
 
 class Certificates:
-    """An authority of our own, and certificates that it, or nobody else, has signed."""
+    """An authority of our own, and certificates that it has signed, or no authority."""
 
     def __init__(self, folder):
         self.folder = folder

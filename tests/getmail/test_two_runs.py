@@ -1,6 +1,6 @@
 """Two runs of one account at once, and what a killed run left: nothing is lost and nothing is torn.
 
-What two runs may do is to leave a record that has to be mended. TESTS_KILLS is the number of rounds in which both are
+At worst two runs leave a record that has to be mended. TESTS_KILLS is the number of rounds in which both are
 killed.
 """
 
@@ -40,7 +40,7 @@ class TwoRuns(unittest.TestCase):
         self.assertEqual(len(held), len(set(held)), "held twice")
 
     def check_completed(self, messages):
-        """One more run, by itself, fetches the rest; if the record has to be mended, once it is."""
+        """One more run, by itself, fetches the rest; if the record has to be mended, after that."""
         run = self.account.run("-q", "-d")
         if run.err.startswith(NOT_UNDERSTOOD):
             self.account.record.unlink()
@@ -56,7 +56,7 @@ class TwoRuns(unittest.TestCase):
 
 
 class AtOnce(TwoRuns):
-    """Both fetch one text. The second begins while the first is in the midst of it, and one of them is cut."""
+    """Both fetch one text. The second begins while the first is in the middle of it, and one of them is cut."""
 
     def in_tmp(self):
         """The inodes of the files in `tmp` that hold something."""
@@ -79,7 +79,7 @@ class AtOnce(TwoRuns):
         return self.in_tmp()
 
     def fetch_at_once(self, cut):
-        """Runs both with `-d`; the session `cut` of the server ends in the midst of its text, after the other is over.
+        """Runs both with `-d`; the session `cut` of the server ends in the middle of its text, after the other is over.
         Each sends half, and the rest once both have written of it."""
         both_write, other_is_over = threading.Event(), threading.Event()
 
@@ -169,7 +169,7 @@ class Killed(TwoRuns):
 
 
 class Flushed(TwoRuns):
-    """What a run goes by when it deletes is flushed before, also if the run that wrote it was killed before it did so."""
+    """What a run relies on when it deletes is flushed first, also if the run that wrote it was killed before that."""
 
     @classmethod
     def setUpClass(cls):

@@ -1,4 +1,4 @@
-"""The words of the command line, the rc file, and what is told before there is a session."""
+"""The words of the command line, the rc file, and what is reported before there is a session."""
 
 import socket
 import unittest
@@ -129,7 +129,7 @@ class RcFile(unittest.TestCase):
                                   b"getmail: warning: line 15: options.received has no effect\n" + self.refused.err)
 
     def test_a_worked_rc_file(self):
-        """Its settings are taken, its two warnings told, and only then the flags are looked at."""
+        """Its settings are taken, its two warnings printed, and only then the flags are looked at."""
         self.account.rcfile.write_text(WORKED_RC_FILE)
         self.check_told(2, b"getmail: warning: line 13: options.message_log has no effect\n"
                            b"getmail: warning: line 14: options.received has no effect\n"

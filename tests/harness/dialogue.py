@@ -1,6 +1,6 @@
 """A running program that is talked to through two pipes, a piece at a time.
 
-So it is seen what the program has written when it has been given no more than that piece: a program that reads on
+This shows what the program has written when it has been given no more than that piece: a program that reads on
 before it answers, or that holds back what it wrote, gives no line in time, and fails the test.
 """
 
@@ -13,7 +13,7 @@ from harness import programs
 
 
 class Dialogue:
-    """The program `name`, run with `words`; leaving the `with` block kills it where it still runs."""
+    """The program `name`, run with `words`; leaving the `with` block kills it if it still runs."""
 
     def __init__(self, name, *words):
         self.process = subprocess.Popen([programs.path_of(name), *words], env=programs.environment(), bufsize=0,
@@ -42,7 +42,7 @@ class Dialogue:
         self.process.stdout.close()
 
     def _take(self, seconds):
-        """Takes what the program writes next; false where nothing came in time or its output has ended."""
+        """Takes what the program writes next; false if nothing came in time or its output has ended."""
         descriptor = self.process.stdout.fileno()
         if not select.select([descriptor], [], [], max(seconds, 0))[0]:
             return False
@@ -60,7 +60,7 @@ class Dialogue:
         return line + end
 
     def wrote_nothing(self, seconds=0.05):
-        """True where no output waits, and none comes within a moment."""
+        """True if no output waits, and none comes within a moment."""
         return self.waiting == b"" and not self._take(seconds)
 
     def finish(self):

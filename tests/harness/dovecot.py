@@ -1,4 +1,4 @@
-"""Dovecot as a POP3 server of one Maildir, for whoever is root: its settings, and the owner of its files."""
+"""Dovecot as a POP3 server of one Maildir, run by root: its settings, and the owner of its files."""
 
 import os
 import pwd

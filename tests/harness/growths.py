@@ -21,7 +21,7 @@ class Refusal:
         return {"LD_PRELOAD": str(self.library), "REFUSED_GROWTH": str(self.number), "REFUSED_NOTE": str(self.note)}
 
     def came(self):
-        """True where the run had so many growths, so that one was refused."""
+        """True if the run had that many growths, so that one was refused."""
         return self.note.exists()
 
     def forget(self):

@@ -1,4 +1,4 @@
-"""What the kernel tells of a running server, so that no connection is spent on finding it out."""
+"""What the kernel says about a running server, so that no connection is spent on finding it out."""
 
 import socket
 import time
@@ -18,7 +18,7 @@ def free_port():
 
 
 def listens(port):
-    """True where a socket of loopback listens on the port."""
+    """True if a socket of loopback listens on the port."""
     wanted = f"{_LOOPBACK_IN_TABLE}:{port:04X}"
     rows = (row.split() for row in Path("/proc/net/tcp").read_text().splitlines()[1:])
     return any(row[1] == wanted and row[3] == _LISTENING for row in rows)

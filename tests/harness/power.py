@@ -211,8 +211,8 @@ class Disk:
 
     def images(self, most, source, torn=True):
         """The trees that a loss of power can leave now: all of them, or if there are more than `most` choices, those
-        where all is lost, all is kept, one thing alone is lost or kept, and some that the `source` picks. Beside each
-        what of it isn't as the program left it. Without `torn` no page is there up to its half if a later one of its file
+        with all lost, all kept, one thing alone lost or kept, and some that the `source` picks. With each comes what
+        isn't as the program left it. Without `torn` no page is there up to its half if a later one of its file
         is there."""
         axes = self._axes()
         ways = [values for _, values in axes]
@@ -242,7 +242,7 @@ def has_torn_page(axes, pick):
 
 
 def told_of(thing):
-    """A name or a change in some words."""
+    """A name or a change, described in a few words."""
     if isinstance(thing, str):
         return f"the name {thing}"
     return f"{type(thing).__name__.lower()} of file {thing.file} at {getattr(thing, 'place', '')}"

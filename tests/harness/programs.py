@@ -1,4 +1,4 @@
-"""Where the built programs stand, and one run of one of them.
+"""Where the built programs are, and one run of one of them.
 
 A program is looked for where `rt` leaves it, `crates/NAME/out/NAME`, unless `place` named another file for it. The built
 tests of the libraries are a program too.
@@ -42,7 +42,7 @@ def path_of(name):
 
 
 def needs(*names):
-    """Skips a test, by name, if one of these programs isn't built; its own tests in the gate tell of that."""
+    """Skips a test, by name, if one of these programs isn't built; its own tests in the gate report that."""
     missing = [name for name in names if not path_of(name).is_file()]
     return unittest.skipIf(missing, f"{', '.join(missing)} is not built")
 

@@ -1,6 +1,6 @@
-"""The calls of `no_memory_tests` in `crates/tests`: what each tells if no growth is refused, and what it may tell else.
+"""The calls of `no_memory_tests` in `crates/tests`: what each prints if no growth is refused, and what else it may.
 
-In the lines that are told `/` stands for LF and `|` for CR LF. Expected values come from the standard and from the documents
+In the printed lines `/` stands for LF and `|` for CR LF. Expected values come from the standard and from the documents
 of the formats, or were worked out by hand.
 """
 
@@ -14,15 +14,15 @@ WRITE_FAILED = "write failed"
 
 
 class NotAllowed(AssertionError):
-    """A run told something else than its row's answer, that memory ran out, or a device's refusal."""
+    """A run printed something other than its row's answer, that memory ran out, or a device's refusal."""
 
 
 @dataclass(frozen=True)
 class Row:
     """A call that is made twice, or, if it changes what it is given, again only after a refusal.
 
-    A call tells its `answer`. A refused one tells one of the `faults` and then what is left, one of `left`; if `is_front`, a
-    front of each line will do. `before` is told before the first call.
+    A call prints its `answer`. A refused one prints one of the `faults` and then what is left, one of `left`; if
+    `is_front`, a front of each line will do. `before` is printed before the first call.
     """
 
     call: str
@@ -34,7 +34,7 @@ class Row:
     is_front: bool = False
 
     def fault_of(self, parts):
-        """The fault that a run told, or None if it told the row's answer. The parts of a run begin with its calls."""
+        """The fault that a run printed, or None for the row's answer. The parts of a run begin with its calls."""
         before, first, *rest = parts
         if before != self.before:
             raise NotAllowed(f"before the call: {before}")
@@ -79,7 +79,7 @@ STORE_REFUSED = "Cut(StoreRefused(Refused))"
 
 @dataclass(frozen=True)
 class Session:
-    """A session, and a whole one after it, over messages a, b and c. Both tell how they ended, and what they left.
+    """A session, and a whole one after it, over messages a, b and c. Both print how they ended and what they left.
 
     Without a refusal the first ends as `outcome`. Whatever was refused, what is stored after it is a front of the three
     messages, and no more messages were deleted than are stored. The second session ends well, and then each message is there
@@ -112,7 +112,7 @@ class Session:
         raise NotAllowed(f"the first session: {first}")
 
     def stored(self, told):
-        """What is stored: an mboxrd file's bytes, or the files of `new`, of which none may be in `cur`."""
+        """What is stored: an mboxrd file's bytes, or the files of `new`, none of which may be in `cur`."""
         if self.is_mbox:
             return told
         new, cur, _record = re.fullmatch(r"(.*?)- (.*?)- (.*)", told).groups()

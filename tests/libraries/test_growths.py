@@ -1,7 +1,7 @@
 """Memory that runs out in the libraries: each call that may answer so, with each of its growths refused in turn.
 
-The tests of `no_memory_tests` in `crates/tests` mark where their call begins and ends, and tell what it answered and what is
-left; `tests/refuse_in_call.c` refuses one growth in between; `rows.py` says what may be told.
+The tests of `no_memory_tests` in `crates/tests` mark where their call begins and ends, and print what it answered and
+what is left; `tests/refuse_in_call.c` refuses one growth in between; `rows.py` says what may be printed.
 """
 
 import os
@@ -20,7 +20,7 @@ TABLE = re.compile(r"^\| `[^`|]+` \| `([a-z_:]+)` \| \d+ \|$", re.MULTILINE)
 
 
 def parts_of(told):
-    """What was told before the first call, and then after each call."""
+    """What was printed before the first call, and then after each call."""
     parts = [[]]
     for line in told.split("\n"):
         if line == "called":

@@ -1,6 +1,6 @@
-"""The server said once more: its answers to the lines of a connection, and what it lists of a Maildir.
+"""A second version of the server: its answers to the lines of a connection, and what it lists of a Maildir.
 
-So that a random connection, or a folder as mail software leaves it, has its exact answers. RFC 1939 leaves the words
+So a random connection, or a folder as mail software leaves it, has its exact answers. RFC 1939 leaves the words
 after `+OK` and `-ERR` free; these are the ones that the server's table fixes.
 """
 
@@ -22,7 +22,7 @@ ARGUMENTS = {b"STAT": (0,), b"RSET": (0,), b"NOOP": (0,), b"QUIT": (0,), b"RETR"
 
 @dataclass(frozen=True)
 class Message:
-    """A message as it is listed, with the file that it lies in, if any."""
+    """A message as it is listed, with its file, if any."""
 
     uid: bytes
     text: bytes
@@ -52,7 +52,7 @@ def read_number(word):
 
 
 def read_command(line):
-    """The keyword and the arguments of a line without its CR LF, or None where the line is no command."""
+    """The keyword and the arguments of a line without its CR LF, or None if the line is no command."""
     keyword, _, argument = line.partition(b" ")
     if len(line) > LINE_LIMIT - 2:
         return None

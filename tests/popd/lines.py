@@ -84,7 +84,7 @@ CONVERSATIONS = {
 
 
 def wire(*lines):
-    """The lines as they stand on the wire."""
+    """The lines as they are on the wire."""
     return b"".join(line.encode("latin-1") + b"\r\n" for line in lines)
 
 

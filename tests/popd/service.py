@@ -97,7 +97,7 @@ class Client:
         return self.file.read()
 
     def rest_or_reset(self):
-        """The same where lines of ours may be left that the server did not read, which ends by a reset."""
+        """The same if the server may have left lines of ours unread, so that the connection ends by a reset."""
         got = b""
         with contextlib.suppress(ConnectionResetError):
             while piece := self.socket.recv(65536):
@@ -112,9 +112,9 @@ class Client:
 
 
 class Service:
-    """`popd --listen` over a Maildir, for one user; killed with the `with` block where it still runs.
+    """`popd --listen` over a Maildir, for one user; killed at the end of the `with` block if it still runs.
 
-    No connection is spent on finding out whether the server listens: the kernel's table of sockets tells.
+    No connection is spent on finding out whether the server listens: the kernel's table of sockets shows it.
     """
 
     def __init__(self, maildir, *words, user="u", **environment):
@@ -156,7 +156,7 @@ class Service:
         return kernel.peak_of_memory(self.process.pid)
 
     def finish(self):
-        """Waits until the server ends by itself; its status and what it told on standard error."""
+        """Waits until the server ends by itself; its status and what it wrote to standard error."""
         _, err = self.process.communicate(timeout=programs.SECONDS)
         return self.process.returncode, err
 

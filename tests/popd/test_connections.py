@@ -1,4 +1,4 @@
-"""Connections over loopback: one after the other, ended in any way, and clients that mean no good."""
+"""Connections over loopback: one after the other, ended in any way, and hostile clients."""
 
 import contextlib
 import signal
@@ -25,7 +25,7 @@ class OverLoopback(unittest.TestCase):
         self.addCleanup(self.maildir.holder.cleanup)
 
     def check_reset(self, service, client, answer):
-        """Resets a connection to which the server writes: that is told, and the next and last client can log in."""
+        """Resets a connection to which the server writes: that is reported, and the next and last client can log in."""
         client.reset()
         with service.client() as next_client:
             self.assertEqual(next_client.log_in(), answer)
@@ -80,7 +80,7 @@ class Connections(OverLoopback):
                                  READY + b"+OK send PASS\r\n+OK 1 messages\r\n")
 
     def test_connections_that_end_early(self):
-        """The end of input is no fault: nothing is told, and the next client is served."""
+        """The end of input is no fault: nothing is reported, and the next client is served."""
         with Service(self.maildir, "--connections", "10") as service:
             for given in (b"", b"U", b"USER u\r\n", b"USER u\r\nPASS p\r\nDELE 1\r\nQUIT\r", b"\r\n"):
                 with self.subTest(given):
@@ -114,8 +114,8 @@ class Connections(OverLoopback):
             self.check_reset(service, client, b"+OK 2 messages\r\n")
 
     def test_a_connection_that_cannot_be_taken(self):
-        """With no descriptor left each one fails at once, is told, and counts as one of those to serve; the server
-        waits a second before it tries the next."""
+        """With no descriptor left each one fails at once, is reported, and counts as one of those to serve; the
+        server waits a second before it tries the next."""
         words = [programs.path_of("popd"), "--listen", f"{LOOPBACK}:0", "--connections", "3", "u",
                  self.maildir.passfile, self.maildir.folder]
         begun = time.monotonic()
@@ -151,7 +151,7 @@ class Waits(OverLoopback):
         return Service(self.maildir, "--connections", "2", **self.hurry.environment(), **environment)
 
     def check_next_client(self, service, *told, count=1):
-        """The message that was marked is still there for the next client, and one of these lines was told."""
+        """The message that was marked is still there for the next client, and one of these lines was printed."""
         with service.client() as client:
             self.assertEqual(client.log_in(), b"+OK %d messages\r\n" % count)
             self.assertEqual(client.ask(b"QUIT"), b"+OK bye\r\n")
@@ -224,7 +224,7 @@ class Waits(OverLoopback):
             self.check_next_client(service, b"")
 
     def test_a_client_that_cannot_be_given_its_time(self):
-        """The bound of a login is lifted only once that of ten minutes stands: it has three minutes then, and no more."""
+        """The bound of a login is lifted only once that of ten minutes is set: else the client has three minutes."""
         with self.service(HURRY_REFUSED="idle") as service:
             took = self.keep_talking(service, b"USER u\r\nPASS p\r\nDELE 1\r\n")
             self.assertGreater(took, 0.8)

@@ -1,4 +1,4 @@
-"""Want of memory: with each growth refused in turn, the answers are the right ones, up to where memory was wanting."""
+"""Out of memory: with each growth refused in turn, the answers are the right ones, up to where memory ran out."""
 
 import unittest
 
@@ -12,7 +12,7 @@ RECORDED = lines.CONVERSATIONS["the recorded one"]
 
 
 def beginnings(answers):
-    """What has been written after each answer, none of them included."""
+    """What has been written before the first answer and after each of them."""
     return [b"".join(answers[:count]) for count in range(len(answers) + 1)]
 
 
@@ -57,7 +57,7 @@ class RefusedGrowths(unittest.TestCase):
                     self.assertEqual(left, [b"a", b"b"], f"growth {refusal.number} refused: {run}")
 
     def test_one_connection_of_two(self):
-        """Want of memory in one connection is told, and the next one is served whole."""
+        """If memory runs out in one connection, that is reported, and the next one is served whole."""
         told = 0
         with Maildir() as maildir:
             maildir.add("new", "a", b"one\n")
@@ -78,7 +78,7 @@ class RefusedGrowths(unittest.TestCase):
         self.assertGreater(told, 0, "no refused growth reached a connection")
 
     def two_connections(self, maildir, given, refusal):
-        """What two clients got, and how the server ended; None where memory was wanting before it listened."""
+        """What two clients got, and how the server ended; None if memory ran out before it listened."""
         run = programs.run("popd", "--listen", f"{LOOPBACK}:0", "--connections", "0", "u", maildir.passfile,
                            maildir.folder, **refusal.environment())
         if run.status != 0:

@@ -1,4 +1,4 @@
-"""Clients that mean no good: the server's memory, its open files and the time that it works stay flat, and the next
+"""Hostile clients: the server's memory, its open files and the time that it works stay flat, and the next
 client is served as if none of them had come."""
 
 import os
@@ -52,7 +52,7 @@ class Hostile(unittest.TestCase):
         self.service.__enter__()
         self.addCleanup(self.service.__exit__)
         self.process = self.service.process.pid
-        # What the server tells of broken connections is read, so that it never waits for room.
+        # What the server reports about broken connections is read, so that it never waits for room.
         self.reader = threading.Thread(target=self.service.process.stderr.read, daemon=True)
         self.reader.start()
         self.addCleanup(self.reader.join, programs.SECONDS)
@@ -99,7 +99,7 @@ class Hostile(unittest.TestCase):
         self.check_flat(attack, 200)
 
     def test_commands_after_quit(self):
-        """They are answered by nothing, and do nothing."""
+        """They get no answer, and do nothing."""
         whole = READY + b"+OK send PASS\r\n+OK 2 messages\r\n+OK bye\r\n"
 
         def attack():
@@ -110,7 +110,7 @@ class Hostile(unittest.TestCase):
         self.check_flat(attack, 200)
 
     def test_lines_without_end(self):
-        """Before and after logging in a line of any length takes no memory, and is one bad command where it ends."""
+        """Before and after logging in a line of any length takes no memory, and is one bad command when it ends."""
         def attack(*first):
             with self.service.client() as client:
                 client.give(b"".join(first))

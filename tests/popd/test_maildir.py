@@ -191,7 +191,7 @@ class Changes(unittest.TestCase):
             self.assertEqual(client.ask(b"STAT"), b"+OK 3 9\r\n")
 
     def test_a_file_that_changed(self):
-        """What is given is what stands in the file now, whatever its size was when it was listed."""
+        """What is sent is what the file contains now, whatever its size was when it was listed."""
         with Service(self.maildir) as service, service.client() as client:
             client.log_in()
             for path, content in zip(self.paths, (b"more\n" * 10_000, b"")):
@@ -234,7 +234,7 @@ class Changes(unittest.TestCase):
                 self.assertEqual(client.ask_lines(b"UIDL"), b"+OK\r\n1 A\r\n2 a\r\n3 b\r\n4 c\r\n.\r\n")
 
     def test_a_folder_that_is_not_there(self):
-        """The maildrop is refused until the folder is there again; the folder is told all the same."""
+        """The maildrop is refused until the folder is there again; the folder is reported all the same."""
         for part in ("new", "cur"):
             with self.subTest(part), Maildir() as maildir, Service(maildir, "--connections", "1") as service:
                 folder = maildir.folder / part
@@ -268,7 +268,7 @@ def variables(meddling):
 
 
 class Listings(unittest.TestCase):
-    """What a listing reads, and what comes between."""
+    """What a listing reads, and what happens meanwhile."""
 
     def setUp(self):
         self.maildir = Maildir()
@@ -290,7 +290,7 @@ class Listings(unittest.TestCase):
                        **variables(meddling))
 
     def set_clock(self, seconds, clock=None):
-        """Sets it to so many seconds after the one in which a folder was changed last."""
+        """Sets it to this many seconds after the one in which a folder was changed last."""
         changed = max(os.stat(self.maildir.folder / part).st_ctime_ns for part in ("new", "cur"))
         (clock or self.clock).write_text(f"{changed // 1_000_000_000 + seconds}\n")
 
@@ -401,7 +401,7 @@ class Listings(unittest.TestCase):
             self.assertEqual(self.sizes(service), [b"1 5", b"2 12", b"3 0"])
 
     def test_a_listing_that_takes_long(self):
-        """Whether the folders were at rest is asked of the time before it."""
+        """Whether the folders were at rest is judged by the time before it."""
         later = self.maildir.folder / "later"
         self.set_clock(100, later)
         clock = Path(self.maildir.holder.name) / "clock"
@@ -419,7 +419,7 @@ class Listings(unittest.TestCase):
                 self.grow()
 
     def test_a_listing_does_not_stand_before_it_was_made(self):
-        """As where the clock was put back: nobody knows how old the listing is."""
+        """As after the clock was put back: nobody knows how old the listing is."""
         with self.clocked() as service:
             for seconds, size in ((100, 5), (99, 8), (99, 8), (100, 8)):
                 self.set_clock(seconds)
@@ -428,7 +428,7 @@ class Listings(unittest.TestCase):
                     self.grow()
 
     def test_an_empty_maildir_gets_its_first_message(self):
-        """Nothing is left of a listing that stood before everything was removed."""
+        """Nothing is left of a listing from before everything was removed."""
         with self.clocked() as service:
             self.set_clock(3)
             with service.client() as client:
@@ -462,7 +462,7 @@ class Listings(unittest.TestCase):
             self.assertEqual(service.finish(), (0, b""))
 
     def test_a_file_that_cannot_be_read_is_named(self):
-        """The maildrop is refused, as a list without that file would be a wrong one, and the file is told."""
+        """The maildrop is refused, since a list without that file would be wrong, and the file is reported."""
         path = os.fsdecode(self.path)
         with self.meddled(refused=path) as service:
             for _ in range(2):

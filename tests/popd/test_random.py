@@ -1,8 +1,8 @@
 """Random Maildirs and random lines over loopback: each line has the one answer that the rules give, and only what was
 marked before QUIT is gone.
 
-The seeds are fixed, so that a failure names a conversation that can be had again; `tests/fuzz.py` tries as many others as
-one likes.
+The seeds are fixed, so that a failure names a conversation that can be repeated; `tests/fuzz.py` tries as many others
+as one likes.
 """
 
 import random

@@ -12,9 +12,9 @@ from popd.service import Maildir, Service
 
 MANY = 1_000
 FEW = 60
-# No clock of a file system of Linux goes in longer steps, so a folder that was at rest for so long can be listed.
+# No clock of a file system of Linux goes in longer steps, so a folder that was at rest for this long can be listed.
 REST_SECONDS = 0.1
-# A folder that finds no rest is refused after two seconds.
+# A folder that is never at rest is refused after two seconds.
 MOST_SECONDS = 20
 
 
@@ -43,7 +43,7 @@ class Readers(unittest.TestCase):
         self.reader = Reader(self.maildir)
 
     def fill(self, part, count, flags=""):
-        """So many messages of a line each; their unique-ids."""
+        """Adds this many messages of a line each; their unique-ids."""
         names = [f"{number:06}" for number in range(count)]
         for name in names:
             self.maildir.add(part, name + flags, name.encode() + b"\n")
@@ -63,7 +63,7 @@ class WhileItIsListed(Readers):
     """What is there all the time is listed, under whatever name."""
 
     def check_burst(self, service, uids, delay, burst):
-        """A login during which the reader is at work, from so many seconds after PASS on."""
+        """A login during which the reader is at work, from `delay` seconds after PASS on."""
         with service.client() as client:
             client.line()
             client.ask(b"USER u")
@@ -212,7 +212,7 @@ class WhileItIsServed(Readers):
             self.assertEqual(self.maildir.names(), before)
 
     def test_what_is_gone_is_removed(self):
-        """Its removal answers as one that was done, and is told as such."""
+        """Its removal is answered and reported as done."""
         uids = self.fill("new", 4)
         with Service(self.maildir, "--verbose", "--connections", "1") as service, service.client() as client:
             client.log_in()

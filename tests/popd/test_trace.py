@@ -45,7 +45,7 @@ class Trace(unittest.TestCase):
         return programs.run("popd", *words, "u", self.maildir.passfile, self.maildir.folder, given=given)
 
     def test_the_lines_of_a_conversation(self):
-        """Commands that come before their turn are told in their turn."""
+        """Commands that come before their turn are shown in their turn."""
         plain, traced = self.run_popd(), self.run_popd("--trace")
         self.assertEqual(plain.err, b"")
         self.assertEqual((traced.status, traced.out), (plain.status, plain.out))

@@ -15,7 +15,7 @@ UNITS = ("getmail.service", "getmail.timer", "popd.service", "popd.socket", "pop
 
 
 def keys_of(unit):
-    """The unit's keys with their values; each stands once."""
+    """The unit's keys with their values; each occurs once."""
     return dict(re.findall(r"^(\w+)=(.*)$", (EXAMPLES / unit).read_text(), re.MULTILINE))
 
 

@@ -28,7 +28,7 @@ class Verbose(unittest.TestCase):
             return f"{LOOPBACK}:{client.socket.getsockname()[1]}", answers
 
     def check_told(self, service, *told):
-        """The server has ended and told these lines, and no others."""
+        """The server has ended and printed these lines, and no others."""
         status, err = service.finish()
         self.assertEqual((status, err.decode().splitlines()), (0, [f"popd: {line}" for line in told]))
 
@@ -131,7 +131,7 @@ class OverStandardStreams(unittest.TestCase):
         self.assertEqual(run.out, self.run_popd("--verbose").out)
 
     def test_what_standard_error_does_not_take(self):
-        """Nothing of a session changes where the lines can't be written."""
+        """Nothing of a session changes if the lines can't be written."""
         with Maildir() as maildir, open("/dev/full", "wb") as full:
             maildir.add("new", "a", b"one\n")
             run = programs.run("popd", "--verbose", "u", maildir.passfile, maildir.folder, err=full,

@@ -152,7 +152,7 @@ class Words(unittest.TestCase):
 
 
 class PasswordFile(unittest.TestCase):
-    """The password is what stands before the first LF, without a CR at its end."""
+    """The password is what is before the first LF, without a CR at its end."""
 
     def log_in(self, content, password):
         with Maildir(content) as maildir:
