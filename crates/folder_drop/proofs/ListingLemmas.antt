@@ -1,4 +1,4 @@
--- What was counted of a file that is found again.
+-- The counted size of a file that is found again.
 use Rattle.std.proofs.Common.{◌≡◌, ℕ, List, Option, Some, None, IfSome, sym, string_bytes}
 use Rattle.std.specs.List.{Contains}
 use Rattle.folder_drop.specs.declared.listed_file.ListedFile.{ListedFile}

@@ -10,8 +10,8 @@ use std::os::unix::fs::MetadataExt;
 /// no file system's clock ticks in longer steps.
 const SETTLED_SECONDS: u64 = 2;
 
-/// How long a listing stays valid while the folders don't change: for so long the server may miss that
-/// a file was changed in place.
+/// How long a listing stays valid while the folders don't change: for this long the server may miss
+/// that a file was changed in place.
 const STANDING_SECONDS: u64 = 3_600;
 
 /// A folder's time of change, in seconds and nanoseconds since 1970. It moves when a file comes, goes

@@ -23,8 +23,8 @@ use std::rt::Files;
 use std::time::Clock;
 
 /// A Maildir in a real folder. Nothing is known of what it holds: contracts see its path, the names of
-/// the files that were listed, and the counts. If it answers NoMemory although none of its own growths
-/// was refused, a call of the kernel answered ENOMEM, which it passes on.
+/// the files that were listed, and the counts. NoMemory means that a growth of its own was refused,
+/// or that a call of the kernel answered ENOMEM.
 #[derive(Drop)]
 pub struct MaildirDrop<'a, R: Files + AllocGlobal + Clone + Drop> {
     pub(crate) rt: &'a R,
@@ -32,11 +32,11 @@ pub struct MaildirDrop<'a, R: Files + AllocGlobal + Clone + Drop> {
     pub(crate) listing: Listing,
     /// An earlier server's listing, until this one has its own.
     pub(crate) earlier: Listing,
-    /// The path of the file or folder that couldn't be read, if that refused a listing.
+    /// The path of the file or folder that couldn't be read, if that made a listing fail.
     unread: Option<String>,
-    /// Where files were last seen that aren't where they were listed.
+    /// Where files were last seen, for those that aren't where they were listed.
     pub(crate) last_seen: SeenFiles,
-    /// The file of which a part was given last.
+    /// The file that was last read in part.
     pub(crate) open: Option<OpenText<R::File>>,
     failures: FailureCount,
     removals: u64,
@@ -105,7 +105,7 @@ impl<'a, R: Files + Clock + RandomSource + AllocGlobal + Clone + Drop> MaildirDr
         }
     }
 
-    /// The path of the file or folder that couldn't be read, if that refused a listing.
+    /// The path of the file or folder that couldn't be read, if that made a listing fail.
     pub fn unread(&self) -> Option<&str> {
         match &self.unread {
             Some(path) => Some(path.as_str()),

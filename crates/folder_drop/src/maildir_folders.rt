@@ -17,7 +17,7 @@ use std::marker::Model;
 use std::rt::Files;
 use std::time::Clock;
 
-/// How many times a file is tried that has a new name each time.
+/// How many times a file is tried, if it has a new name each time.
 const MOST_TRIES: u32 = 10;
 
 /// Why a file or folder couldn't be read or removed: the system's error, and the path, if the error is

@@ -29,7 +29,7 @@ HasDistinctIds listing = AreDistinct (ids_of listing)
 abbrev pub numbered : List Item → List (ℕ × Item)
 numbered listing = enumerate_from 1 listing
 
--- whether an item of these has the id
+-- whether one of these items has the id
 abbrev pub has_item : List Item → List ℕ → Bool
 has_item items uid = list_any (λ item. bytes_eq uid item.uid) items
 

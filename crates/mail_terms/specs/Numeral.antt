@@ -4,7 +4,7 @@ use Rattle.std.specs.Char.{is_ascii_digit}
 use Rattle.std.specs.List.{list_all}
 use Rattle.std.specs.Str.Parse.{digits_value}
 
--- 1 to 20 digits; leading zeros are taken
+-- 1 to 20 digits; leading zeros are allowed
 abbrev pub is_numeral : List ℕ → Bool
 is_numeral field = nat_lt 0 (length field) && nat_le (length field) 20 && list_all is_ascii_digit field
 

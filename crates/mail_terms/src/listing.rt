@@ -31,7 +31,7 @@ pub struct ScanRow {
 /// Why rows can't be joined.
 #[derive(Clone, Copy, Debug, PartialEq, Eq, Error)]
 pub enum ListingFault {
-    /// A number of 1 to n isn't once in each list, or another number is there.
+    /// A list doesn't have each number of 1 to n once, or has another number.
     #[error("the listings disagree")]
     Disagree,
     /// More than `MESSAGE_LIMIT` messages.
@@ -97,7 +97,7 @@ impl Model for Listing {
     ghost invariant = { λ listing. length listing.items.items ≤ message_limit };
 }
 
-/// Whether each row has a legal unique-id, as `Listing::join` wants.
+/// Whether each row has a legal unique-id, as `Listing::join` requires.
 pub fn have_legal_ids(rows: &[UidRow]) -> bool
     ensures { IsTrue result ↔ All (λ row. IsLegalId row.uid.items) rows.now }
 {

@@ -1,4 +1,4 @@
--- Removals in a row.
+-- Removals one after another.
 use Rattle.std.proofs.Common.{◌≡◌, ℕ, suc, ◌+◌, ◌<◌, Bool, true, false, List, ◌∷◌, length, drop, get_or, sym, ◌∙◌, ap, arith, add-one, drop-cons, if◌then◌else◌}
 use Rattle.pop3_server.specs.declared.rows.MessageRow.{MessageRow}
 use Rattle.mail_terms.specs.FailureCount.{counted_up}

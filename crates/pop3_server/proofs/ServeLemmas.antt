@@ -103,7 +103,7 @@ served_closed sound mail old server before link waiting p closed =
       ends = λ _. inl closed;
     }
 
--- one more line came, and so much of its answer was sent before a fault
+-- one more line came, and this much of its answer was sent before a fault
 served_last : {D : Type 0} (sound : D → Type 0) (mail : D → Mail) (old server next : Machine D) (before link taken sent : Link) (waiting after : Waiting) (g line front : List ℕ) (fault : ServerFault)
     (p : Progress sound mail old before server link waiting) → Drew link taken g → waiting.octets ++ g ≡ ended line ++ after.octets → length g + after.left ≡ waiting.left → IsLine line
     → sent.got ≡ taken.got → sent.sent ≡ taken.sent ++ front

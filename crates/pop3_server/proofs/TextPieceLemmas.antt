@@ -29,7 +29,7 @@ open_on (byte ∷ rest) none = elim (eqb_tells byte 10) [
 pub open_rest : (in_line : Bool) (byte : ℕ) (rest : List ℕ) → HasNoLf (byte ∷ rest) → is_open_after in_line (byte ∷ rest) ≡ true
 open_rest in_line byte rest none = open_on (byte ∷ rest) none
 
--- the same for octets that aren't none
+-- the same if there are any octets
 pub open_some : (in_line : Bool) (rest : List ℕ) → HasNoLf rest → rest ≢ [] → is_open_after in_line rest ≡ true
 open_some in_line [] none some = absurd (some refl)
 open_some in_line (byte ∷ rest) none some = open_rest in_line byte rest none
@@ -98,7 +98,7 @@ sent_append in_line (byte ∷ one) two =
 
 -- ---- the body of a whole text
 
--- the octets of lines, the first of which has begun
+-- the octets of lines, if the first has begun
 abbrev go_on : List (List ℕ) → List ℕ
 go_on [] = crlf
 go_on (line ∷ lines) = ended line ++ flat_map sent_line lines

@@ -17,7 +17,7 @@ top_from-none : (lines : List (List ℕ)) → top_from false 0 lines ≡ []
 top_from-none [] = refl
 top_from-none (line ∷ lines) = refl
 
--- the same for lines of which the first has begun
+-- the same if the first line has begun
 abbrev from_open : ℕ → List (List ℕ) → List (List ℕ)
 from_open n [] = []
 from_open n (line ∷ lines) = line ∷ top_from true n lines
@@ -131,7 +131,7 @@ ends_later in_head in_line opened n left line rest none later is some less =
     ∙ takes_rest false in_line (in_line || not (length line == 0)) (suc left) line (10 ∷ rest) none more refl
     ∙ ap (λ b. line ++ 10 ∷ top_octets b false left rest) (sym (is ∙ later))
 
--- it takes none of no octets, and none after all has come
+-- it takes none if there are none, and none after all has come
 pub none_taken : (in_head in_line : Bool) (n : ℕ) → top_octets in_head in_line n [] ≡ []
 none_taken true in_line n = refl
 none_taken false in_line zero = refl

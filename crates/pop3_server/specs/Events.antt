@@ -6,7 +6,7 @@ use Rattle.pop3_server.specs.declared.state.State.{State}
 use Rattle.pop3_server.specs.declared.state.State.TheVariants.{Authorization, Transaction, Closed}
 use Rattle.pop3_server.specs.ServerMachine.{left_count}
 
--- the event between one state and the next, if the maildrop refused so many calls in between
+-- the event between one state and the next, if the maildrop refused this number of calls in between
 abbrev pub event_of : State → State → ℕ → Option Event
 event_of (Authorization kept) (Transaction rows) refused = Some (LoggedIn (length rows))
 event_of (Authorization (Some name)) (Authorization None) zero = Some Refused

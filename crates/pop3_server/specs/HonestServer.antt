@@ -40,7 +40,7 @@ pub record IsAsked (command : Command) : Type 0 where
 abbrev pub lines_of : List Command → List (List ℕ)
 lines_of commands = map line_of commands
 
--- those of these messages that aren't marked are there, and perhaps some of the marked ones, in their order
+-- all of these messages that aren't marked are there, and perhaps some of the marked ones, in their order
 abbrev pub AreLeft : List Message → List Bool → List Message → Type 0
 AreLeft [] marks after = after ≡ []
 AreLeft (m ∷ ms) [] after = ⊥

@@ -72,8 +72,8 @@ Gives old i (Ok text) new =
     (new ≡ old) × ((message : Message) × (slice_get old.slots i ≡ Some (Some message)) × (text.items ≡ message.text))
 Gives old i (Err fault) new = Denies old fault new
 
--- a piece begins with so many octets of the text of the message at a place, from `start` on; with none only
--- if none are left
+-- a piece begins with this number of octets of the text of the message at a place, from `start` on; with none
+-- only if none are left
 abbrev pub GivesPart : Mail → ℕ → ℕ → Result ℕ DropFault → List ℕ → Mail → Type 0
 GivesPart old i start (Ok n) piece new =
     (new ≡ old) × ((message : Message) × (slice_get old.slots i ≡ Some (Some message))

@@ -201,8 +201,8 @@ AsksRemovals old Open new = new.removals ≡ old.removals
 AsksRemovals old (Give rows i line top) new = new.removals ≡ old.removals
 AsksRemovals old (Leave rows) new = new.removals ≡ with_marked rows old.removals
 
--- the maildrop refused its listing; or there are as many rows as messages, none marked, and with any maildrop
--- they keep to the limits
+-- the maildrop refused its listing; or there are as many rows as messages, none marked, and whatever the maildrop
+-- does, they keep to the limits
 abbrev pub Opens : {D : Type 0} → (D → Type 0) → (D → Mail) → D → List ℕ → State → D → Type 0
 Opens sound mail old answer next new =
     ((answer ≡ said (codes "-ERR maildrop unavailable")) × (next ≡ Authorization None)
@@ -240,7 +240,7 @@ pub record Answers {D : Type 0} (sound : D → Type 0) (mail : D → Mail) (aske
   pub removals : AsksRemovals (mail old) asked_for (mail new)
   pub does : Does sound mail asked_for old answer next new
 
--- memory ran out for the answer: no message and no count changed, but the places may be other ones
+-- memory ran out for the answer: no message and no count changed, but the places may have changed
 pub record Unanswered {D : Type 0} (sound : D → Type 0) (mail : D → Mail) (old new : D) : Type 0 where
   pub failures : (mail new).failures ≡ (mail old).failures
   pub removals : (mail new).removals ≡ (mail old).removals

@@ -80,7 +80,7 @@ fn open<D: Maildrop>(alloc: Global, drop: &mut D) -> Result<Step, ServerFault>
 }
 
 /// The reply with the text of the message at a place after its first line: all of the text, or
-/// its head and so many lines after it. It is made until it ends or has more than `limit` octets.
+/// its head and some lines after it. It is made until it ends or has more than `limit` octets.
 fn give<D: Maildrop>(
     alloc: Global,
     drop: &mut D,
@@ -130,7 +130,7 @@ fn retr<D: Maildrop>(
     give(alloc, drop, reply, TextBody::new(i, None), limit)
 }
 
-/// TOP: the head of a message, and so many lines after it.
+/// TOP: the head of a message, and `count` lines after it.
 fn top<D: Maildrop>(
     alloc: Global,
     drop: &mut D,

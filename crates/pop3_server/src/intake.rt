@@ -21,7 +21,7 @@ pub const MAX_LINE: usize = 512;
 /// What came from the link.
 #[derive(Clone, Copy)]
 pub enum Heard {
-    /// A line of so many octets, without its CR LF, waits.
+    /// A line of this number of octets, without its CR LF, waits.
     Line(usize),
     /// A line longer than [`MAX_LINE`] was read to its CR LF and dropped.
     LongLine,

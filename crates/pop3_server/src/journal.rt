@@ -8,13 +8,13 @@ use crate::state::State;
 /// What happened in a session.
 #[derive(Clone, Copy)]
 pub enum Event {
-    /// A client logged in, and finds so many messages.
+    /// A client logged in, and finds this number of messages.
     LoggedIn(usize),
     /// A login was refused.
     Refused,
     /// The name and the password were right, but the maildrop couldn't be listed.
     Unavailable,
-    /// QUIT ended the session: so many messages were removed, and so many couldn't be.
+    /// QUIT ended the session: how many messages were removed, and how many couldn't be.
     Left(usize, u64),
 }
 
@@ -32,7 +32,7 @@ impl Journal for NoJournal {
     fn note(&mut self, _event: Event) {}
 }
 
-/// The event between one state and the next, with so many refused calls of the maildrop in between.
+/// The event between one state and the next, if the maildrop refused `refused` calls in between.
 pub fn event_of(old: &State, new: &State, refused: u64) -> Option<Event>
     ensures { result ≡ event_of old.now new.now refused }
 {

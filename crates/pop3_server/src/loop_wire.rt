@@ -104,7 +104,7 @@ impl<D: Maildrop> LoopWire<D> {
         Some(line.len())
     }
 
-    /// Answers the first line that waits, of so many octets.
+    /// Answers the first line that waits, which has `octets` octets without its CR LF.
     fn answer_line(&mut self, octets: usize) -> Result<(), WireDown>
         requires up { self.old.down ≡ false }
         requires opened { is_open self.old.machine.state ≡ true }

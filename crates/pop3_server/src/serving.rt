@@ -117,8 +117,8 @@ fn answer_line<D: Maildrop, W: Wire, J: Journal>(
 /// is read, so that the memory needed doesn't grow with it.
 ///
 /// A line longer than 512 octets, its CR LF included, is read to its CR LF, and the answer is
-/// `-ERR bad command`. At most 16,777,216 octets are read; then it is as at the end of input. The
-/// server must be open, which `Server::is_open` tests.
+/// `-ERR bad command`. At most 16,777,216 octets are read; what follows is treated as the end of
+/// input. The server must be open, which `Server::is_open` tests.
 ///
 /// ReadFailed or WriteFailed if the link refused a call; MaildropFailed if the maildrop refused a
 /// part of a text after other parts of it were sent; NoMemory if memory ran out, before anything

@@ -43,7 +43,7 @@ impl SizeCount {
         }
     }
 
-    /// Counts so many octets more, up to the greatest number.
+    /// Counts `octets` more, up to the greatest number.
     fn count(&mut self, octets: usize)
         ensures { self.new ≡ record self.old { octets = capped (self.old.octets + octets) } }
     {

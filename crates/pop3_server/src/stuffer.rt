@@ -19,7 +19,7 @@ impl Stuffer {
         Stuffer { in_line: false }
     }
 
-    /// Appends the full stop that some octets of a line need in front of them, if they do.
+    /// Appends a full stop if some octets of a line need one in front of them.
     fn put_stuffing(self, body: &mut Vec<u8>, octets: &[u8]) -> Result<(), AllocError>
         ensures body { IfOk result (λ _. body.new.items ≡ body.old.items ++ stuffing self.in_line octets.now) }
         ensures len { IfOk result (λ _. vec_len body.new ≡ vec_len body.old + length (stuffing self.in_line octets.now)) }

@@ -24,13 +24,13 @@ pub struct TextBody {
     place: usize,
     // How many octets of the text were given.
     start: usize,
-    // The place in the top, if no more than the top is asked for.
+    // The place in the top, if only the top is asked for.
     top: Option<Top>,
     stuffer: Stuffer,
 }
 
 impl TextBody {
-    /// The start of the text at a place: of all of it, or of its head and so many lines after it.
+    /// The start of the text at a place: of all of it, or of its head and `count` lines after it.
     pub fn new(place: usize, count: Option<u32>) -> TextBody
         ensures place { result.place ≡ place }
         ensures start { result.start ≡ 0 }

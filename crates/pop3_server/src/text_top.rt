@@ -5,8 +5,8 @@ ghost use Rattle.pop3_server.specs.TextPiece.{taken, top_begun};
 
 use crate::text_line::cut_line;
 
-/// The place in the top of a text: its lines up to and including the first empty one, and so many
-/// lines more.
+/// The place in the top of a text: its lines up to and including the first empty one, and a given
+/// number of lines more.
 #[derive(Clone, Copy)]
 pub struct Top {
     // Whether the first empty line hasn't come yet.

@@ -23,7 +23,7 @@ use Rattle.mail_terms.specs.Text.{HasNoLf}
 use Rattle.pop3_wire.proofs.LineLemmas.{same_cons}
 use Rattle.pop3_wire.proofs.StuffLemmas.{no_pair}
 
--- bytes with a first one that passes
+-- if all bytes pass and there are any, the first one passes
 starts : (test : ℕ → Bool) (ds : List ℕ) → 0 < length ds → list_all test ds ≡ true → (d : ℕ) × (rest : List ℕ) × (ds ≡ d ∷ rest) × (test d ≡ true)
 starts test [] some e = absurd (omega arith)
 starts test (d ∷ ds) some e = (d, ds, refl, (and_parts (test d) (list_all test ds) e).0)

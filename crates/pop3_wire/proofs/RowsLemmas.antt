@@ -175,7 +175,7 @@ uid_form line n uid e =
 
 -- ---- the other direction: a line of the form is read
 
--- what follows doesn't go on with a byte that passes
+-- what follows doesn't begin with a byte that passes
 abbrev Stops : (ℕ → Bool) → List ℕ → Type 0
 Stops test rest = (byte : ℕ) (more : List ℕ) → rest ≡ byte ∷ more → test byte ≡ false
 
@@ -196,7 +196,7 @@ front_passed test front rest all stops = ap (λ (n : ℕ). drop n (front ++ rest
 bind_read : {A B E : Type 0} (r : Result A E) (a : A) (f : A → Result B E) → r ≡ Ok a → (r >>= f) ≡ f a
 bind_read r a f e = ap (λ (s : Result _ _). s >>= f) e
 
--- the field begins with a byte that is no space
+-- the field begins with a byte that isn't a space
 Begins : List ℕ → Type 0
 Begins field = (byte : ℕ) × (more : List ℕ) × (field ≡ byte ∷ more) × (is_space byte ≡ false)
 

@@ -224,7 +224,7 @@ middle_run piece (suc n) fits none bytes text h =
     let text_is : (text ++ take n piece) ++ get_or piece n 0 ∷ [] ≡ text ++ take (suc n) piece = append_assoc text (take n piece) (get_or piece n 0 ∷ []) ∙ ap (λ (l : List ℕ). text ++ l) (sym more) in
     subst (λ (b : List ℕ). InLine b (text ++ take (suc n) piece)) bytes_are (subst (InLine ((bytes ++ take n piece) ++ get_or piece n 0 ∷ [])) text_is next)
 
--- the first of the octets left of a piece were read
+-- more octets of a piece were read
 pub turn_on : (spot next : Spot) (bytes text piece : List ℕ) (used more : ℕ) (out out' : List ℕ)
     → Reaches spot (bytes ++ take used piece) (text ++ out)
     → ((b t : List ℕ) → Reaches spot b (t ++ out) → Reaches next (b ++ take more (take (length piece - used) (drop used piece))) (t ++ out'))

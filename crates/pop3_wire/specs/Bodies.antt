@@ -28,7 +28,7 @@ pub record TookBody (limit : ℕ) (old new : Place) (text gained : List ℕ) : T
   pub within : length body ≤ limit
   pub heard : old.waiting ++ gained ≡ body ++ new.waiting
 
--- at most so many of the octets that waited and were gained were used, and all that follow them wait
+-- at most `limit` of the octets that waited and were gained were used, and all that follow them wait
 pub record LeavesRest (limit : ℕ) (old new : Place) : Type 0 where
   pub gained : List ℕ
   pub used : List ℕ
@@ -70,7 +70,7 @@ pub record UnderWay (limit : ℕ) (old new : Place) (body : Rest) (text : List �
   pub drew : Drew old.link new.link gained
   pub steady : GoesOn old.link new.link
 
--- the next piece of such a body: it is added to the text that was known; or there is none, for this cause
+-- the next piece of that body was added to the known text; or there is none, for this cause
 abbrev pub TakesPiece : ℕ → Place → List ℕ → Result Piece BodyFault → List ℕ → Place → Rest → Type 0
 TakesPiece limit start text (Ok piece) out new body = UnderWay limit start new body (text ++ take piece.put out)
 TakesPiece limit start text (Err fault) out new body = LeavesRest limit start new

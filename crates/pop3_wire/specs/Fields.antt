@@ -51,7 +51,7 @@ number_and_size line = do
 unfoldable pub legal_id : List ℕ → Result (List ℕ) WireFault
 legal_id field = if is_legal_id field then Ok field else Err BadField
 
--- nothing but spaces follows
+-- only spaces follow
 unfoldable pub nothing_more : List ℕ → List ℕ → Result (List ℕ) WireFault
 nothing_more id bytes = if length (past is_space bytes) == 0 then Ok id else Err BadField
 

@@ -6,7 +6,7 @@ use Rattle.std.specs.List.{list_all}
 abbrev pub crlf : List ℕ
 crlf = 13 ∷ 10 ∷ []
 
--- it holds the pair CR LF nowhere; it may hold a lone CR or a lone LF
+-- it doesn't hold the pair CR LF; it may hold a lone CR or a lone LF
 abbrev pub IsLine : List ℕ → Type 0
 IsLine line = (front rest : List ℕ) → line ≡ front ++ (crlf ++ rest) → ⊥
 

@@ -5,7 +5,7 @@ use Rattle.pop3_wire.specs.Link.{Link}
 use Rattle.pop3_wire.specs.declared.line_reader.LineFault.{LineFault}
 use Rattle.pop3_wire.specs.declared.line_reader.LineFault.TheVariants.{Ended, Failed, TooLong}
 
--- a link, and the octets that it gave and that nobody has used yet
+-- a link, and those of its octets that wait to be used
 pub record Place : Type 0 where
   pub link : Link
   pub waiting : List ℕ

@@ -9,7 +9,7 @@ use Rattle.mail_terms.specs.UniqueId.{IsLegalId}
 use Rattle.pop3_wire.specs.Body.{IsContent, unstuffed}
 use Rattle.pop3_wire.specs.Fields.{is_space, number_and_size, number_and_id}
 
--- nothing but spaces
+-- only spaces
 abbrev pub AreSpaces : List ℕ → Type 0
 AreSpaces bytes = IsTrue (list_all is_space bytes)
 
@@ -67,7 +67,7 @@ uid_row number uid = decimal number ++ codes " " ++ uid
 abbrev pub IsSentAsIs : List ℕ → Type 0
 IsSentAsIs line = IsContent line × (unstuffed line ≡ line)
 
--- a row that is written is such a line, and is read as it was meant
+-- a row that is written is sent as it is, and is read as it was meant
 abbrev pub ScanRowsAreRead : Type 0
 ScanRowsAreRead = (number size : ℕ) → number ≤ greatest_number → size ≤ greatest_size
     → IsSentAsIs (scan_row number size) × (number_and_size (scan_row number size) ≡ Ok (number, size))

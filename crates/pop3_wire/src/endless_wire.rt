@@ -68,7 +68,7 @@ impl EndlessWire {
     }
 }
 
-/// What follows so many octets, up to the end of the front or of the pattern.
+/// What follows the first `given` octets, up to the end of the front or of the pattern.
 fn next_piece<'a>(front: &'a [u8], pattern: &'a [u8], given: u64) -> &'a [u8]
     requires { 0 < length pattern.now }
     ensures some { 0 < length result.now }

@@ -82,7 +82,7 @@ fn legal_id(field: &[u8]) -> Result<&[u8], WireFault>
     Ok(field)
 }
 
-/// An id, if nothing but spaces follows it.
+/// An id, if only spaces follow it.
 #[tactic(auto, unfolding(crate::specs::Fields::nothing_more))]
 fn nothing_more<'a>(id: &'a [u8], bytes: &[u8]) -> Result<&'a [u8], WireFault>
     ensures ok { IfOk result (λ whole. nothing_more id.now bytes.now ≡ Ok whole.now) }

@@ -8,7 +8,7 @@ use crate::wire::{Wire, WireDown};
 use mail_terms::FailureCount;
 use std::marker::Model;
 
-/// A link with a fuse: the first so many calls of `send` and `recv` are passed on to it, and every
+/// A link with a fuse: a given number of calls of `send` and `recv` are passed on to it, and every
 /// later call is refused and counted.
 #[derive(Drop)]
 pub struct FusedWire<W> {
@@ -26,7 +26,7 @@ impl<W> Model for FusedWire<W> {
 }
 
 impl<W> FusedWire<W> {
-    /// This link with a fuse that passes on so many calls.
+    /// This link with a fuse that passes on `passes` calls.
     pub fn new(wire: W, passes: u64) -> FusedWire<W>
         ensures { result ≡ record { wire = wire; left = passes; failures = 0 } }
     {

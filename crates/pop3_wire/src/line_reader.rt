@@ -25,7 +25,7 @@ pub enum LineFault {
 /// How many octets may wait in a reader.
 const MOST_WAITING: usize = 4_096;
 
-/// What a link gave and nobody has used yet: at most 4,096 octets. It allocates nothing.
+/// The octets that a link gave and that wait to be used, at most 4,096. It allocates nothing.
 ///
 /// It reads only when it must: while a whole line waits, it makes no `recv`.
 #[derive(Drop)]
@@ -102,8 +102,8 @@ impl LineReader {
         self.fill_at_most(wire, MOST_WAITING)
     }
 
-    /// Takes what the link gives next, at most so many octets, in one `recv`, after the octets that wait
-    /// already, and returns how many came.
+    /// Takes what the link gives next, at most `most` octets, in one `recv`, after the octets that
+    /// wait already, and returns how many came.
     pub fn fill_at_most<W: Wire>(&mut self, wire: &mut W, most: usize) -> Result<usize, WireDown>
         requires room { length self.old < most_waiting }
         requires some { 0 < most }

@@ -40,7 +40,7 @@ pub data RcLine : Type 0 where
   key : List ℕ → List ℕ → RcLine
   bad : RcLine
 
--- empty, blanks alone, or a comment
+-- empty, only blanks, or a comment
 abbrev pub is_skipped : List ℕ → Bool
 is_skipped line = length (past_blanks line) == 0 || is_comment_sign (slice_index (past_blanks line) 0)
 

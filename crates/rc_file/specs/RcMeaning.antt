@@ -77,7 +77,7 @@ first_fault [] = None
 first_fault (None ∷ faults) = first_fault faults
 first_fault (Some fault ∷ faults) = Some fault
 
--- all that can be wrong with a file of these rows, in the order in which it decides
+-- all that can be wrong with a file of these rows; the first fault decides
 abbrev pub faults_of : List ℕ → List RcRow → List (Option RcFault)
 faults_of bytes rows =
     too_long bytes ∷ first_bad rows ∷ missing_section rows Retriever ∷ missing_section rows DestinationSection

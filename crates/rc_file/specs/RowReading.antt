@@ -61,7 +61,7 @@ ends_in_key [] = false
 ends_in_key (row ∷ []) = is_key_row row
 ends_in_key (row ∷ next ∷ rows) = ends_in_key (next ∷ rows)
 
--- the rows of a file of which these rows were read; these lines, numbered from n on, still have to be read
+-- the rows of a file, if these rows were read, and these lines, numbered from n on, still have to be read
 unfoldable pub file_rows : List RcRow → ℕ → List RcLine → List RcRow
 file_rows rows n lines = continued rows (added lines) ++ rows_from (last_section rows) (ends_in_key rows) n lines
 

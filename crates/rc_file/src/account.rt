@@ -81,7 +81,7 @@ fn read_retriever(alloc: Global, rows: &[ReadRow<'_>]) -> Result<Retriever, RcFa
     })
 }
 
-/// Refuses any retriever but that for POP3.
+/// Refuses any type of retriever except that for POP3.
 fn expect_pop3(rows: &[ReadRow<'_>]) -> Result<(), RcFault>
     ensures { ReadsAs (fault_at (rows_in rows.now) Key.RetrieverKind) tt result }
 {

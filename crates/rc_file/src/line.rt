@@ -17,7 +17,7 @@ use std::str;
 
 /// A line, by its kind.
 pub(crate) enum JudgedLine<'a> {
-    /// Empty, blanks alone, or a comment.
+    /// Empty, only blanks, or a comment.
     Skipped,
     /// A line that continues a value.
     More(&'a str),
@@ -78,7 +78,7 @@ fn end_blanks(text: &str) -> usize
         .count()
 }
 
-/// Whether the line is empty, blanks alone or a comment.
+/// Whether the line is empty, only blanks or a comment.
 fn is_skipped(line: &str) -> bool
     ensures { result ≡ is_skipped line.now }
 {

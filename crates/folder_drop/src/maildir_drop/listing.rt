@@ -62,8 +62,8 @@ impl<'a, R: Files + Clock + RandomSource + AllocGlobal + Clone + Drop> MaildirDr
         }
     }
 
-    /// A file's message, with its id once more for the ids that were listed before. None if its id is one
-    /// of these, if it is above the limit of sizes, or if the file is gone.
+    /// A file's message, and a copy of its id for the set of listed ids. None if the set has its id
+    /// already, if it is above the limit of sizes, or if the file is gone.
     fn message(
         &self,
         last_seen: &mut SeenFiles,
@@ -89,8 +89,8 @@ impl<'a, R: Files + Clock + RandomSource + AllocGlobal + Clone + Drop> MaildirDr
         }
     }
 
-    /// A set for so many ids. Its keys are random, since the names of files may come from ids that a
-    /// server chose.
+    /// An empty set with room for `count` ids. Its hash keys are random, since the names of files
+    /// may come from ids that a server chose.
     fn no_ids(&self, count: usize) -> Result<Ids, Unread>
         ensures { IfOk result (λ ids. IsEmpty ids) }
     {
@@ -98,8 +98,8 @@ impl<'a, R: Files + Clock + RandomSource + AllocGlobal + Clone + Drop> MaildirDr
         Ok(HashSet::with_capacity_and_hasher(self.rt.alloc(), count, hasher)?)
     }
 
-    /// The messages of these files: only the first of several with one id, none above the limits,
-    /// and none whose file is gone.
+    /// The messages of these files: only the first of several with the same id, none above the
+    /// limits, and none whose file is gone.
     #[tactic(auto, using(crate::proofs::MaildirLemmas::ids_push))]
     fn list(&self, last_seen: &mut SeenFiles, found: FoundFiles) -> Result<ListedMessages, Unread>
         ensures within { IfOk result (λ listed. vec_len listed.entries ≤ MAX_COUNT) }
