@@ -1,4 +1,4 @@
--- If a server's unique-ids are distinct and persistent and its mail unchanged, after any list of sessions,
+-- Where a server's unique-ids are distinct and persistent and its mail unchanged, after any list of sessions,
 -- each cut at any reply or refused write, the Maildir holds exactly a prefix of the selected messages in
 -- maildrop order, each once, byte for byte with lines ended by LF; an uncut session leaves out only what its
 -- limits exclude; and DELE was sent only for messages held. What a reader took away counts as held here.

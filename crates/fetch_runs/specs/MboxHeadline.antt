@@ -1,4 +1,4 @@
--- If a server's unique-ids are distinct and persistent and its mail unchanged, after any list of sessions that
+-- Where a server's unique-ids are distinct and persistent and its mail unchanged, after any list of sessions that
 -- read only what is new, each cut at any reply or refused write, an mboxrd file holds what it held before the
 -- first one, followed by the entries of exactly a prefix of the selected messages in maildrop order, each once,
 -- and by at most a prefix of the next one's entry, whose intent is then open; after an uncut session nothing of a

@@ -83,7 +83,7 @@ pub fn honest_sessions()
     honest_sessions_bring_messages();
 }
 
-/// If a server's unique-ids are distinct and persistent and its mail unchanged, after any list of
+/// Where a server's unique-ids are distinct and persistent and its mail unchanged, after any list of
 /// sessions, each cut at any reply or refused write, the Maildir holds exactly a prefix of the selected
 /// messages in maildrop order, each once, byte for byte with lines ended by LF; an uncut session leaves
 /// out only what its limits exclude; and DELE was sent only for messages held.
@@ -208,7 +208,7 @@ pub fn mbox_any_server()
     mbox_sessions_are_safe();
 }
 
-/// If a server's unique-ids are distinct and persistent and its mail unchanged, after any list of
+/// Where a server's unique-ids are distinct and persistent and its mail unchanged, after any list of
 /// sessions that read only what is new, each cut at any reply or refused write, an mboxrd file holds
 /// what it held before the first one, followed by the entries of exactly a prefix of the selected
 /// messages in maildrop order, each once, and by at most a prefix of the next one's entry, whose
