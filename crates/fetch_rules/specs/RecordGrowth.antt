@@ -54,13 +54,13 @@ abbrev pub BytesStand : Type 0
 BytesStand = (rows : List Row) (intent : Option Intent) → IsRecord rows → IntentHasRow rows intent
     → Means (file_of rows intent) (Rows Two rows intent false)
 
--- a law: what was appended whole to a file that is neither empty nor torn counts
+-- a law: if a file of version 2 is neither empty nor torn, what was appended to it whole counts
 abbrev pub AppendedCounts : Type 0
 AppendedCounts = (bytes added : List ℕ) (old new : List Row) (before after : Option Intent) → bytes ≢ []
     → Means bytes (Rows Two old before false) → Grows old before added new after
     → Means (bytes ++ added) (Rows Two new after false)
 
--- a law: only a front of it, appended there, counts for nothing, and is a torn end
+-- a law: if only a front of it was appended there, that front counts for nothing, and is a torn end unless it is empty
 abbrev pub CutIsIgnored : Type 0
 CutIsIgnored = (bytes added front behind : List ℕ) (old new : List Row) (before after : Option Intent)
     → bytes ≢ [] → Means bytes (Rows Two old before false) → Grows old before added new after

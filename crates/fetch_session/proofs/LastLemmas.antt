@@ -1,4 +1,4 @@
--- What of lists of tasks outlives a loss of power, from what of single tasks does.
+-- What a list of tasks leaves that outlives a loss of power, by what its single tasks leave.
 use Rattle.std.proofs.Common.{◌≡◌, ℕ, List, [], ◌∷◌, ◌++◌, Option, None, Some, Result, Ok, Err, true, false, Bool, refl, sym, ap, subst, ◌∙◌, inl, inr, append_assoc, arith, length, length-append, ◌≤◌}
 use Rattle.std.proofs.lemmas.List.{append-nil, append_cancel_left}
 use Rattle.std.proofs.lemmas.Grind.{flat_map-append}

@@ -19,7 +19,7 @@ use Rattle.pop3_client.specs.declared.fault.Fault.{Fault}
 use Rattle.pop3_client.specs.declared.fault.Fault.TheVariants.{StoreRefused}
 use Rattle.pop3_client.specs.declared.fault.Why.TheVariants.{Missing, Refused}
 
--- `new` gained these files after the others, and no other file changed
+-- `new` gained these files after the others; no other file changed, and the same folders are there
 pub record Gained (old new : Maildir) (files : List File) : Type 0 where
   pub in_new : new.in_new ≡ old.in_new ++ files
   pub in_cur : new.in_cur ≡ old.in_cur

@@ -153,8 +153,9 @@ fn session_over<W: Wire, D: MaildirDisk, F: FlatFile, H: BuildHasher>(
 /// held, deletes what is due, and quits. `now` is in seconds since 1970.
 ///
 /// A text for a Maildir goes piece by piece into a file. A text for an mboxrd file is read whole,
-/// its intent is written to the record, and then its entry is appended; if the session is cut in
-/// between, the next one cuts the entry off or counts it, before it asks for a text.
+/// its intent is written to the record, and then its entry is appended and its id marked; if the
+/// session is cut before the mark is saved, the next one cuts the entry off or counts it, before it
+/// asks for a text.
 ///
 /// The first fault cuts it. Whatever the server sends and whichever call is refused, no text that
 /// is stored is lost or changed. With n messages it takes from the link at most 2,048 octets for

@@ -47,7 +47,7 @@ pub left_named : (d : Directory) (name : List ℕ) (left : Option (List ℕ)) �
 left_named d name left named (inl h) = h
 left_named d name left named (inr was) = absurd (subst (λ (older : List Older). WasOnce older name left) named was)
 
--- what is left of a file, if names lead to what they led to
+-- what is left of the file of a name, if the names are on the disk
 left_held : (old new : Directory) (name : List ℕ) (left : Option (List ℕ)) (b : Blob) → IsOnDisk old name
     → Holds new name (Some b) old.older → MayBe new name left → IsLeftOf (Some b) left
 left_held old new name left b is h may =

@@ -153,7 +153,7 @@ FlushesMade old (Err fault) new = new ≡ making old None
 abbrev pub PutsIn : Directory → List ℕ → Directory → Type 0
 PutsIn old name new = (b : Blob) × (old.made ≡ Some b) × (new ≡ put_in old b name)
 
--- `put`: so it is; a refused call did it, or changed only the file made
+-- `put`: the file made is put under the name; a refused call did that, or changed only the file made
 abbrev pub Puts : {T : Type 0} → Directory → List ℕ → Result T StoreFault → Directory → Type 0
 Puts old name (Ok done) new = PutsIn old name new
 Puts old name (Err fault) new = ChangesMade old new ⊎ PutsIn old name new

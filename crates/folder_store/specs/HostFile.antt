@@ -34,7 +34,7 @@ MayBeFlushed b c = (c ≡ b) ⊎ ((c ≡ flushed b) ⊎ (c ≡ doubted b))
 abbrev pub IsAppended : List ℕ → Blob → Blob → Type 0
 IsAppended bytes b c = c ≡ flushed (appended b bytes)
 
--- the same if there are any bytes, else the file is as it was
+-- the same; if there are no bytes, the file may also be as it was
 abbrev pub IsSoFar : List ℕ → Blob → Blob → Type 0
 IsSoFar bytes b c = ((bytes ≡ []) × (c ≡ b)) ⊎ IsAppended bytes b c
 

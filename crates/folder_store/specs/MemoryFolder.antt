@@ -20,7 +20,7 @@ entries_of files = map entry_of files
 abbrev pub older_of : {A : Type 0} → String A × Option Kept → Older
 older_of pair = record { name = string_bytes pair.0; was = option_map blob_of pair.1 }
 
--- the first of some bytes, and zeros after them, no more in all
+-- the first bytes of a content, and zeros after them, in all at most as many as the content has
 abbrev pub IsZeroed : List ℕ → ℕ → List ℕ → Type 0
 IsZeroed content len bytes =
     (zeros : List ℕ) × (bytes ≡ take len content ++ zeros) × ((k : ℕ) → slice_index zeros k ≡ 0) × (length bytes ≤ length content)

@@ -152,7 +152,7 @@ abbrev pub LeavesBut : Directory → List ℕ → List ℕ → Directory → Typ
 LeavesBut old title bytes new =
     (name : List ℕ) (left : Option (List ℕ)) → MayBe new name left → MayBe old name left ⊎ ((name ≡ title) × (left ≡ Some bytes))
 
--- `settle`: whatever it answers, all that may be newly left is these bytes, whole, under this name; after Ok they are
+-- `settle`: whatever it answers, all that may be newly left is these bytes, whole, under this name; after Ok they are left
 pub record SettlesForGood {T : Type 0} (old : Directory) (name bytes : List ℕ) (r : Result T StoreFault) (new : Directory) : Type 0 where
   pub leaves : LeavesBut old name bytes new
   pub outlives : OnOk r (Stands new name (Some bytes))

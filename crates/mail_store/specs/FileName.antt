@@ -65,7 +65,7 @@ NamesHaveStems = (account uid : List ℕ) (size : ℕ) → IsAccountText account
 abbrev pub NamesAreBases : Type 0
 NamesAreBases = (account uid : List ℕ) (size : ℕ) → IsAccountText account → base (name_of account uid size) ≡ name_of account uid size
 
--- the length of the longest stem: 64 digits, a full stop, and two digits for each of 70 characters; and of the longest
+-- the length in bytes of the longest stem: 64 digits, a full stop, and two digits for each of 70 characters; and of the longest
 -- name: a stem, `,S=` and 20 digits
 abbrev pub longest_stem : ℕ
 longest_stem = 205

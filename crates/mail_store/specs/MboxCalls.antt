@@ -33,8 +33,8 @@ Checks old (Ok done) new = ((was : List ℕ) × GoesOn old was) × (new ≡ old)
 Checks old (Err fault) new = RefusesLook old fault new
 
 -- `append_entry`: the entry follows the file's bytes; there is no file; no entry may follow it;
--- memory ran out; or a call was refused and the file is as it was, or the cut that follows was refused
--- too, and a front of the entry may be there
+-- memory ran out; or one call was refused and the file is as it was; or the cut that follows was
+-- refused too, and a front of the entry may be there
 abbrev pub AppendsEntry : {T : Type 0} → Stored → List ℕ → Result T StoreFault → Stored → Type 0
 AppendsEntry old text (Ok done) new = (was : List ℕ) × GoesOn old was × (new ≡ holding old (was ++ entry_of text))
 AppendsEntry old text (Err Missing) new = (old.content ≡ None) × (new ≡ old)

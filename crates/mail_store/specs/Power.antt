@@ -7,7 +7,7 @@ use Rattle.mail_store.specs.declared.maildir.disk.Folder.{Folder}
 
 -- ---- a Maildir: names that stay in `new` or `cur`, and whole files that outlive a loss of power
 
--- what would outlive a loss of power before still does
+-- what a loss of power would have left before, it would still leave
 abbrev pub KeepsMail : (List ℕ → Type 0) → (File → Type 0) → (List ℕ → Type 0) → (File → Type 0) → Type 0
 KeepsMail stays outlives stays' outlives' = ((name : List ℕ) → stays name → stays' name) × ((f : File) → outlives f → outlives' f)
 
@@ -25,9 +25,9 @@ SettledOutlives old name (Err fault) outlives = Unit {0}
 abbrev pub AllStay : Maildir → (List ℕ → Type 0) → Type 0
 AllStay maildir stays = (folder : Folder) (name : List ℕ) → Contains (names_of (files_in maildir folder)) name → stays name
 
--- ---- a file: bytes that begin whatever a loss of power leaves of it
+-- ---- a file: bytes with which it still begins after a loss of power
 
--- what would outlive a loss of power before still does
+-- what a loss of power would have left before, it would still leave
 abbrev pub KeepsBytes : (List ℕ → Type 0) → (List ℕ → Type 0) → Type 0
 KeepsBytes outlives outlives' = (bytes : List ℕ) → outlives bytes → outlives' bytes
 

@@ -46,7 +46,7 @@ impl From<AllocError> for BodyFault {
     }
 }
 
-/// Takes octets from the link if none wait already.
+/// Takes octets from the link if none wait; after Ok some do.
 fn draw<W: Wire>(wire: &mut W, reader: &mut LineReader) -> Result<(), BodyFault>
     ensures counted { CountsRefusal is_refusal (W.history wire.old) result (W.history wire.new) }
     ensures frugal { IfErr result (λ fault. fault ≢ BodyFault.NoMemory) }

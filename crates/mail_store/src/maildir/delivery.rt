@@ -16,8 +16,8 @@ use std::alloc::Global;
 /// file is then not in `new`, or in `new` and whole. No other file of `new` or `cur` changes, and
 /// none is begun afterwards.
 ///
-/// No file may be begun before (see `abandon`), and the name must not be in `new` (see `names`, and
-/// `held` for the stem of an id).
+/// No file may be begun already (see `abandon`), and the name must not be in `new` (see `names`,
+/// and `held` for the stem of an id).
 pub fn deliver<D: MaildirDisk>(
     alloc: Global,
     disk: &mut D,

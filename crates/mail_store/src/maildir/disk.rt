@@ -48,9 +48,9 @@ pub trait MaildirDisk {
             × ToldStay result (stays self.new) }
         ensures count { Tallies (refuses is_refusal result) (maildir self.old).failures (maildir self.new).failures };
 
-    /// Begins an empty file of this name in `tmp`; an older file of that name there is replaced. No
-    /// file may be begun before (see `abandon`). Missing if `tmp` isn't there, else Refused; after
-    /// a fault none is begun.
+    /// Begins an empty file of this name in `tmp`; an older file of that name there is replaced. None
+    /// may be begun already (see `abandon`). Missing if `tmp` isn't there, else Refused; after a
+    /// fault none is begun.
     fn begin(&mut self, name: &str) -> Result<(), StoreFault>
         requires { sound self.old → (maildir self.old).begun ≡ None }
         ensures begins { sound self.new → sound self.old

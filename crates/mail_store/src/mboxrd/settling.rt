@@ -131,9 +131,9 @@ fn look_behind<F: FlatFile>(file: &mut F, start: u64, behind: u64) -> Result<Loo
 ///
 /// What follows is looked at first. It is ours only if it is no longer than the entry, agrees with
 /// an entry's first line, as far as both go, and no other line begins with `From `. A page of zeros
-/// in place of the first line also agrees. Anything else isn't touched. It is whole only if it has
-/// the entry's length, its last line is empty, and none of the file's pages in it is all zeros, as
-/// a loss of power can leave them; otherwise the file is cut back to `start`.
+/// in place of the first line also agrees. What isn't ours isn't touched. What is ours is whole
+/// only if it has the entry's length, its last line is empty, and none of the file's pages in it is
+/// all zeros, as a loss of power can leave them; otherwise the file is cut back to `start`.
 ///
 /// Missing if there is no file. Refused if the device refused: the file is as it was, or settled.
 pub fn settle_file<F: FlatFile>(file: &mut F, start: u64, len: u64) -> Result<bool, StoreFault>
