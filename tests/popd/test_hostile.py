@@ -1,5 +1,8 @@
-"""Hostile clients: the server's memory, its open files and the time that it works stay flat, and the next
-client is served as if none of them had come."""
+"""Hostile clients: the server's memory, its open files and the time that it works stay flat, and the next client is
+served as if none of them had come.
+
+With TESTS_TIMES there are that many times as many clients, and the tests print what they measure.
+"""
 
 import os
 import socket
@@ -17,6 +20,8 @@ NAMES_AND_TEXTS = ((b"a", b"Subject: one\n\none\n"), (b"b", b"two\n" * 1000))
 # Between two looks the memory may differ by what the system counts roughly, and the work by what a busy machine adds.
 ROOM = 1 << 20
 WORK_ROOM = 0.5
+
+TIMES = int(os.environ.get("TESTS_TIMES", "0"))
 
 
 def memory_of(process):
@@ -66,21 +71,28 @@ class Hostile(unittest.TestCase):
             self.assertEqual(client.rest(), b"")
         self.assertEqual(self.maildir.names(), self.names)
 
-    def check_flat(self, attack, times):
-        """The attack, as often again as it takes to see growth, leaves memory, open files and the next client as they
-        were; and no half of it costs more work than the other."""
-        for _ in range(times // 2):
-            attack()
+    def measure(self):
+        """The memory in octets, the open files and the seconds of work, after a client that is served."""
         self.check_good_client()
-        memory, files, work = memory_of(self.process), open_files_of(self.process), [seconds_of_work(self.process)]
-        for _ in range(2):
-            for _ in range(times // 2):
+        return memory_of(self.process), open_files_of(self.process), seconds_of_work(self.process)
+
+    def check_flat(self, attack, times):
+        """The attack, made again as often as it takes to see growth, leaves memory, open files and the next client as
+        they were, and no third of it costs more work than the one before."""
+        third = times // 2 * max(TIMES, 1)
+        measured = []
+        for _ in range(3):
+            for _ in range(third):
                 attack()
-            self.check_good_client()
-            work.append(seconds_of_work(self.process))
-        self.assertLess(memory_of(self.process), memory + ROOM)
-        self.assertEqual(open_files_of(self.process), files)
-        self.assertLess(work[2] - work[1], 2 * (work[1] - work[0]) + WORK_ROOM)
+            measured.append(self.measure())
+        memory, files, work = zip(*measured)
+        second, last = work[1] - work[0], work[2] - work[1]
+        if TIMES:
+            print(f"{self.id()}: three times {third}: {[octets >> 10 for octets in memory]} KiB, {list(files)} files, "
+                  f"{second:.2f} and {last:.2f} s")
+        self.assertLess(memory[2], memory[0] + ROOM)
+        self.assertEqual(files[2], files[0])
+        self.assertLess(last, 2 * second + WORK_ROOM)
 
     def test_connections_that_are_opened_and_dropped(self):
         self.check_flat(lambda: self.service.client().close(), 400)
