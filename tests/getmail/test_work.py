@@ -22,7 +22,7 @@ LEAST_SECONDS = 0.01
 SHORT, LONG = 2_000_000, 40_000_000
 
 # The lines of an rc file: the longer one has most of the 65,536 octets that are allowed. Ten times as many lines cost about
-# ten times as much, or 100 times if each costs as much as there are lines. Both runs take less than LEAST_SECONDS.
+# ten times as much, or 100 times if each costs as much as there are lines. Both may take less than LEAST_SECONDS.
 FEW_LINES, MANY_LINES = 1_000, 10_000
 MOST_TIMES_LINES = 30
 LEAST_SECONDS_LINES = 0.002
@@ -37,7 +37,7 @@ def listings(count):
 
 
 def seconds_of(wanted, *words, given=b"", least=LEAST_SECONDS, **changes):
-    """How long a processor works for a run of the program that has to leave this: the least of three runs, or `least`."""
+    """How long a processor works for a run of the program that has to leave this: the least of three runs, at least `least`."""
     seconds = []
     for _ in range(3):
         before = resource.getrusage(resource.RUSAGE_CHILDREN)
