@@ -27,8 +27,28 @@ DOCUMENTS = [f"share/doc/getmail/{name}" for name in
              ("README.md", "CHANGELOG.md", "LICENSE", "FROM-GETMAIL6.md", "getmailrc.sample", "stunnel.conf", "crontab")]
 MESSAGE = b"Subject: one\n\nIt is.\n"
 # What the rules of `make install` and `make dist` read.
-PARTS = ("Makefile", "crates.txt", "install.sh", "README.md", "CHANGELOG.md", "LICENSE", "man", "completions", "examples",
+PARTS = ("Makefile", "build.py", "crates.txt", "install.sh", "README.md", "CHANGELOG.md", "LICENSE", "man", "completions", "examples",
          "packaging", "docs/FROM-GETMAIL6.md", "docs/getmailrc.sample")
+
+# What stands in for `rt try`, for each run of a program, and for `rt lib` and `rt run`: they use the built programs. The second
+# writes down for each crate which libraries were there.
+TRY = """#!/bin/sh
+name=${PWD##*/}
+while [ "$1" != -- ] && [ "$1" != --cases ]; do shift; done
+if [ "$1" = -- ]; then shift; exec ../../$name.built "$@"; fi
+for case in "$2"/*.args; do
+    echo "== $case"
+    ../../$name.built $(cat "$case")
+    echo "case=$case run=ended status=$?"
+done
+"""
+PROVE = """#!/bin/sh
+name=${PWD##*/}
+echo $name $(ls -d ../*/out/rlib/* 2>/dev/null | while read path; do echo ${path##*/}; done) >> $LOG
+sleep 2
+mkdir -p out/rlib
+if [ "$1" = run ]; then install $TOP/$name.built out/$name; else mkdir out/rlib/$name; fi
+"""
 
 
 def copy_repository(top):
@@ -46,7 +66,6 @@ def copy_repository(top):
         shutil.copy(programs.path_of(name), top / "bin" / name)
 
 
-@programs.needs("getmail", "popd")
 class Copied(unittest.TestCase):
     """A copy of the repository's files, with the programs as they were built last."""
 
@@ -249,48 +268,62 @@ class Dist(Copied):
 
 
 class Demo(Copied):
-    """`make demo` with the programs built, and `make` if they aren't and proving them takes a while."""
+    """`make demo` with the programs built, and before that, and `make`; the last two with a stand-in for `rt`."""
 
-    def path_without_rt(self):
-        """A folder with the few programs that the demonstration calls, and no `rt`."""
+    def path_with(self, rt=None):
+        """A folder with the few programs that are called, and with `rt` if its text is given."""
         folder = self.top.parent / "path"
         folder.mkdir()
-        for name in ("python3", "make", "bash", "sh"):
+        for name in ("python3", "make", "bash", "sh", "mkdir", "install", "sleep", "ls", "cat"):
             (folder / name).symlink_to(shutil.which(name))
-        return folder
+        if rt:
+            (folder / "rt").write_text(rt)
+            (folder / "rt").chmod(0o755)
+        return str(folder)
 
-    def test_the_message_is_fetched_and_then_known(self):
-        before = sorted(self.top.rglob("*"))
-        told = self.make("demo", PATH=str(self.path_without_rt()))
-        for part in ("$ env popd --listen 127.0.0.1:", "delivered\n", "1 messages (", "Subject: hello\n", "It works.\n",
-                     "0 messages (0 bytes) retrieved, 1 skipped, 0 deleted\n", "popd has ended"):
+    def check_told(self, told, *parts):
+        """Each part is told, one after the other."""
+        for part in parts:
             self.assertIn(part, told)
-            told = told[told.index(part):]
+            told = told[told.index(part) + len(part):]
+
+    def check_demo(self, path, *parts):
+        before = sorted(self.top.rglob("*"))
+        self.check_told(self.make("demo", PATH=path), *parts, "$ env popd --listen 127.0.0.1:", "delivered\n", "1 messages (",
+                        "Subject: hello\n", "It works.\n", "0 messages (0 bytes) retrieved, 1 skipped, 0 deleted\n",
+                        "popd has ended")
         self.assertEqual(sorted(self.top.rglob("*")), before)
 
-    def test_it_says_that_proving_takes_a_while_and_how_far_it_is(self):
-        """A stand-in for `rt` says how far it is, and leaves the program after twelve seconds."""
-        folder = self.path_without_rt()
-        for name in ("sleep", "mkdir", "install"):
-            (folder / name).symlink_to(shutil.which(name))
+    def test_the_message_is_fetched_and_then_known(self):
+        self.check_demo(self.path_with())
+
+    def test_before_any_proof_it_says_so_and_tries_the_programs(self):
         for name in ("getmail", "popd"):
-            (self.top / "crates" / name / "out").mkdir(parents=True)
-            (self.top / "bin" / name).unlink()
-            shutil.copy(programs.path_of(name), self.top / f"{name}.built")
-        (folder / "rt").write_text("#!/bin/sh\necho 'rt: chose --jobs 4 for pop3_wire' >&2\n"
-                                   "echo 'so far: 51 of 128 functions checked' >&2\n"
-                                   "name=${PWD##*/}\nif [ $name = getmail ]; then sleep 12; fi\n"
-                                   "install ../../$name.built out/$name\n")
-        (folder / "rt").chmod(0o755)
-        process = subprocess.Popen(["make", "demo"], cwd=self.top, stdout=subprocess.PIPE, text=True,
-                                   env=programs.environment(PATH=str(folder)))
-        self.addCleanup(process.stdout.close)
-        self.addCleanup(process.wait)
-        self.addCleanup(process.kill)
-        told = process.communicate(timeout=programs.SECONDS)[0].splitlines()
-        self.assertIn("takes a while", told[0])
-        self.assertRegex(told[1], r"^ +0:1\d  .*pop3_wire, 51 of 128 functions$")
-        self.assertIn("It works.", told)
+            (self.top / "bin" / name).rename(self.top / f"{name}.built")
+            (self.top / "crates" / name).mkdir(parents=True)
+        self.check_demo(self.path_with(TRY), "aren't proved yet", "`make` proves them")
+
+    def test_make_proves_several_crates_at_once_in_their_order(self):
+        """Only those of the programs. It says how far it is."""
+        for name in ("getmail", "popd"):
+            (self.top / "bin" / name).rename(self.top / f"{name}.built")
+        lines = [line.partition("#")[0].partition(":") for line in (self.top / "crates.txt").read_text().splitlines()]
+        for crate in (crate for crate, colon, _ in lines if colon):
+            (self.top / "crates" / crate / "src").mkdir(parents=True)
+        for crate in ("getmail", "popd"):
+            (self.top / "crates" / crate / "src/main.rt").touch()
+        log = self.top.parent / "log"
+        told = self.make(PATH=self.path_with(PROVE), LOG=str(log), TOP=str(self.top))
+        self.assertRegex(told, r"(?m)^ +0:1\d  \d+ of 17 crates proved; \d being proved: \w+")
+        begun = [line.split() for line in log.read_text().splitlines()]
+        self.assertEqual(len(begun), 17)
+        self.assertNotIn("tests", [crate for crate, *_ in begun])
+        below = {crate: {name for name in libraries.split()} for crate, _, libraries in lines}
+        for at, (crate, *proved) in enumerate(begun):
+            self.assertLessEqual(below[crate] & set(below), set(proved))
+            self.assertLessEqual(set(proved), {crate for crate, *_ in begun[:at]})
+        for name in ("getmail", "popd"):
+            self.assertTrue(os.access(self.top / "bin" / name, os.X_OK))
 
 
 class Pages(unittest.TestCase):
