@@ -21,10 +21,13 @@ PAGES = {"1": "man1", "5": "man5", "8": "man8"}
 COMPLETIONS = [path for name in ("getmail", "popd") for path in (
     f"share/bash-completion/completions/{name}", f"share/zsh/site-functions/_{name}",
     f"share/fish/vendor_completions.d/{name}.fish")]
-UNITS = [f"lib/systemd/user/{name}" for name in
-         ("getmail.service", "getmail.timer", "popd.service", "popd.socket", "popd@.service")]
-DOCUMENTS = [f"share/doc/getmail/{name}" for name in
-             ("README.md", "CHANGELOG.md", "LICENSE", "FROM-GETMAIL6.md", "getmailrc.sample", "stunnel.conf", "crontab")]
+UNITS = [f"lib/systemd/user/{name}" for name in (
+    "getmail.service", "getmail.timer", "getmail@.service", "getmail@.timer", "getmail-tunnel.service",
+    "popd.service", "popd.socket", "popd@.service")]
+DOCUMENTS = [f"share/doc/getmail/{name}" for name in (
+    "README.md", "CHANGELOG.md", "LICENSE", "FROM-GETMAIL6.md", "getmailrc.sample", "stunnel.conf", "crontab",
+    "make_record.py")]
+SCRIPTS = [f"share/doc/getmail/from-{name}.py" for name in ("getmail6", "mpop", "fetchmail")]
 MESSAGE = b"Subject: one\n\nIt is.\n"
 # What the rules of `make install` and `make dist` read.
 PARTS = ("Makefile", "build.py", "crates.txt", "install.sh", "README.md", "CHANGELOG.md", "LICENSE", "man", "completions", "examples",
@@ -89,7 +92,7 @@ class Install(Copied):
         return {str(path.relative_to(self.place / prefix)): stat.S_IMODE(path.stat().st_mode) for path in paths}
 
     def check_installed(self, prefix):
-        wanted = {name: 0o755 for name in ("bin/getmail", "bin/popd", "share/doc/getmail/from-getmail6.py")}
+        wanted = {name: 0o755 for name in ("bin/getmail", "bin/popd", *SCRIPTS)}
         wanted |= {name: 0o644 for name in (*COMPLETIONS, *UNITS, *DOCUMENTS)}
         for page in (programs.ROOT / "man").iterdir():
             wanted[f"share/man/{PAGES[page.suffix[1:]]}/{page.name}"] = 0o644
@@ -98,9 +101,9 @@ class Install(Copied):
 
     def check_names(self, place, prefix):
         """Units, the line for cron and getmail(1) name files where they are."""
-        for name in ("getmail.service", "popd.service", "popd@.service"):
-            started, = re.findall("^ExecStart=(\\S+)", (place / "lib/systemd/user" / name).read_text(), re.MULTILINE)
-            self.assertEqual(started, f"{prefix}/bin/{name[:name.index('.')].removesuffix('@')}")
+        for name in ("getmail.service", "getmail@.service", "popd.service", "popd@.service"):
+            started, = re.findall("^ExecStart=(.*)", (place / "lib/systemd/user" / name).read_text(), re.MULTILINE)
+            self.assertIn(f"{prefix}/bin/{name[:name.index('.')].removesuffix('@')}", started.split())
         page = (place / "share/man/man1/getmail.1").read_text()
         self.assertIn(f"install -m 600 {prefix}/share/doc/getmail/getmailrc.sample ", page)
         crontab = (place / "share/doc/getmail/crontab").read_text()
@@ -115,6 +118,14 @@ class Install(Copied):
                 self.check_installed(prefix)
                 self.make("uninstall", f"DESTDIR={self.place}", *words)
                 self.assertEqual(self.files("."), {})
+
+    def test_units_of_a_home_are_where_systemd_looks_for_them(self):
+        home = self.place / "home"
+        for words in (["install"], ["uninstall"]):
+            self.make(*words, f"PREFIX={home}/.local", HOME=str(home))
+            there = {str(path.relative_to(home)) for path in home.rglob("*") if path.is_file()}
+            wanted = {f".local/share/systemd/user/{Path(unit).name}" for unit in UNITS} if words == ["install"] else set()
+            self.assertEqual({name for name in there if "systemd" in name}, wanted)
 
     def test_what_others_have_there_stays(self):
         (self.place / "usr/local/bin").mkdir(parents=True)
@@ -351,10 +362,12 @@ class Readme(unittest.TestCase):
     def test_the_lines_that_set_up_an_account(self):
         section = (programs.ROOT / "README.md").read_text().split("## A real account\n")[1].split("\n## ")[0]
         lines = [line[4:] for line in section.splitlines() if line.startswith("    ")]
-        self.assertEqual(len(lines), 5)
+        self.assertEqual(len(lines), 6)
         messages = [(b"a", b"one\n"), (b"b", b"two\n")]
         with Server(messages) as server, tempfile.TemporaryDirectory() as home:
-            thread = server.begin_session()
+            # One session for `--pretend`, and one that fetches.
+            thread = threading.Thread(target=lambda: [server.begin_session().join(programs.SECONDS) for _ in range(2)])
+            thread.start()
             edits = f"sed -i -e s/mail.example.org/127.0.0.1/ -e s/^#.port.*/port={server.port}/"
             path = f"{Path(programs.path_of('getmail')).parent}:{os.environ['PATH']}"
             done = subprocess.run(["bash", "-euc", "\n".join(lines[:-1])], cwd=programs.ROOT, capture_output=True, text=True,
@@ -366,7 +379,55 @@ class Readme(unittest.TestCase):
         self.assertIn("flock -n ~/.getmail/lock $(command -v getmail) -q", lines[-1])
 
 
-class Cron(unittest.TestCase):
+class Regular(unittest.TestCase):
+    """The commands that fetch regularly."""
+
+    def start(self, account, words):
+        path = f"{Path(programs.path_of('getmail')).parent}:{os.environ['PATH']}"
+        return subprocess.Popen(words, stdin=subprocess.DEVNULL, stdout=subprocess.PIPE, stderr=subprocess.STDOUT,
+                                env={"HOME": str(account.home), "PATH": path, "SHELL": "/bin/sh"})
+
+
+class Timer(Regular):
+    """The commands of `examples/getmail.service` and of `examples/getmail@.service`."""
+
+    def words(self, unit, account):
+        """The words of ExecStart, with this test's program and home."""
+        started, = re.findall("^ExecStart=(.*)", (programs.ROOT / "examples" / unit).read_text(), re.MULTILINE)
+        started = started.replace("/usr/local/bin/getmail", str(programs.path_of("getmail")))
+        return started.replace("%h", str(account.home)).replace("%i", "work").split()
+
+    def run_whole(self, account, words):
+        process = self.start(account, words)
+        out, _ = process.communicate(timeout=programs.SECONDS)
+        return process.returncode, out
+
+    def test_the_journal_gets_the_report(self):
+        for unit in ("getmail.service", "getmail@.service"):
+            with self.subTest(unit), Server([(b"a", b"one\n")]) as server, Account(server.port) as account:
+                if "@" in unit:
+                    account.rcfile.rename(account.folder / "work")
+                thread = server.begin_session()
+                status, out = self.run_whole(account, self.words(unit, account))
+                thread.join(programs.SECONDS)
+                self.assertEqual((status, len(account.held())), (0, 1))
+                self.assertIn(b"1 messages (4 bytes) retrieved", out)
+
+    def test_a_run_beside_another_does_nothing(self):
+        for unit in ("getmail.service", "getmail@.service"):
+            with self.subTest(unit), SilentServer(b"+OK\r\n") as server, Account(server.port) as account:
+                shutil.copy(account.rcfile, account.folder / "work")
+                first = self.start(account, self.words(unit, account))
+                try:
+                    server.taken.wait(programs.SECONDS)
+                    self.assertEqual(self.run_whole(account, self.words(unit, account)), (0, b""))
+                    self.assertIsNone(first.poll())
+                finally:
+                    server.over.set()
+                    first.communicate(timeout=programs.SECONDS)
+
+
+class Cron(Regular):
     """The command of `examples/crontab`, as cron runs it: by `sh`, with nothing on its streams."""
 
     def command(self):
@@ -376,10 +437,7 @@ class Cron(unittest.TestCase):
         return entry.split(maxsplit=5)[5]
 
     def start(self, account):
-        path = f"{Path(programs.path_of('getmail')).parent}:{os.environ['PATH']}"
-        return subprocess.Popen(["/bin/sh", "-c", self.command()], stdin=subprocess.DEVNULL, stdout=subprocess.PIPE,
-                                stderr=subprocess.STDOUT,
-                                env={"HOME": str(account.home), "PATH": path, "SHELL": "/bin/sh"})
+        return super().start(account, ["/bin/sh", "-c", self.command()])
 
     def run_whole(self, account):
         process = self.start(account)
