@@ -21,11 +21,11 @@ SOURCES = {".rt", ".antt", ".py", ".c", ".sh", ".1", ".5", ".8", ".sample", ".se
 FILE = re.compile(r"[A-Za-z0-9_.~*{},-]*(?:/[A-Za-z0-9_.*{},-]*)+|[A-Za-z0-9_-]+\.(?:rt|antt|py|md|c|sh|txt|edit)")
 NAME = re.compile(r"[A-Za-z_][A-Za-z0-9_]*")
 # Names of other programs and of what users have: nothing here has such a name.
-OTHERS = {"stunnel", "socat", "dovecot", "mutt", "fetchmail", "mpop", "Display", "BrokenUIDLPOP3Retriever"}
+OTHERS = {"stunnel", "socat", "dovecot", "mutt", "fetchmail", "mpop", "Display", "BrokenUIDLPOP3Retriever", "killsize"}
 # The sources of the lines that report faults.
 TELLING = ("crates/getmail_program/src/failure.rt", "crates/fetch_session/src/text.rt", "crates/rc_file/src/text.rt")
-# Folders that a user or a build makes.
-MADE = ("~", "/", "bin/", "out/", "examples/demo/Maildir")
+# Folders that a user, a build or an installation makes.
+MADE = ("~", "/", "bin/", "out/", "share/", "examples/demo/Maildir")
 
 
 def tracked_files():
