@@ -94,7 +94,7 @@ impl<'a, R: Files + Clock + AllocGlobal + Clone + Drop> HostFolder<'a, R> {
     }
 
     /// Removes the files whose names begin with `front` that killed runs left behind: those that
-    /// weren't changed for 36 hours. What can't be removed stays.
+    /// weren't changed for an hour. What can't be removed stays.
     pub fn sweep(&self, front: &str) {
         if let Ok(path) = self.folder_path(self.scratch) {
             let _ = sweep(self.rt, path.as_str(), front);
