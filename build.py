@@ -10,6 +10,7 @@ program and runs it, here on its recorded conversation, with which it ends well.
 
 import os
 import shutil
+import signal
 import subprocess
 import sys
 import tempfile
@@ -129,6 +130,7 @@ class Build:
 
 
 def main():
+    signal.signal(signal.SIGTERM, lambda *_: sys.exit(1))
     with tempfile.TemporaryDirectory(prefix=".building-", dir=TOP) as room:
         Build(Path(room), sys.argv[1:]).work()
 

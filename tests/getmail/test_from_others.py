@@ -102,7 +102,6 @@ class Lists(unittest.TestCase):
 
 
 @unittest.skipIf(dovecot.missing(), f"{', '.join(dovecot.missing())} is not here")
-@programs.needs("getmail")
 class Fetched(unittest.TestCase):
     """What mpop and fetchmail fetched from a dovecot, `getmail` doesn't fetch again."""
 
