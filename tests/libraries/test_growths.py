@@ -16,7 +16,6 @@ from libraries.rows import ROWS, NotAllowed
 
 MODULE = "no_memory_tests::"
 ENDED = "\ntest result: ok\n"
-TABLE = re.compile(r"^\| `[^`|]+` \| `([a-z_:]+)` \| \d+ \|$", re.MULTILINE)
 
 
 def parts_of(told):
@@ -72,5 +71,3 @@ class Growths(unittest.TestCase):
                                 timeout=programs.SECONDS).stdout.decode()
         built = set(re.findall(rf"^{MODULE}(.*): test$", listed, re.MULTILINE))
         self.assertEqual(built, set(ROWS), "the tests of no_memory_tests, and those of rows.py")
-        told = set(TABLE.findall((programs.ROOT / "docs" / "TESTING.md").read_text()))
-        self.assertEqual(told, set(ROWS), "the table of docs/TESTING.md, and the rows of rows.py")
