@@ -38,7 +38,7 @@ def tracked_files():
     """The paths of the repository, as text from its top."""
     listed = subprocess.run(["git", "-C", str(TOP), "ls-files", "-co", "--exclude-standard"],
                             check=True, capture_output=True, text=True).stdout
-    return listed.splitlines()
+    return [path for path in listed.splitlines() if (TOP / path).exists()]
 
 
 def words_of(paths):
