@@ -24,6 +24,61 @@ message_log = ~/.getmail/log
 received = true
 """
 
+RETRIEVER = "[retriever]\ntype=SimplePOP3Retriever\nserver=s\nusername=u\npassword=p\n"
+DESTINATION = "[destination]\ntype=Maildir\npath=m/\n"
+# Fronts of rc files, and for each its ends with the first fault of the whole file.
+FAULTS = {
+    "": [
+        ("", "section [retriever] missing"),
+        ("[retriever]\n", "section [destination] missing"),
+        (" on\n", "rc file line 1 not understood"),
+        ("[a]\n\n on\n", "rc file line 3 not understood"),
+        ("[a]\nk=v\n[b]\n on\n", "rc file line 4 not understood"),
+        ("# c\nk=v\n", "rc file line 2 not understood"),
+        ("[a\n", "rc file line 1 not understood"),
+        ("[a] b\n", "rc file line 1 not understood"),
+        ("[]\n", "rc file line 1 not understood"),
+        ("[a]\n=v\n", "rc file line 2 not understood"),
+        ("[a]\nk\n", "rc file line 2 not understood"),
+        ("[a]\r", "rc file line 1 not understood"),
+        ("#" * 65537, "rc file too long"),
+    ],
+    "[destination]\n[retriever]\n": [
+        ("port=0\n", "retriever.type missing"),
+        ("port=0\ntype=SimplePOP3SSLRetriever\n", "retriever.type unknown"),
+    ],
+    "[destination]\n[retriever]\ntype=SimplePOP3Retriever\n": [
+        ("use_apop=yes\n", "retriever.use_apop unsupported"),
+        ("use_apop=maybe\n", "retriever.use_apop has a bad value"),
+        ("port=0\n", "retriever.server missing"),
+        ("port=0\nserver=\n", "retriever.server has a bad value"),
+        ("port=0\nserver=a\x00\n", "retriever.server has a bad value"),
+        ("port=0\nserver=a\n", "retriever.port has a bad value"),
+        ("server=a\n", "retriever.username missing"),
+        ("server=a\nusername=a\rb\n", "retriever.username has a bad value"),
+        ("server=a\nusername=a\n", "retriever.password missing"),
+        ("server=a\nusername=a\npassword=\n", "retriever.password has a bad value"),
+    ],
+    f"{RETRIEVER}[destination]\n": [
+        ("path=/m/", "destination.type missing"),
+        ("type=MDA_external", "destination.type unknown"),
+        ("type=Mboxrd\npath=/m/", "destination.path has a bad form"),
+        ("type=Maildir\n", "destination.path missing"),
+        ("type=Maildir\npath=/m", "destination.path has a bad form"),
+        ("type=Maildir\npath=", "destination.path has a bad form"),
+        ("type=Maildir\npath=~user/m/", "destination.path has a bad form"),
+        ("type=Maildir\npath=$HOME/m/", "destination.path has a bad form"),
+        ("type=Maildir\npath=a\n b/", "destination.path has a bad form"),
+    ],
+    f"{DESTINATION}{RETRIEVER}": [
+        *((f"port={port}", "retriever.port has a bad value")
+          for port in ("0", "65536", "+1", "-1", "1 1", "", "000000000000000000110", "1_0")),
+        ("server = a\n# not the end\n\n\tb\n", "retriever.server has a bad value"),
+        ("[options]\ndelete_after=4294967296", "options.delete_after has a bad value"),
+        ("[options]\nmax_message_size=18446744073709551616", "options.max_message_size has a bad value"),
+    ],
+}
+
 HELP = b"""
 Options:
   -r, --rcfile <FILE>     Read the settings from FILE, in DIR unless it begins with / or ~/ [getmailrc]
@@ -101,25 +156,18 @@ class RcFile(unittest.TestCase):
             with self.subTest(words):
                 self.assertEqual(self.account.run(*words), self.refused)
 
-    def test_each_fault_has_its_line(self):
-        for old, new, line in (
-                ("type = SimplePOP3Retriever", "type = SimplePOP3SSLRetriever", "retriever.type unknown"),
-                ("username = u\n", "", "retriever.username missing"),
-                ("username = u", "use_apop = yes\nusername = u", "retriever.use_apop unsupported"),
-                ("path = ~/Maildir/", "path = ~/Maildir", "destination.path has a bad form"),
-                ("[destination]", "[elsewhere]", "section [destination] missing"),
-                ("password = p", "password", "rc file line 6 not understood")):
-            with self.subTest(line):
-                kept = self.account.rcfile.read_text()
-                self.change(old, new)
-                run = self.account.run()
-                self.account.rcfile.write_text(kept)
-                told = [row for row in run.err.decode().splitlines() if "warning" not in row]
-                self.assertEqual((run.status, run.out, told), (2, b"", [f"getmail: {line}"]))
+    def check_fault(self, text, line):
+        self.account.rcfile.write_bytes(text)
+        run = self.account.run()
+        told = [row for row in run.err.decode().splitlines() if "warning" not in row]
+        self.assertEqual((run.status, run.out, told), (2, b"", [f"getmail: {line}"]), text)
 
-    def test_too_long(self):
-        self.account.rcfile.write_text("#" * 65537)
-        self.check_told(2, b"getmail: rc file too long\n")
+    def test_each_fault_has_its_line(self):
+        for front, rows in FAULTS.items():
+            for end, line in rows:
+                with self.subTest(end):
+                    self.check_fault((front + end).encode(), line)
+        self.check_fault(b"[a]\n# \xff\n", "rc file line 2 not understood")
 
     def test_what_has_no_effect_is_told(self):
         self.change("read_all = false", "read_all = false\nmessage_log = ~/.getmail/log\nreceived = true")
@@ -133,6 +181,18 @@ class RcFile(unittest.TestCase):
         self.check_told(2, b"getmail: warning: line 13: options.message_log has no effect\n"
                            b"getmail: warning: line 14: options.received has no effect\n"
                            b"getmail: opposite flags\n", "-an")
+
+    def test_keys_and_sections_without_effect(self):
+        self.account.rcfile.write_text(
+            f"{DESTINATION}{RETRIEVER}[filter-1]\ntype = x\n[retriever]\nTimeout = 5\ndelete_dup_msgids = 1\n[default]\n[options]\n"
+            "max_bytes_per_session = 1\ndelete_bigger_than = 2\nreceived = 1\ndelivered_to = 1\n[destination]\nlocktype = x\n"
+            "filemode = 0600\nuser = x\n[filter-1]\n[retriever]\ntimeout = 6\nuser = y\n")
+        told = [(9, "section [filter-1]"), (12, "retriever.timeout"), (13, "retriever.delete_dup_msgids"),
+                (14, "section [default]"), (16, "options.max_bytes_per_session"), (17, "options.delete_bigger_than"),
+                (18, "options.received"), (19, "options.delivered_to"), (21, "destination.locktype"),
+                (22, "destination.filemode"), (23, "destination.user"), (27, "retriever.user")]
+        warnings = "".join(f"getmail: warning: line {line}: {what} has no effect\n" for line, what in told)
+        self.check_told(2, f"{warnings}getmail: opposite flags\n".encode(), "-an")
 
     def test_no_folder_is_made(self):
         (self.account.maildir / "tmp").rmdir()

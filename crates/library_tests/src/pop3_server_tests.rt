@@ -3,6 +3,5 @@
 mod endless;
 mod lock_step;
 pub mod memory_drop;
-mod refused_parts;
 mod serving;
 mod text_calls;

@@ -1,5 +1,4 @@
 //! Tests of `rc_file`: rc files, flags, and paths in the home.
 
 mod file;
-mod flags;
 mod path;

@@ -1,7 +1,6 @@
 //! The record's second version: intents, and files of the first version.
 
 use crate::fetch_rules_tests::seen::file_of;
-use fetch_rules::SeenFault;
 use std::alloc::Global;
 use std::test::Fail;
 use test_support::{Record, read_record};
@@ -18,73 +17,17 @@ fn read(alloc: Global, file: &str) -> Result<String, Fail> {
     }
 }
 
-/// Files with an intent where none may be, and the first fault of each.
-const FAULTY_FILES: [(&str, SeenFault); 12] = [
-    ("getmail-seen 1\na 5 0\n! a 0 49\n", SeenFault::BadRow(3)),
-    ("getmail-seen 2\n! a 0 49\n", SeenFault::BadRow(2)),
-    ("getmail-seen 2\na 5 0\n! b 0 49\n", SeenFault::BadRow(3)),
-    (
-        "getmail-seen 2\na 5 0\n! a 0 49\n! a 0 49\n",
-        SeenFault::BadRow(4),
-    ),
-    (
-        "getmail-seen 2\na 5 0\n! a 0 49\nb 5 0\n",
-        SeenFault::BadRow(4),
-    ),
-    (
-        "getmail-seen 2\na 5 0\n+ 2\nb 5 0\n! a 0 49\n",
-        SeenFault::BadRow(5),
-    ),
-    ("getmail-seen 2\na 5 0\n! a 00 49\n", SeenFault::BadRow(3)),
-    ("getmail-seen 2\na 5 0\n! a 0 049\n", SeenFault::BadRow(3)),
-    ("getmail-seen 2\na 5 0\n! a 0\n", SeenFault::BadRow(3)),
-    ("getmail-seen 2\na 5 0\n! a 0 49 0\n", SeenFault::BadRow(3)),
-    (
-        "getmail-seen 2\na 5 0\n! a 0 18446744073709551616\n",
-        SeenFault::BadRow(3),
-    ),
-    (
-        "getmail-seen 2\na 5 1\n! a 0 49\n+ 1\na 6 1\n",
-        SeenFault::RepeatedId(5),
-    ),
-];
-
-#[test]
-fn refuses_intents_by_the_first_fault(rt: HostRuntime) {
-    for (file, fault) in FAULTY_FILES {
-        let found = read_record(rt.alloc(), file.as_bytes()).err();
-        assert_eq!(rt; found, Some(fault), "in {file}");
-    }
-}
-
 /// Files and what they stand for.
-const FILES: [(&str, &str); 8] = [
-    ("", "- false getmail-seen 2\n"),
-    ("getmail-seen 2\na 5 1\n", "- false getmail-seen 2\na 5 1\n"),
+const FILES: [(&str, &str); 3] = [
     // a file of version 1 has the same rows
     ("getmail-seen 1\na 5 1\n", "- true getmail-seen 2\na 5 1\n"),
     (
         "getmail-seen 2\na 5 0\n! a 0 49\n",
         "0 49 true getmail-seen 2\na 5 0\n! a 0 49\n",
     ),
-    // a torn intent counts for nothing
-    (
-        "getmail-seen 2\na 5 0\n! a 0 49",
-        "- true getmail-seen 2\na 5 0\n",
-    ),
-    // a group that lacks rows doesn't close the intent, a whole one does
-    (
-        "getmail-seen 2\na 5 0\n! a 0 49\n+ 1\na 5",
-        "0 49 true getmail-seen 2\na 5 0\n! a 0 49\n",
-    ),
     (
         "getmail-seen 2\na 5 0\n! a 0 49\n+ 1\na 5 1\n",
         "- false getmail-seen 2\na 5 1\n",
-    ),
-    // `!` is an id too
-    (
-        "getmail-seen 2\n! 5 0\n! ! 5 0\n",
-        "5 0 true getmail-seen 2\n! 5 0\n! ! 5 0\n",
     ),
 ];
 
@@ -94,24 +37,6 @@ fn reads_files_of_both_versions(rt: HostRuntime) -> Result<(), Fail> {
         let told = read(rt.alloc(), file)?;
         assert_eq!(rt; told.as_str(), wanted, "in {file}");
     }
-    Ok(())
-}
-
-/// The record after an intent for `a` was closed.
-fn closed(alloc: Global, whole: bool) -> Result<String, Fail> {
-    let mut seen = read_record(alloc, b"getmail-seen 2\na 5 0\n! a 0 49\n")?;
-    seen.close(whole);
-    let bytes = file_of(alloc, &seen)?;
-    let stale = seen.needs_rewrite();
-    Ok(format!(in alloc; "{stale} {bytes}")?)
-}
-
-#[test]
-fn closes_an_intent(rt: HostRuntime) -> Result<(), Fail> {
-    let told = closed(rt.alloc(), true)?;
-    assert_eq!(rt; told.as_str(), "true getmail-seen 2\na 5 1\n");
-    let told = closed(rt.alloc(), false)?;
-    assert_eq!(rt; told.as_str(), "true getmail-seen 2\na 5 0\n");
     Ok(())
 }
 

@@ -1,6 +1,5 @@
 //! Plans of sessions.
 
-use crate::fetch_rules_tests::seen::listing_of_hundreds;
 use fetch_rules::{Dest, Settings, Step, plan};
 use std::alloc::Global;
 use std::test::Fail;
@@ -63,24 +62,22 @@ fn counts_only_what_is_fetched_against_the_limit(rt: HostRuntime) -> Result<(), 
 
 #[test]
 fn fetches_five_messages_in_three_sessions(rt: HostRuntime) -> Result<(), Fail> {
-    let alloc = rt.alloc();
-    let mut settings = settings(alloc);
+    let mut settings = settings(rt.alloc());
     settings.max_count = 2;
-    let listing = listing_of(alloc, &[("a", 1), ("b", 1), ("c", 1), ("d", 1), ("e", 1)])?;
-    assert!(rt; listing.len() == 5);
-    let mut seen = read_record(alloc, b"")?;
-    assert!(rt; seen.intent().is_none());
-    assert!(rt; seen.merge(&listing, &[false; 5], 0)?);
-    for fetched in [[1, 2], [3, 4], [5, 5]] {
-        let steps = plan(alloc, &settings, &seen, &listing, 0)?;
-        for step in &steps {
-            assert_eq!(rt; step.retrieve, fetched.contains(&step.number));
-            let place = step.number.saturating_sub(1);
-            if step.retrieve && place < listing.len() {
-                assert!(rt; seen.intent().is_none());
-                assert!(rt; seen.mark(listing.uid(place)));
-            }
-        }
+    for (record, wanted) in [
+        ("", " 1f 2f 3 4 5"),
+        (
+            "getmail-seen 2\na 0 1\nb 0 1\nc 0 0\nd 0 0\ne 0 0\n",
+            " 1 2 3f 4f 5",
+        ),
+        (
+            "getmail-seen 2\na 0 1\nb 0 1\nc 0 1\nd 0 1\ne 0 0\n",
+            " 1 2 3 4 5f",
+        ),
+    ] {
+        let ids = [("a", 1), ("b", 1), ("c", 1), ("d", 1), ("e", 1)];
+        let planned = steps(rt.alloc(), &settings, record, &ids, 0)?;
+        assert_eq!(rt; planned.as_str(), wanted);
     }
     Ok(())
 }
@@ -104,23 +101,5 @@ fn never_deletes_a_repeated_id(rt: HostRuntime) -> Result<(), Fail> {
     let ids = [("x", 1), ("x", 1), ("a", 1)];
     let planned = steps(rt.alloc(), &settings, "", &ids, 0)?;
     assert_eq!(rt; planned.as_str(), " 1f 2 3fd");
-    Ok(())
-}
-
-#[test]
-fn plans_hundreds_of_messages(rt: HostRuntime) -> Result<(), Fail> {
-    let alloc = rt.alloc();
-    let mut settings = settings(alloc);
-    settings.delete = true;
-    settings.max_count = 300;
-    let listing = listing_of_hundreds(alloc)?;
-    let seen = read_record(alloc, b"getmail-seen 2\nid-2 7 1\nid-250 7 1\n")?;
-    let steps = plan(alloc, &settings, &seen, &listing, 9)?;
-    assert_eq!(rt; steps.len(), 400);
-    let fetched = steps.iter().filter(|step| step.retrieve).count();
-    let deleted = steps.iter().filter(|step| step.delete).count();
-    let last = steps.iter().rposition(|step| step.retrieve);
-    // Two of the first 302 are known to be delivered.
-    assert!(rt; (fetched, deleted, last) == (300, 302, Some(301)));
     Ok(())
 }

@@ -1,7 +1,6 @@
 //! Names of files, against digests and texts from outside.
 
-use mail_store::{account_id, stem, uid_of};
-use mail_terms::base;
+use mail_store::{account_id, uid_of};
 use std::test::Fail;
 use test_support::{fred, name_of, stem_of};
 
@@ -32,16 +31,8 @@ fn reads_ids_of_names(rt: HostRuntime) -> Result<(), Fail> {
     let alloc = rt.alloc();
     let rows = [
         (".6131", Some("a1")),
-        (".6131:2,S", Some("a1")),
-        (".6131,S=15", Some("a1")),
         (".6131,S=15:2,S", Some("a1")),
-        (".6131,W=17,S=15:2,", Some("a1")),
-        (".6131,", Some("a1")),
         (".6A", None),
-        (".20", None),
-        (".6", None),
-        (".", None),
-        ("", None),
     ];
     for (end, id) in rows {
         let name = format!(in alloc; "{FRED}{end}")?;
@@ -50,13 +41,5 @@ fn reads_ids_of_names(rt: HostRuntime) -> Result<(), Fail> {
             (found, id) => assert_eq!(rt; found.is_some(), id.is_some(), "at {end}"),
         }
     }
-    assert!(rt; uid_of(alloc, &fred(), "1700000000.M1P2.host")?.is_none());
-    let other = account_id("mail.example.org", 110, "frida");
-    let name = name_of(alloc, b"a1", 15)?;
-    assert!(rt; uid_of(alloc, &other, name.as_str())?.is_none());
-    assert_eq!(rt; base("a.b:2,S:x"), "a.b");
-    assert_eq!(rt; base("a.b"), "a.b");
-    assert_eq!(rt; stem("a.b,S=15:2,S"), "a.b");
-    assert_eq!(rt; stem("a.b:2,S"), "a.b");
     Ok(())
 }

@@ -53,54 +53,6 @@ fn a_delivery_is_whole_or_not_there(rt: HostRuntime) -> Result<(), Fail> {
     Ok(())
 }
 
-/// Puts a file of `abc` under a name, appends `def`, flushes what `flushes` says, and loses the
-/// power. Returns what is there under the name.
-fn appended(
-    alloc: Global,
-    flushes: (bool, bool, bool),
-    left: Left,
-) -> Result<Option<Vec<u8>>, Fail> {
-    let (made, names, file) = flushes;
-    let mut folder = MemoryFolder::new(alloc);
-    folder.make("kept")?;
-    folder.write(b"abc")?;
-    if made {
-        folder.flush_made()?;
-    }
-    folder.put("kept")?;
-    if names {
-        folder.flush_names()?;
-    }
-    folder.append("kept", b"def")?;
-    if file {
-        folder.flush("kept")?;
-    }
-    folder.lose_power(&[left])?;
-    Ok(folder.read("kept").ok())
-}
-
-#[test]
-fn what_is_not_flushed_can_be_lost(rt: HostRuntime) -> Result<(), Fail> {
-    let rows = [
-        ((true, true, true), Left::Flushed, Some("abcdef")),
-        ((true, true, true), Left::Front(1), Some("abcdef")),
-        ((true, true, true), Left::Older, Some("abcdef")),
-        ((true, true, false), Left::All, Some("abcdef")),
-        ((true, true, false), Left::Flushed, Some("abc")),
-        ((true, true, false), Left::Front(4), Some("abcd")),
-        ((true, true, false), Left::Zeros(4), Some("abcd\0\0")),
-        ((true, false, true), Left::Flushed, Some("abcdef")),
-        ((true, false, true), Left::Older, None),
-        ((false, true, false), Left::Flushed, Some("")),
-        ((false, true, false), Left::Front(2), Some("ab")),
-    ];
-    for (flushes, left, wanted) in rows {
-        let found = appended(rt.alloc(), flushes, left)?;
-        assert!(rt; found.as_deref() == wanted.map(|text| text.as_bytes()));
-    }
-    Ok(())
-}
-
 #[test]
 fn a_file_outlives_a_loss_of_power(rt: HostRuntime) -> Result<(), Fail> {
     for appending in [Appending::AtOnce, Appending::ByPages] {

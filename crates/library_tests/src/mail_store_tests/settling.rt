@@ -2,7 +2,7 @@
 
 use crate::mail_store_tests::file::{mark_of, text_of};
 use folder_store::HostFile;
-use mail_store::{FlatFile, Fused, MemoryFile, StoreFault, settle_file};
+use mail_store::{FlatFile, MemoryFile, StoreFault, settle_file};
 use std::alloc::Global;
 use std::fs;
 use std::test::Fail;
@@ -126,31 +126,6 @@ fn counts_no_entry_with_a_hole(rt: HostRuntime) -> Result<(), Fail> {
         let found = with_a_hole(rt.alloc(), from, to)?;
         assert!(rt; found == (answer, size), "zeros from {from} to {to}");
     }
-    Ok(())
-}
-
-/// What settling a torn entry answers with a fuse, and how many octets the file has then.
-fn settled_over(alloc: Global, passes: u64) -> Result<(Result<bool, StoreFault>, usize), Fail> {
-    let mut file = MemoryFile::new(alloc);
-    file.replace(front_of_entry(35))?;
-    let mut fused = Fused::new(file, passes, false);
-    let answer = settle_file(&mut fused, 0, 70);
-    Ok((answer, fused.into_inner().load()?.len()))
-}
-
-#[test]
-fn refuses_each_call_of_settling(rt: HostRuntime) -> Result<(), Fail> {
-    let alloc = rt.alloc();
-    for passes in 0..3 {
-        let found = settled_over(alloc, passes)?;
-        assert!(rt;
-            found == (Err(StoreFault::Refused), 35),
-            "after {passes} calls"
-        );
-    }
-    assert!(rt; settled_over(alloc, 3)? == (Ok(false), 0));
-    let mut none = MemoryFile::missing(alloc);
-    assert!(rt; settle_file(&mut none, 0, 70) == Err(StoreFault::Missing));
     Ok(())
 }
 

@@ -1,9 +1,8 @@
 //! Listings, joined from rows.
 
-use mail_terms::{Listing, ListingFault, ScanRow, UidRow, have_legal_ids, is_legal_id};
+use mail_terms::{Listing, ListingFault, ScanRow, UidRow, have_legal_ids};
 use std::alloc::{AllocError, Global};
 use std::test::Fail;
-use test_support::listing_of;
 
 fn uid_row(alloc: Global, number: u32, uid: &str) -> Result<UidRow, AllocError> {
     Ok(UidRow {
@@ -40,36 +39,4 @@ fn joins_rows_in_any_order(rt: HostRuntime) -> Result<(), Fail> {
     let empty = Listing::join(rt.alloc(), 100_001, &[], &[]);
     assert_eq!(rt; empty.err(), Some(ListingFault::TooMany));
     Ok(())
-}
-
-#[test]
-fn joins_as_many_rows_as_a_listing_holds(rt: HostRuntime) -> Result<(), Fail> {
-    let alloc = rt.alloc();
-    let mut uids = Vec::new(alloc);
-    let mut sizes = Vec::new(alloc);
-    for number in 1..=100_000u32 {
-        uids.push(uid_row(alloc, 100_001 - number, "x")?)?;
-        sizes.push(scan_row(number, u64::from(number)))?;
-    }
-    assert!(rt; have_legal_ids(&uids));
-    let listing = Listing::join(alloc, 100_000, &uids, &sizes)?;
-    assert_eq!(rt; listing.len(), 100_000);
-    assert_eq!(rt; listing.size(99_999), 100_000);
-    Ok(())
-}
-
-#[test]
-fn tells_legal_ids(rt: HostRuntime) {
-    let rows = [
-        (b"whqtswO00WBw418f9t5JxYwZ".as_slice(), true),
-        ([b'!'; 70].as_slice(), true),
-        (b"~".as_slice(), true),
-        (b"".as_slice(), false),
-        ([b'!'; 71].as_slice(), false),
-        (b"a b".as_slice(), false),
-        (b"\x7F".as_slice(), false),
-    ];
-    for (id, legal) in rows {
-        assert_eq!(rt; is_legal_id(id), legal);
-    }
 }

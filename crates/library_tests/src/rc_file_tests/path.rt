@@ -8,8 +8,6 @@ fn begins_in_the_home(rt: HostRuntime) -> Result<(), Fail> {
     for (path, wanted) in [
         ("~/Maildir/", "/home/fred/Maildir/"),
         ("/var/mail/fred", "/var/mail/fred"),
-        ("a/~/b", "a/~/b"),
-        ("~fred/m/", "~fred/m/"),
     ] {
         let full = full_path(rt.alloc(), path, "/home/fred")?;
         assert_eq!(rt; full.as_str(), wanted);
