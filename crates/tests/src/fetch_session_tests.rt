@@ -4,7 +4,6 @@ mod cut;
 mod deletion;
 mod endless;
 mod list;
-mod many;
 mod record;
 mod refusal;
 mod reply;

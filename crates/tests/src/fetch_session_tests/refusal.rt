@@ -4,7 +4,6 @@ ghost use Rattle.std.specs.Prelude.{◌<◌};
 use crate::fetch_session_tests::visit::{
     Fuse, Kept, LISTED, ONE, THREE, TWO, Visit, nothing_kept, run,
 };
-use mail_store::FlatFile;
 use std::alloc::Global;
 use std::test::Fail;
 
@@ -94,37 +93,5 @@ fn mends_a_record_whose_append_was_refused(rt: HostRuntime) -> Result<(), Fail> 
         "P|RETR 2|RETR 3|QUIT| Ended 2/3 10 s1 d0 - a=one/ b=two/ c=three/ - - \
          getmail-seen 2/a 0 1/b 0 0/c 0 0/+ 1/b 0 1/+ 1/c 0 1/"
     );
-    Ok(())
-}
-
-#[test]
-fn leaves_alone_what_is_no_record(rt: HostRuntime) -> Result<(), Fail> {
-    let alloc = rt.alloc();
-    let rows = [
-        ("x\n", 1, "x/"),
-        ("getmail-seen 2", 1, "getmail-seen 2"),
-        ("getmail-seen 2\na 0 2\n", 2, "getmail-seen 2/a 0 2/"),
-        (
-            "getmail-seen 2\na 0 0\na 7 1\n",
-            3,
-            "getmail-seen 2/a 0 0/a 7 1/",
-        ),
-        // in version 1 a row of a group must say something new
-        (
-            "getmail-seen 1\na 0 1\n+ 1\na 0 1\n",
-            4,
-            "getmail-seen 1/a 0 1/+ 1/a 0 1/",
-        ),
-    ];
-    let visit = Visit::new(alloc, "", 0, &[LISTED, "+OK|+OK|"])?;
-    for (bytes, line, left) in rows {
-        let mut kept = nothing_kept(alloc);
-        kept.record.replace(bytes.as_bytes())?;
-        let (_kept, told) = run(alloc, kept, &visit, 4096)?;
-        let wanted = format!(in alloc;
-            "P|RSET|QUIT| Cut(BadSeen({line})) 0/3 0 s0 d0 - - - {left}"
-        )?;
-        assert_eq!(rt; told.as_str(), wanted.as_str());
-    }
     Ok(())
 }

@@ -1,10 +1,8 @@
-//! Texts that are stored, and texts of reports.
+//! Texts that are stored, and the lines of faults.
 
 use crate::fetch_session_tests::visit::{A_LISTED, Visit, expect};
-use fetch_rules::read_rc;
-use fetch_session::{Fault, Outcome, Report, ReportLine, fault_number, fault_text, report_text};
+use fetch_session::{Fault, Outcome, fault_number, fault_text};
 use pop3_client::Asked;
-use std::alloc::Global;
 use std::test::Fail;
 
 #[test]
@@ -29,64 +27,6 @@ fn stores_texts_line_by_line(rt: HostRuntime) -> Result<(), Fail> {
                 wanted.as_str(),
             )],
         )?;
-    }
-    Ok(())
-}
-
-/// The report of a session of four messages, with every kind of line.
-fn report_of_a_session(alloc: Global) -> Result<Report, Fail> {
-    let lines = [
-        ReportLine::Delivered {
-            number: 1,
-            length: 4,
-        },
-        ReportLine::Held {
-            number: 2,
-            length: 8,
-        },
-        ReportLine::Skipped { number: 3, size: 9 },
-        ReportLine::Deleted { number: 3 },
-    ];
-    Ok(Report {
-        outcome: Outcome::Ended,
-        total: 4,
-        retrieved: 2,
-        bytes: 12,
-        skipped: 2,
-        deleted: 1,
-        lines: Vec::from_slice(alloc, &lines)?,
-    })
-}
-
-/// The text of `report_of_a_session` by verbosity.
-const TOLD: [(&str, &str); 3] = [
-    ("0", ""),
-    (
-        "1",
-        "SimplePOP3Retriever:fred@mail.example.org:110:\nmsg 1/4 (4 bytes) delivered\n\
-         msg 2/4 (8 bytes) already held\nmsg 3/4 deleted\n\
-         2 messages (12 bytes) retrieved, 2 skipped, 1 deleted\n",
-    ),
-    (
-        "2",
-        "SimplePOP3Retriever:fred@mail.example.org:110:\nmsg 1/4 (4 bytes) delivered\n\
-         msg 2/4 (8 bytes) already held\nmsg 3/4 (9 octets) skipped\nmsg 3/4 deleted\n\
-         2 messages (12 bytes) retrieved, 2 skipped, 1 deleted\n",
-    ),
-];
-
-#[test]
-fn tells_what_was_done(rt: HostRuntime) -> Result<(), Fail> {
-    let alloc = rt.alloc();
-    for (verbose, wanted) in TOLD {
-        let file = format!(in alloc;
-            "[retriever]\ntype = SimplePOP3Retriever\n\
-            server = mail.example.org\nusername = fred\npassword = secret\n\
-            [destination]\ntype = Maildir\npath = mail/\n[options]\nverbose = {verbose}\n"
-        )?;
-        let (settings, _warnings) = read_rc(alloc, file.as_bytes())?;
-        let report = report_of_a_session(alloc)?;
-        assert_eq!(rt; report_text(alloc, &report, &settings)?.as_str(), wanted);
     }
     Ok(())
 }

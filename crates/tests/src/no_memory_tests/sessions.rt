@@ -6,7 +6,6 @@ use crate::fetch_session_tests::visit::{
 };
 use crate::local_fetch_tests::ends::{Ends, MESSAGES, fetch};
 use crate::local_fetch_tests::mbox::{Files, files_of, mbox_account};
-use crate::no_memory_tests::servers::maildrop_of;
 use crate::no_memory_tests::watched::{begin, end, tell, tell_bytes, tell_no_memory};
 use fetch_runs::{Visit as OneVisit, run_sessions};
 use fetch_session::{Report, pretend, session};
@@ -16,6 +15,7 @@ use pop3_server::{MemoryDrop, Server};
 use pop3_wire::{FusedWire, ScriptWire};
 use std::alloc::Global;
 use std::test::Fail;
+use test_support::maildrop_of;
 
 /// The link of a session over written replies.
 type Link = FusedWire<ScriptWire>;
@@ -60,7 +60,7 @@ fn visit_once(rt: &HostRuntime, kept: Kept, visit: &Visit) -> Result<Kept, Fail>
 /// Runs a whole session over a server with the three messages, and prints how it ended and what it
 /// leaves.
 fn complete(rt: &HostRuntime, kept: Kept, options: &str) -> Result<(), Fail> {
-    let maildrop = maildrop_of(rt.alloc(), &MESSAGES)?;
+    let maildrop = maildrop_of(rt, &MESSAGES)?;
     let (ends, report) = fetch(rt.alloc(), options, Ends { kept, maildrop })?;
     tell_report(rt, &report);
     tell_kept(rt, &ends.kept);
@@ -83,7 +83,7 @@ fn fresh_row(rt: HostRuntime) -> Result<(), Fail> {
 /// What is kept after a session over the first message alone.
 fn first_kept(rt: &HostRuntime) -> Result<Kept, Fail> {
     let kept = nothing_kept(rt.alloc());
-    let maildrop = maildrop_of(rt.alloc(), &[("a", "one\n")])?;
+    let maildrop = maildrop_of(rt, &[("a", "one\n")])?;
     let (ends, _report) = fetch(rt.alloc(), "", Ends { kept, maildrop })?;
     Ok(ends.kept)
 }
@@ -229,27 +229,6 @@ fn pretend_one(rt: &HostRuntime, account: &mut Fred, wire: &mut Link) {
     }
 }
 
-/// Prints what a session over these replies would do, and what is kept then.
-fn pretend_kept(rt: &HostRuntime, kept: Kept, replies: &[&str]) -> Result<Kept, Fail> {
-    let alloc = rt.alloc();
-    let visit = Visit::new(alloc, "", 0, replies)?;
-    let mut wire = visit.link(alloc, 4096)?;
-    let mut account = account(alloc, "", kept, SOUND, SOUND)?;
-    pretend_one(rt, &mut account, &mut wire);
-    let kept = kept_by(alloc, account);
-    tell_kept(rt, &kept);
-    Ok(kept)
-}
-
-#[test]
-fn pretend_row(rt: HostRuntime) -> Result<(), Fail> {
-    let kept = first_kept(&rt)?;
-    tell_kept(&rt, &kept);
-    let kept = pretend_kept(&rt, kept, &[LISTED, "+OK|"])?;
-    let _kept = pretend_kept(&rt, kept, &[LISTED, "+OK|"])?;
-    Ok(())
-}
-
 /// As `pretend_kept`, with an mboxrd file.
 fn pretend_mbox(rt: &HostRuntime, files: Files, replies: &[&str]) -> Result<Files, Fail> {
     let alloc = rt.alloc();
@@ -328,7 +307,7 @@ fn fetch_one(rt: &HostRuntime, account: &mut Fred, maildrop: MemoryDrop) {
 #[test]
 fn fetch_local_row(rt: HostRuntime) -> Result<(), Fail> {
     let alloc = rt.alloc();
-    let maildrop = maildrop_of(alloc, &MESSAGES)?;
+    let maildrop = maildrop_of(&rt, &MESSAGES)?;
     let mut account = account(alloc, "", nothing_kept(alloc), SOUND, SOUND)?;
     fetch_one(&rt, &mut account, maildrop);
     let kept = kept_by(alloc, account);
@@ -340,7 +319,7 @@ fn fetch_local_row(rt: HostRuntime) -> Result<(), Fail> {
 /// ended and what it leaves.
 fn append_all(rt: &HostRuntime, files: Files, messages: &[(&str, &str)]) -> Result<Files, Fail> {
     let alloc = rt.alloc();
-    let maildrop = maildrop_of(alloc, messages)?;
+    let maildrop = maildrop_of(rt, messages)?;
     let mut account = mbox_account(alloc, files, (SOUND, SOUND))?;
     fetch_one(rt, &mut account, maildrop);
     let files = files_of(alloc, account);
