@@ -4,6 +4,7 @@ A program is looked for where `rt` leaves it, `crates/NAME/out/NAME`, unless `pl
 tests of the libraries are a program too.
 """
 
+import itertools
 import os
 import subprocess
 from dataclasses import dataclass
@@ -16,6 +17,9 @@ NAMES = ("getmail", "popd", "store_bench", "record_bench", "libraries")
 # and on the wait for the next output of a program that has all it needs for it.
 SECONDS = 60
 NEXT_OUTPUT_SECONDS = 15
+
+# Each way to close some of the standard files.
+WAYS_TO_CLOSE = [way for count in (1, 2, 3) for way in itertools.combinations(range(3), count)]
 
 _placed: dict[str, Path] = {}
 
@@ -44,6 +48,14 @@ def environment(**changes):
     """This process's environment with `changes`, without what a caller may have preloaded."""
     kept = {key: value for key, value in os.environ.items() if key != "LD_PRELOAD"}
     return {**kept, **changes}
+
+
+def with_closed(closed, command):
+    """The command that runs another one with these standard files closed, by their descriptors."""
+    if not closed:
+        return command
+    marks = " ".join(f"{number}{'<' if number == 0 else '>'}&-" for number in closed)
+    return ["sh", "-c", f'exec "$@" {marks}', "sh", *command]
 
 
 def run(name, *words, given=b"", out=subprocess.PIPE, err=subprocess.PIPE, seconds=SECONDS, **changes):

@@ -118,20 +118,22 @@ class Service:
     No connection is spent on finding out whether the server listens: the kernel's table of sockets shows it.
     """
 
-    def __init__(self, maildir, *words, user="u", **environment):
+    def __init__(self, maildir, *words, user="u", closed=(), **environment):
+        """With `closed` it is started with these of its standard files closed."""
         self.maildir = maildir
         self.words = words
         self.user = user
+        self.closed = closed
         self.environment = environment
 
     def __enter__(self):
         for _ in range(PORT_TRIES):
             self.port = kernel.free_port()
+            command = [programs.path_of("popd"), "--listen", f"{LOOPBACK}:{self.port}", *self.words, self.user,
+                       self.maildir.passfile, self.maildir.folder]
             self.process = subprocess.Popen(
-                [programs.path_of("popd"), "--listen", f"{LOOPBACK}:{self.port}", *self.words, self.user,
-                 self.maildir.passfile,
-                 self.maildir.folder], env=programs.environment(**self.environment), stdin=subprocess.DEVNULL,
-                stdout=subprocess.DEVNULL, stderr=subprocess.PIPE)
+                programs.with_closed(self.closed, command), env=programs.environment(**self.environment),
+                stdin=subprocess.DEVNULL, stdout=subprocess.DEVNULL, stderr=subprocess.PIPE)
             if kernel.wait_for_listener(self.process, self.port):
                 return self
             self.__exit__()

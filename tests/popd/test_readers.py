@@ -138,7 +138,7 @@ class WhileItIsListed(Readers):
         reader = self.enterContext(preload.library("reader"))
         for part in ("new", "cur"):
             with self.subTest(part), Maildir(above="/dev/shm") as self.maildir:
-                self.fill(part, FEW)
+                self.fill(part, MANY)
                 reading = {"READER_MAILDIR": str(self.maildir.folder), "READER_CALL": "0", "READER_NOTE": "/dev/null"}
                 with Service(self.maildir, LD_PRELOAD=str(reader), **reading) as service, service.client() as client:
                     begun = time.monotonic()

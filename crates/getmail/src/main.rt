@@ -9,6 +9,7 @@ mod host;
 
 use crate::connection::{connect, link_over};
 use crate::host::{Host, host_of};
+use command_line::StandIns;
 use fetch_rules::RcFault;
 use folder_store::ProcessMark;
 use getmail_program::{
@@ -96,9 +97,13 @@ fn arguments<'a>(rt: &HostRuntime) -> Result<Vec<String>, Failure<'a>> {
 }
 
 fn main(rt: HostRuntime) -> ExitCode {
+    let stand_ins = StandIns::new(&rt);
     let status = match arguments(&rt) {
         Ok(arguments) => start(&rt, arguments.as_slice()),
         Err(failure) => tell(&rt, failure),
     };
+    if status == 1 && stand_ins.lack_output() {
+        let _ = rt.eprintln("getmail: standard output is closed");
+    }
     ExitCode::from(status)
 }
