@@ -137,7 +137,7 @@ class Connections(OverLoopback):
 
 
 class Waits(OverLoopback):
-    """A client that neither says nor takes anything; ten minutes are three seconds here."""
+    """A client that neither says nor takes anything; ten minutes are three seconds here, and a minute is 0.3 s."""
 
     @classmethod
     def setUpClass(cls):
@@ -160,20 +160,20 @@ class Waits(OverLoopback):
         self.assertIn(err, told)
 
     def check_asked(self):
-        """Each connection asks for no more than what is left of three minutes, and for ten once it is logged in, as the
-        last one is."""
+        """Each connection asks for no more than what is left of a minute; once it is logged in, as the last one is, for
+        ten minutes to read, and for ten seconds for each try to write."""
         connections = []
         for word, asked in self.hurry.asked():
             if word == "nodelay":
                 connections.append([])
             else:
                 connections[-1].append((word, asked))
-        idle = [("read", 600_000), ("write", 600_000)]
+        idle = [("read", 600_000), ("write", 10_000)]
         self.assertEqual(connections[-1][-2:], idle)
         for bounds in connections:
             before = [asked for _, asked in (bounds[:-2] if bounds[-2:] == idle else bounds)]
             self.assertEqual(before, sorted(before, reverse=True))
-            self.assertLessEqual(before[0], 180_000)
+            self.assertLessEqual(before[0], 60_000)
             self.assertLessEqual({word for word, _ in bounds}, {"read", "write"})
 
     def test_a_client_that_says_nothing(self):
@@ -190,9 +190,26 @@ class Waits(OverLoopback):
         with self.service() as service, service.client() as deaf:
             deaf.log_in()
             self.assertEqual(deaf.ask(b"DELE 2"), b"+OK marked\r\n")
+            begun = time.monotonic()
             deaf.give(b"RETR 1\r\n" * 500)
             self.check_next_client(service, b"popd: write failed\n", count=2)
             self.check_asked()
+            # The system takes a part of an answer, and the wait for the rest of it isn't another ten minutes.
+            self.assertGreater(time.monotonic() - begun, 2.8)
+            self.assertLess(time.monotonic() - begun, 5.5)
+
+    def test_a_client_that_takes_its_time(self):
+        """It takes a part every now and then, for more than ten minutes in all."""
+        with self.service() as service, service.client() as slow:
+            slow.log_in()
+            slow.give(b"RETR 1\r\n" * 100 + b"QUIT\r\n")
+            got = b""
+            for _ in range(4):
+                time.sleep(0.9)
+                got += slow.file.read(1 << 20)
+            got += slow.rest()
+            self.assertEqual((got.count(b"+OK 200079 octets\r\n"), got[-9:]), (100, b"+OK bye\r\n"))
+            self.check_next_client(service, b"")
 
     def keep_talking(self, service, piece):
         """Says a piece every now and then until the server has had enough; how long that took."""
@@ -204,16 +221,17 @@ class Waits(OverLoopback):
         return time.monotonic() - begun
 
     def test_a_client_that_talks_and_does_not_log_in(self):
-        """Three minutes, which are 0.9 s here, are all that it gets, though it never waits for long."""
+        """A minute is all that it gets, though it never waits for long."""
         for piece in (b"x", b"NOOP\r\n", b"USER u\r\n", b"USER u\r\nPASS q\r\n"):
             with self.subTest(piece), self.service() as service:
                 took = self.keep_talking(service, piece)
-                self.assertGreater(took, 0.8)
+                self.assertGreater(took, 0.25)
                 self.assertLess(took, programs.SECONDS / 2)
                 self.check_next_client(service, b"popd: read failed\n", b"popd: write failed\n")
+                self.check_asked()
 
     def test_a_client_that_is_logged_in_has_its_time(self):
-        """It stays for longer than three minutes, and waits for four each time."""
+        """It stays for longer than a minute, and waits for four each time."""
         with self.service() as service:
             with service.client() as client:
                 client.log_in()
@@ -224,10 +242,10 @@ class Waits(OverLoopback):
             self.check_next_client(service, b"")
 
     def test_a_client_that_cannot_be_given_its_time(self):
-        """The bound of a login is lifted only once that of ten minutes is set: else the client has three minutes."""
+        """The bound of a login is lifted only once that of ten minutes is set: else the client has one."""
         with self.service(HURRY_REFUSED="idle") as service:
             took = self.keep_talking(service, b"USER u\r\nPASS p\r\nDELE 1\r\n")
-            self.assertGreater(took, 0.8)
+            self.assertGreater(took, 0.25)
             self.assertLess(took, programs.SECONDS / 2)
             self.check_next_client(service, b"popd: read failed\n", b"popd: write failed\n")
 

@@ -1,6 +1,6 @@
 //! How long a client may keep the server waiting (RFC 1939, section 3, asks for at least ten minutes
 //! after the login).
-ghost use Rattle.std.specs.Prelude.{◌≡◌, ◌≤◌, ◌+◌, ◌*◌, IfSome, None};
+ghost use Rattle.std.specs.Prelude.{◌≡◌, ◌≤◌, ◌+◌, ◌*◌, length, IfOk, IfSome, None};
 ghost use Rattle.std.specs.Duration.{as_nanos};
 
 use pop3_server::{Event, Journal};
@@ -10,17 +10,24 @@ use std::net::TcpStream;
 use std::rt::Clock;
 use std::time::{Duration, Instant};
 
-/// How long one read or write may wait for a client that is logged in.
+/// How long a client that is logged in may send nothing, or take nothing of an answer.
 const IDLE_SECONDS: u64 = 600;
+
+/// How long one try to write waits. A long one would end only after all of its time if the client took
+/// a part at its start, and the next one would wait anew.
+const TRY_SECONDS: u64 = 10;
+
+/// How often a write is tried while the client takes nothing.
+const MOST_TRIES: u64 = IDLE_SECONDS / TRY_SECONDS;
 
 /// How long a client has to log in, all reads and writes together, so that a client that sends an
 /// octet now and then can't keep the next one out for longer.
-const LOGIN_SECONDS: u64 = 180;
+const LOGIN_SECONDS: u64 = 60;
 
 /// How much of the time to log in is left after this much has passed, if any.
 fn left_after(passed: Duration) -> Option<Duration>
-    ensures some { IfSome result (λ left. as_nanos left + as_nanos passed ≡ 180 * 1_000_000_000) }
-    ensures none { result ≡ None → 180 * 1_000_000_000 ≤ as_nanos passed }
+    ensures some { IfSome result (λ left. as_nanos left + as_nanos passed ≡ 60 * 1_000_000_000) }
+    ensures none { result ≡ None → 60 * 1_000_000_000 ≤ as_nanos passed }
 {
     match Duration::from_secs(LOGIN_SECONDS).checked_sub(passed) {
         Some(left) if !left.is_zero() => Some(left),
@@ -60,15 +67,33 @@ impl<'a, R: Clock> BoundedStream<'a, R> {
         }
     }
 
-    /// Limits how long each read and each write waits from now on.
-    fn bound_waits(&self, wait: Duration) -> io::Result<()> {
+    /// Limits how long each read and each try to write waits from now on.
+    fn bound_waits(&self) -> io::Result<()> {
+        let (wait, each_try) = (
+            Duration::from_secs(IDLE_SECONDS),
+            Duration::from_secs(TRY_SECONDS),
+        );
         self.stream.set_read_timeout(Some(wait))?;
-        self.stream.set_write_timeout(Some(wait))
+        self.stream.set_write_timeout(Some(each_try))
+    }
+
+    /// Writes to a client that is logged in, as soon as it takes something.
+    fn write_patiently(&self, buf: &[u8]) -> io::Result<usize>
+        ensures { IfOk result (λ count. count ≤ length buf.now) }
+    {
+        let mut stream = self.stream;
+        for _ in 0..MOST_TRIES {
+            match stream.write(buf) {
+                Err(error) if error.kind() == ErrorKind::WouldBlock => {}
+                answer => return answer,
+            }
+        }
+        Err(ErrorKind::TimedOut.into())
     }
 
     /// The client has logged in.
     fn end_login(&self) {
-        if self.bound_waits(Duration::from_secs(IDLE_SECONDS)).is_ok() {
+        if self.bound_waits().is_ok() {
             self.taken.set(None);
         }
     }
@@ -86,9 +111,10 @@ impl<'a, R: Clock> Read for &BoundedStream<'a, R> {
 
 impl<'a, R: Clock> Write for &BoundedStream<'a, R> {
     fn write(&mut self, buf: &[u8]) -> io::Result<usize> {
-        if let Some(left) = self.left()? {
-            self.stream.set_write_timeout(Some(left))?;
-        }
+        let Some(left) = self.left()? else {
+            return self.write_patiently(buf);
+        };
+        self.stream.set_write_timeout(Some(left))?;
         let mut stream = self.stream;
         stream.write(buf)
     }
