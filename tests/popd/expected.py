@@ -38,6 +38,11 @@ class Message:
         return sum(len(line) + 2 for line in self.lines())
 
 
+def base_of(path):
+    """A file's name up to its first colon, which names a message."""
+    return os.path.basename(path).split(b":")[0]
+
+
 REHEARSAL = (Message(b"m1", b"Subject: one\n\n.dot\n"), Message(b"m2", b"Subject: two\n\na\nbc\n"))
 
 

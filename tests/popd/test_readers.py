@@ -224,6 +224,30 @@ class WhileItIsServed(Readers):
             self.assertEqual(client.ask(b"QUIT"), b"+OK bye\r\n")
             self.assertEqual(self.maildir.names(), before)
 
+    def test_a_message_that_is_linked_in_both_folders(self):
+        """Its removal removes all files of its name up to the first colon, and no others, nor a folder."""
+        others = (("cur", "a.b:2,"), ("cur", "aa:2,S"), ("new", "A"))
+        for reader in (lambda: None, self.reader_of("flag", b"F"), self.reader_of("take")):
+            with Maildir() as self.maildir:
+                path = self.maildir.add("cur", "a:2,", b"one\n")
+                for part, name in (("cur", "a:2,S"), ("new", "a")):
+                    os.link(path, self.maildir.folder / part / name)
+                (self.maildir.folder / "new" / "a:2,D").mkdir()
+                for part, name in others:
+                    self.maildir.add(part, name, b"two\n")
+                with Service(self.maildir) as service, service.client() as client:
+                    client.log_in()
+                    self.check_listed(client, [b"A", b"a", b"a.b", b"aa"])
+                    client.ask(b"DELE 2")
+                    reader()
+                    self.assertEqual(client.ask(b"QUIT"), b"+OK bye\r\n")
+                left = sorted(name.split(b":")[0] for _, name in self.maildir.names())
+                self.assertEqual(left, [b"A", b"a", b"a.b", b"aa"])
+
+    def reader_of(self, call, *words):
+        """A reader of the Maildir that is there when it is called."""
+        return lambda: getattr(Reader(self.maildir), call)(*words)
+
     def test_what_is_gone_is_removed(self):
         """Its removal is answered and reported as done."""
         uids = self.fill("new", 4)

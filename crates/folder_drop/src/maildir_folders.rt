@@ -170,7 +170,7 @@ impl<'a, R: Files + Clock + AllocGlobal + Clone + Drop> MaildirFolders<'a, R> {
         base: &[u8],
         tried: &str,
     ) -> Result<Option<String>, Unread> {
-        if let Some(file) = seen.with_base(base) {
+        if let Some(file) = seen.with_base(base, 0) {
             let path = self.path_of(file.folder, file.name.as_str())?;
             if path.as_str() != tried {
                 return Ok(Some(path));
@@ -179,7 +179,7 @@ impl<'a, R: Files + Clock + AllocGlobal + Clone + Drop> MaildirFolders<'a, R> {
             return Ok(None);
         }
         seen.renew(self.list()?);
-        match seen.with_base(base) {
+        match seen.with_base(base, 0) {
             Some(file) => Ok(Some(self.path_of(file.folder, file.name.as_str())?)),
             None => Ok(None),
         }
@@ -235,10 +235,38 @@ impl<'a, R: Files + Clock + AllocGlobal + Clone + Drop> MaildirFolders<'a, R> {
         self.reach(seen, folder, name, |rt, path| fs::open(rt, path))
     }
 
-    /// Removes a file. One that is gone already counts as removed.
+    /// Removes a regular file, if it is still there.
+    fn remove_regular(&self, path: String) -> Result<(), Unread> {
+        let removed = match fs::symlink_metadata(self.rt, path.as_str()) {
+            Ok(found) if found.is_file() => fs::remove_file(self.rt, path.as_str()),
+            Ok(_) => Ok(()),
+            Err(error) => Err(error),
+        };
+        match removed {
+            Err(error) if error.kind() != ErrorKind::NotFound => Err(Unread::at(error, path)),
+            _ => Ok(()),
+        }
+    }
+
+    /// Removes the files with a base, if there are several, from where they were seen.
+    fn remove_all(&self, seen: &SeenFiles, base: &[u8]) -> Result<(), Unread> {
+        if seen.with_base(base, 1).is_none() {
+            return Ok(());
+        }
+        for place in 0..usize::MAX {
+            let Some(file) = seen.with_base(base, place) else {
+                break;
+            };
+            self.remove_regular(self.path_of(file.folder, file.name.as_str())?)?;
+        }
+        Ok(())
+    }
+
+    /// Removes a file, and each other one that was seen with its base: a message may be linked in both
+    /// folders. One that is gone already counts as removed.
     pub fn remove(&self, seen: &mut SeenFiles, folder: Folder, name: &str) -> Result<(), Unread> {
         self.reach(seen, folder, name, |rt, path| fs::remove_file(rt, path))?;
-        Ok(())
+        self.remove_all(seen, base(name).as_bytes())
     }
 
     /// The size of a file as a message; the file is read in pieces. None if it is gone.

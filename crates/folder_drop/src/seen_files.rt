@@ -1,5 +1,5 @@
 //! Where the files of a Maildir were last seen, for those that aren't where they were listed.
-ghost use Rattle.std.specs.Prelude.{◌≡◌, ◌&&◌, if◌then◌else◌, None, Some, false, true, is_some, IfSome};
+ghost use Rattle.std.specs.Prelude.{◌≡◌, ◌&&◌, if◌then◌else◌, None, Some, false, not, true, is_some, IfSome};
 
 use crate::maildir_names::PlacedFile;
 
@@ -30,8 +30,8 @@ impl SeenFiles {
         self.files = Some(files);
     }
 
-    /// The first file that was seen with this base.
-    pub fn with_base(&self, base: &[u8]) -> Option<&PlacedFile>
+    /// A file that was seen with this base, in their order: the first one at 0.
+    pub fn with_base(&self, base: &[u8], place: usize) -> Option<&PlacedFile>
         ensures { IfSome result (λ file. file.now.base.items ≡ base.now) }
     {
         let files = match &self.files {
@@ -39,23 +39,26 @@ impl SeenFiles {
             None => return None,
         };
         let i = files.partition_point(|file| file.base.as_slice() < base);
-        match files.get(i) {
+        match files.get(i.saturating_add(place)) {
             Some(file) if file.base.as_slice() == base => Some(file),
             _ => None,
         }
     }
 
     /// From now on a file that wasn't seen counts as gone: one look is enough for all removals of a
-    /// session.
-    pub fn begin_removals(&mut self)
-        ensures { self.new ≡ (if self.old.are_removed then self.old else record { files = None; are_removed = true }) }
+    /// session. Returns whether they only begin now.
+    pub fn begin_removals(&mut self) -> bool
+        ensures first { result ≡ not self.old.are_removed }
+        ensures begun { self.new ≡ (if self.old.are_removed then self.old else record { files = None; are_removed = true }) }
     {
-        if !self.are_removed {
-            *self = SeenFiles {
-                files: None,
-                are_removed: true,
-            };
+        if self.are_removed {
+            return false;
         }
+        *self = SeenFiles {
+            files: None,
+            are_removed: true,
+        };
+        true
     }
 
     /// Whether a file that wasn't seen counts as gone.

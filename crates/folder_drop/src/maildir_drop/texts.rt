@@ -93,14 +93,17 @@ impl<'a, R: Files + Clock + RandomSource + AllocGlobal + Clone + Drop> MaildirDr
         Ok(n)
     }
 
-    /// Removes the file at a place of the last listing. One that is gone already counts as removed.
+    /// Removes the file at a place of the last listing, and each other one with its base. One that is
+    /// gone already counts as removed. The first removal of a session lists the folders for all.
     pub(crate) fn remove_file(&mut self, i: usize) -> Result<(), Unread>
         ensures same { self.new ≡ self.old }
     {
         let Some(listed) = self.listing.files.get(i) else {
             return Err(missing());
         };
-        self.last_seen.begin_removals();
+        if self.last_seen.begin_removals() {
+            self.last_seen.renew(self.folders.list()?);
+        }
         let name = listed.name.as_str();
         self.folders
             .remove(&mut self.last_seen, listed.folder, name)
