@@ -170,6 +170,10 @@ base_base (x ∷ xs) = ap base (before_first-cons is_colon x xs) ∙ by (is_colo
     by true e ih = refl
     by false e ih = before_first-cons is_colon x (base xs) ∙ ap (λ b. cond b [] (x ∷ base (base xs))) e ∙ ap (λ t. x ∷ t) ih
 
+-- a base has the stem of the name
+pub stem-base : (name : List ℕ) → stem (base name) ≡ stem name
+stem-base name = ap (before_first is_comma) (base_base name)
+
 -- ---- different names
 
 -- what the law of legal ids says

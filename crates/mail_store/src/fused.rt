@@ -4,7 +4,7 @@ ghost use Rattle.mail_store.specs.Fault.{is_refusal};
 
 use crate::fault::StoreFault;
 use crate::file::flat_file::{Edges, FlatFile};
-use crate::maildir::disk::{Folder, MaildirDisk};
+use crate::maildir::disk::MaildirDisk;
 use crate::refusal::{admit, refuse};
 use mail_terms::FailureCount;
 
@@ -102,11 +102,10 @@ impl<D> Fused<D> {
 }
 
 impl<D: MaildirDisk> MaildirDisk for Fused<D> {
-    ghost use Rattle.std.specs.Prelude.{◌≡◌, ◌<◌, IfErr, IfOk, IsSome, OnErr, OnOk, Some, None, map, string_bytes};
+    ghost use Rattle.std.specs.Prelude.{◌≡◌, ◌<◌, IfErr, IsSome, OnErr, OnOk, Some, None};
     ghost use Rattle.mail_terms.specs.FailureCount.{Tallies, refuses, greatest_count};
-    ghost use Rattle.mail_terms.specs.Distinct.{AreDistinct};
     ghost use Rattle.mail_store.specs.Fault.{IsDeviceFault};
-    ghost use Rattle.mail_store.specs.Maildir.{IsInNew, Lists, Begins, Adds, Settles, dropped, name_begun};
+    ghost use Rattle.mail_store.specs.Maildir.{IsThere, Lists, Begins, Adds, Settles, dropped, name_begun};
     ghost use Rattle.mail_store.specs.Power.{KeepsMail, SettledOutlives, ToldStay};
     ghost use Rattle.mail_store.specs.Fuse.{device_of, passes_left, effect_is_due, refusals, fused_maildir};
     ghost use Rattle.mail_store.specs.Fuse.{FusedIsSound, Burns, SettlesBehind};
@@ -119,10 +118,9 @@ impl<D: MaildirDisk> MaildirDisk for Fused<D> {
 
     ghost sound = { λ f. FusedIsSound D.sound f };
 
-    fn names(&mut self, folder: Folder) -> Result<Vec<String>, StoreFault>
+    fn names(&mut self) -> Result<Vec<String>, StoreFault>
         ensures lists { FusedIsSound D.sound self.new → FusedIsSound D.sound self.old
-            × Lists (fused_maildir D.maildir self.old) folder result (fused_maildir D.maildir self.new) }
-        ensures once { FusedIsSound D.sound self.new → IfOk result (λ names. AreDistinct (map string_bytes names.items)) }
+            × Lists (fused_maildir D.maildir self.old) result (fused_maildir D.maildir self.new) }
         ensures fault { IfErr result IsDeviceFault }
         ensures lasts { FusedIsSound D.sound self.new → KeepsMail (D.stays (device_of self.old)) (D.outlives (device_of self.old))
             (D.stays (device_of self.new)) (D.outlives (device_of self.new))
@@ -133,7 +131,7 @@ impl<D: MaildirDisk> MaildirDisk for Fused<D> {
     {
         admit(&self.failures)?;
         self.pass()?;
-        let answer = self.device.names(folder);
+        let answer = self.device.names();
         self.tally(answer)
     }
 
@@ -176,7 +174,7 @@ impl<D: MaildirDisk> MaildirDisk for Fused<D> {
 
     fn settle(&mut self, name: &str) -> Result<(), StoreFault>
         requires begun { FusedIsSound D.sound self.old → IsSome (D.maildir (device_of self.old)).begun }
-        requires not_there { FusedIsSound D.sound self.old → IsInNew (D.maildir (device_of self.old)) name.now → ⊥ }
+        requires not_there { FusedIsSound D.sound self.old → IsThere (D.maildir (device_of self.old)) name.now → ⊥ }
         ensures settles { FusedIsSound D.sound self.new → FusedIsSound D.sound self.old
             × Settles (fused_maildir D.maildir self.old) name.now result (fused_maildir D.maildir self.new) }
         ensures none_begun { (D.maildir (device_of self.new)).begun ≡ None }

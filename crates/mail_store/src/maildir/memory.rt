@@ -1,82 +1,91 @@
 //! A Maildir in memory.
 
-ghost use Rattle.std.specs.Prelude.{map, length, ◌<◌, ◌↔◌, Contains, HoldsAt, IsTrue, IfOk, IfSome, IfNone, ◌≡◌};
+ghost use Rattle.std.specs.Prelude.{map, length, ◌<◌, ◌≢◌, ◌↔◌, Contains, HoldsAt, All, IsTrue, IfOk, IfSome, IfNone, ◌≡◌};
 ghost use Rattle.std.specs.String.{string_bytes};
-ghost use Rattle.mail_store.specs.Maildir.{names_of, file_of};
+ghost use Rattle.mail_terms.specs.MaildirName.{base};
+ghost use Rattle.mail_store.specs.Maildir.{names_of};
+ghost use Rattle.mail_store.specs.MemoryMaildir.{mail_of, name_kept};
 
 use crate::fault::StoreFault;
-use crate::maildir::disk::{Folder, MaildirDisk};
+use crate::maildir::disk::MaildirDisk;
 use crate::refusal::{admit, refuse};
-use mail_terms::FailureCount;
+use mail_terms::{FailureCount, base};
 use std::alloc::{AllocError, Global};
 use std::marker::Model;
+
+/// A folder of a Maildir that readers look into.
+#[derive(Clone, Copy, Debug, PartialEq, Eq)]
+pub enum Folder {
+    /// Files that no reader has seen.
+    New,
+    /// Files that a reader has taken.
+    Cur,
+}
+
+/// A file of a Maildir in memory.
+#[derive(Drop)]
+pub struct KeptFile {
+    pub folder: Folder,
+    pub name: String,
+    pub content: Vec<u8>,
+}
 
 /// A Maildir in memory. Below the greatest count it refuses a call only if memory runs out.
 #[derive(Drop)]
 pub struct MemoryMaildir {
     alloc: Global,
-    in_new: Vec<(String, Vec<u8>)>,
-    in_cur: Vec<(String, Vec<u8>)>,
+    files: Vec<KeptFile>,
     begun: Option<(String, Vec<u8>)>,
     failures: FailureCount,
 }
 
 impl Model for MemoryMaildir {
     ghost use Rattle.std.specs.Prelude.{map, option_map};
-    ghost use Rattle.mail_store.specs.Maildir.{Maildir, file_of, all_there, HaveDistinctNames};
+    ghost use Rattle.mail_store.specs.Maildir.{Maildir, file_of, all_there};
+    ghost use Rattle.mail_store.specs.MemoryMaildir.{mail_of};
 
     ghost Value = { Maildir };
 
     ghost view = { λ d. record {
       there = all_there;
-      in_new = map file_of d.in_new.items;
-      in_cur = map file_of d.in_cur.items;
+      files = map mail_of d.files.items;
       begun = option_map file_of d.begun;
       failures = d.failures;
     } };
-
-    ghost invariant = { λ d. HaveDistinctNames d.in_new.items × HaveDistinctNames d.in_cur.items };
 }
 
 impl MemoryMaildir {
-    ghost use Rattle.std.specs.Prelude.{◌≡◌, ◌<◌, ◌+◌, ◌↔◌, [], None, map, slice_index, Contains, IsTrue, IsSome};
+    ghost use Rattle.std.specs.Prelude.{◌≡◌, ◌<◌, ◌+◌, ◌↔◌, [], None, map, IsTrue, IsSome, string_bytes};
+    ghost use Rattle.mail_terms.specs.MaildirName.{base};
     ghost use Rattle.mail_terms.specs.FailureCount.{greatest_count};
-    ghost use Rattle.mail_store.specs.Maildir.{Maildir, File, HaveDistinctNames, file_of, files_in, names_of, all_there, counted, Moves};
+    ghost use Rattle.mail_store.specs.Maildir.{Maildir, File, IsThere, all_there};
+    ghost use Rattle.mail_store.specs.MemoryMaildir.{mail_of};
 
     /// A Maildir without files.
     pub fn new(alloc: Global) -> MemoryMaildir
-        ensures maildir { result ≡ record { there = all_there; in_new = []; in_cur = []; begun = None; failures = 0 } }
+        ensures maildir { result ≡ record { there = all_there; files = []; begun = None; failures = 0 } }
         ensures sound { ⟦<MemoryMaildir as MaildirDisk>⟧.sound result }
     {
         MemoryMaildir {
             alloc,
-            in_new: Vec::new(alloc),
-            in_cur: Vec::new(alloc),
+            files: Vec::new(alloc),
             begun: None,
             failures: FailureCount::new(),
         }
     }
 
-    /// The files of a folder, each with its name and its bytes, in the order in which they came.
-    /// No two of them have the same name.
-    pub fn files(&self, folder: Folder) -> &[(String, Vec<u8>)]
-        ensures files { map file_of result.now ≡ files_in self.now folder }
-        ensures distinct { HaveDistinctNames result.now }
+    /// The files of both folders, in the order in which they came.
+    pub fn files(&self) -> &[KeptFile]
+        ensures { map mail_of result.now ≡ self.now.files }
     {
-        match folder {
-            Folder::New => self.in_new.as_slice(),
-            Folder::Cur => self.in_cur.as_slice(),
-        }
+        self.files.as_slice()
     }
 
-    /// Whether a file of the folder has this name.
-    pub fn has_file(&self, folder: Folder, name: &str) -> bool
-        ensures { IsTrue result ↔ Contains (names_of (files_in self.now folder)) name.now }
+    /// Whether a file of `new` or `cur` has this name, with whatever marks.
+    pub fn has_file(&self, name: &str) -> bool
+        ensures { IsTrue result ↔ IsThere self.now name.now }
     {
-        match folder {
-            Folder::New => has_name(&self.in_new, name),
-            Folder::Cur => has_name(&self.in_cur, name),
-        }
+        place_of_base(&self.files, base(name)).is_some()
     }
 
     /// Whether a file is begun.
@@ -86,55 +95,94 @@ impl MemoryMaildir {
         self.begun.is_some()
     }
 
-    /// Moves a file from `new` to `cur` and appends a suffix, which must begin with a colon, to its
-    /// name, as a reader does after it has seen the message. False, with nothing changed, if no
-    /// file of `new` has the name, or a file of `cur` has the name that would result.
-    pub fn move_to_cur(&mut self, name: &str, suffix: &str) -> Result<bool, AllocError>
-        requires { slice_index suffix.now 0 ≡ 58 }
-        ensures { Moves self.old name.now suffix.now result self.new }
+    /// Moves a file from `new` to `cur` and puts marks after its name, as a reader does after it has
+    /// seen the message. False, with nothing changed, if no file of `new` has the name, or a file of
+    /// `cur` has the name that would result.
+    pub fn move_to_cur(&mut self, name: &str, marks: &str) -> Result<bool, AllocError>
+        ensures { self.new ≡ self.old }
     {
-        let mut moved = String::from_str(self.alloc, name)?;
-        moved.push_str(suffix)?;
-        if has_name(&self.in_cur, moved.as_str()) {
-            return Ok(false);
+        let moved = marked(self.alloc, name, marks)?;
+        Ok(self.move_file(Folder::New, name, Folder::Cur, moved))
+    }
+
+    /// Gives a file of `cur` other marks. False, with nothing changed, if no file of `cur` has the
+    /// name, or one has the name that would result.
+    pub fn mark_again(&mut self, name: &str, marks: &str) -> Result<bool, AllocError>
+        ensures { self.new ≡ self.old }
+    {
+        let moved = marked(self.alloc, name, marks)?;
+        Ok(self.move_file(Folder::Cur, name, Folder::Cur, moved))
+    }
+
+    /// Moves a file from `cur` back to `new`, without its marks. False, with nothing changed, if no
+    /// file of `cur` has the name, or a file of `new` has the name that would result.
+    pub fn move_to_new(&mut self, name: &str) -> Result<bool, AllocError>
+        ensures { self.new ≡ self.old }
+    {
+        let moved = String::from_str(self.alloc, base(name))?;
+        Ok(self.move_file(Folder::Cur, name, Folder::New, moved))
+    }
+
+    // Gives a file of one folder another name in this one, which differs only in its marks.
+    fn move_file(&mut self, from: Folder, name: &str, to: Folder, moved: String) -> bool
+        requires { base (string_bytes moved) ≡ base name.now }
+        ensures { self.new ≡ self.old }
+    {
+        if place_in(&self.files, to, moved.as_str()).is_some() {
+            return false;
         }
-        let Some(place) = place_of(&self.in_new, name) else {
-            return Ok(false);
+        let Some(place) = place_in(&self.files, from, name) else {
+            return false;
         };
-        self.in_cur.reserve(1)?;
-        let (_, content) = self.in_new.remove(place);
-        self.in_cur.push((moved, content)).unwrap();
-        Ok(true)
+        let file = &mut self.files[place];
+        file.folder = to;
+        file.name = moved;
+        true
     }
 }
 
-/// The place of a file of this name, if there is one.
-fn place_of(files: &[(String, Vec<u8>)], name: &str) -> Option<usize>
-    ensures some { IfSome result (λ place. (place < length files.now) × HoldsAt (λ file. string_bytes file.0 ≡ name.now) files.now place) }
-    ensures none { IfNone result (Contains (names_of (map file_of files.now)) name.now → ⊥) }
+/// The base of a name with these marks after a colon.
+fn marked(alloc: Global, name: &str, marks: &str) -> Result<String, AllocError>
+    ensures { IfOk result (λ text. base (string_bytes text) ≡ base name.now) }
+{
+    let mut text = String::from_str(alloc, base(name))?;
+    text.push_str(":")?;
+    text.push_str(marks)?;
+    Ok(text)
+}
+
+/// The place of a file of this folder and this name, if there is one.
+fn place_in(files: &[KeptFile], folder: Folder, name: &str) -> Option<usize>
+    ensures { IfSome result (λ place. (place < length files.now) × HoldsAt (λ file. string_bytes file.name ≡ name.now) files.now place) }
 {
     for (place, file) in files.iter().enumerate() {
-        if file.0.as_str() == name {
+        if file.folder == folder && file.name.as_str() == name {
             return Some(place);
         }
     }
     None
 }
 
-/// Whether one of the files has this name.
-fn has_name(files: &[(String, Vec<u8>)], name: &str) -> bool
-    ensures { IsTrue result ↔ Contains (names_of (map file_of files.now)) name.now }
+/// The place of a file whose name has this base, if there is one.
+fn place_of_base(files: &[KeptFile], front: &str) -> Option<usize>
+    ensures some { IfSome result (λ place. (place < length files.now) × HoldsAt (λ file. base (string_bytes file.name) ≡ front.now) files.now place) }
+    ensures none { IfNone result (All (λ file. base (string_bytes file.name) ≢ front.now) files.now) }
 {
-    place_of(files, name).is_some()
+    for (place, file) in files.iter().enumerate() {
+        if base(file.name.as_str()) == front {
+            return Some(place);
+        }
+    }
+    None
 }
 
 /// The names of some files.
-fn names_of(alloc: Global, files: &[(String, Vec<u8>)]) -> Result<Vec<String>, AllocError>
-    ensures { IfOk result (λ names. map string_bytes names.items ≡ names_of (map file_of files.now)) }
+fn names_of(alloc: Global, files: &[KeptFile]) -> Result<Vec<String>, AllocError>
+    ensures { IfOk result (λ names. map string_bytes names.items ≡ map name_kept files.now) }
 {
     let mut names = Vec::new(alloc);
-    for (name, _) in files {
-        names.push(name.clone()?)?;
+    for file in files {
+        names.push(file.name.clone()?)?;
     }
     Ok(names)
 }
@@ -152,9 +200,9 @@ impl MaildirDisk for MemoryMaildir {
 
     ghost sound = { λ d. d.failures < greatest_count };
 
-    fn names(&mut self, folder: Folder) -> Result<Vec<String>, StoreFault> {
+    fn names(&mut self) -> Result<Vec<String>, StoreFault> {
         admit(&self.failures)?;
-        match names_of(self.alloc, self.files(folder)) {
+        match names_of(self.alloc, &self.files) {
             Ok(names) => Ok(names),
             Err(_) => Err(refuse(&mut self.failures)),
         }
@@ -193,7 +241,12 @@ impl MaildirDisk for MemoryMaildir {
         let Ok(name) = String::from_str(self.alloc, name) else {
             return Err(refuse(&mut self.failures));
         };
-        match self.in_new.push((name, content)) {
+        let file = KeptFile {
+            folder: Folder::New,
+            name,
+            content,
+        };
+        match self.files.push(file) {
             Ok(()) => Ok(()),
             Err(_) => Err(refuse(&mut self.failures)),
         }
