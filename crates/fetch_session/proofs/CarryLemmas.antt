@@ -4,7 +4,7 @@ use Rattle.std.proofs.lemmas.List.{length-map, append-nil}
 use Rattle.std.proofs.lemmas.List.FromFn.{length-enumerate_from}
 use Rattle.pop3_wire.specs.Place.{Place}
 use Rattle.mail_terms.specs.Listing.{Item, numbered}
-use Rattle.fetch_rules.specs.Record.{Row, Held, marked_all}
+use Rattle.fetch_rules.specs.Record.{Row, Held}
 use Rattle.fetch_rules.specs.Plan.{planned, step_of}
 use Rattle.rc_file.specs.declared.settings.Settings.{Settings}
 use Rattle.fetch_rules.specs.declared.steps.Step.{Step}
@@ -17,26 +17,22 @@ use Rattle.fetch_session.specs.declared.readiness.Ready.{Ready}
 use Rattle.fetch_session.specs.declared.fault.Cut.{Cut}
 use Rattle.fetch_session.specs.declared.report.ReportLine.{ReportLine}
 use Rattle.fetch_session.specs.Fault.{cut_of}
-use Rattle.fetch_session.specs.Task.{Task, says, tasks_planned, Done, files_in as files_brought, texts_in, ids_in, files_of, texts_of, ids_of}
+use Rattle.fetch_session.specs.Task.{Task, says, tasks_planned, Done}
 use Rattle.fetch_session.specs.Readiness.{IsReady, Unready, Settles}
 use Rattle.fetch_session.specs.Target.{Target, Stores, AsFiles, AsEntries, in_mbox, stores_of}
 use Rattle.fetch_session.specs.Report.{skipped_in}
 use Rattle.fetch_session.specs.Scene.{Scene, scene, AllWent}
-use Rattle.fetch_session.specs.Plan.{tasks_ahead, Unprepared}
+use Rattle.fetch_session.specs.Plan.{Unprepared}
 use Rattle.fetch_session.proofs.SceneLemmas.{brings_same, all_on, fell_on, fell_first}
 use Rattle.fetch_session.proofs.TakeLemmas.{text_broken}
 use Rattle.std.specs.Prelude.{Contains}
 use Rattle.std.proofs.lemmas.Grind.{flat_map-append}
-use Rattle.std.specs.List.{flat_map, AllByRecursion}
-use Rattle.mail_store.specs.Maildir.{File, names_of, files_in}
-use Rattle.mail_store.specs.Mboxrd.{entry_of}
-use Rattle.mail_store.specs.declared.maildir.disk.Folder.{Folder}
-use Rattle.mail_store.specs.declared.maildir.disk.Folder.TheVariants.{New, Cur}
+use Rattle.mail_store.specs.Maildir.{names_of}
 use Rattle.mail_store.specs.declared.maildir.disk.MaildirDisk.{Ghosts as DiskGhosts}
 use Rattle.mail_store.specs.declared.file.flat_file.FlatFile.{Ghosts as FileGhosts}
 use Rattle.fetch_session.specs.declared.account.Store.{Store}
 use Rattle.fetch_session.specs.declared.account.Store.TheVariants.{Maildir as InMaildir, Mboxrd as InMbox}
-use Rattle.fetch_session.specs.Lasting.{AllStayIn, CarriedForGood, DoesForGood, DonesLast, KeepsMailIn, RowsLast, StayFrom, TextsLast, front_in, outlives_in}
+use Rattle.fetch_session.specs.Lasting.{AllStayIn, CarriedForGood, DoesForGood, DonesLast, KeepsMailIn, StayFrom, TextsLast}
 
 pub planned_length : (settings : Settings) (rows : List Row) (items : List Item) (now : ℕ) → length (planned settings rows items now) ≡ length items
 planned_length settings rows items now = length-map (numbered items) (step_of settings rows items now) ∙ length-enumerate_from 1 items
@@ -88,14 +84,13 @@ module _ {D F : Type 0} {disk : DiskGhosts D} {files : FileGhosts F} {sure : Typ
 -- the files that were there stay
 pub stay_from : {D F : Type 0} (disk : DiskGhosts D) (files : FileGhosts F) (target : Target) (was : Held) (old : Stores) (mid end : Store D F)
     → Settles target was old (stores_of disk files mid) → AllStayIn disk mid → KeepsMailIn disk mid end → StayFrom disk target old end
-stay_from disk files (AsFiles account) was old (InMaildir device) end settles all keeps = λ folder name inside.
-    keeps.0 name (all folder name (subst (λ (s : Stores). Contains (names_of (files_in s.maildir folder)) name) (sym settles) inside))
-stay_from disk files (AsFiles account) was old (InMbox device) end settles all keeps = λ folder name inside.
-    absurd (nothing folder (subst (λ (s : Stores). Contains (names_of (files_in s.maildir folder)) name) (sym settles) inside))
+stay_from disk files (AsFiles account) was old (InMaildir device) end settles all keeps = λ name inside.
+    keeps.0 name (all name (subst (λ (s : Stores). Contains (names_of s.maildir.files) name) (sym settles) inside))
+stay_from disk files (AsFiles account) was old (InMbox device) end settles all keeps = λ name inside.
+    absurd (nothing (subst (λ (s : Stores). Contains (names_of s.maildir.files) name) (sym settles) inside))
   where
-    nothing : {name : List ℕ} (folder : Folder) → Contains (names_of (files_in (in_mbox (files.stored device)).maildir folder)) name → ⊥
-    nothing New c = absurd (omega (arith, c.1))
-    nothing Cur c = absurd (omega (arith, c.1))
+    nothing : {name : List ℕ} → Contains (names_of (in_mbox (files.stored device)).maildir.files) name → ⊥
+    nothing c = absurd (omega (arith, c.1))
 stay_from disk files AsEntries was old mid end settles all keeps = tt
 
 -- the planned tasks and QUIT were done once the record was ready, or as far as went well

@@ -1,11 +1,10 @@
 -- What of a session outlives a loss of power, by what its devices say.
 use Rattle.std.specs.Prelude.{◌≡◌, ◌⊎◌, ℕ, List, [], ◌++◌, length, Some, Result, Ok, Err, Contains}
 use Rattle.std.specs.List.{flat_map, AllByRecursion}
-use Rattle.mail_store.specs.declared.maildir.disk.Folder.{Folder}
 use Rattle.mail_store.specs.declared.maildir.disk.MaildirDisk.{Ghosts as DiskGhosts}
 use Rattle.mail_store.specs.declared.file.flat_file.FlatFile.{Ghosts as FileGhosts}
 use Rattle.mail_store.specs.FlatFile.{Stored}
-use Rattle.mail_store.specs.Maildir.{File, names_of, files_in}
+use Rattle.mail_store.specs.Maildir.{File, names_of}
 use Rattle.mail_store.specs.Mboxrd.{entry_of}
 use Rattle.mail_store.specs.Power.{AllStay, KeepsBytes, KeepsMail, KeepsWhole, LastsWhole}
 use Rattle.mail_terms.specs.Listing.{Item}
@@ -80,7 +79,7 @@ KeepsWork disk file old new = KeepsMailIn disk old.store new.store × KeepsMboxI
 -- all files that came into a Maildir outlive a loss of power
 abbrev pub NewOutlive : {D F : Type 0} → DiskGhosts D → FileGhosts F → Store D F → Store D F → Type 0
 NewOutlive disk file old new = (files : List File)
-    → (stores_of disk file new).maildir.in_new ≡ (stores_of disk file old).maildir.in_new ++ files
+    → (stores_of disk file new).maildir.files ≡ (stores_of disk file old).maildir.files ++ files
     → AllByRecursion (outlives_in disk new) files
 
 -- ---- what tasks leave that outlives it
@@ -118,7 +117,7 @@ pub record DoesForGood {D F : Type 0} (disk : DiskGhosts D) (file : FileGhosts F
 -- each file that was in the Maildir still stays
 abbrev pub StayFrom : {D F : Type 0} → DiskGhosts D → Target → Stores → Store D F → Type 0
 StayFrom disk (AsFiles account) old store =
-    (folder : Folder) (name : List ℕ) → Contains (names_of (files_in old.maildir folder)) name → stays_in disk store name
+    (name : List ℕ) → Contains (names_of old.maildir.files) name → stays_in disk store name
 StayFrom disk AsEntries old store = Unit {0}
 
 -- what was planned was done, or as much as went well; and if this premise holds, each file that was in the Maildir before stays, and what
