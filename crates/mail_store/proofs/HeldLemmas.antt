@@ -12,7 +12,7 @@ use Rattle.std.proofs.lemmas.Slice.Eq.{bytes_eq-Decides}
 use Rattle.mail_terms.specs.Listing.{Item, has_item, is_flagged}
 use Rattle.mail_terms.specs.UniqueId.{IsLegalId}
 use Rattle.mail_terms.specs.MaildirName.{base}
-use Rattle.mail_store.specs.Maildir.{Maildir, File, Lists, file, bases_told, name_in, names_of, IsThere, with_file}
+use Rattle.mail_store.specs.Maildir.{Maildir, File, ListsAll, file, bases_told, name_in, names_of, IsThere, with_file}
 use Rattle.mail_store.specs.FileName.{mail_file, name_of, stem, stem_of, names_id, is_held, IsAccountText}
 use Rattle.hex.specs.Hex.{encode_lower}
 use Rattle.mail_store.proofs.NameLemmas.{HaveRanges, stem-base, stem-name_of, stem_of-injective}
@@ -151,7 +151,7 @@ flagged_where_held account maildir (item ∷ items) uid =
 
 -- the names were told, and each name that was told stays
 pub all_stay : {A B : Type 0} (stays : List ℕ → Type 0) (before after : Maildir) (names : Vec (String A) B)
-    → Lists before (Ok names) after
+    → ListsAll before (Ok names) after
     → ((name : List ℕ) → Contains (bases_told names.items) name → stays name) → AllStay after stays
 all_stay stays before after names lists told name inside =
     told name (Contains-permutation (names_of before.files) (bases_told names.items) name lists.2

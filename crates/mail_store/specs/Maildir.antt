@@ -1,10 +1,12 @@
 -- What each call of a Maildir device does, for either outcome, as a relation between the Maildir
 -- before and after the call.
 use Rattle.std.specs.Prelude.{◌≡◌, ℕ, ◌+◌, List, [], ◌∷◌, ◌++◌, map, Bool, false, true, Option, Some, None}
-use Rattle.std.specs.Prelude.{option_map, Result, Ok, Err, ◌⊎◌, Vec, String, string_bytes, IsPermutation, Contains}
+use Rattle.std.specs.Prelude.{option_map, Result, Ok, Err, ◌⊎◌, Vec, String, string_bytes, IsPermutation, Contains, All}
 use Rattle.mail_terms.specs.MaildirName.{base}
 use Rattle.mail_store.specs.declared.fault.StoreFault.{StoreFault}
 use Rattle.mail_store.specs.declared.fault.StoreFault.TheVariants.{Missing, Refused, NotMbox, NoMemory}
+use Rattle.mail_store.specs.declared.maildir.disk.Folder.{Folder}
+use Rattle.mail_store.specs.declared.maildir.disk.Folder.TheVariants.{New, Cur}
 
 -- a file: its name and its bytes. Of a file that was settled the name is only the part before its
 -- first colon: which of the two folders it is in and which marks follow the colon isn't seen, so a
@@ -70,14 +72,40 @@ name_begun maildir = option_map name_in maildir.begun
 abbrev pub IsThere : Maildir → List ℕ → Type 0
 IsThere maildir name = Contains (names_of maildir.files) (base name)
 
--- `names`: the name of each file of `new` and `cur`, in any order
-abbrev pub Lists : {A B : Type 0} → Maildir → Result (Vec (String A) B) StoreFault → Maildir → Type 0
-Lists old (Ok names) new =
+-- whether a folder is there
+abbrev pub is_there : Folders → Folder → Bool
+is_there there New = there.new
+is_there there Cur = there.cur
+
+-- each of the names, without its marks, is that of one of the files
+unfoldable pub AreTheirs : {A : Type 0} → List File → List (String A) → Type 0
+AreTheirs files names = All (λ name. Contains (names_of files) (base (string_bytes name))) names
+
+-- `names`: each name is that of some file of `new` or `cur`, whichever of the two it is in by now
+abbrev pub Lists : {A B : Type 0} → Maildir → Folder → Result (Vec (String A) B) StoreFault → Maildir → Type 0
+Lists old folder (Ok names) new =
+    (is_there old.there folder ≡ true) × AreTheirs old.files names.items × (new ≡ old)
+Lists old folder (Err Missing) new = (is_there old.there folder ≡ false) × (new ≡ old)
+Lists old folder (Err Refused) new = new ≡ counted old
+Lists old folder (Err NotMbox) new = ⊥
+Lists old folder (Err NoMemory) new = ⊥
+
+-- `all_names`: the name of each file of `new` and `cur`, in any order
+abbrev pub ListsAll : {A B : Type 0} → Maildir → Result (Vec (String A) B) StoreFault → Maildir → Type 0
+ListsAll old (Ok names) new =
     (old.there.new ≡ true) × (old.there.cur ≡ true) × IsPermutation (names_of old.files) (bases_told names.items) × (new ≡ old)
-Lists old (Err Missing) new = ((old.there.new ≡ false) ⊎ (old.there.cur ≡ false)) × (new ≡ old)
-Lists old (Err Refused) new = new ≡ counted old
-Lists old (Err NotMbox) new = ⊥
-Lists old (Err NoMemory) new = ⊥
+ListsAll old (Err Missing) new = ((old.there.new ≡ false) ⊎ (old.there.cur ≡ false)) × (new ≡ old)
+ListsAll old (Err Refused) new = new ≡ counted old
+ListsAll old (Err NotMbox) new = ⊥
+ListsAll old (Err NoMemory) new = ⊥
+
+-- `check`: the folder is there
+abbrev pub Checks : {T : Type 0} → Maildir → Folder → Result T StoreFault → Maildir → Type 0
+Checks old folder (Ok done) new = (is_there old.there folder ≡ true) × (new ≡ old)
+Checks old folder (Err Missing) new = (is_there old.there folder ≡ false) × (new ≡ old)
+Checks old folder (Err Refused) new = new ≡ counted old
+Checks old folder (Err NotMbox) new = ⊥
+Checks old folder (Err NoMemory) new = ⊥
 
 -- `begin`: an empty file of this name is being written; after a fault none is
 abbrev pub Begins : {T : Type 0} → Maildir → List ℕ → Result T StoreFault → Maildir → Type 0

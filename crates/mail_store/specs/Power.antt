@@ -10,7 +10,7 @@ use Rattle.mail_store.specs.Maildir.{Maildir, File, mail, names_of, bases_told}
 abbrev pub KeepsMail : (List ℕ → Type 0) → (File → Type 0) → (List ℕ → Type 0) → (File → Type 0) → Type 0
 KeepsMail stays outlives stays' outlives' = ((name : List ℕ) → stays name → stays' name) × ((f : File) → outlives f → outlives' f)
 
--- `names`: each name that is returned stays
+-- `all_names`: each name that is returned stays
 abbrev pub ToldStay : {A B : Type 0} → Result (Vec (String A) B) StoreFault → (List ℕ → Type 0) → Type 0
 ToldStay (Ok names) stays = (name : List ℕ) → Contains (bases_told names.items) name → stays name
 ToldStay (Err fault) stays = Unit {0}

@@ -4,7 +4,7 @@ ghost use Rattle.mail_store.specs.Fault.{is_refusal};
 
 use crate::fault::StoreFault;
 use crate::file::flat_file::{Edges, FlatFile};
-use crate::maildir::disk::MaildirDisk;
+use crate::maildir::disk::{Folder, MaildirDisk};
 use crate::refusal::{admit, refuse};
 use mail_terms::FailureCount;
 
@@ -105,7 +105,7 @@ impl<D: MaildirDisk> MaildirDisk for Fused<D> {
     ghost use Rattle.std.specs.Prelude.{◌≡◌, ◌<◌, IfErr, IsSome, OnErr, OnOk, Some, None};
     ghost use Rattle.mail_terms.specs.FailureCount.{Tallies, refuses, greatest_count};
     ghost use Rattle.mail_store.specs.Fault.{IsDeviceFault};
-    ghost use Rattle.mail_store.specs.Maildir.{IsThere, Lists, Begins, Adds, Settles, dropped, name_begun};
+    ghost use Rattle.mail_store.specs.Maildir.{IsThere, Lists, ListsAll, Checks, Begins, Adds, Settles, dropped, name_begun};
     ghost use Rattle.mail_store.specs.Power.{KeepsMail, SettledOutlives, ToldStay};
     ghost use Rattle.mail_store.specs.Fuse.{device_of, passes_left, effect_is_due, refusals, fused_maildir};
     ghost use Rattle.mail_store.specs.Fuse.{FusedIsSound, Burns, SettlesBehind};
@@ -118,9 +118,25 @@ impl<D: MaildirDisk> MaildirDisk for Fused<D> {
 
     ghost sound = { λ f. FusedIsSound D.sound f };
 
-    fn names(&mut self) -> Result<Vec<String>, StoreFault>
+    fn names(&mut self, folder: Folder) -> Result<Vec<String>, StoreFault>
         ensures lists { FusedIsSound D.sound self.new → FusedIsSound D.sound self.old
-            × Lists (fused_maildir D.maildir self.old) result (fused_maildir D.maildir self.new) }
+            × Lists (fused_maildir D.maildir self.old) folder result (fused_maildir D.maildir self.new) }
+        ensures fault { IfErr result IsDeviceFault }
+        ensures lasts { FusedIsSound D.sound self.new → KeepsMail (D.stays (device_of self.old)) (D.outlives (device_of self.old))
+            (D.stays (device_of self.new)) (D.outlives (device_of self.new)) }
+        ensures count { Tallies (refuses is_refusal result) (refusals self.old) (refusals self.new) }
+        ensures burns { refusals self.old < greatest_count → Burns (λ d. (D.maildir d).failures) self.old result self.new }
+        ensures behind { passes_left self.old ≡ 0 → device_of self.new ≡ device_of self.old }
+    {
+        admit(&self.failures)?;
+        self.pass()?;
+        let answer = self.device.names(folder);
+        self.tally(answer)
+    }
+
+    fn all_names(&mut self) -> Result<Vec<String>, StoreFault>
+        ensures lists { FusedIsSound D.sound self.new → FusedIsSound D.sound self.old
+            × ListsAll (fused_maildir D.maildir self.old) result (fused_maildir D.maildir self.new) }
         ensures fault { IfErr result IsDeviceFault }
         ensures lasts { FusedIsSound D.sound self.new → KeepsMail (D.stays (device_of self.old)) (D.outlives (device_of self.old))
             (D.stays (device_of self.new)) (D.outlives (device_of self.new))
@@ -131,7 +147,23 @@ impl<D: MaildirDisk> MaildirDisk for Fused<D> {
     {
         admit(&self.failures)?;
         self.pass()?;
-        let answer = self.device.names();
+        let answer = self.device.all_names();
+        self.tally(answer)
+    }
+
+    fn check(&mut self, folder: Folder) -> Result<(), StoreFault>
+        ensures checks { FusedIsSound D.sound self.new → FusedIsSound D.sound self.old
+            × Checks (fused_maildir D.maildir self.old) folder result (fused_maildir D.maildir self.new) }
+        ensures fault { IfErr result IsDeviceFault }
+        ensures lasts { FusedIsSound D.sound self.new → KeepsMail (D.stays (device_of self.old)) (D.outlives (device_of self.old))
+            (D.stays (device_of self.new)) (D.outlives (device_of self.new)) }
+        ensures count { Tallies (refuses is_refusal result) (refusals self.old) (refusals self.new) }
+        ensures burns { refusals self.old < greatest_count → Burns (λ d. (D.maildir d).failures) self.old result self.new }
+        ensures behind { passes_left self.old ≡ 0 → device_of self.new ≡ device_of self.old }
+    {
+        admit(&self.failures)?;
+        self.pass()?;
+        let answer = self.device.check(folder);
         self.tally(answer)
     }
 
@@ -252,6 +284,22 @@ impl<D: FlatFile> FlatFile for Fused<D> {
         admit(&self.failures)?;
         self.pass()?;
         let answer = self.device.load();
+        self.tally(answer)
+    }
+
+    fn peek(&mut self) -> Result<Vec<u8>, StoreFault>
+        ensures loads { FusedIsSound D.sound self.new → FusedIsSound D.sound self.old
+            × Loads (fused_file D.stored self.old) result (fused_file D.stored self.new) }
+        ensures fault { IfErr result IsDeviceFault }
+        ensures keeps { FusedIsSound D.sound self.new → KeepsBytes (D.outlives (device_of self.old)) (D.outlives (device_of self.new)) }
+        ensures sure { FusedIsSound D.sound self.new → D.is_sure (device_of self.old) → D.is_sure (device_of self.new) }
+        ensures count { Tallies (refuses is_refusal result) (refusals self.old) (refusals self.new) }
+        ensures burns { refusals self.old < greatest_count → Burns (λ d. (D.stored d).failures) self.old result self.new }
+        ensures behind { passes_left self.old ≡ 0 → device_of self.new ≡ device_of self.old }
+    {
+        admit(&self.failures)?;
+        self.pass()?;
+        let answer = self.device.peek();
         self.tally(answer)
     }
 

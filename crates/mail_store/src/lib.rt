@@ -15,9 +15,9 @@ pub use file::flat_file::{Edges, FlatFile};
 pub use file::memory::MemoryFile;
 pub use fused::Fused;
 pub use maildir::delivery::deliver;
-pub use maildir::disk::MaildirDisk;
+pub use maildir::disk::{Folder, MaildirDisk};
 pub use maildir::held::{flags_tell_what_is_held, held};
-pub use maildir::memory::{Folder, KeptFile, MemoryMaildir};
+pub use maildir::memory::MemoryMaildir;
 pub use maildir::names::{
     add_size, file_name, file_stem, marks_keep_the_base, names_are_bases, names_have_stems,
     one_more_is_held, stem, stems_are_stems, stems_differ, uid_of, unheld_ids_are_not_there,

@@ -2,6 +2,15 @@
 
 use crate::fault::StoreFault;
 
+/// A folder of a Maildir that readers look into.
+#[derive(Clone, Copy, Debug, PartialEq, Eq)]
+pub enum Folder {
+    /// Files that no reader has seen.
+    New,
+    /// Files that a reader has taken.
+    Cur,
+}
+
 /// A device that keeps a Maildir, and that can refuse any call.
 ///
 /// A file is begun in `tmp`, written there by any number of `add`, and then settled: only then is
@@ -14,7 +23,7 @@ pub trait MaildirDisk {
     ghost use Rattle.std.specs.Prelude.{◌≡◌, ℕ, List, IfErr, IsSome, OnErr, OnOk, Some, None};
     ghost use Rattle.mail_terms.specs.FailureCount.{Tallies, refuses};
     ghost use Rattle.mail_store.specs.Fault.{is_refusal, IsDeviceFault};
-    ghost use Rattle.mail_store.specs.Maildir.{Maildir, File, IsThere, Lists, Begins, Adds, Settles, dropped, name_begun};
+    ghost use Rattle.mail_store.specs.Maildir.{Maildir, File, IsThere, Lists, ListsAll, Checks, Begins, Adds, Settles, dropped, name_begun};
     ghost use Rattle.mail_store.specs.Power.{KeepsMail, SettledOutlives, ToldStay};
 
     // What is known of the Maildir. Whether a file is begun, its name and the count of refusals are
@@ -31,14 +40,32 @@ pub trait MaildirDisk {
     // value. If it holds after a call, it held before it.
     ghost sound: { Self → Type 0 };
 
+    /// The names of the files of a folder, in any order. While a reader moves files, each name is
+    /// that of a file which is there, in this folder or already in the other one; `all_names` tells
+    /// of every file. Missing if the folder isn't there, else Refused.
+    fn names(&mut self, folder: Folder) -> Result<Vec<String>, StoreFault>
+        ensures lists { sound self.new → sound self.old
+            × Lists (maildir self.old) folder result (maildir self.new) }
+        ensures fault { IfErr result IsDeviceFault }
+        ensures lasts { sound self.new → KeepsMail (stays self.old) (outlives self.old) (stays self.new) (outlives self.new) }
+        ensures count { Tallies (refuses is_refusal result) (maildir self.old).failures (maildir self.new).failures };
+
     /// The names of the files of `new` and `cur`, in any order: each file once, even if a reader
     /// moves it meanwhile. Missing if `new` or `cur` isn't there, else Refused.
-    fn names(&mut self) -> Result<Vec<String>, StoreFault>
+    fn all_names(&mut self) -> Result<Vec<String>, StoreFault>
         ensures lists { sound self.new → sound self.old
-            × Lists (maildir self.old) result (maildir self.new) }
+            × ListsAll (maildir self.old) result (maildir self.new) }
         ensures fault { IfErr result IsDeviceFault }
         ensures lasts { sound self.new → KeepsMail (stays self.old) (outlives self.old) (stays self.new) (outlives self.new)
             × ToldStay result (stays self.new) }
+        ensures count { Tallies (refuses is_refusal result) (maildir self.old).failures (maildir self.new).failures };
+
+    /// Whether a folder is there: Missing if it isn't, else Refused. Its names aren't read or flushed.
+    fn check(&mut self, folder: Folder) -> Result<(), StoreFault>
+        ensures checks { sound self.new → sound self.old
+            × Checks (maildir self.old) folder result (maildir self.new) }
+        ensures fault { IfErr result IsDeviceFault }
+        ensures lasts { sound self.new → KeepsMail (stays self.old) (outlives self.old) (stays self.new) (outlives self.new) }
         ensures count { Tallies (refuses is_refusal result) (maildir self.old).failures (maildir self.new).failures };
 
     /// Begins an empty file of this name in `tmp`; an older file of that name there is replaced. None
@@ -66,7 +93,7 @@ pub trait MaildirDisk {
         ensures count { Tallies (refuses is_refusal result) (maildir self.old).failures (maildir self.new).failures };
 
     /// Puts the file begun into `new` under this name. No file of `new` or `cur` may have it, with
-    /// whatever marks (see `names`). The only fault is Refused: the file is then not there, or there
+    /// whatever marks (see `all_names`). The only fault is Refused: the file is then not there, or there
     /// and whole. Either way none is begun afterwards.
     fn settle(&mut self, name: &str) -> Result<(), StoreFault>
         requires begun { sound self.old → IsSome (maildir self.old).begun }

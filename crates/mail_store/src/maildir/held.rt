@@ -104,7 +104,7 @@ pub fn held<D: MaildirDisk>(
     ensures length { IfOk result (λ flags. vec_len flags ≡ length listing.now) }
     ensures fault { result ≢ Err StoreFault.NotMbox }
 {
-    let names = disk.names()?;
+    let names = disk.all_names()?;
     // All of the account's names begin alike, so only what follows is compared.
     let found = digits_of(alloc, account.as_str(), &names)?;
     Ok(flags_of(alloc, &found, listing)?)

@@ -7,20 +7,11 @@ ghost use Rattle.mail_store.specs.Maildir.{names_of};
 ghost use Rattle.mail_store.specs.MemoryMaildir.{mail_of, name_kept};
 
 use crate::fault::StoreFault;
-use crate::maildir::disk::MaildirDisk;
+use crate::maildir::disk::{Folder, MaildirDisk};
 use crate::refusal::{admit, refuse};
 use mail_terms::{FailureCount, base};
 use std::alloc::{AllocError, Global};
 use std::marker::Model;
-
-/// A folder of a Maildir that readers look into.
-#[derive(Clone, Copy, Debug, PartialEq, Eq)]
-pub enum Folder {
-    /// Files that no reader has seen.
-    New,
-    /// Files that a reader has taken.
-    Cur,
-}
 
 /// A file of a Maildir in memory.
 #[derive(Drop)]
@@ -187,6 +178,19 @@ fn names_of(alloc: Global, files: &[KeptFile]) -> Result<Vec<String>, AllocError
     Ok(names)
 }
 
+/// The names of the files of a folder among some files.
+fn names_in(alloc: Global, files: &[KeptFile], folder: Folder) -> Result<Vec<String>, AllocError>
+    ensures { IfOk result (λ names. All (λ name. Contains (map name_kept files.now) (string_bytes name)) names.items) }
+{
+    let mut names = Vec::new(alloc);
+    for file in files {
+        if file.folder == folder {
+            names.push(file.name.clone()?)?;
+        }
+    }
+    Ok(names)
+}
+
 impl MaildirDisk for MemoryMaildir {
     ghost use Rattle.std.specs.Prelude.{◌<◌};
     ghost use Rattle.mail_terms.specs.FailureCount.{greatest_count};
@@ -200,12 +204,24 @@ impl MaildirDisk for MemoryMaildir {
 
     ghost sound = { λ d. d.failures < greatest_count };
 
-    fn names(&mut self) -> Result<Vec<String>, StoreFault> {
+    fn names(&mut self, folder: Folder) -> Result<Vec<String>, StoreFault> {
+        admit(&self.failures)?;
+        match names_in(self.alloc, &self.files, folder) {
+            Ok(names) => Ok(names),
+            Err(_) => Err(refuse(&mut self.failures)),
+        }
+    }
+
+    fn all_names(&mut self) -> Result<Vec<String>, StoreFault> {
         admit(&self.failures)?;
         match names_of(self.alloc, &self.files) {
             Ok(names) => Ok(names),
             Err(_) => Err(refuse(&mut self.failures)),
         }
+    }
+
+    fn check(&mut self, _folder: Folder) -> Result<(), StoreFault> {
+        admit(&self.failures)
     }
 
     fn begin(&mut self, name: &str) -> Result<(), StoreFault> {

@@ -4,7 +4,7 @@ use Rattle.mail_store.specs.declared.maildir.memory.KeptFile.{KeptFile}
 use Rattle.mail_store.specs.Maildir.{Maildir, names_of, bases_told}
 use Rattle.mail_store.specs.MemoryMaildir.{name_kept}
 use Rattle.mail_store.proofs.MoveLemmas.{names_tell_files}
-use Rattle.mail_store.proofs.maildir.memory.MemoryMaildirMaildirDisk.names.Goals as goal
+use Rattle.mail_store.proofs.maildir.memory.MemoryMaildirMaildirDisk.all_names.Goals as goal
 
 pub returns-in-Ok-clause-lists : goal.returns-in-Ok-clause-lists
 returns-in-Ok-clause-lists c = λ k. (
