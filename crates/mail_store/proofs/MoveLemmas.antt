@@ -1,11 +1,14 @@
 -- Files that a Maildir in memory keeps, found by their names and given others.
-use Rattle.std.proofs.Common.{◌≡◌, ℕ, zero, suc, ◌<◌, List, [], ◌∷◌, length, get_or, map, refl, sym, ap, ◌∙◌, subst, arith, Option, Some, None, Bool, String}
+use Rattle.std.proofs.Common.{◌≡◌, ℕ, zero, suc, ◌<◌, List, [], ◌∷◌, length, get_or, map, refl, sym, ap, ◌∙◌, subst, arith, Option, Some, None, Bool, true, String}
 use Rattle.std.specs.Prelude.{All, HoldsAt, Contains, ◌≢◌, ◌↔◌, IsTrue, is_some, IfSome, IfNone, IsPermutation, string_bytes}
 use Rattle.std.proofs.lemmas.Bool.{both_ways}
+use Rattle.std.proofs.lemmas.List.{get_or-map, length-map}
 use Rattle.std.proofs.lemmas.List.Sorted.{IsPermutation-refl}
 use Rattle.mail_terms.specs.MaildirName.{base}
 use Rattle.mail_store.specs.declared.maildir.memory.KeptFile.{KeptFile}
-use Rattle.mail_store.specs.Maildir.{names_of, bases_told}
+use Rattle.mail_store.specs.Maildir.{names_of, bases_told, AreTheirs, is_there, all_there}
+use Rattle.mail_store.specs.declared.maildir.disk.Folder.{Folder}
+use Rattle.mail_store.specs.declared.maildir.disk.Folder.TheVariants.{New, Cur}
 use Rattle.mail_store.specs.MemoryMaildir.{mail_of, name_kept}
 
 -- if no file's name has the base, none has it
@@ -52,3 +55,22 @@ pub names_tell_files : {Z : Type 0} (files : List KeptFile) (names : List (Strin
 names_tell_files files names told =
     subst (λ (bs : List (List ℕ)). IsPermutation (names_of (map mail_of files)) bs)
     (names_kept files ∙ ap (map base) (sym told) ∙ sym (bases names)) (IsPermutation-refl (names_of (map mail_of files)))
+
+-- names that are among those of the files kept are theirs
+pub among_files : {Z : Type 0} (files : List KeptFile) (names : List (String Z))
+    → All (λ name. Contains (map name_kept files) (string_bytes name)) names → AreTheirs (map mail_of files) names
+unfolding AreTheirs
+among_files files names among = λ k d inside.
+    let name = string_bytes (get_or names k d) in
+    let there = among k d inside in
+    let counts = length-map files name_kept in
+    let bounds = length-map (map name_kept files) base in (
+      there.0,
+      subst (λ (bs : List (List ℕ)). there.0 < length bs) (sym (names_kept files)) (omega (arith, there.1, bounds)),
+      ap (λ (bs : List (List ℕ)). get_or bs there.0 (base name)) (names_kept files)
+          ∙ get_or-map base (map name_kept files) there.0 name (base name) there.1 ∙ ap base there.2,
+    )
+
+pub is_all_there : (folder : Folder) → is_there all_there folder ≡ true
+is_all_there New = refl
+is_all_there Cur = refl

@@ -24,6 +24,6 @@ pub returns-clause-lasts : goal.returns-clause-lasts
 returns-clause-lasts g c = λ k.
     let names = c.in_ok-names.ensures.lasts k in (
       names.0,
-      all_stay (g.D.MaildirDisk.stays c.names.new.self) (g.D.MaildirDisk.maildir c.args.disk.now) (g.D.MaildirDisk.maildir c.names.new.self)
+      all_stay (g.D.MaildirDisk.stays c.all_names.new.self) (g.D.MaildirDisk.maildir c.args.disk.now) (g.D.MaildirDisk.maildir c.all_names.new.self)
           c.in_ok-names.names (c.in_ok-names.ensures.lists k).1 names.1,
     )
