@@ -161,6 +161,11 @@ stem-name_of account uid size h =
 pub base-marked : (name marks : List ℕ) → base (name ++ 58 ∷ marks) ≡ base name
 base-marked name marks = before_first-cut is_colon name marks 58 refl
 
+-- a suffix that begins with a colon is no part of the base
+pub base-suffixed : (name suffix : List ℕ) → slice_index suffix 0 ≡ 58 → base (name ++ suffix) ≡ base name
+base-suffixed name [] first = absurd (omega (arith, first))
+base-suffixed name (colon ∷ marks) first = ap (λ (b : ℕ). base (name ++ b ∷ marks)) first ∙ base-marked name marks
+
 -- a base has no more to cut off
 pub base_base : (name : List ℕ) → base (base name) ≡ base name
 base_base [] = refl
