@@ -60,7 +60,7 @@ pub record IsIdle (settings : Settings) (rows : List Row) (items : List Item) (n
 
 -- both folders of a Maildir are there; or one isn't, or a call was refused
 abbrev pub ChecksBoth : {T : Type 0} → Maildir → Result T StoreFault → Maildir → Type 0
-ChecksBoth old (Ok done) new = new ≡ old
+ChecksBoth old (Ok done) new = (old.there.new ≡ true) × (old.there.cur ≡ true) × (new ≡ old)
 ChecksBoth old (Err refused.Missing) new = ((old.there.new ≡ false) ⊎ (old.there.cur ≡ false)) × (new ≡ old)
 ChecksBoth old (Err refused.Refused) new = new ≡ Rattle.mail_store.specs.Maildir.counted old
 ChecksBoth old (Err refused.NotMbox) new = ⊥
